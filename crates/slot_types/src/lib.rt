@@ -1,0 +1,25 @@
+//! The plain data that every crate of the store speaks of: plans, jobs, events, replies, refusals.
+#![tactic(auto)]
+
+pub mod acts;
+pub mod events;
+pub mod items;
+pub mod limits;
+pub mod numbers;
+pub mod pages;
+pub mod plans;
+pub mod refusals;
+pub mod replies;
+
+pub use acts::Act;
+pub use events::{Event, Op, OpList};
+pub use items::Items;
+pub use limits::{
+    MAX_BLOCKS, MAX_DIES, MAX_ERASE_SLOTS, MAX_JOBS, MAX_OPS, MAX_PAGES, MAX_PASSES, MAX_SLOT,
+    MAX_TASKS, MAX_WORKERS, MIN_BLOCKS, MIN_PAGES, PAGE_BYTES,
+};
+pub use numbers::{JobNo, TaskNo};
+pub use pages::{PageData, Place};
+pub use plans::{Caps, DiePlan, Shape, StorePlan};
+pub use refusals::{Cause, Refusal};
+pub use replies::{Entry, Reads, Reply, SlotReply, Waived, WaivedList};
