@@ -1,0 +1,7 @@
+pub mod Exact
+pub mod Choices
+pub mod Legality
+pub mod Known
+pub mod Collecting
+pub mod Heads
+pub mod Numbered
