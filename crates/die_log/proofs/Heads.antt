@@ -6,7 +6,7 @@ use Rattle.slot_types.specs.declared.plans.DiePlan.{DiePlan}
 use Rattle.slot_types.specs.declared.replies.Waived.{Waived}
 use Rattle.die_log.specs.Log.{Log, Job}
 use Rattle.die_log.specs.Work.{goes_first, least}
-use Rattle.die_log.specs.Accounts.{Accounts, gift, after_waiver}
+use Rattle.plan_rules.specs.Accounts.{Accounts, given_of, waived}
 use Rattle.die_log.specs.Answers.{Choice, weighed, chosen, choice_among, is_waivable, without, with_waiver}
 use Rattle.die_log.specs.Legal.{is_among}
 use Rattle.die_log.proofs.Choices.{OfSome}
@@ -137,12 +137,12 @@ passed_all c j (x ∷ xs) e h = (inr (rw e h.0), passed_all c j xs e h.1)
 abbrev waiver : ℕ → ℕ → Waived
 waiver number given = record { number = number; given = given }
 
-passed_weighed : (plan : DiePlan) (a : Accounts) (xs : List Job) (again : Accounts → List Job → Choice) (j : Job) (b : Bool)
+passed_weighed : (a : Accounts) (xs : List Job) (again : Accounts → List Job → Choice) (j : Job) (b : Bool)
     → AllByRecursion (λ i. goes_first i j ≡ false) xs
     → ((a' : Accounts) → AllByRecursion (IsPassed (again a' (without j xs))) (without j xs))
-    → AllByRecursion (IsPassed (weighed plan a xs again j b)) xs
-passed_weighed plan a xs again j true least ih = passed_with (waiver j.number (gift plan a j.task)) (again (after_waiver plan j.task a) (without j xs)) j xs refl (ih (after_waiver plan j.task a))
-passed_weighed plan a xs again j false least ih = passed_all (weighed plan a xs again j false) j xs refl least
+    → AllByRecursion (IsPassed (weighed a xs again j b)) xs
+passed_weighed a xs again j true least ih = passed_with (waiver j.number (given_of a j.task)) (again (waived a j.task) (without j xs)) j xs refl (ih (waived a j.task))
+passed_weighed a xs again j false least ih = passed_all (weighed a xs again j false) j xs refl least
 
 passed_chosen : (plan : DiePlan) (past : Log) (turns : ℕ) (a : Accounts) (xs : List Job) (again : Accounts → List Job → Choice) (o : Option Job) → least xs ≡ o → length xs ≤ turns + 1
     → OfSome (λ j. AllByRecursion (λ i. goes_first i j ≡ false) xs) o → OfSome (λ j. length (without j xs) < length xs) o
@@ -151,7 +151,7 @@ passed_chosen : (plan : DiePlan) (past : Log) (turns : ℕ) (a : Accounts) (xs :
 passed_chosen plan past turns a [] again None e le h k ih = tt
 passed_chosen plan past turns a (x ∷ xs) again None e le h k ih = absurd cc
 passed_chosen plan past turns a xs again (Some j) e le h k ih =
-    passed_weighed plan a xs again j (is_waivable plan past a j) h (λ a'. ih a' (without j xs) (omega arith))
+    passed_weighed a xs again j (is_waivable plan past a j) h (λ a'. ih a' (without j xs) (omega arith))
 
 -- all that wait are waived, or not before the head
 pub all_passed : (plan : DiePlan) (past : Log) (turns : ℕ) (a : Accounts) (xs : List Job) → length xs ≤ turns → AllByRecursion (IsPassed (choice_among plan past turns a xs)) xs

@@ -5,3 +5,4 @@ pub mod Known
 pub mod Collecting
 pub mod Heads
 pub mod Numbered
+pub mod AccountsPlan

@@ -18,7 +18,9 @@ use Rattle.slot_types.specs.declared.refusals.Refusal.TheVariants as because
 use Rattle.die_log.specs.Log.{Log, Job, jobs, now, acts, work}
 use Rattle.die_log.specs.Flash.{Cells, cells, content, block_at, is_full, valid, valid_pages, block_of_page}
 use Rattle.die_log.specs.Work.{are_all, is_done, ready, least, is_collecting, victim_of, writes}
-use Rattle.die_log.specs.Accounts.{Accounts, accounts, gift, after_waiver}
+use Rattle.plan_rules.specs.Accounts.{Accounts, given_of}
+use Rattle.plan_rules.specs.Accounts as moves
+use Rattle.die_log.specs.Accounts.{accounts}
 
 -- Refusals
 
@@ -84,14 +86,14 @@ abbrev pub nobody : Choice
 nobody = record { waived = []; head = None }
 
 -- the one with the least key is the head; or it is waived, and the rest is chosen among again
-abbrev pub weighed : DiePlan → Accounts → List Job → (Accounts → List Job → Choice) → Job → Bool → Choice
-weighed plan a waiting again j true =
-    with_waiver (record { number = j.number; given = gift plan a j.task }) (again (after_waiver plan j.task a) (without j waiting))
-weighed plan a waiting again j false = record { waived = []; head = Some j }
+abbrev pub weighed : Accounts → List Job → (Accounts → List Job → Choice) → Job → Bool → Choice
+weighed a waiting again j true =
+    with_waiver (record { number = j.number; given = given_of a j.task }) (again (moves.waived a j.task) (without j waiting))
+weighed a waiting again j false = record { waived = []; head = Some j }
 
 abbrev pub chosen : DiePlan → Log → Accounts → List Job → (Accounts → List Job → Choice) → Option Job → Choice
 chosen plan past a waiting again None = nobody
-chosen plan past a waiting again (Some j) = weighed plan a waiting again j (is_waivable plan past a j)
+chosen plan past a waiting again (Some j) = weighed a waiting again j (is_waivable plan past a j)
 
 -- there are as many turns as jobs and collections that wait, so they don't run out
 abbrev pub choice_among : DiePlan → Log → ℕ → Accounts → List Job → Choice

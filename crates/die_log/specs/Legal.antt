@@ -16,7 +16,9 @@ use Rattle.slot_types.specs.declared.replies.Entry.{Entry}
 use Rattle.die_log.specs.Log.{Log, Job, Carried, jobs, job_at, now, waived, acts, work}
 use Rattle.die_log.specs.Flash.{cells, content, block_at, block_of_page, valid, free, ran_by}
 use Rattle.die_log.specs.Work.{is_erase, is_done, is_ready, victim_of, shown_by, owed}
-use Rattle.die_log.specs.Accounts.{Accounts, accounts, gift, after_waiver}
+use Rattle.plan_rules.specs.Accounts.{Accounts, given_of}
+use Rattle.plan_rules.specs.Accounts as moves
+use Rattle.die_log.specs.Accounts.{accounts}
 
 -- Numbers and arrivals
 
@@ -108,12 +110,12 @@ pub record IsWaiver (plan : DiePlan) (past : Log) (earlier : List Waived) (a : A
   pub unbegun : work j.number past ≡ 0
   pub once : IsFalse (is_among w.number earlier)
   pub spare : plan.alpha ≤ a.spare
-  pub gives : w.given ≡ gift plan a j.task
+  pub gives : w.given ≡ given_of a j.task
 
 abbrev pub AreWaivers : DiePlan → Log → List Waived → Accounts → List Waived → Type 0
 AreWaivers plan past earlier a [] = Unit {0}
 AreWaivers plan past earlier a (w ∷ ws) =
-    (j : Job) × IsWaiver plan past earlier a j w × AreWaivers plan past (earlier ++ w ∷ []) (after_waiver plan j.task a) ws
+    (j : Job) × IsWaiver plan past earlier a j w × AreWaivers plan past (earlier ++ w ∷ []) (moves.waived a j.task) ws
 
 -- Slots
 
