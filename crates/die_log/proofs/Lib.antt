@@ -6,3 +6,5 @@ pub mod Collecting
 pub mod Heads
 pub mod Numbered
 pub mod AccountsPlan
+mod Worked
+mod Wrong
