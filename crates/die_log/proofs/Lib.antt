@@ -6,3 +6,8 @@ pub mod Collecting
 pub mod Heads
 pub mod Numbered
 pub mod AccountsPlan
+pub mod Cells
+pub mod Standing
+pub mod Legal
+mod Worked
+mod Wrong

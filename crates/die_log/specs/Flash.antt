@@ -1,5 +1,5 @@
 -- What the acts of a die did: the contents of its pages, and its cells.
-use Rattle.std.specs.Prelude.{ℕ, ◌+◌, ◌-◌, ◌&&◌, ◌==◌, nat_lt, Bool, if◌then◌else◌, List, [], ◌∷◌, Option, Some, None, replicate, slice_get, slice_set, unwrap_or, position, count_by, sum_by, option_map}
+use Rattle.std.specs.Prelude.{ℕ, ◌+◌, ◌-◌, ◌&&◌, ◌==◌, nat_lt, Bool, if◌then◌else◌, List, [], ◌∷◌, Option, Some, None, replicate, slice_index_or, slice_set, position, count_by, sum_by, option_map}
 use Rattle.std.specs.List.{filter_map, range_with_len}
 use Rattle.slot_types.specs.declared.plans.DiePlan.{DiePlan}
 use Rattle.slot_types.specs.declared.pages.PageData.{PageData}
@@ -32,7 +32,7 @@ contents plan [] = replicate plan.logical blank_page
 contents plan (e ∷ past) = written (ran_by e.reply) (contents plan past)
 
 abbrev pub content : DiePlan → Log → ℕ → PageData
-content plan log page = unwrap_or (slice_get (contents plan log) page) blank_page
+content plan log page = slice_index_or (contents plan log) page blank_page
 
 -- Cells
 
@@ -54,7 +54,7 @@ abbrev pub fresh_cells : DiePlan → Cells
 fresh_cells plan = record { blocks = replicate plan.shape.blocks empty_block; places = replicate plan.logical None }
 
 abbrev pub block_at : Cells → ℕ → Block
-block_at c b = unwrap_or (slice_get c.blocks b) empty_block
+block_at c b = slice_index_or c.blocks b empty_block
 
 abbrev pub is_full : DiePlan → Block → Bool
 is_full plan s = s.filled == plan.shape.pages

@@ -1,0 +1,3 @@
+-- Exact logs are legal.
+pub mod Acts
+pub mod Runs
