@@ -57,7 +57,7 @@ filter_same : {X : Type 0} (p q : X → Bool) → ((x : X) → p x ≡ q x) → 
 filter_same p q e [] = refl
 filter_same p q e (x ∷ xs) = rw (e x) (ap (λ ys. cond (q x) (x ∷ ys) ys) (filter_same p q e xs))
 
-filter_twice : {X : Type 0} (p q : X → Bool) (xs : List X) → filter q (filter p xs) ≡ filter (λ x. p x && q x) xs
+pub filter_twice : {X : Type 0} (p q : X → Bool) (xs : List X) → filter q (filter p xs) ≡ filter (λ x. p x && q x) xs
 filter_twice p q [] = refl
 filter_twice p q (x ∷ xs) = by_case (p x) (filter_twice p q xs)
   where
