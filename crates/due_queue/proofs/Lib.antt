@@ -1,0 +1,4 @@
+pub mod Orders
+pub mod Inserted
+pub mod Heaped
+pub mod Mapped
