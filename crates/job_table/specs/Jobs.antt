@@ -28,6 +28,11 @@ is_done Open = false
 is_done (Done completion given) = true
 is_done (Waived given) = false
 
+abbrev pub is_waived : Stage → Bool
+is_waived Open = false
+is_waived (Done completion given) = false
+is_waived (Waived given) = true
+
 -- 1 + the slot in which it was done, or 0 if it isn't done
 abbrev pub completion_in : Stage → ℕ
 completion_in Open = 0
