@@ -1,0 +1,6 @@
+pub mod Jobs
+pub mod Table
+pub mod Order
+pub mod Worst
+pub mod Queued
+pub mod Kept
