@@ -1,9 +1,9 @@
 -- What the jobs of each task are held, and what its collector is lent: counted over the log, with no account in it.
-use Rattle.std.specs.Prelude.{◌≡◌, ℕ, ◌<◌, ◌≤◌, ◌==◌, ◌&&◌, not, Bool, true, if◌then◌else◌, List, [], Some, None, length, drop, sum_by, count_by}
+use Rattle.std.specs.Prelude.{◌≡◌, ℕ, ◌<◌, ◌≤◌, ◌==◌, ◌&&◌, not, Bool, true, if◌then◌else◌, List, [], length, drop, sum_by, count_by}
 use Rattle.std.specs.List.{AllByRecursion}
 use Rattle.slot_types.specs.declared.plans.DiePlan.{DiePlan}
 use Rattle.slot_types.specs.declared.acts.Act.{Act}
-use Rattle.die_log.specs.Log.{Log, Job, Carried, jobs, acts, is_waived}
+use Rattle.die_log.specs.Log.{Log, Job, jobs, acts, is_waived}
 use Rattle.die_log.specs.Flash.{free}
 use Rattle.die_log.specs.Work.{are_all, is_copy_program, writes, owed}
 use Rattle.die_log.specs.Accounts.{accounts}

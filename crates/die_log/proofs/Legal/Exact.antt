@@ -1,5 +1,5 @@
 -- Exact logs are legal: what stands of cells gives the accounts what they take of them, and the accounts give each program its free page.
-use Rattle.std.proofs.Common.{◌≡◌, ℕ, ◌<◌, Bool, true, false, List, [], ◌∷◌, ◌++◌, length, count_by, Option, Some, None, MatchOption, refl, ap, sym, ◌∙◌, subst, arith, slice_get, ◌&&◌, not}
+use Rattle.std.proofs.Common.{◌≡◌, ℕ, ◌<◌, Bool, true, false, List, [], ◌∷◌, ◌++◌, length, count_by, Option, Some, MatchOption, refl, ap, sym, ◌∙◌, subst, arith, slice_get, ◌&&◌, not}
 use Rattle.std.specs.Prelude.{Contains}
 use Rattle.std.specs.List.{AllByRecursion}
 use Rattle.std.proofs.lemmas.Bool.{and_parts, not-true}
@@ -17,8 +17,9 @@ use Rattle.die_log.specs.Accounts.{accounts, after_waivers}
 use Rattle.die_log.specs.Answers.{IsExact, accepted, refusals, act_for, is_running, choice, is_waivable}
 use Rattle.die_log.specs.Legal.{IsLegal}
 use Rattle.die_log.specs.Sound.{IsFull}
-use Rattle.die_log.specs.Standing.{Stands, FindsBy, FindsVictim}
-use Rattle.die_log.specs.Agreement.{Waits, IsChosen}
+use Rattle.die_log.specs.Standing.{Stands}
+use Rattle.die_log.proofs.Standing.Finds.{FindsBy, FindsVictim}
+use Rattle.die_log.proofs.Tokens.Waivers.{Waits, IsChosen}
 use Rattle.die_log.specs.Held.{is_open, AreTrue}
 use Rattle.die_log.specs.Well.{FewCopies, IsWell}
 use Rattle.die_log.proofs.Legality.{entry, exact_induction}

@@ -1,37 +1,24 @@
 -- A head that begins finds its block.
-use Rattle.std.proofs.Common.{◌≡◌, ℕ, ◌<◌, ◌≤◌, ◌==◌, ◌&&◌, nat_le, not, Bool, true, false, cond, List, ◌++◌, length, Option, Some, None, MatchOption, MatchBool, refl, ap, sym, subst, ◌∙◌, inl, inr, ◌⊎◌, arith, slice_get}
-use Rattle.std.proofs.lemmas.Bool.{true≢false, cases_lt, cases_Bool, and_parts, and_from, and_cases, leb-true, leb-false, eq-eqb, ne_eqb, not-true}
-use Rattle.std.proofs.lemmas.Option.{same_Some, slice_get_read}
+use Rattle.std.proofs.Common.{◌≡◌, ℕ, ◌<◌, ◌≤◌, ◌==◌, ◌&&◌, nat_le, not, true, false, List, ◌++◌, Some, sym, ◌∙◌, inl, inr}
+use Rattle.std.proofs.lemmas.Bool.{true≢false, and_parts, and_from, and_cases, leb-false, eq-eqb}
 use Rattle.slot_types.specs.declared.plans.DiePlan.{DiePlan}
-use Rattle.slot_types.specs.declared.acts.Act.{Act}
-use Rattle.slot_types.specs.declared.acts.Act.TheVariants as does
-use Rattle.slot_types.specs.declared.events.Op.{Op}
-use Rattle.slot_types.specs.declared.events.Op.TheVariants as asks
-use Rattle.slot_types.specs.declared.events.Event.TheVariants as events
 use Rattle.slot_types.specs.declared.replies.Waived.{Waived}
 use Rattle.plan_rules.specs.Bound.{MeetsBound}
-use Rattle.die_log.specs.Log.{Log, Job, jobs, job_at, now, acts, waived, is_waived, work}
-use Rattle.die_log.specs.Flash.{Cells, cells, valid, valid_pages, content, free}
-use Rattle.die_log.specs.Work.{is_done, is_ready, ready, victim_of, owed}
+use Rattle.die_log.specs.Log.{Log, Job, jobs, now, acts, waived, is_waived, work}
+use Rattle.die_log.specs.Flash.{cells, valid, free}
+use Rattle.die_log.specs.Work.{is_done, is_ready, ready, owed}
 use Rattle.plan_rules.specs.Accounts.{Accounts}
 use Rattle.die_log.specs.Accounts.{accounts, after_waivers}
 use Rattle.die_log.specs.Agreement.{reserve_full}
-use Rattle.die_log.specs.Answers.{Choice, choice, is_waivable, act_for, act_of_op, collect_act, read_or_erase, is_placed_in, block_for, victim, accepted, slot_reply, reply_with}
-use Rattle.die_log.specs.Legal.{is_among, AreWaivers, Does, IsNextOperation, IsNextCollectAct, TellsContent, IsLegalAct, IsLegalRun, IsLegalReply, NothingWaits}
-use Rattle.die_log.proofs.Known.{waived_is}
-use Rattle.die_log.proofs.Heads.{IsPassed, NotBefore, all_passed}
-use Rattle.die_log.specs.Agreement.{Waits}
+use Rattle.die_log.specs.Answers.{is_waivable, victim}
+use Rattle.die_log.specs.Legal.{AreWaivers}
+use Rattle.die_log.proofs.Tokens.Waivers.{Waits}
 use Rattle.die_log.proofs.Tokens.Given.{CellsServe}
 use Rattle.die_log.specs.Held.{is_open, IsTaken, AreTrue}
 use Rattle.die_log.proofs.Tokens.Sums.{all_at}
 use Rattle.die_log.proofs.Tokens.Reserves.{few_free}
-use Rattle.die_log.proofs.Tokens.Waivers.{choice_is}
 use Rattle.die_log.proofs.Tokens.Slots.{agree_waivers}
-use Rattle.die_log.proofs.Tokens.Doing.{IsJobAct, IsCollectionAct, act_kind, buffer_of}
-use Rattle.die_log.proofs.Tokens.Turns.{keeps_act}
-use Rattle.die_log.proofs.Tokens.Found.{keeps_passing}
 use Rattle.die_log.proofs.Tokens.Finding.{takable, victim_found}
-use Rattle.die_log.proofs.Tokens.Whole.{all_known}
 
 -- A collection that begins
 

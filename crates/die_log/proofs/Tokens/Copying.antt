@@ -1,20 +1,15 @@
 -- How the pages placed in a collected block change, and what its collection's acts are.
-use Rattle.std.proofs.Common.{◌≡◌, ℕ, ◌+◌, ◌<◌, ◌≤◌, ◌==◌, Bool, true, false, cond, List, [], ◌∷◌, ◌++◌, length, set, count_by, get_or, Option, Some, None, refl, ap, sym, ◌∙◌, inl, inr, arith, slice_get, unwrap_or, option_map}
-use Rattle.std.specs.List.{filter_map}
+use Rattle.std.proofs.Common.{◌≡◌, ℕ, ◌+◌, ◌<◌, ◌≤◌, ◌==◌, Bool, true, false, cond, List, [], ◌∷◌, length, set, count_by, get_or, Option, Some, None, refl, ap, sym, ◌∙◌, inl, inr, arith, slice_get, unwrap_or, option_map}
 use Rattle.std.proofs.lemmas.Bool.{true≢false, cases_lt, ne_eqb}
 use Rattle.std.proofs.lemmas.Option.{same_Some, unwrap_or-slice_get, get_or_from_slice_get, slice_get_within}
 use Rattle.std.proofs.lemmas.List.{set_past}
-use Rattle.std.proofs.lemmas.List.Elements.{filter_map-append}
 use Rattle.std.proofs.lemmas.List.Sums.{sum_by-set}
 use Rattle.slot_types.specs.Places.{is_in}
 use Rattle.slot_types.specs.declared.plans.DiePlan.{DiePlan}
 use Rattle.slot_types.specs.declared.pages.Place.{Place}
 use Rattle.slot_types.specs.declared.acts.Act.{Act}
 use Rattle.slot_types.specs.declared.acts.Act.TheVariants as does
-use Rattle.slot_types.specs.declared.replies.Reply.{Reply}
-use Rattle.slot_types.specs.declared.replies.Reply.TheVariants as replies
-use Rattle.die_log.specs.Log.{Log, Carried, acts, act_of, carried, with_slot}
-use Rattle.die_log.specs.Flash.{Cells, block_at, block_of_page, valid, valid_pages, programmed, programmed_in, open_block, ran_by}
+use Rattle.die_log.specs.Flash.{Cells, block_at, block_of_page, valid, valid_pages, programmed, programmed_in, open_block}
 use Rattle.die_log.specs.Answers.{collect_act, read_or_erase, is_placed_in, is_block}
 use Rattle.die_log.specs.Sound.{AreSound, IsOpen}
 use Rattle.die_log.proofs.Tokens.Sums.{one_if, some_pass}

@@ -2,7 +2,7 @@
 use Rattle.std.proofs.Common.{◌≡◌, ℕ, ◌+◌, ◌<◌, ◌≤◌, ◌==◌, ◌&&◌, not, Bool, true, false, cond, List, [], ◌∷◌, count_by, get_or, Option, Some, None, refl, ap, sym, subst, ◌∙◌, inl, inr, arith, slice_get, position, option_map}
 use Rattle.std.specs.List.{cons_option, filter_map, range_with_len, last_or}
 use Rattle.std.proofs.lemmas.Bool.{true≢false, cases_lt, cases_eq, and_parts, eqb-true, eq-eqb, ne_eqb, cond-true, cond-false}
-use Rattle.std.proofs.lemmas.Option.{same_Some, unwrap_or-slice_get}
+use Rattle.std.proofs.lemmas.Option.{same_Some}
 use Rattle.std.proofs.lemmas.List.Sums.{sum_by_push}
 use Rattle.std.proofs.lemmas.List.Quantifiers.{position-Some}
 use Rattle.slot_types.specs.Places.{is_at}

@@ -5,7 +5,7 @@ use Rattle.slot_types.specs.declared.plans.DiePlan.{DiePlan}
 use Rattle.plan_rules.specs.Accounts.{Accounts, given_of, admitted, hold_spent, reserve_spent, settled, waived}
 use Rattle.die_log.specs.Agreement.{Agree, reserve_full}
 use Rattle.die_log.specs.Held.{at_task}
-use Rattle.die_log.proofs.Tokens.Amounts.{added, taken, at_itself, at_other, added_at, taken_at, sum_added, sum_taken, length_added, length_taken}
+use Rattle.die_log.proofs.Tokens.Amounts.{added, at_itself, at_other, added_at, taken_at, sum_added, sum_taken, length_added, length_taken}
 
 -- the same accounts, with the same amounts otherwise said
 pub agree_same : (plan : DiePlan) (a : Accounts) (held lent held' lent' : ℕ → ℕ) (owed free owed' free' : ℕ) → Agree plan a held lent owed free

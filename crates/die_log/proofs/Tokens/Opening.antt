@@ -1,12 +1,10 @@
 -- The accounts of a die without a call.
-use Rattle.std.proofs.Common.{◌≡◌, ℕ, ◌+◌, ◌-◌, ◌*◌, ◌/◌, ◌≤◌, List, [], length, sum, get_or, replicate, refl, ap, ◌∙◌, inl, inr, arith}
+use Rattle.std.proofs.Common.{◌≡◌, ℕ, ◌*◌, List, [], length, get_or, replicate, refl, ap, ◌∙◌, inl, inr, arith}
 use Rattle.std.proofs.lemmas.List.Folds.{sum_by-replicate}
 use Rattle.std.proofs.lemmas.Bool.{cases_lt}
 use Rattle.std.proofs.lemmas.List.{length-replicate, get_or-replicate, get_or_past}
-use Rattle.std.proofs.Math.Nat.{mul-le-mul_right}
-use Rattle.std.proofs.lemmas.Nat.{div-add-mod', mod_below}
 use Rattle.slot_types.specs.declared.plans.DiePlan.{DiePlan}
-use Rattle.plan_rules.specs.Bound.{MeetsBound, fmax_of}
+use Rattle.plan_rules.specs.Bound.{MeetsBound}
 use Rattle.die_log.specs.Flash.{free, free_in, empty_block}
 use Rattle.plan_rules.specs.Accounts.{opening}
 use Rattle.plan_rules.proofs.Totals.{room}

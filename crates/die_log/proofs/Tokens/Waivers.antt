@@ -11,9 +11,20 @@ use Rattle.plan_rules.specs.Accounts.{Accounts, given_of}
 use Rattle.plan_rules.specs.Accounts as moves
 use Rattle.die_log.specs.Accounts.{accounts, after_waiver, after_waivers}
 use Rattle.die_log.specs.Answers.{Choice, choice, weighed, chosen, choice_among, is_waivable, without, with_waiver}
-use Rattle.die_log.specs.Legal.{is_among, IsWaiver}
+use Rattle.die_log.specs.Legal.{is_among, IsWaiver, AreWaivers}
 use Rattle.die_log.proofs.Choices.{OfSome, least_all}
-use Rattle.die_log.specs.Agreement.{Waits, IsChosen}
+
+-- it stands, is released, not done and not waived, nor among these waivers
+pub record Waits (plan : DiePlan) (past : Log) (ws : List Waived) (j : Job) : Type 0 where
+  pub known : job_at past j.number ≡ Some j
+  pub ready : is_ready plan past j ≡ true
+  pub new : is_among j.number ws ≡ false
+
+-- a choice behind these waivers: what it waives is waived by the rules, and its head waits and may not be waived with the accounts that are then left
+pub record IsChosen (plan : DiePlan) (past : Log) (earlier : List Waived) (a : Accounts) (c : Choice) : Type 0 where
+  pub waivers : AreWaivers plan past earlier a c.waived
+  pub head : MatchOption c.head (Unit {0}) (λ j. Waits plan past (earlier ++ c.waived) j)
+  pub unwaivable : MatchOption c.head (Unit {0}) (λ j. is_waivable plan past (after_waivers past c.waived a) j ≡ false)
 
 keep_one : {X : Type 0} (Q : X → Type 0) (t : X → Bool) (x : X) (xs : List X) (b : Bool) → t x ≡ b → (t x ≡ true → Q x) → AllByRecursion Q (filter t xs) → AllByRecursion Q (cond b (x ∷ filter t xs) (filter t xs))
 keep_one Q t x xs true is q h = (q is, h)

@@ -1,6 +1,5 @@
 -- Exact logs are well, given the cells.
 use Rattle.std.proofs.Common.{◌≡◌, ℕ, zero, suc, ◌+◌, ◌<◌, ◌≤◌, true, false, List, [], ◌∷◌, ◌++◌, length, count_by, Option, Some, None, MatchOption, refl, ap, sym, ◌∙◌, inl, inr, arith, slice_get, length-append}
-use Rattle.std.specs.List.{AllByRecursion}
 use Rattle.std.proofs.lemmas.Bool.{cases_lt}
 use Rattle.std.proofs.lemmas.Option.{slice_get_within}
 use Rattle.slot_types.specs.declared.plans.DiePlan.{DiePlan}
@@ -16,12 +15,11 @@ use Rattle.die_log.specs.Flash.{cells, valid}
 use Rattle.die_log.specs.Work.{is_copy_program, victim_of, shown_by, is_ready}
 use Rattle.die_log.specs.Accounts.{accounts, after_waivers}
 use Rattle.die_log.specs.Agreement.{reserve_full}
-use Rattle.die_log.specs.Answers.{IsExact, accepted, refusals, choice, slot_reply, reply_with, act_for, is_waivable}
+use Rattle.die_log.specs.Answers.{IsExact, accepted, choice, slot_reply, reply_with, act_for, is_waivable}
 use Rattle.die_log.specs.Legal.{AreWaivers, is_among}
-use Rattle.die_log.proofs.Legality.{entry, exact_induction, in_time}
-use Rattle.die_log.proofs.Numbered.{numbered}
+use Rattle.die_log.proofs.Legality.{entry}
 use Rattle.die_log.proofs.Collecting.{no_acts}
-use Rattle.die_log.specs.Agreement.{Waits}
+use Rattle.die_log.proofs.Tokens.Waivers.{Waits}
 use Rattle.die_log.proofs.Tokens.Given.{CellsServe}
 use Rattle.die_log.specs.Held.{is_open, copied_of, AreTrue}
 use Rattle.die_log.specs.Well.{FewCopies}
@@ -30,8 +28,7 @@ use Rattle.die_log.proofs.Tokens.Doing.{act_kind}
 use Rattle.die_log.proofs.Tokens.Changes.{open_other}
 use Rattle.die_log.proofs.Tokens.Slots.{slot_entry, slot_waives, idle_acts}
 use Rattle.die_log.proofs.Tokens.Turns.{no_job_copy}
-use Rattle.die_log.proofs.Tokens.Opening.{true_opening}
-use Rattle.die_log.proofs.Tokens.Whole.{keeps, all_known, owed_is_free}
+use Rattle.die_log.proofs.Tokens.Whole.{all_known}
 use Rattle.die_log.proofs.Standing.Longer.{shown_none, no_victim}
 use Rattle.die_log.proofs.Tokens.Few.{few_now, few_turn}
 

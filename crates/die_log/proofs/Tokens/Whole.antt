@@ -14,17 +14,16 @@ use Rattle.die_log.specs.Work.{owed}
 use Rattle.die_log.specs.Accounts.{accounts}
 use Rattle.die_log.specs.Answers.{IsExact, accepted, refusals, choice, slot_reply, reply_with, act_for}
 use Rattle.die_log.specs.Legal.{AreWaivers}
-use Rattle.die_log.proofs.Legality.{entry, exact_induction}
-use Rattle.die_log.specs.Agreement.{Waits}
+use Rattle.die_log.proofs.Legality.{entry}
+use Rattle.die_log.proofs.Tokens.Waivers.{Waits}
 use Rattle.die_log.proofs.Tokens.Given.{CellsServe}
 use Rattle.die_log.specs.Held.{AreTrue}
-use Rattle.die_log.specs.Standing.{FindsBy}
+use Rattle.die_log.proofs.Standing.Finds.{FindsBy}
 use Rattle.die_log.proofs.Tokens.Waivers.{choice_is}
 use Rattle.die_log.proofs.Tokens.Taking.{keeps_submit, keeps_collect}
 use Rattle.die_log.proofs.Tokens.Slots.{keeps_idle}
 use Rattle.die_log.proofs.Tokens.Doing.{act_kind}
 use Rattle.die_log.proofs.Tokens.Turns.{keeps_act, owed_fits}
-use Rattle.die_log.proofs.Tokens.Opening.{true_opening}
 
 all_from : {X : Type 0} (P : X → Type 0) (xs : List X) → ((k : ℕ) (x : X) → slice_get xs k ≡ Some x → P x) → AllByRecursion P xs
 all_from P [] h = tt
