@@ -4,4 +4,3 @@ pub mod Steps
 pub mod Valid
 pub mod FreePages
 pub mod Collections
-pub mod Volume

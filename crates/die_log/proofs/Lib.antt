@@ -9,5 +9,6 @@ pub mod AccountsPlan
 pub mod Cells
 pub mod Standing
 pub mod Legal
+pub mod Tokens
 mod Worked
 mod Wrong

@@ -1,5 +1,5 @@
 -- What stands of the cells of a die and of its collections, kept by each act.
-use Rattle.std.specs.Prelude.{◌≡◌, ◌≢◌, ◌⊎◌, ℕ, ◌+◌, ◌<◌, ◌≤◌, ◌==◌, ◌||◌, if◌then◌else◌, Bool, true, false, List, [], ◌∷◌, ◌++◌, length, Option, Some, None, option_map, count_by, sum_by, Contains}
+use Rattle.std.specs.Prelude.{◌≡◌, ◌≢◌, ◌⊎◌, ℕ, ◌+◌, ◌<◌, ◌≤◌, Bool, true, false, List, length, Some, None, count_by, sum_by, Contains}
 use Rattle.std.specs.List.{last_or}
 use Rattle.slot_types.specs.Places.{place_of}
 use Rattle.slot_types.specs.declared.plans.DiePlan.{DiePlan}
@@ -8,7 +8,6 @@ use Rattle.slot_types.specs.declared.acts.Act.{Act}
 use Rattle.slot_types.specs.declared.acts.Act.TheVariants as does
 use Rattle.die_log.specs.Flash.{Cells, block_at, block_of_page, free_in, valid}
 use Rattle.die_log.specs.Work.{is_erase}
-use Rattle.die_log.specs.Legal.{is_write_of}
 
 -- some of its pages are programmed, and some aren't
 abbrev pub IsPartly : DiePlan → Cells → ℕ → Type 0
@@ -105,33 +104,3 @@ MayDo plan c own fresh b (does.CopyRead page) = MayRead c own b page
 MayDo plan c own fresh b (does.CopyProgram page) = MayProgram c own fresh b page
 MayDo plan c own fresh b (does.Erase block) = MayEraseSlot plan c own b block
 MayDo plan c own fresh b _ = ⊥
-
--- a running collection: its block, its acts, and the pages that a job wrote since its last act
-pub record Running : Type 0 where
-  pub block : ℕ
-  pub own : List Act
-  pub fresh : ℕ → Bool
-
--- cells and the collections that run, by any key: as they stand between two acts
-pub record VolumeStands (plan : DiePlan) (c : Cells) (runs : ℕ → Option Running) : Type 0 where
-  pub sound : AreSound plan c
-  pub collecting : (k : ℕ) (r : Running) → runs k ≡ Some r → IsCollecting plan c r.own r.fresh r.block
-  pub different : (k l : ℕ) (r s : Running) → runs k ≡ Some r → runs l ≡ Some s → r.block ≡ s.block → k ≡ l
-  pub owned : (b : ℕ) → 0 < (block_at c b).erasing → (k : ℕ) × (r : Running) × (runs k ≡ Some r) × (r.block ≡ b)
-
--- how another's act ages what a collection remembers
-abbrev pub aged : Act → Running → Running
-aged act r = record r { fresh = λ page. is_write_of page act || r.fresh page }
-
--- an act of a job: all that run are aged
-abbrev pub after_job : Act → (ℕ → Option Running) → ℕ → Option Running
-after_job act runs k = option_map (aged act) (runs k)
-
--- an act of the collection with this key: it goes on, or it is done; the others are aged
-abbrev pub after_own : Act → ℕ → Option Running → (ℕ → Option Running) → ℕ → Option Running
-after_own act own_key goes_on runs k = if k == own_key then goes_on else option_map (aged act) (runs k)
-
--- the collection goes on with the act, unless that ends it
-abbrev pub gone_on : DiePlan → Act → Running → Option Running
-gone_on plan act r = let after = r.own ++ act ∷ [] in
-    if count_by is_erase after == plan.shape.erase_slots then None else Some (record { block = r.block; own = after; fresh = λ page. false })

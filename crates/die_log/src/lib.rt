@@ -3,4 +3,4 @@
 
 mod laws;
 
-pub use laws::{moments, same_calls};
+pub use laws::{exact_is_legal, exact_stands, moments_are_exact, same_calls};

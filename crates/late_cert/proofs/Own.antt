@@ -1,19 +1,22 @@
 -- A done job has one stretch.
-use Rattle.std.proofs.Common.{◌≡◌, ℕ, suc, ◌-◌, ◌<◌, ◌≤◌, true, eqb, List, [], ◌∷◌, Some, arith, refl, sym, ap, ◌∙◌, subst, inl, inr, eq-eqb, eqb-true}
+use Rattle.std.proofs.Common.{IsSome, is_some, ◌≡◌, ℕ, suc, ◌-◌, ◌<◌, ◌≤◌, true, eqb, List, [], ◌∷◌, Option, Some, arith, refl, sym, ap, ◌∙◌, subst, inl, inr, eq-eqb, eqb-true}
 use Rattle.std.proofs.lemmas.Bool.{false≢true, cases_Bool, cases_order, both_ways, or_left, or_right, or_cases}
 use Rattle.std.proofs.lemmas.List.Kept.{AllPairs-from_increasing}
 use Rattle.std.proofs.lemmas.Option.{none-some, same_Some}
 use Rattle.late_cert.specs.declared.rows.JobRow.{JobRow}
 use Rattle.late_cert.specs.declared.certificates.Certificate.{Certificate}
+use Rattle.late_cert.specs.declared.verdicts.Verdict.{Verdict}
 use Rattle.late_cert.specs.declared.verdicts.Verdict.TheVariants.{Holds}
 use Rattle.late_cert.specs.Schedule.{Slots, slot_at}
 use Rattle.late_cert.specs.Rows.{RowsRise, is_done, due_of, completion_of}
 use Rattle.late_cert.specs.Bound.{is_listed}
-use Rattle.late_cert.specs.Stretch.{is_within, IsStretch, start_of, jobs_of}
+use Rattle.late_cert.specs.Stretch.{is_within, IsStretch, CarriesLeastKeys, start_of, jobs_of}
 use Rattle.late_cert.specs.Check.{verdict_of}
-use Rattle.late_cert.specs.Build.{stretch_of, verdict_on, IsOwn, stretch_if_done}
+use Rattle.late_cert.specs.Verdict.{is_holds}
+use Rattle.late_cert.specs.Build.{stretch_of, verdict_on, certificate_of, IsOwn, stretch_if_done}
 use Rattle.late_cert.proofs.Counting.{Rises, rises-tail, rises-head, above-not-listed, listed-all}
 use Rattle.late_cert.proofs.Window.{stretch-is}
+use Rattle.late_cert.proofs.Least.{stretch-certifies}
 use Rattle.late_cert.proofs.Faults.{verdict-certifies, certificate-verdict}
 
 -- a listed number is the first one or stands in the rest
@@ -96,14 +99,17 @@ own-stretch rows r c j done h = record {
   holds = verdict-certifies rows _ _ _ _ h;
 }
 
-pub own-built : (rows : List JobRow) → RowsRise rows → (c : Slots) (j : ℕ) (built : Certificate)
-    → stretch_if_done rows c j ≡ Some built → verdict_on rows built ≡ Holds → IsOwn rows c j built
-own-built rows r c j built e h =
+pub own-built : (rows : List JobRow) → RowsRise rows → (c : Slots) (j : ℕ) (answer : Option Certificate) (built : Certificate) (verdict : Verdict)
+    → answer ≡ stretch_if_done rows c j → answer ≡ Some built → verdict ≡ verdict_on rows built → verdict ≡ Holds
+    → IsOwn rows c j built
+own-built rows r c j answer built verdict is some checked holds =
+    let e : stretch_if_done rows c j ≡ Some built = sym is ∙ some in
+    let h : verdict_on rows built ≡ Holds = sym checked ∙ holds in
     elim (cases_Bool (is_done rows j)) [
       | inl done ↦
-          let is : stretch_of rows c j ≡ built = same_Some _ _ (rw done at e) in
-          subst (λ (q : Certificate). IsOwn rows c j q) is
-          (own-stretch rows r c j done (ap (verdict_on rows) is ∙ h))
+          let same : stretch_of rows c j ≡ built = same_Some _ _ (rw done at e) in
+          subst (λ (q : Certificate). IsOwn rows c j q) same
+          (own-stretch rows r c j done (ap (verdict_on rows) same ∙ h))
       | inr open_job ↦ absurd (none-some built (rw open_job at e))
     ]
 
@@ -126,12 +132,30 @@ own-verdict rows r c j q own =
     (same-jobs rows c j n start q.start jobs q.jobs ours theirs)
     ∙ certificate-verdict rows q.start q.due q.completion q.jobs own.holds
 
-pub none-built : (rows : List JobRow) → RowsRise rows → (c : Slots) (j : ℕ) (built q : Certificate)
-    → stretch_if_done rows c j ≡ Some built → (verdict_on rows built ≡ Holds → ⊥) → IsOwn rows c j q → ⊥
-none-built rows r c j built q e h own =
+pub none-built : (rows : List JobRow) → RowsRise rows → (c : Slots) (j : ℕ) (answer : Option Certificate) (built q : Certificate) (verdict : Verdict)
+    → answer ≡ stretch_if_done rows c j → answer ≡ Some built → verdict ≡ verdict_on rows built → (verdict ≡ Holds → ⊥)
+    → IsOwn rows c j q → ⊥
+none-built rows r c j answer built q verdict is some checked faulty own =
+    let e : stretch_if_done rows c j ≡ Some built = sym is ∙ some in
     elim (cases_Bool (is_done rows j)) [
       | inl done ↦
-          let is : stretch_of rows c j ≡ built = same_Some _ _ (rw done at e) in
-          h (ap (verdict_on rows) (sym is) ∙ own-verdict rows r c j q own)
+          let same : stretch_of rows c j ≡ built = same_Some _ _ (rw done at e) in
+          faulty (checked ∙ ap (verdict_on rows) (sym same) ∙ own-verdict rows r c j q own)
       | inr open_job ↦ absurd (none-some built (rw open_job at e))
     ]
+
+-- where each slot carried a least key, the stretch of a done job is its certificate
+pub certificate_of-done : (rows : List JobRow) (c : Slots) → CarriesLeastKeys rows c → (j : ℕ) → is_done rows j ≡ true
+    → certificate_of rows c j ≡ Some (stretch_of rows c j)
+certificate_of-done rows c h j done =
+    let n : ℕ = completion_of rows j in
+    let start : ℕ = start_of rows c j n in
+    let jobs : List ℕ = jobs_of rows c start n in
+    let holds : verdict_on rows (stretch_of rows c j) ≡ Holds =
+    certificate-verdict rows start (due_of rows j) n jobs
+    (stretch-certifies rows c h j done start jobs (stretch-is rows c j n h.rising)) in
+    rw (done, ap is_holds holds) refl
+
+pub certificate-is-some : (rows : List JobRow) (c : Slots) → CarriesLeastKeys rows c → (j : ℕ) → is_done rows j ≡ true
+    → IsSome (certificate_of rows c j)
+certificate-is-some rows c h j done = ap is_some (certificate_of-done rows c h j done)

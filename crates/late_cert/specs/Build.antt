@@ -3,22 +3,12 @@ use Rattle.std.specs.Prelude.{◌≡◌, ℕ, ◌<◌, length, slice_index_or, B
 use Rattle.late_cert.specs.declared.rows.JobRow.{JobRow}
 use Rattle.late_cert.specs.declared.certificates.Certificate.{Certificate}
 use Rattle.late_cert.specs.declared.verdicts.Verdict.{Verdict}
-use Rattle.late_cert.specs.declared.verdicts.Verdict.TheVariants.{Holds, Empty, NotRising, UnknownJob, Unfinished, EarlyRelease, LateDue, WrongSum}
 use Rattle.late_cert.specs.Schedule.{Slots}
 use Rattle.late_cert.specs.Rows.{is_done, due_of, completion_of}
 use Rattle.late_cert.specs.Bound.{IsCertificate}
 use Rattle.late_cert.specs.Stretch.{IsStretch, start_of, is_carried, jobs_of}
+use Rattle.late_cert.specs.Verdict.{is_holds}
 use Rattle.late_cert.specs.Check.{verdict_of}
-
-abbrev pub is_holds : Verdict → Bool
-is_holds Holds = true
-is_holds Empty = false
-is_holds NotRising = false
-is_holds UnknownJob = false
-is_holds Unfinished = false
-is_holds EarlyRelease = false
-is_holds LateDue = false
-is_holds WrongSum = false
 
 -- the jobs of the stretch of a done job, with its due and completion
 abbrev pub stretch_of : List JobRow → Slots → ℕ → Certificate

@@ -1,5 +1,5 @@
 -- How a verdict is told.
-use Rattle.std.specs.Prelude.{ℕ, List, Option, Some, None, codes}
+use Rattle.std.specs.Prelude.{ℕ, Bool, List, Option, Some, None, is_none, codes}
 use Rattle.late_cert.specs.declared.verdicts.Verdict.{Verdict}
 use Rattle.late_cert.specs.declared.verdicts.Verdict.TheVariants.{Holds, Empty, NotRising, UnknownJob, Unfinished, EarlyRelease, LateDue, WrongSum}
 
@@ -13,6 +13,9 @@ fault_number Unfinished = Some 4
 fault_number EarlyRelease = Some 5
 fault_number LateDue = Some 6
 fault_number WrongSum = Some 7
+
+abbrev pub is_holds : Verdict → Bool
+is_holds verdict = is_none (fault_number verdict)
 
 abbrev pub name_of : Verdict → List ℕ
 name_of Holds = codes "Holds"

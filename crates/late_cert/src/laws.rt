@@ -2,12 +2,13 @@
 //!
 //! Least lateness under least keys first is Horn's (W. A. Horn, Some simple scheduling algorithms, 1974).
 
-ghost use Rattle.std.specs.Prelude.{◌≡◌, ℕ, ◌<◌, ◌≤◌, List, [], ◌∷◌, ◌++◌, Option, Some, true};
+ghost use Rattle.std.specs.Prelude.{◌≡◌, ℕ, ◌<◌, ◌≤◌, List, [], ◌∷◌, ◌++◌, Option, Some, IsSome, true};
 ghost use Rattle.late_cert.specs.declared.rows.JobRow.{JobRow};
 ghost use Rattle.late_cert.specs.Schedule.{Slots, slot_at};
 ghost use Rattle.late_cert.specs.Rows.{is_done, release_of, due_of, completion_of};
 ghost use Rattle.late_cert.specs.Bound.{IsCertificate, BindsEverySchedule};
 ghost use Rattle.late_cert.specs.Stretch.{IsStretch, CarriesLeastKeys, IsLeastLate};
+ghost use Rattle.late_cert.specs.Build.{certificate_of};
 ghost use Rattle.late_cert.specs.Moments.{AcceptsJob, WaivesJob, CarriesSlot};
 
 /// A certificate binds every schedule that serves its jobs, whoever made it.
@@ -22,6 +23,12 @@ pub fn stretches_are_certificates()
         (j : ℕ) → is_done rows j ≡ true → (start : ℕ) (jobs : List ℕ) →
         IsStretch rows carried j start (completion_of rows j) jobs →
         IsCertificate rows start (due_of rows j) (completion_of rows j) jobs }
+{}
+
+/// Where each slot carried a least key, every done job has a certificate, which [`build`](crate::build) then answers.
+pub fn done_jobs_have_certificates()
+    ensures { (rows : List JobRow) (carried : Slots) → CarriesLeastKeys rows carried →
+        (j : ℕ) → is_done rows j ≡ true → IsSome (certificate_of rows carried j) }
 {}
 
 /// Where each slot carried a least key, no schedule that serves the done jobs has a smaller greatest lateness.

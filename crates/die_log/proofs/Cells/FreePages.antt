@@ -1,8 +1,8 @@
 -- What an act does to the number of free pages.
-use Rattle.std.proofs.Common.{◌≡◌, ℕ, ◌+◌, ◌-◌, ◌<◌, ◌==◌, Bool, true, false, cond, Some, refl, sym, subst, arith, length, slice_set}
+use Rattle.std.proofs.Common.{◌≡◌, ℕ, ◌+◌, ◌-◌, ◌<◌, ◌==◌, Bool, true, false, cond, Some, refl, ap, sym, subst, arith, length, slice_set}
 use Rattle.std.specs.List.{sum_by}
 use Rattle.std.proofs.lemmas.List.Sums.{sum_by-set}
-use Rattle.std.proofs.lemmas.Bool.{cases_lt}
+use Rattle.std.proofs.lemmas.Bool.{cases_lt, ne_eqb}
 use Rattle.slot_types.specs.declared.plans.DiePlan.{DiePlan}
 use Rattle.slot_types.specs.declared.acts.Act.TheVariants as does
 use Rattle.die_log.specs.Flash.{Cells, Block, empty_block, block_at, programmed_in, programmed, free_in, erased_once, cells_after}
@@ -10,8 +10,12 @@ use Rattle.die_log.specs.Sound.{IsFull, AreSound}
 use Rattle.die_log.proofs.Cells.Acts.{open_idle}
 use Rattle.die_log.proofs.Cells.Steps.{opens, open_is, within_blocks}
 
-free_idle : (plan : DiePlan) (s : Block) → s.erasing ≡ 0 → free_in plan s ≡ plan.shape.pages - s.filled
+-- the free pages of a block by whether it is in erase
+pub free_idle : (plan : DiePlan) (s : Block) → s.erasing ≡ 0 → free_in plan s ≡ plan.shape.pages - s.filled
 free_idle plan s e = rw e refl
+
+pub free_erasing : (plan : DiePlan) (s : Block) → (s.erasing ≡ 0 → ⊥) → free_in plan s ≡ 0
+free_erasing plan s busy = ap (λ (b : Bool). cond b (plan.shape.pages - s.filled) 0) (ne_eqb s.erasing 0 busy)
 
 -- a block's change is the sum's
 changed : (plan : DiePlan) (c : Cells) (b : ℕ) (s : Block) → b < length c.blocks → sum_by (free_in plan) (slice_set c.blocks b s) + free_in plan (block_at c b) ≡ sum_by (free_in plan) c.blocks + free_in plan s

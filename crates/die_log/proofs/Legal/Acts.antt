@@ -10,25 +10,20 @@ use Rattle.slot_types.specs.declared.acts.Act.{Act}
 use Rattle.slot_types.specs.declared.acts.Act.TheVariants as does
 use Rattle.slot_types.specs.declared.events.Op.{Op}
 use Rattle.slot_types.specs.declared.events.Op.TheVariants as asks
-use Rattle.slot_types.specs.declared.events.Event.{Event}
-use Rattle.slot_types.specs.declared.events.Event.TheVariants as events
-use Rattle.slot_types.specs.declared.replies.Reply.TheVariants as replies
 use Rattle.slot_types.specs.declared.replies.Waived.{Waived}
 use Rattle.die_log.specs.Log.{Log, Job, jobs, now, acts, work, waived, is_waived}
-use Rattle.die_log.specs.Flash.{ran_by, cells}
-use Rattle.die_log.specs.Work.{is_done, ready, least}
+use Rattle.die_log.specs.Flash.{cells}
+use Rattle.die_log.specs.Work.{is_done, least}
 use Rattle.plan_rules.specs.Accounts.{Accounts, given_of}
 use Rattle.plan_rules.specs.Accounts as moves
-use Rattle.die_log.specs.Accounts.{accounts}
-use Rattle.die_log.specs.Answers.{Choice, is_running, is_waivable, without, weighed, chosen, choice_among, choice, accepted, act_for, act_of_op, reply_with, slot_reply, refusals, IsExact}
+use Rattle.die_log.specs.Answers.{Choice, is_running, is_waivable, without, weighed, chosen, choice_among, act_for, act_of_op}
 use Rattle.die_log.specs.Legal.{Does, IsNextOperation, IsCollectAct, IsNextCollectAct, MayErase, written_since, is_among, TellsContent, FindsFree, IsLegalAct}
 use Rattle.die_log.specs.Sound.{MayDo, MayEraseSlot}
-use Rattle.die_log.specs.Standing.{Runs, Stands, FindsBy, AllFind, ActsLegally, AllActLegally}
+use Rattle.die_log.specs.Standing.{Runs, Stands}
 use Rattle.die_log.proofs.Choices.{OfSome, names_waiting}
-use Rattle.die_log.proofs.Legality.{entry, exact_induction}
-use Rattle.die_log.proofs.Standing.Longer.{stands_at, kept_both, IsWaiting, waits}
+use Rattle.die_log.proofs.Standing.Longer.{stands_at, kept_both, IsWaiting}
 use Rattle.die_log.proofs.Standing.Actors.{IsBegun, runs_from, act_shows, job_act, collection_may}
-use Rattle.die_log.proofs.Standing.Kept.{waiting_undone, stands}
+use Rattle.die_log.proofs.Standing.Kept.{waiting_undone}
 
 -- Operations
 
@@ -142,32 +137,3 @@ head_legal plan past ws j act more s w unwaived e finds = record {
         let m = collection_may plan past j act more s.collects w.0 kind undone e in
         let l = may_legal plan past j m.0 act s m.1 m.2 in
         ((m.0, act_shows plan past j m.0 act m.1 m.2, l.0), l.1)
-
--- Logs
-
-legal_by_act : (plan : DiePlan) (past : Log) (ws : List Waived) (j : Job) (o : Option Act) → 0 < plan.shape.erase_slots → Stands plan past → IsWaiting plan past j → is_among j.number ws ≡ false → act_for plan past j ≡ o
-    → FindsBy plan past (reply_with plan past ws j o).ran → ActsLegally plan past (replies.Slot (reply_with plan past ws j o))
-legal_by_act plan past ws j None more s w unwaived e finds = tt
-legal_by_act plan past ws j (Some act) more s w unwaived e finds = (j, head_legal plan past ws j act more s w unwaived e finds)
-
-legal_by_head : (plan : DiePlan) (past : Log) (ws : List Waived) (o : Option Job) → 0 < plan.shape.erase_slots → Stands plan past → OfSome (IsWaiting plan past) o → OfSome (λ j. is_among j.number ws ≡ false) o
-    → FindsBy plan past (slot_reply plan past ws o).ran → ActsLegally plan past (replies.Slot (slot_reply plan past ws o))
-legal_by_head plan past ws None more s w unwaived finds = tt
-legal_by_head plan past ws (Some j) more s w unwaived finds = legal_by_act plan past ws j (act_for plan past j) more s w unwaived refl finds
-
--- what an accepted event carries is legal
-pub accepted_legal : (plan : DiePlan) (past : Log) (event : Event) → 0 < plan.shape.erase_slots → Stands plan past → FindsBy plan past (ran_by (accepted plan past event)) → ActsLegally plan past (accepted plan past event)
-accepted_legal plan past (events.Submit task release due ops) more s finds = tt
-accepted_legal plan past (events.Collect task release due) more s finds = tt
-accepted_legal plan past events.Slot more s finds =
-    legal_by_head plan past (choice plan past).waived (choice plan past).head more s (waits plan past).head (head_unwaived plan past (length (ready plan past)) (accounts plan past) (ready plan past)) finds
-
-abbrev Acts : DiePlan → Log → Type 0
-Acts plan log = AllFind plan log → AllActLegally plan log
-
--- all acts of an exact log are legal, if its programs found free pages
-pub acts_legal : (plan : DiePlan) → 0 < plan.shape.pages → 0 < plan.shape.erase_slots → (log : Log) → IsExact plan log → AllFind plan log → AllActLegally plan log
-acts_legal plan pages more = exact_induction plan (Acts plan) (λ h. tt) step
-  where
-    step : (past : Log) (caller : ℕ) (event : Event) → IsExact plan past → Acts plan past → AllByRecursion (λ c. c.0 ≡ false) (refusals plan past event) → Acts plan (entry caller event (accepted plan past event) ∷ past)
-    step past caller event x ih free h = (ih h.0, accepted_legal plan past event more (stands plan pages more past x h.0) h.1)

@@ -17,7 +17,8 @@ use Rattle.die_log.specs.Work.{are_all, is_done, is_ready, ready, victim_of, owe
 use Rattle.die_log.specs.Accounts.{accounts}
 use Rattle.die_log.specs.Answers.{Choice, choice, accepted, victim, block_for, buffer_after, is_placed_in, collect_act, act_of_op, act_for, reply_with, slot_reply, refusals}
 use Rattle.die_log.specs.Legal.{is_among, NothingWaits, AreWaivers, IsLegalRun, IsLegalReply, IsLegalEntry}
-use Rattle.die_log.specs.Standing.{KeepsToOps, Stands, FindsBy, FindsVictim}
+use Rattle.die_log.specs.Standing.{KeepsToOps, Stands}
+use Rattle.die_log.proofs.Standing.Finds.{FindsBy, FindsVictim}
 use Rattle.die_log.proofs.Choices.{OfSome}
 use Rattle.die_log.proofs.Heads.{IsPassed, NotBefore, all_passed}
 use Rattle.die_log.proofs.Legality.{entry, in_time}

@@ -1,7 +1,6 @@
 -- What stands of every exact log.
 use Rattle.std.proofs.Common.{◌≡◌, ◌⊎◌, ℕ, ◌<◌, true, false, List, [], ◌∷◌, ◌++◌, Option, Some, None, refl, ap, sym, ◌∙◌, subst, inl, inr, arith, length, slice_get}
 use Rattle.std.specs.Prelude.{Contains}
-use Rattle.std.specs.List.{AllByRecursion}
 use Rattle.std.proofs.lemmas.Bool.{and_parts, not-true, cases_eq}
 use Rattle.std.proofs.lemmas.Option.{slice_get_within}
 use Rattle.std.proofs.lemmas.List.{length_push}
@@ -18,11 +17,12 @@ use Rattle.slot_types.specs.declared.replies.Waived.{Waived}
 use Rattle.die_log.specs.Log.{Log, Job, jobs, act_of, acts, work}
 use Rattle.die_log.specs.Flash.{ran_by}
 use Rattle.die_log.specs.Work.{is_done, is_ready}
-use Rattle.die_log.specs.Answers.{is_running, accepted, act_for, act_of_op, reply_with, slot_reply, choice, refusals, IsExact}
+use Rattle.die_log.specs.Answers.{is_running, accepted, act_for, act_of_op, reply_with, slot_reply, choice, IsExact}
 use Rattle.die_log.specs.Legal.{FindsFree}
-use Rattle.die_log.specs.Standing.{AreNumbered, KeepsToOps, Stands, FindsBy, AllFind}
+use Rattle.die_log.specs.Standing.{AreNumbered, KeepsToOps, Stands}
+use Rattle.die_log.proofs.Standing.Finds.{FindsBy}
 use Rattle.die_log.proofs.Choices.{OfSome}
-use Rattle.die_log.proofs.Legality.{entry, exact_induction}
+use Rattle.die_log.proofs.Legality.{entry}
 use Rattle.die_log.proofs.Collecting.{no_acts}
 use Rattle.die_log.proofs.Cells.Steps.{fresh_sound, fresh_idle}
 use Rattle.die_log.proofs.Standing.Longer.{numbered_push, same_job, acts_stay, acts_grow, act_other, act_own, IsWaiting, waits}
@@ -117,9 +117,6 @@ acted_stands plan e past j act pages more ran same stands undone is finds s = re
 
 -- Logs
 
-abbrev Found : DiePlan → Log → Type 0
-Found plan log = AllFind plan log → Stands plan log
-
 nobody_in : {P : Type 0} (j : Job) → Contains [] j → P
 nobody_in j h = absurd (omega (arith, h.1))
 
@@ -155,10 +152,3 @@ accepted_stands plan past caller (events.Submit task release due ops) pages more
 accepted_stands plan past caller (events.Collect task release due) pages more x finds s =
     taken_stands plan (entry caller (events.Collect task release due) (accepted plan past (events.Collect task release due))) past _ refl refl refl (no_acts plan past x) s
 accepted_stands plan past caller events.Slot pages more x finds s = slot_head plan past caller (choice plan past).waived (choice plan past).head pages more (waits plan past).head finds s
-
--- of each exact log whose programs found free pages
-pub stands : (plan : DiePlan) → 0 < plan.shape.pages → 0 < plan.shape.erase_slots → (log : Log) → IsExact plan log → AllFind plan log → Stands plan log
-stands plan pages more = exact_induction plan (Found plan) (λ h. fresh_stands plan) step
-  where
-    step : (past : Log) (caller : ℕ) (event : Event) → IsExact plan past → Found plan past → AllByRecursion (λ c. c.0 ≡ false) (refusals plan past event) → Found plan (entry caller event (accepted plan past event) ∷ past)
-    step past caller event x ih free h = accepted_stands plan past caller event pages more x h.1 (ih h.0)

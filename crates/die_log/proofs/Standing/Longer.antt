@@ -72,9 +72,13 @@ acts_grow n e past act h = acts_more n e past ∙ ap (λ (o : Option Act). acts 
 
 -- Blocks shown
 
-shown_none : (plan : DiePlan) (past : Log) (o : Option ℕ) → shown_by plan past o None ≡ o
+pub shown_none : (plan : DiePlan) (past : Log) (o : Option ℕ) → shown_by plan past o None ≡ o
 shown_none plan past None = refl
 shown_none plan past (Some b) = refl
+
+-- an act of another number shows nothing
+pub shown_other : (plan : DiePlan) (past : Log) (o : Option ℕ) (act : Option Act) → act ≡ None → shown_by plan past o act ≡ o
+shown_other plan past o act e = ap (shown_by plan past o) e ∙ shown_none plan past o
 
 pub victim_stays : (plan : DiePlan) (n : ℕ) (e : Entry) (past : Log) → act_of n (ran_by e.reply) ≡ None → victim_of plan n (e ∷ past) ≡ victim_of plan n past
 victim_stays plan n e past h = ap (shown_by plan past (victim_of plan n past)) h ∙ shown_none plan past (victim_of plan n past)

@@ -7,12 +7,10 @@ use Rattle.late_cert.proofs.stretches.build.Goals as goal
 
 pub returns-then-eq-clause-own : goal.returns-then-eq-clause-own
 returns-then-eq-clause-own c =
-    let is = (rw c.as_slice.ensures at c.in_ok-certificate.ensures) in
-    let holds = same_true the_type (search rules) _ _ (sym c.eq.ensures ∙ c.if-eq.true) in
-    own-built _ c.requires _ _ _ (sym is ∙ c.in-Some.is) (sym c.check.ensures.verdict ∙ holds)
+    own-built _ c.requires _ _ _ _ _ (rw c.as_slice.ensures at c.in_ok-certificate.ensures) c.in-Some.is c.check.ensures.verdict
+    (same_true the_type (search rules) _ _ (sym c.eq.ensures ∙ c.if-eq.true))
 
 pub returns-else-eq-clause-none : goal.returns-else-eq-clause-none
 returns-else-eq-clause-none c =
-    let is = (rw c.as_slice.ensures at c.in_ok-certificate.ensures) in
-    (λ q. none-built _ c.requires _ _ _ q (sym is ∙ c.in-Some.is)
-    (λ e. true≢false (sym (rw (c.check.ensures.verdict ∙ e) at c.eq.ensures) ∙ c.if-eq.false)))
+    (λ q. none-built _ c.requires _ _ _ _ q _ (rw c.as_slice.ensures at c.in_ok-certificate.ensures) c.in-Some.is c.check.ensures.verdict
+    (λ e. true≢false (sym (rw e at c.eq.ensures) ∙ c.if-eq.false)))
