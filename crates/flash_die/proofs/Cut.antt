@@ -1,5 +1,5 @@
 -- Blocks that are cut out of one list of cells.
-use Rattle.std.proofs.Common.{◌≡◌, ◌≢◌, ℕ, ◌+◌, ◌-◌, ◌*◌, ◌<◌, ◌≤◌, List, [], ◌∷◌, ◌++◌, length, get_or, set, take, drop, map, refl, sym, ap, ◌∙◌, subst, arith, inl, inr}
+use Rattle.std.proofs.Common.{◌≡◌, ◌≢◌, ℕ, ◌+◌, ◌-◌, ◌*◌, ◌<◌, ◌≤◌, List, [], ◌∷◌, ◌++◌, length, get_or, set, take, drop, sym, ap, ◌∙◌, subst, arith, inl, inr}
 use Rattle.std.proofs.lemmas.Bool.{cases_eq, cases_lt}
 use Rattle.std.proofs.lemmas.List.{get_or-take, get_or-drop, length-take, length-take-le, length-drop, length-set, get_or-set_same, get_or-set_other, drop-set-add, drop-set-lt, take-set-le, take_more_set}
 use Rattle.std.proofs.lemmas.List.FromFn.{length-map-range_with_len, get_or-map-range_with_len, fill_by_all}
@@ -46,12 +46,12 @@ one_changed pages cells filled erasing erases cells_then filled_then erasing_the
     let before : List Block = blocks_of pages cells filled erasing erases in
     let count : length before ≡ length filled = count_is pages cells filled erasing erases in
     sym (fill_by_all (block_of pages cells_then filled_then erasing_then erases_then) (set before b new) (length filled_then) empty_block (length-set before b new ∙ count ∙ sym len) (λ k h.
-      elim (cases_eq k b) [
-        | inl same ↦ ap (λ (j : ℕ). get_or (set before b new) j empty_block) same ∙ get_or-set_same before b new empty_block (omega (arith, below, count)) ∙ sym here ∙ ap (block_of pages cells_then filled_then erasing_then erases_then) (sym same)
-        | inr other ↦
-            let in_range : k < length filled = omega (arith, h, len) in
-            get_or-set_other before b k new empty_block other ∙ block_is pages cells filled erasing erases k in_range ∙ sym (others k in_range other)
-      ]))
+    elim (cases_eq k b) [
+      | inl same ↦ ap (λ (j : ℕ). get_or (set before b new) j empty_block) same ∙ get_or-set_same before b new empty_block (omega (arith, below, count)) ∙ sym here ∙ ap (block_of pages cells_then filled_then erasing_then erases_then) (sym same)
+      | inr other ↦
+          let in_range : k < length filled = omega (arith, h, len) in
+          get_or-set_other before b k new empty_block other ∙ block_is pages cells filled erasing erases k in_range ∙ sym (others k in_range other)
+    ]))
 
 -- the cells of another block stay
 apart : (pages : ℕ) (cells : List PageData) (count k b page : ℕ) (bytes : PageData) → count ≤ pages → page < pages → k ≢ b → take count (drop (k * pages) (set cells (b * pages + page) bytes)) ≡ take count (drop (k * pages) cells)
@@ -104,12 +104,12 @@ blocks_programmed shape cells filled erasing erases place bytes is fit =
     let cut : take (place.page + 1) (drop (b * pages) (set cells (b * pages + place.page) bytes)) ≡ take place.page rest ++ bytes ∷ [] = ap (take (place.page + 1)) (drop-set-add (b * pages) cells place.page bytes) ∙ take_more_set rest place.page bytes (omega (arith, length-drop (b * pages) cells, fit.at)) in
     let count_now : get_or (set filled b (place.page + 1)) b 0 ≡ place.page + 1 = get_or-set_same filled b (place.page + 1) 0 fit.block in
     one_changed pages cells filled erasing erases (set cells (b * pages + place.page) bytes) (set filled b (place.page + 1)) erasing erases b (record old { pages = old.pages ++ bytes ∷ [] }) (length-set filled b (place.page + 1)) fit.block
-      (let F : ℕ → List PageData → Block = λ n l. record { pages = take n l; erasing = get_or erasing b 0; erases = get_or erases b 0 } in
-       let G : List PageData → Block = λ l. record { pages = l; erasing = get_or erasing b 0; erases = get_or erases b 0 } in
-       let H : Block → Block = λ x. record x { pages = x.pages ++ bytes ∷ [] } in
-       ap (λ (n : ℕ). F n (drop (b * pages) (set cells (b * pages + place.page) bytes))) count_now ∙ ap G cut ∙ ap (λ (n : ℕ). G (take n rest ++ bytes ∷ [])) fit.next ∙ ap H (sym old_is))
-      (λ k below other.
-        let F : ℕ → List PageData → Block = λ n l. record { pages = take n l; erasing = get_or erasing k 0; erases = get_or erases k 0 } in
-        let G : List PageData → Block = λ l. record { pages = l; erasing = get_or erasing k 0; erases = get_or erases k 0 } in
-        ap (λ (n : ℕ). F n (drop (k * pages) (set cells (b * pages + place.page) bytes))) (get_or-set_other filled b k (place.page + 1) 0 other)
-        ∙ ap G (apart pages cells (get_or filled k 0) k b place.page bytes (is.within k) fit.room other))
+    (let F : ℕ → List PageData → Block = λ n l. record { pages = take n l; erasing = get_or erasing b 0; erases = get_or erases b 0 } in
+    let G : List PageData → Block = λ l. record { pages = l; erasing = get_or erasing b 0; erases = get_or erases b 0 } in
+    let H : Block → Block = λ x. record x { pages = x.pages ++ bytes ∷ [] } in
+    ap (λ (n : ℕ). F n (drop (b * pages) (set cells (b * pages + place.page) bytes))) count_now ∙ ap G cut ∙ ap (λ (n : ℕ). G (take n rest ++ bytes ∷ [])) fit.next ∙ ap H (sym old_is))
+    (λ k below other.
+    let F : ℕ → List PageData → Block = λ n l. record { pages = take n l; erasing = get_or erasing k 0; erases = get_or erases k 0 } in
+    let G : List PageData → Block = λ l. record { pages = l; erasing = get_or erasing k 0; erases = get_or erases k 0 } in
+    ap (λ (n : ℕ). F n (drop (k * pages) (set cells (b * pages + place.page) bytes))) (get_or-set_other filled b k (place.page + 1) 0 other)
+    ∙ ap G (apart pages cells (get_or filled k 0) k b place.page bytes (is.within k) fit.room other))

@@ -1,5 +1,5 @@
 -- What an erase slot does to blocks that are cut out of one list of cells.
-use Rattle.std.proofs.Common.{◌≡◌, ◌≢◌, ℕ, ◌+◌, ◌*◌, ◌<◌, ◌≤◌, Bool, true, false, eqb, List, [], length, get_or, set, take, drop, refl, sym, ap, ◌∙◌, arith}
+use Rattle.std.proofs.Common.{◌≡◌, ℕ, ◌+◌, ◌*◌, ◌<◌, ◌≤◌, Bool, true, false, List, [], length, get_or, set, take, drop, refl, sym, ap, ◌∙◌, arith}
 use Rattle.std.specs.Prelude.{◌==◌, if◌then◌else◌}
 use Rattle.std.proofs.lemmas.Bool.{cases_eq, ne_eqb}
 use Rattle.std.proofs.Common.{eq-eqb, inl, inr}
@@ -52,10 +52,10 @@ blocks_going shape cells filled erasing erases block at less =
     let G : Block → Block = λ x. record x { erasing = x.erasing + 1 } in
     let S : ℕ → Block = λ n. record (block_of shape.pages cells filled erasing erases block) { erasing = n } in
     one_changed shape.pages cells filled erasing erases cells filled E erases block (erased_once shape.erase_slots old) refl at.in_filled
-      (ap S (get_or-set_same erasing block (get_or erasing block 0 + 1) 0 at.in_erasing) ∙ ap G (sym at.old_is) ∙ ap T (sym tested))
-      (λ k below other.
-        let K : ℕ → Block = λ n. record (block_of shape.pages cells filled erasing erases k) { erasing = n } in
-        ap K (get_or-set_other erasing block k (get_or erasing block 0 + 1) 0 other))
+    (ap S (get_or-set_same erasing block (get_or erasing block 0 + 1) 0 at.in_erasing) ∙ ap G (sym at.old_is) ∙ ap T (sym tested))
+    (λ k below other.
+    let K : ℕ → Block = λ n. record (block_of shape.pages cells filled erasing erases k) { erasing = n } in
+    ap K (get_or-set_other erasing block k (get_or erasing block 0 + 1) 0 other))
 
 -- the last slot of an erase
 pub blocks_freed : (shape : Shape) (cells : List PageData) (filled erasing erases : List ℕ) (block : ℕ) → IsMemory shape cells filled erasing erases → Erasing shape cells filled erasing erases block → shape.erase_slots ≤ get_or erasing block 0 + 1 → blocks_of shape.pages cells (set filled block 0) (set erasing block 0) (set erases block (get_or erases block 0 + 1)) ≡ erased (blocks_of shape.pages cells filled erasing erases) shape.erase_slots block
@@ -72,12 +72,12 @@ blocks_freed shape cells filled erasing erases block is at enough =
     let C : ℕ → Block = λ n. block_with shape.pages cells block 0 0 n in
     let D : ℕ → Block = λ n. record { pages = []; erasing = 0; erases = n + 1 } in
     one_changed shape.pages cells filled erasing erases cells F E N block (erased_once shape.erase_slots old) (length-set filled block 0) at.in_filled
-      (ap A (get_or-set_same filled block 0 0 at.in_filled) ∙ ap B (get_or-set_same erasing block 0 0 at.in_erasing) ∙ ap C (get_or-set_same erases block (get_or erases block 0 + 1) 0 at.in_erases) ∙ ap D (sym (ap (λ (x : Block). x.erases) at.old_is)) ∙ ap T (sym tested))
-      (λ k below other.
-        let X : ℕ → Block = λ n. block_with shape.pages cells k n (get_or E k 0) (get_or N k 0) in
-        let Y : ℕ → Block = λ n. block_with shape.pages cells k (get_or filled k 0) n (get_or N k 0) in
-        let Z : ℕ → Block = λ n. block_with shape.pages cells k (get_or filled k 0) (get_or erasing k 0) n in
-        ap X (get_or-set_other filled block k 0 0 other) ∙ ap Y (get_or-set_other erasing block k 0 0 other) ∙ ap Z (get_or-set_other erases block k (get_or erases block 0 + 1) 0 other))
+    (ap A (get_or-set_same filled block 0 0 at.in_filled) ∙ ap B (get_or-set_same erasing block 0 0 at.in_erasing) ∙ ap C (get_or-set_same erases block (get_or erases block 0 + 1) 0 at.in_erases) ∙ ap D (sym (ap (λ (x : Block). x.erases) at.old_is)) ∙ ap T (sym tested))
+    (λ k below other.
+    let X : ℕ → Block = λ n. block_with shape.pages cells k n (get_or E k 0) (get_or N k 0) in
+    let Y : ℕ → Block = λ n. block_with shape.pages cells k (get_or filled k 0) n (get_or N k 0) in
+    let Z : ℕ → Block = λ n. block_with shape.pages cells k (get_or filled k 0) (get_or erasing k 0) n in
+    ap X (get_or-set_other filled block k 0 0 other) ∙ ap Y (get_or-set_other erasing block k 0 0 other) ∙ ap Z (get_or-set_other erases block k (get_or erases block 0 + 1) 0 other))
 
 zero_or : (xs : List ℕ) (block k n : ℕ) → block < length xs → get_or xs k 0 ≤ n → get_or (set xs block 0) k 0 ≤ n
 zero_or xs block k n below le =

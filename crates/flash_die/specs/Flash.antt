@@ -1,5 +1,5 @@
 -- The cells of a device.
-use Rattle.std.specs.Prelude.{◌≡◌, ℕ, ◌+◌, ◌<◌, ◌⊎◌, ◌==◌, if◌then◌else◌, List, [], ◌∷◌, ◌++◌, length, replicate, slice_index_or, slice_set}
+use Rattle.std.specs.Prelude.{◌≡◌, ℕ, ◌+◌, ◌<◌, ◌==◌, if◌then◌else◌, List, [], ◌∷◌, ◌++◌, length, replicate, slice_index_or, slice_set}
 use Rattle.slot_types.specs.declared.pages.PageData.{PageData}
 use Rattle.slot_types.specs.declared.pages.Place.{Place}
 use Rattle.slot_types.specs.declared.plans.Shape.{Shape}

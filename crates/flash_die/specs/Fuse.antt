@@ -1,5 +1,5 @@
 -- A device that fails after some calls.
-use Rattle.std.specs.Prelude.{◌≡◌, ℕ, zero, suc, ◌+◌, Bool, false}
+use Rattle.std.specs.Prelude.{◌≡◌, ℕ, ◌+◌, Bool, false}
 
 -- the device that calls are passed on to, how many more are passed on, and how many failed since
 pub record Fuse (N : Type 0) : Type 0 where

@@ -6,7 +6,7 @@ ghost use Rattle.flash_die.specs.Memory.{fresh_memory};
 
 use crate::nand::Nand;
 use slot_types::{
-    PageData, Place, Refusal, Shape, MAX_BLOCKS, MAX_ERASE_SLOTS, MAX_PAGES, MIN_BLOCKS, MIN_PAGES,
+    MAX_BLOCKS, MAX_ERASE_SLOTS, MAX_PAGES, MIN_BLOCKS, MIN_PAGES, PageData, Place, Refusal, Shape,
 };
 use std::alloc::Global;
 use std::marker::Model;

@@ -1,4 +1,4 @@
-use Rattle.std.proofs.Common.{rules, arith, sym, ap, ◌∙◌, ◌≡◌, ◌≤◌, ◌<◌, ◌+◌, ℕ, get_or}
+use Rattle.std.proofs.Common.{rules, arith, sym, ◌≡◌, ◌≤◌, ◌<◌, ◌+◌, get_or}
 use Rattle.std.proofs.lemmas.List.{get_or_read}
 use Rattle.flash_die.proofs.Erase.{erasing_at, going_tested, last_tested, blocks_going, blocks_freed, still_memory}
 use Rattle.flash_die.proofs.memory.MemoryNandNand.erase_slot.Goals as goal

@@ -1,4 +1,4 @@
-use Rattle.std.proofs.Common.{rules, arith, ◌+◌, ◌*◌}
+use Rattle.std.proofs.Common.{rules, arith}
 use Rattle.flash_die.proofs.Cut.{fits, blocks_programmed}
 use Rattle.flash_die.proofs.memory.MemoryNandNand.program.Goals as goal
 

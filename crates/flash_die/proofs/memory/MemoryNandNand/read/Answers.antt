@@ -1,4 +1,4 @@
-use Rattle.std.proofs.Common.{rules, arith, ◌≡◌, ◌+◌, ◌*◌, sym, ◌∙◌}
+use Rattle.std.proofs.Common.{rules, arith, ◌+◌, ◌*◌, sym, ◌∙◌}
 use Rattle.std.proofs.lemmas.List.{get_or_read}
 use Rattle.flash_die.specs.Flash.{blank}
 use Rattle.flash_die.proofs.Cut.{within, cell_is}
