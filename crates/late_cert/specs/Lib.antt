@@ -1,3 +1,4 @@
+pub mod Carried
 pub mod Schedule
 pub mod Rows
 pub mod Bound

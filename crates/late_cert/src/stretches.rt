@@ -31,9 +31,9 @@ pub fn build(
     job: JobNo,
 ) -> Result<Option<Certificate>, Refusal>
     requires { RowsRise rows.now }
-    ensures built { IfOk result (λ built. built ≡ certificate_of rows.now carried.now job) }
-    ensures own { IfOk result (λ built. IfSome built (IsOwn rows.now carried.now job)) }
-    ensures none { IfOk result (λ built. IfNone built ((c : Certificate) → IsOwn rows.now carried.now job c → ⊥)) }
+    ensures built { IfOk result (λ built. built ≡ certificate_of rows.now carried.now.slots job) }
+    ensures own { IfOk result (λ built. IfSome built (IsOwn rows.now carried.now.slots job)) }
+    ensures none { IfOk result (λ built. IfNone built ((c : Certificate) → IsOwn rows.now carried.now.slots job c → ⊥)) }
     ensures refused { IfErr result (λ refusal. refusal ≡ Refusal.NoMemory) }
 {
     let Some(certificate) = stretch(alloc, rows.as_slice(), carried, job)? else {
@@ -54,7 +54,7 @@ fn stretch(
     job: JobNo,
 ) -> Result<Option<Certificate>, AllocError>
     requires { RowsRise rows.now }
-    ensures { IfOk result (λ stretch. stretch ≡ stretch_if_done rows.now carried.now job) }
+    ensures { IfOk result (λ stretch. stretch ≡ stretch_if_done rows.now carried.now.slots job) }
 {
     let Some(row) = find(rows, job) else {
         return Ok(None);
@@ -78,7 +78,7 @@ fn stretch(
 fn stretch_start(rows: &[JobRow], carried: &Carried, job: JobNo, due: u32, completion: u32) -> u32
     requires rise { RowsRise rows.now }
     requires due { due ≡ due_of rows.now job }
-    ensures start { result ≡ start_of rows.now carried.now job completion }
+    ensures start { result ≡ start_of rows.now carried.now.slots job completion }
     ensures ordered { result ≤ completion }
 {
     let mut start = completion;
@@ -105,7 +105,7 @@ fn is_in_stretch(rows: &[JobRow], job: JobNo, due: u32, slot: Option<JobNo>) -> 
 
 // What a slot carried; nothing past the last one.
 fn carried_at(carried: &Carried, slot: usize) -> Option<JobNo>
-    ensures { result ≡ slot_at carried.now slot }
+    ensures { result ≡ slot_at carried.now.slots slot }
 {
     carried.get(slot).flatten()
 }
@@ -120,7 +120,7 @@ fn marks(
 ) -> Result<Vec<bool>, AllocError>
     requires rise { RowsRise rows.now }
     requires ordered { start ≤ completion }
-    ensures { IfOk result (λ marks. AreMarks rows.now carried.now start completion marks.items) }
+    ensures { IfOk result (λ marks. AreMarks rows.now carried.now.slots start completion marks.items) }
 {
     let mut marks = vec![in alloc; false; rows.len()]?;
     for slot in start..completion {
@@ -142,8 +142,8 @@ fn marked(
     start: u32,
     completion: u32,
 ) -> Result<JobList, AllocError>
-    requires { AreMarks rows.now carried.now start completion marks.now }
-    ensures { IfOk result (λ jobs. jobs ≡ jobs_of rows.now carried.now start completion) }
+    requires { AreMarks rows.now carried.now.slots start completion marks.now }
+    ensures { IfOk result (λ jobs. jobs ≡ jobs_of rows.now carried.now.slots start completion) }
 {
     let mut jobs = JobList::new(alloc);
     for i in 0..rows.len() {

@@ -9,4 +9,4 @@ flatten-slice_get (number ∷ carried) zero = refl
 flatten-slice_get (number ∷ carried) (suc slot) = flatten-slice_get carried slot
 
 pub returns : goal.returns
-returns c = c.flatten.ensures ∙ ap option_flatten c.get.ensures ∙ flatten-slice_get c.args.carried.now c.args.slot
+returns c = c.flatten.ensures ∙ ap option_flatten c.get.ensures ∙ flatten-slice_get c.args.carried.now.slots c.args.slot

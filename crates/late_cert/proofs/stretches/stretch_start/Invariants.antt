@@ -5,7 +5,7 @@ use Rattle.late_cert.proofs.stretches.stretch_start.Given as goal
 abbrev pub invariant-loop-start : goal.invariant-loop-start
 invariant-loop-start l = record {
   ordered : l.start ≤ l.completion;
-  same : start_of l.rows l.carried l.job l.completion ≡ start_of l.rows l.carried l.job l.start;
+  same : start_of l.rows l.carried.slots l.job l.completion ≡ start_of l.rows l.carried.slots l.job l.start;
 }
 
 abbrev pub decreases-loop-start : goal.decreases-loop-start
