@@ -1,3 +1,5 @@
 pub mod Choosing
 pub mod Recording
 pub mod Heading
+pub mod Reaching
+pub mod Flashing
