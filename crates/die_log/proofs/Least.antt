@@ -1,0 +1,3 @@
+-- Each slot of an exact log carried a least key, so its greatest lateness is least.
+pub mod Lookups
+pub mod Steps
