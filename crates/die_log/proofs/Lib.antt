@@ -10,5 +10,6 @@ pub mod Cells
 pub mod Standing
 pub mod Legal
 pub mod Tokens
+pub mod Least
 mod Worked
 mod Wrong

@@ -1,11 +1,12 @@
 -- What is done, what waits, and who is late.
-use Rattle.std.specs.Prelude.{ℕ, ◌+◌, ◌&&◌, ◌||◌, ◌==◌, not, nat_lt, nat_le, Bool, true, false, if◌then◌else◌, List, [], ◌∷◌, length, drop, Option, Some, None, filter, count_by, sum_by, ℤ, pos, ◌-ℤ◌, int_lt}
+use Rattle.std.specs.Prelude.{ℕ, ◌+◌, ◌&&◌, ◌||◌, ◌==◌, not, nat_lt, nat_le, Bool, true, false, if◌then◌else◌, List, [], ◌∷◌, length, drop, Option, Some, None, filter, count_by, sum_by, ℤ, int_lt}
 use Rattle.std.specs.List.{list_any, reduce}
 use Rattle.slot_types.specs.declared.plans.DiePlan.{DiePlan}
 use Rattle.slot_types.specs.declared.acts.Act.{Act}
 use Rattle.slot_types.specs.declared.acts.Act.TheVariants as does
 use Rattle.slot_types.specs.declared.events.Op.{Op}
 use Rattle.slot_types.specs.declared.events.Op.TheVariants as asks
+use Rattle.late_cert.specs.Schedule as slots
 use Rattle.die_log.specs.Log.{Log, Job, jobs, now, is_waived, acts, act_of, work}
 use Rattle.die_log.specs.Flash.{ran_by, Cells, cells, block_of_page}
 
@@ -59,11 +60,8 @@ abbrev pub completion : ℕ → Log → ℕ
 completion number [] = 0
 completion number (e ∷ past) = ended_by (act_of number (ran_by e.reply)) (completion number past) (now past)
 
-abbrev pub lateness : ℕ → ℕ → ℤ
-lateness completion due = pos completion -ℤ pos due
-
 abbrev pub lateness_of : Log → Job → ℤ
-lateness_of log j = lateness (completion j.number log) j.due
+lateness_of log j = slots.lateness_of (completion j.number log) j.due
 
 -- later, or as late and completed first, or in the same slot the smaller number
 abbrev pub is_worse : Log → Job → Job → Bool

@@ -3,9 +3,12 @@ use slot_types::{JobNo, Refusal};
 use std::alloc::Global;
 use std::test::Fail;
 
+// Of a row: number, release, due, work, completion.
 type Row = (u32, u32, u32, u32, Option<u32>);
 
-// Of each row: number, release, due, work, completion.
+// Of a certificate: start, due, completion.
+type Bounds = (u32, u32, u32);
+
 fn rows_of(alloc: Global, rows: &[Row]) -> Result<JobRows, Refusal> {
     let mut list = JobRows::new(alloc);
     for (number, release, due, work, completion) in rows {
@@ -31,8 +34,7 @@ fn carried_of(alloc: Global, numbers: &[u32]) -> Result<Carried, Refusal> {
 fn certificate_of(
     alloc: Global,
     job: u32,
-    slots: (u32, u32),
-    due: u32,
+    bounds: Bounds,
     numbers: &[u32],
 ) -> Result<Certificate, Refusal> {
     let mut jobs = JobList::new(alloc);
@@ -41,11 +43,55 @@ fn certificate_of(
     }
     Ok(Certificate {
         job: JobNo(job),
-        start: slots.0,
-        due,
-        completion: slots.1,
+        start: bounds.0,
+        due: bounds.1,
+        completion: bounds.2,
         jobs,
     })
+}
+
+// The certificate of a job, where the rows rise.
+fn built(
+    alloc: Global,
+    rows: &[Row],
+    carried: &[u32],
+    job: u32,
+) -> Result<Option<Certificate>, Refusal> {
+    let rows = rows_of(alloc, rows)?;
+    let carried = carried_of(alloc, carried)?;
+    if !rows_rise(&rows) {
+        return Ok(None);
+    }
+    build(alloc, &rows, &carried, JobNo(job))
+}
+
+// Whether the certificate of a job has these bounds and jobs.
+fn is_built(
+    alloc: Global,
+    rows: &[Row],
+    carried: &[u32],
+    job: u32,
+    bounds: Bounds,
+    numbers: &[u32],
+) -> Result<bool, Refusal> {
+    let wanted = certificate_of(alloc, job, bounds, numbers)?;
+    let built = built(alloc, rows, carried, job)?;
+    Ok(built == Some(wanted))
+}
+
+// The verdict on a certificate, where the rows rise.
+fn verdict_on(
+    alloc: Global,
+    rows: &[Row],
+    bounds: Bounds,
+    numbers: &[u32],
+) -> Result<Option<Verdict>, Refusal> {
+    let rows = rows_of(alloc, rows)?;
+    let certificate = certificate_of(alloc, 1, bounds, numbers)?;
+    if !rows_rise(&rows) {
+        return Ok(None);
+    }
+    Ok(Some(check(&rows, &certificate)))
 }
 
 // Job 0 of three slots and due 10 gives way in slot 1 to job 1 of due 3.
@@ -58,15 +104,8 @@ const ONE_DUE: [Row; 2] = [(0, 2, 5, 2, Some(4)), (1, 0, 5, 3, Some(5))];
 
 #[test]
 fn a_later_job_with_an_earlier_due_preempts(rt: HostRuntime) -> Result<(), Fail> {
-    let alloc = rt.alloc();
-    let rows = rows_of(alloc, &PREEMPTED)?;
-    let carried = carried_of(alloc, &[0, 1, 0, 0])?;
-    assert!(rt; rows_rise(&rows));
-    let certificate = build(alloc, &rows, &carried, JobNo(1))?;
-    assert_eq!(rt;
-        certificate,
-        Some(certificate_of(alloc, 1, (1, 2), 3, &[1])?)
-    );
+    let slots = [0, 1, 0, 0];
+    assert!(rt; is_built(rt.alloc(), &PREEMPTED, &slots, 1, (1, 3, 2), &[1])?);
     assert_eq!(rt; lateness(4, 10), -6);
     assert_eq!(rt; lateness(2, 3), -1);
     Ok(())
@@ -74,40 +113,18 @@ fn a_later_job_with_an_earlier_due_preempts(rt: HostRuntime) -> Result<(), Fail>
 
 #[test]
 fn equal_dues_go_by_number(rt: HostRuntime) -> Result<(), Fail> {
-    let alloc = rt.alloc();
-    let rows = rows_of(alloc, &ONE_DUE_BEFORE)?;
-    let carried = carried_of(alloc, &[1, 1, 0, 0])?;
-    assert!(rt; rows_rise(&rows));
-    let certificate = build(alloc, &rows, &carried, JobNo(0))?;
-    assert_eq!(rt;
-        certificate,
-        Some(certificate_of(alloc, 0, (2, 4), 5, &[0])?)
-    );
-    assert_eq!(rt; build(alloc, &rows, &carried, JobNo(1))?, None);
-
-    let rows = rows_of(alloc, &ONE_DUE)?;
-    let carried = carried_of(alloc, &[1, 1, 0, 0, 1])?;
-    assert!(rt; rows_rise(&rows));
-    let certificate = build(alloc, &rows, &carried, JobNo(1))?;
-    assert_eq!(rt;
-        certificate,
-        Some(certificate_of(alloc, 1, (0, 5), 5, &[0, 1])?)
-    );
+    let slots = [1, 1, 0, 0, 1];
+    assert!(rt; is_built(rt.alloc(), &ONE_DUE_BEFORE, &slots[..4], 0, (2, 5, 4), &[0])?);
+    assert!(rt; built(rt.alloc(), &ONE_DUE_BEFORE, &slots[..4], 1)?.is_none());
+    assert!(rt; is_built(rt.alloc(), &ONE_DUE, &slots, 1, (0, 5, 5), &[0, 1])?);
     assert_eq!(rt; lateness(5, 5), 0);
     Ok(())
 }
 
 #[test]
 fn two_jobs_with_one_due(rt: HostRuntime) -> Result<(), Fail> {
-    let alloc = rt.alloc();
-    let rows = rows_of(alloc, &[(0, 0, 2, 2, Some(2)), (1, 0, 2, 1, Some(3))])?;
-    let carried = carried_of(alloc, &[0, 0, 1])?;
-    assert!(rt; rows_rise(&rows));
-    let certificate = build(alloc, &rows, &carried, JobNo(1))?;
-    assert_eq!(rt;
-        certificate,
-        Some(certificate_of(alloc, 1, (0, 3), 2, &[0, 1])?)
-    );
+    let rows = [(0, 0, 2, 2, Some(2)), (1, 0, 2, 1, Some(3))];
+    assert!(rt; is_built(rt.alloc(), &rows, &[0, 0, 1], 1, (0, 2, 3), &[0, 1])?);
     assert_eq!(rt; lateness(3, 2), 1);
     Ok(())
 }
@@ -115,104 +132,47 @@ fn two_jobs_with_one_due(rt: HostRuntime) -> Result<(), Fail> {
 #[test]
 fn the_first_fault_is_told(rt: HostRuntime) -> Result<(), Fail> {
     let alloc = rt.alloc();
-    // A row that no run has: done in slot 2, though released at 7.
-    let by_hand = [(4, 7, 9, 1, Some(3))];
-    let cases: [(&[Row], (u32, u32), u32, &[u32], Verdict, Option<u8>, &str); 10] = [
-        (&ONE_DUE, (0, 5), 5, &[0, 1], Verdict::Holds, None, "Holds"),
-        (&ONE_DUE, (0, 5), 5, &[], Verdict::Empty, Some(1), "Empty"),
-        (
-            &ONE_DUE,
-            (0, 5),
-            5,
-            &[0, 0],
-            Verdict::NotRising,
-            Some(2),
-            "NotRising",
-        ),
-        (
-            &ONE_DUE,
-            (0, 5),
-            5,
-            &[9],
-            Verdict::UnknownJob,
-            Some(3),
-            "UnknownJob",
-        ),
-        (
-            &ONE_DUE_BEFORE,
-            (0, 4),
-            5,
-            &[0, 1],
-            Verdict::Unfinished,
-            Some(4),
-            "Unfinished",
-        ),
-        (
-            &ONE_DUE,
-            (1, 5),
-            5,
-            &[0, 1],
-            Verdict::EarlyRelease,
-            Some(5),
-            "EarlyRelease",
-        ),
-        (
-            &PREEMPTED,
-            (0, 2),
-            3,
-            &[0, 1],
-            Verdict::LateDue,
-            Some(6),
-            "LateDue",
-        ),
-        (
-            &ONE_DUE,
-            (0, 5),
-            5,
-            &[1],
-            Verdict::WrongSum,
-            Some(7),
-            "WrongSum",
-        ),
-        // The start may lie above the completion.
-        (
-            &by_hand,
-            (6, 5),
-            9,
-            &[4],
-            Verdict::WrongSum,
-            Some(7),
-            "WrongSum",
-        ),
-        (&by_hand, (2, 3), 9, &[4], Verdict::Holds, None, "Holds"),
-    ];
-    for (rows, slots, due, jobs, verdict, number, name) in &cases {
-        let rows = rows_of(alloc, rows)?;
-        let certificate = certificate_of(alloc, 1, *slots, *due, jobs)?;
-        assert!(rt; rows_rise(&rows));
-        assert_eq!(rt; check(&rows, &certificate), *verdict, "{name}");
-        assert_eq!(rt; verdict.number(), *number, "{name}");
-        assert_eq!(rt; verdict.name(), *name);
-    }
+    let holds = verdict_on(alloc, &ONE_DUE, (0, 5, 5), &[0, 1])?;
+    let empty = verdict_on(alloc, &ONE_DUE, (0, 5, 5), &[])?;
+    let twice = verdict_on(alloc, &ONE_DUE, (0, 5, 5), &[0, 0])?;
+    let unknown = verdict_on(alloc, &ONE_DUE, (0, 5, 5), &[9])?;
+    let unfinished = verdict_on(alloc, &ONE_DUE_BEFORE, (0, 5, 4), &[0, 1])?;
+    let early = verdict_on(alloc, &ONE_DUE, (1, 5, 5), &[0, 1])?;
+    let late = verdict_on(alloc, &PREEMPTED, (0, 3, 2), &[0, 1])?;
+    let short = verdict_on(alloc, &ONE_DUE, (0, 5, 5), &[1])?;
+    // A row that no run has, so that the start may lie above the completion.
+    let backward = verdict_on(alloc, &[(4, 7, 9, 1, Some(3))], (6, 9, 5), &[4])?;
+    assert!(rt; holds == Some(Verdict::Holds));
+    assert!(rt; empty == Some(Verdict::Empty));
+    assert!(rt; twice == Some(Verdict::NotRising));
+    assert!(rt; unknown == Some(Verdict::UnknownJob));
+    assert!(rt; unfinished == Some(Verdict::Unfinished));
+    assert!(rt; early == Some(Verdict::EarlyRelease));
+    assert!(rt; late == Some(Verdict::LateDue));
+    assert!(rt; short == Some(Verdict::WrongSum));
+    assert!(rt; backward == Some(Verdict::WrongSum));
     Ok(())
 }
 
 #[test]
+fn a_verdict_is_told_by_number_and_name(rt: HostRuntime) {
+    assert!(rt; Verdict::Holds.number().is_none());
+    assert!(rt; Verdict::EarlyRelease.number() == Some(5));
+    assert_eq!(rt; Verdict::NotRising.name(), "NotRising");
+}
+
+#[test]
 fn what_slots_carried_is_read_back(rt: HostRuntime) -> Result<(), Fail> {
-    let alloc = rt.alloc();
-    let mut carried = Carried::new(alloc);
+    let mut carried = Carried::new(rt.alloc());
     assert!(rt; carried.is_empty());
     carried.push(None)?;
     carried.push(Some(JobNo(3)))?;
     assert_eq!(rt; carried.len(), 2);
-    assert_eq!(rt; carried.get(0), Some(None));
-    assert_eq!(rt; carried.get(1), Some(Some(JobNo(3))));
-    assert_eq!(rt; carried.get(2), None);
+    assert!(rt; carried.get(0) == Some(None));
+    assert!(rt; carried.get(1) == Some(Some(JobNo(3))));
+    assert!(rt; carried.get(2).is_none());
     carried.reserve(1)?;
     carried.push_reserved(Some(JobNo(4)));
-    assert_eq!(rt; carried.get(2), Some(Some(JobNo(4))));
-    let rows = rows_of(alloc, &ONE_DUE)?;
-    assert!(rt; !rows_rise(&rows_of(alloc, &[ONE_DUE[1], ONE_DUE[0]])?));
-    assert_eq!(rt; rows.clone()?, rows);
+    assert!(rt; carried.get(2) == Some(Some(JobNo(4))));
     Ok(())
 }

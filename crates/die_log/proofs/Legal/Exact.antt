@@ -91,7 +91,8 @@ has_slots plan bound = omega (arith, bound.shape.some_slots)
 pub well_served : (plan : DiePlan) (past : Log) → MeetsBound plan → StandsWell plan past → CellsServe plan past
 well_served plan past bound h = serves plan past (has_slots plan bound) h.0 h.1.copies
 
-chosen_is : (plan : DiePlan) (past : Log) → CellsServe plan past → IsChosen plan past (waived past) (accounts plan past) (choice plan past)
+-- a slot's choice waives by the rules, and its head waits
+pub chosen_is : (plan : DiePlan) (past : Log) → CellsServe plan past → IsChosen plan past (waived past) (accounts plan past) (choice plan past)
 chosen_is plan past c = choice_is plan past (all_known past c.numbered)
 
 -- what an accepted event carries finds its free page

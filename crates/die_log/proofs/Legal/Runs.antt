@@ -1,5 +1,6 @@
 -- A slot carries nothing only where nothing waits; and what else a legal entry wants.
 use Rattle.std.proofs.Common.{◌≡◌, ℕ, zero, suc, ◌<◌, ◌≤◌, ◌==◌, Bool, true, false, cond, List, [], ◌∷◌, Option, Some, None, refl, sym, ◌∙◌, subst, inl, inr, arith, length, slice_get, filter}
+use Rattle.std.specs.Prelude.{Contains}
 use Rattle.std.specs.List.{AllByRecursion, last_or}
 use Rattle.std.proofs.lemmas.Bool.{true≢false, eqb-true, eqb-false}
 use Rattle.std.proofs.lemmas.Option.{slice_get-get_or}
@@ -98,11 +99,15 @@ passed_none : (c : Choice) (i : Job) → c.head ≡ None → IsPassed c i → is
 passed_none c i e (inl h) = h
 passed_none c i e (inr h) = absurd (subst (NotBefore i) e h)
 
+-- each that is ready is waived in the slot, or not before its head
+pub all_passed_ready : (plan : DiePlan) (past : Log) (j : Job) → Contains (jobs past) j → is_ready plan past j ≡ true → IsPassed (choice plan past) j
+all_passed_ready plan past j stands is_ready_now =
+    let all = kept_in (is_ready plan past) (IsPassed (choice plan past)) (jobs past) (all_passed_now plan past) in
+    All-contains (λ (x : Job). is_ready plan past x ≡ true → IsPassed (choice plan past) x) (jobs past) j (All-from_recursion (λ (x : Job). is_ready plan past x ≡ true → IsPassed (choice plan past) x) (jobs past) all) stands is_ready_now
+
 -- without a head nothing waits
 pub nothing_waits : (plan : DiePlan) (past : Log) → (choice plan past).head ≡ None → NothingWaits plan past (choice plan past).waived
-nothing_waits plan past none j stands is_ready_now =
-    let all = kept_in (is_ready plan past) (IsPassed (choice plan past)) (jobs past) (all_passed_now plan past) in
-    passed_none (choice plan past) j none (All-contains (λ (x : Job). is_ready plan past x ≡ true → IsPassed (choice plan past) x) (jobs past) j (All-from_recursion (λ (x : Job). is_ready plan past x ≡ true → IsPassed (choice plan past) x) (jobs past) all) stands is_ready_now)
+nothing_waits plan past none j stands is_ready_now = passed_none (choice plan past) j none (all_passed_ready plan past j stands is_ready_now)
 
 run_by_act : (plan : DiePlan) (past : Log) (ws : List Waived) (j : Job) (o : Option Act) (act : Act) → 0 < plan.shape.erase_slots → Stands plan past → IsWaiting plan past j → is_among j.number ws ≡ false
     → act_for plan past j ≡ o → o ≡ Some act → FindsBy plan past (reply_with plan past ws j o).ran → IsLegalRun plan past ws (reply_with plan past ws j o).ran

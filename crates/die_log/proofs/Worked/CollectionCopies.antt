@@ -5,10 +5,11 @@ use Rattle.slot_types.specs.declared.acts.Act.TheVariants as does
 use Rattle.slot_types.specs.declared.events.Event.{Event}
 use Rattle.slot_types.specs.declared.events.Event.TheVariants.{Collect}
 use Rattle.slot_types.specs.declared.replies.Reply.TheVariants.{Taken}
+use Rattle.late_cert.specs.Schedule.{lateness_of}
 use Rattle.die_log.specs.Log.{Log, acts}
 use Rattle.die_log.specs.Flash.{cells, block_at, free}
 use Rattle.die_log.specs.Accounts.{accounts}
-use Rattle.die_log.specs.Work.{completion, lateness, victim_of}
+use Rattle.die_log.specs.Work.{completion, victim_of}
 use Rattle.die_log.specs.Answers.{run, answer}
 use Rattle.die_log.specs.Legal.{written_since}
 use Rattle.die_log.proofs.Worked.Plans.{tight, amounts, collect, slot}
@@ -48,7 +49,7 @@ ends : completion 11 collected ≡ 24
 unfolding answer
 ends = refl
 
-is_late : lateness (completion 11 collected) 40 ≡ negsuc 15
+is_late : lateness_of (completion 11 collected) 40 ≡ negsuc 15
 unfolding answer
 is_late = refl
 

@@ -2,8 +2,9 @@
 use Rattle.std.proofs.Common.{◌≡◌, [], ◌∷◌, Some, map, drop, refl, negsuc}
 use Rattle.slot_types.specs.declared.acts.Act.TheVariants as does
 use Rattle.slot_types.specs.declared.events.Op.TheVariants.{Read}
+use Rattle.late_cert.specs.Schedule.{lateness_of}
 use Rattle.die_log.specs.Log.{Log, acts, work}
-use Rattle.die_log.specs.Work.{completion, lateness}
+use Rattle.die_log.specs.Work.{completion}
 use Rattle.die_log.specs.Answers.{run, answer}
 use Rattle.die_log.proofs.Worked.Plans.{tight, submit, collect, slot, numbers, bytes}
 use Rattle.die_log.proofs.Worked.FillingHistory.{full}
@@ -27,10 +28,10 @@ takes : work 11 row ≡ 5
 unfolding answer
 takes = refl
 
-collection_lateness : lateness (completion 11 row) 40 ≡ negsuc 14
+collection_lateness : lateness_of (completion 11 row) 40 ≡ negsuc 14
 unfolding answer
 collection_lateness = refl
 
-read_lateness : lateness (completion 12 row) 30 ≡ negsuc 6
+read_lateness : lateness_of (completion 12 row) 30 ≡ negsuc 6
 unfolding answer
 read_lateness = refl

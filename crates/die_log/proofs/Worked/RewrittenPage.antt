@@ -2,10 +2,11 @@
 use Rattle.std.proofs.Common.{◌≡◌, true, [], ◌∷◌, refl, negsuc}
 use Rattle.slot_types.specs.declared.acts.Act.TheVariants as does
 use Rattle.slot_types.specs.declared.events.Op.TheVariants.{Write}
+use Rattle.late_cert.specs.Schedule.{lateness_of}
 use Rattle.die_log.specs.Log.{Log, acts, work}
 use Rattle.die_log.specs.Flash.{free, content}
 use Rattle.die_log.specs.Accounts.{accounts}
-use Rattle.die_log.specs.Work.{completion, lateness}
+use Rattle.die_log.specs.Work.{completion}
 use Rattle.die_log.specs.Answers.{run, answer}
 use Rattle.die_log.specs.Legal.{written_since}
 use Rattle.die_log.proofs.Worked.Plans.{tight, amounts, submit, collect, slot, bytes}
@@ -34,7 +35,7 @@ ends : completion 11 row ≡ 23
 unfolding answer
 ends = refl
 
-is_late : lateness (completion 11 row) 40 ≡ negsuc 16
+is_late : lateness_of (completion 11 row) 40 ≡ negsuc 16
 unfolding answer
 is_late = refl
 
