@@ -3,3 +3,4 @@ pub mod Recording
 pub mod Heading
 pub mod Reaching
 pub mod Flashing
+pub mod Keeping

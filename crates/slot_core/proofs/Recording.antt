@@ -108,7 +108,7 @@ map_changed {X = X} f g (x ∷ xs) zero change others here =
 map_changed f g (x ∷ xs) (suc n) change others here =
     rw (others 0 x refl (λ h. absurd (omega (arith, h)))) (ap (λ ys. g x ∷ ys) (map_changed f g xs n change (λ k y e other. others (suc k) y e (λ h. other (omega (arith, h)))) here))
 
-abbrev slot_of : ℕ → SlotReply → Entry
+abbrev pub slot_of : ℕ → SlotReply → Entry
 slot_of caller s = entry caller events.Slot (replies.Slot s)
 
 -- an idle slot changes no record but those of the collections that it waives

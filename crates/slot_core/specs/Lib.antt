@@ -1,3 +1,4 @@
 pub mod Core
 pub mod Records
 pub mod Device
+pub mod Kept
