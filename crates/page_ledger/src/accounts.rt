@@ -69,7 +69,8 @@ impl Ledger {
     pub fn admit(&mut self, task: TaskNo, writes: u32) -> Result<(), Refusal>
         requires { task < length self.old.plan.caps }
         ensures accepted { IsOk result ↔ writes ≤ slice_index self.old.balances task }
-        ensures refused { IfErr result (λ refusal. refusal ≡ Refusal.NoTokens (slice_index self.old.balances task) writes) }
+        ensures refused { IfErr result (λ refusal.
+            refusal ≡ Refusal.NoTokens (slice_index self.old.balances task) writes) }
         ensures ok { OnOk result (self.new ≡ admitted self.old task writes) }
         ensures err { OnErr result (self.new ≡ self.old) }
         ensures total { total_of self.new ≡ total_of self.old }
@@ -111,12 +112,14 @@ impl Ledger {
     /// answers how many the task was given.
     ///
     /// The reserve gets back the `copied` pages that it lacks, the balance gets `alpha` or what
-    /// the task lacks to its cap, and the rest is spare. The block's pages aren't among those
-    /// in the accounts yet, so the die has room for them.
+    /// the task lacks to its cap, and the rest is spare. The accounts don't have the block's pages
+    /// yet, so with them they have no more pages than the die.
     pub fn settle(&mut self, task: TaskNo, copied: u32) -> u32
         requires task { task < length self.old.plan.caps }
-        requires lacks { slice_index self.old.reserves task + copied ≡ self.old.plan.shape.pages - self.old.plan.alpha }
-        requires room { total_of self.old + self.old.plan.shape.pages ≤ self.old.plan.shape.blocks * self.old.plan.shape.pages }
+        requires lacks { slice_index self.old.reserves task + copied
+            ≡ self.old.plan.shape.pages - self.old.plan.alpha }
+        requires room { total_of self.old + self.old.plan.shape.pages
+            ≤ self.old.plan.shape.blocks * self.old.plan.shape.pages }
         ensures given { result ≡ given_of self.old task }
         ensures moved { self.new ≡ settled self.old task copied }
         ensures total { total_of self.new ≡ total_of self.old + self.old.plan.shape.pages }
@@ -198,6 +201,7 @@ impl Ledger {
         self.spare + pages_in(&self.balances) + pages_in(&self.holds) + pages_in(&self.reserves)
     }
 
+    // What a collection that ends now gives the task.
     fn given(&self, task: TaskNo) -> u32
         requires { task < length self.now.plan.caps }
         ensures { result ≡ given_of self.now task }

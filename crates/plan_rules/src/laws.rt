@@ -39,8 +39,10 @@ pub fn stays_sound()
         task < length accounts.plan.caps → AreSound (reserve_spent accounts task) }
     ensures settled { (accounts : Accounts) (task copied : ℕ) → AreSound accounts →
         task < length accounts.plan.caps →
-        slice_index accounts.reserves task + copied ≡ accounts.plan.shape.pages - accounts.plan.alpha →
-        total_of accounts + accounts.plan.shape.pages ≤ accounts.plan.shape.blocks * accounts.plan.shape.pages →
+        slice_index accounts.reserves task + copied
+        ≡ accounts.plan.shape.pages - accounts.plan.alpha →
+        total_of accounts + accounts.plan.shape.pages
+        ≤ accounts.plan.shape.blocks * accounts.plan.shape.pages →
         AreSound (settled accounts task copied) }
     ensures waived { (accounts : Accounts) (task : ℕ) → AreSound accounts →
         task < length accounts.plan.caps → accounts.plan.alpha ≤ accounts.spare →
