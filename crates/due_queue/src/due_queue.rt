@@ -1,6 +1,6 @@
 //! The released jobs that wait, by due date.
 
-ghost use Rattle.std.specs.Prelude.{◌≡◌, ◌+◌, ◌<◌, ◌≤◌, [], length, Contains, OnOk, OnSome, IfNone, IfErr};
+ghost use Rattle.std.specs.Prelude.{◌≡◌, ◌+◌, ◌<◌, ◌≤◌, [], length, Contains, OnOk, OnErr, OnSome, IfNone, IfErr};
 ghost use Rattle.due_queue.specs.Queue.{inserted, first_of, rest_of, IsRising};
 ghost use Rattle.due_queue.specs.Keys.{is_due_before};
 
@@ -39,12 +39,13 @@ impl DueQueue {
         }
     }
 
-    /// Makes room for at least `count` more keys. Refused with `NoMemory`, the keys and the room stay.
+    /// Makes room for at least `count` more keys. Refused with `NoMemory`, nothing changes.
     pub fn reserve(&mut self, count: usize) -> Result<(), Refusal>
         ensures ok { OnOk result (count ≤ self.new.spare) }
         ensures refused { IfErr result (λ refusal. refusal ≡ Refusal.NoMemory) }
         ensures spare { self.old.spare ≤ self.new.spare }
         ensures keys { self.new.keys ≡ self.old.keys }
+        ensures err { OnErr result (self.new ≡ self.old) }
     {
         self.pairs.reserve(count)
     }
@@ -61,7 +62,8 @@ impl DueQueue {
 
     /// The first key, if there is one.
     pub fn first(&self) -> Option<Key>
-        ensures { result ≡ first_of self.now.keys }
+        ensures first { result ≡ first_of self.now.keys }
+        ensures rising { IsRising is_due_before self.now.keys }
     {
         match self.pairs.first() {
             Some((due, number)) => Some(Key { due, number }),

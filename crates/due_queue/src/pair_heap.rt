@@ -44,6 +44,7 @@ impl PairHeap {
         ensures refused { IfErr result (λ refusal. refusal ≡ Refusal.NoMemory) }
         ensures spare { self.old.spare ≤ self.new.spare }
         ensures keys { self.new.keys ≡ self.old.keys }
+        ensures err { OnErr result (self.new ≡ self.old) }
     {
         self.heap.reserve(count)?;
         self.spare = self.spare.max(count);
@@ -63,7 +64,8 @@ impl PairHeap {
     }
 
     pub fn first(&self) -> Option<(u32, u32)>
-        ensures { result ≡ first_of self.now.keys }
+        ensures first { result ≡ first_of self.now.keys }
+        ensures rising { IsRising is_pair_before self.now.keys }
     {
         match self.heap.peek() {
             Some(least) => Some(least.0),
