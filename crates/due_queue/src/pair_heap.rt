@@ -10,6 +10,7 @@ use std::cmp::Reverse;
 use std::collections::BinaryHeap;
 use std::marker::Model;
 
+/// Pairs seen in order, by the first number and where it is equal by the second, and how many more there is room for.
 #[derive(Drop)]
 pub struct PairHeap {
     heap: BinaryHeap<Reverse<(u32, u32)>>,
@@ -59,6 +60,7 @@ impl PairHeap {
     {
         match self.heap.push(Reverse(pair)) {
             Ok(()) => self.spare -= 1,
+            // In reserved room a push takes no memory.
             Err(_) => unreachable!(),
         }
     }

@@ -50,7 +50,7 @@ impl WaitList {
         self.pairs.reserve(count)
     }
 
-    /// Puts a key in its place, in room that was reserved.
+    /// Puts a key in its place, in room that was reserved. The key is not there yet.
     pub fn insert(&mut self, key: WaitKey)
         requires room { 0 < self.old.spare }
         requires absent { ¬ Contains self.old.keys key }
@@ -60,7 +60,7 @@ impl WaitList {
         self.pairs.insert((key.release, key.number));
     }
 
-    /// The first key, if there is one.
+    /// The key with the earliest release, of equal ones that with the smallest number.
     pub fn first(&self) -> Option<WaitKey>
         ensures first { result ≡ first_of self.now.keys }
         ensures rising { IsRising is_released_before self.now.keys }
