@@ -9,3 +9,6 @@ pub mod wait_list;
 pub use due_queue::DueQueue;
 pub use keys::{Key, WaitKey};
 pub use wait_list::WaitList;
+
+#[cfg(test)]
+mod tests;

@@ -10,6 +10,7 @@ use std::cmp::Reverse;
 use std::collections::BinaryHeap;
 use std::marker::Model;
 
+/// Pairs seen in order, by the first number and where it is equal by the second, and how many more there is room for.
 #[derive(Drop)]
 pub struct PairHeap {
     heap: BinaryHeap<Reverse<(u32, u32)>>,
@@ -44,6 +45,7 @@ impl PairHeap {
         ensures refused { IfErr result (λ refusal. refusal ≡ Refusal.NoMemory) }
         ensures spare { self.old.spare ≤ self.new.spare }
         ensures keys { self.new.keys ≡ self.old.keys }
+        ensures err { OnErr result (self.new ≡ self.old) }
     {
         self.heap.reserve(count)?;
         self.spare = self.spare.max(count);
@@ -58,12 +60,14 @@ impl PairHeap {
     {
         match self.heap.push(Reverse(pair)) {
             Ok(()) => self.spare -= 1,
+            // In reserved room a push takes no memory.
             Err(_) => unreachable!(),
         }
     }
 
     pub fn first(&self) -> Option<(u32, u32)>
-        ensures { result ≡ first_of self.now.keys }
+        ensures first { result ≡ first_of self.now.keys }
+        ensures rising { IsRising is_pair_before self.now.keys }
     {
         match self.heap.peek() {
             Some(least) => Some(least.0),

@@ -1,6 +1,6 @@
 //! The accepted jobs that are not released yet, by release.
 
-ghost use Rattle.std.specs.Prelude.{◌≡◌, ◌+◌, ◌<◌, ◌≤◌, [], length, Contains, OnOk, OnSome, IfNone, IfErr};
+ghost use Rattle.std.specs.Prelude.{◌≡◌, ◌+◌, ◌<◌, ◌≤◌, [], length, Contains, OnOk, OnErr, OnSome, IfNone, IfErr};
 ghost use Rattle.due_queue.specs.Queue.{inserted, first_of, rest_of, IsRising};
 ghost use Rattle.due_queue.specs.Keys.{is_released_before, released_by};
 
@@ -39,17 +39,18 @@ impl WaitList {
         }
     }
 
-    /// Makes room for at least `count` more keys. Refused with `NoMemory`, the keys and the room stay.
+    /// Makes room for at least `count` more keys. Refused with `NoMemory`, nothing changes.
     pub fn reserve(&mut self, count: usize) -> Result<(), Refusal>
         ensures ok { OnOk result (count ≤ self.new.spare) }
         ensures refused { IfErr result (λ refusal. refusal ≡ Refusal.NoMemory) }
         ensures spare { self.old.spare ≤ self.new.spare }
         ensures keys { self.new.keys ≡ self.old.keys }
+        ensures err { OnErr result (self.new ≡ self.old) }
     {
         self.pairs.reserve(count)
     }
 
-    /// Puts a key in its place, in room that was reserved.
+    /// Puts a key in its place, in room that was reserved. The key is not there yet.
     pub fn insert(&mut self, key: WaitKey)
         requires room { 0 < self.old.spare }
         requires absent { ¬ Contains self.old.keys key }
@@ -59,9 +60,10 @@ impl WaitList {
         self.pairs.insert((key.release, key.number));
     }
 
-    /// The first key, if there is one.
+    /// The key with the earliest release, of equal ones that with the smallest number.
     pub fn first(&self) -> Option<WaitKey>
-        ensures { result ≡ first_of self.now.keys }
+        ensures first { result ≡ first_of self.now.keys }
+        ensures rising { IsRising is_released_before self.now.keys }
     {
         match self.pairs.first() {
             Some((release, number)) => Some(WaitKey { release, number }),

@@ -1,8 +1,9 @@
 use Rattle.std.specs.Prelude.{ℕ, ◌+◌, ◌-◌, ◌*◌, ◌/◌, ◌<◌, ◌≤◌, length, sum, All}
-use Rattle.slot_types.specs.declared.plans.Shape.{Shape}
 use Rattle.slot_types.specs.declared.plans.DiePlan.{DiePlan}
+pub use Rattle.slot_types.specs.Shapes.{IsShape}
 
--- the most pages that may be free while fewer than alpha of them are spare: those, each collector's reserve, and all that the tasks may own
+-- the most pages that may be free while fewer than alpha of them are spare: those, each collector's reserve, and all
+-- that the tasks may own
 abbrev pub fmax_of : DiePlan → ℕ
 fmax_of plan = plan.alpha - 1 + length plan.caps * (plan.shape.pages - plan.alpha) + sum plan.caps
 
@@ -13,15 +14,6 @@ closed_of plan = plan.shape.blocks - fmax_of plan / plan.shape.pages - length pl
 -- how many valid pages there would be if each of those had too many to be a victim
 abbrev pub live_of : DiePlan → ℕ
 live_of plan = closed_of plan * (plan.shape.pages - plan.alpha + 1)
-
--- the shape's numbers are within their limits
-pub record IsShape (shape : Shape) : Type 0 where
-  pub some_blocks : 2 ≤ shape.blocks
-  pub few_blocks : shape.blocks ≤ 1024
-  pub some_pages : 2 ≤ shape.pages
-  pub few_pages : shape.pages ≤ 256
-  pub some_slots : 1 ≤ shape.erase_slots
-  pub few_slots : shape.erase_slots ≤ 64
 
 -- the plan's other numbers are within their limits
 pub record HasLimits (plan : DiePlan) : Type 0 where
