@@ -1,6 +1,6 @@
 //! A volume: an array of pages on a flash device, and the accounts of its free pages.
 
-ghost use Rattle.std.specs.Prelude.{◌≡◌, ◌+◌, ◌-◌, ◌<◌, ◌≤◌, ◌↔◌, ℕ, true, false, Some, None, length, slice_index, slice_index_or, slice_set, IsOk, IsSome, IfOk, IfErr, OnOk, OnErr};
+ghost use Rattle.std.specs.Prelude.{◌≡◌, ◌+◌, ◌-◌, ◌<◌, ◌≤◌, ◌↔◌, ◌⊎◌, ℕ, true, false, Some, None, length, slice_index, slice_index_or, slice_set, IsOk, IsSome, IfOk, IfErr, OnOk, OnErr};
 ghost use Rattle.slot_types.specs.Places.{place_of};
 ghost use Rattle.plan_rules.specs.Bound.{MeetsBound};
 ghost use Rattle.plan_rules.specs.Accounts.{total_of, admitted, hold_spent};
@@ -136,6 +136,7 @@ impl<N: Nand> Volume<N> {
         ensures accounts { self.new.accounts ≡ self.old.accounts }
         ensures running { self.new.running ≡ self.old.running }
         ensures well { OnOk result (self.new.failed ≡ false) }
+        ensures refused { IfErr result (λ refusal. (refusal ≡ Refusal.DieStopped) ⊎ (refusal ≡ Refusal.DeviceFault)) }
         ensures stopped { (result ≡ Err Refusal.DieStopped) ↔ (self.old.failed ≡ true) }
         ensures fault { (result ≡ Err Refusal.DeviceFault) ↔ (N.failures self.new.device ≡ N.failures self.old.device + 1) }
         ensures failed { OnErr result (self.new.failed ≡ true) }
@@ -164,6 +165,7 @@ impl<N: Nand> Volume<N> {
         ensures plan { self.new.accounts.plan ≡ self.old.accounts.plan }
         ensures running { self.new.running ≡ self.old.running }
         ensures well { OnOk result (self.new.failed ≡ false) }
+        ensures refused { IfErr result (λ refusal. (refusal ≡ Refusal.DieStopped) ⊎ (refusal ≡ Refusal.DeviceFault)) }
         ensures stopped { (result ≡ Err Refusal.DieStopped) ↔ (self.old.failed ≡ true) }
         ensures fault { (result ≡ Err Refusal.DeviceFault) ↔ (N.failures self.new.device ≡ N.failures self.old.device + 1) }
         ensures failed { OnErr result (self.new.failed ≡ true) }

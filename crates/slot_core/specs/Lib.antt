@@ -2,3 +2,4 @@ pub mod Core
 pub mod Records
 pub mod Device
 pub mod Kept
+pub mod Acting

@@ -1,4 +1,4 @@
 //! One die: its jobs and collections, its flash, and its log.
 #![tactic(auto)]
 
-pub fn nothing() {}
+pub mod operations;
