@@ -169,11 +169,13 @@ enter_ready jobs job clock waiting ready open_job le q =
 
 -- A job goes on
 
--- a change that leaves alone what the keys are made of
+-- a change that leaves alone what the keys and the marks are made of
 pub record IsQuiet (change : JobRecord → JobRecord) : Type 0 where
   pub stage_is : (job : JobRecord) → (change job).stage ≡ job.stage
   pub release_is : (job : JobRecord) → (change job).release ≡ job.release
   pub due_is : (job : JobRecord) → (change job).due ≡ job.due
+  pub collects_is : (job : JobRecord) → (change job).collects ≡ job.collects
+  pub task_is : (job : JobRecord) → (change job).task ≡ job.task
 
 -- a job of the changed list is one of the list, changed or not
 pub changed_cases : (jobs : List JobRecord) (n : ℕ) (change : JobRecord → JobRecord) (m : ℕ) (other : JobRecord) → slice_get (changed_at jobs n change) m ≡ Some other

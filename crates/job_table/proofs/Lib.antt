@@ -5,3 +5,6 @@ pub mod Keyed
 pub mod Heads
 pub mod Worsts
 pub mod Waivers
+pub mod Releasing
+pub mod Roomy
+pub mod Tables
