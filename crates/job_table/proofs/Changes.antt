@@ -2,8 +2,9 @@
 use Rattle.std.proofs.Common.{◌≡◌, ◌≢◌, ℕ, zero, suc, ◌+◌, ◌<◌, Bool, true, false, cond, refl, sym, ap, ◌∙◌, arith, List, [], ◌∷◌, ◌++◌, length, get_or, set, slice_get, Option, Some, None, option_map, count_by, sum_by, ◌||◌, ◌⊎◌, inl, inr}
 use Rattle.std.specs.List.{list_any}
 use Rattle.std.proofs.lemmas.List.Sums.{sum_by-cons}
+use Rattle.std.proofs.lemmas.Option.{get_or_from_slice_get}
 use Rattle.job_table.specs.Jobs.{JobRecord}
-use Rattle.job_table.specs.Table.{changed_at}
+use Rattle.job_table.specs.Table.{Table, changed_at, with_change}
 
 pub length-changed_at : (jobs : List JobRecord) (n : ℕ) (change : JobRecord → JobRecord) → length (changed_at jobs n change) ≡ length jobs
 length-changed_at [] n change = refl
@@ -33,6 +34,17 @@ changed_at-set (j ∷ jobs) (suc n) change job e = ap (λ l. j ∷ l) (changed_a
 -- 1 for a job that passes
 abbrev pub one_if : (JobRecord → Bool) → JobRecord → ℕ
 one_if p job = cond (p job) 1 0
+
+-- what a write at a job leaves
+pub written : (jobs : List JobRecord) (n : ℕ) (change : JobRecord → JobRecord) (head job x : JobRecord) → slice_get jobs n ≡ Some head → job ≡ get_or jobs n job → x ≡ change job → set jobs n x ≡ changed_at jobs n change
+written jobs n change head job x at_n read is =
+    let same : job ≡ head = read ∙ get_or_from_slice_get jobs n head job at_n in
+    ap (set jobs n) (is ∙ ap change same) ∙ changed_at-set jobs n change head at_n
+
+-- a table seen before and after
+pub viewed : (old view : Table) (jobs : List JobRecord) (n m : ℕ) (change : JobRecord → JobRecord) → view ≡ old → m ≡ n → jobs ≡ changed_at view.jobs m change → ◌≡◌ {A = Table} (record view { jobs = jobs }) (with_change old n change)
+viewed old view jobs n m change view_is number_is jobs_is =
+    ap (λ (l : List JobRecord). record view { jobs = l }) (jobs_is ∙ ap (λ k. changed_at view.jobs k change) number_is) ∙ ap (λ (t : Table). with_change t n change) view_is
 
 -- a count loses the job as it was, and gains it as it is
 pub count_by-changed_at : (p : JobRecord → Bool) (jobs : List JobRecord) (n : ℕ) (change : JobRecord → JobRecord) (job : JobRecord) → slice_get jobs n ≡ Some job

@@ -1,10 +1,10 @@
 -- The first of the queue is the head, and the head is the first of the queue.
-use Rattle.std.proofs.Common.{◌≡◌, ◌≢◌, ℕ, ◌<◌, ◌≤◌, Bool, true, false, refl, sym, ap, ◌∙◌, arith, ◌&&◌, nat_le, List, [], ◌∷◌, slice_get, Some, option_map, ◌⊎◌, inl, inr}
+use Rattle.std.proofs.Common.{◌≡◌, ◌≢◌, ℕ, ◌<◌, ◌≤◌, Bool, true, false, refl, sym, ap, ◌∙◌, arith, ◌&&◌, nat_le, List, [], ◌∷◌, slice_get, Some, None, option_map, ◌⊎◌, inl, inr}
 use Rattle.std.specs.List.{AllByRecursion}
 use Rattle.std.proofs.lemmas.Bool.Decides.{nat_tests}
 use Rattle.due_queue.specs.declared.keys.Key.{Key}
 use Rattle.due_queue.specs.declared.keys.WaitKey.{WaitKey}
-use Rattle.due_queue.specs.Queue.{IsRising}
+use Rattle.due_queue.specs.Queue.{IsRising, first_of}
 use Rattle.due_queue.specs.Keys.{is_due_before}
 use Rattle.job_table.specs.Jobs.{JobRecord, is_open}
 use Rattle.job_table.specs.Table.{Table, changed_at}
@@ -57,6 +57,17 @@ none_ready table waiting q later n job at_n = by (is_ready table.clock job) refl
     by : (b : Bool) → is_ready table.clock job ≡ b → is_ready table.clock job ≡ false
     by true e = absurd (ready_among table waiting [] q later n job at_n e)
     by false e = e
+
+-- the number that the queue answers, if it does, is the head's
+pub number_is_head : (table : Table) (waiting : List WaitKey) (ready : List Key) (n : ℕ) → AreQueued table.jobs table.clock waiting ready → AreLater table.clock waiting → IsRising is_due_before ready
+    → Some n ≡ option_map (λ (k : Key). k.number) (first_of ready) → IsHead table n
+number_is_head table waiting [] n q later rising e = absurd cc
+number_is_head table waiting (k ∷ ks) n q later rising e = let same : n ≡ k.number = cc in rw same (first_is_head table waiting k ks q later rising)
+
+pub no_number_ready : (table : Table) (waiting : List WaitKey) (ready : List Key) → AreQueued table.jobs table.clock waiting ready → AreLater table.clock waiting
+    → None ≡ option_map (λ (k : Key). k.number) (first_of ready) → NothingReady table
+no_number_ready table waiting [] q later e = none_ready table waiting q later
+no_number_ready table waiting (k ∷ ks) q later e = absurd cc
 
 -- the queue begins with the head
 pub record BeginsWith (number : ℕ) (ready : List Key) : Type 0 where

@@ -1,5 +1,5 @@
 -- What is always true of a table stays true.
-use Rattle.std.proofs.Common.{◌≡◌, ◌≢◌, ℕ, suc, ◌+◌, ◌<◌, ◌≤◌, Bool, true, false, cond, if◌then◌else◌, ◌&&◌, ◌==◌, nat_lt, refl, sym, ap, ◌∙◌, subst, arith, List, [], ◌∷◌, ◌++◌, length, get_or, set, slice_get, Option, Some, None, MatchOption, Contains, count_by, ◌⊎◌, inl, inr, get_or-set_same, get_or-set_other, length-append}
+use Rattle.std.proofs.Common.{◌≡◌, ◌≢◌, ℕ, suc, ◌+◌, ◌<◌, ◌≤◌, Bool, true, false, cond, if◌then◌else◌, ◌&&◌, ◌==◌, nat_lt, refl, sym, ap, ◌∙◌, subst, arith, List, [], ◌∷◌, ◌++◌, length, get_or, set, slice_get, Option, Some, None, option_map, MatchOption, Contains, count_by, ◌⊎◌, inl, inr, get_or-set_same, get_or-set_other, length-append}
 use Rattle.std.proofs.Math.ListN.{length-set}
 use Rattle.std.proofs.lemmas.Bool.{cases_eq, cases_lt}
 use Rattle.std.proofs.lemmas.Bool.Decides.{nat_tests}
@@ -7,6 +7,7 @@ use Rattle.std.proofs.lemmas.List.Sums.{sum_by_push}
 use Rattle.std.proofs.lemmas.Option.{slice_get_within}
 use Rattle.std.specs.List.{AllByRecursion, list_any}
 use Rattle.slot_types.specs.declared.limits.TheConstants.{MAX_JOBS}
+use Rattle.slot_types.specs.declared.pages.PageData.{PageData}
 use Rattle.due_queue.specs.declared.keys.Key.{Key}
 use Rattle.due_queue.specs.declared.keys.WaitKey.{WaitKey}
 use Rattle.due_queue.specs.Queue.{inserted, rest_of, IsRising}
@@ -18,9 +19,9 @@ use Rattle.job_table.specs.Jobs.{JobRecord, is_open, is_done, with_stage, carrie
 use Rattle.job_table.specs.Table.{Table, changed_at, is_collection_of, is_collecting}
 use Rattle.job_table.specs.Order.{due_key, IsHead}
 use Rattle.job_table.specs.Queued.{Lines, AreQueued, AreLater, release_key}
-use Rattle.job_table.specs.Worst.{IsWorst, NothingDone}
+use Rattle.job_table.specs.Worst.{IsWorst, NothingDone, IsDoneAt}
 use Rattle.job_table.specs.Kept.{AreOfTasks, unmarked, IsRunning, IsSound}
-use Rattle.job_table.proofs.Changes.{length-changed_at, one_if, count_by-changed_at, list_any-none, list_any-some, push_cases, same_at}
+use Rattle.job_table.proofs.Changes.{length-changed_at, changed_here, one_if, count_by-changed_at, list_any-none, list_any-some, push_cases, same_at}
 use Rattle.job_table.proofs.Keyed.{IsQuiet, changed_cases, quiet_queues, end_first, enter_waiting, enter_ready}
 use Rattle.job_table.proofs.Heads.{BeginsWith, head_is_first, ready_open}
 use Rattle.job_table.proofs.Worsts.{undone_worst, pushed_worst}
@@ -186,6 +187,17 @@ pub head_undone : (table : Table) (n : ℕ) → IsHead table n → (job : JobRec
 head_undone table n head job at_n =
     let e : head.head ≡ job = same_at n n table.jobs head.head job refl head.is_at at_n in
     open_undone job.stage (ap (λ j. is_open j.stage) (sym e) ∙ ready_open table.clock head.head head.ready)
+
+-- the head that was done
+pub head_done : (table : Table) (n : ℕ) (s : Stage) → IsHead table n → is_done s ≡ true → IsDoneAt (changed_at table.jobs n (with_stage s)) n
+head_done table n s head done = record {
+  job = with_stage s head.head;
+  is_at = changed_here table.jobs n (with_stage s) ∙ ap (option_map (with_stage s)) head.is_at;
+  done = done;
+}
+
+pub read_quiet : (bytes : PageData) → IsQuiet (λ job. with_read bytes (carried job))
+read_quiet bytes = record { stage_is = λ job. refl; release_is = λ job. refl; due_is = λ job. refl; collects_is = λ job. refl; task_is = λ job. refl }
 
 -- A job is accepted
 

@@ -1,7 +1,9 @@
 -- Waivers that are taken back leave the jobs as they were.
-use Rattle.std.proofs.Common.{◌≡◌, ◌≢◌, ℕ, zero, suc, ◌<◌, Bool, true, false, not, subst, refl, sym, ap, ◌∙◌, arith, List, [], ◌∷◌, ◌++◌, slice_get, Option, Some, None, option_map, MatchOption, ◌⊎◌, inl, inr, length}
+use Rattle.std.proofs.Common.{◌≡◌, ◌≢◌, ℕ, zero, suc, ◌<◌, Bool, true, false, not, subst, refl, sym, ap, ◌∙◌, arith, List, [], ◌∷◌, ◌++◌, slice_get, Option, Some, None, option_map, MatchOption, ◌⊎◌, inl, inr, length, take, get_or, ◌+◌}
 use Rattle.std.specs.List.{AllByRecursion}
 use Rattle.std.proofs.lemmas.Bool.{cases_eq}
+use Rattle.std.proofs.lemmas.List.{take_more}
+use Rattle.std.proofs.lemmas.List.Elements.{All-get_or, All-from_recursion}
 use Rattle.due_queue.proofs.Inserted.{every}
 use Rattle.slot_types.specs.declared.replies.Waived.{Waived}
 use Rattle.job_table.specs.declared.stages.Stage.{Stage}
@@ -185,3 +187,23 @@ undone-waived jobs ws waived =
 pub length-reopened : (jobs : List JobRecord) (ws : List Waived) → length (reopened jobs ws) ≡ length jobs
 length-reopened jobs [] = refl
 length-reopened jobs (w ∷ ws) = length-reopened (reopen w jobs) ws ∙ length-changed_at jobs w.number (with_stage stages.Open)
+
+-- A loop over the waivers
+
+reopened-append : (jobs : List JobRecord) (ws vs : List Waived) → reopened jobs (ws ++ vs) ≡ reopened (reopened jobs ws) vs
+reopened-append jobs [] vs = refl
+reopened-append jobs (w ∷ ws) vs = reopened-append (reopen w jobs) ws vs
+
+pub reopened_more : (jobs : List JobRecord) (ws : List Waived) (i : ℕ) (w : Waived) → i < length ws → w ≡ get_or ws i w → reopened jobs (take (i + 1) ws) ≡ reopen w (reopened jobs (take i ws))
+reopened_more jobs ws i w lt read =
+    ap (reopened jobs) (take_more ws i w lt ∙ ap (λ v. take i ws ++ v ∷ []) (sym read)) ∙ reopened-append jobs (take i ws) (w ∷ [])
+
+-- each waiver that may be taken back is of a job that is there
+pub waived_in_range : (jobs : List JobRecord) (ws : List Waived) (i : ℕ) (w : Waived) → AreWaived jobs ws → i < length ws → w ≡ get_or ws i w → w.number < length jobs
+waived_in_range jobs ws i w waived lt read =
+    there jobs w.number (rw (sym read) at (All-get_or (λ v. is_waived_one (slice_get jobs v.number) ≡ true) ws i w lt (All-from_recursion (λ v. is_waived_one (slice_get jobs v.number) ≡ true) ws waived)))
+  where
+    there : (jobs : List JobRecord) (n : ℕ) → is_waived_one (slice_get jobs n) ≡ true → n < length jobs
+    there [] n h = absurd cc
+    there (j ∷ jobs) zero h = omega arith
+    there (j ∷ jobs) (suc n) h = let lt = there jobs n h in omega arith
