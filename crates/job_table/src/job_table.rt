@@ -4,7 +4,8 @@ ghost use Rattle.std.specs.Prelude.{◌≡◌, ◌<◌, ◌≤◌, ◌+◌, ◌^
 ghost use Rattle.due_queue.specs.Queue.{inserted};
 ghost use Rattle.due_queue.specs.Keys.{is_due_before, is_released_before};
 ghost use Rattle.job_table.specs.Jobs.{new_job, new_collection, carried, with_read, with_stage};
-ghost use Rattle.job_table.specs.Table.{empty_table, with_job, changed_at, with_change, work_at, reads_left, is_collecting, AreWaived, reopened, stopped};
+ghost use Rattle.job_table.specs.Table.{empty_table, with_job, changed_at, with_change, work_at, reads_left, is_collecting};
+ghost use Rattle.job_table.specs.Waivers.{AreWaived, reopened, stopped};
 ghost use Rattle.job_table.specs.Kept.{AreOfTasks, unmarked};
 ghost use Rattle.job_table.specs.Order.{IsHead, NothingReady};
 ghost use Rattle.job_table.specs.Worst.{IsWorst, NothingDone, lateness_at};

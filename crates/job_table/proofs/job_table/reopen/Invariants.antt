@@ -1,5 +1,5 @@
 use Rattle.std.proofs.Common.{◌≡◌, take}
-use Rattle.job_table.specs.Table.{reopened}
+use Rattle.job_table.specs.Waivers.{reopened}
 use Rattle.job_table.proofs.job_table.reopen.Given as goal
 
 abbrev pub invariant-loop-w : goal.invariant-loop-w

@@ -1,5 +1,6 @@
 use Rattle.std.proofs.Common.{◌≡◌, true, false, sym, subst}
-use Rattle.job_table.specs.Table.{Table, AreWaived}
+use Rattle.job_table.specs.Table.{Table}
+use Rattle.job_table.specs.Waivers.{AreWaived}
 use Rattle.job_table.proofs.Waivers.{reopened_worst, undone-waived, length-reopened}
 use Rattle.job_table.proofs.job_table.JobTable.stop.Goals as goal
 
