@@ -1,5 +1,6 @@
 pub mod Jobs
 pub mod Table
+pub mod Waivers
 pub mod Order
 pub mod Worst
 pub mod Queued

@@ -1,9 +1,7 @@
 -- The jobs and collections of a die by number, and what happens to them.
-use Rattle.std.specs.Prelude.{◌≡◌, ℕ, zero, suc, ◌<◌, ◌-◌, ◌&&◌, ◌==◌, Bool, true, false, List, [], ◌∷◌, ◌++◌, Option, Some, None, slice_get, length, count_by}
-use Rattle.std.specs.List.{list_any, AllByRecursion}
-use Rattle.slot_types.specs.declared.replies.Waived.{Waived}
-use Rattle.job_table.specs.declared.stages.Stage.TheVariants as stages
-use Rattle.job_table.specs.Jobs.{JobRecord, is_open, is_waived, is_read, with_stage}
+use Rattle.std.specs.Prelude.{ℕ, zero, suc, ◌-◌, ◌&&◌, ◌==◌, Bool, false, List, [], ◌∷◌, ◌++◌, Option, Some, None, slice_get, length, count_by}
+use Rattle.std.specs.List.{list_any}
+use Rattle.job_table.specs.Jobs.{JobRecord, is_open, is_read}
 
 -- how many tasks there are, the slot up to which releases were looked at, whether the die has stopped, and the jobs and
 -- collections by number
@@ -52,27 +50,3 @@ is_collection_of task job = job.collects && (job.task == task) && is_open job.st
 -- the task has one
 abbrev pub is_collecting : List JobRecord → ℕ → Bool
 is_collecting jobs task = list_any (is_collection_of task) jobs
-
--- The waivers of a slot
-
--- the jobs after these collections were waived, one after the other
-abbrev pub waived_in : List JobRecord → List Waived → List JobRecord
-waived_in jobs [] = jobs
-waived_in jobs (w ∷ ws) = waived_in (changed_at jobs w.number (with_stage (stages.Waived w.given))) ws
-
--- the jobs with these waivers taken back
-abbrev pub reopened : List JobRecord → List Waived → List JobRecord
-reopened jobs [] = jobs
-reopened jobs (w ∷ ws) = reopened (changed_at jobs w.number (with_stage stages.Open)) ws
-
-abbrev pub is_waived_one : Option JobRecord → Bool
-is_waived_one None = false
-is_waived_one (Some job) = is_waived job.stage
-
--- each of these is waived
-abbrev pub AreWaived : List JobRecord → List Waived → Type 0
-AreWaived jobs waived = AllByRecursion (λ w. is_waived_one (slice_get jobs w.number) ≡ true) waived
-
--- the die stops, and these waivers are taken back
-abbrev pub stopped : Table → List Waived → Table
-stopped table waived = record table { ended = true; jobs = reopened table.jobs waived }

@@ -1,10 +1,11 @@
 //! The jobs and collections of a die by number.
 
-ghost use Rattle.std.specs.Prelude.{◌≡◌, ◌<◌, ◌≤◌, ◌+◌, ◌^◌, ◌==◌, ◌∷◌, ◌++◌, [], if◌then◌else◌, nat_lt, false, length, slice_get, option_copied, Contains, OnOk, IfOk, OnErr, IfErr, IfSome, IfNone};
+ghost use Rattle.std.specs.Prelude.{◌≡◌, ◌<◌, ◌≤◌, ◌+◌, ◌^◌, ◌==◌, ◌∷◌, ◌++◌, [], if◌then◌else◌, nat_lt, true, false, length, slice_get, option_copied, Contains, OnOk, IfOk, OnErr, IfErr, IfSome, IfNone};
 ghost use Rattle.due_queue.specs.Queue.{inserted};
 ghost use Rattle.due_queue.specs.Keys.{is_due_before, is_released_before};
 ghost use Rattle.job_table.specs.Jobs.{new_job, new_collection, carried, with_read, with_stage};
-ghost use Rattle.job_table.specs.Table.{empty_table, with_job, changed_at, with_change, work_at, reads_left, is_collecting, AreWaived, reopened, stopped};
+ghost use Rattle.job_table.specs.Table.{empty_table, with_job, changed_at, with_change, work_at, reads_left, is_collecting};
+ghost use Rattle.job_table.specs.Waivers.{AreWaived, reopened, stopped};
 ghost use Rattle.job_table.specs.Kept.{AreOfTasks, unmarked};
 ghost use Rattle.job_table.specs.Order.{IsHead, NothingReady};
 ghost use Rattle.job_table.specs.Worst.{IsWorst, NothingDone, lateness_at};
@@ -225,7 +226,7 @@ impl JobTable {
         end_job(
             &mut self.jobs,
             &mut self.collecting,
-            number.0,
+            number,
             Stage::Done { completion, given },
         );
         self.worst = Some(worse_of(&self.jobs, self.worst, number.0));
@@ -241,7 +242,7 @@ impl JobTable {
         end_job(
             &mut self.jobs,
             &mut self.collecting,
-            number.0,
+            number,
             Stage::Waived { given },
         );
     }
@@ -287,17 +288,24 @@ fn enter(queues: &mut Queues, clock: u32, number: u32, release: u32, due: u32)
 }
 
 /// A job is over. If it is a collection, its task has no open one any more.
-fn end_job(jobs: &mut Vec<Job>, collecting: &mut Vec<bool>, number: u32, stage: Stage)
+fn end_job(jobs: &mut Vec<Job>, collecting: &mut Vec<bool>, number: JobNo, stage: Stage)
     requires number { number < length jobs.old.items }
     requires tasks { AreOfTasks jobs.old.items (length collecting.old.items) }
     ensures jobs { jobs.new.items ≡ changed_at jobs.old.items number (with_stage stage) }
     ensures marks { collecting.new.items ≡ unmarked (slice_get jobs.old.items number) collecting.old.items }
 {
-    let job = &mut jobs[number as usize];
+    unmark(collecting, &jobs[number.0 as usize]);
+    put_stage(jobs, number, stage);
+}
+
+/// The task of a collection has no open one any more.
+fn unmark(collecting: &mut Vec<bool>, job: &Job)
+    requires { job.now.collects ≡ true → job.now.task < length collecting.old.items }
+    ensures { collecting.new.items ≡ unmarked (Some job.now) collecting.old.items }
+{
     if job.collects() {
         collecting[job.task().0 as usize] = false;
     }
-    job.set_stage(stage);
 }
 
 /// Takes waivers back.
@@ -306,7 +314,15 @@ fn reopen(jobs: &mut Vec<Job>, waived: &[Waived])
     ensures { jobs.new.items ≡ reopened jobs.old.items waived.now }
 {
     for w in waived {
-        let job = &mut jobs[w.number.0 as usize];
-        job.set_stage(Stage::Open);
+        put_stage(jobs, w.number, Stage::Open);
     }
+}
+
+/// A job stands otherwise from now on.
+fn put_stage(jobs: &mut Vec<Job>, number: JobNo, stage: Stage)
+    requires { number < length jobs.old.items }
+    ensures { jobs.new.items ≡ changed_at jobs.old.items number (with_stage stage) }
+{
+    let job = &mut jobs[number.0 as usize];
+    job.set_stage(stage);
 }
