@@ -1,8 +1,14 @@
 -- Each call keeps what the fields of a die say of its log.
-use Rattle.std.proofs.Common.{◌≡◌, ℕ, zero, suc, ◌+◌, ◌<◌, ◌≤◌, ◌==◌, Bool, true, false, cond, List, [], ◌∷◌, ◌++◌, Option, Some, None, refl, ap, sym, ◌∙◌, subst, length, map, slice_get, option_map, if◌then◌else◌, append-nil, append_assoc, arith}
-use Rattle.std.proofs.lemmas.List.{length_push}
+use Rattle.std.proofs.Common.{◌≡◌, ℕ, zero, suc, ◌+◌, ◌<◌, ◌≤◌, ◌==◌, Bool, true, false, cond, List, [], ◌∷◌, ◌++◌, Option, Some, None, refl, ap, sym, ◌∙◌, subst, length, map, slice_get, option_map, if◌then◌else◌, append-nil, replicate, slice_index, nat_lt, ◌&&◌, not, inl, inr, ◌⊎◌, arith}
+use Rattle.std.proofs.lemmas.List.{length_push, length-map}
+use Rattle.std.proofs.lemmas.Bool.Decides.{nat_tests}
 use Rattle.std.specs.List.{AllByRecursion}
+use Rattle.std.specs.Prelude.{Result, Ok, Err, IfErr, OnOk, IsOk, ◌↔◌}
+use Rattle.std.specs.Result.{IsErrAnd}
 use Rattle.slot_types.specs.declared.plans.DiePlan.{DiePlan}
+use Rattle.slot_types.specs.declared.plans.Shape.{Shape}
+use Rattle.slot_types.specs.declared.refusals.Refusal.{Refusal}
+use Rattle.slot_types.specs.declared.refusals.Refusal.TheVariants.{BadShape, BadPlan, NoMemory}
 use Rattle.slot_types.specs.declared.limits.TheConstants.{MAX_SLOT}
 use Rattle.slot_types.specs.declared.acts.Act.{Act}
 use Rattle.slot_types.specs.declared.events.Op.{Op}
@@ -18,14 +24,15 @@ use Rattle.plan_rules.specs.Bound.{MeetsBound}
 use Rattle.plan_rules.specs.Accounts.{Accounts, admitted}
 use Rattle.plan_rules.specs.Accounts as moves
 use Rattle.flash_die.specs.Flash as device
+use Rattle.flash_volume.specs.State.{State, fresh_volume}
 use Rattle.late_cert.specs.Schedule.{Slots}
 use Rattle.job_table.specs.Jobs.{JobRecord, new_job, new_collection}
-use Rattle.job_table.specs.Table.{Table, with_job, changed_at, with_change}
+use Rattle.job_table.specs.Table.{Table, empty_table, with_job, changed_at, with_change}
 use Rattle.job_table.specs.Order as table
 use Rattle.die_log.specs.Log.{Log, Job, Carried, jobs, job_at, carried, acts, waived, now}
 use Rattle.die_log.specs.Work.{are_all, ready, least, writes}
 use Rattle.die_log.specs.Accounts.{accounts}
-use Rattle.die_log.specs.Answers.{IsExact, answer, accepted, refusal_of, refusals, choice, Choice, slot_reply, reply_with, act_for, is_waivable}
+use Rattle.die_log.specs.Answers.{IsExact, IsAccepted, answer, accepted, refusal_of, refusals, choice, Choice, slot_reply, reply_with, act_for, is_waivable}
 use Rattle.die_log.specs.Standing.{AreNumbered, Stands}
 use Rattle.die_log.specs.Rows.{carried_numbers}
 use Rattle.die_log.proofs.Legality.{entry, accepted_answer, none_stands}
@@ -33,10 +40,11 @@ use Rattle.die_log.proofs.Legal.Exact.{stands_well}
 use Rattle.slot_core.specs.Records.{record_with, records, waiver_among}
 use Rattle.slot_core.specs.Device.{IsFlashOf}
 use Rattle.slot_core.specs.Kept.{Keeps}
+use Rattle.slot_core.specs.Core.{with_entry}
 use Rattle.slot_core.proofs.Choosing.{GoesOn, unwaived, starts, begins, ends}
 use Rattle.slot_core.proofs.Recording.{records-submit, records-collect, records-idle, records-act, slot_of, acted_reply, acted_record}
 use Rattle.slot_core.proofs.Heading.{head_least, nothing_least, table_at}
-use Rattle.slot_core.proofs.Flashing.{IsWaivedFlash, flash-submit, flash-collect, flash-idle, unwaived_flash}
+use Rattle.slot_core.proofs.Flashing.{IsWaivedFlash, flash-submit, flash-collect, flash-idle, unwaived_flash, fresh_flash}
 
 -- Arrivals
 
@@ -44,7 +52,7 @@ some_ops : (n : ℕ) → (n == 0) ≡ false → 0 < n
 some_ops zero h = absurd cc
 some_ops (suc n) h = omega arith
 
-number_reply : ℕ → Reply
+abbrev number_reply : ℕ → Reply
 number_reply n = replies.Taken n
 
 pub keeps_submit : (plan : DiePlan) (log : Log) (present : ℕ) (t : Table) (slots : Slots) (tokens : Accounts) (pages : List PageData) (places : List (Option Place)) (blocks : List device.Block) (caller task release due : ℕ) (ops : List Op)
@@ -194,3 +202,78 @@ slot_acts plan log present ws t slots tokens pages places blocks caller j act ov
       slots_are = ap (λ ns. ns ++ Some j.number ∷ []) s.slots_are ∙ sym (numbers_more log (Some (j.number, act)) (carried log));
       flash = λ alive. flash;
     }
+
+-- At the start, and with a call's values as they come
+
+pub keeps_start : {N : Type 0} (blocks_of : N → List device.Block) (plan : DiePlan) (nand : N) (log : Log) (t : Table) (slots : Slots) (v : State N)
+    → MeetsBound plan → blocks_of nand ≡ device.fresh_blocks plan.shape → log ≡ [] → t ≡ empty_table (length plan.caps) → slots ≡ [] → v ≡ fresh_volume plan nand
+    → Keeps v.accounts.plan log 0 t slots v.failed v.accounts v.pages v.places (blocks_of v.device)
+keeps_start blocks_of plan nand log t slots v bound fresh none table_is none_carried volume_is =
+    rw volume_is (rw none (rw table_is (rw none_carried (record {
+      exact = tt;
+      bound = bound;
+      now_is = refl;
+      tasks_are = refl;
+      clock_by = omega arith;
+      ended_is = refl;
+      jobs_are = refl;
+      slots_are = refl;
+      flash = λ alive. subst (IsFlashOf plan [] (moves.opening plan) (replicate plan.logical device.blank) (replicate plan.logical None)) (sym fresh) (fresh_flash plan);
+    }))))
+
+balance_enough : (have need : ℕ) → nat_lt have need ≡ false → need ≤ have
+balance_enough have need h = grind (arith, nat_tests)
+
+-- a job that is not refused has its tokens
+pub tokens_suffice : (plan : DiePlan) (log : Log) (task release due : ℕ) (ops : List Op) (tokens : Accounts) → tokens ≡ accounts plan log → refusal_of plan log (events.Submit task release due ops) ≡ None
+    → writes ops ≤ slice_index tokens.balances task
+tokens_suffice plan log task release due ops tokens is none =
+    rw is (balance_enough (slice_index (accounts plan log).balances task) (writes ops) (none_stands (refusals plan log (events.Submit task release due ops)) none).1.1.1.1.1.1.1.0)
+
+pub jobs_counted : (plan : DiePlan) (log : Log) (t : Table) → t.jobs ≡ records plan log → length t.jobs ≡ length (jobs log)
+jobs_counted plan log t is = ap length is ∙ length-map (jobs log) (record_with plan log (waived log))
+
+pub submit_kept : {N : Type 0} (blocks_of : N → List device.Block) (log later : Log) (present caller number task release due : ℕ) (ops : List Op) (t u : Table) (slots : Slots) (v w : State N)
+    → Keeps v.accounts.plan log present t slots v.failed v.accounts v.pages v.places (blocks_of v.device) → v.failed ≡ false
+    → refusal_of v.accounts.plan log (events.Submit task release due ops) ≡ None → number ≡ length t.jobs → u ≡ with_job t (new_job task release due ops)
+    → w ≡ record v { accounts = admitted v.accounts task (writes ops) } → later ≡ with_entry caller (events.Submit task release due ops) (replies.Taken number) log
+    → Keeps w.accounts.plan later present u slots w.failed w.accounts w.pages w.places (blocks_of w.device)
+submit_kept blocks_of log later present caller number task release due ops t u slots v w k alive none number_is table_is volume_is log_is =
+    rw volume_is (rw table_is (rw log_is (rw alive (rw (number_is ∙ jobs_counted v.accounts.plan log t k.jobs_are)
+      (keeps_submit v.accounts.plan log present t slots v.accounts v.pages v.places (blocks_of v.device) caller task release due ops (subst (λ (b : Bool). Keeps v.accounts.plan log present t slots b v.accounts v.pages v.places (blocks_of v.device)) alive k) none)))))
+
+pub submit_accepts : (plan : DiePlan) (log : Log) (task release due : ℕ) (ops : List Op) → refusal_of plan log (events.Submit task release due ops) ≡ None → IsAccepted (answer plan log (events.Submit task release due ops))
+submit_accepts plan log task release due ops none = subst IsAccepted (sym (accepted_answer plan log (events.Submit task release due ops) none)) tt
+
+-- what an error is known by
+pub err_where : {A E : Type 0} (r : Result A E) (P Q : E → Type 0) → IsErrAnd r P → ((e : E) → P e → Q e) → IfErr r Q
+err_where (Ok x) P Q h f = absurd h
+err_where (Err e) P Q h f = f e h
+
+pub on_ok : {A E : Type 0} (r : Result A E) (P : Type 0) → OnOk r P → IsOk r → P
+on_ok (Ok x) P h is = h
+on_ok (Err e) P h is = absurd cc
+
+-- the refusal of a plan that is out of its bound
+pub bound_refusal : (e r : Refusal) → e ≡ r → (r ≡ BadShape) ⊎ (r ≡ BadPlan) → (e ≡ BadShape) ⊎ ((e ≡ BadPlan) ⊎ (e ≡ NoMemory))
+bound_refusal e r is (inl h) = inl (is ∙ h)
+bound_refusal e r is (inr h) = inr (inl (is ∙ h))
+
+pub same_shape : (s t : Shape) → false ≡ not ((s.blocks == t.blocks) && ((s.pages == t.pages) && (s.erase_slots == t.erase_slots))) → s ≡ t
+same_shape s t h =
+    let b : s.blocks ≡ t.blocks = grind (arith, nat_tests) in
+    let p : s.pages ≡ t.pages = grind (arith, nat_tests) in
+    let e : s.erase_slots ≡ t.erase_slots = grind (arith, nat_tests) in
+    rw b (rw p (rw e refl))
+
+-- what a job is answered that is not refused
+pub submit_taken : (plan : DiePlan) (log : Log) (t : Table) (task release due number : ℕ) (ops : List Op) → refusal_of plan log (events.Submit task release due ops) ≡ None → t.jobs ≡ records plan log → number ≡ length t.jobs
+    → answer plan log (events.Submit task release due ops) ≡ replies.Taken number
+submit_taken plan log t task release due number ops none jobs_are is = accepted_answer plan log (events.Submit task release due ops) none ∙ ap number_reply (sym (is ∙ jobs_counted plan log t jobs_are))
+
+-- the tokens are there, so they are moved
+pub admit_made : {N A : Type 0} (v w : State N) (task count : ℕ) (ops : List Op) (r : Result A Refusal) → count ≡ writes ops → writes ops ≤ slice_index v.accounts.balances task
+    → OnOk r (w ≡ record v { accounts = admitted v.accounts task count }) → (IsOk r ↔ count ≤ slice_index v.accounts.balances task) → w ≡ record v { accounts = admitted v.accounts task (writes ops) }
+admit_made v w task count ops r is enough made accepted =
+    on_ok r (w ≡ record v { accounts = admitted v.accounts task count }) made (accepted.1 (subst (λ (n : ℕ). n ≤ slice_index v.accounts.balances task) (sym is) enough))
+    ∙ ap (λ (n : ℕ). record v { accounts = admitted v.accounts task n }) is

@@ -3,3 +3,4 @@ pub mod Records
 pub mod Device
 pub mod Kept
 pub mod Acting
+pub mod Calls

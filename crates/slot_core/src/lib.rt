@@ -1,4 +1,9 @@
 //! One die: its jobs and collections, its flash, and its log.
 #![tactic(auto)]
 
+pub mod admission;
+pub mod die_core;
 pub mod operations;
+pub mod slots;
+
+pub use die_core::DieCore;

@@ -10,7 +10,7 @@ use flash_volume::Volume;
 use slot_types::{Act, Op, Refusal, TaskNo};
 
 /// The logical page of an operation.
-pub fn page_of(op: Op) -> u32
+pub(crate) fn page_of(op: Op) -> u32
     ensures { result ≡ page_of op }
 {
     match op {
@@ -20,7 +20,7 @@ pub fn page_of(op: Op) -> u32
 }
 
 /// The first page of these operations that a die of so many logical pages doesn't have.
-pub fn bad_page(ops: &[Op], logical: u32) -> Option<u32>
+pub(crate) fn bad_page(ops: &[Op], logical: u32) -> Option<u32>
     ensures { result ≡ option_map page_of (find (λ op. nat_le logical (page_of op)) ops.now) }
 {
     ops.iter().find(|op| page_of(**op) >= logical).map(|op| page_of(*op))
@@ -33,14 +33,14 @@ fn is_write(op: Op) -> bool
 }
 
 /// How many of these operations are writes.
-pub fn count_writes(ops: &[Op]) -> usize
+pub(crate) fn count_writes(ops: &[Op]) -> usize
     ensures { result ≡ writes ops.now }
 {
     ops.iter().filter(|op| is_write(**op)).count()
 }
 
 /// Does an operation of a job of the task, which holds a page for it if it is a write.
-pub fn operate<N: Nand>(volume: &mut Volume<N>, task: TaskNo, op: Op) -> Result<Act, Refusal>
+pub(crate) fn operate<N: Nand>(volume: &mut Volume<N>, task: TaskNo, op: Op) -> Result<Act, Refusal>
     requires alive { volume.old.failed ≡ false }
     requires task { task < length volume.old.accounts.plan.caps }
     requires page { page_of op < length volume.old.pages }
