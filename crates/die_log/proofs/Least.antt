@@ -5,3 +5,4 @@ pub mod Taking
 pub mod Waiving
 pub mod Carrying
 pub mod Exact
+pub mod Certificates

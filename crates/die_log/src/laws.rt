@@ -1,13 +1,17 @@
 //! What holds of every exact log. Each law is a function that does nothing.
 
-ghost use Rattle.std.specs.Prelude.{◌≡◌, ◌++◌};
+ghost use Rattle.std.specs.Prelude.{◌≡◌, ◌++◌, ◌↔◌, Some, None, Contains, IsFalse};
 ghost use Rattle.slot_types.specs.declared.plans.DiePlan.{DiePlan};
 ghost use Rattle.plan_rules.specs.Bound.{MeetsBound};
-ghost use Rattle.die_log.specs.Log.{Log, calls};
+ghost use Rattle.late_cert.specs.declared.certificates.Certificate.{Certificate};
+ghost use Rattle.late_cert.specs.Stretch.{CarriesLeastKeys, IsLeastLate};
+ghost use Rattle.die_log.specs.Log.{Log, Job, calls, jobs};
+ghost use Rattle.die_log.specs.Work.{is_done, worst};
 ghost use Rattle.die_log.specs.Answers.{IsExact};
 ghost use Rattle.die_log.specs.Legal.{IsLegal};
 ghost use Rattle.die_log.specs.Standing.{Stands};
 ghost use Rattle.die_log.specs.Well.{IsWell};
+ghost use Rattle.die_log.specs.Rows.{rows, carried_numbers, certificate, IsCertified};
 
 /// Two exact logs of one plan with the same calls are one log.
 pub fn same_calls()
@@ -29,4 +33,24 @@ pub fn exact_is_legal()
 pub fn exact_stands()
     ensures stands { (plan : DiePlan) → MeetsBound plan → (log : Log) → IsExact plan log → Stands plan log }
     ensures well { (plan : DiePlan) → MeetsBound plan → (log : Log) → IsExact plan log → IsWell plan log }
+{}
+
+/// Each slot of an exact log of a plan within its bound carried the least key, of due and number, of
+/// those that waited in it: all that were released, not done and not waived.
+pub fn exact_carries_least_keys()
+    ensures { (plan : DiePlan) → MeetsBound plan → (log : Log) → IsExact plan log → CarriesLeastKeys (rows plan log) (carried_numbers log) }
+{}
+
+/// At each moment of an exact log of a plan within its bound the greatest lateness so far is least:
+/// no schedule that respects releases, and gives what is done by then as many slots as it took, has
+/// a smaller one.
+pub fn exact_is_least_late()
+    ensures { (plan : DiePlan) → MeetsBound plan → (later moment : Log) → IsExact plan (later ++ moment) → IsLeastLate (rows plan moment) (carried_numbers moment) }
+{}
+
+/// The certificate of an exact log of a plan within its bound: none where nothing is done, and else
+/// that of its worst job, which holds over the log's rows.
+pub fn exact_is_certified()
+    ensures none { (plan : DiePlan) → MeetsBound plan → (log : Log) → IsExact plan log → (certificate plan log ≡ None) ↔ ((j : Job) → Contains (jobs log) j → IsFalse (is_done plan log j)) }
+    ensures worst { (plan : DiePlan) → MeetsBound plan → (log : Log) → IsExact plan log → (j : Job) → worst plan log ≡ Some j → (c : Certificate) × (certificate plan log ≡ Some c) × IsCertified plan log j c }
 {}

@@ -3,4 +3,7 @@
 
 mod laws;
 
-pub use laws::{exact_is_legal, exact_stands, moments_are_exact, same_calls};
+pub use laws::{
+    exact_carries_least_keys, exact_is_certified, exact_is_least_late, exact_is_legal,
+    exact_stands, moments_are_exact, same_calls,
+};

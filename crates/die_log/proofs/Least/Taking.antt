@@ -1,14 +1,12 @@
 -- A job or collection that is taken brings a row, and no other row changes.
-use Rattle.std.proofs.Common.{◌≡◌, ◌⊎◌, ℕ, zero, suc, ◌+◌, ◌≤◌, Bool, true, false, cond, List, [], ◌∷◌, ◌++◌, length, Option, Some, None, refl, ap, sym, ◌∙◌, inl, inr, arith, slice_get, option_map}
+use Rattle.std.proofs.Common.{◌≡◌, ◌⊎◌, ℕ, zero, suc, ◌≤◌, Bool, false, cond, List, [], ◌∷◌, ◌++◌, length, Some, None, refl, ap, sym, ◌∙◌, inl, inr, arith, slice_get, option_map}
 use Rattle.std.proofs.lemmas.Bool.{cases_eq}
 use Rattle.std.proofs.lemmas.List.{length-map}
 use Rattle.std.proofs.lemmas.Option.{slice_get_past}
 use Rattle.slot_types.specs.declared.plans.DiePlan.{DiePlan}
 use Rattle.slot_types.specs.declared.acts.Act.{Act}
 use Rattle.late_cert.specs.declared.rows.JobRow.{JobRow}
-use Rattle.late_cert.specs.Rows.{row_of}
 use Rattle.late_cert.specs.Stretch.{CarriesLeastKeys}
-use Rattle.late_cert.specs.Moments.{AcceptsJob}
 use Rattle.late_cert.proofs.Moments.{accepts-keeps}
 use Rattle.die_log.specs.Log.{Log, Job, jobs, carried, now, acts, is_waived}
 use Rattle.die_log.specs.Work.{are_all, completion}
