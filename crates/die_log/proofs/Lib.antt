@@ -11,5 +11,6 @@ pub mod Standing
 pub mod Legal
 pub mod Tokens
 pub mod Least
+pub mod Bounds
 mod Worked
 mod Wrong

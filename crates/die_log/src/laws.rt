@@ -1,12 +1,12 @@
 //! What holds of every exact log. Each law is a function that does nothing.
 
-ghost use Rattle.std.specs.Prelude.{◌≡◌, ◌++◌, ◌↔◌, Some, None, Contains, IsFalse};
+ghost use Rattle.std.specs.Prelude.{◌≡◌, ◌++◌, ◌↔◌, ◌+◌, ◌-◌, ◌*◌, ◌≤◌, Some, None, true, Contains, IsFalse, count_by};
 ghost use Rattle.slot_types.specs.declared.plans.DiePlan.{DiePlan};
 ghost use Rattle.plan_rules.specs.Bound.{MeetsBound};
 ghost use Rattle.late_cert.specs.declared.certificates.Certificate.{Certificate};
 ghost use Rattle.late_cert.specs.Stretch.{CarriesLeastKeys, IsLeastLate};
-ghost use Rattle.die_log.specs.Log.{Log, Job, calls, jobs};
-ghost use Rattle.die_log.specs.Work.{is_done, worst};
+ghost use Rattle.die_log.specs.Log.{Log, Job, calls, jobs, acts, work};
+ghost use Rattle.die_log.specs.Work.{is_done, is_copy_program, worst};
 ghost use Rattle.die_log.specs.Answers.{IsExact};
 ghost use Rattle.die_log.specs.Legal.{IsLegal};
 ghost use Rattle.die_log.specs.Standing.{Stands};
@@ -53,4 +53,11 @@ pub fn exact_is_least_late()
 pub fn exact_is_certified()
     ensures none { (plan : DiePlan) → MeetsBound plan → (log : Log) → IsExact plan log → (certificate plan log ≡ None) ↔ ((j : Job) → Contains (jobs log) j → IsFalse (is_done plan log j)) }
     ensures worst { (plan : DiePlan) → MeetsBound plan → (log : Log) → IsExact plan log → (j : Job) → worst plan log ≡ Some j → (c : Certificate) × (certificate plan log ≡ Some c) × IsCertified plan log j c }
+{}
+
+/// In an exact log of a plan within its bound a collection copies at most the pages that its collector
+/// keeps in reserve, and takes at most two slots for each of these beside those of its erase.
+pub fn collections_are_bounded()
+    ensures copies { (plan : DiePlan) → MeetsBound plan → (log : Log) → IsExact plan log → (j : Job) → Contains (jobs log) j → j.collects ≡ true → count_by is_copy_program (acts j.number log) ≤ plan.shape.pages - plan.alpha }
+    ensures slots { (plan : DiePlan) → MeetsBound plan → (log : Log) → IsExact plan log → (j : Job) → Contains (jobs log) j → j.collects ≡ true → work j.number log ≤ 2 * (plan.shape.pages - plan.alpha) + plan.shape.erase_slots }
 {}

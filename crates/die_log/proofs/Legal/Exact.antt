@@ -52,7 +52,7 @@ erases_own plan past j b more s known ready e = by_kind j.collects refl
         )
 
 -- who has shown a block has begun
-victim_begun : (plan : DiePlan) (n b : ℕ) (past : Log) (own : List Act) → acts n past ≡ own → victim_of plan n past ≡ Some b → 0 < length own
+pub victim_begun : (plan : DiePlan) (n b : ℕ) (past : Log) (own : List Act) → acts n past ≡ own → victim_of plan n past ≡ Some b → 0 < length own
 victim_begun plan n b past [] e shows = absurd (none-some b (sym (no_victim plan n past e) ∙ shows))
 victim_begun plan n b past (x ∷ own) e shows = omega arith
 
@@ -96,7 +96,7 @@ pub chosen_is : (plan : DiePlan) (past : Log) → CellsServe plan past → IsCho
 chosen_is plan past c = choice_is plan past (all_known past c.numbered)
 
 -- what an accepted event carries finds its free page
-event_finds : (plan : DiePlan) (past : Log) (event : Event) → MeetsBound plan → StandsWell plan past → FindsBy plan past (ran_by (accepted plan past event))
+pub event_finds : (plan : DiePlan) (past : Log) (event : Event) → MeetsBound plan → StandsWell plan past → FindsBy plan past (ran_by (accepted plan past event))
 event_finds plan past (events.Submit task release due ops) bound h = tt
 event_finds plan past (events.Collect task release due) bound h = tt
 event_finds plan past events.Slot bound h = (keeps_slot plan past 0 bound h.1.true_accounts (well_served plan past bound h)).1
@@ -126,7 +126,7 @@ keeps_both plan past caller event bound exact h none =
         legal = (
           h.1.legal,
           entry_legal plan past caller event (has_slots plan bound) h.0 none (finds_victim plan past bound h) finds (chosen_is plan past c).waivers
-          (owed_is_free plan (entry caller event (accepted plan past event) ∷ past) after),
+              (owed_is_free plan (entry caller event (accepted plan past event) ∷ past) after),
         );
       },
     )

@@ -123,7 +123,7 @@ begun_shows : (plan : DiePlan) (past : Log) (number b : ℕ) (act : Option Act) 
 begun_shows plan past number b act b' e h = same_Some b b' (sym (ap (λ o. shown_by plan past o act) e) ∙ h)
 
 -- an act that programs nothing: a begun collection keeps its block, and one that begins shows its victim
-still_few : (plan : DiePlan) (past : Log) (ws : List Waived) (j : Job) (act : Act) (b' : ℕ) → IsTurn plan past ws j act → MayShow plan past ws j → j.collects ≡ true
+pub still_few : (plan : DiePlan) (past : Log) (ws : List Waived) (j : Job) (act : Act) (b' : ℕ) → IsTurn plan past ws j act → MayShow plan past ws j → j.collects ≡ true
     → shown_by plan past (victim_of plan j.number past) (Some act) ≡ Some b' → copied_of (λ n. acts n past) j + valid (cells plan past) b' ≤ reserve_full plan
 still_few plan past ws j act b' h m is shows = elim (cases_lt 0 (work j.number past)) [
   | inl begun ↦
