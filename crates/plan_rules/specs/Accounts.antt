@@ -79,7 +79,8 @@ waived accounts task = record accounts {
   balances = slice_set accounts.balances task (slice_index accounts.balances task + given_of accounts task);
 }
 
--- what is true of the accounts at every moment: no task owns more than its cap, no reserve is more than whole, and all pages are the die's
+-- what is true of the accounts at every moment: no task owns more than its cap, no reserve is more than whole, and
+-- there are no more pages than the die has
 pub record AreSound (accounts : Accounts) : Type 0 where
   pub bound : MeetsBound accounts.plan
   pub balances_len : length accounts.balances ≡ length accounts.plan.caps

@@ -5,7 +5,8 @@ use Rattle.slot_types.specs.Places.{is_in}
 use Rattle.slot_types.specs.declared.plans.DiePlan.{DiePlan}
 use Rattle.plan_rules.specs.Bound.{fmax_of}
 
--- what a block holds: pages whose data is named by the map, and free pages; and whether a collection works on it, from its begin to its last erase slot
+-- what a block holds: valid pages, in which a logical page is placed, and free ones; and whether a collection works
+-- on it, from its begin to its last erase slot
 pub record BlockUse : Type 0 where
   pub valid : ℕ
   pub free : ℕ
@@ -15,7 +16,8 @@ pub record BlockUse : Type 0 where
 abbrev pub is_open : DiePlan → BlockUse → Bool
 is_open plan block = nat_lt 0 block.free && nat_lt block.free plan.shape.pages
 
--- the blocks of a die at which a task begins a collection with too few spare pages
+-- the blocks of a die at which a task begins a collection with too few spare pages; it collects none of them yet, so
+-- fewer collections run than there are tasks (were it as many, there might be no victim)
 pub record MayBegin (plan : DiePlan) (blocks : List BlockUse) : Type 0 where
   pub count : length blocks ≡ plan.shape.blocks
   pub one_open : count_by (is_open plan) blocks ≤ 1
@@ -34,7 +36,8 @@ abbrev pub is_of : ℕ → Option ℕ → Bool
 is_of block None = false
 is_of block (Some victim) = victim == block
 
--- what the blocks of a die hold: free pages as given, valid ones by the places of the logical pages, and the victims of the running collections
+-- what a block holds: free pages as given, valid ones by the places of the logical pages, and whether it is the
+-- victim of a running collection
 abbrev pub use_of : (ℕ → ℕ) → List (Option Place) → List (Option ℕ) → ℕ → BlockUse
 use_of free places victims block = record {
   valid = count_by (is_in block) places;
@@ -46,7 +49,8 @@ use_of free places victims block = record {
 abbrev pub uses_of : DiePlan → (ℕ → ℕ) → List (Option Place) → List (Option ℕ) → List BlockUse
 uses_of plan free places victims = map (use_of free places victims) (range_with_len 0 plan.shape.blocks)
 
--- a die at which a task begins a collection with too few spare pages, by what its layers keep: the free pages of each block, the places of the logical pages, and each task's victim, the beginning task having none
+-- a die at which a task begins a collection with too few spare pages, by what its layers keep: the free pages of each
+-- block, the places of the logical pages, each task's victim (the beginning task has none yet), and the open block
 pub record BeginsShort (plan : DiePlan) (free : ℕ → ℕ) (places : List (Option Place)) (victims : List (Option ℕ)) (writing : Option ℕ) : Type 0 where
   pub places_len : length places ≡ plan.logical
   pub victims_len : length victims ≡ length plan.caps

@@ -2,7 +2,8 @@ use Rattle.std.specs.Prelude.{ℕ, ◌+◌, ◌-◌, ◌*◌, ◌/◌, ◌<◌, 
 use Rattle.slot_types.specs.declared.plans.Shape.{Shape}
 use Rattle.slot_types.specs.declared.plans.DiePlan.{DiePlan}
 
--- the most pages that may be free while fewer than alpha of them are spare: those, each collector's reserve, and all that the tasks may own
+-- the most pages that may be free while fewer than alpha of them are spare: those, each collector's reserve, and all
+-- that the tasks may own
 abbrev pub fmax_of : DiePlan → ℕ
 fmax_of plan = plan.alpha - 1 + length plan.caps * (plan.shape.pages - plan.alpha) + sum plan.caps
 
