@@ -33,4 +33,5 @@ pub record Serves (rows : List JobRow) (jobs : ℕ → Bool) (f : Slots) : Type 
 abbrev pub BindsEverySchedule : List JobRow → ℕ → ℕ → List ℕ → Type 0
 BindsEverySchedule rows due completion jobs =
     (f : Slots) → Serves rows (is_listed jobs) f
-    → (j : ℕ) × (is_listed jobs j ≡ true) × (lateness_of completion due ≤ℤ lateness_of (completion_in f j) (due_of rows j))
+    → (j : ℕ) × (is_listed jobs j ≡ true)
+    × (lateness_of completion due ≤ℤ lateness_of (completion_in f j) (due_of rows j))

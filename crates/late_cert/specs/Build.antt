@@ -17,6 +17,7 @@ stretch_of rows carried j =
     let start = start_of rows carried j completion in
     record { job = j; start = start; due = due_of rows j; completion = completion; jobs = jobs_of rows carried start completion }
 
+-- the verdict on a certificate
 abbrev pub verdict_on : List JobRow → Certificate → Verdict
 verdict_on rows c = verdict_of rows c.start c.due c.completion c.jobs
 

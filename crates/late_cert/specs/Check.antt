@@ -14,13 +14,14 @@ abbrev pub is_rising : List ℕ → Bool
 is_rising [] = true
 is_rising (x ∷ xs) = is_rising_after x xs
 
--- what is wrong with the row of a listed number
+-- what is wrong with the row of a listed number, if anything is
 abbrev pub fault_of : ℕ → ℕ → Option JobRow → Option Verdict
 fault_of start due None = Some UnknownJob
 fault_of start due (Some row) =
     cond (is_none row.completion || eqb row.work 0) (Some Unfinished)
     (cond (ltb row.release start) (Some EarlyRelease) (cond (ltb due row.due) (Some LateDue) None))
 
+-- the first of two faults
 abbrev pub or_else : Option Verdict → Option Verdict → Option Verdict
 or_else None o = o
 or_else (Some v) o = Some v
@@ -30,10 +31,12 @@ abbrev pub first_fault : List JobRow → ℕ → ℕ → List ℕ → Option Ver
 first_fault rows start due [] = None
 first_fault rows start due (j ∷ js) = or_else (fault_of start due (row_of rows j)) (first_fault rows start due js)
 
+-- the verdict where the list is neither empty nor wrong in order: the first fault, then the sum
 abbrev pub last_verdict : Option Verdict → Bool → Verdict
 last_verdict (Some v) fits = v
 last_verdict None fits = cond fits Holds WrongSum
 
+-- the verdict on a certificate of this start, due, completion and jobs
 abbrev pub verdict_of : List JobRow → ℕ → ℕ → ℕ → List ℕ → Verdict
 verdict_of rows start due completion [] = Empty
 verdict_of rows start due completion (j ∷ js) =
