@@ -1,5 +1,5 @@
 -- What the rows say of a number.
-use Rattle.std.specs.Prelude.{◌≡◌, ℕ, slice_index_or, map, Bool, false, cond, eqb, List, [], ◌∷◌, Option, Some, None, is_some, unwrap_or}
+use Rattle.std.specs.Prelude.{◌≡◌, ℕ, slice_index_or, map, Bool, false, if◌then◌else◌, ◌==◌, List, [], ◌∷◌, Option, Some, None, is_some, unwrap_or}
 use Rattle.std.specs.List.Sorted.{IsStrictlyIncreasing}
 use Rattle.late_cert.specs.declared.rows.JobRow.{JobRow}
 
@@ -14,7 +14,7 @@ IsNamedAt rows i j = (d : JobRow) → (slice_index_or rows i d).number ≡ j
 -- the row of a number
 abbrev pub row_of : List JobRow → ℕ → Option JobRow
 row_of [] j = None
-row_of (row ∷ rows) j = cond (eqb row.number j) (Some row) (row_of rows j)
+row_of (row ∷ rows) j = if row.number == j then Some row else row_of rows j
 
 -- what a field of the row says, or 0 without a row
 abbrev pub number_in : (JobRow → ℕ) → Option JobRow → ℕ
