@@ -6,7 +6,7 @@ ghost use Rattle.plan_rules.specs.Bound.{MeetsBound};
 ghost use Rattle.late_cert.specs.declared.certificates.Certificate.{Certificate};
 ghost use Rattle.late_cert.specs.Stretch.{CarriesLeastKeys, IsLeastLate};
 ghost use Rattle.die_log.specs.Log.{Log, Job, calls, jobs, acts, work};
-ghost use Rattle.die_log.specs.Work.{is_done, is_copy_program, worst};
+ghost use Rattle.die_log.specs.Work.{is_done, is_copy_program, worst, IsWorst};
 ghost use Rattle.die_log.specs.Answers.{IsExact};
 ghost use Rattle.die_log.specs.Legal.{IsLegal};
 ghost use Rattle.die_log.specs.Standing.{Stands};
@@ -33,6 +33,14 @@ pub fn exact_is_legal()
 pub fn exact_stands()
     ensures stands { (plan : DiePlan) → MeetsBound plan → (log : Log) → IsExact plan log → Stands plan log }
     ensures well { (plan : DiePlan) → MeetsBound plan → (log : Log) → IsExact plan log → IsWell plan log }
+{}
+
+/// What is read off any log as its worst job is the done one with the greatest lateness, of equal
+/// ones the one completed first, of these the one with the smallest number; there is none exactly
+/// where nothing is done.
+pub fn worst_is_worst()
+    ensures none { (plan : DiePlan) (log : Log) → (worst plan log ≡ None) ↔ ((j : Job) → Contains (jobs log) j → IsFalse (is_done plan log j)) }
+    ensures some { (plan : DiePlan) (log : Log) (j : Job) → worst plan log ≡ Some j → IsWorst plan log j }
 {}
 
 /// Each slot of an exact log of a plan within its bound carried the least key, of due and number, of

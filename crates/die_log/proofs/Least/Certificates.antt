@@ -4,7 +4,7 @@ use Rattle.std.specs.Prelude.{Contains, IsFalse, ◌↔◌}
 use Rattle.std.specs.List.{AllByRecursion, reduce}
 use Rattle.std.proofs.lemmas.Bool.{true≢false, ne_eqb, false_from_ne_true}
 use Rattle.std.proofs.lemmas.Option.{none-some}
-use Rattle.std.proofs.lemmas.List.Elements.{All-contains, All-from_recursion, All-contains_itself, recursion_from_All}
+use Rattle.std.proofs.lemmas.List.Elements.{All-contains, All-from_recursion}
 use Rattle.slot_types.specs.declared.plans.DiePlan.{DiePlan}
 use Rattle.slot_types.specs.declared.events.Event.{Event}
 use Rattle.slot_types.specs.declared.events.Event.TheVariants as events
@@ -18,7 +18,7 @@ use Rattle.late_cert.specs.Stretch.{CarriesLeastKeys, start_of, jobs_of}
 use Rattle.late_cert.specs.Build.{stretch_of, IsOwn}
 use Rattle.late_cert.proofs.Window.{stretch-is}
 use Rattle.late_cert.proofs.Least.{stretch-certifies}
-use Rattle.late_cert.proofs.Own.{certificate_of-done}
+use Rattle.late_cert.proofs.OneStretch.{certificate_of-done}
 use Rattle.die_log.specs.Log.{Log, Job, jobs, work, is_waived}
 use Rattle.die_log.specs.Work.{are_all, is_done, is_worse, worst, completion}
 use Rattle.die_log.specs.Answers.{IsExact, accepted, refusals}
@@ -26,9 +26,10 @@ use Rattle.die_log.specs.Rows.{row_for, rows, carried_numbers, certificate, cert
 use Rattle.die_log.proofs.Legality.{entry, exact_induction}
 use Rattle.die_log.proofs.Known.{all_append}
 use Rattle.die_log.proofs.Choices.{OfSome}
-use Rattle.die_log.proofs.Standing.Longer.{stands_at, kept_both, best_all}
+use Rattle.die_log.proofs.Standing.Longer.{stands_at}
 use Rattle.die_log.proofs.Legal.Exact.{stands_well, has_slots}
 use Rattle.die_log.proofs.Least.Lookups.{row_in, row_at}
+use Rattle.die_log.proofs.Least.Worst.{worst_stands}
 use Rattle.die_log.proofs.Least.Exact.{no_operations, least_keys}
 
 -- What is done was carried
@@ -103,15 +104,10 @@ done_certified plan log j bound exact stands done =
 
 -- The worst job
 
-worst_of : (plan : DiePlan) (log : Log) → OfSome (λ j. Contains (jobs log) j × (is_done plan log j ≡ true)) (worst plan log)
-worst_of plan log =
-    best_all (λ j. Contains (jobs log) j × (is_done plan log j ≡ true)) (is_worse log) (filter (is_done plan log) (jobs log))
-    (kept_both (Contains (jobs log)) (is_done plan log) (jobs log) (recursion_from_All (Contains (jobs log)) (jobs log) (All-contains_itself (jobs log))))
-
 pub worst_certified : (plan : DiePlan) (log : Log) (j : Job) → MeetsBound plan → IsExact plan log → worst plan log ≡ Some j
     → (c : Certificate) × (certificate plan log ≡ Some c) × IsCertified plan log j c
 worst_certified plan log j bound exact is =
-    let w = subst (OfSome (λ i. Contains (jobs log) i × (is_done plan log i ≡ true))) is (worst_of plan log) in
+    let w = subst (OfSome (λ i. Contains (jobs log) i × (is_done plan log i ≡ true))) is (worst_stands plan log) in
     let c = done_certified plan log j bound exact w.0 w.1 in
     (c.0, ap (certificate_for plan log) is ∙ c.1, c.2)
 
@@ -132,7 +128,7 @@ none_best : (better : Job → Job → Bool) (xs : List Job) → reduce (λ best 
 none_best better [] e = refl
 none_best better (x ∷ xs) e = absurd cc
 
-no_worst : (plan : DiePlan) (log : Log) → worst plan log ≡ None → (j : Job) → Contains (jobs log) j → is_done plan log j ≡ false
+pub no_worst : (plan : DiePlan) (log : Log) → worst plan log ≡ None → (j : Job) → Contains (jobs log) j → is_done plan log j ≡ false
 no_worst plan log none =
     let all = nobody_passes (is_done plan log) (jobs log) (none_best (is_worse log) (filter (is_done plan log) (jobs log)) none) in
     λ j stands. All-contains (λ i. is_done plan log i ≡ false) (jobs log) j (All-from_recursion (λ i. is_done plan log i ≡ false) (jobs log) all) stands
@@ -141,7 +137,7 @@ contained_all : {X : Type 0} (P : X → Type 0) (xs : List X) → ((x : X) → C
 contained_all P [] h = tt
 contained_all P (x ∷ xs) h = (h x (0, omega arith, refl), contained_all P xs (λ y k. h y (suc k.0, omega (arith, k.1), k.2)))
 
-nothing_done : (plan : DiePlan) (log : Log) → ((j : Job) → Contains (jobs log) j → is_done plan log j ≡ false) → worst plan log ≡ None
+pub nothing_done : (plan : DiePlan) (log : Log) → ((j : Job) → Contains (jobs log) j → is_done plan log j ≡ false) → worst plan log ≡ None
 nothing_done plan log h =
     let all = contained_all (λ i. is_done plan log i ≡ false) (jobs log) h in
     ap (reduce (λ best x. cond (is_worse log x best) x best)) (none_passes (is_done plan log) (jobs log) all)
@@ -149,7 +145,7 @@ nothing_done plan log h =
 none_certified : (plan : DiePlan) (log : Log) (o : Option Job) → MeetsBound plan → IsExact plan log → worst plan log ≡ o → certificate_for plan log o ≡ None → worst plan log ≡ None
 none_certified plan log None bound exact is e = is
 none_certified plan log (Some j) bound exact is e =
-    let w = subst (OfSome (λ i. Contains (jobs log) i × (is_done plan log i ≡ true))) is (worst_of plan log) in
+    let w = subst (OfSome (λ i. Contains (jobs log) i × (is_done plan log i ≡ true))) is (worst_stands plan log) in
     let c = done_certified plan log j bound exact w.0 w.1 in
     absurd (none-some c.0 (sym e ∙ c.1))
 
