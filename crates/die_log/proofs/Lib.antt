@@ -5,6 +5,7 @@ pub mod Known
 pub mod Collecting
 pub mod Heads
 pub mod Numbered
+pub mod Runs
 pub mod AccountsPlan
 pub mod Cells
 pub mod Standing

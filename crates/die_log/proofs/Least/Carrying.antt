@@ -5,7 +5,6 @@ use Rattle.std.proofs.lemmas.Bool.{true≢false, cases_eq, ne_eqb, and_parts, an
 use Rattle.std.proofs.lemmas.Bool.Decides.{nat_tests}
 use Rattle.std.proofs.lemmas.List.{length-map, length_push, map-append}
 use Rattle.std.proofs.lemmas.List.Folds.{list_any-append}
-use Rattle.std.proofs.lemmas.Option.{slice_get_within, get_or_from_slice_get}
 use Rattle.slot_types.specs.declared.plans.DiePlan.{DiePlan}
 use Rattle.slot_types.specs.declared.acts.Act.{Act}
 use Rattle.slot_types.specs.declared.replies.Waived.{Waived}
@@ -21,7 +20,7 @@ use Rattle.die_log.specs.Work as status
 use Rattle.die_log.specs.Legal.{is_among, NothingWaits}
 use Rattle.die_log.specs.Standing.{AreNumbered}
 use Rattle.die_log.specs.Rows.{row_for, rows, carried_numbers}
-use Rattle.die_log.proofs.Standing.Longer.{act_own, act_other, acts_stay, acts_grow, number_at}
+use Rattle.die_log.proofs.Standing.Longer.{act_own, act_other, acts_stay, acts_grow, contained, number_at}
 use Rattle.die_log.proofs.Tokens.Waivers.{Waits}
 use Rattle.die_log.proofs.Tokens.Slots.{slot_entry}
 use Rattle.die_log.proofs.Least.Lookups.{rows_by, row_in, rows_rise, row_at}
@@ -88,9 +87,6 @@ known_of plan past ws k numbered h =
 undone_of : (b : Bool) (n : ℕ) → is_some (cond b (Some n) None) ≡ false → b ≡ false
 undone_of true n h = absurd (true≢false h)
 undone_of false n h = refl
-
-contained : (js : List Job) (k : ℕ) (i : Job) → slice_get js k ≡ Some i → Contains js i
-contained js k i e = (k, slice_get_within js k i e, get_or_from_slice_get js k i i e)
 
 -- a job that is passed over waits
 waits_then : (plan : DiePlan) (past : Log) (ws : List Waived) (k : ℕ) (f : IsOf plan past ws k) → AreNumbered 0 (jobs past)

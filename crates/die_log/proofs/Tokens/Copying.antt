@@ -47,10 +47,6 @@ program_away plan c page b o old some whole full e stands was =
 
 -- Acts of a collection
 
-pub block_known : (plan : DiePlan) (c : Cells) (buffer o : Option ℕ) (act : Act) → collect_act plan c buffer o ≡ Some act → (b : ℕ) × (o ≡ Some b)
-block_known plan c buffer None act e = absurd cc
-block_known plan c buffer (Some b) act e = (b, refl)
-
 abbrev copied_page : Act → ℕ
 copied_page (does.CopyProgram page) = page
 copied_page _ = 0
