@@ -6,6 +6,7 @@ pub mod Collecting
 pub mod Heads
 pub mod Numbered
 pub mod Runs
+pub mod Limits
 pub mod AccountsPlan
 pub mod Cells
 pub mod Standing

@@ -9,6 +9,7 @@ ghost use Rattle.die_log.specs.Log.{Log, Job, calls, jobs, acts, work};
 ghost use Rattle.die_log.specs.Work.{is_done, is_copy_program, worst, IsWorst};
 ghost use Rattle.die_log.specs.Answers.{IsExact};
 ghost use Rattle.die_log.specs.Legal.{IsLegal};
+ghost use Rattle.die_log.specs.Limits.{KeepsLimits};
 ghost use Rattle.die_log.specs.Standing.{Stands};
 ghost use Rattle.die_log.specs.Well.{IsWell};
 ghost use Rattle.die_log.specs.Rows.{rows, carried_numbers, certificate, IsCertified};
@@ -21,6 +22,12 @@ pub fn same_calls()
 /// What an exact log was at an earlier moment is an exact log.
 pub fn moments_are_exact()
     ensures { (plan : DiePlan) (later moment : Log) → IsExact plan (later ++ moment) → IsExact plan moment }
+{}
+
+/// An exact log keeps to the limits of its die: of slots, of jobs and collections, and in each of
+/// these. No block was erased more often than there were slots.
+pub fn exact_keeps_limits()
+    ensures { (plan : DiePlan) (log : Log) → IsExact plan log → KeepsLimits plan log }
 {}
 
 /// Exact logs of a plan within its bound are legal.

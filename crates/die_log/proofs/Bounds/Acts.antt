@@ -15,7 +15,7 @@ use Rattle.die_log.specs.Flash.{Cells, block_at, block_of_page, open_block, vali
 use Rattle.die_log.specs.Work.{is_erase, is_copy_program}
 use Rattle.die_log.specs.Answers.{buffer_after, is_placed_in, is_block}
 use Rattle.die_log.specs.Sound.{AreSound, IsFull, MayRead, MayProgram, MayEraseSlot}
-use Rattle.die_log.specs.Agreement.{reserve_full}
+use Rattle.die_log.specs.Held.{reserve_full}
 use Rattle.die_log.proofs.Cells.Collections.{last_push, is_block_says}
 use Rattle.die_log.proofs.Cells.Steps.{open_is}
 use Rattle.die_log.proofs.Standing.Quiet.{runs_with, runs_says}

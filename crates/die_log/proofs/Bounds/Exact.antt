@@ -21,7 +21,7 @@ use Rattle.die_log.specs.Accounts.{accounts, after_waivers}
 use Rattle.die_log.specs.Answers.{IsExact, accepted, choice, is_waivable, slot_reply, reply_with, act_for}
 use Rattle.die_log.specs.Legal.{written_since, FindsFree}
 use Rattle.die_log.specs.Sound.{MayDo}
-use Rattle.die_log.specs.Agreement.{reserve_full}
+use Rattle.die_log.specs.Held.{reserve_full}
 use Rattle.die_log.proofs.Legality.{entry, exact_induction}
 use Rattle.die_log.proofs.Collecting.{no_acts}
 use Rattle.die_log.proofs.Choices.{OfSome}

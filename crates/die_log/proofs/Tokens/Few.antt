@@ -16,7 +16,7 @@ use Rattle.die_log.specs.Log.{Log, Job, job_at, acts, act_of, is_waived, work}
 use Rattle.die_log.specs.Flash.{Cells, cells, valid, valid_pages, block_at}
 use Rattle.die_log.specs.Work.{are_all, is_ready, is_copy_program, victim_of, shown_by, block_shown}
 use Rattle.die_log.specs.Accounts.{accounts, after_waivers}
-use Rattle.die_log.specs.Agreement.{reserve_full}
+use Rattle.die_log.specs.Held.{reserve_full}
 use Rattle.die_log.specs.Answers.{act_for, act_of_op, collect_act, read_or_erase, is_waivable, block_for, buffer_after, victim}
 use Rattle.die_log.specs.Legal.{is_among}
 use Rattle.die_log.specs.Well.{FewCopies}

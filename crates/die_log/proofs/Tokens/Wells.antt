@@ -14,7 +14,7 @@ use Rattle.die_log.specs.Log.{Log, Job, jobs, job_at, now, acts, waived, is_waiv
 use Rattle.die_log.specs.Flash.{cells, valid}
 use Rattle.die_log.specs.Work.{is_copy_program, victim_of, shown_by, is_ready}
 use Rattle.die_log.specs.Accounts.{accounts, after_waivers}
-use Rattle.die_log.specs.Agreement.{reserve_full}
+use Rattle.die_log.specs.Held.{reserve_full}
 use Rattle.die_log.specs.Answers.{IsExact, accepted, choice, slot_reply, reply_with, act_for, is_waivable}
 use Rattle.die_log.specs.Legal.{AreWaivers, is_among}
 use Rattle.die_log.proofs.Legality.{entry}
