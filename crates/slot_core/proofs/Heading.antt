@@ -43,11 +43,11 @@ slice_get-mapped {X = X} {Y = Y} f xs n y at = by_found (slice_get xs n) refl
 
 -- Open and ready ones
 
-abbrev is_some_waiver : Option Waived → Bool
+abbrev pub is_some_waiver : Option Waived → Bool
 is_some_waiver None = false
 is_some_waiver (Some w) = true
 
-waiver_is : (n : ℕ) (ws : List Waived) → is_some_waiver (waiver_among n ws) ≡ is_among n ws
+pub waiver_is : (n : ℕ) (ws : List Waived) → is_some_waiver (waiver_among n ws) ≡ is_among n ws
 waiver_is n [] = refl
 waiver_is n (w ∷ ws) = by_case (w.number == n) (waiver_is n ws)
   where
@@ -67,7 +67,7 @@ open_is plan past ws j =
     open_by (waiver_among j.number ws) (is_done plan past j) (completion j.number past) (given plan j.number past)
     ∙ ap (λ b. not (is_done plan past j) && not b) (waiver_is j.number ws)
 
-among_both : (n : ℕ) (xs ys : List Waived) → is_among n (xs ++ ys) ≡ (is_among n xs || is_among n ys)
+pub among_both : (n : ℕ) (xs ys : List Waived) → is_among n (xs ++ ys) ≡ (is_among n xs || is_among n ys)
 among_both n [] ys = refl
 among_both n (x ∷ xs) ys = by_case (x.number == n) (among_both n xs ys)
   where

@@ -26,7 +26,7 @@ use Rattle.plan_rules.specs.Accounts as moves
 use Rattle.flash_die.specs.Flash as device
 use Rattle.flash_volume.specs.State.{State, fresh_volume}
 use Rattle.late_cert.specs.Schedule.{Slots}
-use Rattle.job_table.specs.Jobs.{JobRecord, new_job, new_collection}
+use Rattle.job_table.specs.Jobs.{JobRecord, new_job}
 use Rattle.job_table.specs.Table.{Table, empty_table, with_job, changed_at, with_change}
 use Rattle.job_table.specs.Order as table
 use Rattle.die_log.specs.Log.{Log, Job, Carried, jobs, job_at, carried, acts, waived, now}
@@ -37,14 +37,15 @@ use Rattle.die_log.specs.Standing.{AreNumbered, Stands}
 use Rattle.die_log.specs.Rows.{carried_numbers}
 use Rattle.die_log.proofs.Legality.{entry, accepted_answer, none_stands}
 use Rattle.die_log.proofs.Legal.Exact.{stands_well}
+use Rattle.die_log.proofs.Known.{all_append}
 use Rattle.slot_core.specs.Records.{record_with, records, waiver_among}
 use Rattle.slot_core.specs.Device.{IsFlashOf}
 use Rattle.slot_core.specs.Kept.{Keeps}
 use Rattle.slot_core.specs.Core.{with_entry}
 use Rattle.slot_core.proofs.Choosing.{GoesOn, unwaived, starts, begins, ends}
-use Rattle.slot_core.proofs.Recording.{records-submit, records-collect, records-idle, records-act, slot_of, acted_reply, acted_record}
+use Rattle.slot_core.proofs.Recording.{records-submit, records-idle, records-act, slot_of, acted_reply, acted_record}
 use Rattle.slot_core.proofs.Heading.{head_least, nothing_least, table_at}
-use Rattle.slot_core.proofs.Flashing.{IsWaivedFlash, flash-submit, flash-collect, flash-idle, unwaived_flash, fresh_flash}
+use Rattle.slot_core.proofs.Flashing.{IsWaivedFlash, flash-submit, flash-idle, unwaived_flash, fresh_flash}
 
 -- Arrivals
 
@@ -67,26 +68,12 @@ keeps_submit plan log present t slots tokens pages places blocks caller task rel
   ended_is = k.ended_is;
   jobs_are = ap (λ js. js ++ new_job task release due ops ∷ []) k.jobs_are ∙ sym (records-submit plan log caller task release due ops k.exact some);
   slots_are = k.slots_are;
+  plain = all_append (λ j. j.collects ≡ false) (jobs log) _ k.plain (refl, tt);
   flash = λ alive. flash-submit plan log caller (length (jobs log)) task release due ops tokens pages places blocks (k.flash alive);
 }
   where
     some : 0 < length ops
     some = some_ops (length ops) ((none_stands (refusals plan log (events.Submit task release due ops)) none).1.0)
-
-pub keeps_collect : (plan : DiePlan) (log : Log) (present : ℕ) (t : Table) (slots : Slots) (tokens : Accounts) (pages : List PageData) (places : List (Option Place)) (blocks : List device.Block) (caller task release due : ℕ)
-    → Keeps plan log present t slots false tokens pages places blocks → refusal_of plan log (events.Collect task release due) ≡ None
-    → Keeps plan (entry caller (events.Collect task release due) (replies.Taken (length (jobs log))) ∷ log) present (with_job t (new_collection task release due)) slots false tokens pages places blocks
-keeps_collect plan log present t slots tokens pages places blocks caller task release due k none = record {
-  exact = (k.exact, sym (accepted_answer plan log (events.Collect task release due) none), tt);
-  bound = k.bound;
-  now_is = k.now_is;
-  tasks_are = k.tasks_are;
-  clock_by = k.clock_by;
-  ended_is = k.ended_is;
-  jobs_are = ap (λ js. js ++ new_collection task release due ∷ []) k.jobs_are ∙ sym (records-collect plan log caller task release due k.exact (k.bound.shape.some_slots));
-  slots_are = k.slots_are;
-  flash = λ alive. flash-collect plan log caller (length (jobs log)) task release due tokens pages places blocks (k.flash alive);
-}
 
 -- Slots
 
@@ -101,6 +88,7 @@ pub record InSlot (plan : DiePlan) (log : Log) (present : ℕ) (ws : List Waived
   pub running : t.ended ≡ false
   pub jobs_are : t.jobs ≡ map (record_with plan log (waived log ++ ws)) (jobs log)
   pub slots_are : slots ≡ carried_numbers log
+  pub plain : AllByRecursion (λ j. j.collects ≡ false) (jobs log)
   pub goes_on : GoesOn plan log ws tokens
   pub flash : IsWaivedFlash plan log ws tokens pages places blocks
 
@@ -125,6 +113,7 @@ slot_starts plan log present t slots tokens pages places blocks k few = record {
   running = k.ended_is;
   jobs_are = rw (append-nil (waived log)) k.jobs_are;
   slots_are = k.slots_are;
+  plain = k.plain;
   goes_on = subst (GoesOn plan log []) (sym (k.flash refl).accounts_are) (starts plan log);
   flash = unwaived_flash plan log tokens pages places blocks (k.flash refl);
 }
@@ -133,7 +122,7 @@ numbers_more : (log : Log) (c : Carried) (cs : List Carried) → map (λ (x : Ca
 numbers_more log c [] = refl
 numbers_more log c (x ∷ cs) = ap (λ ys. option_map (λ ran. ran.0) x ∷ ys) (numbers_more log c cs)
 
-abbrev idle_reply : ℕ → List Waived → SlotReply
+abbrev pub idle_reply : ℕ → List Waived → SlotReply
 idle_reply slot ws = record { slot = slot; waived = ws; ran = None; finished = None }
 
 -- nothing is ready: the slot is idle
@@ -159,6 +148,7 @@ slot_idles plan log present ws t slots tokens pages places blocks caller s nothi
       ended_is = s.running;
       jobs_are = s.jobs_are ∙ sym (records-idle plan log caller ws);
       slots_are = ap (λ ns. ns ++ None ∷ []) s.slots_are ∙ sym (numbers_more log None (carried log));
+      plain = s.plain;
       flash = λ alive. flash-idle plan log caller (now log) ws tokens pages places blocks s.flash;
     }
 
@@ -200,6 +190,7 @@ slot_acts plan log present ws t slots tokens pages places blocks caller j act ov
       ended_is = s.running;
       jobs_are = ap (λ (js : List JobRecord). changed_at js j.number change) s.jobs_are ∙ records-act plan log caller ws j act over change stands.numbered at changes;
       slots_are = ap (λ ns. ns ++ Some j.number ∷ []) s.slots_are ∙ sym (numbers_more log (Some (j.number, act)) (carried log));
+      plain = s.plain;
       flash = λ alive. flash;
     }
 
@@ -218,6 +209,7 @@ keeps_start blocks_of plan nand log t slots v bound fresh none table_is none_car
       ended_is = refl;
       jobs_are = refl;
       slots_are = refl;
+      plain = tt;
       flash = λ alive. subst (IsFlashOf plan [] (moves.opening plan) (replicate plan.logical device.blank) (replicate plan.logical None)) (sym fresh) (fresh_flash plan);
     }))))
 

@@ -26,6 +26,7 @@ use Rattle.die_log.specs.Standing.{AreNumbered}
 use Rattle.die_log.proofs.Legality.{entry}
 use Rattle.die_log.proofs.Standing.Longer.{acts_stay, acts_grow, act_own, number_at}
 use Rattle.die_log.proofs.Known.{known, AreKnown, CarriedBelow, WaivedBelow}
+use Rattle.slot_core.specs.Turns.{after_read}
 use Rattle.slot_core.specs.Records.{record_from, record_with, records, waiver_among, stage_by, gift_by, gift_of, given, reads_of, bytes_read}
 
 map_push : {X Y : Type 0} (f : X → Y) (xs : List X) (x : X) → map f (xs ++ x ∷ []) ≡ map f xs ++ f x ∷ []
@@ -156,11 +157,6 @@ records-act plan past caller ws j act ends change numbered at own =
         ∙ ap (λ g. record_from plan (acts i.number past) (completion i.number past) g (waived past ++ ws) i) (other_given i.number differs ends)))
 
 -- The one that acted
-
--- what a read gave goes to the reads
-abbrev pub after_read : Act → JobRecord → JobRecord
-after_read (does.Read page bytes) r = with_read bytes r
-after_read _ r = r
 
 abbrev pub stage_after : Bool → ℕ → ℕ → Stage
 stage_after ends completion given = stage_by None ends completion given

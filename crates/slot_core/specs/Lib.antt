@@ -4,3 +4,4 @@ pub mod Device
 pub mod Kept
 pub mod Acting
 pub mod Calls
+pub mod Turns

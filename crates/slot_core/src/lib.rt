@@ -5,5 +5,6 @@ pub mod admission;
 pub mod die_core;
 pub mod operations;
 pub mod slots;
+pub mod turns;
 
 pub use die_core::DieCore;
