@@ -6,6 +6,7 @@ use Rattle.slot_types.specs.declared.plans.DiePlan.{DiePlan}
 use Rattle.slot_types.specs.declared.limits.TheConstants.{MAX_SLOT}
 use Rattle.slot_types.specs.declared.acts.Act.{Act}
 use Rattle.slot_types.specs.declared.acts.Act.TheVariants as does
+use Rattle.slot_types.specs.declared.refusals.Refusal.TheVariants.{ClockEnd}
 use Rattle.slot_types.specs.declared.events.Op.{Op}
 use Rattle.slot_types.specs.declared.events.Op.TheVariants as asks
 use Rattle.slot_types.specs.declared.events.Event.TheVariants as events
@@ -25,9 +26,9 @@ use Rattle.job_table.specs.Order as table
 use Rattle.late_cert.specs.Schedule.{Slots}
 use Rattle.die_log.specs.Log.{Log, Job, jobs, job_at, acts, waived, is_waived, now}
 use Rattle.die_log.specs.Work.{is_ready, is_done, are_all}
-use Rattle.die_log.specs.Answers.{answer, accepted, refusal_of, act_for, is_waivable}
+use Rattle.die_log.specs.Answers.{answer, accepted, IsAccepted, refusal_of, act_for, is_waivable}
 use Rattle.die_log.specs.Legal.{is_among}
-use Rattle.die_log.proofs.Legality.{accepted_answer}
+use Rattle.die_log.proofs.Legality.{accepted_answer, refused_answer}
 use Rattle.die_log.proofs.Standing.Kept.{waiting_undone}
 use Rattle.slot_core.specs.Core.{with_entry}
 use Rattle.slot_core.specs.Kept.{Keeps}
@@ -242,3 +243,14 @@ turn_exists blocks_of log present n t u slots v k alive few table_is head next =
 pub read_asked : {N : Type 0} (blocks_of : N → List device.Block) (v : State N) (op : Op) (act : Act) → act ≡ act_by (flash_of blocks_of v) op → is_read_act act ≡ true → is_read op ≡ true
 read_asked blocks_of v (asks.Read page) act is h = refl
 read_asked blocks_of v (asks.Write page bytes) act is h = sym (ap is_read_act is) ∙ h
+
+-- What a slot is refused with
+
+at_clock : (m n : ℕ) → m ≤ n → nat_le m n ≡ true
+at_clock m n h = grind (arith, nat_tests)
+
+pub slot_refused : (plan : DiePlan) (log : Log) (present : ℕ) → present ≡ now log → MAX_SLOT ≤ present → answer plan log events.Slot ≡ replies.Refused ClockEnd
+slot_refused plan log present is past = refused_answer plan log events.Slot ClockEnd (rw (at_clock MAX_SLOT (now log) (subst (λ (n : ℕ). MAX_SLOT ≤ n) is past)) refl)
+
+pub slot_accepts : (plan : DiePlan) (log : Log) (present : ℕ) → present ≡ now log → present < MAX_SLOT → IsAccepted (answer plan log events.Slot)
+slot_accepts plan log present is few = subst IsAccepted (sym (accepted_answer plan log events.Slot (slot_unrefused plan log present is few))) tt

@@ -5,9 +5,12 @@ ghost use Rattle.job_table.specs.Order.{IsHead};
 ghost use Rattle.job_table.specs.Table.{work_at, reads_left};
 ghost use Rattle.die_log.specs.Answers.{answer, IsAccepted, accepted, refusal_of};
 ghost use Rattle.slot_core.specs.Core.{with_entry};
+ghost use Rattle.slot_core.specs.Calls.{RefusedBy};
 ghost use Rattle.slot_core.specs.Kept.{Keeps};
 ghost use Rattle.slot_core.specs.Turns.{next_in, is_read_act, after_turn};
 
+use crate::admission::reserve_entry;
+use crate::die_core::DieCore;
 use crate::operations::operate;
 use crate::turns::Turn;
 use flash_die::Nand;
@@ -168,6 +171,67 @@ fn carry_out<N: Nand>(
             Ok(note_act(
                 alloc, carried, entries, caller, present, number, act, turn.last,
             ))
+        }
+    }
+}
+
+/// Makes room in the log and beside it for one more slot.
+fn reserve_slot(carried: &mut Carried, entries: &mut Vec<Entry>) -> Result<(), Refusal>
+    ensures entry { OnOk result (vec_len entries.new < vec_capacity entries.new) }
+    ensures slot { OnOk result (0 < carried.new.room) }
+    ensures refused { IfErr result (λ refusal. refusal ≡ Refusal.NoMemory) }
+    ensures items { entries.new.items ≡ entries.old.items }
+    ensures slots { carried.new.slots ≡ carried.old.slots }
+{
+    reserve_entry(entries)?;
+    carried.reserve(1)?;
+    Ok(())
+}
+
+impl<N: Nand> DieCore<N> {
+    /// Carries out the present slot: the job that is released, not done, and has the earliest due (of equal ones the
+    /// smallest number) does its next operation; without one the slot is idle.
+    ///
+    /// The refusals, in this order: `DieStopped`, where a fault has stopped the die; `ClockEnd`, where the present slot is
+    /// 1,048,576; `NoMemory`; these change nothing. `DeviceFault`, exactly where a call of the device failed: the die is
+    /// stopped from then on, and its log stays.
+    pub fn slot(&mut self, alloc: Global, caller: u32) -> Result<SlotReply, Refusal>
+        ensures stopped { (result ≡ Err Refusal.DieStopped) ↔ (self.old.stopped ≡ true) }
+        ensures answered { IfOk result (λ reply. answer self.old.plan self.old.log Event.Slot ≡ Reply.Slot reply) }
+        ensures logged { IfOk result (λ reply. self.new.log ≡ with_entry caller Event.Slot (Reply.Slot reply) self.old.log) }
+        ensures runs { OnOk result (self.new.stopped ≡ false) }
+        ensures plan { self.new.plan ≡ self.old.plan }
+        ensures refused { self.old.stopped ≡ false → IfErr result (λ refusal. RefusedBy self.old.plan self.old.log Event.Slot refusal ⊎ (IsAccepted (answer self.old.plan self.old.log Event.Slot) × (refusal ≡ Refusal.DeviceFault))) }
+        ensures fault { (result ≡ Err Refusal.DeviceFault) ↔ (N.failures self.new.device ≡ N.failures self.old.device + 1) }
+        ensures stops { result ≡ Err Refusal.DeviceFault → self.new.stopped ≡ true }
+        ensures log_stays { OnErr result (self.new.log ≡ self.old.log) }
+        ensures unchanged { IfErr result (λ refusal. (refusal ≡ Refusal.DeviceFault → ⊥) → self.new ≡ self.old) }
+        ensures never { N.never_fails ≡ true → result ≡ Err Refusal.DeviceFault → ⊥ }
+    {
+        if self.volume.failed() {
+            return Err(Refusal::DieStopped);
+        }
+        if self.present >= MAX_SLOT {
+            return Err(Refusal::ClockEnd);
+        }
+        match reserve_slot(&mut self.carried, &mut self.entries) {
+            Ok(()) => {}
+            Err(refusal) => return Err(refusal),
+        }
+        match carry_out(
+            alloc,
+            &mut self.volume,
+            &mut self.table,
+            &mut self.carried,
+            &mut self.entries,
+            caller,
+            self.present,
+        ) {
+            Err(refusal) => Err(refusal),
+            Ok(reply) => {
+                self.present += 1;
+                Ok(reply)
+            }
         }
     }
 }
