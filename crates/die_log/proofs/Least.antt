@@ -5,3 +5,5 @@ pub mod Taking
 pub mod Waiving
 pub mod Carrying
 pub mod Exact
+pub mod Worst
+pub mod Certificates

@@ -5,11 +5,14 @@ pub mod Known
 pub mod Collecting
 pub mod Heads
 pub mod Numbered
+pub mod Runs
+pub mod Limits
 pub mod AccountsPlan
 pub mod Cells
 pub mod Standing
 pub mod Legal
 pub mod Tokens
 pub mod Least
+pub mod Bounds
 mod Worked
 mod Wrong

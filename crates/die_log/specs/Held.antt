@@ -1,13 +1,13 @@
--- What the jobs of each task are held, and what its collector is lent: counted over the log, with no account in it.
-use Rattle.std.specs.Prelude.{◌≡◌, ℕ, ◌<◌, ◌≤◌, ◌==◌, ◌&&◌, not, Bool, true, if◌then◌else◌, List, [], length, drop, sum_by, count_by}
+-- What the jobs of each task are held, and what its collector is lent, counted over the log with no account in it; and accounts that agree with it.
+use Rattle.std.specs.Prelude.{◌≡◌, ℕ, ◌<◌, ◌≤◌, ◌==◌, ◌&&◌, not, Bool, true, if◌then◌else◌, List, [], length, drop, sum_by, count_by, ◌+◌, ◌-◌, sum, slice_index}
 use Rattle.std.specs.List.{AllByRecursion}
 use Rattle.slot_types.specs.declared.plans.DiePlan.{DiePlan}
 use Rattle.slot_types.specs.declared.acts.Act.{Act}
+use Rattle.plan_rules.specs.Accounts.{Accounts}
 use Rattle.die_log.specs.Log.{Log, Job, jobs, acts, is_waived}
 use Rattle.die_log.specs.Flash.{free}
 use Rattle.die_log.specs.Work.{are_all, is_copy_program, writes, owed}
 use Rattle.die_log.specs.Accounts.{accounts}
-use Rattle.die_log.specs.Agreement.{Agree}
 
 -- so much at this task, and nothing at others
 abbrev pub at_task : ℕ → ℕ → ℕ → ℕ
@@ -40,6 +40,24 @@ lent_to plan own gone js task = sum_by (λ j. at_task j.task (lent_of plan own g
 
 abbrev pub open_of : DiePlan → (ℕ → List Act) → (ℕ → Bool) → List Job → ℕ → ℕ
 open_of plan own gone js task = count_by (λ j. (j.task == task) && is_open plan own gone j) js
+
+-- Accounts
+
+-- what a collector's reserve is when it lent nothing
+abbrev pub reserve_full : DiePlan → ℕ
+reserve_full plan = plan.shape.pages - plan.alpha
+
+-- accounts, where each task is held so much, and its collector lent so much; so much is owed in all, and so much is free
+pub record Agree (plan : DiePlan) (a : Accounts) (held lent : ℕ → ℕ) (owed free : ℕ) : Type 0 where
+  pub plan_is : a.plan ≡ plan
+  pub balances_len : length a.balances ≡ length plan.caps
+  pub holds_len : length a.holds ≡ length plan.caps
+  pub reserves_len : length a.reserves ≡ length plan.caps
+  pub owned : (task : ℕ) → slice_index a.balances task + slice_index a.holds task ≤ slice_index plan.caps task
+  pub holds_are : (task : ℕ) → task < length plan.caps → slice_index a.holds task ≡ held task
+  pub reserves_are : (task : ℕ) → task < length plan.caps → slice_index a.reserves task + lent task ≡ reserve_full plan
+  pub owed_is : sum a.holds ≡ owed
+  pub total_is : a.spare + sum a.balances + sum a.holds + sum a.reserves ≡ free
 
 -- a task of the plan, and no operations where it is a collection
 pub record IsTaken (plan : DiePlan) (j : Job) : Type 0 where

@@ -5,7 +5,7 @@ use Rattle.die_log.specs.Log.{Log, Job, job_at, acts, is_waived}
 use Rattle.die_log.specs.Flash.{cells, valid}
 use Rattle.die_log.specs.Work.{victim_of}
 use Rattle.die_log.specs.Legal.{IsLegal}
-use Rattle.die_log.specs.Agreement.{reserve_full}
+use Rattle.die_log.specs.Held.{reserve_full}
 use Rattle.die_log.specs.Held.{is_open, copied_of, AreTrue}
 
 -- what an open collection copied, and the pages still placed in its block, fit its collector's reserve

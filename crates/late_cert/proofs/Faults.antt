@@ -8,7 +8,7 @@ use Rattle.late_cert.specs.declared.verdicts.Verdict.TheVariants.{Holds, Unknown
 use Rattle.late_cert.specs.Rows.{row_of, number_in, is_done_in, work_of}
 use Rattle.late_cert.specs.Bound.{is_listed, IsCertificate}
 use Rattle.late_cert.specs.Check.{is_rising, fault_of, or_else, first_fault, last_verdict, verdict_of}
-use Rattle.late_cert.proofs.Find.{true-rising, rising-true}
+use Rattle.late_cert.proofs.RowSearch.{true-rising, rising-true}
 
 -- what a row without a fault says
 pub record IsFaultless (start due : ℕ) (o : Option JobRow) : Type 0 where

@@ -10,7 +10,7 @@ use Rattle.late_cert.specs.Rows.{is_done, release_of, due_of, work_of, completio
 use Rattle.late_cert.specs.Bound.{is_listed, IsCertificate}
 use Rattle.late_cert.specs.Stretch.{is_within, IsStretch, CarriesLeastKeys, start_of, jobs_of, done_slot, IsLeastLate}
 use Rattle.late_cert.proofs.Counting.{slot-below-end, slot-at-end, count-le-end, is_one_of, some-named, count-jobs, sum-same}
-use Rattle.late_cert.proofs.Lower.{listed-at, binds}
+use Rattle.late_cert.proofs.Binds.{listed-at, binds}
 use Rattle.late_cert.proofs.Keys.{KeyAtMost, within-true, true-within, key-trans, key-same, key-refl, done-known, named-some}
 use Rattle.late_cert.proofs.Window.{count-window, stretch-is}
 

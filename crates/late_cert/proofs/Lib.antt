@@ -1,10 +1,10 @@
 pub mod Counting
-pub mod Lower
-pub mod Find
+pub mod Binds
+pub mod RowSearch
 pub mod Faults
 pub mod Marks
 pub mod Keys
 pub mod Window
 pub mod Least
-pub mod Own
+pub mod OneStretch
 pub mod Moments

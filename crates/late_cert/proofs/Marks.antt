@@ -8,7 +8,7 @@ use Rattle.late_cert.specs.Schedule.{Slots, slot_at, is_named}
 use Rattle.late_cert.specs.Rows.{RowsRise, IsNamedAt, row_of}
 use Rattle.late_cert.specs.Stretch.{is_carried}
 use Rattle.late_cert.specs.Build.{AreMarks}
-use Rattle.late_cert.proofs.Find.{rows-rise-lt, map-length, map-get}
+use Rattle.late_cert.proofs.RowSearch.{rows-rise-lt, map-length, map-get}
 
 -- one slot more
 pub carried-more : (c : Slots) (s n k : ℕ) (o : Option ℕ) → slot_at c n ≡ o → s ≤ n

@@ -11,7 +11,7 @@ use Rattle.late_cert.specs.Moments.{AcceptsJob, WaivesJob, CarriesSlot}
 use Rattle.late_cert.proofs.Counting.{some-named}
 use Rattle.late_cert.proofs.Keys.{KeyAtMost, within-true, true-within, done-known, named-some}
 use Rattle.late_cert.proofs.Least.{at-length}
-use Rattle.late_cert.proofs.Lower.{end-le-length}
+use Rattle.late_cert.proofs.Binds.{end-le-length}
 
 -- the slots with one more
 pub slot-before : (c : Slots) (o : Option ℕ) (t : ℕ) → t < length c → slot_at (c ++ o ∷ []) t ≡ slot_at c t

@@ -1,5 +1,5 @@
 -- What a certificate is, and what it says of every schedule.
-use Rattle.std.specs.Prelude.{◌≡◌, ℕ, ◌+◌, ◌<◌, ◌≤◌, Bool, true, false, eqb, ◌||◌, List, [], ◌∷◌, length, Some, sum_by, ◌≤ℤ◌}
+use Rattle.std.specs.Prelude.{◌≡◌, ℕ, ◌+◌, ◌<◌, ◌≤◌, Bool, true, false, ◌==◌, ◌||◌, List, [], ◌∷◌, length, Some, sum_by, ◌≤ℤ◌}
 use Rattle.std.specs.List.Sorted.{IsStrictlyIncreasing}
 use Rattle.late_cert.specs.declared.rows.JobRow.{JobRow}
 use Rattle.late_cert.specs.Schedule.{Slots, slot_at, work_in, completion_in, lateness_of}
@@ -8,7 +8,7 @@ use Rattle.late_cert.specs.Rows.{is_done, release_of, due_of, work_of}
 -- the number stands in the list
 abbrev pub is_listed : List ℕ → ℕ → Bool
 is_listed [] k = false
-is_listed (j ∷ js) k = eqb j k || is_listed js k
+is_listed (j ∷ js) k = (j == k) || is_listed js k
 
 -- a listed job is done, took a slot at least, was released in the stretch and is due with it
 pub record IsInStretch (rows : List JobRow) (start due j : ℕ) : Type 0 where
@@ -33,4 +33,5 @@ pub record Serves (rows : List JobRow) (jobs : ℕ → Bool) (f : Slots) : Type 
 abbrev pub BindsEverySchedule : List JobRow → ℕ → ℕ → List ℕ → Type 0
 BindsEverySchedule rows due completion jobs =
     (f : Slots) → Serves rows (is_listed jobs) f
-    → (j : ℕ) × (is_listed jobs j ≡ true) × (lateness_of completion due ≤ℤ lateness_of (completion_in f j) (due_of rows j))
+    → (j : ℕ) × (is_listed jobs j ≡ true)
+    × (lateness_of completion due ≤ℤ lateness_of (completion_in f j) (due_of rows j))

@@ -1,5 +1,5 @@
 -- The certificate of a done job, by its stretch.
-use Rattle.std.specs.Prelude.{◌≡◌, ℕ, ◌<◌, length, slice_index_or, Bool, true, false, cond, List, Option, Some, None}
+use Rattle.std.specs.Prelude.{◌≡◌, ℕ, ◌<◌, length, slice_index_or, Bool, true, false, if◌then◌else◌, List, Option, Some, None}
 use Rattle.late_cert.specs.declared.rows.JobRow.{JobRow}
 use Rattle.late_cert.specs.declared.certificates.Certificate.{Certificate}
 use Rattle.late_cert.specs.declared.verdicts.Verdict.{Verdict}
@@ -17,15 +17,16 @@ stretch_of rows carried j =
     let start = start_of rows carried j completion in
     record { job = j; start = start; due = due_of rows j; completion = completion; jobs = jobs_of rows carried start completion }
 
+-- the verdict on a certificate
 abbrev pub verdict_on : List JobRow → Certificate → Verdict
 verdict_on rows c = verdict_of rows c.start c.due c.completion c.jobs
 
 -- the certificate of a job: none where it is not done, or where its stretch is no certificate
 abbrev pub certificate_of : List JobRow → Slots → ℕ → Option Certificate
 certificate_of rows carried j =
-    cond (is_done rows j)
-    (cond (is_holds (verdict_on rows (stretch_of rows carried j))) (Some (stretch_of rows carried j)) None)
-    None
+    if is_done rows j
+    then (if is_holds (verdict_on rows (stretch_of rows carried j)) then Some (stretch_of rows carried j) else None)
+    else None
 
 -- a certificate of the job's stretch
 pub record IsOwn (rows : List JobRow) (carried : Slots) (j : ℕ) (c : Certificate) : Type 0 where
@@ -44,4 +45,4 @@ pub record AreMarks (rows : List JobRow) (slots : Slots) (start n : ℕ) (marks 
 
 -- the stretch of a job, where it is done
 abbrev pub stretch_if_done : List JobRow → Slots → ℕ → Option Certificate
-stretch_if_done rows carried j = cond (is_done rows j) (Some (stretch_of rows carried j)) None
+stretch_if_done rows carried j = if is_done rows j then Some (stretch_of rows carried j) else None

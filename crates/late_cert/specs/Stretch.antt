@@ -1,5 +1,5 @@
 -- The stretch of slots before a completion that carried no greater key, and what makes its jobs a certificate.
-use Rattle.std.specs.Prelude.{◌≡◌, ℕ, zero, suc, ◌<◌, ◌≤◌, Bool, true, false, cond, eqb, ltb, leb, ◌&&◌, ◌||◌, ◌↔◌, List, length, map, Option, Some, None, filter, ◌≤ℤ◌}
+use Rattle.std.specs.Prelude.{◌≡◌, ℕ, zero, suc, ◌<◌, ◌≤◌, Bool, true, false, if◌then◌else◌, ◌==◌, nat_lt, nat_le, ◌&&◌, ◌||◌, ◌↔◌, List, length, map, Option, Some, None, filter, ◌≤ℤ◌}
 use Rattle.std.specs.List.Sorted.{IsStrictlyIncreasing}
 use Rattle.late_cert.specs.declared.rows.JobRow.{JobRow}
 use Rattle.late_cert.specs.Schedule.{Slots, slot_at, is_named, work_in, completion_in, lateness_of}
@@ -8,7 +8,7 @@ use Rattle.late_cert.specs.Bound.{is_listed, Serves}
 
 -- the key (due, number) is not above the other; the smaller key goes first
 abbrev pub key_at_most : ℕ → ℕ → ℕ → ℕ → Bool
-key_at_most due j due' k = ltb due due' || (eqb due due' && leb j k)
+key_at_most due j due' k = nat_lt due due' || ((due == due') && nat_le j k)
 
 -- the slot carries a number with a row, whose key is not above that of j
 abbrev pub is_within : List JobRow → ℕ → Option ℕ → Bool
@@ -41,12 +41,12 @@ pub record CarriesLeastKeys (rows : List JobRow) (carried : Slots) : Type 0 wher
 -- the start of the stretch of j that ends below n
 abbrev pub start_of : List JobRow → Slots → ℕ → ℕ → ℕ
 start_of rows carried j zero = 0
-start_of rows carried j (suc n) = cond (is_within rows j (slot_at carried n)) (start_of rows carried j n) (suc n)
+start_of rows carried j (suc n) = if is_within rows j (slot_at carried n) then start_of rows carried j n else suc n
 
 -- some slot from start on, below n, carries k
 abbrev pub is_carried : Slots → ℕ → ℕ → ℕ → Bool
 is_carried carried start zero k = false
-is_carried carried start (suc n) k = (leb start n && is_named k (slot_at carried n)) || is_carried carried start n k
+is_carried carried start (suc n) k = (nat_le start n && is_named k (slot_at carried n)) || is_carried carried start n k
 
 -- the numbers carried there, rising where the rows do
 abbrev pub jobs_of : List JobRow → Slots → ℕ → ℕ → List ℕ
@@ -55,7 +55,7 @@ jobs_of rows carried start n = filter (is_carried carried start n) (map (λ (row
 -- a slot without what it carries, where that is not done
 abbrev pub done_slot : List JobRow → Option ℕ → Option ℕ
 done_slot rows None = None
-done_slot rows (Some j) = cond (is_done rows j) (Some j) None
+done_slot rows (Some j) = if is_done rows j then Some j else None
 
 -- what was carried, cut to the done jobs, serves them, and no schedule that serves them has a smaller greatest
 -- lateness: for each done job it completes one at least as late

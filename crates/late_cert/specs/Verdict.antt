@@ -14,9 +14,11 @@ fault_number EarlyRelease = Some 5
 fault_number LateDue = Some 6
 fault_number WrongSum = Some 7
 
+-- a verdict that tells no fault
 abbrev pub is_holds : Verdict → Bool
 is_holds verdict = is_none (fault_number verdict)
 
+-- the name of the verdict
 abbrev pub name_of : Verdict → List ℕ
 name_of Holds = codes "Holds"
 name_of Empty = codes "Empty"

@@ -19,9 +19,9 @@ use std::alloc::{AllocError, Global};
 /// The certificate of a done job. Its slots are the longest stretch up to the job's completion in which each
 /// carries a job with a row and a key (due, number) that isn't above the job's own; its jobs are those carried.
 ///
-/// There is none where the job has no row or isn't done, and where the stretch makes no certificate that
-/// [`check`](crate::check) holds: as with rows and slots that no run had, or slots that passed over a lesser key.
-/// Where each slot carried the least key, every done job has one (see [`crate::laws`]).
+/// There is none where the job has no row or isn't done, and where [`check`](crate::check) finds a fault in what
+/// the stretch makes: as with rows and slots that no run had, or slots that passed over a lesser key. Where each
+/// slot carried the least key, every done job has one (see [`crate::laws`]).
 ///
 /// The rows rise by number, which [`rows_rise`](crate::rows_rise) tells. The only refusal is for want of memory.
 pub fn build(

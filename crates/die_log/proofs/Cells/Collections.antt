@@ -60,7 +60,7 @@ other_step plan (does.Erase a) c d own fresh b k differs w =
 
 -- Own acts
 
-last_push : (o : Option Act) (xs : List Act) (x : Act) → last_or o (xs ++ x ∷ []) ≡ Some x
+pub last_push : (o : Option Act) (xs : List Act) (x : Act) → last_or o (xs ++ x ∷ []) ≡ Some x
 last_push o [] x = refl
 last_push o (y ∷ xs) x = last_push (Some y) xs x
 
@@ -156,7 +156,7 @@ buffered (Some (does.CopyRead p)) page e = cc
 buffered (Some (does.CopyProgram p)) page e = absurd cc
 buffered (Some (does.Erase a)) page e = absurd cc
 
-is_block_says : (b : ℕ) (o : Option ℕ) → is_block b o ≡ true → o ≡ Some b
+pub is_block_says : (b : ℕ) (o : Option ℕ) → is_block b o ≡ true → o ≡ Some b
 is_block_says b None h = absurd cc
 is_block_says b (Some v) h = ap Some (eqb-true v b h)
 

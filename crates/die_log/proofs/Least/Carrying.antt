@@ -1,36 +1,30 @@
 -- A slot carries the least key of those that then wait, and changes one row.
-use Rattle.std.proofs.Common.{◌≡◌, ◌⊎◌, ℕ, ◌+◌, ◌≤◌, ◌==◌, ◌||◌, ◌&&◌, nat_lt, nat_le, not, Bool, true, false, cond, eqb, List, [], ◌∷◌, ◌++◌, length, map, Option, Some, None, is_some, unwrap_or, option_map, refl, ap, sym, subst, ◌∙◌, inl, inr, arith, slice_get}
+use Rattle.std.proofs.Common.{◌≡◌, ℕ, ◌+◌, ◌≤◌, ◌==◌, ◌||◌, ◌&&◌, nat_lt, nat_le, not, Bool, true, false, cond, List, [], ◌∷◌, ◌++◌, length, map, Option, Some, None, is_some, unwrap_or, option_map, refl, ap, sym, subst, ◌∙◌, inl, inr, arith, slice_get}
 use Rattle.std.specs.Prelude.{Contains}
-use Rattle.std.specs.List.{AllByRecursion}
-use Rattle.std.proofs.lemmas.Bool.{true≢false, cases_eq, eq-eqb, ne_eqb, and_parts, and_from, not-true, not_from_false, leb-true, le-leb, or_parts}
+use Rattle.std.proofs.lemmas.Bool.{true≢false, cases_eq, ne_eqb, and_parts, and_from, not-true, not_from_false, leb-true, le-leb, or_parts}
 use Rattle.std.proofs.lemmas.Bool.Decides.{nat_tests}
 use Rattle.std.proofs.lemmas.List.{length-map, length_push, map-append}
 use Rattle.std.proofs.lemmas.List.Folds.{list_any-append}
-use Rattle.std.proofs.lemmas.Option.{slice_get_within, get_or_from_slice_get, same_Some}
 use Rattle.slot_types.specs.declared.plans.DiePlan.{DiePlan}
 use Rattle.slot_types.specs.declared.acts.Act.{Act}
 use Rattle.slot_types.specs.declared.replies.Waived.{Waived}
 use Rattle.slot_types.specs.declared.replies.Entry.{Entry}
 use Rattle.late_cert.specs.declared.rows.JobRow.{JobRow}
-use Rattle.late_cert.specs.Schedule.{Slots, is_named}
 use Rattle.late_cert.specs.Rows.{row_of, number_in, is_done_in, is_known, is_done, release_of, due_of}
-use Rattle.late_cert.specs.Stretch.{is_within, key_at_most, CarriesLeastKeys}
+use Rattle.late_cert.specs.Stretch.{is_within, key_at_most}
 use Rattle.late_cert.specs.Moments.{CarriesSlot}
-use Rattle.late_cert.proofs.Moments.{slot-keeps}
-use Rattle.die_log.specs.Log.{Log, Job, Carried, jobs, carried, now, waived, act_of, acts, work, is_waived}
+use Rattle.die_log.specs.Log.{Log, Job, Carried, jobs, carried, now, waived, act_of, acts, is_waived}
 use Rattle.die_log.specs.Flash.{ran_by}
 use Rattle.die_log.specs.Work.{are_all, is_ready, goes_first, completion}
 use Rattle.die_log.specs.Work as status
-use Rattle.die_log.specs.Answers.{choice}
 use Rattle.die_log.specs.Legal.{is_among, NothingWaits}
 use Rattle.die_log.specs.Standing.{AreNumbered}
 use Rattle.die_log.specs.Rows.{row_for, rows, carried_numbers}
-use Rattle.die_log.proofs.Heads.{NotBefore}
-use Rattle.die_log.proofs.Standing.Longer.{act_own, act_other, acts_stay, acts_grow, number_at}
+use Rattle.die_log.proofs.Standing.Longer.{act_own, act_other, acts_stay, acts_grow, contained, number_at}
 use Rattle.die_log.proofs.Tokens.Waivers.{Waits}
 use Rattle.die_log.proofs.Tokens.Slots.{slot_entry}
 use Rattle.die_log.proofs.Least.Lookups.{rows_by, row_in, rows_rise, row_at}
-use Rattle.die_log.proofs.Least.Steps.{IsCarried, IsPassed, carries_by}
+use Rattle.die_log.proofs.Least.Steps.{IsCarried, carries_by}
 
 -- Rows before and after a slot
 
@@ -93,9 +87,6 @@ known_of plan past ws k numbered h =
 undone_of : (b : Bool) (n : ℕ) → is_some (cond b (Some n) None) ≡ false → b ≡ false
 undone_of true n h = absurd (true≢false h)
 undone_of false n h = refl
-
-contained : (js : List Job) (k : ℕ) (i : Job) → slice_get js k ≡ Some i → Contains js i
-contained js k i e = (k, slice_get_within js k i e, get_or_from_slice_get js k i i e)
 
 -- a job that is passed over waits
 waits_then : (plan : DiePlan) (past : Log) (ws : List Waived) (k : ℕ) (f : IsOf plan past ws k) → AreNumbered 0 (jobs past)

@@ -1,10 +1,9 @@
 -- Each slot of an exact log carried a least key; so at each moment its greatest lateness is least.
-use Rattle.std.proofs.Common.{◌≡◌, ℕ, ◌<◌, ◌≤◌, ◌==◌, Bool, true, false, cond, List, [], ◌∷◌, ◌++◌, length, Option, Some, None, MatchOption, option_map, refl, ap, sym, subst, ◌∙◌, inl, inr, ◌⊎◌, arith}
+use Rattle.std.proofs.Common.{◌≡◌, ℕ, ◌<◌, ◌==◌, true, false, List, ◌∷◌, ◌++◌, length, Option, Some, None, MatchOption, refl, sym, subst, ◌∙◌, inl, inr, arith}
 use Rattle.std.specs.Prelude.{Contains}
 use Rattle.std.specs.List.{AllByRecursion}
 use Rattle.std.proofs.lemmas.Bool.{true≢false, ne_eqb, eqb-false}
 use Rattle.std.proofs.lemmas.Option.{none-some}
-use Rattle.std.proofs.lemmas.List.Elements.{All-contains, All-from_recursion}
 use Rattle.slot_types.specs.declared.plans.DiePlan.{DiePlan}
 use Rattle.slot_types.specs.declared.acts.Act.{Act}
 use Rattle.slot_types.specs.declared.events.Op.{Op}
@@ -17,13 +16,13 @@ use Rattle.late_cert.specs.declared.rows.JobRow.{JobRow}
 use Rattle.late_cert.specs.Stretch.{CarriesLeastKeys, IsLeastLate}
 use Rattle.late_cert.proofs.Moments.{nothing-carried, slot-keeps}
 use Rattle.late_cert.proofs.Least.{least-late}
-use Rattle.die_log.specs.Log.{Log, Job, jobs, now, work, waived}
-use Rattle.die_log.specs.Work.{are_all, is_ready, ready, goes_first}
+use Rattle.die_log.specs.Log.{Log, Job, jobs, now, waived}
+use Rattle.die_log.specs.Work.{is_ready, goes_first}
 use Rattle.die_log.specs.Accounts.{accounts}
-use Rattle.die_log.specs.Answers.{IsExact, accepted, refusals, choice, slot_reply, reply_with, act_for, victim}
-use Rattle.die_log.specs.Legal.{is_among, NothingWaits}
-use Rattle.die_log.specs.Standing.{Stands}
+use Rattle.die_log.specs.Answers.{IsExact, accepted, refusals, choice, slot_reply, reply_with, act_for}
+use Rattle.die_log.specs.Legal.{is_among}
 use Rattle.die_log.specs.Rows.{rows, carried_numbers}
+use Rattle.die_log.proofs.Exact.{moment_exact}
 use Rattle.die_log.proofs.Legality.{entry, in_time, exact_induction}
 use Rattle.die_log.proofs.Choices.{OfSome}
 use Rattle.die_log.proofs.Heads.{IsPassed, NotBefore}
@@ -82,7 +81,7 @@ slot_keeps plan past caller bound h keys =
     slot_head plan past caller (choice plan past).head h (finds_victim plan past bound h) refl c.head (waits plan past).head
     (waivers_keep plan past (waived past) (choice plan past).waived (accounts plan past) (carried_numbers past) (has_slots plan bound) h.0.numbered c.waivers keys)
 
-no_operations : (ops : List Op) → (length ops == 0) ≡ false → (0 == length ops) ≡ false
+pub no_operations : (ops : List Op) → (length ops == 0) ≡ false → (0 == length ops) ≡ false
 no_operations ops h = ne_eqb 0 (length ops) (λ e. eqb-false (length ops) 0 h (sym e))
 
 -- an accepted event keeps least keys
@@ -100,5 +99,6 @@ pub least_keys : (plan : DiePlan) → MeetsBound plan → (log : Log) → IsExac
 least_keys plan bound =
     exact_induction plan (HasLeastKeys plan) nothing-carried (λ past caller event exact keys none. keeps_least plan past caller event bound exact (stands_well plan bound past exact) none keys)
 
-pub exact_least : (plan : DiePlan) → MeetsBound plan → (log : Log) → IsExact plan log → IsLeastLate (rows plan log) (carried_numbers log)
-exact_least plan bound log exact = least-late (rows plan log) (carried_numbers log) (least_keys plan bound log exact)
+-- and so is the lateness of what was done by any moment
+pub exact_least : (plan : DiePlan) → MeetsBound plan → (later moment : Log) → IsExact plan (later ++ moment) → IsLeastLate (rows plan moment) (carried_numbers moment)
+exact_least plan bound later moment exact = least-late (rows plan moment) (carried_numbers moment) (least_keys plan bound moment (moment_exact plan later moment exact))

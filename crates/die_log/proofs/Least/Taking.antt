@@ -1,14 +1,12 @@
 -- A job or collection that is taken brings a row, and no other row changes.
-use Rattle.std.proofs.Common.{◌≡◌, ◌⊎◌, ℕ, zero, suc, ◌+◌, ◌≤◌, Bool, true, false, cond, List, [], ◌∷◌, ◌++◌, length, Option, Some, None, refl, ap, sym, ◌∙◌, inl, inr, arith, slice_get, option_map}
+use Rattle.std.proofs.Common.{◌≡◌, ◌⊎◌, ℕ, ◌≤◌, Bool, false, cond, List, [], ◌∷◌, ◌++◌, length, Some, None, refl, ap, sym, ◌∙◌, inl, inr, arith, slice_get, option_map}
 use Rattle.std.proofs.lemmas.Bool.{cases_eq}
 use Rattle.std.proofs.lemmas.List.{length-map}
 use Rattle.std.proofs.lemmas.Option.{slice_get_past}
 use Rattle.slot_types.specs.declared.plans.DiePlan.{DiePlan}
 use Rattle.slot_types.specs.declared.acts.Act.{Act}
 use Rattle.late_cert.specs.declared.rows.JobRow.{JobRow}
-use Rattle.late_cert.specs.Rows.{row_of}
 use Rattle.late_cert.specs.Stretch.{CarriesLeastKeys}
-use Rattle.late_cert.specs.Moments.{AcceptsJob}
 use Rattle.late_cert.proofs.Moments.{accepts-keeps}
 use Rattle.die_log.specs.Log.{Log, Job, jobs, carried, now, acts, is_waived}
 use Rattle.die_log.specs.Work.{are_all, completion}
@@ -16,19 +14,9 @@ use Rattle.die_log.specs.Answers.{IsExact}
 use Rattle.die_log.specs.Standing.{AreNumbered}
 use Rattle.die_log.specs.Rows.{row_for, rows, carried_numbers}
 use Rattle.die_log.proofs.Collecting.{no_acts, not_waived}
-use Rattle.die_log.proofs.Standing.Longer.{numbered_push}
+use Rattle.die_log.proofs.Standing.Longer.{numbered_push, at_end, elsewhere}
 use Rattle.die_log.proofs.Least.Lookups.{rows_by, row_in, Named, rows_rise, row_at}
 use Rattle.die_log.proofs.Least.Steps.{IsNew, IsKept, accepts_by}
-
-at_end : {X : Type 0} (xs : List X) (x : X) → slice_get (xs ++ x ∷ []) (length xs) ≡ Some x
-at_end [] x = refl
-at_end (y ∷ xs) x = at_end xs x
-
-elsewhere : {X : Type 0} (xs : List X) (x : X) (k : ℕ) → (k ≡ length xs → ⊥) → slice_get (xs ++ x ∷ []) k ≡ slice_get xs k
-elsewhere [] x zero apart = absurd (apart refl)
-elsewhere [] x (suc k) apart = refl
-elsewhere (y ∷ xs) x zero apart = refl
-elsewhere (y ∷ xs) x (suc k) apart = elsewhere xs x k (λ e. apart (omega (arith, e)))
 
 -- a new number, which wasn't waived, at the end of the jobs
 adds_row : (row : Job → JobRow) (gone : ℕ → Bool) (js : List Job) (new : Job) (k : ℕ) → Named row → AreNumbered 0 js → new.number ≡ length js → gone (length js) ≡ false

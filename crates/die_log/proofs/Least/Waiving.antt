@@ -1,5 +1,5 @@
 -- Each waiver of a slot takes a row away, and no other row changes.
-use Rattle.std.proofs.Common.{◌≡◌, ◌⊎◌, ℕ, ◌<◌, ◌==◌, ◌||◌, Bool, true, false, cond, eqb, List, [], ◌∷◌, ◌++◌, length, Option, Some, None, refl, ap, sym, subst, ◌∙◌, inl, inr, arith, slice_get, append_assoc, append-nil}
+use Rattle.std.proofs.Common.{◌≡◌, ◌⊎◌, ℕ, ◌<◌, ◌==◌, ◌||◌, Bool, true, false, cond, List, [], ◌∷◌, ◌++◌, length, Option, Some, None, refl, ap, sym, subst, ◌∙◌, inl, inr, arith, slice_get, append_assoc, append-nil}
 use Rattle.std.proofs.lemmas.Bool.{cases_eq, eq-eqb, ne_eqb, or_right, or_from}
 use Rattle.std.proofs.lemmas.List.Folds.{list_any-append}
 use Rattle.slot_types.specs.declared.plans.DiePlan.{DiePlan}
@@ -9,16 +9,14 @@ use Rattle.plan_rules.specs.Accounts.{Accounts}
 use Rattle.plan_rules.specs.Accounts as moves
 use Rattle.late_cert.specs.declared.rows.JobRow.{JobRow}
 use Rattle.late_cert.specs.Schedule.{Slots}
-use Rattle.late_cert.specs.Rows.{row_of, is_done_in, is_done, work_of, number_in}
+use Rattle.late_cert.specs.Rows.{row_of, is_done_in, number_in}
 use Rattle.late_cert.specs.Stretch.{CarriesLeastKeys}
-use Rattle.late_cert.specs.Moments.{WaivesJob}
 use Rattle.late_cert.proofs.Moments.{waives-keeps}
 use Rattle.die_log.specs.Log.{Log, Job, jobs, acts, work}
-use Rattle.die_log.specs.Work.{are_all, is_erase, is_done as is_done_job, completion}
+use Rattle.die_log.specs.Work.{are_all, completion}
 use Rattle.die_log.specs.Legal.{is_among, IsWaiver, AreWaivers}
 use Rattle.die_log.specs.Standing.{AreNumbered}
 use Rattle.die_log.specs.Rows.{row_for}
-use Rattle.die_log.proofs.Standing.Longer.{number_at}
 use Rattle.die_log.proofs.Tokens.Slots.{empty_if}
 use Rattle.die_log.proofs.Least.Lookups.{rows_by, row_in, Named, rows_rise, row_at}
 use Rattle.die_log.proofs.Least.Steps.{IsGone, IsKept, waives_by}

@@ -1,9 +1,8 @@
 -- Exact logs are legal: what stands of cells gives the accounts what they take of them, and the accounts give each program its free page.
 use Rattle.std.proofs.Common.{◌≡◌, ℕ, ◌<◌, Bool, true, false, List, [], ◌∷◌, ◌++◌, length, count_by, Option, Some, MatchOption, refl, ap, sym, ◌∙◌, subst, arith, slice_get, ◌&&◌, not}
-use Rattle.std.specs.Prelude.{Contains}
 use Rattle.std.specs.List.{AllByRecursion}
 use Rattle.std.proofs.lemmas.Bool.{and_parts, not-true}
-use Rattle.std.proofs.lemmas.Option.{none-some, slice_get_within, get_or_from_slice_get}
+use Rattle.std.proofs.lemmas.Option.{none-some}
 use Rattle.slot_types.specs.declared.plans.DiePlan.{DiePlan}
 use Rattle.slot_types.specs.declared.acts.Act.{Act}
 use Rattle.slot_types.specs.declared.acts.Act.TheVariants as does
@@ -23,7 +22,7 @@ use Rattle.die_log.proofs.Tokens.Waivers.{Waits, IsChosen}
 use Rattle.die_log.specs.Held.{is_open, AreTrue}
 use Rattle.die_log.specs.Well.{FewCopies, IsWell}
 use Rattle.die_log.proofs.Legality.{entry, exact_induction}
-use Rattle.die_log.proofs.Standing.Longer.{number_at, no_victim}
+use Rattle.die_log.proofs.Standing.Longer.{number_at, contained, no_victim}
 use Rattle.die_log.proofs.Standing.Actors.{runs_from, job_erases_not, op_act, job_act, collection_may}
 use Rattle.die_log.proofs.Standing.Kept.{waiting_undone, fresh_stands, accepted_stands}
 use Rattle.die_log.proofs.Legal.Runs.{entry_legal}
@@ -36,9 +35,6 @@ use Rattle.die_log.proofs.Tokens.Wells.{copies_fit, keeps_few}
 
 -- What stands serves the accounts
 
-contained : (past : Log) (j : Job) → job_at past j.number ≡ Some j → Contains (jobs past) j
-contained past j e = (j.number, slice_get_within (jobs past) j.number j e, get_or_from_slice_get (jobs past) j.number j j e)
-
 erases_own : (plan : DiePlan) (past : Log) (j : Job) (b : ℕ) → 0 < plan.shape.erase_slots → Stands plan past → job_at past j.number ≡ Some j → is_ready plan past j ≡ true → act_for plan past j ≡ Some (does.Erase b)
     → IsFull plan (cells plan past) b × ((block_at (cells plan past) b).erasing ≡ count_by is_erase (acts j.number past))
 erases_own plan past j b more s known ready e = by_kind j.collects refl
@@ -46,13 +42,13 @@ erases_own plan past j b more s known ready e = by_kind j.collects refl
     by_kind : (t : Bool) → j.collects ≡ t → IsFull plan (cells plan past) b × ((block_at (cells plan past) b).erasing ≡ count_by is_erase (acts j.number past))
     by_kind false kind = absurd (job_erases_not (does.Erase b) (op_act plan past (slice_get j.ops (work j.number past)) (does.Erase b) (job_act plan past j (does.Erase b) kind e)) b refl)
     by_kind true kind =
-        let m = collection_may plan past j (does.Erase b) more s.collects (contained past j known) kind (waiting_undone plan past j ready) e in (
+        let m = collection_may plan past j (does.Erase b) more s.collects (contained (jobs past) j.number j known) kind (waiting_undone plan past j ready) e in (
           subst (IsFull plan (cells plan past)) (sym m.2.same) m.2.full,
           ap (λ (x : ℕ). (block_at (cells plan past) x).erasing) m.2.same ∙ m.1.collecting.erases,
         )
 
 -- who has shown a block has begun
-victim_begun : (plan : DiePlan) (n b : ℕ) (past : Log) (own : List Act) → acts n past ≡ own → victim_of plan n past ≡ Some b → 0 < length own
+pub victim_begun : (plan : DiePlan) (n b : ℕ) (past : Log) (own : List Act) → acts n past ≡ own → victim_of plan n past ≡ Some b → 0 < length own
 victim_begun plan n b past [] e shows = absurd (none-some b (sym (no_victim plan n past e) ∙ shows))
 victim_begun plan n b past (x ∷ own) e shows = omega arith
 
@@ -65,7 +61,7 @@ victim_full plan past j b s known is shows =
       begun = victim_begun plan j.number b past (acts j.number past) refl shows;
       undone = not-true (is_done plan past j) kind.1;
     }) in
-    (s.collects.collecting j b (record { stands = contained past j known; running = running; victim = shows })).full
+    (s.collects.collecting j b (record { stands = contained (jobs past) j.number j known; running = running; victim = shows })).full
 
 serves : (plan : DiePlan) (past : Log) → 0 < plan.shape.erase_slots → Stands plan past → FewCopies plan past → CellsServe plan past
 serves plan past more s few = record {
@@ -96,7 +92,7 @@ pub chosen_is : (plan : DiePlan) (past : Log) → CellsServe plan past → IsCho
 chosen_is plan past c = choice_is plan past (all_known past c.numbered)
 
 -- what an accepted event carries finds its free page
-event_finds : (plan : DiePlan) (past : Log) (event : Event) → MeetsBound plan → StandsWell plan past → FindsBy plan past (ran_by (accepted plan past event))
+pub event_finds : (plan : DiePlan) (past : Log) (event : Event) → MeetsBound plan → StandsWell plan past → FindsBy plan past (ran_by (accepted plan past event))
 event_finds plan past (events.Submit task release due ops) bound h = tt
 event_finds plan past (events.Collect task release due) bound h = tt
 event_finds plan past events.Slot bound h = (keeps_slot plan past 0 bound h.1.true_accounts (well_served plan past bound h)).1
@@ -126,7 +122,7 @@ keeps_both plan past caller event bound exact h none =
         legal = (
           h.1.legal,
           entry_legal plan past caller event (has_slots plan bound) h.0 none (finds_victim plan past bound h) finds (chosen_is plan past c).waivers
-          (owed_is_free plan (entry caller event (accepted plan past event) ∷ past) after),
+              (owed_is_free plan (entry caller event (accepted plan past event) ∷ past) after),
         );
       },
     )

@@ -84,7 +84,8 @@ head_has_act plan past j s w finds = by_kind j.collects refl
 
 -- Nothing waits
 
-kept_in : {X : Type 0} (t : X → Bool) (Q : X → Type 0) (xs : List X) → AllByRecursion Q (filter t xs) → AllByRecursion (λ x. t x ≡ true → Q x) xs
+-- what holds of all that pass a test
+pub kept_in : {X : Type 0} (t : X → Bool) (Q : X → Type 0) (xs : List X) → AllByRecursion Q (filter t xs) → AllByRecursion (λ x. t x ≡ true → Q x) xs
 kept_in t Q [] h = tt
 kept_in {X = X} t Q (x ∷ xs) h = by_test (t x) refl h (λ k. kept_in t Q xs k)
   where

@@ -243,7 +243,7 @@ room_of plan past (does.CopyRead page) h = tt
 room_of plan past (does.CopyProgram page) h = h
 room_of plan past (does.Erase b) h = tt
 
-block_some : (plan : DiePlan) (c : Cells) (buffer o : Option ℕ) (act : Act) → collect_act plan c buffer o ≡ Some act → (b : ℕ) × (o ≡ Some b)
+pub block_some : (plan : DiePlan) (c : Cells) (buffer o : Option ℕ) (act : Act) → collect_act plan c buffer o ≡ Some act → (b : ℕ) × (o ≡ Some b)
 block_some plan c buffer None act e = absurd cc
 block_some plan c buffer (Some b) act e = (b, refl)
 

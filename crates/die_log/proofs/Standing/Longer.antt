@@ -4,7 +4,7 @@ use Rattle.std.specs.Prelude.{Contains}
 use Rattle.std.specs.List.{filter_map, cons_option, AllByRecursion, reduce, list_any}
 use Rattle.std.proofs.lemmas.List.Elements.{filter_map-append, All-contains_itself, recursion_from_All}
 use Rattle.std.proofs.lemmas.List.Folds.{list_any_at}
-use Rattle.std.proofs.lemmas.Option.{slice_get-get_or, same_Some, none-some}
+use Rattle.std.proofs.lemmas.Option.{slice_get-get_or, slice_get_within, get_or_from_slice_get, same_Some, none-some}
 use Rattle.std.proofs.lemmas.Bool.{ne_eqb, eq-eqb}
 use Rattle.slot_types.specs.declared.plans.DiePlan.{DiePlan}
 use Rattle.slot_types.specs.declared.acts.Act.{Act}
@@ -42,6 +42,22 @@ stands_at js j n h =
 -- jobs of one number are one
 pub same_job : (js : List Job) (i j : Job) → AreNumbered 0 js → Contains js i → Contains js j → i.number ≡ j.number → i ≡ j
 same_job js i j n h k e = same_Some i j (sym (stands_at js i n h) ∙ (ap (slice_get js) e ∙ stands_at js j n k))
+
+-- what stands at a place is contained
+pub contained : (js : List Job) (k : ℕ) (i : Job) → slice_get js k ≡ Some i → Contains js i
+contained js k i e = (k, slice_get_within js k i e, get_or_from_slice_get js k i i e)
+
+-- A list with one more
+
+pub at_end : {X : Type 0} (xs : List X) (x : X) → slice_get (xs ++ x ∷ []) (length xs) ≡ Some x
+at_end [] x = refl
+at_end (y ∷ xs) x = at_end xs x
+
+pub elsewhere : {X : Type 0} (xs : List X) (x : X) (k : ℕ) → (k ≡ length xs → ⊥) → slice_get (xs ++ x ∷ []) k ≡ slice_get xs k
+elsewhere [] x zero apart = absurd (apart refl)
+elsewhere [] x (suc k) apart = refl
+elsewhere (y ∷ xs) x zero apart = refl
+elsewhere (y ∷ xs) x (suc k) apart = elsewhere xs x k (λ e. apart (omega (arith, e)))
 
 -- Acts
 

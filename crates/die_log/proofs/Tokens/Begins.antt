@@ -9,7 +9,7 @@ use Rattle.die_log.specs.Flash.{cells, valid, free}
 use Rattle.die_log.specs.Work.{is_done, is_ready, ready, owed}
 use Rattle.plan_rules.specs.Accounts.{Accounts}
 use Rattle.die_log.specs.Accounts.{accounts, after_waivers}
-use Rattle.die_log.specs.Agreement.{reserve_full}
+use Rattle.die_log.specs.Held.{reserve_full}
 use Rattle.die_log.specs.Answers.{is_waivable, victim}
 use Rattle.die_log.specs.Legal.{AreWaivers}
 use Rattle.die_log.proofs.Tokens.Waivers.{Waits}

@@ -23,15 +23,15 @@ set_fewer xs page b new out = elim (cases_lt page (length xs)) [
   | inr past ↦ omega (arith, ap (λ (ys : List (Option Place)). count_by (is_in b) ys) (set_past xs page new past))
 ]
 
-set_less : (xs : List (Option Place)) (page b : ℕ) (old new : Option Place) → slice_get xs page ≡ Some old → is_in b old ≡ true → is_in b new ≡ false → count_by (is_in b) (set xs page new) + 1 ≤ count_by (is_in b) xs
+pub set_less : (xs : List (Option Place)) (page b : ℕ) (old new : Option Place) → slice_get xs page ≡ Some old → is_in b old ≡ true → is_in b new ≡ false → count_by (is_in b) (set xs page new) + 1 ≤ count_by (is_in b) xs
 set_less xs page b old new e was out =
     let here : one_if (is_in b (get_or xs page None)) ≡ 1 = ap (λ x. one_if (is_in b x)) (get_or_from_slice_get xs page old None e) ∙ ap one_if was in
     omega (arith, sum_by-set (λ x. one_if (is_in b x)) xs page new None (slice_get_within xs page old e), ap one_if out, here)
 
-other_block : (plan : DiePlan) (c : Cells) (o b : ℕ) → IsOpen plan c o → (block_at c b).filled ≡ plan.shape.pages → (o == b) ≡ false
+pub other_block : (plan : DiePlan) (c : Cells) (o b : ℕ) → IsOpen plan c o → (block_at c b).filled ≡ plan.shape.pages → (o == b) ≡ false
 other_block plan c o b at full = ne_eqb o b (λ e. absurd (omega (arith, at.room, full, ap (λ n. (block_at c n).filled) e)))
 
-program_by : (plan : DiePlan) (c : Cells) (page b : ℕ) (o : Option ℕ) → 0 < plan.shape.pages → AreSound plan c → (block_at c b).filled ≡ plan.shape.pages → open_block plan c ≡ o → valid (programmed_in page o c) b ≤ valid c b
+pub program_by : (plan : DiePlan) (c : Cells) (page b : ℕ) (o : Option ℕ) → 0 < plan.shape.pages → AreSound plan c → (block_at c b).filled ≡ plan.shape.pages → open_block plan c ≡ o → valid (programmed_in page o c) b ≤ valid c b
 program_by plan c page b None some whole full e = omega arith
 program_by plan c page b (Some o) some whole full e = set_fewer c.places page b (Some (record { block = o; page = (block_at c o).filled })) (other_block plan c o b (open_is plan c o some whole e) full)
 
@@ -46,10 +46,6 @@ program_away plan c page b o old some whole full e stands was =
     rw e (set_less c.places page b old (Some (record { block = o; page = (block_at c o).filled })) stands was (other_block plan c o b (open_is plan c o some whole e) full))
 
 -- Acts of a collection
-
-pub block_known : (plan : DiePlan) (c : Cells) (buffer o : Option ℕ) (act : Act) → collect_act plan c buffer o ≡ Some act → (b : ℕ) × (o ≡ Some b)
-block_known plan c buffer None act e = absurd cc
-block_known plan c buffer (Some b) act e = (b, refl)
 
 abbrev copied_page : Act → ℕ
 copied_page (does.CopyProgram page) = page

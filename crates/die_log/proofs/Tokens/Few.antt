@@ -16,7 +16,7 @@ use Rattle.die_log.specs.Log.{Log, Job, job_at, acts, act_of, is_waived, work}
 use Rattle.die_log.specs.Flash.{Cells, cells, valid, valid_pages, block_at}
 use Rattle.die_log.specs.Work.{are_all, is_ready, is_copy_program, victim_of, shown_by, block_shown}
 use Rattle.die_log.specs.Accounts.{accounts, after_waivers}
-use Rattle.die_log.specs.Agreement.{reserve_full}
+use Rattle.die_log.specs.Held.{reserve_full}
 use Rattle.die_log.specs.Answers.{act_for, act_of_op, collect_act, read_or_erase, is_waivable, block_for, buffer_after, victim}
 use Rattle.die_log.specs.Legal.{is_among}
 use Rattle.die_log.specs.Well.{FewCopies}
@@ -24,12 +24,13 @@ use Rattle.die_log.specs.Held.{is_open, copied_of}
 use Rattle.die_log.proofs.Tokens.Sums.{one_if}
 use Rattle.die_log.proofs.Tokens.Doing.{IsOfCollection, buffer_of, act_kind}
 use Rattle.die_log.proofs.Cells.Steps.{opens}
-use Rattle.die_log.proofs.Standing.Longer.{no_victim, shown_other}
+use Rattle.die_log.proofs.Standing.Longer.{act_own, no_victim, shown_other}
+use Rattle.die_log.proofs.Standing.Actors.{block_some}
 use Rattle.die_log.proofs.Tokens.Changes.{open_other}
 use Rattle.die_log.proofs.Tokens.Slots.{slot_waives, ran_acts, empty_if, IsTurn, was_open}
 use Rattle.die_log.proofs.Tokens.Turns.{turn_log, turn_copy}
 use Rattle.die_log.proofs.Tokens.Begins.{fresh_finds, is_open_if}
-use Rattle.die_log.proofs.Tokens.Copying.{program_elsewhere, program_away, block_known, copy_is, IsPlacedAt, placed_at, some_valid}
+use Rattle.die_log.proofs.Tokens.Copying.{program_elsewhere, program_away, copy_is, IsPlacedAt, placed_at, some_valid}
 
 -- The act of a collection
 
@@ -60,7 +61,7 @@ copy_facts plan past j page is e =
     let c : Cells = cells plan past in
     let buffer : Option ℕ = buffer_of plan past j in
     let does_it = collect_of plan past j (does.CopyProgram page) is e in
-    let b = block_known plan c buffer (block_for plan past j) (does.CopyProgram page) does_it in
+    let b = block_some plan c buffer (block_for plan past j) (does.CopyProgram page) does_it in
     let k = copy_is plan c b.0 page buffer (sym (ap (λ o. collect_act plan c buffer o) b.1) ∙ does_it) in
     let begun : 0 < work j.number past = elim (cases_lt 0 (work j.number past)) [ inl h ↦ h | inr h ↦ absurd (some_none page buffer k.0 (fresh_buffer plan past j (omega (arith, h)))) ] in
     record { block = b.0; victim_is = sym (begun_block plan past j begun) ∙ b.1; placed = placed_at c page b.0 k.1 }
@@ -110,9 +111,6 @@ pub record MayShow (plan : DiePlan) (past : Log) (ws : List Waived) (j : Job) : 
   pub few_before : FewCopies plan past
   pub unwaivable : is_waivable plan past (after_waivers past ws (accounts plan past)) j ≡ false
 
-own_act : (number : ℕ) (act : Act) → act_of number (Some (number, act)) ≡ Some act
-own_act number act = cond-true (number == number) (Some act) None (eq-eqb number number refl)
-
 copies_more : (plan : DiePlan) (past : Log) (caller slot : ℕ) (ws : List Waived) (finished : Option ℕ) (j : Job) (act : Act)
     → copied_of (λ n. acts n (turn_log past caller slot ws finished j act)) j ≡ copied_of (λ n. acts n past) j + one_if (is_copy_program act)
 copies_more plan past caller slot ws finished j act =
@@ -123,12 +121,12 @@ begun_shows : (plan : DiePlan) (past : Log) (number b : ℕ) (act : Option Act) 
 begun_shows plan past number b act b' e h = same_Some b b' (sym (ap (λ o. shown_by plan past o act) e) ∙ h)
 
 -- an act that programs nothing: a begun collection keeps its block, and one that begins shows its victim
-still_few : (plan : DiePlan) (past : Log) (ws : List Waived) (j : Job) (act : Act) (b' : ℕ) → IsTurn plan past ws j act → MayShow plan past ws j → j.collects ≡ true
+pub still_few : (plan : DiePlan) (past : Log) (ws : List Waived) (j : Job) (act : Act) (b' : ℕ) → IsTurn plan past ws j act → MayShow plan past ws j → j.collects ≡ true
     → shown_by plan past (victim_of plan j.number past) (Some act) ≡ Some b' → copied_of (λ n. acts n past) j + valid (cells plan past) b' ≤ reserve_full plan
 still_few plan past ws j act b' h m is shows = elim (cases_lt 0 (work j.number past)) [
   | inl begun ↦
       let c : Cells = cells plan past in
-      let b = block_known plan c (buffer_of plan past j) (block_for plan past j) act (collect_of plan past j act is h.does_it) in
+      let b = block_some plan c (buffer_of plan past j) (block_for plan past j) act (collect_of plan past j act is h.does_it) in
       let known : victim_of plan j.number past ≡ Some b.0 = sym (begun_block plan past j begun) ∙ b.1 in
       let few = m.few_before.few j b.0 h.waits.known (was_open plan past ws j act h is) known in
       subst (λ n. copied_of (λ n. acts n past) j + valid (cells plan past) n ≤ reserve_full plan) (begun_shows plan past j.number b.0 (Some act) b' known shows) few
@@ -197,7 +195,7 @@ few_turn plan past caller slot ws finished j act h m = record { few = each }
               let same : j ≡ i = same_Some j i (sym h.waits.known ∙ (ap (λ n. job_at past n) (sym e) ∙ known)) in
               let of_i : i.collects ≡ true = (and_parts i.collects (not (are_all plan i (acts i.number log))) (and_parts (i.collects && not (are_all plan i (acts i.number log))) (not (is_waived log i.number)) is).0).0 in
               let of_j : j.collects ≡ true = ap (λ (x : Job). x.collects) same ∙ of_i in
-              let shown : shown_by plan past (victim_of plan j.number past) (Some act) ≡ Some b = ap (λ o. shown_by plan past (victim_of plan j.number past) o) (sym (own_act j.number act)) ∙ (ap (λ (x : Job). victim_of plan x.number log) same ∙ shows) in
+              let shown : shown_by plan past (victim_of plan j.number past) (Some act) ≡ Some b = ap (λ o. shown_by plan past (victim_of plan j.number past) o) (sym (act_own j.number act)) ∙ (ap (λ (x : Job). victim_of plan x.number log) same ∙ shows) in
               subst (λ (x : Job). copied_of (λ n. acts n log) x + valid (cells plan log) b ≤ reserve_full plan) same (few_own plan past caller slot ws finished j act b h m of_j (own_kind plan past j act of_j h.does_it) shown)
           | inr apart ↦
               let w = slot_waives plan caller slot ws (Some (j.number, act)) finished past h.serve.numbered h.waivers in

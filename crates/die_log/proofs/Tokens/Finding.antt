@@ -13,7 +13,7 @@ use Rattle.plan_rules.proofs.Spread.{choice}
 use Rattle.die_log.specs.Log.{Log, Job, jobs, job_at, acts, is_waived, work}
 use Rattle.die_log.specs.Flash.{Block, Cells, cells, block_at, empty_block, free, free_in, is_full, is_partly_filled, valid}
 use Rattle.die_log.specs.Work.{is_done, victim_of}
-use Rattle.die_log.specs.Agreement.{reserve_full}
+use Rattle.die_log.specs.Held.{reserve_full}
 use Rattle.die_log.specs.Answers.{is_running, is_block, is_collected, candidates, victim}
 use Rattle.die_log.specs.Sound.{AreSound, IsPartly}
 use Rattle.die_log.specs.Held.{is_open, AreTrue}

@@ -7,7 +7,7 @@ use Rattle.die_log.specs.Flash.{cells, block_at}
 use Rattle.die_log.specs.Work.{is_erase, is_copy_program, is_ready, victim_of}
 use Rattle.die_log.specs.Answers.{act_for}
 use Rattle.die_log.specs.Sound.{AreSound, IsFull}
-use Rattle.die_log.specs.Agreement.{reserve_full}
+use Rattle.die_log.specs.Held.{reserve_full}
 use Rattle.die_log.specs.Held.{is_open}
 
 -- jobs stand at their numbers; cells are sound; a copy finds its collector's reserve above 0; an erase slot is of a

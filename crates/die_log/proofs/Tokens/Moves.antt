@@ -3,7 +3,7 @@ use Rattle.std.proofs.Common.{◌≡◌, ℕ, ◌+◌, ◌<◌, ◌≤◌, lengt
 use Rattle.std.proofs.lemmas.Bool.{cases_eq}
 use Rattle.slot_types.specs.declared.plans.DiePlan.{DiePlan}
 use Rattle.plan_rules.specs.Accounts.{Accounts, given_of, admitted, hold_spent, reserve_spent, settled, waived}
-use Rattle.die_log.specs.Agreement.{Agree, reserve_full}
+use Rattle.die_log.specs.Held.{Agree, reserve_full}
 use Rattle.die_log.specs.Held.{at_task}
 use Rattle.die_log.proofs.Tokens.Amounts.{added, at_itself, at_other, added_at, taken_at, sum_added, sum_taken, length_added, length_taken}
 

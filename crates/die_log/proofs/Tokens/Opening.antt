@@ -8,7 +8,7 @@ use Rattle.plan_rules.specs.Bound.{MeetsBound}
 use Rattle.die_log.specs.Flash.{free, free_in, empty_block}
 use Rattle.plan_rules.specs.Accounts.{opening}
 use Rattle.plan_rules.proofs.Totals.{room}
-use Rattle.die_log.specs.Agreement.{Agree, reserve_full}
+use Rattle.die_log.specs.Held.{Agree, reserve_full}
 use Rattle.die_log.specs.Held.{AreTrue}
 
 abbrev zeros : ℕ → List ℕ

@@ -6,8 +6,8 @@ use Rattle.die_log.specs.Log.{Log, Job, jobs, job_at, acts, is_waived}
 use Rattle.die_log.specs.Work.{owed}
 use Rattle.plan_rules.specs.Accounts.{Accounts}
 use Rattle.die_log.specs.Accounts.{accounts}
-use Rattle.die_log.specs.Agreement.{reserve_full}
-use Rattle.die_log.specs.Agreement.{Agree}
+use Rattle.die_log.specs.Held.{reserve_full}
+use Rattle.die_log.specs.Held.{Agree}
 use Rattle.die_log.specs.Held.{at_task, is_open, copied_of, lent_of, open_of, AreTrue}
 use Rattle.die_log.proofs.Tokens.Sums.{sum_none, lent_alone, not_open}
 use Rattle.die_log.proofs.Tokens.Amounts.{sum_le}

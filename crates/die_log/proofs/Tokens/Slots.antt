@@ -19,7 +19,7 @@ use Rattle.die_log.specs.Accounts.{accounts, after_act, after_waiver, after_waiv
 use Rattle.die_log.specs.Answers.{act_for}
 use Rattle.die_log.specs.Legal.{is_among, AreWaivers}
 use Rattle.die_log.proofs.Legality.{entry}
-use Rattle.die_log.specs.Agreement.{Agree}
+use Rattle.die_log.specs.Held.{Agree}
 use Rattle.die_log.proofs.Tokens.Waivers.{Waits}
 use Rattle.die_log.proofs.Tokens.Given.{CellsServe}
 use Rattle.die_log.specs.Held.{left_of, held_of, is_open, lent_to, IsTaken, AreTrue}

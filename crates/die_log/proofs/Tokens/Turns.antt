@@ -16,7 +16,7 @@ use Rattle.die_log.specs.Work.{are_all, is_erase, is_copy_program, is_write, owe
 use Rattle.plan_rules.specs.Accounts.{Accounts, settled}
 use Rattle.die_log.specs.Accounts.{accounts, after_waivers}
 use Rattle.die_log.specs.Legal.{is_among, Does, FindsFree}
-use Rattle.die_log.specs.Agreement.{Agree, reserve_full}
+use Rattle.die_log.specs.Held.{Agree, reserve_full}
 use Rattle.die_log.specs.Held.{at_task, left_of, held_of, copied_of, lent_of, lent_to, AreTrue}
 use Rattle.die_log.proofs.Tokens.Amounts.{one_le_sum}
 use Rattle.die_log.proofs.Tokens.Sums.{one_if, some_if, lent_alone}

@@ -1,5 +1,5 @@
 -- Exact logs are well, given the cells.
-use Rattle.std.proofs.Common.{◌≡◌, ℕ, zero, suc, ◌+◌, ◌<◌, ◌≤◌, true, false, List, [], ◌∷◌, ◌++◌, length, count_by, Option, Some, None, MatchOption, refl, ap, sym, ◌∙◌, inl, inr, arith, slice_get, length-append}
+use Rattle.std.proofs.Common.{◌≡◌, ℕ, ◌+◌, ◌<◌, ◌≤◌, true, false, List, [], ◌∷◌, ◌++◌, length, count_by, Option, Some, None, MatchOption, refl, ap, sym, ◌∙◌, inl, inr, arith, slice_get, length-append}
 use Rattle.std.proofs.lemmas.Bool.{cases_lt}
 use Rattle.std.proofs.lemmas.Option.{slice_get_within}
 use Rattle.slot_types.specs.declared.plans.DiePlan.{DiePlan}
@@ -14,7 +14,7 @@ use Rattle.die_log.specs.Log.{Log, Job, jobs, job_at, now, acts, waived, is_waiv
 use Rattle.die_log.specs.Flash.{cells, valid}
 use Rattle.die_log.specs.Work.{is_copy_program, victim_of, shown_by, is_ready}
 use Rattle.die_log.specs.Accounts.{accounts, after_waivers}
-use Rattle.die_log.specs.Agreement.{reserve_full}
+use Rattle.die_log.specs.Held.{reserve_full}
 use Rattle.die_log.specs.Answers.{IsExact, accepted, choice, slot_reply, reply_with, act_for, is_waivable}
 use Rattle.die_log.specs.Legal.{AreWaivers, is_among}
 use Rattle.die_log.proofs.Legality.{entry}
@@ -29,17 +29,12 @@ use Rattle.die_log.proofs.Tokens.Changes.{open_other}
 use Rattle.die_log.proofs.Tokens.Slots.{slot_entry, slot_waives, idle_acts}
 use Rattle.die_log.proofs.Tokens.Turns.{no_job_copy}
 use Rattle.die_log.proofs.Tokens.Whole.{all_known}
-use Rattle.die_log.proofs.Standing.Longer.{shown_none, no_victim}
+use Rattle.die_log.proofs.Standing.Longer.{elsewhere, shown_none, no_victim}
 use Rattle.die_log.proofs.Tokens.Few.{few_now, few_turn}
 
 none_some : (o : Option ℕ) (b : ℕ) → o ≡ None → o ≡ Some b → ⊥
 none_some None b e h = absurd cc
 none_some (Some d) b e h = absurd cc
-
-get_front : {X : Type 0} (xs : List X) (x : X) (k : ℕ) → k < length xs → slice_get (xs ++ x ∷ []) k ≡ slice_get xs k
-get_front [] x k h = absurd (omega (arith, h))
-get_front (y ∷ xs) x zero h = refl
-get_front (y ∷ xs) x (suc k) h = get_front xs x k (omega (arith, h))
 
 -- one more job
 few_taken : (plan : DiePlan) (past : Log) (new i : Job) (b : ℕ) → IsExact plan past → FewCopies plan past → slice_get (jobs past ++ new ∷ []) i.number ≡ Some i → is_open plan (λ n. acts n past) (is_waived past) i ≡ true
@@ -47,7 +42,7 @@ few_taken : (plan : DiePlan) (past : Log) (new i : Job) (b : ℕ) → IsExact pl
 few_taken plan past new i b exact few e is shows =
     let shown : victim_of plan i.number past ≡ Some b = sym (shown_none plan past (victim_of plan i.number past)) ∙ shows in
     elim (cases_lt i.number (length (jobs past))) [
-      | inl below ↦ few.few i b (sym (get_front (jobs past) new i.number below) ∙ e) is shown
+      | inl below ↦ few.few i b (sym (elsewhere (jobs past) new i.number (λ x. absurd (omega (arith, below, x)))) ∙ e) is shown
       | inr past_it ↦
           let last : i.number ≡ length (jobs past) = omega (arith, past_it, slice_get_within (jobs past ++ new ∷ []) i.number i e, length-append (jobs past) (new ∷ [])) in
           absurd (none_some (victim_of plan i.number past) b (no_victim plan i.number past (ap (λ n. acts n past) last ∙ no_acts plan past exact)) shown)

@@ -7,7 +7,7 @@ use Rattle.die_log.specs.Work.{completion}
 use Rattle.die_log.specs.Answers.{run, answer}
 use Rattle.die_log.proofs.Worked.Plans.{roomy, submit, slot, bytes, worst_of}
 
-abbrev row : Log
+abbrev pub row : Log
 row = run roomy [] (submit 0 2 (Write 3 (bytes 17) ∷ []) ∷ slot ∷ submit 1 3 (Read 3 ∷ []) ∷ slot ∷ [])
 
 reads : acts 1 row ≡ does.Read 3 (bytes 17) ∷ []

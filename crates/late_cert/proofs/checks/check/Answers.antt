@@ -1,5 +1,5 @@
 use Rattle.std.proofs.Common.{sym, ◌∙◌}
-use Rattle.late_cert.proofs.Lower.{binds}
+use Rattle.late_cert.proofs.Binds.{binds}
 use Rattle.late_cert.proofs.Faults.{verdict-certifies, certificate-verdict}
 use Rattle.late_cert.proofs.checks.check.Goals as goal
 

@@ -1,5 +1,5 @@
 use Rattle.std.proofs.Common.{sym, arith, ◌≤◌, ◌-◌}
-use Rattle.late_cert.proofs.Find.{not-rising, rising-true, cmp-le, get-same}
+use Rattle.late_cert.proofs.RowSearch.{not-rising, rising-true, cmp-le, get-same}
 use Rattle.late_cert.proofs.checks.rises.Goals as goal
 
 pub returns-then-le : goal.returns-then-le

@@ -1,4 +1,4 @@
-use Rattle.late_cert.proofs.Lower.{binds}
+use Rattle.late_cert.proofs.Binds.{binds}
 use Rattle.late_cert.proofs.laws.certificates_bind_every_schedule.Goals as goal
 
 pub returns : goal.returns

@@ -1,7 +1,7 @@
 use Rattle.std.proofs.Common.{arith, ap, sym, ◌∙◌, eqb-true}
 use Rattle.std.proofs.lemmas.Option.{slice_get-get_or}
 use Rattle.late_cert.specs.declared.rows.JobRow.{JobRow}
-use Rattle.late_cert.proofs.Find.{rows-below, rows-above, get-same, row-found, row-missing, no-row, cmp-less, cmp-not-less}
+use Rattle.late_cert.proofs.RowSearch.{rows-below, rows-above, get-same, row-found, row-missing, no-row, cmp-less, cmp-not-less}
 use Rattle.late_cert.proofs.lookups.place.Goals as goal
 use Rattle.late_cert.proofs.lookups.place.Goals.{else-low-rows-via-then-low-rows+else-eq, else-low-rows-via-else-low-rows}
 

@@ -1,6 +1,6 @@
 use Rattle.std.proofs.Common.{arith}
 use Rattle.std.proofs.lemmas.Bool.{false≢true}
-use Rattle.late_cert.proofs.Find.{rows-rise-more, rows-fall, cmp-le, cmp-not-le}
+use Rattle.late_cert.proofs.RowSearch.{rows-rise-more, rows-fall, cmp-le, cmp-not-le}
 use Rattle.late_cert.proofs.rows.numbers_rise.Goals as goal
 
 pub returns-then-le : goal.returns-then-le

@@ -2,7 +2,7 @@ use Rattle.std.proofs.Common.{sym, ◌∙◌, rules}
 use Rattle.std.proofs.lemmas.Bool.{true≢false}
 use denote.Enum.Bare.{same_true}
 use Rattle.late_cert.specs.contracts.verdicts.Verdict.{the_type}
-use Rattle.late_cert.proofs.Own.{own-built, none-built}
+use Rattle.late_cert.proofs.OneStretch.{own-built, none-built}
 use Rattle.late_cert.proofs.stretches.build.Goals as goal
 
 pub returns-then-eq-clause-own : goal.returns-then-eq-clause-own
