@@ -4,3 +4,6 @@ pub mod Heading
 pub mod Reaching
 pub mod Flashing
 pub mod Keeping
+pub mod Worsts
+pub mod Rowing
+pub mod Certifying

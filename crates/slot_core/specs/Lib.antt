@@ -4,3 +4,6 @@ pub mod Device
 pub mod Kept
 pub mod Acting
 pub mod Calls
+pub mod Outcomes
+pub mod Rowed
+pub mod Certified

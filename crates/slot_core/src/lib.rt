@@ -7,3 +7,8 @@ pub mod operations;
 pub mod slots;
 
 pub use die_core::DieCore;
+
+pub mod certificates;
+pub mod outcomes;
+
+pub use outcomes::{JobHead, Outcome, Worst};
