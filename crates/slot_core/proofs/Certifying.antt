@@ -1,9 +1,8 @@
 -- The certificate that is built for the worst job is that of the log.
-use Rattle.std.proofs.Common.{◌≡◌, ℕ, List, Option, Some, None, option_map, refl, ap, sym, ◌∙◌, subst}
+use Rattle.std.proofs.Common.{◌≡◌, List, Option, Some, None, option_map, refl, ap, sym, ◌∙◌, subst}
 use Rattle.std.specs.Prelude.{Result, Ok, Err, IfOk, IfSome, ◌↔◌}
 use Rattle.std.proofs.lemmas.Option.{same_Some, none-some}
 use Rattle.slot_types.specs.declared.plans.DiePlan.{DiePlan}
-use Rattle.slot_types.specs.declared.refusals.Refusal.{Refusal}
 use Rattle.plan_rules.specs.Bound.{MeetsBound}
 use Rattle.late_cert.specs.declared.rows.JobRow.{JobRow}
 use Rattle.late_cert.specs.declared.certificates.Certificate.{Certificate}

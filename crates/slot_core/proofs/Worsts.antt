@@ -1,35 +1,31 @@
 -- What a table's records say of a log: which jobs are done, and who is worst.
-use Rattle.std.proofs.Common.{◌≡◌, ℕ, zero, suc, ◌+◌, ◌≤◌, ◌==◌, ◌||◌, ◌&&◌, not, nat_lt, nat_le, Bool, true, false, cond, List, [], ◌∷◌, Option, Some, None, option_map, refl, ap, sym, ◌∙◌, subst, find, slice_get, arith, pos, ◌-ℤ◌, ◌≤ℤ◌}
-use Rattle.std.specs.Prelude.{Contains, IfErr, Result, Ok, Err, ◌↔◌, int_lt, ℤ, is_some}
+use Rattle.std.proofs.Common.{◌≡◌, ℕ, ◌+◌, ◌≤◌, ◌==◌, ◌||◌, ◌&&◌, not, nat_lt, nat_le, Bool, true, false, cond, List, [], ◌∷◌, Option, Some, None, option_map, refl, ap, sym, ◌∙◌, subst, slice_get, arith, pos, ◌-ℤ◌, ◌≤ℤ◌}
+use Rattle.std.specs.Prelude.{Contains, int_lt, ℤ, is_some}
 use Rattle.std.specs.List.{list_any}
 use Rattle.std.proofs.lemmas.Bool.{true≢false, false_from_ne_true}
 use Rattle.std.proofs.lemmas.Bool.Decides.{nat_tests}
 use Rattle.std.proofs.lemmas.Int.{ints}
-use Rattle.std.proofs.lemmas.Option.{same_Some, none-some}
+use Rattle.std.proofs.lemmas.Option.{same_Some}
 use Rattle.slot_types.specs.declared.plans.DiePlan.{DiePlan}
-use Rattle.slot_types.specs.declared.pages.PageData.{PageData}
-use Rattle.slot_types.specs.declared.refusals.Refusal.{Refusal}
-use Rattle.slot_types.specs.declared.refusals.Refusal.TheVariants.{NoMemory, UnknownJob}
 use Rattle.slot_types.specs.declared.replies.Waived.{Waived}
 use Rattle.plan_rules.specs.Bound.{MeetsBound}
 use Rattle.late_cert.specs.Rows.{is_done_in}
-use Rattle.late_cert.specs.Rows.{is_done as is_done_row}
 use Rattle.job_table.specs.declared.stages.Stage.TheVariants as stages
 use Rattle.job_table.specs.Jobs.{JobRecord}
 use Rattle.job_table.specs.Jobs as kept
 use Rattle.job_table.specs.Worst as table
 use Rattle.job_table.proofs.Worsts.{one_worst}
-use Rattle.die_log.specs.Log.{Log, Job, jobs, job_at, acts, waived, is_waived}
+use Rattle.die_log.specs.Log.{Log, Job, jobs, job_at, waived, is_waived}
 use Rattle.die_log.specs.Work.{is_done, completion, lateness_of, worst, IsWorst}
 use Rattle.die_log.specs.Answers.{IsExact}
 use Rattle.die_log.specs.Standing.{AreNumbered}
-use Rattle.die_log.specs.Rows.{rows, row_for}
+use Rattle.die_log.specs.Rows.{row_for}
 use Rattle.die_log.proofs.Legal.Exact.{stands_well}
 use Rattle.die_log.proofs.Standing.Longer.{stands_at, number_at, contained}
 use Rattle.die_log.proofs.Least.Lookups.{row_in, row_at}
 use Rattle.die_log.proofs.Least.Worst.{worst_is}
 use Rattle.die_log.proofs.Least.Certificates.{done_certified, no_worst, nothing_done}
-use Rattle.slot_core.specs.Records.{record_with, records, waiver_among, stage_by, given, reads_of}
+use Rattle.slot_core.specs.Records.{record_with, records, waiver_among, stage_by, given}
 use Rattle.slot_core.specs.Outcomes.{worst_from, worst_of, worst_as}
 use Rattle.slot_core.proofs.Heading.{slice_get-map, slice_get-mapped}
 

@@ -1,5 +1,5 @@
-use Rattle.std.proofs.Common.{sym, ◌∙◌, ap}
-use Rattle.slot_core.proofs.Rowing.{rows_added, rows_passed, rows_past, rows_all}
+use Rattle.std.proofs.Common.{sym, ◌∙◌}
+use Rattle.slot_core.proofs.Rowing.{rows_added, rows_passed, rows_past}
 use Rattle.slot_core.proofs.certificates.rows_in.Goals as goal
 use Rattle.slot_core.proofs.certificates.rows_in.Goals.{in-Some+in-Some-row_in+in-Ok, in-Some+in_default-row_in, in_default}
 

@@ -14,32 +14,29 @@ returns-in-None-clause-none g c =
 pub returns-in-Ok-clause-ok : goal.returns-in-Ok-clause-ok
 returns-in-Ok-clause-ok g c =
     let slots : c.self.inside.carried.slots ≡ carried_numbers c.args.self.now.log = rw (← c.self.view_is) c.self.invariant.slots_are in
-    ok_where c.build.result _ _ c.build.ensures.built (λ built is. built_is c.args.self.now.plan c.args.self.now.log c.in-Some.worst c.in-Ok.rows c.self.inside.carried.slots built (sym c.in-Some.is ∙ c.worst.ensures) c.in-Ok.ensures.ok slots is)
+    ok_where c.build.result _ _ c.build.ensures.built
+    (λ built. built_is c.args.self.now.plan c.args.self.now.log c.in-Some.worst c.in-Ok.rows c.self.inside.carried.slots built (sym c.in-Some.is ∙ c.worst.ensures) c.in-Ok.ensures.ok slots)
 
 pub returns-in-Ok-clause-none : goal.returns-in-Ok-clause-none
 returns-in-Ok-clause-none g c =
     let bound : MeetsBound c.args.self.now.plan = rw (← c.self.view_is) c.self.invariant.bound in
     let exact : IsExact c.args.self.now.plan c.args.self.now.log = rw (← c.self.view_is) c.self.invariant.exact in
-    let slots : c.self.inside.carried.slots ≡ carried_numbers c.args.self.now.log = rw (← c.self.view_is) c.self.invariant.slots_are in
-    ok_where c.build.result _ _ c.build.ensures.built (λ built is. none_said c.args.self.now.plan c.args.self.now.log built bound exact (built_is c.args.self.now.plan c.args.self.now.log c.in-Some.worst c.in-Ok.rows c.self.inside.carried.slots built (sym c.in-Some.is ∙ c.worst.ensures) c.in-Ok.ensures.ok slots is))
+    ok_where c.build.result _ _ (returns-in-Ok-clause-ok g c) (λ built. none_said c.args.self.now.plan c.args.self.now.log built bound exact)
 
 pub returns-in-Ok-clause-worst : goal.returns-in-Ok-clause-worst
 returns-in-Ok-clause-worst g c =
     let bound : MeetsBound c.args.self.now.plan = rw (← c.self.view_is) c.self.invariant.bound in
     let exact : IsExact c.args.self.now.plan c.args.self.now.log = rw (← c.self.view_is) c.self.invariant.exact in
-    let slots : c.self.inside.carried.slots ≡ carried_numbers c.args.self.now.log = rw (← c.self.view_is) c.self.invariant.slots_are in
-    ok_where c.build.result _ _ c.build.ensures.built (λ built is. worst_said c.args.self.now.plan c.args.self.now.log built bound exact (built_is c.args.self.now.plan c.args.self.now.log c.in-Some.worst c.in-Ok.rows c.self.inside.carried.slots built (sym c.in-Some.is ∙ c.worst.ensures) c.in-Ok.ensures.ok slots is))
+    ok_where c.build.result _ _ (returns-in-Ok-clause-ok g c) (λ built. worst_said c.args.self.now.plan c.args.self.now.log built bound exact)
 
 pub returns-in-Ok-clause-holds : goal.returns-in-Ok-clause-holds
 returns-in-Ok-clause-holds g c =
     let bound : MeetsBound c.args.self.now.plan = rw (← c.self.view_is) c.self.invariant.bound in
     let exact : IsExact c.args.self.now.plan c.args.self.now.log = rw (← c.self.view_is) c.self.invariant.exact in
-    let slots : c.self.inside.carried.slots ≡ carried_numbers c.args.self.now.log = rw (← c.self.view_is) c.self.invariant.slots_are in
-    ok_where c.build.result _ _ c.build.ensures.built (λ built is. holds_said c.args.self.now.plan c.args.self.now.log built bound exact (built_is c.args.self.now.plan c.args.self.now.log c.in-Some.worst c.in-Ok.rows c.self.inside.carried.slots built (sym c.in-Some.is ∙ c.worst.ensures) c.in-Ok.ensures.ok slots is))
+    ok_where c.build.result _ _ (returns-in-Ok-clause-ok g c) (λ built. holds_said c.args.self.now.plan c.args.self.now.log built bound exact)
 
 pub returns-in-Ok-clause-binds : goal.returns-in-Ok-clause-binds
 returns-in-Ok-clause-binds g c =
     let bound : MeetsBound c.args.self.now.plan = rw (← c.self.view_is) c.self.invariant.bound in
     let exact : IsExact c.args.self.now.plan c.args.self.now.log = rw (← c.self.view_is) c.self.invariant.exact in
-    let slots : c.self.inside.carried.slots ≡ carried_numbers c.args.self.now.log = rw (← c.self.view_is) c.self.invariant.slots_are in
-    ok_where c.build.result _ _ c.build.ensures.built (λ built is. binds_said c.args.self.now.plan c.args.self.now.log built bound exact (built_is c.args.self.now.plan c.args.self.now.log c.in-Some.worst c.in-Ok.rows c.self.inside.carried.slots built (sym c.in-Some.is ∙ c.worst.ensures) c.in-Ok.ensures.ok slots is))
+    ok_where c.build.result _ _ (returns-in-Ok-clause-ok g c) (λ built. binds_said c.args.self.now.plan c.args.self.now.log built bound exact)

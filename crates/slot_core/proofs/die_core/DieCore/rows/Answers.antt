@@ -1,6 +1,5 @@
-use Rattle.std.proofs.Common.{◌≡◌, sym, ◌∙◌, subst}
+use Rattle.std.proofs.Common.{sym, subst}
 use Rattle.late_cert.specs.Rows.{RowsRise}
-use Rattle.slot_core.specs.Rowed.{rows_in}
 use Rattle.slot_core.proofs.Certifying.{ok_where}
 use Rattle.slot_core.proofs.Rowing.{rows_are, rising}
 use Rattle.slot_core.proofs.die_core.DieCore.rows.Goals as goal
