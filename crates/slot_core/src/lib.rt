@@ -8,3 +8,8 @@ pub mod slots;
 pub mod turns;
 
 pub use die_core::DieCore;
+
+pub mod certificates;
+pub mod outcomes;
+
+pub use outcomes::{JobHead, Outcome, Worst};
