@@ -2,14 +2,12 @@
 #![tactic(auto)]
 
 pub mod admission;
+pub mod certificates;
 pub mod die_core;
 pub mod operations;
+pub mod outcomes;
 pub mod slots;
 pub mod turns;
 
 pub use die_core::DieCore;
-
-pub mod certificates;
-pub mod outcomes;
-
 pub use outcomes::{JobHead, Outcome, Worst};
