@@ -1,0 +1,4 @@
+-- Exact logs are legal.
+pub mod Acts
+pub mod Runs
+pub mod Exact

@@ -1,0 +1,18 @@
+pub mod Exact
+pub mod Choices
+pub mod Legality
+pub mod Known
+pub mod Collecting
+pub mod Heads
+pub mod Numbered
+pub mod Runs
+pub mod Limits
+pub mod AccountsPlan
+pub mod Cells
+pub mod Standing
+pub mod Legal
+pub mod Tokens
+pub mod Least
+pub mod Bounds
+mod Worked
+mod Wrong

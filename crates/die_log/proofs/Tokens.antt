@@ -1,0 +1,20 @@
+-- The accounts along an exact log come to what the log says, and give each program its free page.
+pub mod Amounts
+pub mod Sums
+pub mod Moves
+pub mod Opening
+pub mod Given
+pub mod Waivers
+pub mod Changes
+pub mod Taking
+pub mod Doing
+pub mod Slots
+pub mod Turns
+pub mod Reserves
+pub mod Found
+pub mod Finding
+pub mod Begins
+pub mod Copying
+pub mod Few
+pub mod Whole
+pub mod Wells

@@ -1,0 +1,45 @@
+-- A head that begins finds its block.
+use Rattle.std.proofs.Common.{◌≡◌, ℕ, ◌<◌, ◌≤◌, ◌==◌, ◌&&◌, nat_le, not, true, false, List, ◌++◌, Some, sym, ◌∙◌, inl, inr}
+use Rattle.std.proofs.lemmas.Bool.{true≢false, and_parts, and_from, and_cases, leb-false, eq-eqb}
+use Rattle.slot_types.specs.declared.plans.DiePlan.{DiePlan}
+use Rattle.slot_types.specs.declared.replies.Waived.{Waived}
+use Rattle.plan_rules.specs.Bound.{MeetsBound}
+use Rattle.die_log.specs.Log.{Log, Job, jobs, now, acts, waived, is_waived, work}
+use Rattle.die_log.specs.Flash.{cells, valid, free}
+use Rattle.die_log.specs.Work.{is_done, is_ready, ready, owed}
+use Rattle.plan_rules.specs.Accounts.{Accounts}
+use Rattle.die_log.specs.Accounts.{accounts, after_waivers}
+use Rattle.die_log.specs.Held.{reserve_full}
+use Rattle.die_log.specs.Answers.{is_waivable, victim}
+use Rattle.die_log.specs.Legal.{AreWaivers}
+use Rattle.die_log.proofs.Tokens.Waivers.{Waits}
+use Rattle.die_log.proofs.Tokens.Given.{CellsServe}
+use Rattle.die_log.specs.Held.{is_open, IsTaken, AreTrue}
+use Rattle.die_log.proofs.Tokens.Sums.{all_at}
+use Rattle.die_log.proofs.Tokens.Reserves.{few_free}
+use Rattle.die_log.proofs.Tokens.Slots.{agree_waivers}
+use Rattle.die_log.proofs.Tokens.Finding.{takable, victim_found}
+
+-- A collection that begins
+
+pub is_open_if : (plan : DiePlan) (past : Log) (j : Job) → is_ready plan past j ≡ true → j.collects ≡ true → is_open plan (λ n. acts n past) (is_waived past) j ≡ true
+is_open_if plan past j ready is =
+    let parts = and_parts (nat_le j.release (now past) && not (is_done plan past j)) (not (is_waived past j.number)) ready in
+    let undone = (and_parts (nat_le j.release (now past)) (not (is_done plan past j)) parts.0).1 in
+    and_from (j.collects && not (is_done plan past j)) (not (is_waived past j.number)) (and_from j.collects (not (is_done plan past j)) is undone) parts.1
+
+too_few : (plan : DiePlan) (past : Log) (a : Accounts) (j : Job) → is_waivable plan past a j ≡ false → j.collects ≡ true → work j.number past ≡ 0 → a.spare < plan.alpha
+too_few plan past a j e is fresh = elim (and_cases (j.collects && (work j.number past == 0)) (nat_le plan.alpha a.spare) e) [
+  | inl never ↦ absurd (true≢false (sym (and_from j.collects (work j.number past == 0) is (eq-eqb (work j.number past) 0 fresh)) ∙ never))
+  | inr short ↦ leb-false plan.alpha a.spare short
+]
+
+-- a head that begins finds its block, which has so few placed pages that they fit its collector's reserve
+pub fresh_finds : (plan : DiePlan) (past : Log) (ws : List Waived) (j : Job) → MeetsBound plan → AreTrue plan past → CellsServe plan past → AreWaivers plan past (waived past) (accounts plan past) ws
+    → Waits plan past (waived past ++ ws) j → is_waivable plan past (after_waivers past ws (accounts plan past)) j ≡ false → j.collects ≡ true → work j.number past ≡ 0
+    → (v : ℕ) × (victim plan past ≡ Some v) × (valid (cells plan past) v ≤ reserve_full plan)
+fresh_finds plan past ws j bound h c waivers waits unwaivable is fresh =
+    let a : Accounts = after_waivers past ws (accounts plan past) in
+    let few = few_free plan a _ _ (owed past) (free plan past) (agree_waivers plan past (waived past) (accounts plan past) ws _ _ (owed past) (free plan past) h.taken h.agree waivers) (too_few plan past a j unwaivable is fresh) in
+    let t = takable plan past j bound h c.sound waits.known (is_open_if plan past j waits.ready is) fresh few (λ i k e. (all_at (IsTaken plan) (jobs past) k i h.taken e).task) in
+    victim_found plan past t.0 t.1

@@ -1,0 +1,16 @@
+-- Worked rows: small logs, and what the definitions make of them, by evaluation.
+pub mod Plans
+pub mod ReadSeesTheWrite
+mod BlankPage
+mod FifthWrite
+pub mod EarlierDuePreempts
+pub mod EqualDues
+pub mod TwoJobsOneDue
+mod WaivedWithSpare
+mod RefusalsInOrder
+pub mod FillingHistory
+pub mod CollectionCopies
+mod EraseSuspended
+pub mod RewrittenPage
+mod Certificates
+mod LegalCollection

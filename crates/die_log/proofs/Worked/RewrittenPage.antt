@@ -1,0 +1,52 @@
+-- A page that is rewritten between a copy's read and its program isn't programmed.
+use Rattle.std.proofs.Common.{◌≡◌, true, [], ◌∷◌, refl, negsuc}
+use Rattle.slot_types.specs.declared.acts.Act.TheVariants as does
+use Rattle.slot_types.specs.declared.events.Op.TheVariants.{Write}
+use Rattle.late_cert.specs.Schedule.{lateness_of}
+use Rattle.die_log.specs.Log.{Log, acts, work}
+use Rattle.die_log.specs.Flash.{free, content}
+use Rattle.die_log.specs.Accounts.{accounts}
+use Rattle.die_log.specs.Work.{completion}
+use Rattle.die_log.specs.Answers.{run, answer}
+use Rattle.die_log.specs.Legal.{written_since}
+use Rattle.die_log.proofs.Worked.Plans.{tight, amounts, submit, collect, slot, bytes}
+use Rattle.die_log.proofs.Worked.FillingHistory.{one_less}
+
+-- the collection's read, and the job that rewrites the page
+abbrev pub rewritten : Log
+rewritten = run tight one_less (collect 18 40 ∷ slot ∷ submit 19 25 (Write 2 (bytes 170) ∷ []) ∷ slot ∷ [])
+
+since : written_since 11 2 rewritten ≡ true
+unfolding answer
+since = refl
+
+abbrev row : Log
+row = run tight rewritten (slot ∷ slot ∷ slot ∷ [])
+
+its_acts : acts 11 row ≡ does.CopyRead 2 ∷ does.Erase 1 ∷ does.Erase 1 ∷ does.Erase 1 ∷ []
+unfolding answer
+its_acts = refl
+
+takes : work 11 row ≡ 4
+unfolding answer
+takes = refl
+
+ends : completion 11 row ≡ 23
+unfolding answer
+ends = refl
+
+is_late : lateness_of (completion 11 row) 40 ≡ negsuc 16
+unfolding answer
+is_late = refl
+
+tokens : accounts tight row ≡ amounts tight 2 2 0 2
+unfolding answer
+tokens = refl
+
+frees : free tight row ≡ 6
+unfolding answer
+frees = refl
+
+reads : content tight row 2 ≡ bytes 170
+unfolding answer
+reads = refl

@@ -1,0 +1,9 @@
+-- Wrong logs are refused: each of these breaks one rule, and isn't legal.
+mod Entries
+mod RewrittenPageProgrammed
+mod IdleWhileEraseSuspended
+mod EraseEndedEarly
+mod PageReadTwice
+mod WaivedWithoutSpare
+mod ErasedWithAPage
+mod IdleWhileJobWaits

@@ -1,0 +1,48 @@
+-- Slot entries made by hand, and what a legal one of a collection would have to meet.
+use Rattle.std.proofs.Common.{ℕ, true, false, Bool, [], ◌∷◌, Option, Some, None, MatchBool, MatchOption, slice_get}
+use Rattle.slot_types.specs.declared.plans.DiePlan.{DiePlan}
+use Rattle.slot_types.specs.declared.acts.Act.{Act}
+use Rattle.slot_types.specs.declared.acts.Act.TheVariants as does
+use Rattle.slot_types.specs.declared.events.Op.{Op}
+use Rattle.slot_types.specs.declared.events.Op.TheVariants.{Read, Write}
+use Rattle.slot_types.specs.declared.events.Event.TheVariants.{Slot}
+use Rattle.slot_types.specs.declared.replies.Entry.{Entry}
+use Rattle.slot_types.specs.declared.replies.Reply.TheVariants as replies
+use Rattle.die_log.specs.Log.{Log, work}
+use Rattle.die_log.specs.Legal.{IsLegal, IsNextCollectAct, Does}
+
+abbrev pub idle : ℕ → Entry
+idle now = record { caller = 0; event = Slot; reply = replies.Slot (record { slot = now; waived = []; ran = None; finished = None }) }
+
+abbrev pub ran : ℕ → ℕ → Act → Entry
+ran now number act = record { caller = 0; event = Slot; reply = replies.Slot (record { slot = now; waived = []; ran = Some (number, act); finished = None }) }
+
+-- no operation is done by an act of a collection
+abbrev pub IsOfCollection : Act → Type 0
+IsOfCollection (does.Read page bytes) = ⊥
+IsOfCollection (does.Write page bytes) = ⊥
+IsOfCollection _ = Unit {0}
+
+not_done : (op : Op) (act : Act) → IsOfCollection act → Does op act → ⊥
+not_done (Read page) (does.Read p b) c h = c
+not_done (Read page) (does.Write p b) c h = h
+not_done (Read page) (does.CopyRead p) c h = h
+not_done (Read page) (does.CopyProgram p) c h = h
+not_done (Read page) (does.Erase b) c h = h
+not_done (Write page bytes) (does.Read p b) c h = h
+not_done (Write page bytes) (does.Write p b) c h = c
+not_done (Write page bytes) (does.CopyRead p) c h = h
+not_done (Write page bytes) (does.CopyProgram p) c h = h
+not_done (Write page bytes) (does.Erase b) c h = h
+
+no_operation : (op : Option Op) (act : Act) → IsOfCollection act → MatchOption op ⊥ (λ o. Does o act) → ⊥
+no_operation None act c h = h
+no_operation (Some op) act c h = not_done op act c h
+
+either : (plan : DiePlan) (past : Log) (number : ℕ) (act : Act) (b : Bool) (op : Option Op) → IsOfCollection act → MatchBool b (IsNextCollectAct plan past number act) (MatchOption op ⊥ (λ o. Does o act)) → IsNextCollectAct plan past number act
+either plan past number act true op c h = h
+either plan past number act false op c h = absurd (no_operation op act c h)
+
+-- whichever job the number names, its act is a collection's next one
+pub next_of : (plan : DiePlan) (past : Log) (now number : ℕ) (act : Act) → IsOfCollection act → IsLegal plan (ran now number act ∷ past) → IsNextCollectAct plan past number act
+next_of plan past now number act c h = let j = h.1.slot.1.0 in either plan past number act j.collects (slice_get j.ops (work j.number past)) c h.1.slot.1.1.next

@@ -1,0 +1,223 @@
+-- What a die answers, and which logs are exact.
+use Rattle.std.specs.Prelude.{◌≡◌, ℕ, zero, suc, ◌&&◌, ◌||◌, ◌==◌, not, nat_lt, nat_le, Bool, true, false, if◌then◌else◌, List, [], ◌∷◌, ◌++◌, length, Option, Some, None, slice_get, slice_index, unwrap_or, is_some, filter, find, option_map}
+use Rattle.std.specs.List.{list_any, reduce, range_with_len, last_or}
+use Rattle.slot_types.specs.declared.plans.DiePlan.{DiePlan}
+use Rattle.slot_types.specs.declared.limits.TheConstants.{MAX_SLOT, MAX_JOBS, MAX_OPS}
+use Rattle.slot_types.specs.declared.acts.Act.{Act}
+use Rattle.slot_types.specs.declared.acts.Act.TheVariants as does
+use Rattle.slot_types.specs.declared.events.Op.{Op}
+use Rattle.slot_types.specs.declared.events.Op.TheVariants as asks
+use Rattle.slot_types.specs.declared.events.Event.{Event}
+use Rattle.slot_types.specs.declared.events.Event.TheVariants as events
+use Rattle.slot_types.specs.declared.replies.Reply.{Reply}
+use Rattle.slot_types.specs.declared.replies.Reply.TheVariants as replies
+use Rattle.slot_types.specs.declared.replies.SlotReply.{SlotReply}
+use Rattle.slot_types.specs.declared.replies.Waived.{Waived}
+use Rattle.slot_types.specs.declared.refusals.Refusal.{Refusal}
+use Rattle.slot_types.specs.declared.refusals.Refusal.TheVariants as because
+use Rattle.die_log.specs.Log.{Log, Job, jobs, now, acts, work}
+use Rattle.die_log.specs.Flash.{Cells, cells, content, block_at, is_full, valid, valid_pages, block_of_page}
+use Rattle.die_log.specs.Work.{are_all, is_done, ready, least, is_collecting, victim_of, writes}
+use Rattle.plan_rules.specs.Accounts.{Accounts, given_of}
+use Rattle.plan_rules.specs.Accounts as moves
+use Rattle.die_log.specs.Accounts.{accounts}
+
+-- Refusals
+
+abbrev pub page_of : Op → ℕ
+page_of (asks.Read page) = page
+page_of (asks.Write page bytes) = page
+
+-- the first page of these operations that the die doesn't have
+abbrev pub bad_page : DiePlan → List Op → Option ℕ
+bad_page plan ops = option_map page_of (find (λ op. nat_le plan.logical (page_of op)) ops)
+
+abbrev pub balance : DiePlan → Log → ℕ → ℕ
+balance plan past task = slice_index (accounts plan past).balances task
+
+-- the first whose condition stands
+abbrev pub first_standing : List (Bool × Refusal) → Option Refusal
+first_standing [] = None
+first_standing (c ∷ rest) = if c.0 then Some c.1 else first_standing rest
+
+-- what refuses an event, in the order in which it is looked at
+abbrev pub refusals : DiePlan → Log → Event → List (Bool × Refusal)
+refusals plan past (events.Submit task release due ops) =
+    (nat_le (length plan.caps) task, because.UnknownTask)
+    ∷ (length ops == 0, because.EmptyJob)
+    ∷ (nat_lt MAX_OPS (length ops), because.TooManyOps)
+    ∷ (is_some (bad_page plan ops), because.BadPage (unwrap_or (bad_page plan ops) 0))
+    ∷ (nat_lt release (now past), because.ReleasePast (now past))
+    ∷ (nat_le due release || nat_lt MAX_SLOT due, because.BadDue)
+    ∷ (nat_le MAX_JOBS (length (jobs past)), because.JobsFull)
+    ∷ (nat_lt (balance plan past task) (writes ops), because.NoTokens (balance plan past task) (writes ops))
+    ∷ []
+refusals plan past (events.Collect task release due) =
+    (nat_le (length plan.caps) task, because.UnknownTask)
+    ∷ (nat_lt release (now past), because.ReleasePast (now past))
+    ∷ (nat_le due release || nat_lt MAX_SLOT due, because.BadDue)
+    ∷ (is_collecting plan past task, because.CollectorBusy)
+    ∷ (nat_le MAX_JOBS (length (jobs past)), because.JobsFull)
+    ∷ []
+refusals plan past events.Slot = (nat_le MAX_SLOT (now past), because.ClockEnd) ∷ []
+
+-- why the event is refused, if it is
+abbrev pub refusal_of : DiePlan → Log → Event → Option Refusal
+refusal_of plan past event = first_standing (refusals plan past event)
+
+-- The head, and the waivers before it
+
+-- the collections that are waived, and then the head, if there is one
+pub record Choice : Type 0 where
+  pub waived : List Waived
+  pub head : Option Job
+
+-- a collection that has not begun, while spare is at least alpha
+abbrev pub is_waivable : DiePlan → Log → Accounts → Job → Bool
+is_waivable plan past a j = j.collects && (work j.number past == 0) && nat_le plan.alpha a.spare
+
+abbrev pub without : Job → List Job → List Job
+without j waiting = filter (λ i. not (i.number == j.number)) waiting
+
+abbrev pub with_waiver : Waived → Choice → Choice
+with_waiver w c = record c { waived = w ∷ c.waived }
+
+abbrev pub nobody : Choice
+nobody = record { waived = []; head = None }
+
+-- the one with the least key is the head; or it is waived, and the rest is chosen among again
+abbrev pub weighed : Accounts → List Job → (Accounts → List Job → Choice) → Job → Bool → Choice
+weighed a waiting again j true =
+    with_waiver (record { number = j.number; given = given_of a j.task }) (again (moves.waived a j.task) (without j waiting))
+weighed a waiting again j false = record { waived = []; head = Some j }
+
+abbrev pub chosen : DiePlan → Log → Accounts → List Job → (Accounts → List Job → Choice) → Option Job → Choice
+chosen plan past a waiting again None = nobody
+chosen plan past a waiting again (Some j) = weighed a waiting again j (is_waivable plan past a j)
+
+-- there are as many turns as jobs and collections that wait, so they don't run out
+abbrev pub choice_among : DiePlan → Log → ℕ → Accounts → List Job → Choice
+choice_among plan past zero a waiting = nobody
+choice_among plan past (suc turns) a waiting = chosen plan past a waiting (choice_among plan past turns) (least waiting)
+
+abbrev pub choice : DiePlan → Log → Choice
+choice plan past = let waiting = ready plan past in choice_among plan past (length waiting) (accounts plan past) waiting
+
+-- Acts
+
+abbrev pub act_of_op : DiePlan → Log → Option Op → Option Act
+act_of_op plan past None = None
+act_of_op plan past (Some (asks.Read page)) = Some (does.Read page (content plan past page))
+act_of_op plan past (Some (asks.Write page bytes)) = Some (does.Write page bytes)
+
+-- begun and not done
+abbrev pub is_running : DiePlan → Log → Job → Bool
+is_running plan log j = j.collects && nat_lt 0 (work j.number log) && not (is_done plan log j)
+
+abbrev pub is_block : ℕ → Option ℕ → Bool
+is_block b None = false
+is_block b (Some v) = v == b
+
+-- a running collection collects the block
+abbrev pub is_collected : DiePlan → Log → ℕ → Bool
+is_collected plan past b = list_any (λ j. is_running plan past j && is_block b (victim_of plan j.number past)) (jobs past)
+
+-- the closed blocks that nobody collects
+abbrev pub candidates : DiePlan → Log → List ℕ
+candidates plan past =
+    let c = cells plan past in
+    filter (λ b. is_full plan (block_at c b) && not (is_collected plan past b)) (range_with_len 0 plan.shape.blocks)
+
+-- of these the one with the fewest valid pages, then the smaller number
+abbrev pub victim : DiePlan → Log → Option ℕ
+victim plan past =
+    let c = cells plan past in
+    reduce (λ best b. if nat_lt (valid c b) (valid c best) then b else best) (candidates plan past)
+
+-- the block of a collection that has its turn
+abbrev pub block_for : DiePlan → Log → Job → Option ℕ
+block_for plan past j = if work j.number past == 0 then victim plan past else victim_of plan j.number past
+
+-- the page in the buffer of a collection with these acts
+abbrev pub buffer_after : Option Act → Option ℕ
+buffer_after (Some (does.CopyRead page)) = Some page
+buffer_after _ = None
+
+abbrev pub is_placed_in : Cells → ℕ → Option ℕ → Bool
+is_placed_in c b None = false
+is_placed_in c b (Some page) = is_block b (block_of_page c page)
+
+abbrev pub read_or_erase : ℕ → List ℕ → Act
+read_or_erase b [] = does.Erase b
+read_or_erase b (page ∷ pages) = does.CopyRead page
+
+-- it programs the page in its buffer if that is still placed in the block; else it reads the block's first placed
+-- page; else it does one slot of the erase
+abbrev pub collect_act : DiePlan → Cells → Option ℕ → Option ℕ → Option Act
+collect_act plan c buffer None = None
+collect_act plan c buffer (Some b) =
+    if is_placed_in c b buffer
+    then Some (does.CopyProgram (unwrap_or buffer 0))
+    else Some (read_or_erase b (valid_pages plan c b))
+
+-- what the head does in the slot
+abbrev pub act_for : DiePlan → Log → Job → Option Act
+act_for plan past j =
+    if j.collects
+    then collect_act plan (cells plan past) (buffer_after (last_or None (acts j.number past))) (block_for plan past j)
+    else act_of_op plan past (slice_get j.ops (work j.number past))
+
+-- Replies
+
+abbrev pub reply_with : DiePlan → Log → List Waived → Job → Option Act → SlotReply
+reply_with plan past waived j None = record { slot = now past; waived = waived; ran = None; finished = None }
+reply_with plan past waived j (Some act) =
+    let number = j.number in
+    record {
+      slot = now past;
+      waived = waived;
+      ran = Some (number, act);
+      finished = if are_all plan j (acts j.number past ++ act ∷ []) then Some number else None;
+    }
+
+abbrev pub slot_reply : DiePlan → Log → List Waived → Option Job → SlotReply
+slot_reply plan past waived None = record { slot = now past; waived = waived; ran = None; finished = None }
+slot_reply plan past waived (Some j) = reply_with plan past waived j (act_for plan past j)
+
+-- what an accepted event is answered
+abbrev pub accepted : DiePlan → Log → Event → Reply
+accepted plan past (events.Submit task release due ops) = replies.Taken (length (jobs past))
+accepted plan past (events.Collect task release due) = replies.Taken (length (jobs past))
+accepted plan past events.Slot = let c = choice plan past in replies.Slot (slot_reply plan past c.waived c.head)
+
+abbrev pub answer_by : DiePlan → Log → Event → Option Refusal → Reply
+answer_by plan past event None = accepted plan past event
+answer_by plan past event (Some refusal) = replies.Refused refusal
+
+-- what an event is answered behind these calls
+unfoldable pub answer : DiePlan → Log → Event → Reply
+answer plan past event = answer_by plan past event (refusal_of plan past event)
+
+abbrev pub IsAccepted : Reply → Type 0
+IsAccepted (replies.Refused refusal) = ⊥
+IsAccepted _ = Unit {0}
+
+-- each entry is what the die answers behind the entries before it, and no refusal
+abbrev pub IsExact : DiePlan → Log → Type 0
+IsExact plan [] = Unit {0}
+IsExact plan (e ∷ past) = IsExact plan past × (e.reply ≡ answer plan past e.event) × IsAccepted e.reply
+
+-- Runs
+
+abbrev pub with_answer : ℕ → Event → Reply → Log → Log
+with_answer caller event (replies.Refused refusal) past = past
+with_answer caller event reply past = record { caller = caller; event = event; reply = reply } ∷ past
+
+-- the log after one call
+abbrev pub after_call : DiePlan → Log → ℕ × Event → Log
+after_call plan past call = with_answer call.0 call.1 (answer plan past call.1) past
+
+-- the log after these calls, the first of which comes first
+abbrev pub run : DiePlan → Log → List (ℕ × Event) → Log
+run plan past [] = past
+run plan past (call ∷ calls) = run plan (after_call plan past call) calls

@@ -1,0 +1,20 @@
+-- What the accounts of an exact log come to, and that it is legal.
+use Rattle.std.specs.Prelude.{◌≡◌, ℕ, ◌+◌, ◌≤◌, true, Some}
+use Rattle.slot_types.specs.declared.plans.DiePlan.{DiePlan}
+use Rattle.die_log.specs.Log.{Log, Job, job_at, acts, is_waived}
+use Rattle.die_log.specs.Flash.{cells, valid}
+use Rattle.die_log.specs.Work.{victim_of}
+use Rattle.die_log.specs.Legal.{IsLegal}
+use Rattle.die_log.specs.Held.{reserve_full}
+use Rattle.die_log.specs.Held.{is_open, copied_of, AreTrue}
+
+-- what an open collection copied, and the pages still placed in its block, fit its collector's reserve
+pub record FewCopies (plan : DiePlan) (log : Log) : Type 0 where
+  pub few : (j : Job) (b : ℕ) → job_at log j.number ≡ Some j → is_open plan (λ n. acts n log) (is_waived log) j ≡ true → victim_of plan j.number log ≡ Some b
+      → copied_of (λ n. acts n log) j + valid (cells plan log) b ≤ reserve_full plan
+
+-- the accounts are true, each collection copies no more than its reserve, and the log is legal
+pub record IsWell (plan : DiePlan) (log : Log) : Type 0 where
+  pub true_accounts : AreTrue plan log
+  pub copies : FewCopies plan log
+  pub legal : IsLegal plan log

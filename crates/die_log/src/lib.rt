@@ -1,0 +1,30 @@
+//! What the log of a die says: definitions, and laws about them, apart from any body.
+//!
+//! A log is the list of the accepted calls of a die with their answers, the newest first: behind an entry lies
+//! the log as it was before it, so an earlier moment is what is left behind the last entries. The definitions
+//! stand in `specs/`, to be read in this order:
+//!
+//! - `Log`: entries; the jobs and collections that were taken; what each slot carried; the waivers;
+//! - `Flash`: the contents of the logical pages; blocks, places and free pages;
+//! - `Work`: what is done, what waits and what goes first; completion, lateness and the worst job; the block of
+//!   a collection; what is owed;
+//! - `Accounts`: tokens along a log, by the moves of `plan_rules`;
+//! - `Answers`: what a call is answered, by the refusals in their order and by the rules that choose the head of
+//!   a slot, waivers, victims and acts. A log is *exact* where each entry has this answer and none is a refusal;
+//! - `Legal`: what an outsider may ask of a log, said without any rule that chooses;
+//! - `Rows`: a log as the rows and slots that certificates of lateness are about.
+//!
+//! `Limits`, `Sound`, `Standing`, `Held` and `Well` say what else stands behind every exact log. The definitions
+//! run: `proofs/Worked` has small logs whose answers, cells, accounts and lateness are computed, `proofs/Wrong`
+//! logs that break one rule each and are refused.
+//!
+//! Each law is a function that does nothing, whose contract is the law.
+#![tactic(auto)]
+
+mod laws;
+
+pub use laws::{
+    collections_are_bounded, exact_carries_least_keys, exact_is_certified, exact_is_least_late,
+    exact_is_legal, exact_keeps_limits, exact_stands, moments_are_exact, same_calls,
+    worst_is_worst,
+};

@@ -1,0 +1,4 @@
+pub mod Queue
+pub mod Pairs
+pub mod Heaps
+pub mod Keys

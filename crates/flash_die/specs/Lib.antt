@@ -1,0 +1,4 @@
+pub mod Flash
+pub mod Memory
+pub mod MemoryView
+pub mod Fuse

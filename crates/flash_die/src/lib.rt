@@ -1,0 +1,10 @@
+//! Flash devices: what one does, one in memory, and one that fails after some calls.
+#![tactic(auto)]
+
+pub mod fuse;
+pub mod memory;
+pub mod nand;
+
+pub use fuse::FuseNand;
+pub use memory::MemoryNand;
+pub use nand::Nand;

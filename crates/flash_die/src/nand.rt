@@ -1,0 +1,74 @@
+//! What a flash device does.
+
+ghost use Rattle.std.specs.Prelude.{◌≡◌, ◌==◌, ◌+◌, ◌<◌, true, is_ok, IsOk, IfOk, IfErr, OnOk, OnErr};
+ghost use Rattle.flash_die.specs.Flash.{IsProgrammed, IsNext, IsErasable, block_at, cell_at, programmed, erased};
+
+use slot_types::{PageData, Place, Refusal, Shape};
+
+/// A flash device: blocks of pages, which are programmed in rising order and freed by the erase
+/// of their block. Blocks and pages count from 0.
+///
+/// Contracts see its shape, by block the pages programmed since the last erase with the progress
+/// of a running erase and the number of erases, and how often a call failed. A call that fails
+/// answers `DeviceFault`, and afterwards nothing is known of the cells. A device is fresh where
+/// no page is programmed, no block is in erase and nothing was erased or has failed.
+pub trait Nand: Drop {
+    ghost use Rattle.std.specs.Prelude.{ℕ, Bool, List};
+    ghost use Rattle.slot_types.specs.declared.plans.Shape.{Shape};
+    ghost use Rattle.flash_die.specs.Flash.{Block};
+
+    ghost shape_of: { Self → Shape };
+
+    ghost blocks: { Self → List Block };
+
+    ghost failures: { Self → ℕ };
+
+    // whether a call may end well, or with a fault, and which device it then leaves
+    ghost ends: { Self → Bool → Self → Type 0 };
+
+    // whether each call of this type ends well
+    ghost never_fails: { Bool };
+
+    /// What the device has.
+    fn shape(&self) -> Shape
+        ensures { result ≡ shape_of self.now };
+
+    /// The bytes of a programmed page, whose block isn't in erase.
+    fn read(&mut self, place: Place) -> Result<PageData, Refusal>
+        requires programmed { IsProgrammed (blocks self.old) place }
+        requires few_failures { failures self.old < 4294967295 }
+        ensures cell { IfOk result (λ bytes. bytes ≡ cell_at (blocks self.old) place) }
+        ensures blocks { OnOk result (blocks self.new ≡ blocks self.old) }
+        ensures well { OnOk result (failures self.new ≡ failures self.old) }
+        ensures fault { IfErr result (λ refusal. refusal ≡ Refusal.DeviceFault) }
+        ensures failed { OnErr result (failures self.new ≡ failures self.old + 1) }
+        ensures shape { shape_of self.new ≡ shape_of self.old }
+        ensures ends { ends self.old (is_ok result) self.new }
+        ensures never { never_fails ≡ true → IsOk result };
+
+    /// Fills the next free page of a block that isn't in erase.
+    fn program(&mut self, place: Place, bytes: PageData) -> Result<(), Refusal>
+        requires next { IsNext (blocks self.old) (shape_of self.old).pages place }
+        requires few_failures { failures self.old < 4294967295 }
+        ensures blocks { OnOk result (blocks self.new ≡ programmed (blocks self.old) place.block bytes) }
+        ensures well { OnOk result (failures self.new ≡ failures self.old) }
+        ensures fault { IfErr result (λ refusal. refusal ≡ Refusal.DeviceFault) }
+        ensures failed { OnErr result (failures self.new ≡ failures self.old + 1) }
+        ensures shape { shape_of self.new ≡ shape_of self.old }
+        ensures ends { ends self.old (is_ok result) self.new }
+        ensures never { never_fails ≡ true → IsOk result };
+
+    /// Does one slot of the erase of a block, which has all its pages programmed or is in erase
+    /// already, and answers whether it was the last. The last slot frees the block's pages.
+    fn erase_slot(&mut self, block: u32) -> Result<bool, Refusal>
+        requires erasable { IsErasable (blocks self.old) (shape_of self.old).pages block }
+        requires few_failures { failures self.old < 4294967295 }
+        ensures last { IfOk result (λ last. last ≡ ((block_at (blocks self.old) block).erasing + 1 == (shape_of self.old).erase_slots)) }
+        ensures blocks { OnOk result (blocks self.new ≡ erased (blocks self.old) (shape_of self.old).erase_slots block) }
+        ensures well { OnOk result (failures self.new ≡ failures self.old) }
+        ensures fault { IfErr result (λ refusal. refusal ≡ Refusal.DeviceFault) }
+        ensures failed { OnErr result (failures self.new ≡ failures self.old + 1) }
+        ensures shape { shape_of self.new ≡ shape_of self.old }
+        ensures ends { ends self.old (is_ok result) self.new }
+        ensures never { never_fails ≡ true → IsOk result };
+}

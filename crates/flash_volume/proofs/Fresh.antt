@@ -1,0 +1,119 @@
+-- A fresh device: the array of pages on it, and the volume.
+use Rattle.std.proofs.Common.{◌≡◌, ℕ, zero, suc, ◌+◌, ◌-◌, ◌*◌, ◌<◌, List, ◌∷◌, length, get_or, Option, Some, None, refl, sym, ap, ◌∙◌, subst, arith, inl, inr}
+use Rattle.std.specs.Prelude.{replicate}
+use Rattle.std.proofs.lemmas.Bool.{cases_lt}
+use Rattle.std.proofs.lemmas.List.Sums.{sum_by-cons}
+use Rattle.std.proofs.lemmas.List.{get_or-replicate, length-replicate, get_or_past}
+use Rattle.slot_types.specs.declared.pages.Place.{Place}
+use Rattle.slot_types.specs.declared.plans.Shape.{Shape}
+use Rattle.slot_types.specs.declared.plans.DiePlan.{DiePlan}
+use Rattle.plan_rules.specs.Bound.{MeetsBound}
+use Rattle.plan_rules.specs.Accounts.{total_of, opening}
+use Rattle.plan_rules.proofs.Totals.{room}
+use Rattle.std.proofs.lemmas.List.Folds.{sum_by-replicate}
+use Rattle.slot_types.specs.Places.{place_of}
+use Rattle.slot_types.specs.Shapes.{IsShape}
+use Rattle.page_map.specs.Placing.{blank_map}
+use Rattle.flash_die.specs.Flash.{Block, blank, empty_block, block_at, IsFresh}
+use Rattle.flash_volume.specs.Cells.{fills_of, free_in, free_cells, contents}
+use Rattle.flash_volume.specs.Array.{Stands}
+use Rattle.flash_volume.specs.Running.{running_of}
+use Rattle.flash_volume.specs.Sound.{IsSound}
+use Rattle.flash_volume.specs.declared.collection.Collection.{Collection}
+use Rattle.flash_volume.proofs.Filling.{seen, partly_none}
+
+abbrev zeros : ℕ → List ℕ
+zeros n = replicate n 0
+
+fills_fresh : (n : ℕ) → zeros n ≡ fills_of (replicate n empty_block)
+fills_fresh zero = refl
+fills_fresh (suc n) = ap (λ (l : List ℕ). 0 ∷ l) (fills_fresh n)
+
+fill_fresh : (n k : ℕ) → get_or (zeros n) k 0 ≡ 0
+fill_fresh n k =
+    elim (cases_lt k n) [
+      | inl below ↦ get_or-replicate n k 0 0 below
+      | inr past ↦ get_or_past (zeros n) k 0 (omega (arith, past, length-replicate {A = ℕ} n 0))
+    ]
+
+block_fresh : (n k : ℕ) → block_at (replicate n empty_block) k ≡ empty_block
+block_fresh n k =
+    elim (cases_lt k n) [
+      | inl below ↦ get_or-replicate n k empty_block empty_block below
+      | inr past ↦ get_or_past (replicate n empty_block) k empty_block (omega (arith, past, length-replicate n empty_block))
+    ]
+
+pub lies_nowhere : (logical page : ℕ) → place_of (replicate logical None) page ≡ None
+lies_nowhere logical page =
+    elim (cases_lt page logical) [
+      | inl below ↦ get_or-replicate logical page None None below
+      | inr past ↦ get_or_past (replicate logical None) page None (omega (arith, past, length-replicate {A = Option Place} logical None))
+    ]
+
+pub stands_fresh : (shape : Shape) (failures : ℕ) (blocks : List Block) (logical : ℕ) → IsShape shape → IsFresh shape blocks failures → Stands shape failures blocks (blank_map shape logical) (replicate shape.blocks 0) None
+stands_fresh shape failures blocks logical limits fresh =
+    let none : (k : ℕ) → 0 < get_or (zeros shape.blocks) k 0 → ⊥ = λ k some. omega (arith, some, fill_fresh shape.blocks k) in
+    record {
+      limits = limits;
+      map_shape = refl;
+      well = fresh.well;
+      count = ap length fresh.unused ∙ length-replicate shape.blocks empty_block;
+      fills_are = fills_fresh shape.blocks ∙ ap fills_of (sym fresh.unused);
+      within = λ k. omega (arith, fill_fresh shape.blocks k);
+      one_open = λ i j some_i few_i some_j few_j. absurd (none i some_i);
+      writing_is = partly_none shape.pages (replicate shape.blocks 0) (λ k some few. none k some);
+      quiet = λ k few. ap (λ (l : List Block). (block_at l k).erasing) fresh.unused ∙ ap (λ (b : Block). b.erasing) (block_fresh shape.blocks k);
+      placed = λ page place lies. let nowhere : place_of (replicate logical None) page ≡ None = lies_nowhere logical page in absurd (cc);
+    }
+
+one_more : (n k : ℕ) → (n + 1) * k ≡ n * k + k
+one_more n k = grind arith
+
+-- the accounts hold all cells at the start
+total_opening : (plan : DiePlan) → MeetsBound plan → total_of (opening plan) ≡ plan.shape.blocks * plan.shape.pages
+total_opening plan bound = omega (arith, room plan bound, sum_by-replicate (λ (n : ℕ). n) (length plan.caps) 0, sum_by-replicate (λ (n : ℕ). n) (length plan.caps) (plan.shape.pages - plan.alpha))
+
+none_running : (n task : ℕ) → running_of (replicate n None) task ≡ None
+none_running n task =
+    elim (cases_lt task n) [
+      | inl below ↦ get_or-replicate n task None None below
+      | inr past ↦ get_or_past (replicate n None) task None (omega (arith, past, length-replicate {A = Option Collection} n None))
+    ]
+
+suc_is : (n k : ℕ) → suc n * k ≡ (n + 1) * k
+suc_is n k = let e : suc n ≡ n + 1 = omega arith in ap (λ (m : ℕ). m * k) e
+
+free_fresh_by : (pages n : ℕ) → free_cells pages (replicate n empty_block) ≡ n * pages
+free_fresh_by pages zero = omega arith
+free_fresh_by pages (suc n) = omega (arith, sum_by-cons (free_in pages) empty_block (replicate n empty_block), free_fresh_by pages n, one_more n pages, suc_is n pages)
+
+-- all cells of a fresh device are free
+pub free_fresh : (shape : Shape) (failures : ℕ) (blocks : List Block) → IsFresh shape blocks failures → free_cells shape.pages blocks ≡ shape.blocks * shape.pages
+free_fresh shape failures blocks fresh = ap (λ (l : List Block). free_cells shape.pages l) fresh.unused ∙ free_fresh_by shape.pages shape.blocks
+
+-- and every page is blank
+pub contents_fresh : (blocks : List Block) (logical : ℕ) → contents blocks (replicate logical None) ≡ replicate logical blank
+contents_fresh blocks zero = refl
+contents_fresh blocks (suc logical) = ap (λ l. blank ∷ l) (contents_fresh blocks logical)
+
+-- a volume on which nothing was done yet
+pub sound_fresh : (plan : DiePlan) (shape : Shape) (failures : ℕ) (blocks : List Block) → MeetsBound plan → shape ≡ plan.shape → IsFresh shape blocks failures → IsSound (opening plan) shape failures blocks (blank_map shape plan.logical) (replicate (length plan.caps) None)
+sound_fresh plan shape failures blocks bound same fresh =
+    let none : (task : ℕ) → running_of (replicate (length plan.caps) None) task ≡ None = none_running (length plan.caps) in
+    let nobody : (task : ℕ) (c : Collection) → running_of (replicate (length plan.caps) None) task ≡ Some c → ⊥ = λ task c is. let nothing : running_of (replicate (length plan.caps) None) task ≡ None = none task in cc in
+    record {
+      stands = seen (stands_fresh shape failures blocks plan.logical (subst IsShape (sym same) bound.shape) fresh);
+      shape_is = same;
+      map_len = length-replicate plan.logical None;
+      total = free_fresh shape failures blocks fresh ∙ ap (λ (s : Shape). s.blocks * s.pages) same ∙ sym (total_opening plan bound);
+      runs = record {
+        len = length-replicate (length plan.caps) None;
+        in_range = λ task c is. absurd (nobody task c is);
+        full = λ task c is. absurd (nobody task c is);
+        lent = λ task c is. absurd (nobody task c is);
+        source = λ task c k is holds. absurd (nobody task c is);
+        bytes = λ task c k is holds lies. absurd (nobody task c is);
+        apart = λ task other c d is also victim. absurd (nobody task c is);
+        idle = λ task below is. get_or-replicate (length plan.caps) task (plan.shape.pages - plan.alpha) 0 below ∙ ap (λ (s : Shape). s.pages - plan.alpha) (sym same);
+      };
+    }

@@ -1,0 +1,4 @@
+pub mod Filling
+pub mod Erasing
+pub mod Fresh
+pub mod Collecting

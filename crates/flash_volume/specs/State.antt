@@ -1,0 +1,28 @@
+-- A volume as its callers see it.
+use Rattle.std.specs.Prelude.{Bool, false, List, length, Option, None, replicate}
+use Rattle.slot_types.specs.declared.pages.Place.{Place}
+use Rattle.slot_types.specs.declared.pages.PageData.{PageData}
+use Rattle.slot_types.specs.declared.plans.DiePlan.{DiePlan}
+use Rattle.plan_rules.specs.Accounts.{Accounts, opening}
+use Rattle.flash_die.specs.Flash.{blank}
+use Rattle.flash_volume.specs.declared.collection.Collection.{Collection}
+
+-- whether it has failed, its array of pages, its accounts with their plan, its device, where each page lies, and by task the collection that runs
+pub record State (N : Type 0) : Type 0 where
+  pub failed : Bool
+  pub pages : List PageData
+  pub accounts : Accounts
+  pub device : N
+  pub places : List (Option Place)
+  pub running : List (Option Collection)
+
+-- a volume on which nothing was done yet
+abbrev pub fresh_volume : {N : Type 0} → DiePlan → N → State N
+fresh_volume plan device = record {
+  failed = false;
+  pages = replicate plan.logical blank;
+  accounts = opening plan;
+  device = device;
+  places = replicate plan.logical None;
+  running = replicate (length plan.caps) None;
+}

@@ -1,0 +1,201 @@
+//! An array of pages on a flash device.
+
+ghost use Rattle.std.specs.Prelude.{◌≡◌, ◌==◌, ◌+◌, ◌<◌, ◌≤◌, ◌^◌, ℕ, true, false, Some, None, List, length, slice_set, is_err, IsOk, IsSome, IfOk, IfErr, IfSome, OnOk, OnErr, position};
+ghost use Rattle.slot_types.specs.Places.{place_of, owner_of};
+ghost use Rattle.slot_types.specs.Shapes.{IsShape};
+ghost use Rattle.page_map.specs.Placing.{blank_map, bound};
+ghost use Rattle.flash_die.specs.Flash.{IsFresh, blank, block_at, programmed, erased};
+ghost use Rattle.flash_volume.specs.Cells.{filled_of, is_blank, open_in, left_open, next_cell, content_at, contents, free_cells};
+ghost use Rattle.flash_volume.specs.Array.{IsSoundArray};
+
+use flash_die::Nand;
+use page_map::PageMap;
+use slot_types::{PageData, Place, Refusal};
+use std::alloc::Global;
+use std::marker::Model;
+
+/// An array of pages on a flash device. A page that is written goes to the next free cell of the
+/// open block, and no longer lies in the cell before.
+///
+/// Contracts see whether the device has failed, the device and where each page lies. After the
+/// device has failed nothing is known of it.
+#[derive(Drop)]
+pub(crate) struct PageArray<N: Nand> {
+    device: N,
+    map: PageMap,
+    /// By block how many of its cells are programmed.
+    fills: Vec<u32>,
+    /// The block that is partly filled. There is one at most.
+    writing: Option<u32>,
+    failed: bool,
+}
+
+impl<N: Nand> Model for PageArray<N> {
+    ghost use Rattle.std.specs.Prelude.{◌≡◌, false};
+    ghost use Rattle.flash_volume.specs.Array.{ArrayState, Stands};
+
+    ghost Value = { ArrayState N };
+
+    ghost view = { λ a. record { failed = a.failed; device = a.device; placing = a.map } };
+
+    ghost invariant = { λ a. a.failed ≡ false → Stands (N.shape_of a.device) (N.failures a.device) (N.blocks a.device) a.map a.fills.items a.writing };
+}
+
+impl<N: Nand> PageArray<N> {
+    /// An array of `logical` pages on a fresh device, none of which was written.
+    pub(crate) fn new(alloc: Global, device: N, logical: u32) -> Result<Self, Refusal>
+        requires limits { IsShape (N.shape_of device) }
+        requires fresh { IsFresh (N.shape_of device) (N.blocks device) (N.failures device) }
+        ensures ok { IfOk result (λ array. array ≡ record { failed = false; device = device; placing = blank_map (N.shape_of device) logical }) }
+        ensures sound { IfOk result (IsSoundArray N.shape_of N.failures N.blocks) }
+        ensures err { IfErr result (λ refusal. refusal ≡ Refusal.NoMemory) }
+    {
+        let shape = device.shape();
+        Ok(PageArray {
+            device,
+            map: PageMap::new(alloc, shape, logical)?,
+            fills: vec![in alloc; 0; shape.blocks as usize]?,
+            writing: None,
+            failed: false,
+        })
+    }
+
+    /// Whether the device has failed.
+    pub(crate) fn failed(&self) -> bool
+        ensures { result ≡ self.now.failed }
+    {
+        self.failed
+    }
+
+    /// The device.
+    pub(crate) fn device(&self) -> &N
+        ensures { result.now ≡ self.now.device }
+    {
+        &self.device
+    }
+
+    /// What a page holds. A page that was never written is blank, and calls no device.
+    pub(crate) fn read(&mut self, page: u32) -> Result<PageData, Refusal>
+        requires alive { self.old.failed ≡ false }
+        requires page { page < length self.old.placing.places }
+        ensures page { IfOk result (λ bytes. bytes ≡ content_at (N.blocks self.old.device) (place_of self.old.placing.places page)) }
+        ensures unwritten { place_of self.old.placing.places page ≡ None → (result ≡ Ok blank) × (self.new ≡ self.old) }
+        ensures cells { OnOk result (N.blocks self.new.device ≡ N.blocks self.old.device) }
+        ensures placing { self.new.placing ≡ self.old.placing }
+        ensures failed { self.new.failed ≡ is_err result }
+        ensures well { OnOk result (N.failures self.new.device ≡ N.failures self.old.device) }
+        ensures fault { IfErr result (λ refusal. refusal ≡ Refusal.DeviceFault) }
+        ensures failures { OnErr result (N.failures self.new.device ≡ N.failures self.old.device + 1) }
+        ensures shape { N.shape_of self.new.device ≡ N.shape_of self.old.device }
+        ensures never { N.never_fails ≡ true → IsOk result }
+    {
+        match self.map.place(page) {
+            None => Ok(PageData::BLANK),
+            Some(place) => {
+                let bytes = self.device.read(place);
+                self.failed = bytes.is_err();
+                bytes
+            }
+        }
+    }
+
+    /// Writes a page to the next free cell of the open block, while a cell is free.
+    pub(crate) fn write(&mut self, page: u32, bytes: PageData) -> Result<(), Refusal>
+        requires alive { self.old.failed ≡ false }
+        requires page { page < length self.old.placing.places }
+        requires free { 0 < free_cells (N.shape_of self.old.device).pages (N.blocks self.old.device) }
+        ensures finds { IsSome (open_in (N.shape_of self.old.device).pages (N.blocks self.old.device)) }
+        ensures cells { OnOk result (N.blocks self.new.device ≡ programmed (N.blocks self.old.device) (next_cell (N.shape_of self.old.device).pages (N.blocks self.old.device)).block bytes) }
+        ensures placing { OnOk result (self.new.placing ≡ bound self.old.placing page (next_cell (N.shape_of self.old.device).pages (N.blocks self.old.device))) }
+        ensures free { OnOk result (free_cells (N.shape_of self.old.device).pages (N.blocks self.new.device) + 1 ≡ free_cells (N.shape_of self.old.device).pages (N.blocks self.old.device)) }
+        ensures contents { OnOk result (contents (N.blocks self.new.device) self.new.placing.places ≡ slice_set (contents (N.blocks self.old.device) self.old.placing.places) page bytes) }
+        ensures sound { IsSoundArray N.shape_of N.failures N.blocks self.new }
+        ensures failed { self.new.failed ≡ is_err result }
+        ensures well { OnOk result (N.failures self.new.device ≡ N.failures self.old.device) }
+        ensures fault { IfErr result (λ refusal. refusal ≡ Refusal.DeviceFault) }
+        ensures failures { OnErr result (N.failures self.new.device ≡ N.failures self.old.device + 1) }
+        ensures shape { N.shape_of self.new.device ≡ N.shape_of self.old.device }
+        ensures never { N.never_fails ≡ true → IsOk result }
+    {
+        let place = self.next_cell();
+        match self.device.program(place, bytes) {
+            Err(refusal) => {
+                self.failed = true;
+                Err(refusal)
+            }
+            Ok(()) => {
+                let filled = place.page + 1;
+                self.fills[place.block as usize] = filled;
+                let still_open = left_open(place.block, filled, self.device.shape().pages);
+                self.writing = still_open;
+                self.map.bind(page, place);
+                Ok(())
+            }
+        }
+    }
+
+    /// Does one slot of the erase of a block that is full and in which no page lies, and answers
+    /// whether it was the last.
+    pub(crate) fn erase_slot(&mut self, block: u32) -> Result<bool, Refusal>
+        requires alive { self.old.failed ≡ false }
+        requires block { block < length (N.blocks self.old.device) }
+        requires full { filled_of (block_at (N.blocks self.old.device) block) ≡ (N.shape_of self.old.device).pages }
+        requires empty { (page : ℕ) → page < (N.shape_of self.old.device).pages → owner_of self.old.placing.places (record { block = block; page = page }) ≡ None }
+        requires few_erases { (block_at (N.blocks self.old.device) block).erases < 4294967295 }
+        ensures last { IfOk result (λ last. last ≡ ((block_at (N.blocks self.old.device) block).erasing + 1 == (N.shape_of self.old.device).erase_slots)) }
+        ensures cells { OnOk result (N.blocks self.new.device ≡ erased (N.blocks self.old.device) (N.shape_of self.old.device).erase_slots block) }
+        ensures placing { self.new.placing ≡ self.old.placing }
+        ensures goes_on { result ≡ Ok false → free_cells (N.shape_of self.old.device).pages (N.blocks self.new.device) ≡ free_cells (N.shape_of self.old.device).pages (N.blocks self.old.device) }
+        ensures ends { result ≡ Ok true → free_cells (N.shape_of self.old.device).pages (N.blocks self.new.device) ≡ free_cells (N.shape_of self.old.device).pages (N.blocks self.old.device) + (N.shape_of self.old.device).pages }
+        ensures contents { OnOk result (contents (N.blocks self.new.device) self.new.placing.places ≡ contents (N.blocks self.old.device) self.old.placing.places) }
+        ensures sound { IsSoundArray N.shape_of N.failures N.blocks self.new }
+        ensures failed { self.new.failed ≡ is_err result }
+        ensures well { OnOk result (N.failures self.new.device ≡ N.failures self.old.device) }
+        ensures fault { IfErr result (λ refusal. refusal ≡ Refusal.DeviceFault) }
+        ensures failures { OnErr result (N.failures self.new.device ≡ N.failures self.old.device + 1) }
+        ensures shape { N.shape_of self.new.device ≡ N.shape_of self.old.device }
+        ensures never { N.never_fails ≡ true → IsOk result }
+    {
+        match self.device.erase_slot(block) {
+            Err(refusal) => {
+                self.failed = true;
+                Err(refusal)
+            }
+            Ok(false) => Ok(false),
+            Ok(true) => {
+                self.fills[block as usize] = 0;
+                Ok(true)
+            }
+        }
+    }
+
+    /// The cell that is written next, while a cell is free.
+    fn next_cell(&self) -> Place
+        requires alive { self.now.failed ≡ false }
+        requires free { 0 < free_cells (N.shape_of self.now.device).pages (N.blocks self.now.device) }
+        ensures { result ≡ next_cell (N.shape_of self.now.device).pages (N.blocks self.now.device) }
+    {
+        let block = match self.writing {
+            Some(block) => block,
+            None => first_blank(&self.fills).unwrap_or(0) as u32,
+        };
+        Place {
+            block,
+            page: self.fills[block as usize],
+        }
+    }
+}
+
+/// The block, unless it is full.
+fn left_open(block: u32, filled: u32, pages: u32) -> Option<u32>
+    ensures { result ≡ left_open pages block filled }
+{
+    if filled < pages { Some(block) } else { None }
+}
+
+fn first_blank(fills: &[u32]) -> Option<usize>
+    ensures found { result ≡ position is_blank fills.now }
+    ensures in_range { IfSome result (λ block. block < length fills.now) }
+{
+    fills.iter().position(|filled| *filled == 0)
+}

@@ -1,0 +1,186 @@
+//! A volume: an array of pages on a flash device, and the accounts of its free pages.
+
+ghost use Rattle.std.specs.Prelude.{◌≡◌, ◌+◌, ◌-◌, ◌<◌, ◌≤◌, ◌↔◌, ◌⊎◌, ℕ, true, false, Some, None, length, slice_index, slice_index_or, slice_set, IsOk, IsSome, IfOk, IfErr, OnOk, OnErr};
+ghost use Rattle.slot_types.specs.Places.{place_of};
+ghost use Rattle.plan_rules.specs.Bound.{MeetsBound};
+ghost use Rattle.plan_rules.specs.Accounts.{total_of, admitted, hold_spent};
+ghost use Rattle.flash_die.specs.Flash.{IsFresh, blank, programmed};
+ghost use Rattle.flash_volume.specs.Cells.{open_in, next_cell, free_cells};
+ghost use Rattle.flash_volume.specs.State.{fresh_volume};
+
+use crate::array::PageArray;
+use crate::collection::Collection;
+use flash_die::Nand;
+use page_ledger::Ledger;
+use slot_types::{DiePlan, PageData, Refusal, TaskNo};
+use std::alloc::Global;
+use std::marker::Model;
+
+/// An array of pages on a flash device, and the accounts of its free pages.
+///
+/// Contracts see whether it has failed, what each page holds, the accounts with their plan, the
+/// device, where each page lies, and by task the collection that runs. What the pages hold is
+/// read off the device and the places.
+///
+/// Once a call of the device has failed the volume has failed: `admit`, `read` and `write` answer
+/// `DieStopped`, and nothing is known of its pages, its accounts and its cells but the plan.
+#[derive(Drop)]
+pub struct Volume<N: Nand> {
+    ledger: Ledger,
+    array: PageArray<N>,
+    /// By task the collection that runs.
+    running: Vec<Option<Collection>>,
+}
+
+impl<N: Nand> Model for Volume<N> {
+    ghost use Rattle.std.specs.Prelude.{◌≡◌, false};
+    ghost use Rattle.flash_volume.specs.State.{State};
+    ghost use Rattle.flash_volume.specs.Cells.{contents};
+    ghost use Rattle.flash_volume.specs.Sound.{IsSound};
+
+    ghost Value = { State N };
+
+    ghost view = { λ v. record { failed = v.array.failed; pages = contents (N.blocks v.array.device) v.array.placing.places; accounts = v.ledger; device = v.array.device; places = v.array.placing.places; running = v.running.items } };
+
+    ghost invariant = { λ v. v.array.failed ≡ false → IsSound v.ledger (N.shape_of v.array.device) (N.failures v.array.device) (N.blocks v.array.device) v.array.placing v.running.items };
+}
+
+impl<N: Nand> Volume<N> {
+    /// A volume on which nothing was written.
+    ///
+    /// The plan meets its bound, and the device is fresh and of the plan's shape. `NoMemory`
+    /// where memory is refused; plan and device are given up then. No other call needs memory.
+    pub fn new(alloc: Global, plan: DiePlan, device: N) -> Result<Self, Refusal>
+        requires bound { MeetsBound plan }
+        requires shape { N.shape_of device ≡ plan.shape }
+        requires fresh { IsFresh (N.shape_of device) (N.blocks device) (N.failures device) }
+        ensures ok { IfOk result (λ volume. volume ≡ fresh_volume plan device) }
+        ensures err { IfErr result (λ refusal. refusal ≡ Refusal.NoMemory) }
+    {
+        let array = PageArray::new(alloc, device, plan.logical)?;
+        let running = vec![in alloc; None; plan.caps.len()]?;
+        Ok(Volume {
+            ledger: Ledger::new(alloc, plan)?,
+            array,
+            running,
+        })
+    }
+
+    /// The plan of the die.
+    pub fn plan(&self) -> &DiePlan
+        ensures { result.now ≡ self.now.accounts.plan }
+    {
+        self.ledger.plan()
+    }
+
+    /// The device.
+    pub fn device(&self) -> &N
+        ensures { result.now ≡ self.now.device }
+    {
+        self.array.device()
+    }
+
+    /// Whether a call of the device has failed.
+    pub fn failed(&self) -> bool
+        ensures { result ≡ self.now.failed }
+    {
+        self.array.failed()
+    }
+
+    /// How many pages the task's next jobs may write.
+    pub fn balance(&self, task: TaskNo) -> u32
+        requires { task < length self.now.accounts.plan.caps }
+        ensures { result ≡ slice_index self.now.accounts.balances task }
+    {
+        self.ledger.balance(task)
+    }
+
+    /// How many pages are in all accounts. Until the volume fails these are its free cells, those
+    /// of a block in erase not counted.
+    pub fn free(&self) -> u32
+        ensures total { result ≡ total_of self.now.accounts }
+        ensures cells { self.now.failed ≡ false → result ≡ free_cells self.now.accounts.plan.shape.pages (N.blocks self.now.device) }
+    {
+        self.ledger.total()
+    }
+
+    /// Moves the pages that a job of the task is to write from its balance to its hold.
+    ///
+    /// `DieStopped` exactly where the volume has failed, or else `NoTokens`, with the balance and
+    /// `writes`, exactly where the balance is below `writes`. A refusal changes nothing.
+    pub fn admit(&mut self, task: TaskNo, writes: u32) -> Result<(), Refusal>
+        requires { task < length self.old.accounts.plan.caps }
+        ensures stopped { (result ≡ Err Refusal.DieStopped) ↔ (self.old.failed ≡ true) }
+        ensures accepted { self.old.failed ≡ false → (IsOk result ↔ writes ≤ slice_index self.old.accounts.balances task) }
+        ensures refused { self.old.failed ≡ false → IfErr result (λ refusal. refusal ≡ Refusal.NoTokens (slice_index self.old.accounts.balances task) writes) }
+        ensures ok { OnOk result (self.new ≡ record self.old { accounts = admitted self.old.accounts task writes }) }
+        ensures err { OnErr result (self.new ≡ self.old) }
+    {
+        if self.array.failed() {
+            return Err(Refusal::DieStopped);
+        }
+        self.ledger.admit(task, writes)
+    }
+
+    /// What a page holds. A page that was never written is blank, and calls no device.
+    ///
+    /// `DieStopped` exactly where the volume has failed already, which changes nothing, or else
+    /// `DeviceFault` exactly where the device's call failed: the volume has failed then.
+    pub fn read(&mut self, page: u32) -> Result<PageData, Refusal>
+        requires { page < length self.old.pages }
+        ensures page { IfOk result (λ bytes. bytes ≡ slice_index_or self.old.pages page blank) }
+        ensures unwritten { place_of self.old.places page ≡ None → self.new ≡ self.old }
+        ensures cells { OnOk result (N.blocks self.new.device ≡ N.blocks self.old.device) }
+        ensures places { OnOk result (self.new.places ≡ self.old.places) }
+        ensures pages { OnOk result (self.new.pages ≡ self.old.pages) }
+        ensures accounts { self.new.accounts ≡ self.old.accounts }
+        ensures running { self.new.running ≡ self.old.running }
+        ensures well { OnOk result (self.new.failed ≡ false) }
+        ensures refused { IfErr result (λ refusal. (refusal ≡ Refusal.DieStopped) ⊎ (refusal ≡ Refusal.DeviceFault)) }
+        ensures stopped { (result ≡ Err Refusal.DieStopped) ↔ (self.old.failed ≡ true) }
+        ensures fault { (result ≡ Err Refusal.DeviceFault) ↔ (N.failures self.new.device ≡ N.failures self.old.device + 1) }
+        ensures failed { OnErr result (self.new.failed ≡ true) }
+        ensures unchanged { self.old.failed ≡ true → self.new ≡ self.old }
+        ensures never { N.never_fails ≡ true → self.old.failed ≡ false → IsOk result }
+    {
+        if self.array.failed() {
+            return Err(Refusal::DieStopped);
+        }
+        self.array.read(page)
+    }
+
+    /// Writes a page, with one of the pages that the task holds. A free cell is always found.
+    ///
+    /// `DieStopped` exactly where the volume has failed already, which changes nothing, or else
+    /// `DeviceFault` exactly where the device's call failed: the volume has failed then.
+    pub fn write(&mut self, task: TaskNo, page: u32, bytes: PageData) -> Result<(), Refusal>
+        requires task { task < length self.old.accounts.plan.caps }
+        requires page { page < length self.old.pages }
+        requires held { 0 < slice_index self.old.accounts.holds task }
+        ensures finds { self.old.failed ≡ false → IsSome (open_in self.old.accounts.plan.shape.pages (N.blocks self.old.device)) }
+        ensures cells { OnOk result (N.blocks self.new.device ≡ programmed (N.blocks self.old.device) (next_cell self.old.accounts.plan.shape.pages (N.blocks self.old.device)).block bytes) }
+        ensures places { OnOk result (self.new.places ≡ slice_set self.old.places page (Some (next_cell self.old.accounts.plan.shape.pages (N.blocks self.old.device)))) }
+        ensures pages { OnOk result (self.new.pages ≡ slice_set self.old.pages page bytes) }
+        ensures accounts { OnOk result (self.new.accounts ≡ hold_spent self.old.accounts task) }
+        ensures plan { self.new.accounts.plan ≡ self.old.accounts.plan }
+        ensures running { self.new.running ≡ self.old.running }
+        ensures well { OnOk result (self.new.failed ≡ false) }
+        ensures refused { IfErr result (λ refusal. (refusal ≡ Refusal.DieStopped) ⊎ (refusal ≡ Refusal.DeviceFault)) }
+        ensures stopped { (result ≡ Err Refusal.DieStopped) ↔ (self.old.failed ≡ true) }
+        ensures fault { (result ≡ Err Refusal.DeviceFault) ↔ (N.failures self.new.device ≡ N.failures self.old.device + 1) }
+        ensures failed { OnErr result (self.new.failed ≡ true) }
+        ensures unchanged { self.old.failed ≡ true → self.new ≡ self.old }
+        ensures never { N.never_fails ≡ true → self.old.failed ≡ false → IsOk result }
+    {
+        if self.array.failed() {
+            return Err(Refusal::DieStopped);
+        }
+        match self.array.write(page, bytes) {
+            Err(refusal) => Err(refusal),
+            Ok(()) => {
+                self.ledger.spend_hold(task);
+                Ok(())
+            }
+        }
+    }
+}

@@ -1,0 +1,10 @@
+pub mod Changes
+pub mod Members
+pub mod Orders
+pub mod Keyed
+pub mod Heads
+pub mod Worsts
+pub mod Waivers
+pub mod Releasing
+pub mod Roomy
+pub mod Tables

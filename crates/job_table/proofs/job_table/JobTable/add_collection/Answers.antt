@@ -1,0 +1,23 @@
+use Rattle.std.proofs.Common.{◌≡◌, ◌<◌, false, length, refl, sym, subst}
+use Rattle.slot_types.specs.declared.limits.TheConstants.{MAX_JOBS}
+use Rattle.job_table.specs.Jobs.{JobRecord, new_collection}
+use Rattle.job_table.specs.Table.{Table, is_collecting}
+use Rattle.job_table.proofs.Tables.{has_entered, collection_sound}
+use Rattle.job_table.proofs.job_table.JobTable.add_collection.Goals as goal
+
+pub invariant_of-self-2 : goal.invariant_of-self-2
+invariant_of-self-2 c =
+    let job : JobRecord = new_collection c.args.task c.args.release c.args.due in
+    let few = subst (λ (t : Table). length t.jobs < MAX_JOBS) (sym c.self.view_is) c.requires.few in
+    let runs = subst (λ (t : Table). t.ended ≡ false) (sym c.self.view_is) c.requires.running in
+    let in_range = subst (λ (t : Table). c.args.task < t.tasks) (sym c.self.view_is) c.requires.task in
+    let single = subst (λ (t : Table). is_collecting t.jobs c.args.task ≡ false) (sym c.self.view_is) c.requires.single in
+    let waiting = rw (c.in_ok-number.ensures.number, c.in_ok-reserve.ensures.waiting) at c.enter.ensures.waiting in
+    let ready = rw (c.in_ok-number.ensures.number, c.in_ok-reserve.ensures.ready) at c.enter.ensures.ready in
+    let r = c.self.invariant.running runs in
+    rw (c.in_ok-number.ensures.ok, c.new_collection.ensures, c.task.view_is)
+    (collection_sound c.self.inside.jobs.items job c.self.inside.clock c.self.inside.ended c.self.inside.collecting.items c.self.inside.queues c.enter.new.queues c.self.inside.worst
+      runs few refl refl in_range single
+      (has_entered c.self.inside.jobs.items job c.self.inside.clock c.self.inside.queues.waiting c.enter.new.queues.waiting c.self.inside.queues.ready c.enter.new.queues.ready
+        refl waiting ready r.queued r.later)
+      c.self.invariant)

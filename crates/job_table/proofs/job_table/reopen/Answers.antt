@@ -1,0 +1,20 @@
+use Rattle.std.proofs.Common.{◌≡◌, ◌<◌, length, sym, ap, ◌∙◌, take_all}
+use Rattle.job_table.specs.declared.stages.Stage.TheVariants as stages
+use Rattle.job_table.specs.Jobs.{with_stage}
+use Rattle.job_table.specs.Table.{changed_at}
+use Rattle.job_table.specs.Waivers.{reopened}
+use Rattle.job_table.proofs.Waivers.{reopened_more, waived_in_range, length-reopened}
+use Rattle.job_table.proofs.job_table.reopen.Goals as goal
+
+pub put_stage-requires : goal.put_stage-requires
+put_stage-requires c =
+    let lt = waived_in_range c.args.jobs.now.items c.args.waived.now c.loop-w.w-index c.w-item.result c.requires c.loop-w-test.true c.w-item.is in
+    rw (c.loop-w.invariant, length-reopened) lt
+
+pub loop-w-preserved : goal.loop-w-preserved
+loop-w-preserved c =
+    c.put_stage.ensures ∙ ap (λ l. changed_at l c.w-item.result.number (with_stage stages.Open)) c.loop-w.invariant
+    ∙ sym (reopened_more c.args.jobs.now.items c.args.waived.now c.loop-w.w-index c.w-item.result c.loop-w-test.true c.w-item.is)
+
+pub returns : goal.returns
+returns c = c.loop-w.invariant ∙ ap (reopened c.args.jobs.now.items) (take_all c.loop-w.w-index c.args.waived.now c.loop-w-test.false)

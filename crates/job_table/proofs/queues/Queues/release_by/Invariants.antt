@@ -1,0 +1,15 @@
+use Rattle.std.proofs.Common.{◌≤◌, length}
+use Rattle.due_queue.specs.Queue.{IsRising}
+use Rattle.due_queue.specs.Keys.{is_due_before, is_released_before}
+use Rattle.job_table.specs.Queued.{AreQueued, IsRoomy}
+use Rattle.job_table.proofs.queues.Queues.release_by.Given as goal
+
+abbrev pub invariant-loop-key : goal.invariant-loop-key
+invariant-loop-key l = record {
+  roomy : IsRoomy l.self-inside.waiting.keys l.self-inside.ready.keys l.self-inside.ready.spare;
+  queued : AreQueued l.jobs l.now l.self-inside.waiting.keys l.self-inside.ready.keys;
+  fewer : length l.self-inside.waiting.keys ≤ length l.initial.self-inside.waiting.keys
+}
+
+abbrev pub decreases-loop-key : goal.decreases-loop-key
+decreases-loop-key l = length l.self-inside.waiting.keys

@@ -1,0 +1,69 @@
+-- A job or a collection, as the table keeps it.
+use Rattle.std.specs.Prelude.{ℕ, ◌+◌, Bool, true, false, List, [], ◌∷◌, ◌++◌, ℤ, pos, ◌-ℤ◌}
+use Rattle.slot_types.specs.declared.events.Op.{Op}
+use Rattle.slot_types.specs.declared.events.Op.TheVariants.{Read, Write}
+use Rattle.slot_types.specs.declared.pages.PageData.{PageData}
+use Rattle.job_table.specs.declared.stages.Stage.{Stage}
+use Rattle.job_table.specs.declared.stages.Stage.TheVariants.{Open, Done, Waived}
+
+-- what it was accepted with, how many slots it took so far, what its reads gave, and how it stands
+pub record JobRecord : Type 0 where
+  pub collects : Bool
+  pub task : ℕ
+  pub release : ℕ
+  pub due : ℕ
+  pub ops : List Op
+  pub work : ℕ
+  pub reads : List PageData
+  pub stage : Stage
+
+-- neither done nor waived
+abbrev pub is_open : Stage → Bool
+is_open Open = true
+is_open (Done completion given) = false
+is_open (Waived given) = false
+
+abbrev pub is_done : Stage → Bool
+is_done Open = false
+is_done (Done completion given) = true
+is_done (Waived given) = false
+
+abbrev pub is_waived : Stage → Bool
+is_waived Open = false
+is_waived (Done completion given) = false
+is_waived (Waived given) = true
+
+-- 1 + the slot in which it was done, or 0 if it isn't done
+abbrev pub completion_in : Stage → ℕ
+completion_in Open = 0
+completion_in (Done completion given) = completion
+completion_in (Waived given) = 0
+
+-- completion minus due
+abbrev pub lateness_of : JobRecord → ℤ
+lateness_of job = pos (completion_in job.stage) -ℤ pos job.due
+
+abbrev pub is_read : Op → Bool
+is_read (Read page) = true
+is_read (Write page bytes) = false
+
+-- a job that has not begun
+abbrev pub new_job : ℕ → ℕ → ℕ → List Op → JobRecord
+new_job task release due ops =
+    record { collects = false; task = task; release = release; due = due; ops = ops; work = 0; reads = []; stage = Open }
+
+-- a collection that has not begun
+abbrev pub new_collection : ℕ → ℕ → ℕ → JobRecord
+new_collection task release due =
+    record { collects = true; task = task; release = release; due = due; ops = []; work = 0; reads = []; stage = Open }
+
+-- it took one more slot
+abbrev pub carried : JobRecord → JobRecord
+carried job = record job { work = job.work + 1 }
+
+-- one of its reads gave these bytes
+abbrev pub with_read : PageData → JobRecord → JobRecord
+with_read bytes job = record job { reads = job.reads ++ bytes ∷ [] }
+
+abbrev pub with_stage : Stage → JobRecord → JobRecord
+with_stage stage job = record job { stage = stage }

@@ -1,0 +1,52 @@
+-- The jobs and collections of a die by number, and what happens to them.
+use Rattle.std.specs.Prelude.{ℕ, zero, suc, ◌-◌, ◌&&◌, ◌==◌, Bool, false, List, [], ◌∷◌, ◌++◌, Option, Some, None, slice_get, length, count_by}
+use Rattle.std.specs.List.{list_any}
+use Rattle.job_table.specs.Jobs.{JobRecord, is_open, is_read}
+
+-- how many tasks there are, the slot up to which releases were looked at, whether the die has stopped, and the jobs and
+-- collections by number
+pub record Table : Type 0 where
+  pub tasks : ℕ
+  pub clock : ℕ
+  pub ended : Bool
+  pub jobs : List JobRecord
+
+abbrev pub empty_table : ℕ → Table
+empty_table tasks = record { tasks = tasks; clock = 0; ended = false; jobs = [] }
+
+-- one more, under the next number
+abbrev pub with_job : Table → JobRecord → Table
+with_job table job = record table { jobs = table.jobs ++ job ∷ [] }
+
+-- the list with the job of one number changed
+abbrev pub changed_at : List JobRecord → ℕ → (JobRecord → JobRecord) → List JobRecord
+changed_at [] number change = []
+changed_at (job ∷ jobs) zero change = change job ∷ jobs
+changed_at (job ∷ jobs) (suc number) change = job ∷ changed_at jobs number change
+
+abbrev pub with_change : Table → ℕ → (JobRecord → JobRecord) → Table
+with_change table number change = record table { jobs = changed_at table.jobs number change }
+
+-- how many slots the job of this number took
+abbrev pub work_of : Option JobRecord → ℕ
+work_of None = 0
+work_of (Some job) = job.work
+
+abbrev pub work_at : List JobRecord → ℕ → ℕ
+work_at jobs number = work_of (slice_get jobs number)
+
+-- how many more reads the job of this number has
+abbrev pub reads_left_of : Option JobRecord → ℕ
+reads_left_of None = 0
+reads_left_of (Some job) = count_by is_read job.ops - length job.reads
+
+abbrev pub reads_left : List JobRecord → ℕ → ℕ
+reads_left jobs number = reads_left_of (slice_get jobs number)
+
+-- a collection for this task that is neither done nor waived
+abbrev pub is_collection_of : ℕ → JobRecord → Bool
+is_collection_of task job = job.collects && (job.task == task) && is_open job.stage
+
+-- the task has one
+abbrev pub is_collecting : List JobRecord → ℕ → Bool
+is_collecting jobs task = list_any (is_collection_of task) jobs

@@ -1,0 +1,48 @@
+-- The waivers of a slot, and their taking back.
+use Rattle.std.specs.Prelude.{◌≡◌, ℕ, Bool, true, false, List, [], ◌∷◌, Option, Some, None, slice_get}
+use Rattle.std.specs.List.{AllByRecursion}
+use Rattle.slot_types.specs.declared.replies.Waived.{Waived}
+use Rattle.job_table.specs.declared.stages.Stage.TheVariants as stages
+use Rattle.job_table.specs.Jobs.{JobRecord, is_waived, with_stage}
+use Rattle.job_table.specs.Table.{Table, changed_at}
+
+-- the jobs after a collection was waived
+abbrev pub after_waiver : List JobRecord → Waived → List JobRecord
+after_waiver jobs w = changed_at jobs w.number (with_stage (stages.Waived w.given))
+
+-- the jobs after these collections were waived, one after the other
+abbrev pub waived_in : List JobRecord → List Waived → List JobRecord
+waived_in jobs [] = jobs
+waived_in jobs (w ∷ ws) = waived_in (after_waiver jobs w) ws
+
+-- the job of this number is there, and open
+pub record IsOpenAt (jobs : List JobRecord) (number : ℕ) : Type 0 where
+  pub job : JobRecord
+  pub is_at : slice_get jobs number ≡ Some job
+  pub open_is : job.stage ≡ stages.Open
+
+-- each of these was open when it was waived
+abbrev pub WereOpen : List JobRecord → List Waived → Type 0
+WereOpen jobs [] = Unit {0}
+WereOpen jobs (w ∷ ws) = IsOpenAt jobs w.number × WereOpen (after_waiver jobs w) ws
+
+-- the jobs with a waiver taken back
+abbrev pub without_waiver : List JobRecord → Waived → List JobRecord
+without_waiver jobs w = changed_at jobs w.number (with_stage stages.Open)
+
+-- the jobs with these waivers taken back
+abbrev pub reopened : List JobRecord → List Waived → List JobRecord
+reopened jobs [] = jobs
+reopened jobs (w ∷ ws) = reopened (without_waiver jobs w) ws
+
+abbrev pub is_waived_one : Option JobRecord → Bool
+is_waived_one None = false
+is_waived_one (Some job) = is_waived job.stage
+
+-- each of these is waived
+abbrev pub AreWaived : List JobRecord → List Waived → Type 0
+AreWaived jobs waived = AllByRecursion (λ w. is_waived_one (slice_get jobs w.number) ≡ true) waived
+
+-- the die stops, and these waivers are taken back
+abbrev pub stopped : Table → List Waived → Table
+stopped table waived = record table { ended = true; jobs = reopened table.jobs waived }

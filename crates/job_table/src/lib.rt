@@ -1,0 +1,12 @@
+//! The jobs and collections of a die by number: who of them is ready, who is next, and who was done latest.
+#![tactic(auto)]
+
+pub mod job_table;
+pub mod jobs;
+mod queues;
+pub mod stages;
+mod worst;
+
+pub use job_table::JobTable;
+pub use jobs::Job;
+pub use stages::Stage;

@@ -1,0 +1,107 @@
+//! Who waits for a release, and who is released, by due date.
+
+ghost use Rattle.std.specs.Prelude.{◌≡◌, ◌<◌, ◌≤◌, ◌^◌, [], length, Contains, option_map, OnOk, IfErr};
+ghost use Rattle.due_queue.specs.Queue.{inserted, first_of, rest_of, IsRising};
+ghost use Rattle.due_queue.specs.Keys.{is_due_before, is_released_before};
+ghost use Rattle.job_table.specs.Queued.{AreQueued, AreLater};
+
+use crate::jobs::Job;
+use due_queue::{DueQueue, Key, WaitKey, WaitList};
+use slot_types::Refusal;
+use std::alloc::Global;
+use std::marker::Model;
+
+/// The keys of what waits and of what is released. Each key that waits has room among the released ones, so that a job
+/// comes from one queue to the other without taking memory.
+#[derive(Drop)]
+pub(crate) struct Queues {
+    waiting: WaitList,
+    ready: DueQueue,
+}
+
+impl Model for Queues {
+    ghost use Rattle.std.specs.Prelude.{◌-◌, min, length};
+    ghost use Rattle.job_table.specs.Queued.{Lines, IsRoomy};
+
+    ghost Value = { Lines };
+
+    ghost view = { λ q. record { waiting = q.waiting.keys; ready = q.ready.keys; room = min q.waiting.spare (q.ready.spare - length q.waiting.keys) } };
+
+    ghost invariant = { λ q. IsRoomy q.waiting.keys q.ready.keys q.ready.spare };
+}
+
+impl Queues {
+    /// Nobody waits. It takes no memory.
+    pub(crate) fn new(alloc: Global) -> Queues
+        ensures { result ≡ record { waiting = []; ready = []; room = 0 } }
+    {
+        Queues {
+            waiting: WaitList::new(alloc),
+            ready: DueQueue::new(alloc),
+        }
+    }
+
+    /// Makes room for one more job.
+    pub(crate) fn reserve(&mut self) -> Result<(), Refusal>
+        requires { length self.old.waiting < 2 ^ 32 }
+        ensures ok { OnOk result (0 < self.new.room) }
+        ensures refused { IfErr result (λ refusal. refusal ≡ Refusal.NoMemory) }
+        ensures waiting { self.new.waiting ≡ self.old.waiting }
+        ensures ready { self.new.ready ≡ self.old.ready }
+    {
+        let waiting = self.waiting.len();
+        self.ready.reserve(waiting + 1)?;
+        self.waiting.reserve(1)
+    }
+
+    /// A job waits for its release.
+    pub(crate) fn wait(&mut self, key: WaitKey)
+        requires room { 0 < self.old.room }
+        requires absent { ¬ Contains self.old.waiting key }
+        ensures waiting { self.new.waiting ≡ inserted is_released_before key self.old.waiting }
+        ensures ready { self.new.ready ≡ self.old.ready }
+    {
+        self.waiting.insert(key);
+    }
+
+    /// A job is released.
+    pub(crate) fn stand(&mut self, key: Key)
+        requires room { 0 < self.old.room }
+        requires absent { ¬ Contains self.old.ready key }
+        ensures waiting { self.new.waiting ≡ self.old.waiting }
+        ensures ready { self.new.ready ≡ inserted is_due_before key self.old.ready }
+    {
+        self.ready.insert(key);
+    }
+
+    /// Lets all go ahead that are released by `now`.
+    pub(crate) fn release_by(&mut self, jobs: &[Job], now: u32)
+        requires { AreQueued jobs.now now self.old.waiting self.old.ready }
+        ensures queued { AreQueued jobs.now now self.new.waiting self.new.ready }
+        ensures later { AreLater now self.new.waiting }
+        ensures fewer { length self.new.waiting ≤ length self.old.waiting }
+    {
+        while let Some(key) = self.waiting.pop_released(now) {
+            let number = key.number;
+            let due = jobs[number as usize].due();
+            self.ready.insert(Key { due, number });
+        }
+    }
+
+    /// The number of the first released job, if there is one.
+    pub(crate) fn first(&self) -> Option<u32>
+        ensures first { result ≡ option_map (λ k. k.number) (first_of self.now.ready) }
+        ensures rising { IsRising is_due_before self.now.ready }
+    {
+        self.ready.first().map(|key| key.number)
+    }
+
+    /// The first released job is over.
+    pub(crate) fn drop_first(&mut self)
+        ensures waiting { self.new.waiting ≡ self.old.waiting }
+        ensures ready { self.new.ready ≡ rest_of self.old.ready }
+        ensures rising { IsRising is_due_before self.old.ready }
+    {
+        let _ = self.ready.pop_first();
+    }
+}

@@ -1,0 +1,38 @@
+//! Who was done with the greatest lateness.
+
+ghost use Rattle.std.specs.Prelude.{◌≡◌, MatchOption};
+ghost use Rattle.job_table.specs.Worst.{is_worse, IsWorst, IsDoneAt, IsWorstBeside, NothingDoneBeside};
+
+use crate::jobs::Job;
+
+/// The worst, where one has just been done and the others' worst is known.
+pub(crate) fn worse_of(jobs: &[Job], worst: Option<u32>, number: u32) -> u32
+    requires done { IsDoneAt jobs.now number }
+    requires others { MatchOption worst (NothingDoneBeside jobs.now number) (IsWorstBeside jobs.now number) }
+    ensures { IsWorst jobs.now result }
+{
+    match worst {
+        Some(other) => {
+            if is_worse(number, &jobs[number as usize], other, &jobs[other as usize]) {
+                number
+            } else {
+                other
+            }
+        }
+        None => number,
+    }
+}
+
+/// Whether a done job is worse than another.
+fn is_worse(number: u32, job: &Job, other_number: u32, other: &Job) -> bool
+    ensures { result ≡ is_worse number job.now other_number other.now }
+{
+    let lateness = job.lateness();
+    let other_lateness = other.lateness();
+    if lateness != other_lateness {
+        return lateness > other_lateness;
+    }
+    let completion = job.completion();
+    let other_completion = other.completion();
+    completion < other_completion || completion == other_completion && number < other_number
+}

@@ -1,0 +1,10 @@
+pub mod Counting
+pub mod Binds
+pub mod RowSearch
+pub mod Faults
+pub mod Marks
+pub mod Keys
+pub mod Window
+pub mod Least
+pub mod OneStretch
+pub mod Moments

@@ -1,0 +1,17 @@
+-- What a ledger keeps.
+use Rattle.page_ledger.specs.declared.accounts.Ledger.TheInside.{Inside}
+use Rattle.plan_rules.specs.Accounts.{Accounts, AreSound}
+
+-- the accounts that a ledger keeps
+abbrev pub accounts_of : Inside → Accounts
+accounts_of ledger = record {
+  plan = ledger.plan;
+  spare = ledger.spare;
+  balances = ledger.balances.items;
+  holds = ledger.holds.items;
+  reserves = ledger.reserves.items;
+}
+
+-- a ledger's accounts are sound
+abbrev pub IsSound : Inside → Type 0
+IsSound ledger = AreSound (accounts_of ledger)

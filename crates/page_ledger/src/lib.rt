@@ -1,0 +1,11 @@
+//! The accounts of a die's free pages: which of them are promised, to whom, and which are spare.
+#![tactic(auto)]
+
+pub mod accounts;
+pub mod laws;
+
+pub use accounts::Ledger;
+pub use laws::grows_to_cap;
+
+#[cfg(test)]
+mod tests;

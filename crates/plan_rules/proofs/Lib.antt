@@ -1,0 +1,3 @@
+pub mod Pigeon
+pub mod Spread
+pub mod Totals

@@ -1,0 +1,3 @@
+pub mod Bound
+pub mod Accounts
+pub mod Blocks

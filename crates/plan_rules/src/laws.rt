@@ -1,0 +1,50 @@
+//! What follows from the bound. These functions compute nothing: their contracts are the laws.
+
+ghost use Rattle.std.specs.Prelude.{◌≡◌, ◌+◌, ◌-◌, ◌*◌, ◌<◌, ◌≤◌, ℕ, List, length, slice_index, Option, Any};
+ghost use Rattle.slot_types.specs.declared.plans.DiePlan.{DiePlan};
+ghost use Rattle.slot_types.specs.declared.pages.Place.{Place};
+ghost use Rattle.plan_rules.specs.Bound.{MeetsBound, fmax_of};
+ghost use Rattle.plan_rules.specs.Accounts.{Accounts, AreSound, total_of, opening, admitted, hold_spent, reserve_spent, settled, waived};
+ghost use Rattle.plan_rules.specs.Blocks.{BlockUse, MayBegin, IsVictim, BeginsShort, IsChoice};
+
+/// Where a plan meets its bound, a collection that begins while few pages are free finds a closed
+/// block, collected by nobody, with so few valid pages that they can be copied into the collector's
+/// reserve.
+pub fn finds_victim()
+    ensures { (plan : DiePlan) (blocks : List BlockUse) →
+        MeetsBound plan → MayBegin plan blocks → Any (IsVictim plan) blocks }
+{}
+
+/// The same by what the layers of a die keep: where each logical page lies, which blocks are
+/// being collected, and how many pages of each block are free.
+pub fn finds_choice()
+    ensures { (plan : DiePlan) (free : ℕ → ℕ) (places : List (Option Place))
+        (victims : List (Option ℕ)) (writing : Option ℕ) →
+        MeetsBound plan → BeginsShort plan free places victims writing →
+        (block : ℕ) × IsChoice plan free places victims block }
+{}
+
+/// Sound accounts have few pages while fewer than `alpha` are spare, which is what such a collection
+/// needs. Accounts are sound at the start, and each move that may be made keeps them so.
+pub fn stays_sound()
+    ensures few { (accounts : Accounts) → AreSound accounts →
+        accounts.spare < accounts.plan.alpha → total_of accounts ≤ fmax_of accounts.plan }
+    ensures opening { (plan : DiePlan) → MeetsBound plan → AreSound (opening plan) }
+    ensures admitted { (accounts : Accounts) (task writes : ℕ) → AreSound accounts →
+        task < length accounts.plan.caps → writes ≤ slice_index accounts.balances task →
+        AreSound (admitted accounts task writes) }
+    ensures hold_spent { (accounts : Accounts) (task : ℕ) → AreSound accounts →
+        task < length accounts.plan.caps → AreSound (hold_spent accounts task) }
+    ensures reserve_spent { (accounts : Accounts) (task : ℕ) → AreSound accounts →
+        task < length accounts.plan.caps → AreSound (reserve_spent accounts task) }
+    ensures settled { (accounts : Accounts) (task copied : ℕ) → AreSound accounts →
+        task < length accounts.plan.caps →
+        slice_index accounts.reserves task + copied
+        ≡ accounts.plan.shape.pages - accounts.plan.alpha →
+        total_of accounts + accounts.plan.shape.pages
+        ≤ accounts.plan.shape.blocks * accounts.plan.shape.pages →
+        AreSound (settled accounts task copied) }
+    ensures waived { (accounts : Accounts) (task : ℕ) → AreSound accounts →
+        task < length accounts.plan.caps → accounts.plan.alpha ≤ accounts.spare →
+        AreSound (waived accounts task) }
+{}

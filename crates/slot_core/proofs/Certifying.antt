@@ -1,0 +1,70 @@
+-- The certificate that is built for the worst job is that of the log.
+use Rattle.std.proofs.Common.{◌≡◌, List, Option, Some, None, option_map, refl, ap, sym, ◌∙◌, subst}
+use Rattle.std.specs.Prelude.{Result, Ok, Err, IfOk, IfSome, ◌↔◌}
+use Rattle.std.proofs.lemmas.Option.{same_Some, none-some}
+use Rattle.slot_types.specs.declared.plans.DiePlan.{DiePlan}
+use Rattle.plan_rules.specs.Bound.{MeetsBound}
+use Rattle.late_cert.specs.declared.rows.JobRow.{JobRow}
+use Rattle.late_cert.specs.declared.certificates.Certificate.{Certificate}
+use Rattle.late_cert.specs.Schedule.{Slots}
+use Rattle.late_cert.specs.Build.{certificate_of}
+use Rattle.late_cert.proofs.Binds.{binds}
+use Rattle.late_cert.proofs.Faults.{certificate-verdict}
+use Rattle.die_log.specs.Log.{Log, Job}
+use Rattle.die_log.specs.Work.{worst}
+use Rattle.die_log.specs.Answers.{IsExact}
+use Rattle.die_log.specs.Rows.{rows, carried_numbers, certificate, certificate_for, IsCertified}
+use Rattle.die_log.proofs.Least.Certificates.{worst_certified, none_is}
+use Rattle.slot_core.specs.declared.outcomes.Worst.{Worst}
+use Rattle.slot_core.specs.Outcomes.{worst_from, worst_of}
+use Rattle.slot_core.specs.Certified.{NothingDone, IsOfWorst, HoldsOver, BindsAll}
+
+worst_named : (plan : DiePlan) (log : Log) (w : Worst) (o : Option Job) → Some w ≡ option_map (worst_from log) o → certificate_for plan log o ≡ certificate_of (rows plan log) (carried_numbers log) w.job
+worst_named plan log w None e = absurd (none-some w (sym e))
+worst_named plan log w (Some j) e = ap (λ (v : Worst). certificate_of (rows plan log) (carried_numbers log) v.job) (sym (same_Some w (worst_from log j) e))
+
+-- what is built for the worst one is the log's
+pub built_is : (plan : DiePlan) (log : Log) (w : Worst) (made : List JobRow) (slots : Slots) (built : Option Certificate) → Some w ≡ worst_of plan log → made ≡ rows plan log → slots ≡ carried_numbers log
+    → built ≡ certificate_of made slots w.job → built ≡ certificate plan log
+built_is plan log w made slots built worst_is made_is slots_are is =
+    is ∙ (ap (λ (rs : List JobRow). certificate_of rs slots w.job) made_is ∙ (ap (λ (cs : Slots). certificate_of (rows plan log) cs w.job) slots_are ∙ sym (worst_named plan log w (worst plan log) worst_is)))
+
+none_by : (plan : DiePlan) (log : Log) (o : Option Job) → None ≡ option_map (worst_from log) o → None ≡ certificate_for plan log o
+none_by plan log None e = refl
+none_by plan log (Some j) e = absurd (none-some (worst_from log j) e)
+
+-- where there is no worst one there is none
+pub no_certificate : (plan : DiePlan) (log : Log) → None ≡ worst_of plan log → None ≡ certificate plan log
+no_certificate plan log e = none_by plan log (worst plan log) e
+
+-- What is said of it
+
+of_worst : (plan : DiePlan) (log : Log) (c : Certificate) → MeetsBound plan → IsExact plan log → Some c ≡ certificate plan log → IsOfWorst plan log c
+of_worst plan log c bound exact is = by_worst (worst plan log) refl
+  where
+    by_worst : (o : Option Job) → worst plan log ≡ o → IsOfWorst plan log c
+    by_worst None e = absurd (none-some c (sym (is ∙ ap (certificate_for plan log) e)))
+    by_worst (Some j) e =
+        let d = worst_certified plan log j bound exact e in
+        (j, e, subst (IsCertified plan log j) (same_Some d.0 c (sym d.1 ∙ sym is)) d.2)
+
+pub none_said : (plan : DiePlan) (log : Log) (built : Option Certificate) → MeetsBound plan → IsExact plan log → built ≡ certificate plan log → (built ≡ None) ↔ NothingDone plan log
+none_said plan log built bound exact is =
+    subst (λ (o : Option Certificate). (o ≡ None) ↔ NothingDone plan log) (sym is) (none_is plan log bound exact)
+
+pub worst_said : (plan : DiePlan) (log : Log) (built : Option Certificate) → MeetsBound plan → IsExact plan log → built ≡ certificate plan log → IfSome built (IsOfWorst plan log)
+worst_said plan log None bound exact is = tt
+worst_said plan log (Some c) bound exact is = of_worst plan log c bound exact is
+
+pub holds_said : (plan : DiePlan) (log : Log) (built : Option Certificate) → MeetsBound plan → IsExact plan log → built ≡ certificate plan log → IfSome built (HoldsOver plan log)
+holds_said plan log None bound exact is = tt
+holds_said plan log (Some c) bound exact is = certificate-verdict (rows plan log) c.start c.due c.completion c.jobs (of_worst plan log c bound exact is).2.own.holds
+
+pub binds_said : (plan : DiePlan) (log : Log) (built : Option Certificate) → MeetsBound plan → IsExact plan log → built ≡ certificate plan log → IfSome built (BindsAll plan log)
+binds_said plan log None bound exact is = tt
+binds_said plan log (Some c) bound exact is = binds (rows plan log) c.start c.due c.completion c.jobs (of_worst plan log c bound exact is).2.own.holds
+
+-- what is known of an answer
+pub ok_where : {A E : Type 0} (r : Result A E) (P Q : A → Type 0) → IfOk r P → ((a : A) → P a → Q a) → IfOk r Q
+ok_where (Ok a) P Q h f = f a h
+ok_where (Err e) P Q h f = h

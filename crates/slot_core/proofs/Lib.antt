@@ -1,0 +1,11 @@
+pub mod Choosing
+pub mod Recording
+pub mod Heading
+pub mod Flashing
+pub mod Keeping
+pub mod Serving
+pub mod Turning
+pub mod Slotting
+pub mod Worsts
+pub mod Rowing
+pub mod Certifying

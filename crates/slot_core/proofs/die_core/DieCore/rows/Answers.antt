@@ -1,0 +1,14 @@
+use Rattle.std.proofs.Common.{sym, subst}
+use Rattle.late_cert.specs.Rows.{RowsRise}
+use Rattle.slot_core.proofs.Certifying.{ok_where}
+use Rattle.slot_core.proofs.Rowing.{rows_are, rising}
+use Rattle.slot_core.proofs.die_core.DieCore.rows.Goals as goal
+
+pub returns-clause-ok : goal.returns-clause-ok
+returns-clause-ok g c =
+    rw (← c.self.view_is) (ok_where c.rows_in.result _ _ c.rows_in.ensures.ok (λ made is. rows_are _ _ _ made c.self.invariant.bound c.self.invariant.exact c.self.invariant.jobs_are is))
+
+pub returns-clause-rise : goal.returns-clause-rise
+returns-clause-rise g c =
+    ok_where c.rows_in.result _ _ c.rows_in.ensures.ok
+    (λ made is. subst RowsRise (sym (rows_are _ _ _ made c.self.invariant.bound c.self.invariant.exact c.self.invariant.jobs_are is)) (rising _ _ c.self.invariant.bound c.self.invariant.exact))

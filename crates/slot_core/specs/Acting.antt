@@ -1,0 +1,39 @@
+-- What an operation of a job does to the flash.
+use Rattle.std.specs.Prelude.{◌≡◌, ℕ, Bool, false, List, Option, Some, slice_index_or, slice_set}
+use Rattle.slot_types.specs.declared.pages.Place.{Place}
+use Rattle.slot_types.specs.declared.pages.PageData.{PageData}
+use Rattle.slot_types.specs.declared.acts.Act.{Act}
+use Rattle.slot_types.specs.declared.acts.Act.TheVariants as does
+use Rattle.slot_types.specs.declared.events.Op.{Op}
+use Rattle.slot_types.specs.declared.events.Op.TheVariants as asks
+use Rattle.plan_rules.specs.Accounts.{Accounts, hold_spent}
+use Rattle.flash_die.specs.Flash.{Block, blank, programmed}
+use Rattle.flash_volume.specs.Cells.{next_cell}
+use Rattle.flash_volume.specs.State.{State}
+
+-- what a volume keeps, without its collections
+pub record FlashState : Type 0 where
+  pub tokens : Accounts
+  pub pages : List PageData
+  pub places : List (Option Place)
+  pub blocks : List Block
+
+abbrev pub flash_of : {N : Type 0} → (N → List Block) → State N → FlashState
+flash_of blocks v = record { tokens = v.accounts; pages = v.pages; places = v.places; blocks = blocks v.device }
+
+-- the act that an operation is, with what its page holds
+abbrev pub act_by : FlashState → Op → Act
+act_by f (asks.Read page) = does.Read page (slice_index_or f.pages page blank)
+act_by f (asks.Write page bytes) = does.Write page bytes
+
+-- the flash after an operation of a job of the task
+abbrev pub operated : FlashState → ℕ → Op → FlashState
+operated f task (asks.Read page) = f
+operated f task (asks.Write page bytes) =
+    let cell = next_cell f.tokens.plan.shape.pages f.blocks in
+    record {
+      tokens = hold_spent f.tokens task;
+      pages = slice_set f.pages page bytes;
+      places = slice_set f.places page (Some cell);
+      blocks = programmed f.blocks cell.block bytes;
+    }

@@ -1,0 +1,17 @@
+-- A die as its callers see it.
+use Rattle.std.specs.Prelude.{ℕ, Bool, ◌∷◌}
+use Rattle.slot_types.specs.declared.plans.DiePlan.{DiePlan}
+use Rattle.slot_types.specs.declared.events.Event.{Event}
+use Rattle.slot_types.specs.declared.replies.Reply.{Reply}
+use Rattle.die_log.specs.Log.{Log}
+
+-- its plan, its device, whether a fault has stopped it, and its log
+pub record Core (N : Type 0) : Type 0 where
+  pub plan : DiePlan
+  pub device : N
+  pub stopped : Bool
+  pub log : Log
+
+-- the log with one more call
+abbrev pub with_entry : ℕ → Event → Reply → Log → Log
+with_entry caller event reply log = record { caller = caller; event = event; reply = reply } ∷ log

@@ -1,0 +1,10 @@
+pub mod Core
+pub mod Records
+pub mod Device
+pub mod Kept
+pub mod Acting
+pub mod Calls
+pub mod Turns
+pub mod Outcomes
+pub mod Rowed
+pub mod Certified

@@ -1,0 +1,165 @@
+//! Jobs that arrive at a die.
+
+ghost use Rattle.std.specs.Prelude.{◌≡◌, ◌∷◌, ◌++◌, ◌<◌, ◌↔◌, true, false, length, IfOk, IfErr, OnOk, OnErr};
+ghost use Rattle.std.specs.Prelude.{vec_len, vec_capacity, reverse};
+ghost use Rattle.std.specs.Prelude.{[]};
+ghost use Rattle.job_table.specs.Jobs.{new_job};
+ghost use Rattle.job_table.specs.Table.{with_job};
+ghost use Rattle.die_log.specs.Answers.{answer, refusal_of};
+ghost use Rattle.slot_core.specs.Core.{with_entry};
+ghost use Rattle.slot_core.specs.Calls.{RefusedBy};
+
+use crate::die_core::DieCore;
+use crate::operations::{bad_page, count_writes};
+use flash_die::Nand;
+use job_table::JobTable;
+use slot_types::{
+    Entry, Event, JobNo, MAX_JOBS, MAX_OPS, MAX_SLOT, OpList, Refusal, Reply, TaskNo,
+};
+use std::alloc::Global;
+
+/// Makes room for one more entry.
+pub(crate) fn reserve_entry(entries: &mut Vec<Entry>) -> Result<(), Refusal>
+    ensures items { entries.new.items ≡ entries.old.items }
+    ensures ok { OnOk result (vec_len entries.new < vec_capacity entries.new) }
+    ensures refused { IfErr result (λ refusal. refusal ≡ Refusal.NoMemory) }
+{
+    match entries.reserve(1) {
+        Ok(()) => Ok(()),
+        Err(_) => Err(Refusal::NoMemory),
+    }
+}
+
+/// A copy of operations.
+fn copy_of(alloc: Global, ops: &OpList) -> Result<OpList, Refusal>
+    ensures ok { IfOk result (λ copy. copy ≡ ops.now) }
+    ensures refused { IfErr result (λ refusal. refusal ≡ Refusal.NoMemory) }
+{
+    match Vec::from_slice(alloc, ops.as_slice()) {
+        Ok(items) => Ok(OpList::from_vec(items)),
+        Err(_) => Err(Refusal::NoMemory),
+    }
+}
+
+/// Enters an accepted job into the table and the log, or finds no memory and changes neither.
+fn enter_job(
+    alloc: Global,
+    table: &mut JobTable,
+    entries: &mut Vec<Entry>,
+    caller: u32,
+    task: TaskNo,
+    release: u32,
+    due: u32,
+    ops: OpList,
+) -> Result<JobNo, Refusal>
+    requires running { table.old.ended ≡ false }
+    requires few { length table.old.jobs < MAX_JOBS }
+    ensures table { OnOk result (table.new ≡ with_job table.old (new_job task release due ops)) }
+    ensures number { IfOk result (λ number. number ≡ length table.old.jobs) }
+    ensures logged { IfOk result (λ number. entries.new.items ≡ entries.old.items ++ record { caller = caller; event = Event.Submit task release due ops; reply = Reply.Taken number } ∷ []) }
+    ensures refused { IfErr result (λ refusal. refusal ≡ Refusal.NoMemory) }
+    ensures table_stays { OnErr result (table.new ≡ table.old) }
+    ensures log_stays { OnErr result (entries.new.items ≡ entries.old.items) }
+{
+    let logged = copy_of(alloc, &ops)?;
+    reserve_entry(entries)?;
+    let number = table.add_job(alloc, task, release, due, ops)?;
+    entries.push_reserved(Entry {
+        caller,
+        event: Event::Submit {
+            task,
+            release,
+            due,
+            ops: logged,
+        },
+        reply: Reply::Taken(number),
+    });
+    Ok(number)
+}
+
+impl<N: Nand> DieCore<N> {
+    /// Why a job is refused by a die that isn't stopped, if it is.
+    fn submit_refusal(&self, task: TaskNo, release: u32, due: u32, ops: &OpList) -> Option<Refusal>
+        requires { self.now.stopped ≡ false }
+        ensures { result ≡ refusal_of self.now.plan self.now.log (Event.Submit task release due ops.now) }
+    {
+        let plan = self.volume.plan();
+        if task.0 as usize >= plan.caps.len() {
+            return Some(Refusal::UnknownTask);
+        }
+        if ops.is_empty() {
+            return Some(Refusal::EmptyJob);
+        }
+        if ops.len() > MAX_OPS as usize {
+            return Some(Refusal::TooManyOps);
+        }
+        match bad_page(ops.as_slice(), plan.logical) {
+            Some(page) => return Some(Refusal::BadPage { page }),
+            None => {}
+        }
+        if release < self.present {
+            return Some(Refusal::ReleasePast { now: self.present });
+        }
+        if due <= release || due > MAX_SLOT {
+            return Some(Refusal::BadDue);
+        }
+        if self.table.len() >= MAX_JOBS {
+            return Some(Refusal::JobsFull);
+        }
+        let have = self.volume.balance(task);
+        let need = count_writes(ops.as_slice()) as u32;
+        if have < need {
+            return Some(Refusal::NoTokens { have, need });
+        }
+        None
+    }
+
+    /// Accepts a job of the task, to run from slot `release` on and to be done by `due`, and answers its number.
+    ///
+    /// The refusals, of which the first that stands is answered and nothing is changed: `DieStopped`; `UnknownTask`;
+    /// `EmptyJob`; `TooManyOps`, above 64; `BadPage`, with the first page that the die doesn't have; `ReleasePast`, where
+    /// the release is below the present slot; `BadDue`, where the due isn't above the release or is above 1,048,576;
+    /// `JobsFull`, where 65,536 were accepted; `NoTokens`, where the task's balance is below the job's writes; `NoMemory`.
+    /// The operations are given up then.
+    pub fn submit(
+        &mut self,
+        alloc: Global,
+        caller: u32,
+        task: TaskNo,
+        release: u32,
+        due: u32,
+        ops: OpList,
+    ) -> Result<JobNo, Refusal>
+        ensures stopped { (result ≡ Err Refusal.DieStopped) ↔ (self.old.stopped ≡ true) }
+        ensures taken { IfOk result (λ number. answer self.old.plan self.old.log (Event.Submit task release due ops) ≡ Reply.Taken number) }
+        ensures logged { IfOk result (λ number. self.new ≡ record self.old { log = with_entry caller (Event.Submit task release due ops) (Reply.Taken number) self.old.log }) }
+        ensures refused { self.old.stopped ≡ false → IfErr result (RefusedBy self.old.plan self.old.log (Event.Submit task release due ops)) }
+        ensures unchanged { OnErr result (self.new ≡ self.old) }
+    {
+        if self.volume.failed() {
+            return Err(Refusal::DieStopped);
+        }
+        match self.submit_refusal(task, release, due, &ops) {
+            Some(refusal) => return Err(refusal),
+            None => {}
+        }
+        let writes = count_writes(ops.as_slice()) as u32;
+        match enter_job(
+            alloc,
+            &mut self.table,
+            &mut self.entries,
+            caller,
+            task,
+            release,
+            due,
+            ops,
+        ) {
+            Err(refusal) => Err(refusal),
+            Ok(number) => {
+                // The tokens are there, so this isn't refused.
+                let _ = self.volume.admit(task, writes);
+                Ok(number)
+            }
+        }
+    }
+}

@@ -1,0 +1,99 @@
+//! The rows of a die's jobs and collections, and the certificate of its worst one.
+
+ghost use Rattle.std.specs.Prelude.{◌≡◌, ◌↔◌, None, IfOk, IfErr, IfSome};
+ghost use Rattle.late_cert.specs.Rows.{RowsRise};
+ghost use Rattle.late_cert.specs.Stretch.{CarriesLeastKeys, IsLeastLate};
+ghost use Rattle.die_log.specs.Answers.{IsExact};
+ghost use Rattle.die_log.specs.Legal.{IsLegal};
+ghost use Rattle.die_log.specs.Rows.{rows, carried_numbers, certificate};
+ghost use Rattle.slot_core.specs.Rowed.{row_in, rows_in};
+ghost use Rattle.slot_core.specs.Certified.{NothingDone, IsOfWorst, HoldsOver, BindsAll};
+
+use crate::die_core::DieCore;
+use flash_die::Nand;
+use job_table::{Job, JobTable, Stage};
+use late_cert::{Certificate, JobRow, JobRows, build};
+use slot_types::{JobNo, Refusal};
+use std::alloc::Global;
+
+/// The row of a job; a waived one has none.
+fn row_in(number: u32, job: &Job) -> Option<JobRow>
+    ensures { result ≡ row_in number job.now }
+{
+    let completion = match job.stage() {
+        Stage::Open => None,
+        Stage::Done { completion, .. } => Some(completion),
+        Stage::Waived { .. } => return None,
+    };
+    Some(JobRow {
+        number: JobNo(number),
+        release: job.release(),
+        due: job.due(),
+        work: job.work(),
+        completion,
+    })
+}
+
+/// The rows of a table's jobs, by number.
+fn rows_in(alloc: Global, table: &JobTable) -> Result<JobRows, Refusal>
+    ensures ok { IfOk result (λ made. made ≡ rows_in 0 table.now.jobs) }
+    ensures refused { IfErr result (λ refusal. refusal ≡ Refusal.NoMemory) }
+{
+    let mut rows = JobRows::new(alloc);
+    for number in 0..table.len() {
+        if let Some(job) = table.job(JobNo(number)) {
+            if let Some(row) = row_in(number, job) {
+                match rows.push(row) {
+                    Ok(()) => {}
+                    Err(_) => return Err(Refusal::NoMemory),
+                }
+            }
+        }
+    }
+    Ok(rows)
+}
+
+impl<N: Nand> DieCore<N> {
+    /// The rows of all jobs and collections by number, without those that were waived: what [`late_cert::check`] reads.
+    /// The only refusal is for want of memory.
+    pub fn rows(&self, alloc: Global) -> Result<JobRows, Refusal>
+        ensures ok { IfOk result (λ made. made ≡ rows self.now.plan self.now.log) }
+        ensures rise { IfOk result (λ made. RowsRise made) }
+        ensures refused { IfErr result (λ refusal. refusal ≡ Refusal.NoMemory) }
+    {
+        rows_in(alloc, &self.table)
+    }
+
+    /// The certificate of the worst job or collection, or none where nothing is done. [`late_cert::check`] says of it,
+    /// over the die's rows, that it holds: every schedule that gives its jobs the slots that they took, none before its
+    /// release, completes one of them at least as late. The only refusal is for want of memory.
+    pub fn certificate(&self, alloc: Global) -> Result<Option<Certificate>, Refusal>
+        ensures ok { IfOk result (λ built. built ≡ certificate self.now.plan self.now.log) }
+        ensures none { IfOk result (λ built. (built ≡ None) ↔ NothingDone self.now.plan self.now.log) }
+        ensures worst { IfOk result (λ built. IfSome built (IsOfWorst self.now.plan self.now.log)) }
+        ensures holds { IfOk result (λ built. IfSome built (HoldsOver self.now.plan self.now.log)) }
+        ensures binds { IfOk result (λ built. IfSome built (BindsAll self.now.plan self.now.log)) }
+        ensures refused { IfErr result (λ refusal. refusal ≡ Refusal.NoMemory) }
+    {
+        match self.worst() {
+            None => Ok(None),
+            Some(worst) => match self.rows(alloc) {
+                Err(refusal) => Err(refusal),
+                Ok(rows) => build(alloc, &rows, &self.carried, worst.job),
+            },
+        }
+    }
+
+    /// What stands of every die, whatever was done with it; the call does nothing. Its log is the exact answer to the
+    /// accepted calls, and legal. Each slot carried the least key of those that waited. And the greatest lateness so far
+    /// is least: no schedule that respects releases, and gives what is done as many slots as it took, has a smaller one.
+    pub fn promises(&self)
+        ensures exact { IsExact self.now.plan self.now.log }
+        ensures legal { IsLegal self.now.plan self.now.log }
+        ensures least_keys { CarriesLeastKeys (rows self.now.plan self.now.log) (carried_numbers self.now.log) }
+        ensures least_late { IsLeastLate (rows self.now.plan self.now.log) (carried_numbers self.now.log) }
+    {
+        // What a die keeps is known where one of its fields is used.
+        let _ = &self.volume;
+    }
+}

@@ -1,0 +1,96 @@
+//! A die.
+
+ghost use Rattle.std.specs.Prelude.{◌≡◌, ◌↔◌, ◌<◌, ◌⊎◌, [], false, length, IfOk, IfErr};
+ghost use Rattle.slot_types.specs.Shapes.{IsShape};
+ghost use Rattle.plan_rules.specs.Bound.{MeetsBound};
+ghost use Rattle.flash_die.specs.Flash.{IsFresh};
+ghost use Rattle.die_log.specs.Log.{now};
+
+use flash_die::Nand;
+use flash_volume::Volume;
+use job_table::JobTable;
+use late_cert::Carried;
+use plan_rules::bound;
+use slot_types::{DiePlan, Entry, Refusal};
+use std::alloc::Global;
+use std::marker::Model;
+
+/// One die: its flash, its jobs and collections, and the log of the calls that it accepted.
+///
+/// Contracts see its plan, its device, whether a fault has stopped it, and its log.
+#[derive(Drop)]
+pub struct DieCore<N: Nand> {
+    pub(crate) volume: Volume<N>,
+    pub(crate) table: JobTable,
+    pub(crate) carried: Carried,
+    pub(crate) entries: Vec<Entry>,
+    pub(crate) present: u32,
+}
+
+impl<N: Nand> Model for DieCore<N> {
+    ghost use Rattle.std.specs.Prelude.{reverse};
+    ghost use Rattle.slot_core.specs.Core.{Core};
+    ghost use Rattle.slot_core.specs.Kept.{Keeps};
+
+    ghost Value = { Core N };
+
+    ghost view = { λ c. record { plan = c.volume.accounts.plan; device = c.volume.device; stopped = c.volume.failed; log = reverse c.entries.items } };
+
+    ghost invariant = { λ c. Keeps c.volume.accounts.plan (reverse c.entries.items) c.present c.table c.carried.slots c.volume.failed c.volume.accounts c.volume.pages c.volume.places (N.blocks c.volume.device) };
+}
+
+impl<N: Nand> DieCore<N> {
+    /// A die on which nothing was done, at slot 0.
+    ///
+    /// `BadShape` where the plan's shape is out of its limits or is not the device's; else `BadPlan` where the plan does
+    /// not meet its bound; else `NoMemory` where memory is refused. Plan and device are given up then.
+    pub fn new(alloc: Global, plan: DiePlan, nand: N) -> Result<DieCore<N>, Refusal>
+        requires fresh { IsFresh (N.shape_of nand) (N.blocks nand) (N.failures nand) }
+        ensures ok { IfOk result (λ core. core ≡ record { plan = plan; device = nand; stopped = false; log = [] }) }
+        ensures bad_shape { (result ≡ Err Refusal.BadShape) ↔ ¬ (IsShape plan.shape × (N.shape_of nand ≡ plan.shape)) }
+        ensures bad_plan { (result ≡ Err Refusal.BadPlan) ↔ (IsShape plan.shape × (N.shape_of nand ≡ plan.shape) × ¬ MeetsBound plan) }
+        ensures refused { IfErr result (λ refusal. (refusal ≡ Refusal.BadShape) ⊎ (refusal ≡ Refusal.BadPlan) ⊎ (refusal ≡ Refusal.NoMemory)) }
+    {
+        if nand.shape() != plan.shape {
+            return Err(Refusal::BadShape);
+        }
+        bound(&plan)?;
+        let table = JobTable::new(alloc, plan.caps.len() as u32)?;
+        let volume = Volume::new(alloc, plan, nand)?;
+        Ok(DieCore {
+            volume,
+            table,
+            carried: Carried::new(alloc),
+            entries: Vec::new(alloc),
+            present: 0,
+        })
+    }
+
+    /// What the die is planned for.
+    pub fn plan(&self) -> &DiePlan
+        ensures { result.now ≡ self.now.plan }
+    {
+        self.volume.plan()
+    }
+
+    /// The present slot: how many slots were carried out.
+    pub fn now(&self) -> u32
+        ensures { result ≡ now self.now.log }
+    {
+        self.present
+    }
+
+    /// How many entries the log has.
+    pub fn len(&self) -> u64
+        ensures { result ≡ length self.now.log }
+    {
+        self.entries.len() as u64
+    }
+
+    /// Whether the device has failed, which stops the die.
+    pub fn is_stopped(&self) -> bool
+        ensures { result ≡ self.now.stopped }
+    {
+        self.volume.failed()
+    }
+}

@@ -1,0 +1,13 @@
+//! One die: its jobs and collections, its flash, and its log.
+#![tactic(auto)]
+
+pub mod admission;
+pub mod certificates;
+pub mod die_core;
+pub mod operations;
+pub mod outcomes;
+pub mod slots;
+pub mod turns;
+
+pub use die_core::DieCore;
+pub use outcomes::{JobHead, Outcome, Worst};

@@ -1,0 +1,68 @@
+//! The operations of jobs, on a volume.
+
+ghost use Rattle.std.specs.Prelude.{◌≡◌, ◌+◌, ◌<◌, ◌↔◌, true, false, length, slice_index, IsOk, IfOk, IfErr, OnOk, OnErr, find, option_map, nat_le};
+ghost use Rattle.die_log.specs.Work.{is_write, writes};
+ghost use Rattle.die_log.specs.Answers.{page_of};
+ghost use Rattle.slot_core.specs.Acting.{flash_of, act_by, operated};
+
+use flash_die::Nand;
+use flash_volume::Volume;
+use slot_types::{Act, Op, Refusal, TaskNo};
+
+/// The logical page of an operation.
+pub(crate) fn page_of(op: Op) -> u32
+    ensures { result ≡ page_of op }
+{
+    match op {
+        Op::Read(page) => page,
+        Op::Write(page, _) => page,
+    }
+}
+
+/// The first page of these operations that a die of so many logical pages doesn't have.
+pub(crate) fn bad_page(ops: &[Op], logical: u32) -> Option<u32>
+    ensures { result ≡ option_map page_of (find (λ op. nat_le logical (page_of op)) ops.now) }
+{
+    ops.iter().find(|op| page_of(**op) >= logical).map(|op| page_of(*op))
+}
+
+fn is_write(op: Op) -> bool
+    ensures { result ≡ is_write op }
+{
+    matches!(op, Op::Write(..))
+}
+
+/// How many of these operations are writes.
+pub(crate) fn count_writes(ops: &[Op]) -> usize
+    ensures { result ≡ writes ops.now }
+{
+    ops.iter().filter(|op| is_write(**op)).count()
+}
+
+/// Does an operation of a job of the task, which holds a page for it if it is a write.
+pub(crate) fn operate<N: Nand>(volume: &mut Volume<N>, task: TaskNo, op: Op) -> Result<Act, Refusal>
+    requires alive { volume.old.failed ≡ false }
+    requires task { task < length volume.old.accounts.plan.caps }
+    requires page { page_of op < length volume.old.pages }
+    requires held { is_write op ≡ true → 0 < slice_index volume.old.accounts.holds task }
+    ensures act { IfOk result (λ act. act ≡ act_by (flash_of N.blocks volume.old) op) }
+    ensures flash { OnOk result (flash_of N.blocks volume.new ≡ operated (flash_of N.blocks volume.old) task op) }
+    ensures running { volume.new.running ≡ volume.old.running }
+    ensures plan { volume.new.accounts.plan ≡ volume.old.accounts.plan }
+    ensures well { OnOk result (volume.new.failed ≡ false) }
+    ensures fault { IfErr result (λ refusal. refusal ≡ Refusal.DeviceFault) }
+    ensures failed { OnErr result (volume.new.failed ≡ true) }
+    ensures failures { (result ≡ Err Refusal.DeviceFault) ↔ (N.failures volume.new.device ≡ N.failures volume.old.device + 1) }
+    ensures never { N.never_fails ≡ true → IsOk result }
+{
+    match op {
+        Op::Read(page) => {
+            let bytes = volume.read(page)?;
+            Ok(Act::Read { page, bytes })
+        }
+        Op::Write(page, bytes) => {
+            volume.write(task, page, bytes)?;
+            Ok(Act::Write { page, bytes })
+        }
+    }
+}

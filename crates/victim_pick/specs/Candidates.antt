@@ -1,0 +1,38 @@
+-- The blocks that a collection may take.
+use Rattle.std.specs.Prelude.{◌≡◌, ℕ, ◌-◌, ◌≤◌, nat_le, cond, List, Option, Some, None, slice_index_or, slice_set}
+
+-- the pages of a block, and by block the count of valid pages of a candidate
+pub record Candidates : Type 0 where
+  pub pages : ℕ
+  pub counts : List (Option ℕ)
+
+-- the valid pages of a block, if it is a candidate
+abbrev pub count_of : List (Option ℕ) → ℕ → Option ℕ
+count_of counts block = slice_index_or counts block None
+
+-- one valid page less
+abbrev pub lowered : Option ℕ → Option ℕ
+lowered None = None
+lowered (Some valid) = Some (valid - 1)
+
+-- no block is a candidate
+abbrev pub HasNone : List (Option ℕ) → Type 0
+HasNone counts = (block : ℕ) → count_of counts block ≡ None
+
+-- no candidate has fewer valid pages, and of those with as many this is the first
+pub record IsLeast (counts : List (Option ℕ)) (block : ℕ) : Type 0 where
+  pub valid : ℕ
+  pub counted : count_of counts block ≡ Some valid
+  pub fewest : (other fewer : ℕ) → count_of counts other ≡ Some fewer → valid ≤ fewer
+  pub first : (other : ℕ) → count_of counts other ≡ Some valid → block ≤ other
+
+-- the counts without this candidate
+abbrev pub without : Option ℕ → List (Option ℕ) → List (Option ℕ)
+without None counts = counts
+without (Some block) counts = slice_set counts block None
+
+-- the least of the blocks seen and one more
+abbrev pub least_with : Option (ℕ × ℕ) → ℕ → Option ℕ → Option (ℕ × ℕ)
+least_with least block None = least
+least_with None block (Some valid) = Some (block, valid)
+least_with (Some best) block (Some valid) = cond (nat_le best.1 valid) (Some best) (Some (block, valid))

@@ -1,0 +1,9 @@
+//! The choice of the block that a collection erases: the closed block with the fewest valid pages.
+#![tactic(auto)]
+
+pub mod victims;
+
+pub use victims::Victims;
+
+#[cfg(test)]
+mod tests;
