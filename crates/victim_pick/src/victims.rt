@@ -38,7 +38,7 @@ impl Victims {
         })
     }
 
-    /// Makes a block a candidate, with its count of valid pages.
+    /// Makes a block that is no candidate one, with its count of valid pages.
     pub fn close(&mut self, block: u32, valid: u32)
         requires in_range { block < length self.old.counts }
         requires open { count_of self.old.counts block ≡ None }
@@ -58,7 +58,7 @@ impl Victims {
         }
     }
 
-    /// How many valid pages a block has, if it is a candidate.
+    /// How many valid pages a block has, if it is a candidate. A block that isn't there is none.
     pub fn count(&self, block: u32) -> Option<u32>
         ensures { result ≡ count_of self.now.counts block }
     {
