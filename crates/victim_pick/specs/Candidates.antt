@@ -1,5 +1,5 @@
 -- The blocks that a collection may take.
-use Rattle.std.specs.Prelude.{◌≡◌, ℕ, ◌-◌, ◌≤◌, nat_le, cond, List, Option, Some, None, slice_index_or, slice_set}
+use Rattle.std.specs.Prelude.{◌≡◌, ℕ, ◌-◌, ◌≤◌, List, Option, Some, None, slice_index_or, slice_set}
 
 -- the pages of a block, and by block the count of valid pages of a candidate
 pub record Candidates : Type 0 where
@@ -30,9 +30,3 @@ pub record IsLeast (counts : List (Option ℕ)) (block : ℕ) : Type 0 where
 abbrev pub without : Option ℕ → List (Option ℕ) → List (Option ℕ)
 without None counts = counts
 without (Some block) counts = slice_set counts block None
-
--- the least of the blocks seen and one more
-abbrev pub least_with : Option (ℕ × ℕ) → ℕ → Option ℕ → Option (ℕ × ℕ)
-least_with least block None = least
-least_with None block (Some valid) = Some (block, valid)
-least_with (Some best) block (Some valid) = cond (nat_le best.1 valid) (Some best) (Some (block, valid))

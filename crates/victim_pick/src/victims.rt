@@ -1,7 +1,8 @@
 //! The closed blocks that no collection has taken, each with its count of valid pages.
 
-ghost use Rattle.std.specs.Prelude.{◌≡◌, ℕ, ◌-◌, ◌<◌, ◌≤◌, ◌↔◌, Some, None, length, replicate, slice_set, IsNone, IsSomeAnd, IfOk, IfErr, IfSome, IfNone};
-ghost use Rattle.victim_pick.specs.Candidates.{count_of, lowered, HasNone, IsLeast, without, least_with};
+ghost use Rattle.std.specs.Prelude.{◌≡◌, ℕ, ◌+◌, ◌-◌, ◌<◌, ◌≤◌, ◌↔◌, Some, None, length, replicate, slice_set, IsNone, IsSomeAnd, IfOk, IfErr, IfSome, IfNone};
+ghost use Rattle.victim_pick.specs.Candidates.{count_of, lowered, HasNone, IsLeast, without};
+ghost use Rattle.victim_pick.specs.Search.{IsLeastBelow};
 
 use slot_types::Refusal;
 use std::alloc::Global;
@@ -37,7 +38,7 @@ impl Victims {
         })
     }
 
-    /// Makes a block a candidate, with its count of valid pages.
+    /// Makes a block that is no candidate one, with its count of valid pages.
     pub fn close(&mut self, block: u32, valid: u32)
         requires in_range { block < length self.old.counts }
         requires open { count_of self.old.counts block ≡ None }
@@ -57,7 +58,7 @@ impl Victims {
         }
     }
 
-    /// How many valid pages a block has, if it is a candidate.
+    /// How many valid pages a block has, if it is a candidate. A block that isn't there is none.
     pub fn count(&self, block: u32) -> Option<u32>
         ensures { result ≡ count_of self.now.counts block }
     {
@@ -87,7 +88,7 @@ fn find_least(counts: &[Option<u32>]) -> Option<usize>
 {
     let mut least = None;
     for block in 0..counts.len() {
-        least = better(least, block, counts[block]);
+        least = better(counts, block, least);
     }
     match least {
         Some((block, _)) => Some(block),
@@ -95,11 +96,13 @@ fn find_least(counts: &[Option<u32>]) -> Option<usize>
     }
 }
 
-/// The least so far, with its count, once a block's count is seen too.
-fn better(least: Option<(usize, u32)>, block: usize, count: Option<u32>) -> Option<(usize, u32)>
-    ensures { result ≡ least_with least block count }
+/// The least of the blocks up to this one, from the least of those below it.
+fn better(counts: &[Option<u32>], block: usize, least: Option<(usize, u32)>) -> Option<(usize, u32)>
+    requires in_range { block < length counts.now }
+    requires below { IsLeastBelow counts.now block least }
+    ensures { IsLeastBelow counts.now (block + 1) result }
 {
-    match (least, count) {
+    match (least, counts[block]) {
         (_, None) => least,
         (Some((_, fewest)), Some(valid)) if fewest <= valid => least,
         (_, Some(valid)) => Some((block, valid)),

@@ -1,4 +1,4 @@
-use Rattle.victim_pick.proofs.Least.{IsLeastBelow}
+use Rattle.victim_pick.specs.Search.{IsLeastBelow}
 use Rattle.victim_pick.proofs.victims.find_least.Given as goal
 
 abbrev pub invariant-loop-block : goal.invariant-loop-block
