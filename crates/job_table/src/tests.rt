@@ -1,14 +1,30 @@
 //! Tables at work.
 
-ghost use Rattle.std.specs.Prelude.{◌≡◌};
+ghost use Rattle.std.specs.Prelude.{◌≡◌, slice_get, option_map};
 
 use crate::job_table::JobTable;
+use crate::jobs::count_reads;
 use crate::stages::Stage;
 use slot_types::{JobNo, MAX_JOBS, Op, OpList, PageData, Refusal, TaskNo, Waived};
 use std::alloc::Global;
 use std::test::Fail;
 
-/// Accepts a job with so many reads for task 0, where the table takes one.
+/// Accepts a job of task 0, where the table takes one.
+fn add_ops(
+    alloc: Global,
+    table: &mut JobTable,
+    release: u32,
+    due: u32,
+    ops: OpList,
+) -> Result<Option<JobNo>, Refusal> {
+    if table.ended() || table.len() >= MAX_JOBS {
+        return Ok(None);
+    }
+    let number = table.add_job(alloc, TaskNo(0), release, due, ops)?;
+    Ok(Some(number))
+}
+
+/// A job with so many reads.
 fn add_reads(
     alloc: Global,
     table: &mut JobTable,
@@ -20,11 +36,7 @@ fn add_reads(
     for page in 0..count {
         ops.push(Op::Read(page))?;
     }
-    if table.ended() || table.len() >= MAX_JOBS {
-        return Ok(None);
-    }
-    let number = table.add_job(alloc, TaskNo(0), release, due, ops)?;
-    Ok(Some(number))
+    add_ops(alloc, table, release, due, ops)
 }
 
 /// The slot is the head's, if there is one; it is done with its last operation.
@@ -101,13 +113,12 @@ fn of_equally_late_jobs_the_first_done_is_worst(rt: HostRuntime) -> Result<(), F
 fn add_collection(
     alloc: Global,
     table: &mut JobTable,
-    tasks: u32,
     task: TaskNo,
-) -> Result<Option<JobNo>, Refusal>
-    requires { tasks ≡ table.old.tasks }
-    ensures { tasks ≡ table.new.tasks }
-{
-    if table.ended() || table.len() >= MAX_JOBS || task.0 >= tasks || table.is_collecting(task) {
+) -> Result<Option<JobNo>, Refusal> {
+    if table.ended() || table.len() >= MAX_JOBS || task.0 as usize >= table.tasks() {
+        return Ok(None);
+    }
+    if table.is_collecting(task) {
         return Ok(None);
     }
     let number = table.add_collection(alloc, task, 0, 9)?;
@@ -115,9 +126,7 @@ fn add_collection(
 }
 
 /// Waives the head of the slot, if it has one.
-fn waive_head(table: &mut JobTable, now: u32, given: u32) -> Option<Waived>
-    ensures { table.new.tasks ≡ table.old.tasks }
-{
+fn waive_head(table: &mut JobTable, now: u32, given: u32) -> Option<Waived> {
     if table.ended() || now < table.clock() {
         return None;
     }
@@ -126,8 +135,17 @@ fn waive_head(table: &mut JobTable, now: u32, given: u32) -> Option<Waived>
     Some(Waived { number, given })
 }
 
+/// Stops the die, and takes a waiver back if there is one.
+fn take_back(table: &mut JobTable, waived: Waived) {
+    if let Some(Stage::Waived { .. }) = stage_of(table, waived.number) {
+        table.stop(&[waived]);
+    }
+}
+
 /// How a job stands.
-fn stage_of(table: &JobTable, number: JobNo) -> Option<Stage> {
+fn stage_of(table: &JobTable, number: JobNo) -> Option<Stage>
+    ensures { result ≡ option_map (λ job. job.stage) (slice_get table.now.jobs number) }
+{
     match table.job(number) {
         Some(job) => Some(job.stage()),
         None => None,
@@ -138,12 +156,12 @@ fn stage_of(table: &JobTable, number: JobNo) -> Option<Stage> {
 fn waivers_are_taken_back(rt: HostRuntime) -> Result<(), Fail> {
     let mut table = JobTable::new(rt.alloc(), 2)?;
     assert_eq!(rt;
-        add_collection(rt.alloc(), &mut table, 2, TaskNo(1))?,
+        add_collection(rt.alloc(), &mut table, TaskNo(1))?,
         Some(JobNo(0))
     );
-    assert_eq!(rt; add_collection(rt.alloc(), &mut table, 2, TaskNo(1))?, None);
+    assert_eq!(rt; add_collection(rt.alloc(), &mut table, TaskNo(1))?, None);
     assert_eq!(rt;
-        add_collection(rt.alloc(), &mut table, 2, TaskNo(0))?,
+        add_collection(rt.alloc(), &mut table, TaskNo(0))?,
         Some(JobNo(1))
     );
     let first = waive_head(&mut table, 3, 2).ok_or("no head")?;
@@ -153,7 +171,7 @@ fn waivers_are_taken_back(rt: HostRuntime) -> Result<(), Fail> {
         Some(Stage::Waived { given: 2 })
     );
     assert_eq!(rt;
-        add_collection(rt.alloc(), &mut table, 2, TaskNo(1))?,
+        add_collection(rt.alloc(), &mut table, TaskNo(1))?,
         Some(JobNo(2))
     );
     let second = waive_head(&mut table, 3, 1).ok_or("no head")?;
@@ -170,15 +188,28 @@ fn waivers_are_taken_back(rt: HostRuntime) -> Result<(), Fail> {
     Ok(())
 }
 
-/// Stops the die, and takes a waiver back if there is one.
-fn take_back(table: &mut JobTable, waived: Waived) {
-    let is_waived = match table.job(waived.number) {
-        Some(job) => matches!(job.stage(), Stage::Waived { .. }),
-        None => false,
-    };
-    if is_waived {
-        table.stop(&[waived]);
+/// The head reads these bytes, if it has a read left, and is done with its last operation.
+fn read_slot(table: &mut JobTable, now: u32, bytes: PageData) -> Option<JobNo> {
+    if table.ended() || now < table.clock() || now >= 1_000 {
+        return None;
     }
+    let number = table.head(now)?;
+    let (work, count, left) = match table.job(number) {
+        Some(job) => (
+            job.work(),
+            job.ops().len(),
+            count_reads(job.ops()) > job.reads().len(),
+        ),
+        None => return None,
+    };
+    if work >= 1_000 || !left {
+        return None;
+    }
+    table.carry_read(number, bytes);
+    if work as usize + 1 >= count {
+        table.finish(number, now + 1, 0);
+    }
+    Some(number)
 }
 
 #[test]
@@ -189,13 +220,10 @@ fn a_job_keeps_what_its_reads_gave(rt: HostRuntime) -> Result<(), Fail> {
     ops.push(Op::Read(3))?;
     let mut table = JobTable::new(rt.alloc(), 1)?;
     assert_eq!(rt; table.is_empty(), true);
-    let number = table.add_job(rt.alloc(), TaskNo(0), 0, 4, ops)?;
-    assert_eq!(rt; table.head(0), Some(number));
-    table.carry(number);
-    assert_eq!(rt; table.head(1), Some(number));
-    table.carry_read(number, bytes);
-    table.finish(number, 2, 0);
-    assert_eq!(rt; table.head(2), None);
+    let number = add_ops(rt.alloc(), &mut table, 0, 4, ops)?.ok_or("full")?;
+    assert_eq!(rt; run_slot(&mut table, 0), Some(number));
+    assert_eq!(rt; read_slot(&mut table, 1, bytes), Some(number));
+    assert_eq!(rt; run_slot(&mut table, 2), None);
     assert_eq!(rt; table.clock(), 2);
 
     let job = table.job(number).ok_or("no job")?;
