@@ -59,52 +59,57 @@ fn run_slot(table: &mut JobTable, now: u32) -> Option<JobNo> {
     Some(number)
 }
 
+/// A table with these jobs of reads, each by its release, its due and how many reads it has.
+fn with_reads(alloc: Global, jobs: &[(u32, u32, u32)]) -> Result<JobTable, Refusal> {
+    let mut table = JobTable::new(alloc, 1)?;
+    for (release, due, count) in jobs {
+        add_reads(alloc, &mut table, *release, *due, *count)?;
+    }
+    Ok(table)
+}
+
+/// A number as it is, and 99 for none.
+fn number_of(head: Option<JobNo>) -> u32 {
+    match head {
+        Some(number) => number.0,
+        None => 99,
+    }
+}
+
+/// The numbers of those that the slots 0 to 3 carry.
+fn first_heads(table: &mut JobTable) -> [u32; 4] {
+    [
+        number_of(run_slot(table, 0)),
+        number_of(run_slot(table, 1)),
+        number_of(run_slot(table, 2)),
+        number_of(run_slot(table, 3)),
+    ]
+}
+
 #[test]
 fn a_later_job_with_an_earlier_due_preempts(rt: HostRuntime) -> Result<(), Fail> {
-    let mut table = JobTable::new(rt.alloc(), 1)?;
-    assert_eq!(rt;
-        add_reads(rt.alloc(), &mut table, 0, 10, 3)?,
-        Some(JobNo(0))
-    );
-    assert_eq!(rt; add_reads(rt.alloc(), &mut table, 1, 3, 1)?, Some(JobNo(1)));
-    assert_eq!(rt; run_slot(&mut table, 0), Some(JobNo(0)));
-    assert_eq!(rt; run_slot(&mut table, 1), Some(JobNo(1)));
-    assert_eq!(rt; run_slot(&mut table, 2), Some(JobNo(0)));
-    assert_eq!(rt; run_slot(&mut table, 3), Some(JobNo(0)));
-    assert_eq!(rt; run_slot(&mut table, 4), None);
+    let mut table = with_reads(rt.alloc(), &[(0, 10, 3), (1, 3, 1)])?;
+    assert_eq!(rt; first_heads(&mut table), [0, 1, 0, 0]);
     assert_eq!(rt; table.worst(), Some((JobNo(1), -1)));
     Ok(())
 }
 
 #[test]
 fn equal_dues_go_by_number(rt: HostRuntime) -> Result<(), Fail> {
-    let mut table = JobTable::new(rt.alloc(), 1)?;
-    assert_eq!(rt; add_reads(rt.alloc(), &mut table, 2, 5, 2)?, Some(JobNo(0)));
-    assert_eq!(rt; add_reads(rt.alloc(), &mut table, 0, 5, 3)?, Some(JobNo(1)));
-    assert_eq!(rt; table.worst(), None);
-
     // Job 0 waits for its release.
-    assert_eq!(rt; run_slot(&mut table, 0), Some(JobNo(1)));
-    assert_eq!(rt; run_slot(&mut table, 1), Some(JobNo(1)));
-    assert_eq!(rt; run_slot(&mut table, 2), Some(JobNo(0)));
-    assert_eq!(rt; run_slot(&mut table, 3), Some(JobNo(0)));
+    let mut table = with_reads(rt.alloc(), &[(2, 5, 2), (0, 5, 3)])?;
+    assert_eq!(rt; first_heads(&mut table), [1, 1, 0, 0]);
     assert_eq!(rt; table.worst(), Some((JobNo(0), -1)));
-    assert_eq!(rt; run_slot(&mut table, 4), Some(JobNo(1)));
+    assert_eq!(rt; number_of(run_slot(&mut table, 4)), 1);
     assert_eq!(rt; table.worst(), Some((JobNo(1), 0)));
     Ok(())
 }
 
 #[test]
 fn of_equally_late_jobs_the_first_done_is_worst(rt: HostRuntime) -> Result<(), Fail> {
-    let mut table = JobTable::new(rt.alloc(), 1)?;
-    add_reads(rt.alloc(), &mut table, 0, 2, 2)?;
-    add_reads(rt.alloc(), &mut table, 0, 2, 1)?;
-    add_reads(rt.alloc(), &mut table, 0, 3, 1)?;
-    for now in 0..4 {
-        assert_eq!(rt; run_slot(&mut table, now).is_some(), true);
-    }
-
-    // Job 1 was done at 3, for 2, and job 2 at 4, for 3.
+    // Job 1 is done at 3, for 2, and job 2 at 4, for 3.
+    let mut table = with_reads(rt.alloc(), &[(0, 2, 2), (0, 2, 1), (0, 3, 1)])?;
+    assert_eq!(rt; first_heads(&mut table), [0, 0, 1, 2]);
     assert_eq!(rt; table.worst(), Some((JobNo(1), 1)));
     Ok(())
 }
@@ -136,7 +141,10 @@ fn waive_head(table: &mut JobTable, now: u32, given: u32) -> Option<Waived> {
 }
 
 /// Stops the die, and takes a waiver back if there is one.
-fn take_back(table: &mut JobTable, waived: Waived) {
+fn take_back(table: &mut JobTable, waived: Option<Waived>) {
+    let Some(waived) = waived else {
+        return;
+    };
     if let Some(Stage::Waived { .. }) = stage_of(table, waived.number) {
         table.stop(&[waived]);
     }
@@ -152,39 +160,46 @@ fn stage_of(table: &JobTable, number: JobNo) -> Option<Stage>
     }
 }
 
+/// How the first three jobs stand.
+fn stages(table: &JobTable) -> [Option<Stage>; 3] {
+    [
+        stage_of(table, JobNo(0)),
+        stage_of(table, JobNo(1)),
+        stage_of(table, JobNo(2)),
+    ]
+}
+
+/// A table of two tasks with a collection for each, and what the three calls answered.
+fn with_collections(alloc: Global) -> Result<(JobTable, [Option<JobNo>; 3]), Refusal> {
+    let mut table = JobTable::new(alloc, 2)?;
+    let first = add_collection(alloc, &mut table, TaskNo(1))?;
+    let again = add_collection(alloc, &mut table, TaskNo(1))?;
+    let second = add_collection(alloc, &mut table, TaskNo(0))?;
+    Ok((table, [first, again, second]))
+}
+
 #[test]
 fn waivers_are_taken_back(rt: HostRuntime) -> Result<(), Fail> {
-    let mut table = JobTable::new(rt.alloc(), 2)?;
+    let (mut table, numbers) = with_collections(rt.alloc())?;
+    assert_eq!(rt; numbers, [Some(JobNo(0)), None, Some(JobNo(1))]);
+    let first = waive_head(&mut table, 3, 2);
+    let second = waive_head(&mut table, 3, 1);
+    let waived = [
+        Some(Stage::Waived { given: 2 }),
+        Some(Stage::Waived { given: 1 }),
+        None,
+    ];
+    assert_eq!(rt; stages(&table), waived);
     assert_eq!(rt;
-        add_collection(rt.alloc(), &mut table, TaskNo(1))?,
-        Some(JobNo(0))
+        first,
+        Some(Waived {
+            number: JobNo(0),
+            given: 2
+        })
     );
-    assert_eq!(rt; add_collection(rt.alloc(), &mut table, TaskNo(1))?, None);
-    assert_eq!(rt;
-        add_collection(rt.alloc(), &mut table, TaskNo(0))?,
-        Some(JobNo(1))
-    );
-    let first = waive_head(&mut table, 3, 2).ok_or("no head")?;
-    assert_eq!(rt; first.number, JobNo(0));
-    assert_eq!(rt;
-        stage_of(&table, JobNo(0)),
-        Some(Stage::Waived { given: 2 })
-    );
-    assert_eq!(rt;
-        add_collection(rt.alloc(), &mut table, TaskNo(1))?,
-        Some(JobNo(2))
-    );
-    let second = waive_head(&mut table, 3, 1).ok_or("no head")?;
-    assert_eq!(rt; second.number, JobNo(1));
-
     take_back(&mut table, second);
+    assert_eq!(rt; stages(&table), [waived[0], Some(Stage::Open), None]);
     assert_eq!(rt; table.ended(), true);
-    assert_eq!(rt;
-        stage_of(&table, JobNo(0)),
-        Some(Stage::Waived { given: 2 })
-    );
-    assert_eq!(rt; stage_of(&table, JobNo(1)), Some(Stage::Open));
-    assert_eq!(rt; stage_of(&table, JobNo(3)), None);
     Ok(())
 }
 
@@ -212,34 +227,34 @@ fn read_slot(table: &mut JobTable, now: u32, bytes: PageData) -> Option<JobNo> {
     Some(number)
 }
 
+/// A table with a job that writes page 3 and then reads it.
+fn with_write_and_read(alloc: Global, bytes: PageData) -> Result<JobTable, Refusal> {
+    let mut ops = OpList::new(alloc);
+    ops.push(Op::Write(3, bytes))?;
+    ops.push(Op::Read(3))?;
+    let mut table = JobTable::new(alloc, 1)?;
+    add_ops(alloc, &mut table, 0, 4, ops)?;
+    Ok(table)
+}
+
 #[test]
 fn a_job_keeps_what_its_reads_gave(rt: HostRuntime) -> Result<(), Fail> {
     let bytes = PageData([0x11; 16]);
-    let mut ops = OpList::new(rt.alloc());
-    ops.push(Op::Write(3, bytes))?;
-    ops.push(Op::Read(3))?;
-    let mut table = JobTable::new(rt.alloc(), 1)?;
-    assert_eq!(rt; table.is_empty(), true);
-    let number = add_ops(rt.alloc(), &mut table, 0, 4, ops)?.ok_or("full")?;
-    assert_eq!(rt; run_slot(&mut table, 0), Some(number));
-    assert_eq!(rt; read_slot(&mut table, 1, bytes), Some(number));
-    assert_eq!(rt; run_slot(&mut table, 2), None);
-    assert_eq!(rt; table.clock(), 2);
-
-    let job = table.job(number).ok_or("no job")?;
-    assert_eq!(rt; job.collects(), false);
-    assert_eq!(rt; job.is_open(), false);
-    assert_eq!(rt; job.task(), TaskNo(0));
-    assert_eq!(rt; (job.release(), job.due(), job.work()), (0, 4, 2));
-    assert_eq!(rt; job.op(1), Some(Op::Read(3)));
-    assert_eq!(rt; job.op(2), None);
-    assert_eq!(rt; job.reads(), [bytes].as_slice());
+    let mut table = with_write_and_read(rt.alloc(), bytes)?;
+    let heads = [
+        number_of(run_slot(&mut table, 0)),
+        number_of(read_slot(&mut table, 1, bytes)),
+        number_of(run_slot(&mut table, 2)),
+    ];
+    assert_eq!(rt; heads, [0, 0, 99]);
+    assert_eq!(rt; (table.clock(), table.is_empty()), (2, false));
+    let job = table.job(JobNo(0)).ok_or("no job")?;
     assert_eq!(rt;
-        job.stage(),
-        Stage::Done {
-            completion: 2,
-            given: 0
-        }
+        (job.task(), job.release(), job.due(), job.work()),
+        (TaskNo(0), 0, 4, 2)
     );
+    assert_eq!(rt; (job.collects(), job.is_open()), (false, false));
+    assert_eq!(rt; [job.op(1), job.op(2)], [Some(Op::Read(3)), None]);
+    assert_eq!(rt; job.reads(), [bytes].as_slice());
     Ok(())
 }
