@@ -29,8 +29,8 @@ pub ready_among : (table : Table) (waiting : List WaitKey) (ready : List Key) �
     → (n : ℕ) (job : JobRecord) → slice_get table.jobs n ≡ Some job → is_ready table.clock job ≡ true → IsAmong (due_key n job) ready
 ready_among table waiting ready q later n job at_n ready_n =
     elim (q.each n job at_n (ready_open table.clock job ready_n)) [
-      inl h ↦
-        absurd (let lt : table.clock < job.release = at_member (λ (w : WaitKey). table.clock < w.release) (release_key n job) waiting later h in
+      | inl h ↦
+          absurd (let lt : table.clock < job.release = at_member (λ (w : WaitKey). table.clock < w.release) (release_key n job) waiting later h in
           let le = ready_released table.clock job ready_n in omega arith)
       | inr h ↦ h
     ]
@@ -44,11 +44,11 @@ first_is_head table waiting k ks q later rising =
       is_at = first.is_at;
       ready = ready_by table.clock first.job first.released first.open_is;
       first = λ m other at_m ready_m.
-        ap (λ l. is_due_before (due_key m other) l) (sym key_is)
-        ∙ elim (ready_among table waiting (k ∷ ks) q later m other at_m ready_m) as (λ v. is_due_before (due_key m other) k ≡ false) [
-          inl e ↦ ap (λ l. is_due_before l k) (sym e) ∙ due_irreflexive k
-          | inr h ↦ due_strict.one_way k (due_key m other) (at_member (λ later. is_due_before k later ≡ true) (due_key m other) ks rising.0 h)
-        ];
+          ap (λ l. is_due_before (due_key m other) l) (sym key_is)
+          ∙ elim (ready_among table waiting (k ∷ ks) q later m other at_m ready_m) as (λ v. is_due_before (due_key m other) k ≡ false) [
+            | inl e ↦ ap (λ l. is_due_before l k) (sym e) ∙ due_irreflexive k
+            | inr h ↦ due_strict.one_way k (due_key m other) (at_member (λ later. is_due_before k later ≡ true) (due_key m other) ks rising.0 h)
+          ];
     }
 
 pub none_ready : (table : Table) (waiting : List WaitKey) → AreQueued table.jobs table.clock waiting [] → AreLater table.clock waiting → NothingReady table
@@ -87,11 +87,11 @@ head_is_first table waiting (k ∷ ks) n q later rising head =
       rest = ks;
       ready_is = refl;
       number_is = elim (ready_among table waiting (k ∷ ks) q later n head.head head.is_at head.ready) [
-        inl e ↦ ap (λ (l : Key). l.number) e
+        | inl e ↦ ap (λ (l : Key). l.number) e
         | inr h ↦ absurd (
-          let e = at_member (λ later. is_due_before k later ≡ true) (due_key n head.head) ks rising.0 h in
-          let f : is_due_before k (due_key n head.head) ≡ is_due_before (due_key k.number first.job) (due_key n head.head) = ap (λ l. is_due_before l (due_key n head.head)) key_is in
-          cc)
+            let e = at_member (λ later. is_due_before k later ≡ true) (due_key n head.head) ks rising.0 h in
+            let f : is_due_before k (due_key n head.head) ≡ is_due_before (due_key k.number first.job) (due_key n head.head) = ap (λ l. is_due_before l (due_key n head.head)) key_is in
+            cc)
       ];
     }
 
@@ -111,11 +111,11 @@ head_goes_on table n change quiet head =
       is_at = changed_here table.jobs n change ∙ ap (λ o. option_map change o) head.is_at;
       ready = ready_same head.head ∙ head.ready;
       first = λ m other at_m ready_m.
-        elim (changed_cases table.jobs n change m other at_m) [
-          inl h ↦ ap (λ k. is_due_before (due_key m other) k) (key_same n head.head) ∙ head.first m other h.1 ready_m
-          | inr h ↦
-            ap (λ k. is_due_before (due_key m other) k) (key_same n head.head)
-            ∙ ap (λ k. is_due_before k (due_key n head.head)) (ap (due_key m) (sym h.1.2) ∙ key_same m h.1.0)
-            ∙ head.first m h.1.0 h.1.1 (sym (ready_same h.1.0) ∙ ap (is_ready table.clock) h.1.2 ∙ ready_m)
-        ];
+          elim (changed_cases table.jobs n change m other at_m) [
+            | inl h ↦ ap (λ k. is_due_before (due_key m other) k) (key_same n head.head) ∙ head.first m other h.1 ready_m
+            | inr h ↦
+                ap (λ k. is_due_before (due_key m other) k) (key_same n head.head)
+                ∙ ap (λ k. is_due_before k (due_key n head.head)) (ap (due_key m) (sym h.1.2) ∙ key_same m h.1.0)
+                ∙ head.first m h.1.0 h.1.1 (sym (ready_same h.1.0) ∙ ap (is_ready table.clock) h.1.2 ∙ ready_m)
+          ];
     }

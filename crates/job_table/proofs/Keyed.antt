@@ -30,8 +30,8 @@ pub stand_on : (jobs : List JobRecord) (clock now : ℕ) (waiting : List WaitKey
 stand_on jobs clock now waiting ready le q = record {
   waits = q.waits;
   stands = every (IsStanding jobs clock) (IsStanding jobs now)
-    (λ k s. record { job = s.job; is_at = s.is_at; open_is = s.open_is; due_is = s.due_is; released = let h : s.job.release ≤ clock = s.released in omega arith })
-    ready q.stands;
+      (λ k s. record { job = s.job; is_at = s.is_at; open_is = s.open_is; due_is = s.due_is; released = let h : s.job.release ≤ clock = s.released in omega arith })
+      ready q.stands;
   each = q.each;
   apart = q.apart;
 }
@@ -43,10 +43,10 @@ others_wait : (jobs : List JobRecord) (w : WaitKey) (ws : List WaitKey) → IsWa
 others_wait jobs w ws here rising waits =
     both (λ later. is_released_before w later ≡ true) (IsWaiting jobs) (λ (v : WaitKey). v.number ≢ w.number)
     (λ v before there same.
-      let e : there.job ≡ here.job = same_at v.number w.number jobs there.job here.job same there.is_at here.is_at in
-      let f : w.release ≡ v.release = here.release_is ∙ ap (λ j. j.release) (sym e) ∙ sym there.release_is in
-      let g : is_released_before w v ≡ false = not_before_same w v f (sym same) in
-      cc)
+    let e : there.job ≡ here.job = same_at v.number w.number jobs there.job here.job same there.is_at here.is_at in
+    let f : w.release ≡ v.release = here.release_is ∙ ap (λ j. j.release) (sym e) ∙ sym there.release_is in
+    let g : is_released_before w v ≡ false = not_before_same w v f (sym same) in
+    cc)
     ws rising waits
 
 -- no key with its number stands among the released ones
@@ -69,20 +69,20 @@ release_one jobs now w ws ready due le due_is rising q =
     record {
       waits = q.waits.1;
       stands = every-inserted is_due_before (IsStanding jobs now) key ready
-        (record { job = here.job; is_at = here.is_at; open_is = here.open_is; due_is = same_due; released = let e = here.release_is in omega arith })
-        q.stands;
+          (record { job = here.job; is_at = here.is_at; open_is = here.open_is; due_is = same_due; released = let e = here.release_is in omega arith })
+          q.stands;
       each = λ n job at_n open_n.
-        elim (q.each n job at_n open_n) [
-          inl (inl e) ↦
-            let number_is : w.number ≡ n = ap (λ (v : WaitKey). v.number) e in
-            let job_is : here.job ≡ job = same_at w.number n jobs here.job job number_is here.is_at at_n in
-            let key_is : key ≡ due_key n job = λ i. record { due = (same_due ∙ ap (λ j. j.due) job_is) i; number = number_is i } in
-            inr (rw (sym key_is) (inserted_member is_due_before key ready))
-          | inl (inr h) ↦ inl h
-          | inr h ↦ inr (inserted_keeps is_due_before key (due_key n job) ready h)
-        ];
+          elim (q.each n job at_n open_n) [
+            | inl (inl e) ↦
+                let number_is : w.number ≡ n = ap (λ (v : WaitKey). v.number) e in
+                let job_is : here.job ≡ job = same_at w.number n jobs here.job job number_is here.is_at at_n in
+                let key_is : key ≡ due_key n job = λ i. record { due = (same_due ∙ ap (λ j. j.due) job_is) i; number = number_is i } in
+                inr (rw (sym key_is) (inserted_member is_due_before key ready))
+            | inl (inr h) ↦ inl h
+            | inr h ↦ inr (inserted_keeps is_due_before key (due_key n job) ready h)
+          ];
       apart = both (λ (v : WaitKey). v.number ≢ w.number) (λ (v : WaitKey). AllByRecursion (λ (k : Key). v.number ≢ k.number) ready) (λ (v : WaitKey). AllByRecursion (λ (k : Key). v.number ≢ k.number) (inserted is_due_before key ready))
-        (λ v other rest. every-inserted is_due_before (λ (k : Key). v.number ≢ k.number) key ready other rest) ws others q.apart.1;
+          (λ v other rest. every-inserted is_due_before (λ (k : Key). v.number ≢ k.number) key ready other rest) ws others q.apart.1;
     }
 
 -- where the first is released later, all are
@@ -96,15 +96,15 @@ pub not_waiting : (jobs : List JobRecord) (clock : ℕ) (waiting : List WaitKey)
 not_waiting jobs clock waiting ready release q =
     not_contained (record { release = release; number = length jobs }) waiting
     (every (IsWaiting jobs) (λ k. k ≢ record { release = release; number = length jobs })
-      (λ k here same. let lt = slice_get_within jobs k.number here.job here.is_at in let e : k.number ≡ length jobs = ap (λ (v : WaitKey). v.number) same in omega arith)
-      waiting q.waits)
+    (λ k here same. let lt = slice_get_within jobs k.number here.job here.is_at in let e : k.number ≡ length jobs = ap (λ (v : WaitKey). v.number) same in omega arith)
+    waiting q.waits)
 
 pub not_ready : (jobs : List JobRecord) (clock : ℕ) (waiting : List WaitKey) (ready : List Key) (due : ℕ) → AreQueued jobs clock waiting ready → Contains ready (record { due = due; number = length jobs }) → ⊥
 not_ready jobs clock waiting ready due q =
     not_contained (record { due = due; number = length jobs }) ready
     (every (IsStanding jobs clock) (λ k. k ≢ record { due = due; number = length jobs })
-      (λ k here same. let lt = slice_get_within jobs k.number here.job here.is_at in let e : k.number ≡ length jobs = ap (λ (v : Key). v.number) same in omega arith)
-      ready q.stands)
+    (λ k here same. let lt = slice_get_within jobs k.number here.job here.is_at in let e : k.number ≡ length jobs = ap (λ (v : Key). v.number) same in omega arith)
+    ready q.stands)
 
 waits_on : (jobs : List JobRecord) (job : JobRecord) (waiting : List WaitKey) → AllByRecursion (IsWaiting jobs) waiting → AllByRecursion (IsWaiting (jobs ++ job ∷ [])) waiting
 waits_on jobs job waiting all =
@@ -123,21 +123,21 @@ enter_waiting jobs job clock waiting ready open_job q =
     let key : WaitKey = release_key (length jobs) job in
     record {
       waits = every-inserted is_released_before (IsWaiting (jobs ++ job ∷ [])) key waiting
-        (record { job = job; is_at = push_here jobs job; open_is = open_job; release_is = refl }) (waits_on jobs job waiting q.waits);
+          (record { job = job; is_at = push_here jobs job; open_is = open_job; release_is = refl }) (waits_on jobs job waiting q.waits);
       stands = stands_on jobs job clock ready q.stands;
       each = λ n other at_n open_n.
-        elim (push_cases jobs job n other at_n) [
-          inl h ↦ elim (q.each n other h open_n) [
-            inl g ↦ inl (inserted_keeps is_released_before key (release_key n other) waiting g)
-            | inr g ↦ inr g
-          ]
-          | inr h ↦
-            let key_is : key ≡ release_key n other = λ i. record { release = (h.1 i).release; number = (sym h.0) i } in
-            inl (rw (sym key_is) (inserted_member is_released_before key waiting))
-        ];
+          elim (push_cases jobs job n other at_n) [
+            | inl h ↦ elim (q.each n other h open_n) [
+              | inl g ↦ inl (inserted_keeps is_released_before key (release_key n other) waiting g)
+              | inr g ↦ inr g
+            ]
+            | inr h ↦
+                let key_is : key ≡ release_key n other = λ i. record { release = (h.1 i).release; number = (sym h.0) i } in
+                inl (rw (sym key_is) (inserted_member is_released_before key waiting))
+          ];
       apart = every-inserted is_released_before (λ (w : WaitKey). AllByRecursion (λ (k : Key). w.number ≢ k.number) ready) key waiting
-        (every (IsStanding jobs clock) (λ (k : Key). length jobs ≢ k.number) (λ k h same. let lt = slice_get_within jobs k.number h.job h.is_at in omega arith) ready q.stands)
-        q.apart;
+          (every (IsStanding jobs clock) (λ (k : Key). length jobs ≢ k.number) (λ k h same. let lt = slice_get_within jobs k.number h.job h.is_at in omega arith) ready q.stands)
+          q.apart;
     }
 
 -- among the released ones
@@ -150,21 +150,21 @@ enter_ready jobs job clock waiting ready open_job le q =
     record {
       waits = waits_on jobs job waiting q.waits;
       stands = every-inserted is_due_before (IsStanding (jobs ++ job ∷ []) clock) key ready
-        (record { job = job; is_at = push_here jobs job; open_is = open_job; due_is = refl; released = le }) (stands_on jobs job clock ready q.stands);
+          (record { job = job; is_at = push_here jobs job; open_is = open_job; due_is = refl; released = le }) (stands_on jobs job clock ready q.stands);
       each = λ n other at_n open_n.
-        elim (push_cases jobs job n other at_n) [
-          inl h ↦ elim (q.each n other h open_n) [
-            inl g ↦ inl g
-            | inr g ↦ inr (inserted_keeps is_due_before key (due_key n other) ready g)
-          ]
-          | inr h ↦
-            let key_is : key ≡ due_key n other = λ i. record { due = (h.1 i).due; number = (sym h.0) i } in
-            inr (rw (sym key_is) (inserted_member is_due_before key ready))
-        ];
+          elim (push_cases jobs job n other at_n) [
+            | inl h ↦ elim (q.each n other h open_n) [
+              | inl g ↦ inl g
+              | inr g ↦ inr (inserted_keeps is_due_before key (due_key n other) ready g)
+            ]
+            | inr h ↦
+                let key_is : key ≡ due_key n other = λ i. record { due = (h.1 i).due; number = (sym h.0) i } in
+                inr (rw (sym key_is) (inserted_member is_due_before key ready))
+          ];
       apart = both (IsWaiting jobs) (λ (w : WaitKey). AllByRecursion (λ (k : Key). w.number ≢ k.number) ready) (λ (w : WaitKey). AllByRecursion (λ (k : Key). w.number ≢ k.number) (inserted is_due_before key ready))
-        (λ w h rest. every-inserted is_due_before (λ (k : Key). w.number ≢ k.number) key ready
+          (λ w h rest. every-inserted is_due_before (λ (k : Key). w.number ≢ k.number) key ready
           (λ same. let lt = slice_get_within jobs w.number h.job h.is_at in omega arith) rest)
-        waiting q.waits q.apart;
+          waiting q.waits q.apart;
     }
 
 -- A job goes on
@@ -186,7 +186,7 @@ changed_cases (j ∷ jobs) zero change (suc m) other e = inl ((λ same. omega ar
 changed_cases (j ∷ jobs) (suc n) change zero other e = inl ((λ same. omega arith), e)
 changed_cases (j ∷ jobs) (suc n) change (suc m) other e =
     elim (changed_cases jobs n change m other e) [
-      inl h ↦ inl ((λ same. h.0 (omega arith)), h.1)
+      | inl h ↦ inl ((λ same. h.0 (omega arith)), h.1)
       | inr h ↦ inr (ap suc h.0, h.1)
     ]
 
@@ -199,7 +199,7 @@ changed_image (j ∷ jobs) zero change (suc m) job e = inl ((λ same. omega arit
 changed_image (j ∷ jobs) (suc n) change zero job e = inl ((λ same. omega arith), e)
 changed_image (j ∷ jobs) (suc n) change (suc m) job e =
     elim (changed_image jobs n change m job e) [
-      inl h ↦ inl ((λ same. h.0 (omega arith)), h.1)
+      | inl h ↦ inl ((λ same. h.0 (omega arith)), h.1)
       | inr h ↦ inr (ap suc h.0, h.1)
     ]
 
@@ -207,26 +207,26 @@ pub quiet_queues : (jobs : List JobRecord) (n : ℕ) (change : JobRecord → Job
     → IsQuiet change → AreQueued jobs clock waiting ready → AreQueued (changed_at jobs n change) clock waiting ready
 quiet_queues jobs n change clock waiting ready quiet q = record {
   waits = every (IsWaiting jobs) (IsWaiting (changed_at jobs n change))
-    (λ k h. elim (changed_image jobs n change k.number h.job h.is_at) [
-      inl g ↦ moved_wait jobs (changed_at jobs n change) k h g.1
-      | inr g ↦ record { job = change h.job; is_at = g.1; open_is = ap is_open (quiet.stage_is h.job) ∙ h.open_is; release_is = h.release_is ∙ sym (quiet.release_is h.job) }
-    ]) waiting q.waits;
+      (λ k h. elim (changed_image jobs n change k.number h.job h.is_at) [
+        | inl g ↦ moved_wait jobs (changed_at jobs n change) k h g.1
+        | inr g ↦ record { job = change h.job; is_at = g.1; open_is = ap is_open (quiet.stage_is h.job) ∙ h.open_is; release_is = h.release_is ∙ sym (quiet.release_is h.job) }
+      ]) waiting q.waits;
   stands = every (IsStanding jobs clock) (IsStanding (changed_at jobs n change) clock)
-    (λ k h. elim (changed_image jobs n change k.number h.job h.is_at) [
-      inl g ↦ moved_stand jobs (changed_at jobs n change) clock k h g.1
-      | inr g ↦ record { job = change h.job; is_at = g.1; open_is = ap is_open (quiet.stage_is h.job) ∙ h.open_is; due_is = h.due_is ∙ sym (quiet.due_is h.job); released = rw (quiet.release_is h.job) h.released }
-    ]) ready q.stands;
+      (λ k h. elim (changed_image jobs n change k.number h.job h.is_at) [
+        | inl g ↦ moved_stand jobs (changed_at jobs n change) clock k h g.1
+        | inr g ↦ record { job = change h.job; is_at = g.1; open_is = ap is_open (quiet.stage_is h.job) ∙ h.open_is; due_is = h.due_is ∙ sym (quiet.due_is h.job); released = rw (quiet.release_is h.job) h.released }
+      ]) ready q.stands;
   each = λ m other at_m open_m.
-    elim (changed_cases jobs n change m other at_m) [
-      inl h ↦ q.each m other h.1 open_m
-      | inr h ↦
-        let job : JobRecord = h.1.0 in
-        let is : change job ≡ other = h.1.2 in
-        let open_job : is_open job.stage ≡ true = ap is_open (sym (quiet.stage_is job) ∙ ap (λ j. j.stage) is) ∙ open_m in
-        let release_same : release_key m job ≡ release_key m other = λ i. record { release = (sym (quiet.release_is job) ∙ ap (λ j. j.release) is) i; number = m } in
-        let due_same : due_key m job ≡ due_key m other = λ i. record { due = (sym (quiet.due_is job) ∙ ap (λ j. j.due) is) i; number = m } in
-        rw (sym release_same, sym due_same) (q.each m job h.1.1 open_job)
-    ];
+      elim (changed_cases jobs n change m other at_m) [
+        | inl h ↦ q.each m other h.1 open_m
+        | inr h ↦
+            let job : JobRecord = h.1.0 in
+            let is : change job ≡ other = h.1.2 in
+            let open_job : is_open job.stage ≡ true = ap is_open (sym (quiet.stage_is job) ∙ ap (λ j. j.stage) is) ∙ open_m in
+            let release_same : release_key m job ≡ release_key m other = λ i. record { release = (sym (quiet.release_is job) ∙ ap (λ j. j.release) is) i; number = m } in
+            let due_same : due_key m job ≡ due_key m other = λ i. record { due = (sym (quiet.due_is job) ∙ ap (λ j. j.due) is) i; number = m } in
+            rw (sym release_same, sym due_same) (q.each m job h.1.1 open_job)
+      ];
   apart = q.apart;
 }
 
@@ -242,25 +242,25 @@ end_first jobs n change clock waiting k ks number_is over rising q =
     let first : IsStanding jobs clock k = q.stands.0 in
     let wait_else = every (λ (w : WaitKey). AllByRecursion (λ (l : Key). w.number ≢ l.number) (k ∷ ks)) (λ (w : WaitKey). w.number ≢ n) (λ w h same. h.0 (same ∙ sym number_is)) waiting q.apart in
     let stand_else = both (λ later. is_due_before k later ≡ true) (IsStanding jobs clock) (λ (l : Key). l.number ≢ n)
-      (λ l before there same.
-        let e : there.job ≡ first.job = same_at l.number k.number jobs there.job first.job (same ∙ sym number_is) there.is_at first.is_at in
-        let f : k.due ≡ l.due = first.due_is ∙ ap (λ j. j.due) (sym e) ∙ sym there.due_is in
-        let g : is_due_before k l ≡ false = not_due_before_same k l f (number_is ∙ sym same) in
-        cc)
-      ks rising.0 q.stands.1 in
+    (λ l before there same.
+    let e : there.job ≡ first.job = same_at l.number k.number jobs there.job first.job (same ∙ sym number_is) there.is_at first.is_at in
+    let f : k.due ≡ l.due = first.due_is ∙ ap (λ j. j.due) (sym e) ∙ sym there.due_is in
+    let g : is_due_before k l ≡ false = not_due_before_same k l f (number_is ∙ sym same) in
+    cc)
+    ks rising.0 q.stands.1 in
     record {
       waits = both (λ (w : WaitKey). w.number ≢ n) (IsWaiting jobs) (IsWaiting (changed_at jobs n change))
-        (λ w other h. moved_wait jobs (changed_at jobs n change) w h (changed_elsewhere jobs n change w.number other ∙ h.is_at)) waiting wait_else q.waits;
+          (λ w other h. moved_wait jobs (changed_at jobs n change) w h (changed_elsewhere jobs n change w.number other ∙ h.is_at)) waiting wait_else q.waits;
       stands = both (λ (l : Key). l.number ≢ n) (IsStanding jobs clock) (IsStanding (changed_at jobs n change) clock)
-        (λ l other h. moved_stand jobs (changed_at jobs n change) clock l h (changed_elsewhere jobs n change l.number other ∙ h.is_at)) ks stand_else q.stands.1;
+          (λ l other h. moved_stand jobs (changed_at jobs n change) clock l h (changed_elsewhere jobs n change l.number other ∙ h.is_at)) ks stand_else q.stands.1;
       each = λ m other at_m open_m.
-        elim (changed_cases jobs n change m other at_m) [
-          inl h ↦ elim (q.each m other h.1 open_m) [
-            inl g ↦ inl g
-            | inr (inl e) ↦ absurd (h.0 (sym (ap (λ (l : Key). l.number) e) ∙ number_is))
-            | inr (inr g) ↦ inr g
-          ]
-          | inr h ↦ absurd (let e : is_open other.stage ≡ false = ap (λ j. is_open j.stage) (sym h.1.2) ∙ over h.1.0 in cc)
-        ];
+          elim (changed_cases jobs n change m other at_m) [
+            | inl h ↦ elim (q.each m other h.1 open_m) [
+              | inl g ↦ inl g
+              | inr (inl e) ↦ absurd (h.0 (sym (ap (λ (l : Key). l.number) e) ∙ number_is))
+              | inr (inr g) ↦ inr g
+            ]
+            | inr h ↦ absurd (let e : is_open other.stage ≡ false = ap (λ j. is_open j.stage) (sym h.1.2) ∙ over h.1.0 in cc)
+          ];
       apart = every (λ (w : WaitKey). AllByRecursion (λ (l : Key). w.number ≢ l.number) (k ∷ ks)) (λ (w : WaitKey). AllByRecursion (λ (l : Key). w.number ≢ l.number) ks) (λ w h. h.1) waiting q.apart;
     }

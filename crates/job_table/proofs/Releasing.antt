@@ -58,7 +58,7 @@ release_step jobs now old rest ready spare spare' w job due first_is rest_is rea
         room = let h : length old ≤ spare = roomy.room in omega arith;
       };
       queued = release_one jobs now w rest ready due pop.released
-        (λ other at_w. due_is ∙ ap (λ j. j.due) (read ∙ get_or_from_slice_get jobs w.number other job at_w)) rising q;
+          (λ other at_w. due_is ∙ ap (λ j. j.due) (read ∙ get_or_from_slice_get jobs w.number other job at_w)) rising q;
       fewer = omega arith;
     }
 

@@ -80,27 +80,27 @@ quiet_sound jobs n change job clock ended collecting lines worst quiet at_n open
         later = r.later;
         few_wait = rw len r.few_wait;
         tasks = λ m other at_m collects_m.
-          elim (changed_cases jobs n change m other at_m) [
-            inl h ↦ r.tasks m other h.1 collects_m
-            | inr h ↦
-              let lt = r.tasks m h.1.0 h.1.1 (sym (quiet.collects_is h.1.0) ∙ ap (λ j. j.collects) h.1.2 ∙ collects_m) in
-              let same : h.1.0.task ≡ other.task = sym (quiet.task_is h.1.0) ∙ ap (λ j. j.task) h.1.2 in
-              rw (sym same) lt
-          ];
+            elim (changed_cases jobs n change m other at_m) [
+              | inl h ↦ r.tasks m other h.1 collects_m
+              | inr h ↦
+                  let lt = r.tasks m h.1.0 h.1.1 (sym (quiet.collects_is h.1.0) ∙ ap (λ j. j.collects) h.1.2 ∙ collects_m) in
+                  let same : h.1.0.task ≡ other.task = sym (quiet.task_is h.1.0) ∙ ap (λ j. j.task) h.1.2 in
+                  rw (sym same) lt
+            ];
         marks = λ task lt.
-          let p = is_collection_of task in
-          let same : is_collection_of task (change job) ≡ is_collection_of task job = rw (quiet.collects_is job, quiet.task_is job, quiet.stage_is job) refl in
-          let one : one_if p (change job) ≡ one_if p job = ap (λ b. cond b 1 0) same in
-          let count = count_by-changed_at p jobs n change job at_n in
-          let was = r.marks task lt in
-          omega arith;
+            let p = is_collection_of task in
+            let same : is_collection_of task (change job) ≡ is_collection_of task job = rw (quiet.collects_is job, quiet.task_is job, quiet.stage_is job) refl in
+            let one : one_if p (change job) ≡ one_if p job = ap (λ b. cond b 1 0) same in
+            let count = count_by-changed_at p jobs n change job at_n in
+            let was = r.marks task lt in
+            omega arith;
       };
       worst_is = undone_worst jobs n change worst
-        (λ other at_other.
+          (λ other at_other.
           let e : job ≡ other = same_at n n jobs job other refl at_n at_other in
           let undone : is_done other.stage ≡ false = open_undone other.stage (ap (λ j. is_open j.stage) (sym e) ∙ open_n) in
           (undone, ap is_done (quiet.stage_is other) ∙ undone))
-        sound.worst_is;
+          sound.worst_is;
     }
 
 -- The head is over
@@ -130,15 +130,15 @@ over_marks jobs n s job collecting task at_n open_n over lt was true is =
     let after : one_if p (with_stage s job) ≡ 0 = rw (is, over) (none_true (job.task == task)) in
     let count = count_by-changed_at p jobs n (with_stage s) job at_n in
     elim (cases_eq task job.task) [
-      inl same ↦
-        let here = same_task job.task task (sym same) in
-        let lt' : job.task < length collecting = omega arith in
-        let read : get_or (set collecting job.task false) task false ≡ false = ap (λ t. get_or (set collecting job.task false) t false) same ∙ get_or-set_same collecting job.task false false lt' in
-        rw read (let small = at_most_one (get_or collecting task false) in omega arith)
+      | inl same ↦
+          let here = same_task job.task task (sym same) in
+          let lt' : job.task < length collecting = omega arith in
+          let read : get_or (set collecting job.task false) task false ≡ false = ap (λ t. get_or (set collecting job.task false) t false) same ∙ get_or-set_same collecting job.task false false lt' in
+          rw read (let small = at_most_one (get_or collecting task false) in omega arith)
       | inr differs ↦
-        let here = other_task job.task task (λ e. differs (sym e)) in
-        let read : get_or (set collecting job.task false) task false ≡ get_or collecting task false = get_or-set_other collecting job.task task false false differs in
-        rw read (omega arith)
+          let here = other_task job.task task (λ e. differs (sym e)) in
+          let read : get_or (set collecting job.task false) task false ≡ get_or collecting task false = get_or-set_other collecting job.task task false false differs in
+          rw read (omega arith)
     ]
 
 pub over_running : (table : Table) (n : ℕ) (s : Stage) (collecting : List Bool) (waiting : List WaitKey) (ready : List Key)
@@ -149,24 +149,24 @@ over_running table n s collecting waiting ready head over rising r =
     let b : BeginsWith n ready = head_is_first table waiting ready n r.queued r.later rising head in
     let rest_is : rest_of ready ≡ b.rest = ap rest_of b.ready_is in
     let q = end_first table.jobs n (with_stage s) table.clock waiting b.first b.rest b.number_is (λ job. over)
-      (subst (IsRising is_due_before) b.ready_is rising) (subst (λ l. AreQueued table.jobs table.clock waiting l) b.ready_is r.queued) in
+    (subst (IsRising is_due_before) b.ready_is rising) (subst (λ l. AreQueued table.jobs table.clock waiting l) b.ready_is r.queued) in
     let marks_len : length (unmarked (slice_get table.jobs n) collecting) ≡ length collecting = length-unmarked (slice_get table.jobs n) collecting in
     record {
       queued = rw rest_is q;
       later = r.later;
       few_wait = rw length-changed_at r.few_wait;
       tasks = λ m other at_m collects_m.
-        rw marks_len
-        (elim (changed_cases table.jobs n (with_stage s) m other at_m) [
-          inl h ↦ r.tasks m other h.1 collects_m
-          | inr h ↦
-            let lt = r.tasks m h.1.0 h.1.1 (ap (λ j. j.collects) h.1.2 ∙ collects_m) in
-            let same : h.1.0.task ≡ other.task = ap (λ j. j.task) h.1.2 in
-            rw (sym same) lt
-        ]);
+          rw marks_len
+          (elim (changed_cases table.jobs n (with_stage s) m other at_m) [
+            | inl h ↦ r.tasks m other h.1 collects_m
+            | inr h ↦
+                let lt = r.tasks m h.1.0 h.1.1 (ap (λ j. j.collects) h.1.2 ∙ collects_m) in
+                let same : h.1.0.task ≡ other.task = ap (λ j. j.task) h.1.2 in
+                rw (sym same) lt
+          ]);
       marks = λ task lt.
-        let lt' : task < length collecting = rw marks_len at lt in
-        rw head.is_at (over_marks table.jobs n s head.head collecting task head.is_at (ready_open table.clock head.head head.ready) over lt' (r.marks task lt') head.head.collects refl);
+          let lt' : task < length collecting = rw marks_len at lt in
+          rw head.is_at (over_marks table.jobs n s head.head collecting task head.is_at (ready_open table.clock head.head head.ready) over lt' (r.marks task lt') head.head.collects refl);
     }
 
 -- everything but who is worst
@@ -216,9 +216,9 @@ pub has_entered : (jobs : List JobRecord) (job : JobRecord) (clock : ℕ) (waiti
 has_entered jobs job clock waiting waiting' ready ready' open_job waiting_is ready_is q later = by (nat_lt clock job.release) refl waiting_is ready_is
   where
     by : (b : Bool) → nat_lt clock job.release ≡ b
-      → waiting' ≡ (if b then inserted is_released_before (release_key (length jobs) job) waiting else waiting)
-      → ready' ≡ (if b then ready else inserted is_due_before (due_key (length jobs) job) ready)
-      → HasEntered jobs job clock waiting waiting' ready ready'
+        → waiting' ≡ (if b then inserted is_released_before (release_key (length jobs) job) waiting else waiting)
+        → ready' ≡ (if b then ready else inserted is_due_before (due_key (length jobs) job) ready)
+        → HasEntered jobs job clock waiting waiting' ready ready'
     by true e f g =
         let lt : clock < job.release = grind (arith, nat_tests) in
         rw (f, g) (record {
@@ -251,16 +251,16 @@ job_sound jobs job clock ended collecting lines lines' worst few open_is collect
         later = h.later;
         few_wait = let f = h.few_wait in let g = r.few_wait in omega arith;
         tasks = λ m other at_m collects_m.
-          elim (push_cases jobs job m other at_m) [
-            inl h ↦ r.tasks m other h collects_m
-            | inr h ↦ absurd (let e = ap (λ j. j.collects) (sym h.1) ∙ collects_not in cc)
-          ];
+            elim (push_cases jobs job m other at_m) [
+              | inl h ↦ r.tasks m other h collects_m
+              | inr h ↦ absurd (let e = ap (λ j. j.collects) (sym h.1) ∙ collects_not in cc)
+            ];
         marks = λ task lt.
-          let p = is_collection_of task in
-          let none : one_if p job ≡ 0 = ap (λ b. cond (b && (job.task == task) && is_open job.stage) 1 0) collects_not in
-          let count = count_push p jobs job in
-          let was = r.marks task lt in
-          omega arith;
+            let p = is_collection_of task in
+            let none : one_if p job ≡ 0 = ap (λ b. cond (b && (job.task == task) && is_open job.stage) 1 0) collects_not in
+            let count = count_push p jobs job in
+            let was = r.marks task lt in
+            omega arith;
       };
       worst_is = pushed_worst jobs job worst (ap is_done open_is) sound.worst_is;
     }
@@ -282,28 +282,28 @@ collection_sound jobs job clock ended collecting lines lines' worst runs few ope
         later = h.later;
         few_wait = let f = h.few_wait in let g = r.few_wait in omega arith;
         tasks = λ m other at_m collects_m.
-          elim (push_cases jobs job m other at_m) [
-            inl g ↦ rw marks_len (r.tasks m other g collects_m)
-            | inr g ↦ let same : job.task ≡ other.task = ap (λ j. j.task) g.1 in rw (sym same, marks_len) in_range
-          ];
+            elim (push_cases jobs job m other at_m) [
+              | inl g ↦ rw marks_len (r.tasks m other g collects_m)
+              | inr g ↦ let same : job.task ≡ other.task = ap (λ j. j.task) g.1 in rw (sym same, marks_len) in_range
+            ];
         marks = λ task lt.
-          let p = is_collection_of task in
-          let lt' : task < length collecting = rw marks_len at lt in
-          let one : one_if p job ≡ one_of (job.task == task) = rw (collects_it, open_is) (both_true (job.task == task)) in
-          let count = count_push p jobs job in
-          let was = r.marks task lt' in
-          elim (cases_eq task job.task) [
-            inl same ↦
-              let here = same_task job.task task (sym same) in
-              let unmarked_is : get_or collecting task false ≡ false = mark_is jobs clock collecting lines.waiting lines.ready task r lt' ∙ ap (is_collecting jobs) same ∙ single in
-              let none : count_by p jobs ≡ 0 = was ∙ ap (λ b. cond b 1 0) unmarked_is in
-              let read : get_or (set collecting job.task true) task false ≡ true = ap (λ t. get_or (set collecting job.task true) t false) same ∙ get_or-set_same collecting job.task true false in_range in
-              rw read (omega arith)
-            | inr differs ↦
-              let here = other_task job.task task (λ e. differs (sym e)) in
-              let read : get_or (set collecting job.task true) task false ≡ get_or collecting task false = get_or-set_other collecting job.task task true false differs in
-              rw read (omega arith)
-          ];
+            let p = is_collection_of task in
+            let lt' : task < length collecting = rw marks_len at lt in
+            let one : one_if p job ≡ one_of (job.task == task) = rw (collects_it, open_is) (both_true (job.task == task)) in
+            let count = count_push p jobs job in
+            let was = r.marks task lt' in
+            elim (cases_eq task job.task) [
+              | inl same ↦
+                  let here = same_task job.task task (sym same) in
+                  let unmarked_is : get_or collecting task false ≡ false = mark_is jobs clock collecting lines.waiting lines.ready task r lt' ∙ ap (is_collecting jobs) same ∙ single in
+                  let none : count_by p jobs ≡ 0 = was ∙ ap (λ b. cond b 1 0) unmarked_is in
+                  let read : get_or (set collecting job.task true) task false ≡ true = ap (λ t. get_or (set collecting job.task true) t false) same ∙ get_or-set_same collecting job.task true false in_range in
+                  rw read (omega arith)
+              | inr differs ↦
+                  let here = other_task job.task task (λ e. differs (sym e)) in
+                  let read : get_or (set collecting job.task true) task false ≡ get_or collecting task false = get_or-set_other collecting job.task task true false differs in
+                  rw read (omega arith)
+            ];
       };
       worst_is = pushed_worst jobs job worst (ap is_done open_is) sound.worst_is;
     }

@@ -79,8 +79,8 @@ waived_here jobs w here = record {
 apart : (jobs : List JobRecord) (m n : ℕ) → IsWaivedAt jobs m → IsOpenAt jobs n → m ≢ n
 apart jobs m n waived open_one same =
     absurd (let e = same_at m n jobs waived.job open_one.job same waived.is_at open_one.is_at in
-      let f : is_waived open_one.job.stage ≡ true = ap (λ j. is_waived j.stage) (sym e) ∙ waived.waived_is in
-      let g : is_waived open_one.job.stage ≡ false = ap is_waived open_one.open_is in cc)
+    let f : is_waived open_one.job.stage ≡ true = ap (λ j. is_waived j.stage) (sym e) ∙ waived.waived_is in
+    let g : is_waived open_one.job.stage ≡ false = ap is_waived open_one.open_is in cc)
 
 still_waived : (jobs : List JobRecord) (n : ℕ) (w : Waived) → n ≢ w.number → IsWaivedAt jobs n → IsWaivedAt (after_waiver jobs w) n
 still_waived jobs n w differs waived = record {
@@ -108,7 +108,7 @@ open_after jobs v (w ∷ ws) waived were =
         open_is = were.0.open_is;
       },
       subst (λ l. WereOpen l ws) (changed_comm jobs w.number v.number (with_stage (stages.Waived w.given)) (with_stage stages.Open) (λ e. differs (sym e)))
-        (open_after (after_waiver jobs w) v ws (still_waived jobs v.number w differs waived) were.1),
+          (open_after (after_waiver jobs w) v ws (still_waived jobs v.number w differs waived) were.1),
     )
 
 -- what was waived and taken back is as it was
@@ -157,7 +157,7 @@ waived_undone (Some job) h = stage_undone job.stage h
 undone_after : (jobs : List JobRecord) (w : Waived) (n : ℕ) → is_undone (slice_get jobs n) ≡ true → is_undone (slice_get (without_waiver jobs w) n) ≡ true
 undone_after jobs w n h =
     elim (cases_eq n w.number) [
-      inl same ↦ ap (λ m. is_undone (slice_get (without_waiver jobs w) m)) same ∙ ap is_undone (changed_here jobs w.number (with_stage stages.Open)) ∙ open_undone (slice_get jobs w.number)
+      | inl same ↦ ap (λ m. is_undone (slice_get (without_waiver jobs w) m)) same ∙ ap is_undone (changed_here jobs w.number (with_stage stages.Open)) ∙ open_undone (slice_get jobs w.number)
       | inr differs ↦ ap is_undone (changed_elsewhere jobs w.number (with_stage stages.Open) n differs) ∙ h
     ]
   where

@@ -27,12 +27,12 @@ above_by_test late other_late before h g = grind (arith, ints)
 chain : (a b c : ℤ) (p q r : ℕ × ℕ) → ranks_above a b (is_pair_before p q) ≡ true → ranks_above b c (is_pair_before q r) ≡ true → ranks_above a c (is_pair_before p r) ≡ true
 chain a b c p q r h g =
     elim (above_cases a b (is_pair_before p q) h) [
-      inl e ↦ elim (above_cases b c (is_pair_before q r) g) [
-        inl f ↦ above_by_lateness a c (is_pair_before p r) (omega (arith, ints))
+      | inl e ↦ elim (above_cases b c (is_pair_before q r) g) [
+        | inl f ↦ above_by_lateness a c (is_pair_before p r) (omega (arith, ints))
         | inr f ↦ above_by_lateness a c (is_pair_before p r) (omega (arith, ints))
       ]
       | inr e ↦ elim (above_cases b c (is_pair_before q r) g) [
-        inl f ↦ above_by_lateness a c (is_pair_before p r) (omega (arith, ints))
+        | inl f ↦ above_by_lateness a c (is_pair_before p r) (omega (arith, ints))
         | inr f ↦ above_by_test a c (is_pair_before p r) (e.0 ∙ f.0) (pairs_strict.chain p q r e.1 f.1)
       ]
     ]
@@ -55,12 +55,12 @@ worst_alone jobs n here none = record {
   is_at = here.is_at;
   done = here.done;
   most = λ m other at_m done_m.
-    elim (cases_eq m n) [
-      inl same ↦
-        let e : here.job ≡ other = same_at n m jobs here.job other (sym same) here.is_at at_m in
-        ap (λ k. is_worse k other n here.job) same ∙ ap (λ j. is_worse n j n here.job) (sym e) ∙ not_worse_itself n here.job
-      | inr differs ↦ absurd (let e = none m other differs at_m in cc)
-    ];
+      elim (cases_eq m n) [
+        | inl same ↦
+            let e : here.job ≡ other = same_at n m jobs here.job other (sym same) here.is_at at_m in
+            ap (λ k. is_worse k other n here.job) same ∙ ap (λ j. is_worse n j n here.job) (sym e) ∙ not_worse_itself n here.job
+        | inr differs ↦ absurd (let e = none m other differs at_m in cc)
+      ];
 }
 
 pub worst_now : (jobs : List JobRecord) (n w : ℕ) (here : IsDoneAt jobs n) (beside : IsWorstBeside jobs n w) → is_worse n here.job w beside.worst ≡ true → IsWorst jobs n
@@ -69,12 +69,12 @@ worst_now jobs n w here beside worse = record {
   is_at = here.is_at;
   done = here.done;
   most = λ m other at_m done_m.
-    elim (cases_eq m n) [
-      inl same ↦
-        let e : here.job ≡ other = same_at n m jobs here.job other (sym same) here.is_at at_m in
-        ap (λ k. is_worse k other n here.job) same ∙ ap (λ j. is_worse n j n here.job) (sym e) ∙ not_worse_itself n here.job
-      | inr differs ↦ not_above m other differs at_m done_m (is_worse m other n here.job) refl
-    ];
+      elim (cases_eq m n) [
+        | inl same ↦
+            let e : here.job ≡ other = same_at n m jobs here.job other (sym same) here.is_at at_m in
+            ap (λ k. is_worse k other n here.job) same ∙ ap (λ j. is_worse n j n here.job) (sym e) ∙ not_worse_itself n here.job
+        | inr differs ↦ not_above m other differs at_m done_m (is_worse m other n here.job) refl
+      ];
 }
   where
     not_above : (m : ℕ) (other : JobRecord) → m ≢ n → slice_get jobs m ≡ Some other → is_done other.stage ≡ true → (b : Bool) → is_worse m other n here.job ≡ b → is_worse m other n here.job ≡ false
@@ -88,12 +88,12 @@ worst_stays jobs n w here beside not_worse = record {
   is_at = beside.is_at;
   done = beside.done;
   most = λ m other at_m done_m.
-    elim (cases_eq m n) [
-      inl same ↦
-        let e : here.job ≡ other = same_at n m jobs here.job other (sym same) here.is_at at_m in
-        ap (λ k. is_worse k other w beside.worst) same ∙ ap (λ j. is_worse n j w beside.worst) (sym e) ∙ not_worse
-      | inr differs ↦ beside.most m other differs at_m done_m
-    ];
+      elim (cases_eq m n) [
+        | inl same ↦
+            let e : here.job ≡ other = same_at n m jobs here.job other (sym same) here.is_at at_m in
+            ap (λ k. is_worse k other w beside.worst) same ∙ ap (λ j. is_worse n j w beside.worst) (sym e) ∙ not_worse
+        | inr differs ↦ beside.most m other differs at_m done_m
+      ];
 }
 
 -- there is one worst
@@ -112,19 +112,19 @@ pub undone_worst : (jobs : List JobRecord) (n : ℕ) (change : JobRecord → Job
     → MatchOption worst (NothingDone jobs) (IsWorst jobs)
     → MatchOption worst (NothingDone (changed_at jobs n change)) (IsWorst (changed_at jobs n change))
 undone_worst jobs n change None undone none = λ m other at_m.
-  elim (changed_cases jobs n change m other at_m) [
-    inl h ↦ none m other h.1
-    | inr h ↦ ap (λ j. is_done j.stage) (sym h.1.2) ∙ (undone h.1.0 (ap (slice_get jobs) (sym h.0) ∙ h.1.1)).1
-  ]
+    elim (changed_cases jobs n change m other at_m) [
+      | inl h ↦ none m other h.1
+      | inr h ↦ ap (λ j. is_done j.stage) (sym h.1.2) ∙ (undone h.1.0 (ap (slice_get jobs) (sym h.0) ∙ h.1.1)).1
+    ]
 undone_worst jobs n change (Some w) undone worst = record {
   worst = worst.worst;
   is_at = changed_elsewhere jobs n change w (λ same. let e = (undone worst.worst (ap (slice_get jobs) (sym same) ∙ worst.is_at)).0 in let f = worst.done in absurd cc) ∙ worst.is_at;
   done = worst.done;
   most = λ m other at_m done_m.
-    elim (changed_cases jobs n change m other at_m) [
-      inl h ↦ worst.most m other h.1 done_m
-      | inr h ↦ absurd (let e = ap (λ j. is_done j.stage) (sym h.1.2) ∙ (undone h.1.0 (ap (slice_get jobs) (sym h.0) ∙ h.1.1)).1 in cc)
-    ];
+      elim (changed_cases jobs n change m other at_m) [
+        | inl h ↦ worst.most m other h.1 done_m
+        | inr h ↦ absurd (let e = ap (λ j. is_done j.stage) (sym h.1.2) ∙ (undone h.1.0 (ap (slice_get jobs) (sym h.0) ∙ h.1.1)).1 in cc)
+      ];
 }
 
 -- one more that isn't done
@@ -132,19 +132,19 @@ pub pushed_worst : (jobs : List JobRecord) (job : JobRecord) (worst : Option ℕ
     → MatchOption worst (NothingDone jobs) (IsWorst jobs)
     → MatchOption worst (NothingDone (jobs ++ job ∷ [])) (IsWorst (jobs ++ job ∷ []))
 pushed_worst jobs job None undone none = λ m other at_m.
-  elim (push_cases jobs job m other at_m) [
-    inl h ↦ none m other h
-    | inr h ↦ ap (λ j. is_done j.stage) (sym h.1) ∙ undone
-  ]
+    elim (push_cases jobs job m other at_m) [
+      | inl h ↦ none m other h
+      | inr h ↦ ap (λ j. is_done j.stage) (sym h.1) ∙ undone
+    ]
 pushed_worst jobs job (Some w) undone worst = record {
   worst = worst.worst;
   is_at = push_before jobs job w worst.worst worst.is_at;
   done = worst.done;
   most = λ m other at_m done_m.
-    elim (push_cases jobs job m other at_m) [
-      inl h ↦ worst.most m other h done_m
-      | inr h ↦ absurd (let e = ap (λ j. is_done j.stage) (sym h.1) ∙ undone in cc)
-    ];
+      elim (push_cases jobs job m other at_m) [
+        | inl h ↦ worst.most m other h done_m
+        | inr h ↦ absurd (let e = ap (λ j. is_done j.stage) (sym h.1) ∙ undone in cc)
+      ];
 }
 
 -- of the others the worst is as it was, where one that wasn't done is done now

@@ -78,6 +78,13 @@ impl JobTable {
         self.jobs.is_empty()
     }
 
+    /// How many tasks there are.
+    pub fn tasks(&self) -> usize
+        ensures { result ≡ self.now.tasks }
+    {
+        self.collecting.len()
+    }
+
     /// The slot that `head` was last asked for, 0 before that.
     pub fn clock(&self) -> u32
         ensures { result ≡ self.now.clock }

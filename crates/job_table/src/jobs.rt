@@ -186,7 +186,8 @@ impl Job {
     }
 }
 
-fn count_reads(ops: &[Op]) -> usize
+/// How many of these operations are reads.
+pub(crate) fn count_reads(ops: &[Op]) -> usize
     ensures { result ≡ count_by is_read ops.now }
 {
     ops.iter().filter(|op| is_read(**op)).count()

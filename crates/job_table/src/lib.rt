@@ -5,6 +5,8 @@ pub mod job_table;
 pub mod jobs;
 mod queues;
 pub mod stages;
+#[cfg(test)]
+mod tests;
 mod worst;
 
 pub use job_table::JobTable;

@@ -17,7 +17,7 @@ invariant_of-self-2 c =
     let r = c.self.invariant.running runs in
     rw (c.in_ok-number.ensures.ok, c.new_collection.ensures, c.task.view_is)
     (collection_sound c.self.inside.jobs.items job c.self.inside.clock c.self.inside.ended c.self.inside.collecting.items c.self.inside.queues c.enter.new.queues c.self.inside.worst
-      runs few refl refl in_range single
-      (has_entered c.self.inside.jobs.items job c.self.inside.clock c.self.inside.queues.waiting c.enter.new.queues.waiting c.self.inside.queues.ready c.enter.new.queues.ready
-        refl waiting ready r.queued r.later)
-      c.self.invariant)
+    runs few refl refl in_range single
+    (has_entered c.self.inside.jobs.items job c.self.inside.clock c.self.inside.queues.waiting c.enter.new.queues.waiting c.self.inside.queues.ready c.enter.new.queues.ready
+    refl waiting ready r.queued r.later)
+    c.self.invariant)

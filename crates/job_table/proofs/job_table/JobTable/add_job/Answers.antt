@@ -13,8 +13,8 @@ invariant_of-self-2 c =
     let ready = rw (c.in_ok-number.ensures.number, c.in_ok-reserve.ensures.ready) at c.enter.ensures.ready in
     rw (c.in_ok-number.ensures.ok, c.in_ok-job.ensures)
     (job_sound c.self.inside.jobs.items job c.self.inside.clock c.self.inside.ended c.self.inside.collecting.items c.self.inside.queues c.enter.new.queues c.self.inside.worst
-      few refl refl
-      (λ runs. let r = c.self.invariant.running runs in
-        has_entered c.self.inside.jobs.items job c.self.inside.clock c.self.inside.queues.waiting c.enter.new.queues.waiting c.self.inside.queues.ready c.enter.new.queues.ready
-          refl waiting ready r.queued r.later)
-      c.self.invariant)
+    few refl refl
+    (λ runs. let r = c.self.invariant.running runs in
+    has_entered c.self.inside.jobs.items job c.self.inside.clock c.self.inside.queues.waiting c.enter.new.queues.waiting c.self.inside.queues.ready c.enter.new.queues.ready
+    refl waiting ready r.queued r.later)
+    c.self.invariant)

@@ -33,4 +33,4 @@ invariant_of-self c =
     let worst = rw (c.deref.ensures.value, c.end_job.ensures.jobs) at c.worse_of.ensures in
     rw (c.end_job.ensures.jobs, c.end_job.ensures.marks)
     (over_sound table c.args.number (stages.Done c.args.completion c.args.given) c.self.inside.ended c.self.inside.collecting.items c.self.inside.queues c.drop_first.new.self c.self.inside.worst (Some c.worse_of.result)
-      runs head refl c.drop_first.ensures.rising c.drop_first.ensures.waiting c.drop_first.ensures.ready c.self.invariant worst)
+    runs head refl c.drop_first.ensures.rising c.drop_first.ensures.waiting c.drop_first.ensures.ready c.self.invariant worst)

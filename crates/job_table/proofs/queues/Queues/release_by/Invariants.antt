@@ -8,7 +8,7 @@ abbrev pub invariant-loop-key : goal.invariant-loop-key
 invariant-loop-key l = record {
   roomy : IsRoomy l.self-inside.waiting.keys l.self-inside.ready.keys l.self-inside.ready.spare;
   queued : AreQueued l.jobs l.now l.self-inside.waiting.keys l.self-inside.ready.keys;
-  fewer : length l.self-inside.waiting.keys ≤ length l.initial.self-inside.waiting.keys
+  fewer : length l.self-inside.waiting.keys ≤ length l.initial.self-inside.waiting.keys;
 }
 
 abbrev pub decreases-loop-key : goal.decreases-loop-key

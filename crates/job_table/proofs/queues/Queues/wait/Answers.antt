@@ -7,6 +7,6 @@ pub invariant_of-self : goal.invariant_of-self
 invariant_of-self c =
     rw c.insert.ensures.keys
     (wait_roomy c.args.key c.self.inside.waiting.keys c.self.inside.ready.keys c.self.inside.waiting.spare c.self.inside.ready.spare
-      (subst (λ (l : Lines). 0 < l.room) (sym c.self.view_is) c.requires.room)
-      (subst (λ (l : Lines). Contains l.waiting c.args.key → ⊥) (sym c.self.view_is) c.requires.absent)
-      c.self.invariant)
+    (subst (λ (l : Lines). 0 < l.room) (sym c.self.view_is) c.requires.room)
+    (subst (λ (l : Lines). Contains l.waiting c.args.key → ⊥) (sym c.self.view_is) c.requires.absent)
+    c.self.invariant)
