@@ -1,0 +1,194 @@
+ghost use Rattle.std.specs.Prelude.{◌≡◌, [], ◌++◌, ◌∷◌, length, IfOk, IfErr, MatchBool, cond, true, IsOk};
+ghost use Rattle.turn_lock.specs.Passes.{IsSamePass, Grown, Answers, Refuses, Accepts, Parts, IsFull, Joined, IsOut, Closes, StaysOpen};
+ghost use Rattle.turn_lock.specs.Log.{entry, calls_by};
+ghost use Rattle.turn_lock.specs.Turn.{newcomer};
+ghost use Rattle.slot_types.specs.declared.refusals.Refusal.TheVariants.{NoMemory, PassesFull};
+
+use crate::book::Book;
+use crate::pass::Pass;
+use crate::plays::{Compare, Cut, Glue, Look};
+use crate::rule::TableOf;
+use crate::steps::{release, take};
+use crate::view::Kept;
+use atomic_table::{Refused, Table};
+use slot_types::{MAX_PASSES, Refusal};
+use std::alloc::Global;
+use std::marker::Model;
+use std::snapshot::Snapshot;
+use std::sync::Wait;
+
+/// What a refused `close` hands back: the lock as it was, and the pass, which may have seen more.
+#[derive(Drop)]
+pub struct Closing<B: Book> {
+    pub lock: Turned<B>,
+    pub pass: Pass<B>,
+    /// `PassesOut`, with what `out` answers in that turn.
+    pub refusal: Refusal,
+}
+
+/// A book that one pass at a time may use.
+#[derive(Drop)]
+pub struct Turned<B: Book> {
+    table: TableOf<B>,
+}
+
+impl<B: Book> Model for Turned<B> {
+    ghost use Rattle.atomic_table.specs.Seated.{TableId};
+    ghost use Rattle.turn_lock.specs.Passes.{IsOne};
+
+    ghost Value = { TableId };
+
+    ghost view = { λ t. t.table.shared.table_id };
+
+    ghost invariant = { λ t. IsOne t.table.shared.table_id };
+}
+
+impl<B: Book> Turned<B> {
+    /// Puts a book without entries behind a lock, and makes the first pass, whose number is 0.
+    /// `NoMemory` where memory is refused; the book is then dropped.
+    pub fn new(alloc: Global, book: B) -> Result<(Turned<B>, Pass<B>), Refusal>
+        requires empty { B.log book ≡ [] }
+        ensures own { IfOk result (λ made. made.1.lock ≡ made.0) }
+        ensures first { IfOk result (λ made. made.1.view ≡ newcomer (B.about book)) }
+        ensures refused { IfErr result (λ refusal. refusal ≡ NoMemory) }
+    {
+        let about = Snapshot::of(&book);
+        let word = 2 * book.len();
+        let mut slots = Vec::new(alloc);
+        slots.reserve(1)?;
+        slots.push_reserved(Some(Kept { book, made: 1 }));
+        let (table, seat) = match Table::new(alloc, &[word], slots, &about) {
+            Ok(made) => made,
+            Err(Refused { slots: _ }) => return Err(Refusal::NoMemory),
+        };
+        let pass = Pass {
+            number: 0,
+            joined: 0,
+            seat,
+        };
+        Ok((Turned { table }, pass))
+    }
+
+    /// How many entries there are: the pass has then seen them all. It doesn't wait for the turn.
+    pub fn look(&self, pass: &mut Pass<B>) -> u64
+        requires { pass.old.lock ≡ self.now }
+        ensures same { IsSamePass pass.old pass.new }
+        ensures grown { Grown B.fits pass.old.view pass.new.view }
+        ensures length { result ≡ length pass.new.view.seen }
+    {
+        self.table.shared.load::<Look>(&mut pass.seat, 0) / 2
+    }
+
+    /// The book's answer to a query, at the entries that the pass has then seen. May wait for the turn.
+    pub fn ask<R: Wait>(&self, rt: &R, pass: &mut Pass<B>, query: B::Query) -> B::Answer
+        requires { pass.old.lock ≡ self.now }
+        ensures same { IsSamePass pass.old pass.new }
+        ensures answer { Answers B.fits B.tells pass.old.view query result pass.new.view }
+    {
+        let shared = &self.table.shared;
+        let kept = take(rt, shared, &mut pass.seat);
+        let answer = kept.book.ask(query);
+        release(shared, &mut pass.seat, kept);
+        answer
+    }
+
+    /// The book's reply to an event, which it got with the number of the pass as the caller.
+    /// An accepted call is the last entry of what the pass has then seen; a refused one leaves no entry.
+    /// May wait for the turn.
+    pub fn apply<R: Wait>(&self, rt: &R, pass: &mut Pass<B>, event: B::Event) -> B::Reply
+        requires { pass.old.lock ≡ self.now }
+        ensures same { IsSamePass pass.old pass.new }
+        ensures reply { MatchBool (B.accepts result) (Accepts B.fits B.gives pass.old.view event result pass.new.view) (Refuses B.fits B.gives pass.old.view event result pass.new.view) }
+        ensures own { calls_by pass.old.view.number pass.new.view.seen ≡ calls_by pass.old.view.number pass.old.view.seen ++ cond (B.accepts result) (entry pass.old.view.number event result ∷ []) [] }
+    {
+        let shared = &self.table.shared;
+        let mut kept = take(rt, shared, &mut pass.seat);
+        let reply = kept.book.apply(pass.number, event);
+        release(shared, &mut pass.seat, kept);
+        reply
+    }
+
+    /// A pass with a number of its own, drawn under the turn and never given again, which has seen what this one then has.
+    /// `PassesFull` exactly where 65,536 passes were made already, joined or not. May wait for the turn.
+    pub fn split_pass<R: Wait>(&self, rt: &R, pass: &mut Pass<B>) -> Result<Pass<B>, Refusal>
+        requires { pass.old.lock ≡ self.now }
+        ensures same { IsSamePass pass.old pass.new }
+        ensures own { IfOk result (λ made. made.lock ≡ pass.old.lock) }
+        ensures parts { IfOk result (λ made. Parts B.fits pass.old.view pass.new.view made.view) }
+        ensures refused { IfErr result (λ refusal. refusal ≡ PassesFull) }
+        ensures full { IfErr result (λ _. IsFull B.fits pass.old.view pass.new.view) }
+    {
+        let shared = &self.table.shared;
+        let mut kept = take(rt, shared, &mut pass.seat);
+        let number = kept.made;
+        if number >= MAX_PASSES {
+            release(shared, &mut pass.seat, kept);
+            return Err(Refusal::PassesFull);
+        }
+        let seat = shared.split_seat::<Cut>(&mut pass.seat);
+        kept.made = number + 1;
+        release(shared, &mut pass.seat, kept);
+        Ok(Pass {
+            number,
+            joined: 0,
+            seat,
+        })
+    }
+
+    /// Joins another pass into this one, which keeps the longer of what both had seen, and the numbers of both.
+    /// It doesn't wait for the turn.
+    pub fn join_pass(&self, pass: &mut Pass<B>, other: Pass<B>)
+        requires own { pass.old.lock ≡ self.now }
+        requires other { other.lock ≡ self.now }
+        ensures same { pass.new.lock ≡ pass.old.lock }
+        ensures joined { Joined pass.old.view other.view pass.new.view }
+    {
+        let Pass {
+            number: _,
+            joined,
+            seat,
+        } = other;
+        let shared = &self.table.shared;
+        shared.join_seat::<Glue>(&mut pass.seat, seat);
+        shared.load::<Compare>(&mut pass.seat, 0);
+        pass.joined = pass.joined + joined + 1;
+    }
+
+    /// How many of the passes made are neither this one nor joined into it. May wait for the turn.
+    pub fn out<R: Wait>(&self, rt: &R, pass: &mut Pass<B>) -> u32
+        requires { pass.old.lock ≡ self.now }
+        ensures same { IsSamePass pass.old pass.new }
+        ensures out { IsOut B.fits pass.old.view result pass.new.view }
+    {
+        let shared = &self.table.shared;
+        let kept = take(rt, shared, &mut pass.seat);
+        let out = kept.made - 1 - pass.joined;
+        release(shared, &mut pass.seat, kept);
+        out
+    }
+
+    /// Gives the book back once every other pass was joined into this one: it has just the entries that the pass has seen.
+    /// `PassesOut` exactly where `out` isn't 0 in this turn, with that number; it hands the lock and the pass back.
+    /// May wait for the turn.
+    pub fn close<R: Wait>(self, rt: &R, mut pass: Pass<B>) -> Result<B, Closing<B>>
+        requires { pass.lock ≡ self }
+        ensures closed { IfOk result (λ book. Closes B.log B.about pass.view book) }
+        ensures out { IfErr result (λ kept. StaysOpen B.fits pass.view kept.refusal kept.pass.view) }
+        ensures back { IfErr result (λ kept. (kept.lock ≡ self) × IsSamePass pass kept.pass) }
+        ensures sole { pass.view.sole ≡ true → IsOk result }
+    {
+        let shared = &self.table.shared;
+        let kept = take(rt, shared, &mut pass.seat);
+        let out = kept.made - 1 - pass.joined;
+        if out > 0 {
+            release(shared, &mut pass.seat, kept);
+            return Err(Closing {
+                lock: self,
+                pass,
+                refusal: Refusal::PassesOut { out },
+            });
+        }
+        let Kept { book, made: _ } = kept;
+        Ok(book)
+    }
+}
