@@ -1,5 +1,5 @@
 -- What callers read of a pass.
-use Rattle.std.specs.Prelude.{◌≡◌, ℕ, ◌+◌, ◌-◌, ◌<◌, ◌≤◌, Bool, true, List, [], ◌∷◌, ◌++◌, length, max, Option, Some}
+use Rattle.std.specs.Prelude.{◌≡◌, ℕ, ◌+◌, ◌-◌, ◌<◌, ◌≤◌, Bool, true, List, [], ◌∷◌, ◌++◌, length, max, Option, Some, MatchBool}
 use Rattle.atomic_table.specs.declared.shared.Seat.{Seat}
 use Rattle.atomic_table.specs.Seated.{TableId}
 use Rattle.slot_types.specs.declared.refusals.Refusal.{Refusal}
@@ -8,10 +8,10 @@ use Rattle.turn_lock.specs.declared.entry.Entry.{Entry}
 use Rattle.turn_lock.specs.declared.view.View.{View}
 use Rattle.turn_lock.specs.declared.view.Kept.{Kept}
 use Rattle.turn_lock.specs.Log.{times, StartsWith, longer, entry, calls_by, NoneBy}
-use Rattle.turn_lock.specs.Turn.{mine, left_part, right_part, joined_view}
+use Rattle.turn_lock.specs.Turn.{numbers_of, left_part, right_part, joined_view}
 
-abbrev pub IsOne : TableId → Type 0
-IsOne z = (z.words ≡ 1) × (z.slots ≡ 1)
+abbrev pub IsTurnTable : TableId → Type 0
+IsTurnTable z = (z.words ≡ 1) × (z.slots ≡ 1)
 
 -- a pass: which lock it is of, and what it knows
 pub record Known (E R A : Type 0) : Type 0 where
@@ -26,6 +26,11 @@ module _ {E R : Type 0} where
   -- no entry is of another caller
   abbrev pub OnlyBy : ℕ → List (Entry E R) → Type 0
   OnlyBy n es = (p : ℕ) → ¬ (p ≡ n) → calls_by p es ≡ []
+
+module _ {E R A : Type 0} where
+  -- these are the entries that the pass has seen, or these and one more of its own
+  abbrev pub AddsOneAtMost : View E R A → List (Entry E R) → Type 0
+  AddsOneAtMost v es = (more : List (Entry E R)) × (es ≡ v.seen ++ more) × (length more ≤ 1) × OnlyBy v.number more
 
 module _ {E R A : Type 0} where
   -- the count of passes made, as a pass knows it, is above its own number and those that were joined into it
@@ -47,7 +52,7 @@ module _ {E R A : Type 0} where
     pub topic : A
     pub sole : Bool
     pub view_is : w ≡ record v { seen = v.seen ++ more; made = made; sole = sole }
-    pub none : NoneBy (mine v) more
+    pub none : NoneBy (numbers_of v) more
     pub later : v.made ≤ made
     pub about_is : v.about ≡ Some topic
     pub fit : fits topic w.seen
@@ -62,6 +67,9 @@ module _ {E R A : Type 0} where
   abbrev pub Accepts : (fits : A → List (Entry E R) → Type 0) (gives : A → List (Entry E R) → ℕ → E → R → Type 0) → View E R A → E → R → View E R A → Type 0
   Accepts fits gives v event reply w = (u : View E R A) × (g : Grown fits v u)
       × (w ≡ record u { seen = u.seen ++ entry v.number event reply ∷ [] }) × gives g.topic u.seen v.number event reply × fits g.topic w.seen
+
+  abbrev pub Replies : (accepts : R → Bool) (fits : A → List (Entry E R) → Type 0) (gives : A → List (Entry E R) → ℕ → E → R → Type 0) → View E R A → E → R → View E R A → Type 0
+  Replies accepts fits gives v event reply w = MatchBool (accepts reply) (Accepts fits gives v event reply w) (Refuses fits gives v event reply w)
 
   -- a pass was made by this turn, with the next number
   abbrev pub Parts : (fits : A → List (Entry E R) → Type 0) → View E R A → View E R A → View E R A → Type 0

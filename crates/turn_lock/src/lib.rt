@@ -14,4 +14,4 @@ pub use book::Book;
 pub use entry::Entry;
 pub use lock::{Closing, Turned};
 pub use pass::Pass;
-pub use view::{Kept, View};
+pub use view::View;

@@ -1,7 +1,7 @@
-ghost use Rattle.std.specs.Prelude.{◌≡◌, [], ◌++◌, ◌∷◌, length, IfOk, IfErr, MatchBool, cond, true, IsOk};
-ghost use Rattle.turn_lock.specs.Passes.{IsSamePass, Grown, Answers, Refuses, Accepts, Parts, IsFull, Joined, IsOut, Closes, StaysOpen};
+ghost use Rattle.std.specs.Prelude.{◌≡◌, [], ◌++◌, ◌∷◌, length, true, if◌then◌else◌, IsOk, IfOk, IfErr};
+ghost use Rattle.turn_lock.specs.Passes.{IsSamePass, Grown, Answers, Replies, Parts, IsFull, Joined, IsOut, Closes, StaysOpen};
 ghost use Rattle.turn_lock.specs.Log.{entry, calls_by};
-ghost use Rattle.turn_lock.specs.Turn.{newcomer};
+ghost use Rattle.turn_lock.specs.Turn.{first_view};
 ghost use Rattle.slot_types.specs.declared.refusals.Refusal.TheVariants.{NoMemory, PassesFull};
 
 use crate::book::Book;
@@ -34,13 +34,13 @@ pub struct Turned<B: Book> {
 
 impl<B: Book> Model for Turned<B> {
     ghost use Rattle.atomic_table.specs.Seated.{TableId};
-    ghost use Rattle.turn_lock.specs.Passes.{IsOne};
+    ghost use Rattle.turn_lock.specs.Passes.{IsTurnTable};
 
     ghost Value = { TableId };
 
     ghost view = { λ t. t.table.shared.table_id };
 
-    ghost invariant = { λ t. IsOne t.table.shared.table_id };
+    ghost invariant = { λ t. IsTurnTable t.table.shared.table_id };
 }
 
 impl<B: Book> Turned<B> {
@@ -49,7 +49,7 @@ impl<B: Book> Turned<B> {
     pub fn new(alloc: Global, book: B) -> Result<(Turned<B>, Pass<B>), Refusal>
         requires empty { B.log book ≡ [] }
         ensures own { IfOk result (λ made. made.1.lock ≡ made.0) }
-        ensures first { IfOk result (λ made. made.1.view ≡ newcomer (B.about book)) }
+        ensures first { IfOk result (λ made. made.1.view ≡ first_view (B.about book)) }
         ensures refused { IfErr result (λ refusal. refusal ≡ NoMemory) }
     {
         let about = Snapshot::of(&book);
@@ -64,6 +64,7 @@ impl<B: Book> Turned<B> {
         let pass = Pass {
             number: 0,
             joined: 0,
+            free_word: word,
             seat,
         };
         Ok((Turned { table }, pass))
@@ -86,9 +87,9 @@ impl<B: Book> Turned<B> {
         ensures answer { Answers B.fits B.tells pass.old.view query result pass.new.view }
     {
         let shared = &self.table.shared;
-        let kept = take(rt, shared, &mut pass.seat);
+        let kept = take(rt, shared, &mut pass.seat, pass.free_word);
         let answer = kept.book.ask(query);
-        release(shared, &mut pass.seat, kept);
+        pass.free_word = release(shared, &mut pass.seat, kept);
         answer
     }
 
@@ -98,13 +99,17 @@ impl<B: Book> Turned<B> {
     pub fn apply<R: Wait>(&self, rt: &R, pass: &mut Pass<B>, event: B::Event) -> B::Reply
         requires { pass.old.lock ≡ self.now }
         ensures same { IsSamePass pass.old pass.new }
-        ensures reply { MatchBool (B.accepts result) (Accepts B.fits B.gives pass.old.view event result pass.new.view) (Refuses B.fits B.gives pass.old.view event result pass.new.view) }
-        ensures own { calls_by pass.old.view.number pass.new.view.seen ≡ calls_by pass.old.view.number pass.old.view.seen ++ cond (B.accepts result) (entry pass.old.view.number event result ∷ []) [] }
+        ensures reply { Replies B.accepts B.fits B.gives pass.old.view event result pass.new.view }
+        // the pass's own entries: those that it had, and this one where it was accepted
+        ensures own {
+            let own = calls_by pass.old.view.number in
+            let call = entry pass.old.view.number event result in
+            own pass.new.view.seen ≡ own pass.old.view.seen ++ (if B.accepts result then call ∷ [] else []) }
     {
         let shared = &self.table.shared;
-        let mut kept = take(rt, shared, &mut pass.seat);
+        let mut kept = take(rt, shared, &mut pass.seat, pass.free_word);
         let reply = kept.book.apply(pass.number, event);
-        release(shared, &mut pass.seat, kept);
+        pass.free_word = release(shared, &mut pass.seat, kept);
         reply
     }
 
@@ -119,18 +124,19 @@ impl<B: Book> Turned<B> {
         ensures full { IfErr result (λ _. IsFull B.fits pass.old.view pass.new.view) }
     {
         let shared = &self.table.shared;
-        let mut kept = take(rt, shared, &mut pass.seat);
+        let mut kept = take(rt, shared, &mut pass.seat, pass.free_word);
         let number = kept.made;
         if number >= MAX_PASSES {
-            release(shared, &mut pass.seat, kept);
+            pass.free_word = release(shared, &mut pass.seat, kept);
             return Err(Refusal::PassesFull);
         }
         let seat = shared.split_seat::<Cut>(&mut pass.seat);
         kept.made = number + 1;
-        release(shared, &mut pass.seat, kept);
+        pass.free_word = release(shared, &mut pass.seat, kept);
         Ok(Pass {
             number,
             joined: 0,
+            free_word: pass.free_word,
             seat,
         })
     }
@@ -146,6 +152,7 @@ impl<B: Book> Turned<B> {
         let Pass {
             number: _,
             joined,
+            free_word: _,
             seat,
         } = other;
         let shared = &self.table.shared;
@@ -161,9 +168,9 @@ impl<B: Book> Turned<B> {
         ensures out { IsOut B.fits pass.old.view result pass.new.view }
     {
         let shared = &self.table.shared;
-        let kept = take(rt, shared, &mut pass.seat);
+        let kept = take(rt, shared, &mut pass.seat, pass.free_word);
         let out = kept.made - 1 - pass.joined;
-        release(shared, &mut pass.seat, kept);
+        pass.free_word = release(shared, &mut pass.seat, kept);
         out
     }
 
@@ -178,10 +185,10 @@ impl<B: Book> Turned<B> {
         ensures sole { pass.view.sole ≡ true → IsOk result }
     {
         let shared = &self.table.shared;
-        let kept = take(rt, shared, &mut pass.seat);
+        let kept = take(rt, shared, &mut pass.seat, pass.free_word);
         let out = kept.made - 1 - pass.joined;
         if out > 0 {
-            release(shared, &mut pass.seat, kept);
+            pass.free_word = release(shared, &mut pass.seat, kept);
             return Err(Closing {
                 lock: self,
                 pass,

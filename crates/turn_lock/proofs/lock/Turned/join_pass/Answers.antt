@@ -28,4 +28,5 @@ invariant_of-pass g c =
       search rules,
       joined_count v o w _ _ is c.pass.invariant.4 c.other.invariant.4,
       owns_joined v o w is c.pass.invariant.5 c.other.invariant.5,
+      search rules,
     )
