@@ -101,8 +101,7 @@ impl<B: Book> Turned<B> {
         ensures same { IsSamePass pass.old pass.new }
         ensures reply { Replies B.accepts B.fits B.gives pass.old.view event result pass.new.view }
         // the pass's own entries: those that it had, and this one where it was accepted
-        ensures own {
-            let own = calls_by pass.old.view.number in
+        ensures own { let own = calls_by pass.old.view.number in
             let call = entry pass.old.view.number event result in
             own pass.new.view.seen ≡ own pass.old.view.seen ++ (if B.accepts result then call ∷ [] else []) }
     {
