@@ -4,9 +4,9 @@ use mathlib.Core.Logic.{dite}
 use native.Mathlib.Decide.{ℕ_discrete}
 use Rattle.turn_lock.specs.declared.view.View.{View}
 use Rattle.turn_lock.specs.Log.{times}
-use Rattle.turn_lock.specs.Turn.{joined_view}
+use Rattle.turn_lock.specs.Views.{joined_view}
 use Rattle.turn_lock.proofs.Counts.{times_append}
-use Rattle.turn_lock.specs.Passes.{CountsOwn}
+use Rattle.turn_lock.specs.Views.{CountsOwn}
 
 module _ {E R A : Type 0} (v o w : View E R A) where
   pub owns_joined : w ≡ joined_view v o → CountsOwn v → CountsOwn o → CountsOwn w

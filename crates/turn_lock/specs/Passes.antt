@@ -1,48 +1,11 @@
--- What callers read of a pass.
-use Rattle.std.specs.Prelude.{◌≡◌, ℕ, ◌+◌, ◌-◌, ◌<◌, ◌≤◌, Bool, true, List, [], ◌∷◌, ◌++◌, length, max, Option, Some, MatchBool}
-use Rattle.atomic_table.specs.declared.shared.Seat.{Seat}
-use Rattle.atomic_table.specs.Seated.{TableId}
+-- What each call of the lock does to the pass that makes it: `v` is what the pass knew before, `w` what it knows after.
+use Rattle.std.specs.Prelude.{◌≡◌, ℕ, ◌+◌, ◌<◌, ◌≤◌, Bool, true, List, [], ◌∷◌, ◌++◌, length, Some, MatchBool}
 use Rattle.slot_types.specs.declared.refusals.Refusal.{Refusal}
 use Rattle.slot_types.specs.declared.refusals.Refusal.TheVariants.{PassesOut}
 use Rattle.turn_lock.specs.declared.entry.Entry.{Entry}
 use Rattle.turn_lock.specs.declared.view.View.{View}
-use Rattle.turn_lock.specs.declared.view.Kept.{Kept}
-use Rattle.turn_lock.specs.Log.{times, StartsWith, longer, entry, calls_by, NoneBy}
-use Rattle.turn_lock.specs.Turn.{numbers_of, left_part, right_part, joined_view}
-
-abbrev pub IsTurnTable : TableId → Type 0
-IsTurnTable z = (z.words ≡ 1) × (z.slots ≡ 1)
-
--- a pass: which lock it is of, and what it knows
-pub record Known (E R A : Type 0) : Type 0 where
-  pub lock : TableId
-  pub view : View E R A
-
--- the pass of the same lock, with the same numbers
-abbrev pub IsSamePass : {E R A : Type 0} → Known E R A → Known E R A → Type 0
-IsSamePass p q = (q.lock ≡ p.lock) × (q.view.number ≡ p.view.number) × (q.view.joined ≡ p.view.joined) × (q.view.about ≡ p.view.about)
-
-module _ {E R : Type 0} where
-  -- no entry is of another caller
-  abbrev pub OnlyBy : ℕ → List (Entry E R) → Type 0
-  OnlyBy n es = (p : ℕ) → ¬ (p ≡ n) → calls_by p es ≡ []
-
-module _ {E R A : Type 0} where
-  -- these are the entries that the pass has seen, or these and one more of its own
-  abbrev pub AddsOneAtMost : View E R A → List (Entry E R) → Type 0
-  AddsOneAtMost v es = (more : List (Entry E R)) × (es ≡ v.seen ++ more) × (length more ≤ 1) × OnlyBy v.number more
-
-module _ {E R A : Type 0} where
-  -- the count of passes made, as a pass knows it, is above its own number and those that were joined into it
-  abbrev pub CountsOwn : View E R A → Type 0
-  CountsOwn v = (p : ℕ) → 0 < times p (v.number ∷ v.joined) → p < v.made
-
-module _ {E R A B : Type 0} where
-  abbrev pub view : Seat (Option (Kept B)) (View E R A) → View E R A
-  view s = s.me.0
-
-  abbrev pub IsSameSeat : Seat (Option (Kept B)) (View E R A) → Seat (Option (Kept B)) (View E R A) → Type 0
-  IsSameSeat s t = (t.table_id ≡ s.table_id) × (t.id ≡ s.id)
+use Rattle.turn_lock.specs.Log.{times, StartsWith, entry, NoneBy}
+use Rattle.turn_lock.specs.Views.{numbers_of, left_part, right_part, joined_view}
 
 module _ {E R A : Type 0} where
   -- the pass has seen what others did since: no entry of its own, nor of a pass that was joined into it

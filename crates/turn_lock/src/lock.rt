@@ -1,8 +1,9 @@
+//! The lock and its calls. The condition of each: the pass is of this lock.
 ghost use Rattle.std.specs.Prelude.{◌≡◌, [], ◌++◌, ◌∷◌, length, true, if◌then◌else◌, IsOk, IfOk, IfErr};
-ghost use Rattle.turn_lock.specs.Passes.{IsSamePass, Grown, Answers, Replies, Parts, IsFull, Joined, IsOut, Closes, StaysOpen};
-ghost use Rattle.turn_lock.specs.Log.{entry, calls_by};
-ghost use Rattle.turn_lock.specs.Turn.{first_view};
 ghost use Rattle.slot_types.specs.declared.refusals.Refusal.TheVariants.{NoMemory, PassesFull};
+ghost use Rattle.turn_lock.specs.Log.{entry, calls_by};
+ghost use Rattle.turn_lock.specs.Views.{first_view, IsSamePass};
+ghost use Rattle.turn_lock.specs.Passes.{Grown, Answers, Replies, Parts, IsFull, Joined, IsOut, Closes, StaysOpen};
 
 use crate::book::Book;
 use crate::pass::Pass;
@@ -34,7 +35,7 @@ pub struct Turned<B: Book> {
 
 impl<B: Book> Model for Turned<B> {
     ghost use Rattle.atomic_table.specs.Seated.{TableId};
-    ghost use Rattle.turn_lock.specs.Passes.{IsTurnTable};
+    ghost use Rattle.turn_lock.specs.Steps.{IsTurnTable};
 
     ghost Value = { TableId };
 
@@ -45,6 +46,7 @@ impl<B: Book> Model for Turned<B> {
 
 impl<B: Book> Turned<B> {
     /// Puts a book without entries behind a lock, and makes the first pass, whose number is 0.
+    ///
     /// `NoMemory` where memory is refused; the book is then dropped.
     pub fn new(alloc: Global, book: B) -> Result<(Turned<B>, Pass<B>), Refusal>
         requires empty { B.log book ≡ [] }
@@ -70,7 +72,7 @@ impl<B: Book> Turned<B> {
         Ok((Turned { table }, pass))
     }
 
-    /// How many entries there are: the pass has then seen them all. It doesn't wait for the turn.
+    /// How many entries there are, also while a pass has the turn: this pass has then seen them all.
     pub fn look(&self, pass: &mut Pass<B>) -> u64
         requires { pass.old.lock ≡ self.now }
         ensures same { IsSamePass pass.old pass.new }
@@ -80,7 +82,7 @@ impl<B: Book> Turned<B> {
         self.table.shared.load::<Look>(&mut pass.seat, 0) / 2
     }
 
-    /// The book's answer to a query, at the entries that the pass has then seen. May wait for the turn.
+    /// The book's answer, at the entries that the pass has then seen. May wait for the turn.
     pub fn ask<R: Wait>(&self, rt: &R, pass: &mut Pass<B>, query: B::Query) -> B::Answer
         requires { pass.old.lock ≡ self.now }
         ensures same { IsSamePass pass.old pass.new }
@@ -93,9 +95,9 @@ impl<B: Book> Turned<B> {
         answer
     }
 
-    /// The book's reply to an event, which it got with the number of the pass as the caller.
-    /// An accepted call is the last entry of what the pass has then seen; a refused one leaves no entry.
-    /// May wait for the turn.
+    /// The book's reply to an event, with the pass's number as the caller. May wait for the turn.
+    ///
+    /// An accepted call is the last entry that the pass has then seen; a refused one leaves no entry.
     pub fn apply<R: Wait>(&self, rt: &R, pass: &mut Pass<B>, event: B::Event) -> B::Reply
         requires { pass.old.lock ≡ self.now }
         ensures same { IsSamePass pass.old pass.new }
@@ -103,7 +105,8 @@ impl<B: Book> Turned<B> {
         // the pass's own entries: those that it had, and this one where it was accepted
         ensures own { let own = calls_by pass.old.view.number in
             let call = entry pass.old.view.number event result in
-            own pass.new.view.seen ≡ own pass.old.view.seen ++ (if B.accepts result then call ∷ [] else []) }
+            own pass.new.view.seen
+            ≡ own pass.old.view.seen ++ (if B.accepts result then call ∷ [] else []) }
     {
         let shared = &self.table.shared;
         let mut kept = take(rt, shared, &mut pass.seat, pass.free_word);
@@ -112,8 +115,9 @@ impl<B: Book> Turned<B> {
         reply
     }
 
-    /// A pass with a number of its own, drawn under the turn and never given again, which has seen what this one then has.
-    /// `PassesFull` exactly where 65,536 passes were made already, joined or not. May wait for the turn.
+    /// A pass with a number that no pass had, which has seen what this one then has. May wait for the turn.
+    ///
+    /// `PassesFull` exactly where 65,536 passes were made already, whether or not they were joined since.
     pub fn split_pass<R: Wait>(&self, rt: &R, pass: &mut Pass<B>) -> Result<Pass<B>, Refusal>
         requires { pass.old.lock ≡ self.now }
         ensures same { IsSamePass pass.old pass.new }
@@ -140,8 +144,7 @@ impl<B: Book> Turned<B> {
         })
     }
 
-    /// Joins another pass into this one, which keeps the longer of what both had seen, and the numbers of both.
-    /// It doesn't wait for the turn.
+    /// Joins another pass into this one, which keeps its number and the longer of what both had seen.
     pub fn join_pass(&self, pass: &mut Pass<B>, other: Pass<B>)
         requires own { pass.old.lock ≡ self.now }
         requires other { other.lock ≡ self.now }
@@ -173,9 +176,10 @@ impl<B: Book> Turned<B> {
         out
     }
 
-    /// Gives the book back once every other pass was joined into this one: it has just the entries that the pass has seen.
-    /// `PassesOut` exactly where `out` isn't 0 in this turn, with that number; it hands the lock and the pass back.
-    /// May wait for the turn.
+    /// Gives the book back, whose entries are just those that the pass has seen. May wait for the turn.
+    ///
+    /// `PassesOut` exactly where `out` isn't 0 in that turn, with that number: the lock and the pass are handed back.
+    /// Once `out` answered 0 no other pass is left, and `close` is not refused.
     pub fn close<R: Wait>(self, rt: &R, mut pass: Pass<B>) -> Result<B, Closing<B>>
         requires { pass.lock ≡ self }
         ensures closed { IfOk result (λ book. Closes B.log B.about pass.view book) }

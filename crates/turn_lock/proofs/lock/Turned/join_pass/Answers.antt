@@ -1,6 +1,6 @@
 use Rattle.std.proofs.Common.{rules, ap, ◌∙◌, ◌≡◌}
 use Rattle.turn_lock.proofs.Turns.{joined_seen}
-use Rattle.turn_lock.specs.Turn.{joined_view}
+use Rattle.turn_lock.specs.Views.{joined_view}
 use Rattle.turn_lock.proofs.Owned.{owns_joined, joined_count}
 use Rattle.turn_lock.proofs.Keeps.{joins, compares}
 use Rattle.turn_lock.proofs.lock.Turned.join_pass.Goals as goal
