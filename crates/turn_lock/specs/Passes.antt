@@ -17,6 +17,7 @@ module _ {E R A : Type 0} where
     pub view_is : w ≡ record v { seen = v.seen ++ more; made = made; sole = sole }
     pub none : NoneBy (numbers_of v) more
     pub later : v.made ≤ made
+    pub stays_sole : v.sole ≡ true → sole ≡ true
     pub about_is : v.about ≡ Some topic
     pub fit : fits topic w.seen
 
