@@ -1,6 +1,6 @@
 ghost use Rattle.std.specs.Prelude.{◌≡◌, [], ◌∷◌, ◌++◌, if◌then◌else◌};
 ghost use Rattle.turn_lock.specs.Log.{entry, calls_by};
-ghost use Rattle.turn_lock.specs.Passes.{IsSamePass};
+ghost use Rattle.turn_lock.specs.Views.{IsSamePass};
 ghost use Rattle.number_book.specs.Numbers.{is_added};
 
 use crate::numbers::{NumberReply, Numbers};
@@ -137,4 +137,22 @@ fn passes_are_made_up_to_their_limit(rt: HostRuntime) -> Result<(), Fail> {
     };
     assert_eq!(rt; kept.refusal, Refusal::PassesOut { out: 32768 });
     Ok(())
+}
+
+// Run it with each allocation made to fail in turn: a refused growth is told by a reply, and leaves the book as it was.
+#[test]
+fn a_refused_growth_adds_nothing(rt: HostRuntime) {
+    let Ok((lock, mut pass)) = Turned::new(rt.alloc(), Numbers::new(rt.alloc())) else {
+        assert!(rt; Turned::new(rt.alloc(), Numbers::new(rt.alloc())).is_ok());
+        return;
+    };
+    let mut added = 0u64;
+    for below in 0..20u64 {
+        match lock.apply(&rt, &mut pass, below + 1) {
+            NumberReply::Added => added = added.saturating_add(1),
+            reply => assert_eq!(rt; reply, NumberReply::NoMemory),
+        }
+        assert_eq!(rt; lock.look(&mut pass), added);
+    }
+    assert!(rt; added >= 19);
 }
