@@ -1,4 +1,4 @@
-use Rattle.std.proofs.Common.{rules, ap, ◌∙◌, ◌∷◌}
+use Rattle.std.proofs.Common.{rules, ap}
 use Rattle.turn_lock.proofs.Keeps.{starts_as}
 use Rattle.turn_lock.proofs.lock.Turned.new.Goals as goal
 
