@@ -1,7 +1,7 @@
-ghost use Rattle.std.specs.Prelude.{◌≡◌, ◌≢◌, ◌≤◌, [], length};
-ghost use Rattle.number_book.specs.Numbers.{HasNoZero};
+ghost use Rattle.std.specs.Prelude.{◌≡◌, []};
 
 use std::alloc::Global;
+use std::marker::Model;
 use turn_lock::{Book, Entry};
 
 /// The most entries of a book.
@@ -18,18 +18,29 @@ pub enum NumberReply {
     NoMemory,
 }
 
-/// Numbers that callers gave, none of them 0.
+/// Numbers that callers gave, none of them 0. Clauses see the list of the entries.
 #[derive(Drop)]
 pub struct Numbers {
     entries: Vec<Entry<u64, NumberReply>>,
-    ghost few: { length entries.items ≤ 4294967295 },
-    ghost no_zero: { HasNoZero entries.items },
+}
+
+impl Model for Numbers {
+    ghost use Rattle.std.specs.Prelude.{◌≤◌, ℕ, List, length};
+    ghost use Rattle.turn_lock.specs.declared.entry.Entry.{Entry};
+    ghost use Rattle.number_book.specs.declared.numbers.NumberReply.{NumberReply};
+    ghost use Rattle.number_book.specs.Numbers.{HasNoZero};
+
+    ghost Value = { List (Entry ℕ NumberReply) };
+
+    ghost view = { λ book. book.entries.items };
+
+    ghost invariant = { λ book. (length book.entries.items ≤ 4294967295) × HasNoZero book.entries.items };
 }
 
 impl Numbers {
     /// A book without entries.
     pub fn new(alloc: Global) -> Numbers
-        ensures { result.entries.items ≡ [] }
+        ensures { result ≡ [] }
     {
         Numbers {
             entries: Vec::new(alloc),
@@ -38,7 +49,7 @@ impl Numbers {
 
     /// The entries, from the first.
     pub fn entries(&self) -> &[Entry<u64, NumberReply>]
-        ensures { result.now ≡ self.now.entries.items }
+        ensures { result.now ≡ self.now }
     {
         self.entries.as_slice()
     }
@@ -58,7 +69,7 @@ impl Book for Numbers {
 
     type About = ();
 
-    ghost log = { λ book. book.entries.items };
+    ghost log = { λ book. book };
 
     ghost about = { λ _. tt };
 
