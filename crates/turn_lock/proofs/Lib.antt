@@ -1,0 +1,4 @@
+pub mod Counts
+pub mod Keeps
+pub mod Owned
+pub mod Turns

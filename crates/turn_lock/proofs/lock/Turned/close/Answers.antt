@@ -1,0 +1,21 @@
+use Rattle.std.proofs.Common.{rules, refl, ap, ◌≡◌, ◌+◌, ◌-◌, ◌∙◌, length, arith}
+use Rattle.turn_lock.proofs.Turns.{grown, sole_after, none_left}
+use Rattle.turn_lock.proofs.lock.Turned.close.Goals as goal
+
+pub returns-then-out-gt0-clause-out : goal.returns-then-out-gt0-clause-out
+returns-then-out-gt0-clause-out g c = rw (← c.pass.view_is) (
+  c.take-kept.result.made - 1 - c.pass.inside.joined,
+  refl,
+  search rules,
+  (
+    grown g.B.Book.log g.B.Book.about g.B.Book.fits _ c.take-kept.new.seat.me.0 _ c.take-kept.result c.take-kept.result.book c.take-kept.ensures.won.1 c.pass.invariant.2 refl c.release.ensures.view,
+    search rules,
+    λ none_out. sole_after g.B.Book.log g.B.Book.about g.B.Book.fits _ c.take-kept.new.seat.me.0 _ c.take-kept.result c.take-kept.result.book _ c.take-kept.ensures.won.1 c.pass.invariant.1 c.release.ensures.view (search rules) none_out,
+  ),
+)
+
+pub returns-then-out-gt0-clause-sole : goal.returns-then-out-gt0-clause-sole
+returns-then-out-gt0-clause-sole g c = λ sole.
+    let v = c.pass.inside.seat.me.0 in
+    let l : length v.joined + 1 ≡ c.take-kept.result.made = none_left g.B.Book.log g.B.Book.about g.B.Book.fits v c.take-kept.new.seat.me.0 c.take-kept.result c.take-kept.ensures.won.1 c.pass.invariant.1 (ap (λ x. x.view.sole) c.pass.view_is ∙ sole) in
+    absurd (omega arith)

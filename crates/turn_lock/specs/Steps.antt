@@ -1,0 +1,63 @@
+-- What each kind of step tells the pass that makes it.
+use Rattle.std.specs.Prelude.{◌≡◌, ◌≢◌, ℕ, ◌+◌, ◌*◌, ◌<◌, ◌≤◌, true, false, ◌==◌, List, [], ◌∷◌, ◌++◌, length, Option, Some}
+use Rattle.atomic_table.specs.declared.shared.Seat.{Seat}
+use Rattle.atomic_table.specs.Seated.{TableId}
+use Rattle.atomic_table.specs.Table.{Me, Step}
+use Rattle.turn_lock.specs.declared.entry.Entry.{Entry}
+use Rattle.turn_lock.specs.declared.view.View.{View}
+use Rattle.turn_lock.specs.declared.view.Kept.{Kept}
+use Rattle.turn_lock.specs.Log.{times, StartsWith, calls_by, NoneBy}
+use Rattle.turn_lock.specs.Views.{numbers_of}
+
+abbrev pub IsTurnTable : TableId → Type 0
+IsTurnTable table = (table.words ≡ 1) × (table.slots ≡ 1)
+
+module _ {E R A B : Type 0} where
+  abbrev pub IsSameSeat : Seat (Option (Kept B)) (View E R A) → Seat (Option (Kept B)) (View E R A) → Type 0
+  IsSameSeat s t = (t.table_id ≡ s.table_id) × (t.id ≡ s.id)
+
+module _ {E R : Type 0} where
+  -- no entry is of another caller
+  abbrev pub OnlyBy : ℕ → List (Entry E R) → Type 0
+  OnlyBy n es = (p : ℕ) → ¬ (p ≡ n) → calls_by p es ≡ []
+
+module _ {E R A : Type 0} where
+  -- these are the entries that the pass has seen, or these and one more of its own
+  abbrev pub AddsOneAtMost : View E R A → List (Entry E R) → Type 0
+  AddsOneAtMost v es = (more : List (Entry E R)) × (es ≡ v.seen ++ more) × (length more ≤ 1) × OnlyBy v.number more
+
+  -- a look that shows, after a join, that what either had seen begins the list, and that no number stands twice
+  abbrev pub compared : {S : Type 0} → Step S → Me S (View E R A) → ℕ → Me S (View E R A) → Type 0
+  compared st m r m' =
+      (m' ≡ m) × (length m.0.told ≤ length m.0.seen → StartsWith m.0.seen m.0.told)
+      × ((p : ℕ) → times p (numbers_of m.0) ≤ 1) × (length (numbers_of m.0) ≤ 65536)
+
+module _ {E R A B : Type 0} (log : B → List (Entry E R)) (about : B → A) where
+  -- a look: the pass has seen all entries
+  abbrev pub looked : (A → List (Entry E R) → Type 0) → Step (Option (Kept B)) → Me (Option (Kept B)) (View E R A) → ℕ → Me (Option (Kept B)) (View E R A) → Type 0
+  looked fits st m r m' = (m'.1 ≡ m.1)
+      × ((more : List (Entry E R)) × (m'.0 ≡ record m.0 { seen = m.0.seen ++ more }) × NoneBy (numbers_of m.0) more)
+      × ((b : ℕ) × (b < 2) × (r ≡ 2 * length m'.0.seen + b))
+      × ((a : A) × (m.0.about ≡ Some a) × fits a m'.0.seen)
+
+  -- the pass has won the turn, with this in the slot
+  pub record Wins (fits : A → List (Entry E R) → Type 0) (v : View E R A) (k : Kept B) (w : View E R A) : Type 0 where
+    pub more : List (Entry E R)
+    pub view_is : w ≡ record v { seen = v.seen ++ more; made = k.made; turn = true; sole = length (numbers_of v) == k.made }
+    pub none : NoneBy (numbers_of v) more
+    pub log_is : log k.book ≡ v.seen ++ more
+    pub about_is : v.about ≡ Some (about k.book)
+    pub fit : fits (about k.book) (log k.book)
+    pub later : v.made ≤ k.made
+    pub few : k.made ≤ 65536
+    pub enough : length (numbers_of v) ≤ k.made
+    pub whole : length (numbers_of v) ≡ k.made → more ≡ []
+    pub alone : v.sole ≡ true → length (numbers_of v) ≡ k.made
+
+  -- a take that finds another number than it looked for changes nothing
+  abbrev pub taken : (A → List (Entry E R) → Type 0) → Step (Option (Kept B)) → Me (Option (Kept B)) (View E R A) → ℕ → Me (Option (Kept B)) (View E R A) → Type 0
+  taken fits st m r m' = (r ≡ st.first → (k : Kept B) × (m'.1 ≡ (0, Some k) ∷ m.1) × Wins fits m.0 k m'.0) × (r ≢ st.first → m' ≡ m)
+
+  -- a release: the pass has seen the book that it puts back
+  abbrev pub released : Step (Option (Kept B)) → Me (Option (Kept B)) (View E R A) → ℕ → Me (Option (Kept B)) (View E R A) → Type 0
+  released st m r m' = (k : Kept B) → m.1 ≡ (0, Some k) ∷ [] → (m'.1 ≡ []) × (m'.0 ≡ record m.0 { seen = log k.book; turn = false })

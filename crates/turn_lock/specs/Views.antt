@@ -1,0 +1,43 @@
+-- What a pass knows, and what becomes of it where passes are made, split and joined.
+use Rattle.std.specs.Prelude.{◌≡◌, ℕ, ◌+◌, ◌<◌, true, false, if◌then◌else◌, max, List, [], ◌∷◌, ◌++◌, Some, None}
+use Rattle.atomic_table.specs.Seated.{TableId}
+use Rattle.turn_lock.specs.declared.view.View.{View}
+use Rattle.turn_lock.specs.Log.{times, longer, shorter}
+
+-- a pass, as clauses see it: which lock it is of, and what it knows
+pub record Known (E R A : Type 0) : Type 0 where
+  pub lock : TableId
+  pub view : View E R A
+
+module _ {E R A : Type 0} where
+  -- the pass of the same lock, with the same numbers
+  abbrev pub IsSamePass : Known E R A → Known E R A → Type 0
+  IsSamePass p q = (q.lock ≡ p.lock) × (q.view.number ≡ p.view.number) × (q.view.joined ≡ p.view.joined) × (q.view.about ≡ p.view.about)
+
+  -- the numbers of a pass, its own and those that were joined into it: none once it is spent
+  abbrev pub numbers_of : View E R A → List ℕ
+  numbers_of v = if v.live then v.number ∷ v.joined else []
+
+  -- the count of passes made, as the pass knows it, is above each of its numbers
+  abbrev pub CountsOwn : View E R A → Type 0
+  CountsOwn v = (p : ℕ) → 0 < times p (v.number ∷ v.joined) → p < v.made
+
+  -- the first pass of a lock
+  abbrev pub first_view : A → View E R A
+  first_view a = record { number = 0; seen = []; joined = []; made = 1; told = []; about = Some a; live = true; turn = false; sole = false }
+
+  -- a pass that was joined into another
+  abbrev pub spent_view : View E R A
+  spent_view = record { number = 0; seen = []; joined = []; made = 0; told = []; about = None; live = false; turn = false; sole = false }
+
+  -- the pass that is split, where it knows of all passes made
+  abbrev pub left_part : View E R A → View E R A
+  left_part v = record v { made = v.made + 1; sole = false }
+
+  -- the pass that a split makes: it has the next number
+  abbrev pub right_part : View E R A → View E R A
+  right_part v = record { number = v.made; seen = v.seen; joined = []; made = v.made + 1; told = []; about = v.about; live = true; turn = false; sole = false }
+
+  -- the first of two passes, once the second is joined into it
+  abbrev pub joined_view : View E R A → View E R A → View E R A
+  joined_view v w = record v { seen = longer v.seen w.seen; told = shorter v.seen w.seen; joined = v.joined ++ w.number ∷ w.joined; made = max v.made w.made; sole = false }
