@@ -22,14 +22,14 @@ use std::marker::Model;
 /// device, where each page lies, and by task the collection that runs. What the pages hold is
 /// read off the device and the places.
 ///
-/// Once a call of the device has failed the volume has failed: `admit`, `read` and `write` answer
+/// Once a call of the device has failed the volume has failed: the calls that may change it answer
 /// `DieStopped`, and nothing is known of its pages, its accounts and its cells but the plan.
 #[derive(Drop)]
 pub struct Volume<N: Nand> {
-    ledger: Ledger,
-    array: PageArray<N>,
+    pub(crate) ledger: Ledger,
+    pub(crate) array: PageArray<N>,
     /// By task the collection that runs.
-    running: Vec<Option<Collection>>,
+    pub(crate) running: Vec<Option<Collection>>,
 }
 
 impl<N: Nand> Model for Volume<N> {
@@ -42,7 +42,7 @@ impl<N: Nand> Model for Volume<N> {
 
     ghost view = { λ v. record { failed = v.array.failed; pages = contents (N.blocks v.array.device) v.array.placing.places; accounts = v.ledger; device = v.array.device; places = v.array.placing.places; running = v.running.items } };
 
-    ghost invariant = { λ v. v.array.failed ≡ false → IsSound v.ledger (N.shape_of v.array.device) (N.failures v.array.device) (N.blocks v.array.device) v.array.placing v.running.items };
+    ghost invariant = { λ v. v.array.failed ≡ false → IsSound v.ledger (N.shape_of v.array.device) (N.failures v.array.device) (N.blocks v.array.device) v.array.placing v.array.candidates v.running.items };
 }
 
 impl<N: Nand> Volume<N> {
