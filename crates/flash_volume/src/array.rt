@@ -121,6 +121,7 @@ impl<N: Nand> PageArray<N> {
         ensures free { OnOk result (free_cells (N.shape_of self.old.device).pages (N.blocks self.new.device) + 1 ≡ free_cells (N.shape_of self.old.device).pages (N.blocks self.old.device)) }
         ensures contents { OnOk result (contents (N.blocks self.new.device) self.new.placing.places ≡ slice_set (contents (N.blocks self.old.device) self.old.placing.places) page bytes) }
         ensures sound { IsSoundArray N.shape_of N.failures N.blocks self.new }
+        ensures stays { OnErr result (self.new.placing ≡ self.old.placing) }
         ensures failed { self.new.failed ≡ is_err result }
         ensures well { OnOk result (N.failures self.new.device ≡ N.failures self.old.device) }
         ensures fault { IfErr result (λ refusal. refusal ≡ Refusal.DeviceFault) }

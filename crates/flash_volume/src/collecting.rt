@@ -59,7 +59,9 @@ impl<N: Nand> Volume<N> {
         requires runs { IsSome (running_of self.old.running task) }
         requires few_erases { (c : Collection) → running_of self.old.running task ≡ Some c → (block_at (N.blocks self.old.device) c.victim).erases < 4294967295 }
         ensures did { (c : Collection) → running_of self.old.running task ≡ Some c → IfOk result (λ did. Does N.blocks self.old task c did self.new) }
-        ensures plan { self.new.accounts.plan ≡ self.old.accounts.plan }
+        ensures places_stay { OnErr result (self.new.places ≡ self.old.places) }
+        ensures accounts_stay { OnErr result (self.new.accounts ≡ self.old.accounts) }
+        ensures running_stay { OnErr result (self.new.running ≡ self.old.running) }
         ensures stopped { (result ≡ Err Refusal.DieStopped) ↔ (self.old.failed ≡ true) }
         ensures fault { (result ≡ Err Refusal.DeviceFault) ↔ (N.failures self.new.device ≡ N.failures self.old.device + 1) }
         ensures failed { OnErr result (self.new.failed ≡ true) }
@@ -109,7 +111,9 @@ impl<N: Nand> Volume<N> {
         requires holds { collection.buffer ≡ Some copied }
         requires lies { place_of self.old.places copied.page ≡ Some copied.source }
         ensures did { OnOk result (Programs N.blocks self.old task collection copied.page self.new) }
-        ensures plan { self.new.accounts.plan ≡ self.old.accounts.plan }
+        ensures places_stay { OnErr result (self.new.places ≡ self.old.places) }
+        ensures accounts_stay { OnErr result (self.new.accounts ≡ self.old.accounts) }
+        ensures running_stay { OnErr result (self.new.running ≡ self.old.running) }
         ensures failed { self.new.failed ≡ is_err result }
         ensures well { OnOk result (N.failures self.new.device ≡ N.failures self.old.device) }
         ensures fault { IfErr result (λ refusal. refusal ≡ Refusal.DeviceFault) }
@@ -143,7 +147,9 @@ impl<N: Nand> Volume<N> {
         requires left { HasLeft self.old.places collection }
         requires first { IsFirst self.old.places collection.victim page source }
         ensures did { OnOk result (Reads N.blocks self.old task collection page self.new) }
-        ensures plan { self.new.accounts.plan ≡ self.old.accounts.plan }
+        ensures places_stay { OnErr result (self.new.places ≡ self.old.places) }
+        ensures accounts_stay { OnErr result (self.new.accounts ≡ self.old.accounts) }
+        ensures running_stay { OnErr result (self.new.running ≡ self.old.running) }
         ensures failed { self.new.failed ≡ is_err result }
         ensures well { OnOk result (N.failures self.new.device ≡ N.failures self.old.device) }
         ensures fault { IfErr result (λ refusal. refusal ≡ Refusal.DeviceFault) }
@@ -175,7 +181,9 @@ impl<N: Nand> Volume<N> {
         requires empty { (page : ℕ) → page < self.old.accounts.plan.shape.pages → owner_of self.old.places (record { block = collection.victim; page = page }) ≡ None }
         requires few_erases { (block_at (N.blocks self.old.device) collection.victim).erases < 4294967295 }
         ensures did { IfOk result (λ did. Does N.blocks self.old task collection did self.new) }
-        ensures plan { self.new.accounts.plan ≡ self.old.accounts.plan }
+        ensures places_stay { OnErr result (self.new.places ≡ self.old.places) }
+        ensures accounts_stay { OnErr result (self.new.accounts ≡ self.old.accounts) }
+        ensures running_stay { OnErr result (self.new.running ≡ self.old.running) }
         ensures failed { self.new.failed ≡ is_err result }
         ensures well { OnOk result (N.failures self.new.device ≡ N.failures self.old.device) }
         ensures fault { IfErr result (λ refusal. refusal ≡ Refusal.DeviceFault) }
