@@ -8,3 +8,6 @@ pub mod nand;
 pub use fuse::FuseNand;
 pub use memory::MemoryNand;
 pub use nand::Nand;
+
+#[cfg(test)]
+mod tests;

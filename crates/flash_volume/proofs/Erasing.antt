@@ -1,19 +1,21 @@
 -- What an erase slot does to an array of pages.
-use Rattle.std.proofs.Common.{◌≡◌, ◌≢◌, ℕ, ◌+◌, ◌<◌, Bool, true, false, List, [], length, get_or, set, Option, Some, None, refl, sym, ap, ◌∙◌, arith, inl, inr}
+use Rattle.std.proofs.Common.{◌≡◌, ◌≢◌, ℕ, ◌+◌, ◌<◌, Bool, true, false, cond, suc, List, [], length, get_or, set, Option, Some, None, refl, sym, ap, ◌∙◌, arith, inl, inr, ◌∷◌, count_by}
 use Rattle.std.specs.Prelude.{◌==◌, if◌then◌else◌, position}
 use Rattle.std.proofs.lemmas.Bool.{cases_eq}
 use Rattle.std.proofs.lemmas.List.{get_or-set_same, get_or-set_other, length-set, length-map, get_or-map, map-set, set-get_or, ext_get_or}
-use Rattle.std.proofs.lemmas.List.Sums.{sum_by-set}
+use Rattle.std.proofs.lemmas.List.Sums.{sum_by-set, sum_by-cons}
 use Rattle.std.proofs.lemmas.List.Quantifiers.{position-Some}
 use Rattle.slot_types.specs.declared.pages.Place.{Place}
 use Rattle.slot_types.specs.declared.plans.Shape.{Shape}
-use Rattle.slot_types.specs.Places.{place_of, owner_of}
+use Rattle.slot_types.specs.Places.{place_of, is_in, owner_of}
+use Rattle.victim_pick.specs.Candidates.{Candidates, count_of}
 use Rattle.page_map.specs.Placing.{Placing}
 use Rattle.page_map.proofs.Owners.{unowned}
 use Rattle.flash_die.specs.Flash.{Block, empty_block, blank, block_at, cell_at, IsProgrammed, IsErasable, erased}
 use Rattle.flash_volume.specs.Cells.{filled_of, fills_of, is_partly, free_in, free_cells, content_at, contents}
 use Rattle.flash_volume.specs.Array.{Stands}
-use Rattle.flash_volume.proofs.Filling.{OneOpen, fill_is, seen, partly_is, partly_none, partly_means, none_partly}
+use Rattle.flash_volume.proofs.Opening.{OneOpen, fill_is, seen, partly_is, partly_none, partly_means, none_partly}
+use Rattle.flash_volume.proofs.Counting.{here_other}
 
 -- a full block in which no page lies
 pub record IsEmptied (shape : Shape) (blocks : List Block) (places : List (Option Place)) (block : ℕ) : Type 0 where
@@ -21,8 +23,8 @@ pub record IsEmptied (shape : Shape) (blocks : List Block) (places : List (Optio
   pub full : filled_of (block_at blocks block) ≡ shape.pages
   pub none : (p : ℕ) (q : Place) → place_of places p ≡ Some q → q.block ≡ block → ⊥
 
-pub emptied : {shape : Shape} {failures : ℕ} {blocks : List Block} {placing : Placing} {fills : List ℕ} {writing : Option ℕ} (block : ℕ) → Stands shape failures blocks placing fills writing → block < length blocks → filled_of (block_at blocks block) ≡ shape.pages → ((page : ℕ) → page < shape.pages → owner_of placing.places (record { block = block; page = page }) ≡ None) → IsEmptied shape blocks placing.places block
-emptied {shape} {failures} {blocks} {placing} {fills} {writing} block stands in_range full empty = record {
+pub emptied : {shape : Shape} {failures : ℕ} {blocks : List Block} {placing : Placing} {fills : List ℕ} {writing : Option ℕ} {candidates : Candidates} (block : ℕ) → Stands shape failures blocks placing fills writing candidates → block < length blocks → filled_of (block_at blocks block) ≡ shape.pages → ((page : ℕ) → page < shape.pages → owner_of placing.places (record { block = block; page = page }) ≡ None) → IsEmptied shape blocks placing.places block
+emptied {shape} {failures} {blocks} {placing} {fills} {writing} {candidates} block stands in_range full empty = record {
   in_range = in_range;
   full = full;
   none = λ p q lies same.
@@ -57,9 +59,14 @@ contents_erased {shape} {blocks} {places} {block} new clear =
     let below : i < length places = omega (arith, h, left) in
     get_or-map (content_at (set blocks block new)) places i None blank below ∙ content_same blocks block new (get_or places i None) (λ q. clear.none i q) ∙ sym (get_or-map (content_at blocks) places i None blank below))
 
+none_valid : (block : ℕ) (places : List (Option Place)) → ((p : ℕ) (q : Place) → place_of places p ≡ Some q → q.block ≡ block → ⊥) → count_by (is_in block) places ≡ 0
+none_valid block [] none = refl
+none_valid block (None ∷ os) none = none_valid block os (λ p q lies. none (suc p) q lies)
+none_valid block (Some r ∷ os) none = omega (arith, sum_by-cons (λ (o : Option Place). cond (is_in block o) 1 0) (Some r) os, here_other block r (λ same. none 0 r refl (sym same)), none_valid block os (λ p q lies. none (suc p) q lies))
+
 -- one slot more, and not the last
-pub stands_going : {shape : Shape} {failures : ℕ} {blocks : List Block} {placing : Placing} {fills : List ℕ} {writing : Option ℕ} {block : ℕ} → Stands shape failures blocks placing fills writing → IsEmptied shape blocks placing.places block → Stands shape failures (set blocks block (record (block_at blocks block) { erasing = (block_at blocks block).erasing + 1 })) placing fills writing
-stands_going {shape} {failures} {blocks} {placing} {fills} {writing} {block} stands clear =
+pub stands_going : {shape : Shape} {failures : ℕ} {blocks : List Block} {placing : Placing} {fills : List ℕ} {writing : Option ℕ} {candidates : Candidates} {block : ℕ} → Stands shape failures blocks placing fills writing candidates → IsEmptied shape blocks placing.places block → count_of candidates.counts block ≡ None → Stands shape failures (set blocks block (record (block_at blocks block) { erasing = (block_at blocks block).erasing + 1 })) placing fills writing candidates
+stands_going {shape} {failures} {blocks} {placing} {fills} {writing} {candidates} {block} stands clear taken =
     let new : Block = record (block_at blocks block) { erasing = (block_at blocks block).erasing + 1 } in
     let full : get_or fills block 0 ≡ shape.pages = ap (λ (l : List ℕ). get_or l block 0) stands.fills_are ∙ fill_is blocks block ∙ clear.full in
     record {
@@ -76,6 +83,15 @@ stands_going {shape} {failures} {blocks} {placing} {fills} {writing} {block} sta
         | inr other ↦ ap (λ (b : Block). b.erasing) (get_or-set_other blocks block k new empty_block other) ∙ stands.quiet k few
       ];
       placed = λ p q lies. elsewhere blocks block new q (clear.none p q lies) (stands.placed p q lies);
+      few_valid = λ k. elim (cases_eq k block) [
+        | inl same ↦ omega (arith, ap (λ (b : ℕ). count_by (is_in b) placing.places) same, none_valid block placing.places clear.none)
+        | inr other ↦ omega (arith, ap filled_of (get_or-set_other blocks block k new empty_block other), stands.few_valid k)
+      ];
+      candidates_len = stands.candidates_len;
+      candidates_pages = stands.candidates_pages;
+      counted = λ k n is.
+          let other : k ≢ block = λ same. (let both : count_of candidates.counts k ≡ None = ap (λ (b : ℕ). count_of candidates.counts b) same ∙ taken in cc) in
+          (ap filled_of (get_or-set_other blocks block k new empty_block other) ∙ (stands.counted k n is).0, (stands.counted k n is).1);
     }
 
 -- a block that is freed is not partly filled, and was not
@@ -91,8 +107,8 @@ same_partly pages fills block (Some k) is full other one =
     partly_is pages (set fills block 0) k (position (is_partly pages) (set fills block 0)) refl one (omega (arith, means.0, stays)) (omega (arith, means.1, stays))
 
 -- the last slot frees the block
-pub stands_freed : {shape : Shape} {failures : ℕ} {blocks : List Block} {placing : Placing} {fills : List ℕ} {writing : Option ℕ} {block : ℕ} (erases : ℕ) → Stands shape failures blocks placing fills writing → IsEmptied shape blocks placing.places block → Stands shape failures (set blocks block (record { pages = []; erasing = 0; erases = erases })) placing (set fills block 0) writing
-stands_freed {shape} {failures} {blocks} {placing} {fills} {writing} {block} erases stands clear =
+pub stands_freed : {shape : Shape} {failures : ℕ} {blocks : List Block} {placing : Placing} {fills : List ℕ} {writing : Option ℕ} {candidates : Candidates} {block : ℕ} (erases : ℕ) → Stands shape failures blocks placing fills writing candidates → IsEmptied shape blocks placing.places block → count_of candidates.counts block ≡ None → Stands shape failures (set blocks block (record { pages = []; erasing = 0; erases = erases })) placing (set fills block 0) writing candidates
+stands_freed {shape} {failures} {blocks} {placing} {fills} {writing} {candidates} {block} erases stands clear taken =
     let new : Block = record { pages = []; erasing = 0; erases = erases } in
     let full : get_or fills block 0 ≡ shape.pages = ap (λ (l : List ℕ). get_or l block 0) stands.fills_are ∙ fill_is blocks block ∙ clear.full in
     let in_fills : block < length fills = omega (arith, clear.in_range, ap length stands.fills_are, length-map blocks filled_of) in
@@ -119,6 +135,15 @@ stands_freed {shape} {failures} {blocks} {placing} {fills} {writing} {block} era
         | inr other ↦ ap (λ (b : Block). b.erasing) (get_or-set_other blocks block k new empty_block other) ∙ stands.quiet k (omega (arith, few, get_or-set_other fills block k 0 0 other))
       ];
       placed = λ p q lies. elsewhere blocks block new q (clear.none p q lies) (stands.placed p q lies);
+      few_valid = λ k. elim (cases_eq k block) [
+        | inl same ↦ omega (arith, ap (λ (b : ℕ). count_by (is_in b) placing.places) same, none_valid block placing.places clear.none)
+        | inr other ↦ omega (arith, ap filled_of (get_or-set_other blocks block k new empty_block other), stands.few_valid k)
+      ];
+      candidates_len = stands.candidates_len;
+      candidates_pages = stands.candidates_pages;
+      counted = λ k n is.
+          let other : k ≢ block = λ same. (let both : count_of candidates.counts k ≡ None = ap (λ (b : ℕ). count_of candidates.counts b) same ∙ taken in cc) in
+          (ap filled_of (get_or-set_other blocks block k new empty_block other) ∙ (stands.counted k n is).0, (stands.counted k n is).1);
     }
 
 -- a block's worth of cells more is free

@@ -1,5 +1,5 @@
 -- A fresh device: the array of pages on it, and the volume.
-use Rattle.std.proofs.Common.{◌≡◌, ℕ, zero, suc, ◌+◌, ◌-◌, ◌*◌, ◌<◌, List, ◌∷◌, length, get_or, Option, Some, None, refl, sym, ap, ◌∙◌, subst, arith, inl, inr}
+use Rattle.std.proofs.Common.{◌≡◌, ℕ, zero, suc, ◌+◌, ◌-◌, ◌*◌, ◌<◌, List, ◌∷◌, length, get_or, Option, Some, None, refl, sym, ap, ◌∙◌, subst, arith, inl, inr, count_by}
 use Rattle.std.specs.Prelude.{replicate}
 use Rattle.std.proofs.lemmas.Bool.{cases_lt}
 use Rattle.std.proofs.lemmas.List.Sums.{sum_by-cons}
@@ -11,16 +11,17 @@ use Rattle.plan_rules.specs.Bound.{MeetsBound}
 use Rattle.plan_rules.specs.Accounts.{total_of, opening}
 use Rattle.plan_rules.proofs.Totals.{room}
 use Rattle.std.proofs.lemmas.List.Folds.{sum_by-replicate}
-use Rattle.slot_types.specs.Places.{place_of}
+use Rattle.slot_types.specs.Places.{place_of, is_in}
 use Rattle.slot_types.specs.Shapes.{IsShape}
+use Rattle.victim_pick.specs.Candidates.{Candidates, count_of}
 use Rattle.page_map.specs.Placing.{blank_map}
 use Rattle.flash_die.specs.Flash.{Block, blank, empty_block, block_at, IsFresh}
-use Rattle.flash_volume.specs.Cells.{fills_of, free_in, free_cells, contents}
+use Rattle.flash_volume.specs.Cells.{filled_of, fills_of, free_in, free_cells, contents}
 use Rattle.flash_volume.specs.Array.{Stands}
 use Rattle.flash_volume.specs.Running.{running_of}
 use Rattle.flash_volume.specs.Sound.{IsSound}
 use Rattle.flash_volume.specs.declared.collection.Collection.{Collection}
-use Rattle.flash_volume.proofs.Filling.{seen, partly_none}
+use Rattle.flash_volume.proofs.Opening.{seen, partly_none}
 
 abbrev zeros : ℕ → List ℕ
 zeros n = replicate n 0
@@ -50,7 +51,24 @@ lies_nowhere logical page =
       | inr past ↦ get_or_past (replicate logical None) page None (omega (arith, past, length-replicate {A = Option Place} logical None))
     ]
 
-pub stands_fresh : (shape : Shape) (failures : ℕ) (blocks : List Block) (logical : ℕ) → IsShape shape → IsFresh shape blocks failures → Stands shape failures blocks (blank_map shape logical) (replicate shape.blocks 0) None
+abbrev pub no_candidates : Shape → Candidates
+no_candidates shape = record { pages = shape.pages; counts = replicate shape.blocks None }
+
+abbrev nowhere : ℕ → List (Option Place)
+nowhere logical = replicate logical None
+
+none_valid : (logical block : ℕ) → count_by (is_in block) (nowhere logical) ≡ 0
+none_valid zero block = refl
+none_valid (suc logical) block = none_valid logical block
+
+none_counted : (n k : ℕ) → count_of (replicate n None) k ≡ None
+none_counted n k =
+    elim (cases_lt k n) [
+      | inl below ↦ get_or-replicate n k None None below
+      | inr past ↦ get_or_past (replicate n None) k None (omega (arith, past, length-replicate {A = Option ℕ} n None))
+    ]
+
+pub stands_fresh : (shape : Shape) (failures : ℕ) (blocks : List Block) (logical : ℕ) → IsShape shape → IsFresh shape blocks failures → Stands shape failures blocks (blank_map shape logical) (replicate shape.blocks 0) None (no_candidates shape)
 stands_fresh shape failures blocks logical limits fresh =
     let none : (k : ℕ) → 0 < get_or (zeros shape.blocks) k 0 → ⊥ = λ k some. omega (arith, some, fill_fresh shape.blocks k) in
     record {
@@ -63,7 +81,11 @@ stands_fresh shape failures blocks logical limits fresh =
       one_open = λ i j some_i few_i some_j few_j. absurd (none i some_i);
       writing_is = partly_none shape.pages (replicate shape.blocks 0) (λ k some few. none k some);
       quiet = λ k few. ap (λ (l : List Block). (block_at l k).erasing) fresh.unused ∙ ap (λ (b : Block). b.erasing) (block_fresh shape.blocks k);
-      placed = λ page place lies. let nowhere : place_of (replicate logical None) page ≡ None = lies_nowhere logical page in absurd (cc);
+      placed = λ page place lies. let none_lies : place_of (replicate logical None) page ≡ None = lies_nowhere logical page in absurd (cc);
+      few_valid = λ block. omega (arith, none_valid logical block);
+      candidates_len = length-replicate shape.blocks None;
+      candidates_pages = refl;
+      counted = λ block n is. let none_is : count_of (replicate shape.blocks None) block ≡ None = none_counted shape.blocks block in absurd (cc);
     }
 
 one_more : (n k : ℕ) → (n + 1) * k ≡ n * k + k
@@ -97,23 +119,25 @@ contents_fresh blocks zero = refl
 contents_fresh blocks (suc logical) = ap (λ l. blank ∷ l) (contents_fresh blocks logical)
 
 -- a volume on which nothing was done yet
-pub sound_fresh : (plan : DiePlan) (shape : Shape) (failures : ℕ) (blocks : List Block) → MeetsBound plan → shape ≡ plan.shape → IsFresh shape blocks failures → IsSound (opening plan) shape failures blocks (blank_map shape plan.logical) (replicate (length plan.caps) None)
+pub sound_fresh : (plan : DiePlan) (shape : Shape) (failures : ℕ) (blocks : List Block) → MeetsBound plan → shape ≡ plan.shape → IsFresh shape blocks failures → IsSound (opening plan) shape failures blocks (blank_map shape plan.logical) (no_candidates shape) (replicate (length plan.caps) None)
 sound_fresh plan shape failures blocks bound same fresh =
+    let limits : IsShape shape = subst IsShape (sym same) bound.shape in
     let none : (task : ℕ) → running_of (replicate (length plan.caps) None) task ≡ None = none_running (length plan.caps) in
     let nobody : (task : ℕ) (c : Collection) → running_of (replicate (length plan.caps) None) task ≡ Some c → ⊥ = λ task c is. let nothing : running_of (replicate (length plan.caps) None) task ≡ None = none task in cc in
     record {
-      stands = seen (stands_fresh shape failures blocks plan.logical (subst IsShape (sym same) bound.shape) fresh);
+      stands = seen (stands_fresh shape failures blocks plan.logical limits fresh);
+      bound = bound;
       shape_is = same;
       map_len = length-replicate plan.logical None;
       total = free_fresh shape failures blocks fresh ∙ ap (λ (s : Shape). s.blocks * s.pages) same ∙ sym (total_opening plan bound);
       runs = record {
         len = length-replicate (length plan.caps) None;
-        in_range = λ task c is. absurd (nobody task c is);
-        full = λ task c is. absurd (nobody task c is);
-        lent = λ task c is. absurd (nobody task c is);
-        source = λ task c k is holds. absurd (nobody task c is);
-        bytes = λ task c k is holds lies. absurd (nobody task c is);
+        each = λ task c is. absurd (nobody task c is);
         apart = λ task other c d is also victim. absurd (nobody task c is);
         idle = λ task below is. get_or-replicate (length plan.caps) task (plan.shape.pages - plan.alpha) 0 below ∙ ap (λ (s : Shape). s.pages - plan.alpha) (sym same);
+      };
+      picks = record {
+        taken = λ task c is. absurd (nobody task c is);
+        closed = λ block below full none. absurd (omega (arith, full, limits.some_pages, ap (λ (l : List Block). filled_of (block_at l block)) fresh.unused, ap filled_of (block_fresh shape.blocks block)));
       };
     }

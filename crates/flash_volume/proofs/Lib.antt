@@ -1,4 +1,9 @@
+pub mod Opening
+pub mod Counting
 pub mod Filling
 pub mod Erasing
+pub mod Running
+pub mod Collections
+pub mod Kept
+pub mod Beginning
 pub mod Fresh
-pub mod Collecting

@@ -1,21 +1,23 @@
 -- An array of pages on a device.
-use Rattle.std.specs.Prelude.{◌≡◌, ℕ, ◌<◌, ◌≤◌, Bool, false, List, length, position, Option, Some, slice_index}
+use Rattle.std.specs.Prelude.{◌≡◌, ℕ, ◌<◌, ◌≤◌, Bool, false, nat_lt, if◌then◌else◌, List, length, position, count_by, Option, Some, None, slice_index, slice_set}
 use Rattle.slot_types.specs.declared.pages.Place.{Place}
 use Rattle.slot_types.specs.declared.plans.Shape.{Shape}
-use Rattle.slot_types.specs.Places.{place_of}
+use Rattle.slot_types.specs.Places.{place_of, is_in}
 use Rattle.slot_types.specs.Shapes.{IsShape}
+use Rattle.victim_pick.specs.Candidates.{Candidates, count_of, lowered}
 use Rattle.page_map.specs.Placing.{Placing}
 use Rattle.flash_die.specs.Flash.{Block, block_at, IsProgrammed}
-use Rattle.flash_volume.specs.Cells.{fills_of, is_partly, partly_in}
+use Rattle.flash_volume.specs.Cells.{filled_of, fills_of, is_partly, partly_in}
 
--- an array as its callers see it: whether its device has failed, the device, and where each page lies
+-- an array as its callers see it: whether its device has failed, the device, where each page lies, and the full blocks that may be collected with their counts of pages that lie there
 pub record ArrayState (N : Type 0) : Type 0 where
   pub failed : Bool
   pub device : N
   pub placing : Placing
+  pub candidates : Candidates
 
 -- what is true of an array whose device has not failed, with its counts of programmed cells by block and the partly filled block that it remembers
-pub record Stands (shape : Shape) (failures : ℕ) (blocks : List Block) (placing : Placing) (fills : List ℕ) (writing : Option ℕ) : Type 0 where
+pub record Stands (shape : Shape) (failures : ℕ) (blocks : List Block) (placing : Placing) (fills : List ℕ) (writing : Option ℕ) (candidates : Candidates) : Type 0 where
   pub limits : IsShape shape
   pub map_shape : placing.shape ≡ shape
   pub well : failures ≡ 0
@@ -26,8 +28,21 @@ pub record Stands (shape : Shape) (failures : ℕ) (blocks : List Block) (placin
   pub writing_is : position (is_partly shape.pages) fills ≡ writing
   pub quiet : (block : ℕ) → slice_index fills block < shape.pages → (block_at blocks block).erasing ≡ 0
   pub placed : (page : ℕ) (place : Place) → place_of placing.places page ≡ Some place → IsProgrammed blocks place
+  pub few_valid : (block : ℕ) → count_by (is_in block) placing.places ≤ filled_of (block_at blocks block)
+  pub candidates_len : length candidates.counts ≡ shape.blocks
+  pub candidates_pages : candidates.pages ≡ shape.pages
+  pub counted : (block n : ℕ) → count_of candidates.counts block ≡ Some n → (filled_of (block_at blocks block) ≡ shape.pages) × (n ≡ count_by (is_in block) placing.places)
 
 -- the same, as callers see it
 abbrev pub IsSoundArray : {N : Type 0} → (N → Shape) → (N → ℕ) → (N → List Block) → ArrayState N → Type 0
 IsSoundArray shape_of failures blocks array =
-    array.failed ≡ false → Stands (shape_of array.device) (failures array.device) (blocks array.device) array.placing (fills_of (blocks array.device)) (partly_in (shape_of array.device).pages (blocks array.device))
+    array.failed ≡ false → Stands (shape_of array.device) (failures array.device) (blocks array.device) array.placing (fills_of (blocks array.device)) (partly_in (shape_of array.device).pages (blocks array.device)) array.candidates
+
+-- a page that lay here leaves its block, which has a page less if it is a candidate
+abbrev pub left : Option Place → List (Option ℕ) → List (Option ℕ)
+left None counts = counts
+left (Some place) counts = slice_set counts place.block (lowered (count_of counts place.block))
+
+-- a block that is full becomes a candidate
+abbrev pub closed_when_full : ℕ → ℕ → ℕ → ℕ → List (Option ℕ) → List (Option ℕ)
+closed_when_full pages block filled valid counts = if nat_lt filled pages then counts else slice_set counts block (Some valid)

@@ -1,5 +1,7 @@
 pub mod Cells
 pub mod Array
 pub mod Running
+pub mod Picks
 pub mod Sound
 pub mod State
+pub mod Acts

@@ -1,24 +1,29 @@
 //! An array of pages on a flash device.
 
-ghost use Rattle.std.specs.Prelude.{◌≡◌, ◌==◌, ◌+◌, ◌<◌, ◌≤◌, ◌^◌, ℕ, true, false, Some, None, List, length, slice_set, is_err, IsOk, IsSome, IfOk, IfErr, IfSome, OnOk, OnErr, position};
-ghost use Rattle.slot_types.specs.Places.{place_of, owner_of};
+ghost use Rattle.std.specs.Prelude.{◌≡◌, ◌≢◌, ◌==◌, ◌+◌, ◌<◌, ◌≤◌, ◌↔◌, ◌^◌, ℕ, true, false, Some, None, List, length, replicate, count_by, slice_set, is_err, is_some, IsOk, IsSome, IfOk, IfErr, IfSome, IfNone, OnOk, OnErr, position};
+ghost use Rattle.slot_types.specs.declared.pages.Place.{Place};
+ghost use Rattle.slot_types.specs.Places.{is_in, place_of, owner_of};
 ghost use Rattle.slot_types.specs.Shapes.{IsShape};
+ghost use Rattle.victim_pick.specs.Candidates.{count_of, HasNone, IsLeast, without};
 ghost use Rattle.page_map.specs.Placing.{blank_map, bound};
 ghost use Rattle.flash_die.specs.Flash.{IsFresh, blank, block_at, programmed, erased};
 ghost use Rattle.flash_volume.specs.Cells.{filled_of, is_blank, open_in, left_open, next_cell, content_at, contents, free_cells};
 ghost use Rattle.flash_volume.specs.Array.{IsSoundArray};
+ghost use Rattle.flash_volume.specs.Acts.{IsFirst};
 
+use crate::candidates::{close_when_full, leave};
 use flash_die::Nand;
 use page_map::PageMap;
 use slot_types::{PageData, Place, Refusal};
 use std::alloc::Global;
 use std::marker::Model;
+use victim_pick::Victims;
 
 /// An array of pages on a flash device. A page that is written goes to the next free cell of the
 /// open block, and no longer lies in the cell before.
 ///
-/// Contracts see whether the device has failed, the device and where each page lies. After the
-/// device has failed nothing is known of it.
+/// Contracts see whether the device has failed, the device, where each page lies and the candidates
+/// for a collection. After the device has failed nothing is known of it.
 #[derive(Drop)]
 pub(crate) struct PageArray<N: Nand> {
     device: N,
@@ -27,6 +32,8 @@ pub(crate) struct PageArray<N: Nand> {
     fills: Vec<u32>,
     /// The block that is partly filled. There is one at most.
     writing: Option<u32>,
+    /// The full blocks that may be collected.
+    victims: Victims,
     failed: bool,
 }
 
@@ -36,9 +43,9 @@ impl<N: Nand> Model for PageArray<N> {
 
     ghost Value = { ArrayState N };
 
-    ghost view = { λ a. record { failed = a.failed; device = a.device; placing = a.map } };
+    ghost view = { λ a. record { failed = a.failed; device = a.device; placing = a.map; candidates = a.victims } };
 
-    ghost invariant = { λ a. a.failed ≡ false → Stands (N.shape_of a.device) (N.failures a.device) (N.blocks a.device) a.map a.fills.items a.writing };
+    ghost invariant = { λ a. a.failed ≡ false → Stands (N.shape_of a.device) (N.failures a.device) (N.blocks a.device) a.map a.fills.items a.writing a.victims };
 }
 
 impl<N: Nand> PageArray<N> {
@@ -46,7 +53,7 @@ impl<N: Nand> PageArray<N> {
     pub(crate) fn new(alloc: Global, device: N, logical: u32) -> Result<Self, Refusal>
         requires limits { IsShape (N.shape_of device) }
         requires fresh { IsFresh (N.shape_of device) (N.blocks device) (N.failures device) }
-        ensures ok { IfOk result (λ array. array ≡ record { failed = false; device = device; placing = blank_map (N.shape_of device) logical }) }
+        ensures ok { IfOk result (λ array. array ≡ record { failed = false; device = device; placing = blank_map (N.shape_of device) logical; candidates = record { pages = (N.shape_of device).pages; counts = replicate (N.shape_of device).blocks None } }) }
         ensures sound { IfOk result (IsSoundArray N.shape_of N.failures N.blocks) }
         ensures err { IfErr result (λ refusal. refusal ≡ Refusal.NoMemory) }
     {
@@ -56,6 +63,7 @@ impl<N: Nand> PageArray<N> {
             map: PageMap::new(alloc, shape, logical)?,
             fills: vec![in alloc; 0; shape.blocks as usize]?,
             writing: None,
+            victims: Victims::new(alloc, shape.blocks, shape.pages)?,
             failed: false,
         })
     }
@@ -82,6 +90,7 @@ impl<N: Nand> PageArray<N> {
         ensures unwritten { place_of self.old.placing.places page ≡ None → (result ≡ Ok blank) × (self.new ≡ self.old) }
         ensures cells { OnOk result (N.blocks self.new.device ≡ N.blocks self.old.device) }
         ensures placing { self.new.placing ≡ self.old.placing }
+        ensures candidates { self.new.candidates ≡ self.old.candidates }
         ensures failed { self.new.failed ≡ is_err result }
         ensures well { OnOk result (N.failures self.new.device ≡ N.failures self.old.device) }
         ensures fault { IfErr result (λ refusal. refusal ≡ Refusal.DeviceFault) }
@@ -107,9 +116,12 @@ impl<N: Nand> PageArray<N> {
         ensures finds { IsSome (open_in (N.shape_of self.old.device).pages (N.blocks self.old.device)) }
         ensures cells { OnOk result (N.blocks self.new.device ≡ programmed (N.blocks self.old.device) (next_cell (N.shape_of self.old.device).pages (N.blocks self.old.device)).block bytes) }
         ensures placing { OnOk result (self.new.placing ≡ bound self.old.placing page (next_cell (N.shape_of self.old.device).pages (N.blocks self.old.device))) }
+        ensures candidates { OnOk result ((block : ℕ) → block ≢ (next_cell (N.shape_of self.old.device).pages (N.blocks self.old.device)).block → is_some (count_of self.new.candidates.counts block) ≡ is_some (count_of self.old.candidates.counts block)) }
+        ensures closes { OnOk result (filled_of (block_at (N.blocks self.new.device) (next_cell (N.shape_of self.old.device).pages (N.blocks self.old.device)).block) ≡ (N.shape_of self.old.device).pages → IsSome (count_of self.new.candidates.counts (next_cell (N.shape_of self.old.device).pages (N.blocks self.old.device)).block)) }
         ensures free { OnOk result (free_cells (N.shape_of self.old.device).pages (N.blocks self.new.device) + 1 ≡ free_cells (N.shape_of self.old.device).pages (N.blocks self.old.device)) }
         ensures contents { OnOk result (contents (N.blocks self.new.device) self.new.placing.places ≡ slice_set (contents (N.blocks self.old.device) self.old.placing.places) page bytes) }
         ensures sound { IsSoundArray N.shape_of N.failures N.blocks self.new }
+        ensures stays { OnErr result (self.new.placing ≡ self.old.placing) }
         ensures failed { self.new.failed ≡ is_err result }
         ensures well { OnOk result (N.failures self.new.device ≡ N.failures self.old.device) }
         ensures fault { IfErr result (λ refusal. refusal ≡ Refusal.DeviceFault) }
@@ -118,6 +130,7 @@ impl<N: Nand> PageArray<N> {
         ensures never { N.never_fails ≡ true → IsOk result }
     {
         let place = self.next_cell();
+        let before = self.map.place(page);
         match self.device.program(place, bytes) {
             Err(refusal) => {
                 self.failed = true;
@@ -126,9 +139,13 @@ impl<N: Nand> PageArray<N> {
             Ok(()) => {
                 let filled = place.page + 1;
                 self.fills[place.block as usize] = filled;
-                let still_open = left_open(place.block, filled, self.device.shape().pages);
+                let pages = self.device.shape().pages;
+                let still_open = left_open(place.block, filled, pages);
                 self.writing = still_open;
                 self.map.bind(page, place);
+                leave(&mut self.victims, before);
+                let valid = self.map.valid(place.block);
+                close_when_full(&mut self.victims, place.block, filled, pages, valid);
                 Ok(())
             }
         }
@@ -141,10 +158,12 @@ impl<N: Nand> PageArray<N> {
         requires block { block < length (N.blocks self.old.device) }
         requires full { filled_of (block_at (N.blocks self.old.device) block) ≡ (N.shape_of self.old.device).pages }
         requires empty { (page : ℕ) → page < (N.shape_of self.old.device).pages → owner_of self.old.placing.places (record { block = block; page = page }) ≡ None }
+        requires taken { count_of self.old.candidates.counts block ≡ None }
         requires few_erases { (block_at (N.blocks self.old.device) block).erases < 4294967295 }
         ensures last { IfOk result (λ last. last ≡ ((block_at (N.blocks self.old.device) block).erasing + 1 == (N.shape_of self.old.device).erase_slots)) }
         ensures cells { OnOk result (N.blocks self.new.device ≡ erased (N.blocks self.old.device) (N.shape_of self.old.device).erase_slots block) }
         ensures placing { self.new.placing ≡ self.old.placing }
+        ensures candidates { self.new.candidates ≡ self.old.candidates }
         ensures goes_on { result ≡ Ok false → free_cells (N.shape_of self.old.device).pages (N.blocks self.new.device) ≡ free_cells (N.shape_of self.old.device).pages (N.blocks self.old.device) }
         ensures ends { result ≡ Ok true → free_cells (N.shape_of self.old.device).pages (N.blocks self.new.device) ≡ free_cells (N.shape_of self.old.device).pages (N.blocks self.old.device) + (N.shape_of self.old.device).pages }
         ensures contents { OnOk result (contents (N.blocks self.new.device) self.new.placing.places ≡ contents (N.blocks self.old.device) self.old.placing.places) }
@@ -165,6 +184,42 @@ impl<N: Nand> PageArray<N> {
             Ok(true) => {
                 self.fills[block as usize] = 0;
                 Ok(true)
+            }
+        }
+    }
+
+    /// Takes away the candidate in which the fewest pages lie, of equal ones the first.
+    pub(crate) fn take_victim(&mut self) -> u32
+        requires alive { self.old.failed ≡ false }
+        requires some { HasNone self.old.candidates.counts → ⊥ }
+        ensures least { IsLeast self.old.candidates.counts result }
+        ensures taken { self.new ≡ record self.old { candidates = record self.old.candidates { counts = without (Some result) self.old.candidates.counts } } }
+        ensures sound { IsSoundArray N.shape_of N.failures N.blocks self.new }
+    {
+        self.victims.take_least().unwrap()
+    }
+
+    /// Whether a page lies in this cell.
+    pub(crate) fn lies(&self, page: u32, place: Place) -> bool
+        ensures { result ≡ true ↔ place_of self.now.placing.places page ≡ Some place }
+    {
+        self.map.lies(page, place)
+    }
+
+    /// Of the pages that lie in a block the one that lies first, with its cell.
+    pub(crate) fn first_page(&self, block: u32) -> Option<(u32, Place)>
+        requires { block < self.now.placing.shape.blocks }
+        ensures some { IfSome result (λ first. IsFirst self.now.placing.places block first.0 first.1) }
+        ensures none { IfNone result ((page : ℕ) → page < self.now.placing.shape.pages → owner_of self.now.placing.places (record { block = block; page = page }) ≡ None) }
+    {
+        match self.map.next_valid(block, 0) {
+            None => None,
+            Some(page) => {
+                let source = Place { block, page };
+                match self.map.owner(source) {
+                    Some(owner) => Some((owner, source)),
+                    None => None,
+                }
             }
         }
     }

@@ -2,8 +2,10 @@
 #![tactic(auto)]
 
 mod array;
+mod candidates;
+mod collecting;
 pub mod collection;
 pub mod volume;
 
-pub use collection::{Collection, Copied};
+pub use collection::{Began, Collected, Collection, Copied};
 pub use volume::Volume;

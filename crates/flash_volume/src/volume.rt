@@ -1,11 +1,12 @@
 //! A volume: an array of pages on a flash device, and the accounts of its free pages.
 
 ghost use Rattle.std.specs.Prelude.{◌≡◌, ◌+◌, ◌-◌, ◌<◌, ◌≤◌, ◌↔◌, ◌⊎◌, ℕ, true, false, Some, None, length, slice_index, slice_index_or, slice_set, IsOk, IsSome, IfOk, IfErr, OnOk, OnErr};
+ghost use Rattle.slot_types.specs.declared.pages.Place.{Place};
 ghost use Rattle.slot_types.specs.Places.{place_of};
 ghost use Rattle.plan_rules.specs.Bound.{MeetsBound};
 ghost use Rattle.plan_rules.specs.Accounts.{total_of, admitted, hold_spent};
-ghost use Rattle.flash_die.specs.Flash.{IsFresh, blank, programmed};
-ghost use Rattle.flash_volume.specs.Cells.{open_in, next_cell, free_cells};
+ghost use Rattle.flash_die.specs.Flash.{IsFresh, IsProgrammed, blank, programmed};
+ghost use Rattle.flash_volume.specs.Cells.{open_in, next_cell, contents, free_cells};
 ghost use Rattle.flash_volume.specs.State.{fresh_volume};
 
 use crate::array::PageArray;
@@ -22,14 +23,14 @@ use std::marker::Model;
 /// device, where each page lies, and by task the collection that runs. What the pages hold is
 /// read off the device and the places.
 ///
-/// Once a call of the device has failed the volume has failed: `admit`, `read` and `write` answer
+/// Once a call of the device has failed the volume has failed: the calls that may change it answer
 /// `DieStopped`, and nothing is known of its pages, its accounts and its cells but the plan.
 #[derive(Drop)]
 pub struct Volume<N: Nand> {
-    ledger: Ledger,
-    array: PageArray<N>,
+    pub(crate) ledger: Ledger,
+    pub(crate) array: PageArray<N>,
     /// By task the collection that runs.
-    running: Vec<Option<Collection>>,
+    pub(crate) running: Vec<Option<Collection>>,
 }
 
 impl<N: Nand> Model for Volume<N> {
@@ -42,7 +43,7 @@ impl<N: Nand> Model for Volume<N> {
 
     ghost view = { λ v. record { failed = v.array.failed; pages = contents (N.blocks v.array.device) v.array.placing.places; accounts = v.ledger; device = v.array.device; places = v.array.placing.places; running = v.running.items } };
 
-    ghost invariant = { λ v. v.array.failed ≡ false → IsSound v.ledger (N.shape_of v.array.device) (N.failures v.array.device) (N.blocks v.array.device) v.array.placing v.running.items };
+    ghost invariant = { λ v. v.array.failed ≡ false → IsSound v.ledger (N.shape_of v.array.device) (N.failures v.array.device) (N.blocks v.array.device) v.array.placing v.array.candidates v.running.items };
 }
 
 impl<N: Nand> Volume<N> {
@@ -73,9 +74,14 @@ impl<N: Nand> Volume<N> {
         self.ledger.plan()
     }
 
-    /// The device.
+    /// The device. Each page that was written holds what its cell holds; until the volume fails
+    /// these cells are programmed, and the device has the plan's shape.
     pub fn device(&self) -> &N
-        ensures { result.now ≡ self.now.device }
+        ensures device { result.now ≡ self.now.device }
+        ensures pages { self.now.pages ≡ contents (N.blocks self.now.device) self.now.places }
+        ensures placed { self.now.failed ≡ false → (page : ℕ) (place : Place) → place_of self.now.places page ≡ Some place → IsProgrammed (N.blocks self.now.device) place }
+        ensures shape { self.now.failed ≡ false → N.shape_of self.now.device ≡ self.now.accounts.plan.shape }
+        ensures well { self.now.failed ≡ false → N.failures self.now.device ≡ 0 }
     {
         self.array.device()
     }
@@ -131,7 +137,7 @@ impl<N: Nand> Volume<N> {
         ensures page { IfOk result (λ bytes. bytes ≡ slice_index_or self.old.pages page blank) }
         ensures unwritten { place_of self.old.places page ≡ None → self.new ≡ self.old }
         ensures cells { OnOk result (N.blocks self.new.device ≡ N.blocks self.old.device) }
-        ensures places { OnOk result (self.new.places ≡ self.old.places) }
+        ensures places { self.new.places ≡ self.old.places }
         ensures pages { OnOk result (self.new.pages ≡ self.old.pages) }
         ensures accounts { self.new.accounts ≡ self.old.accounts }
         ensures running { self.new.running ≡ self.old.running }
@@ -162,13 +168,14 @@ impl<N: Nand> Volume<N> {
         ensures places { OnOk result (self.new.places ≡ slice_set self.old.places page (Some (next_cell self.old.accounts.plan.shape.pages (N.blocks self.old.device)))) }
         ensures pages { OnOk result (self.new.pages ≡ slice_set self.old.pages page bytes) }
         ensures accounts { OnOk result (self.new.accounts ≡ hold_spent self.old.accounts task) }
-        ensures plan { self.new.accounts.plan ≡ self.old.accounts.plan }
         ensures running { self.new.running ≡ self.old.running }
         ensures well { OnOk result (self.new.failed ≡ false) }
         ensures refused { IfErr result (λ refusal. (refusal ≡ Refusal.DieStopped) ⊎ (refusal ≡ Refusal.DeviceFault)) }
         ensures stopped { (result ≡ Err Refusal.DieStopped) ↔ (self.old.failed ≡ true) }
         ensures fault { (result ≡ Err Refusal.DeviceFault) ↔ (N.failures self.new.device ≡ N.failures self.old.device + 1) }
         ensures failed { OnErr result (self.new.failed ≡ true) }
+        ensures places_stay { OnErr result (self.new.places ≡ self.old.places) }
+        ensures accounts_stay { OnErr result (self.new.accounts ≡ self.old.accounts) }
         ensures unchanged { self.old.failed ≡ true → self.new ≡ self.old }
         ensures never { N.never_fails ≡ true → self.old.failed ≡ false → IsOk result }
     {

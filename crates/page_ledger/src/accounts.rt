@@ -133,13 +133,15 @@ impl Ledger {
     }
 
     /// Gives the task out of the spare pages what a collection would give it, and answers how
-    /// many those are. None, and no change, exactly where fewer than `alpha` pages are spare.
+    /// many those are. None, and no change, exactly where fewer than `alpha` pages are spare: few
+    /// pages are in all accounts then, and a collection that begins finds a block to collect.
     pub fn waive(&mut self, task: TaskNo) -> Option<u32>
         requires { task < length self.old.plan.caps }
         ensures short { IsNone result ↔ self.old.spare < self.old.plan.alpha }
         ensures given { IfSome result (λ given. given ≡ given_of self.old task) }
         ensures some { OnSome result (self.new ≡ waived self.old task) }
         ensures none { IfNone result (self.new ≡ self.old) }
+        ensures few { IfNone result (total_of self.old ≤ fmax_of self.old.plan) }
         ensures total { total_of self.new ≡ total_of self.old }
     {
         if self.spare < self.plan.alpha {

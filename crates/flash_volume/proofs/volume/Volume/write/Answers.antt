@@ -1,8 +1,8 @@
 use Rattle.std.proofs.Common.{◌∙◌, ◌<◌, length, arith, sym, ap}
 use Rattle.std.proofs.lemmas.List.{length-map}
 use Rattle.flash_volume.specs.Cells.{content_at}
-use Rattle.flash_volume.proofs.Filling.{next_fits}
-use Rattle.flash_volume.proofs.Collecting.{some_free, sound_written}
+use Rattle.flash_volume.proofs.Opening.{next_fits}
+use Rattle.flash_volume.proofs.Kept.{some_free, sound_written}
 use Rattle.flash_volume.proofs.volume.Volume.write.Goals as goal
 
 pub invariant_of-self-in-Ok : goal.invariant_of-self-in-Ok
@@ -13,4 +13,4 @@ invariant_of-self-in-Ok g c = λ again.
     let places = c.self.inside.array.placing.places in
     let below : c.args.page < length places = omega (arith, page, length-map places (content_at (g.N.Nand.blocks c.self.inside.array.device))) in
     let fit = next_fits sound.stands (some_free c.args.task sound held) in
-    sound_written c.spend_hold.new.self c.args.page c.args.bytes sound fit below c.write.ensures.shape c.in-Ok.ensures.cells c.in-Ok.ensures.placing (c.write.ensures.sound again) c.in-Ok.ensures.free (ap (λ x. x.plan) c.spend_hold.ensures.moved) (ap (λ x. x.reserves) c.spend_hold.ensures.moved) c.spend_hold.ensures.total
+    sound_written c.spend_hold.new.self sound fit below (record { stands = c.write.ensures.sound again; shape_is = c.write.ensures.shape; cells = c.in-Ok.ensures.cells; placing_is = c.in-Ok.ensures.placing; free = c.in-Ok.ensures.free; others = c.in-Ok.ensures.candidates; closes = c.in-Ok.ensures.closes }) (ap (λ x. x.plan) c.spend_hold.ensures.moved) (ap (λ x. x.reserves) c.spend_hold.ensures.moved) c.spend_hold.ensures.total

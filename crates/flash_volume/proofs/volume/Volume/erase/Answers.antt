@@ -1,0 +1,119 @@
+use Rattle.std.proofs.Common.{◌≡◌, ◌<◌, ◌+◌, ◌-◌, ◌∙◌, length, get_or, refl, sym, ap, arith, ℕ}
+use Rattle.std.proofs.lemmas.Bool.{eqb-false, eqb-true}
+use Rattle.plan_rules.specs.Accounts.{settled}
+use Rattle.flash_die.specs.Flash.{block_at}
+use Rattle.flash_volume.proofs.Erasing.{emptied, erased_last, erased_going}
+use Rattle.flash_volume.proofs.Running.{dropped}
+use Rattle.flash_volume.proofs.Kept.{room, sound_going, sound_ended}
+use Rattle.flash_volume.proofs.volume.Volume.erase.Goals as goal
+
+pub erase_slot-requires-clause-empty : goal.erase_slot-requires-clause-empty
+erase_slot-requires-clause-empty g c =
+    let sound = c.self.invariant (rw (← c.self.view_is) at c.requires.alive) in
+    let task = rw (← c.self.view_is) at c.requires.task in
+    let runs = rw (← c.self.view_is) at c.requires.runs in
+    let run = sound.runs.each c.args.task c.args.collection runs in
+    let s = g.N.Nand.shape_of c.self.inside.array.device in
+    let b = g.N.Nand.blocks c.self.inside.array.device in
+    let asked = rw (← c.self.view_is, ← sound.shape_is) at c.requires.empty in
+    asked
+
+pub settle-given-requires-clause-room : goal.settle-given-requires-clause-room
+settle-given-requires-clause-room g c =
+    let sound = c.self.invariant (rw (← c.self.view_is) at c.requires.alive) in
+    let task = rw (← c.self.view_is) at c.requires.task in
+    let runs = rw (← c.self.view_is) at c.requires.runs in
+    let run = sound.runs.each c.args.task c.args.collection runs in
+    room c.args.task c.args.collection sound runs
+
+pub invariant_of-self-in-Ok-true : goal.invariant_of-self-in-Ok-true
+invariant_of-self-in-Ok-true g c = λ again.
+    let sound = c.self.invariant (rw (← c.self.view_is) at c.requires.alive) in
+    let task = rw (← c.self.view_is) at c.requires.task in
+    let runs = rw (← c.self.view_is) at c.requires.runs in
+    let run = sound.runs.each c.args.task c.args.collection runs in
+    let s = g.N.Nand.shape_of c.self.inside.array.device in
+    let b = g.N.Nand.blocks c.self.inside.array.device in
+    let asked = rw (← c.self.view_is, ← sound.shape_is) at c.requires.empty in
+    let is = erased_last b (g.N.Nand.blocks c.erase_slot.new.self.device) s.erase_slots c.args.collection.victim c.in-Ok-true.field-0 c.in-Ok-true.ensures.cells c.in-Ok-true.ensures.last c.in-Ok-true.field-0-test in
+    let own = c.reserve-reserve.ensures.sound in
+    let a = c.self.inside.ledger in
+    let copied = c.plan.result.now.shape.pages - c.plan-2.result.now.alpha - c.reserve-reserve.result in
+    let refilled : get_or a.reserves c.args.task 0 + copied ≡ a.plan.shape.pages - a.plan.alpha = omega (arith, own.reserved c.args.task, c.reserve-reserve.ensures.reserve, ap (λ p. p.shape.pages) c.plan.ensures, ap (λ p. p.alpha) c.plan-2.ensures) in
+    let in_reserves : c.args.task < length a.reserves = omega (arith, own.reserves_len, task) in
+    rw (c.task.view_is, c.erase_slot.ensures.placing, c.erase_slot.ensures.candidates) (
+    sound_ended c.settle-given.new.self c.args.task ((block_at b c.args.collection.victim).erases + 1) (get_or a.reserves c.args.task 0 + copied) c.args.collection sound task runs (rw (c.erase_slot.ensures.placing, c.erase_slot.ensures.candidates) at (c.erase_slot.ensures.sound again)) c.erase_slot.ensures.shape is (c.in-Ok-true.ensures.ends (rw c.in-Ok-true.field-0-test refl)) (ap (λ x. x.plan) c.settle-given.ensures.moved) (ap (λ x. x.reserves) c.settle-given.ensures.moved) refilled in_reserves c.settle-given.ensures.total
+    )
+
+pub invariant_of-self-in-Ok-false : goal.invariant_of-self-in-Ok-false
+invariant_of-self-in-Ok-false g c = λ again.
+    let sound = c.self.invariant (rw (← c.self.view_is) at c.requires.alive) in
+    let task = rw (← c.self.view_is) at c.requires.task in
+    let runs = rw (← c.self.view_is) at c.requires.runs in
+    let run = sound.runs.each c.args.task c.args.collection runs in
+    let s = g.N.Nand.shape_of c.self.inside.array.device in
+    let b = g.N.Nand.blocks c.self.inside.array.device in
+    let asked = rw (← c.self.view_is, ← sound.shape_is) at c.requires.empty in
+    let is = erased_going b (g.N.Nand.blocks c.erase_slot.new.self.device) s.erase_slots c.args.collection.victim c.in-Ok-false.field-0 c.in-Ok-false.ensures.cells c.in-Ok-false.ensures.last c.in-Ok-false.field-0-test in
+    rw (c.task-in-Ok-false.view_is, c.erase_slot.ensures.placing, c.erase_slot.ensures.candidates) (sound_going c.args.task c.args.collection sound task runs (rw (c.erase_slot.ensures.placing, c.erase_slot.ensures.candidates) at (c.erase_slot.ensures.sound again)) c.erase_slot.ensures.shape is (c.in-Ok-false.ensures.goes_on (rw c.in-Ok-false.field-0-test refl)))
+
+pub returns-in-Ok-true-clause-did : goal.returns-in-Ok-true-clause-did
+returns-in-Ok-true-clause-did g c =
+    let sound = c.self.invariant (rw (← c.self.view_is) at c.requires.alive) in
+    let task = rw (← c.self.view_is) at c.requires.task in
+    let runs = rw (← c.self.view_is) at c.requires.runs in
+    let run = sound.runs.each c.args.task c.args.collection runs in
+    let s = g.N.Nand.shape_of c.self.inside.array.device in
+    let b = g.N.Nand.blocks c.self.inside.array.device in
+    let asked = rw (← c.self.view_is, ← sound.shape_is) at c.requires.empty in
+    let left = rw (← c.self.view_is) at c.requires.left in
+    let clear = emptied c.args.collection.victim sound.stands run.in_range run.full asked in
+    let own = c.reserve-reserve.ensures.sound in
+    let a = c.self.inside.ledger in
+    let copied = c.plan.result.now.shape.pages - c.plan-2.result.now.alpha - c.reserve-reserve.result in
+    let copied_is : copied ≡ a.plan.shape.pages - a.plan.alpha - get_or a.reserves c.args.task 0 = rw (c.plan.ensures, c.plan-2.ensures, c.reserve-reserve.ensures.reserve) refl in
+    rw (← c.self.view_is) (
+    record {
+      dropped = dropped run left;
+      erases = record {
+        victim = refl;
+        empty = clear.none;
+        cells = rw (← sound.shape_is) c.in-Ok-true.ensures.cells;
+        places = ap (λ m. m.places) c.erase_slot.ensures.placing;
+        pages = c.in-Ok-true.ensures.contents;
+        well = c.in-Ok-true.ensures.failed;
+      };
+      last = rw (← sound.shape_is) (eqb-true ((block_at b c.args.collection.victim).erasing + 1) s.erase_slots (sym c.in-Ok-true.ensures.last ∙ c.in-Ok-true.field-0-test));
+      given = c.settle-given.ensures.given;
+      accounts = c.settle-given.ensures.moved ∙ ap (λ (n : ℕ). settled a c.args.task n) copied_is;
+      running = rw c.task.view_is refl;
+    }
+    )
+
+pub returns-in-Ok-false-clause-did : goal.returns-in-Ok-false-clause-did
+returns-in-Ok-false-clause-did g c =
+    let sound = c.self.invariant (rw (← c.self.view_is) at c.requires.alive) in
+    let task = rw (← c.self.view_is) at c.requires.task in
+    let runs = rw (← c.self.view_is) at c.requires.runs in
+    let run = sound.runs.each c.args.task c.args.collection runs in
+    let s = g.N.Nand.shape_of c.self.inside.array.device in
+    let b = g.N.Nand.blocks c.self.inside.array.device in
+    let asked = rw (← c.self.view_is, ← sound.shape_is) at c.requires.empty in
+    let left = rw (← c.self.view_is) at c.requires.left in
+    let clear = emptied c.args.collection.victim sound.stands run.in_range run.full asked in
+    rw (← c.self.view_is) (
+    record {
+      dropped = dropped run left;
+      erases = record {
+        victim = refl;
+        empty = clear.none;
+        cells = rw (← sound.shape_is) c.in-Ok-false.ensures.cells;
+        places = ap (λ m. m.places) c.erase_slot.ensures.placing;
+        pages = c.in-Ok-false.ensures.contents;
+        well = c.in-Ok-false.ensures.failed;
+      };
+      going = rw (← sound.shape_is) (eqb-false ((block_at b c.args.collection.victim).erasing + 1) s.erase_slots (sym c.in-Ok-false.ensures.last ∙ c.in-Ok-false.field-0-test));
+      accounts = refl;
+      running = rw c.task-in-Ok-false.view_is refl;
+    }
+    )
