@@ -115,7 +115,7 @@ waives plan past ws a j g e yes_is = by_turns g.turns refl
       turns = n;
       enough = rw (unwaived_more ws (waiver_of a j) j (ready plan past) refl) (omega (arith, less, g.enough));
       rest = g.rest ∙ (ap (λ t. behind ws (choice_among plan past t a xs)) is ∙ (ap (λ o. behind ws (chosen plan past a xs (choice_among plan past n) o)) e
-        ∙ (ap (λ b. behind ws (weighed a xs (choice_among plan past n) j b)) yes_is ∙ moved n)));
+          ∙ (ap (λ b. behind ws (weighed a xs (choice_among plan past n) j b)) yes_is ∙ moved n)));
     }
       where
         moved : (n : ℕ) → behind ws (with_waiver (waiver_of a j) (choice_among plan past n (moves.waived a j.task) (without j xs)))

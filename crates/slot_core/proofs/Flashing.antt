@@ -98,7 +98,7 @@ programmed_counts blocks b bytes c is =
 pub flash-write : (plan : DiePlan) (past : Log) (caller slot : ℕ) (ws : List Waived) (j : Job) (page : ℕ) (bytes : PageData) (finished : Option ℕ) (tokens : Accounts) (pages : List PageData) (places : List (Option Place)) (blocks : List device.Block) (b : ℕ)
     → job_at past j.number ≡ Some j → open_block plan (cells plan past) ≡ Some b → IsWaivedFlash plan past ws tokens pages places blocks
     → IsFlashOf plan (slot_with caller slot ws j.number (does.Write page bytes) finished past) (hold_spent tokens j.task) (slice_set pages page bytes)
-        (slice_set places page (Some (record { block = b; page = length (device.block_at blocks b).pages }))) (device.programmed blocks b bytes)
+    (slice_set places page (Some (record { block = b; page = length (device.block_at blocks b).pages }))) (device.programmed blocks b bytes)
 flash-write plan past caller slot ws j page bytes finished tokens pages places blocks b at opens f = record {
   accounts_are = rw at (ap (λ a. hold_spent a j.task) f.accounts_are);
   pages_are = ap (λ ps. slice_set ps page bytes) f.pages_are;

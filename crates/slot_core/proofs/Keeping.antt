@@ -232,7 +232,7 @@ pub submit_kept : {N : Type 0} (blocks_of : N → List device.Block) (log later 
     → Keeps w.accounts.plan later present u slots w.failed w.accounts w.pages w.places (blocks_of w.device)
 submit_kept blocks_of log later present caller number task release due ops t u slots v w k alive none number_is table_is volume_is log_is =
     rw volume_is (rw table_is (rw log_is (rw alive (rw (number_is ∙ jobs_counted v.accounts.plan log t k.jobs_are)
-      (keeps_submit v.accounts.plan log present t slots v.accounts v.pages v.places (blocks_of v.device) caller task release due ops (subst (λ (b : Bool). Keeps v.accounts.plan log present t slots b v.accounts v.pages v.places (blocks_of v.device)) alive k) none)))))
+    (keeps_submit v.accounts.plan log present t slots v.accounts v.pages v.places (blocks_of v.device) caller task release due ops (subst (λ (b : Bool). Keeps v.accounts.plan log present t slots b v.accounts v.pages v.places (blocks_of v.device)) alive k) none)))))
 
 pub submit_accepts : (plan : DiePlan) (log : Log) (task release due : ℕ) (ops : List Op) → refusal_of plan log (events.Submit task release due ops) ≡ None → IsAccepted (answer plan log (events.Submit task release due ops))
 submit_accepts plan log task release due ops none = subst IsAccepted (sym (accepted_answer plan log (events.Submit task release due ops) none)) tt

@@ -158,9 +158,11 @@ ran_reads plan past caller s ws (Some (number, act)) is legal h n j at = by_own 
     by_own false differs = (k.0, λ plain. rw (acts_stay j.number (entry caller events.Slot (replies.Slot s)) past (ap (act_of j.number) is ∙ rw differs refl)) (k.1 plain))
     by_own true same =
         let number_is : number ≡ j.number = eqb-true number j.number same in
-        let job_is : legal.0 ≡ j = same_Some legal.0 j (sym legal.1.known ∙ (ap (slice_get (jobs past)) (number_is ∙ k.0) ∙ at)) in
-        (k.0, acted_reads past (entry caller events.Slot (replies.Slot s)) j act (ap (act_of j.number) is ∙ rw same refl)
-            (subst (λ (i : Job). i.collects ≡ false → IsNextOperation past i act) job_is (λ plain. subst (λ (b : Bool). MatchBool b (IsNextCollectAct plan past number act) (IsNextOperation past legal.0 act)) plain legal.1.next)) k.1)
+        let job_is : legal.0 ≡ j = same_Some legal.0 j (sym legal.1.known ∙ (ap (slice_get (jobs past)) (number_is ∙ k.0) ∙ at)) in (
+          k.0,
+          acted_reads past (entry caller events.Slot (replies.Slot s)) j act (ap (act_of j.number) is ∙ rw same refl)
+              (subst (λ (i : Job). i.collects ≡ false → IsNextOperation past i act) job_is (λ plain. subst (λ (b : Bool). MatchBool b (IsNextCollectAct plan past number act) (IsNextOperation past legal.0 act)) plain legal.1.next)) k.1,
+        )
 
 pub reads_counted : (plan : DiePlan) (log : Log) → IsExact plan log → IsLegal plan log → CountReads log
 reads_counted plan [] x l = λ n j e. absurd (none-some j e)

@@ -150,9 +150,9 @@ pub turn_kept : {N : Type 0} (blocks_of : N → List device.Block) (log later : 
     → Keeps w.accounts.plan later (present + 1) x after w.failed w.accounts w.pages w.places (blocks_of w.device) × (answer v.accounts.plan log events.Slot ≡ replies.Slot reply)
 turn_kept blocks_of log later present caller n turn act t u x slots after v w reply k alive few table_is head next act_eq flash_eq plan_is well turned_table slots_are reply_is later_is = (
   subst (λ (p : DiePlan). Keeps p later (present + 1) x after w.failed w.accounts w.pages w.places (blocks_of w.device)) (sym plan_is) (rw later_is (rw reply_is (rw slots_are (rw well (rw turned_table (rw (turn_change u n act turn.last (present + 1)) (rw table_is
-    (subst (λ (m : ℕ). Keeps plan (with_entry caller events.Slot (replies.Slot (record { slot = present; waived = []; ran = Some (m, act); finished = if turn.last then Some m else None })) log) (present + 1) (with_change (record t { clock = present }) m (turned turn.last (present + 1) act)) (slots ++ Some m ∷ []) false w.accounts w.pages w.places (blocks_of w.device)) served.number_is kept.0)))))))),
+      (subst (λ (m : ℕ). Keeps plan (with_entry caller events.Slot (replies.Slot (record { slot = present; waived = []; ran = Some (m, act); finished = if turn.last then Some m else None })) log) (present + 1) (with_change (record t { clock = present }) m (turned turn.last (present + 1) act)) (slots ++ Some m ∷ []) false w.accounts w.pages w.places (blocks_of w.device)) served.number_is kept.0)))))))),
   accepted_answer plan log events.Slot none
-  ∙ (subst (λ (m : ℕ). accepted plan log events.Slot ≡ replies.Slot (record { slot = present; waived = []; ran = Some (m, act); finished = if turn.last then Some m else None })) served.number_is kept.1 ∙ ap replies.Slot (sym reply_is)),
+      ∙ (subst (λ (m : ℕ). accepted plan log events.Slot ≡ replies.Slot (record { slot = present; waived = []; ran = Some (m, act); finished = if turn.last then Some m else None })) served.number_is kept.1 ∙ ap replies.Slot (sym reply_is)),
 )
   where
     plan : DiePlan

@@ -70,7 +70,7 @@ position_mapped p f xs = rw (first_mapped p f xs) (rw (length-map xs f) refl)
 pub opens_same : (plan : DiePlan) (c : flash.Cells) (blocks : List device.Block) → map counts_of blocks ≡ c.blocks → open_in plan.shape.pages blocks ≡ flash.open_block plan c
 opens_same plan c blocks is =
     rw (position_mapped (is_partly plan.shape.pages) filled_of blocks) (rw (position_mapped is_blank filled_of blocks) (rw (← is)
-      (rw (position_mapped (flash.is_partly_filled plan) counts_of blocks) (rw (position_mapped (λ (s : flash.Block). s.filled == 0) counts_of blocks) refl))))
+    (rw (position_mapped (flash.is_partly_filled plan) counts_of blocks) (rw (position_mapped (λ (s : flash.Block). s.filled == 0) counts_of blocks) refl))))
 
 -- The head and its operation
 

@@ -160,8 +160,8 @@ worst_found plan log js n late bound exact are found lateness = by_worst (worst 
         let of_log = worst_record plan log j bound exact e in
         let number : n ≡ j.number = one_worst (records plan log) n j.number found_in of_log in
         let late_is : Some late ≡ Some (lateness_of log j) =
-            sym lateness ∙ (ap (λ (rs : List JobRecord). table.lateness_at rs n) are ∙ (ap (table.lateness_at (records plan log)) number
-            ∙ (ap (option_map kept.lateness_of) (slice_get-map (record_with plan log (waived log)) (jobs log) j.number j (stands_at (jobs log) j (stands_well plan bound log exact).0.numbered w.stands)) ∙ ap (λ s. Some (pos (kept.completion_in s) -ℤ pos j.due)) (done_stage plan log j bound exact w.stands w.done)))) in
+        sym lateness ∙ (ap (λ (rs : List JobRecord). table.lateness_at rs n) are ∙ (ap (table.lateness_at (records plan log)) number
+        ∙ (ap (option_map kept.lateness_of) (slice_get-map (record_with plan log (waived log)) (jobs log) j.number j (stands_at (jobs log) j (stands_well plan bound log exact).0.numbered w.stands)) ∙ ap (λ s. Some (pos (kept.completion_in s) -ℤ pos j.due)) (done_stage plan log j bound exact w.stands w.done)))) in
         ap Some (ap (λ (k : ℕ). worst_as k late) number ∙ ap (worst_as j.number) (same_Some late (lateness_of log j) late_is))
 
 pub worst_missing : (plan : DiePlan) (log : Log) (js : List JobRecord) → MeetsBound plan → IsExact plan log → js ≡ records plan log → table.NothingDone js → None ≡ worst_of plan log

@@ -23,7 +23,9 @@ pub(crate) fn page_of(op: Op) -> u32
 pub(crate) fn bad_page(ops: &[Op], logical: u32) -> Option<u32>
     ensures { result ≡ option_map page_of (find (λ op. nat_le logical (page_of op)) ops.now) }
 {
-    ops.iter().find(|op| page_of(**op) >= logical).map(|op| page_of(*op))
+    ops.iter()
+        .find(|op| page_of(**op) >= logical)
+        .map(|op| page_of(*op))
 }
 
 fn is_write(op: Op) -> bool

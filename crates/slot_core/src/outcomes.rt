@@ -26,7 +26,9 @@ pub enum Outcome {
         reads: Reads,
     },
     /// It is a collection that was waived, and gave its task so many pages.
-    Waived { given: u32 },
+    Waived {
+        given: u32,
+    },
 }
 
 /// What a job or a collection was accepted with, without its operations.

@@ -17,9 +17,7 @@ use flash_die::Nand;
 use flash_volume::Volume;
 use job_table::JobTable;
 use late_cert::Carried;
-use slot_types::{
-    Act, Entry, Event, JobNo, MAX_SLOT, Refusal, Reply, SlotReply, WaivedList,
-};
+use slot_types::{Act, Entry, Event, JobNo, MAX_SLOT, Refusal, Reply, SlotReply, WaivedList};
 use std::alloc::Global;
 
 /// What the job of a number does next, if it has an operation left.
