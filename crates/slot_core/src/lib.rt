@@ -3,6 +3,7 @@
 
 pub mod admission;
 pub mod certificates;
+pub mod devices;
 pub mod die_core;
 pub mod operations;
 pub mod outcomes;
