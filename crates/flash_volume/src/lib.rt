@@ -9,3 +9,6 @@ pub mod volume;
 
 pub use collection::{Began, Collected, Collection, Copied};
 pub use volume::Volume;
+
+#[cfg(test)]
+mod tests;
