@@ -6,8 +6,10 @@ pub mod certificates;
 pub mod die_core;
 pub mod operations;
 pub mod outcomes;
+pub mod runs;
 pub mod slots;
 pub mod turns;
 
 pub use die_core::DieCore;
 pub use outcomes::{JobHead, Outcome, Worst};
+pub use runs::Replies;
