@@ -6,6 +6,7 @@ pub mod Keeping
 pub mod Serving
 pub mod Turning
 pub mod Slotting
+pub mod Running
 pub mod Worsts
 pub mod Rowing
 pub mod Certifying

@@ -4,6 +4,7 @@ pub mod Device
 pub mod Kept
 pub mod Acting
 pub mod Calls
+pub mod Runs
 pub mod Turns
 pub mod Outcomes
 pub mod Rowed

@@ -7,8 +7,10 @@ pub mod devices;
 pub mod die_core;
 pub mod operations;
 pub mod outcomes;
+pub mod runs;
 pub mod slots;
 pub mod turns;
 
 pub use die_core::DieCore;
 pub use outcomes::{JobHead, Outcome, Worst};
+pub use runs::Replies;

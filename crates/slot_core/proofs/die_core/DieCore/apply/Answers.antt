@@ -1,0 +1,11 @@
+use Rattle.std.proofs.Common.{ap, Err}
+use Rattle.slot_core.proofs.Running.{refused_where, submit_refused, slot_refused_step}
+use Rattle.slot_core.proofs.die_core.DieCore.apply.Goals as goal
+
+pub returns-in-Err-clause-step : goal.returns-in-Err-clause-step
+returns-in-Err-clause-step g c =
+    rw c.in-Submit.is (submit_refused g.N.Nand.failures _ _ _ _ c.in-Err.refusal c.args.self.now c.submit.new.self (refused_where _ _ c.in-Err.ensures.stopped) c.in-Err.ensures.refused c.in-Err.ensures.unchanged)
+
+pub returns-in-Err-slot-clause-step : goal.returns-in-Err-slot-clause-step
+returns-in-Err-slot-clause-step g c =
+    rw c.in-Slot.is (slot_refused_step g.N.Nand.failures c.in-Err-slot.refusal c.args.self.now c.slot.new.self (refused_where _ _ c.in-Err-slot.ensures.stopped) c.in-Err-slot.ensures.refused (refused_where _ _ c.in-Err-slot.ensures.fault) (λ is. c.in-Err-slot.ensures.stops (ap Err is)) c.in-Err-slot.ensures.log_stays c.in-Err-slot.ensures.unchanged)

@@ -1,0 +1,79 @@
+-- What a run of events answers, and what it leaves.
+use Rattle.std.specs.Prelude.{◌≡◌, ℕ, ◌+◌, ◌⊎◌, ◌↔◌, Bool, true, false, List, [], ◌∷◌}
+use Rattle.std.specs.List.{AllByRecursion}
+use Rattle.slot_types.specs.declared.plans.DiePlan.{DiePlan}
+use Rattle.slot_types.specs.declared.events.Event.{Event}
+use Rattle.slot_types.specs.declared.events.Event.TheVariants.{Collect, Slot}
+use Rattle.slot_types.specs.declared.refusals.Refusal.TheVariants.{NoMemory, DeviceFault, DieStopped}
+use Rattle.slot_types.specs.declared.replies.Reply.{Reply}
+use Rattle.slot_types.specs.declared.replies.Reply.TheVariants.{Refused}
+use Rattle.die_log.specs.Log.{Log}
+use Rattle.die_log.specs.Answers.{answer, IsAccepted, with_answer}
+use Rattle.slot_core.specs.Core.{Core}
+
+-- Events without a collection
+
+abbrev pub is_collect : Event → Bool
+is_collect (Collect task release due) = true
+is_collect _ = false
+
+abbrev pub NoCollects : List Event → Type 0
+NoCollects events = AllByRecursion (λ event. is_collect event ≡ false) events
+
+-- One event
+
+-- what a run changes of a die: its log, whether a fault has stopped it, and how often its device failed
+pub record Moment : Type 0 where
+  pub log : Log
+  pub stopped : Bool
+  pub failures : ℕ
+
+abbrev pub moment_of : {N : Type 0} → (N → ℕ) → Core N → Moment
+moment_of failures core = record { log = core.log; stopped = core.stopped; failures = failures core.device }
+
+-- the log's own answer, which is an entry of caller 0 if it is no refusal
+pub record AnsweredByLog (plan : DiePlan) (event : Event) (reply : Reply) (before after : Moment) : Type 0 where
+  pub ran : before.stopped ≡ false
+  pub reply_is : reply ≡ answer plan before.log event
+  pub log_is : after.log ≡ with_answer 0 event reply before.log
+  pub runs : after.stopped ≡ false
+
+-- the log accepts the event, but memory is refused, and nothing changes
+pub record FoundNoMemory (plan : DiePlan) (event : Event) (reply : Reply) (before after : Moment) : Type 0 where
+  pub ran : before.stopped ≡ false
+  pub accepted : IsAccepted (answer plan before.log event)
+  pub reply_is : reply ≡ Refused NoMemory
+  pub unchanged : after ≡ before
+
+-- the log accepts the slot, but the device fails, which stops the die; the log stays
+pub record StoppedByFault (plan : DiePlan) (event : Event) (reply : Reply) (before after : Moment) : Type 0 where
+  pub ran : before.stopped ≡ false
+  pub slot : event ≡ Slot
+  pub accepted : IsAccepted (answer plan before.log event)
+  pub reply_is : reply ≡ Refused DeviceFault
+  pub log_stays : after.log ≡ before.log
+  pub stops : after.stopped ≡ true
+
+-- the die was stopped, and nothing changes
+pub record FoundStopped (plan : DiePlan) (event : Event) (reply : Reply) (before after : Moment) : Type 0 where
+  pub was_stopped : before.stopped ≡ true
+  pub reply_is : reply ≡ Refused DieStopped
+  pub unchanged : after ≡ before
+
+-- how one event is answered; a fault is answered exactly where the device failed
+pub record IsStep (plan : DiePlan) (event : Event) (reply : Reply) (before after : Moment) : Type 0 where
+  pub answered :
+    AnsweredByLog plan event reply before after
+    ⊎ FoundNoMemory plan event reply before after
+    ⊎ StoppedByFault plan event reply before after
+    ⊎ FoundStopped plan event reply before after
+  pub faults : (reply ≡ Refused DeviceFault) ↔ (after.failures ≡ before.failures + 1)
+
+-- Events in order
+
+-- one reply an event, each what its event is answered at its place
+abbrev pub IsRun : DiePlan → Moment → List Event → List Reply → Moment → Type 0
+IsRun plan before [] [] after = after ≡ before
+IsRun plan before (event ∷ events) (reply ∷ replies) after =
+    (between : Moment) × IsStep plan event reply before between × IsRun plan between events replies after
+IsRun plan before _ _ after = ⊥
