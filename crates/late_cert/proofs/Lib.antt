@@ -1,0 +1,10 @@
+pub mod Counting
+pub mod Lower
+pub mod Find
+pub mod Faults
+pub mod Marks
+pub mod Keys
+pub mod Window
+pub mod Least
+pub mod Own
+pub mod Moments

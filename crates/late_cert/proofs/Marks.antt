@@ -1,0 +1,120 @@
+-- The marks of the rows that a stretch carries.
+use Rattle.std.proofs.Common.{◌≡◌, ◌≢◌, ℕ, zero, suc, ◌+◌, ◌<◌, ◌≤◌, Bool, true, false, cond, eqb, ◌||◌, List, [], ◌∷◌, length, map, Option, Some, None, get_or, set, filter, take, ◌++◌, append-nil, replicate, arith, refl, sym, ap, ◌∙◌, inl, inr, eq-eqb, ne_eqb, add-one, le-leb, get_or-set_same, get_or-set_other, length-set}
+use Rattle.std.proofs.lemmas.Bool.{true≢false, cases_Bool, cases_order, lt-leb}
+use Rattle.std.proofs.lemmas.Option.{none-some}
+use Rattle.std.proofs.lemmas.List.Elements.{filter_more}
+use Rattle.late_cert.specs.declared.rows.JobRow.{JobRow}
+use Rattle.late_cert.specs.Schedule.{Slots, slot_at, is_named}
+use Rattle.late_cert.specs.Rows.{RowsRise, IsNamedAt, row_of}
+use Rattle.late_cert.specs.Stretch.{is_carried}
+use Rattle.late_cert.specs.Build.{AreMarks}
+use Rattle.late_cert.proofs.Find.{rows-rise-lt, map-length, map-get}
+
+-- one slot more
+pub carried-more : (c : Slots) (s n k : ℕ) (o : Option ℕ) → slot_at c n ≡ o → s ≤ n
+    → is_carried c s (n + 1) k ≡ (is_named k o || is_carried c s n k)
+carried-more c s n k o e h = rw (add-one, le-leb s n h, e) refl
+
+pub row-absent : (rows : List JobRow) (n : ℕ) → row_of rows n ≡ None → (i : ℕ) (d : JobRow) → i < length rows → eqb n (get_or rows i d).number ≡ false
+row-absent [] n h i d l = absurd (omega arith)
+row-absent (row ∷ rows) n h zero d l =
+    ne_eqb n row.number (λ e. none-some row (sym (rw (eq-eqb row.number n (sym e)) at h)))
+row-absent (row ∷ rows) n h (suc i) d l =
+    elim (cases_Bool (eqb row.number n)) [
+      | inl same ↦ absurd (none-some row (sym (rw same at h)))
+      | inr other ↦ row-absent rows n (rw other at h) i d (omega arith)
+    ]
+
+pub marks-none : (rows : List JobRow) (c : Slots) (s n : ℕ) (marks : List Bool) → AreMarks rows c s n marks → s ≤ n
+    → slot_at c n ≡ None → AreMarks rows c s (n + 1) marks
+marks-none rows c s n marks m h e = record {
+  as_many = m.as_many;
+  each = λ i d l. m.each i d l ∙ sym (carried-more c s n (get_or rows i d).number None e h);
+}
+
+pub marks-missing : (rows : List JobRow) (c : Slots) (s n k : ℕ) (marks : List Bool) → AreMarks rows c s n marks → s ≤ n
+    → slot_at c n ≡ Some k → row_of rows k ≡ None → AreMarks rows c s (n + 1) marks
+marks-missing rows c s n k marks m h e absent = record {
+  as_many = m.as_many;
+  each = λ i d l.
+      let no_name : is_named (get_or rows i d).number (Some k) ≡ false =
+      ne_eqb (get_or rows i d).number k (λ q. true≢false (sym (eq-eqb k (get_or rows i d).number (sym q)) ∙ row-absent rows k absent i d l)) in
+      m.each i d l ∙ sym (carried-more c s n (get_or rows i d).number (Some k) e h ∙ rw no_name refl);
+}
+
+pub marks-place : (rows : List JobRow) → RowsRise rows → (c : Slots) (s n k p : ℕ) (marks : List Bool) → AreMarks rows c s n marks → s ≤ n
+    → slot_at c n ≡ Some k → p < length rows → IsNamedAt rows p k → AreMarks rows c s (n + 1) (set marks p true)
+marks-place rows r c s n k p marks m h e in_rows named = record {
+  as_many = length-set marks p true ∙ m.as_many;
+  each = λ i d l.
+      let more = carried-more c s n (get_or rows i d).number (Some k) e h in
+      elim (cases_order i p) [
+        | inl same ↦
+            let at : get_or (set marks p true) i false ≡ true =
+            (rw same (get_or-set_same marks p true false (let q : length marks ≡ length rows = m.as_many in omega arith))) in
+            let name : (get_or rows i d).number ≡ k = rw same (named d) in
+            at ∙ sym (more ∙ rw (eq-eqb (get_or rows i d).number k name) refl)
+        | inr (inl lt) ↦
+            let ne : i ≢ p = omega arith in
+            let below : (get_or rows i d).number < (get_or rows p d).number = rows-rise-lt rows r i p d lt in_rows in
+            let name : (get_or rows p d).number ≡ k = named d in
+            get_or-set_other marks p i true false ne ∙ m.each i d l
+            ∙ sym (more ∙ rw (ne_eqb (get_or rows i d).number k (λ q. absurd (omega arith))) refl)
+        | inr (inr gt) ↦
+            let ne : i ≢ p = omega arith in
+            let below : (get_or rows p d).number < (get_or rows i d).number = rows-rise-lt rows r p i d gt l in
+            let name : (get_or rows p d).number ≡ k = named d in
+            get_or-set_other marks p i true false ne ∙ m.each i d l
+            ∙ sym (more ∙ rw (ne_eqb (get_or rows i d).number k (λ q. absurd (omega arith))) refl)
+      ];
+}
+
+pub carried-none : (c : Slots) (s n k : ℕ) → n ≤ s → is_carried c s n k ≡ false
+carried-none c s zero k h = refl
+carried-none c s (suc n) k h = rw (lt-leb s n (omega arith)) (carried-none c s n k (omega arith))
+
+pub replicate-false : (n i : ℕ) → get_or (replicate n false) i false ≡ false
+replicate-false zero i = refl
+replicate-false (suc n) zero = refl
+replicate-false (suc n) (suc i) = replicate-false n i
+
+pub length-replicate : (n : ℕ) (b : Bool) → length (replicate n b) ≡ n
+length-replicate zero b = refl
+length-replicate (suc n) b = ap suc (length-replicate n b)
+
+-- no slot yet
+pub marks-start : (rows : List JobRow) (c : Slots) (s : ℕ) (marks : List Bool) → marks ≡ replicate (length rows) false
+    → AreMarks rows c s s marks
+marks-start rows c s marks e = record {
+  as_many = ap length e ∙ length-replicate (length rows) false;
+  each = λ i d l.
+      ap (λ (m : List Bool). get_or m i false) e ∙ replicate-false (length rows) i ∙ sym (carried-none c s s (get_or rows i d).number (omega arith));
+}
+
+-- one row more
+pub marked-more : (rows : List JobRow) (c : Slots) (s n : ℕ) (marks : List Bool) → AreMarks rows c s n marks
+    → (i : ℕ) (d : JobRow) (b : Bool) → i < length rows → get_or marks i false ≡ b
+    → filter (is_carried c s n) (take (i + 1) (map (λ (r : JobRow). r.number) rows))
+    ≡ filter (is_carried c s n) (take i (map (λ (r : JobRow). r.number) rows)) ++ cond b ((get_or rows i d).number ∷ []) []
+marked-more rows c s n marks m i d b h mark =
+    let p : ℕ → Bool = is_carried c s n in
+    let xs : List ℕ = map (λ (r : JobRow). r.number) rows in
+    let l : length xs ≡ length rows = map-length rows in
+    let at : get_or xs i 0 ≡ (get_or rows i d).number = map-get rows i d 0 h in
+    let q : p (get_or rows i d).number ≡ b = sym (m.each i d h) ∙ mark in
+    filter_more p xs i 0 (omega arith) ∙ rw (at, q) refl
+
+pub marked-yes : (rows : List JobRow) (c : Slots) (s n : ℕ) (marks : List Bool) → AreMarks rows c s n marks
+    → (i : ℕ) (d : JobRow) (jobs : List ℕ) → i < length rows → get_or marks i false ≡ true
+    → jobs ≡ filter (is_carried c s n) (take i (map (λ (r : JobRow). r.number) rows))
+    → jobs ++ (get_or rows i d).number ∷ [] ≡ filter (is_carried c s n) (take (i + 1) (map (λ (r : JobRow). r.number) rows))
+marked-yes rows c s n marks m i d jobs h mark e =
+    ap (λ (js : List ℕ). js ++ (get_or rows i d).number ∷ []) e ∙ sym (marked-more rows c s n marks m i d true h mark)
+
+pub marked-no : (rows : List JobRow) (c : Slots) (s n : ℕ) (marks : List Bool) → AreMarks rows c s n marks
+    → (i : ℕ) (jobs : List ℕ) → i < length rows → get_or marks i false ≡ false
+    → jobs ≡ filter (is_carried c s n) (take i (map (λ (r : JobRow). r.number) rows))
+    → jobs ≡ filter (is_carried c s n) (take (i + 1) (map (λ (r : JobRow). r.number) rows))
+marked-no rows c s n marks m i jobs h mark e =
+    let d : JobRow = record { number = 0; release = 0; due = 0; work = 0; completion = None } in
+    e ∙ sym (append-nil _) ∙ sym (marked-more rows c s n marks m i d false h mark)

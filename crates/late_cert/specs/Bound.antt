@@ -1,0 +1,36 @@
+-- What a certificate is, and what it says of every schedule.
+use Rattle.std.specs.Prelude.{◌≡◌, ℕ, ◌+◌, ◌<◌, ◌≤◌, Bool, true, false, eqb, ◌||◌, List, [], ◌∷◌, length, Some, sum_by, ◌≤ℤ◌}
+use Rattle.std.specs.List.Sorted.{IsStrictlyIncreasing}
+use Rattle.late_cert.specs.declared.rows.JobRow.{JobRow}
+use Rattle.late_cert.specs.Schedule.{Slots, slot_at, work_in, completion_in, lateness_of}
+use Rattle.late_cert.specs.Rows.{is_done, release_of, due_of, work_of}
+
+-- the number stands in the list
+abbrev pub is_listed : List ℕ → ℕ → Bool
+is_listed [] k = false
+is_listed (j ∷ js) k = eqb j k || is_listed js k
+
+-- a listed job is done, took a slot at least, was released in the stretch and is due with it
+pub record IsInStretch (rows : List JobRow) (start due j : ℕ) : Type 0 where
+  pub done : is_done rows j ≡ true
+  pub works : 0 < work_of rows j
+  pub released : start ≤ release_of rows j
+  pub due_by : due_of rows j ≤ due
+
+-- a certificate: these jobs, and no idle slot, fill the slots from start to completion
+pub record IsCertificate (rows : List JobRow) (start due completion : ℕ) (jobs : List ℕ) : Type 0 where
+  pub filled : 0 < length jobs
+  pub rising : IsStrictlyIncreasing jobs
+  pub each : (j : ℕ) → is_listed jobs j ≡ true → IsInStretch rows start due j
+  pub sum : sum_by (work_of rows) jobs + start ≡ completion
+
+-- the schedule gives each of the jobs its work, and no slot below its release
+pub record Serves (rows : List JobRow) (jobs : ℕ → Bool) (f : Slots) : Type 0 where
+  pub works : (j : ℕ) → jobs j ≡ true → work_in f j ≡ work_of rows j
+  pub released : (j t : ℕ) → jobs j ≡ true → slot_at f t ≡ Some j → release_of rows j ≤ t
+
+-- every schedule that serves the jobs completes one of them with this lateness or a greater one
+abbrev pub BindsEverySchedule : List JobRow → ℕ → ℕ → List ℕ → Type 0
+BindsEverySchedule rows due completion jobs =
+    (f : Slots) → Serves rows (is_listed jobs) f
+    → (j : ℕ) × (is_listed jobs j ≡ true) × (lateness_of completion due ≤ℤ lateness_of (completion_in f j) (due_of rows j))

@@ -1,0 +1,42 @@
+-- The verdict on a certificate: that it holds, or the first fault.
+use Rattle.std.specs.Prelude.{ℕ, ◌+◌, Bool, true, cond, eqb, ltb, ◌&&◌, ◌||◌, List, [], ◌∷◌, Option, Some, None, is_none, sum_by}
+use Rattle.late_cert.specs.declared.rows.JobRow.{JobRow}
+use Rattle.late_cert.specs.declared.verdicts.Verdict.{Verdict}
+use Rattle.late_cert.specs.declared.verdicts.Verdict.TheVariants.{Holds, Empty, NotRising, UnknownJob, Unfinished, EarlyRelease, LateDue, WrongSum}
+use Rattle.late_cert.specs.Rows.{row_of, work_of}
+
+-- each number is below the next one
+abbrev pub is_rising_after : ℕ → List ℕ → Bool
+is_rising_after x [] = true
+is_rising_after x (y ∷ ys) = ltb x y && is_rising_after y ys
+
+abbrev pub is_rising : List ℕ → Bool
+is_rising [] = true
+is_rising (x ∷ xs) = is_rising_after x xs
+
+-- what is wrong with the row of a listed number
+abbrev pub fault_of : ℕ → ℕ → Option JobRow → Option Verdict
+fault_of start due None = Some UnknownJob
+fault_of start due (Some row) =
+    cond (is_none row.completion || eqb row.work 0) (Some Unfinished)
+    (cond (ltb row.release start) (Some EarlyRelease) (cond (ltb due row.due) (Some LateDue) None))
+
+abbrev pub or_else : Option Verdict → Option Verdict → Option Verdict
+or_else None o = o
+or_else (Some v) o = Some v
+
+-- the first fault of the listed numbers, in their order
+abbrev pub first_fault : List JobRow → ℕ → ℕ → List ℕ → Option Verdict
+first_fault rows start due [] = None
+first_fault rows start due (j ∷ js) = or_else (fault_of start due (row_of rows j)) (first_fault rows start due js)
+
+abbrev pub last_verdict : Option Verdict → Bool → Verdict
+last_verdict (Some v) fits = v
+last_verdict None fits = cond fits Holds WrongSum
+
+abbrev pub verdict_of : List JobRow → ℕ → ℕ → ℕ → List ℕ → Verdict
+verdict_of rows start due completion [] = Empty
+verdict_of rows start due completion (j ∷ js) =
+    cond (is_rising (j ∷ js))
+    (last_verdict (first_fault rows start due (j ∷ js)) (eqb (sum_by (work_of rows) (j ∷ js) + start) completion))
+    NotRising

@@ -1,0 +1,60 @@
+//! What certificates say of every schedule, and what makes them. Each law is a function that does nothing.
+//!
+//! Least lateness under least keys first is Horn's (W. A. Horn, Some simple scheduling algorithms, 1974).
+
+ghost use Rattle.std.specs.Prelude.{◌≡◌, ℕ, ◌<◌, ◌≤◌, List, [], ◌∷◌, ◌++◌, Option, Some, IsSome, true};
+ghost use Rattle.late_cert.specs.declared.rows.JobRow.{JobRow};
+ghost use Rattle.late_cert.specs.Schedule.{Slots, slot_at};
+ghost use Rattle.late_cert.specs.Rows.{is_done, release_of, due_of, completion_of};
+ghost use Rattle.late_cert.specs.Bound.{IsCertificate, BindsEverySchedule};
+ghost use Rattle.late_cert.specs.Stretch.{IsStretch, CarriesLeastKeys, IsLeastLate};
+ghost use Rattle.late_cert.specs.Build.{certificate_of};
+ghost use Rattle.late_cert.specs.Moments.{AcceptsJob, WaivesJob, CarriesSlot};
+
+/// A certificate binds every schedule that serves its jobs, whoever made it.
+pub fn certificates_bind_every_schedule()
+    ensures { (rows : List JobRow) (start due completion : ℕ) (jobs : List ℕ) →
+        IsCertificate rows start due completion jobs → BindsEverySchedule rows due completion jobs }
+{}
+
+/// Where each slot carried a least key, the stretch of a done job is a certificate.
+pub fn stretches_are_certificates()
+    ensures { (rows : List JobRow) (carried : Slots) → CarriesLeastKeys rows carried →
+        (j : ℕ) → is_done rows j ≡ true → (start : ℕ) (jobs : List ℕ) →
+        IsStretch rows carried j start (completion_of rows j) jobs →
+        IsCertificate rows start (due_of rows j) (completion_of rows j) jobs }
+{}
+
+/// Where each slot carried a least key, every done job has a certificate, which [`build`](crate::build) then answers.
+pub fn done_jobs_have_certificates()
+    ensures { (rows : List JobRow) (carried : Slots) → CarriesLeastKeys rows carried →
+        (j : ℕ) → is_done rows j ≡ true → IsSome (certificate_of rows carried j) }
+{}
+
+/// Where each slot carried a least key, no schedule that serves the done jobs has a smaller greatest lateness.
+pub fn least_keys_are_least_late()
+    ensures { (rows : List JobRow) (carried : Slots) →
+        CarriesLeastKeys rows carried → IsLeastLate rows carried }
+{}
+
+/// What a stretch carries was released in it and is due by its due, wherever the stretch ends.
+pub fn stretches_carry_what_was_released_in_them()
+    ensures { (rows : List JobRow) (carried : Slots) → CarriesLeastKeys rows carried →
+        (j start end : ℕ) (jobs : List ℕ) → IsStretch rows carried j start end jobs →
+        (t k : ℕ) → start ≤ t → t < end → slot_at carried t ≡ Some k →
+        (start ≤ release_of rows k) × (due_of rows k ≤ due_of rows j) }
+{}
+
+/// Least keys stay least as jobs are accepted and waived and slots are carried.
+pub fn least_keys_are_kept()
+    ensures none { CarriesLeastKeys [] [] }
+    ensures accept { (rows later : List JobRow) (carried : Slots) (j : ℕ) →
+        CarriesLeastKeys rows carried → AcceptsJob rows later carried j →
+        CarriesLeastKeys later carried }
+    ensures waive { (rows later : List JobRow) (carried : Slots) (j : ℕ) →
+        CarriesLeastKeys rows carried → WaivesJob rows later j →
+        CarriesLeastKeys later carried }
+    ensures slot { (rows later : List JobRow) (carried : Slots) (slot : Option ℕ) →
+        CarriesLeastKeys rows carried → CarriesSlot rows later carried slot →
+        CarriesLeastKeys later (carried ++ slot ∷ []) }
+{}
