@@ -1,0 +1,3 @@
+pub mod PlainFields
+pub mod Written
+pub mod PlainRecords

@@ -1,0 +1,4 @@
+pub mod Number
+pub mod JobRows
+pub mod ReportText
+pub mod Commas
