@@ -1,13 +1,21 @@
 //! Plans, scripts and reports as texts.
 #![tactic(auto)]
 
+mod bounded;
+mod items;
 mod numbers;
+mod ops;
 mod plan_texts;
 mod report_texts;
 mod reports;
+mod rows;
+mod scripts;
+mod steps;
 mod stores;
 mod tables;
 
+pub use items::ScriptItem;
 pub use report_texts::write_report;
 pub use reports::{DieReport, Report, ReportRow, ReportRows, RowKind};
+pub use scripts::ScriptReader;
 pub use stores::read_plan;
