@@ -4,5 +4,5 @@ pub mod PlainRecords
 pub mod TableLaws
 pub mod PlanLaws
 pub mod RowLaws
-pub mod OpLaws
+pub mod WordLaws
 pub mod StepLaws

@@ -6,6 +6,7 @@ pub mod Tables
 pub mod PlanText
 pub mod Stores
 pub mod Readings
+pub mod Words
 pub mod Ops
 pub mod Bounded
 pub mod Plain
@@ -14,3 +15,5 @@ pub mod Header
 pub mod Items
 pub mod Script
 pub mod Left
+pub mod ReportRows
+pub mod Worst

@@ -2,11 +2,12 @@
 
 ghost use Rattle.std.specs.Prelude.{◌≡◌, ◌<◌, length, IfOk};
 ghost use Rattle.csv.specs.Records.{fields_of};
-ghost use Rattle.task_script.specs.Items.{collects_at, event_of, field_or, item_of, number_at};
+ghost use Rattle.task_script.specs.Items.{collects_at, event_of, item_of, number_at};
 ghost use Rattle.task_script.specs.Readings.{Gives};
 
 use crate::numbers::number;
 use crate::ops::ops;
+use crate::rows::field_in;
 use csv::ByteRecord;
 use slot_types::{Cause, Event, Refusal, TaskNo};
 use std::alloc::Global;
@@ -53,16 +54,6 @@ fn collects_in(row: &ByteRecord, line: u32) -> Result<bool, Refusal>
         Ok(true)
     } else {
         Err(fault)
-    }
-}
-
-/// The operations' field of a row.
-fn ops_field(row: &ByteRecord) -> &[u8]
-    ensures { result.now ≡ field_or (fields_of row.now) 6 }
-{
-    match row.get(6) {
-        Some(field) => field,
-        None => b"".as_slice(),
     }
 }
 
@@ -132,7 +123,7 @@ pub fn item(
             cause: Cause::At,
         });
     }
-    let event = event(alloc, line, collects, TaskNo(task), release, due, ops_field(row))?;
+    let event = event(alloc, line, collects, TaskNo(task), release, due, field_in(row, 6))?;
     Ok(ScriptItem {
         line,
         at,

@@ -6,6 +6,8 @@ mod items;
 mod numbers;
 mod ops;
 mod plan_texts;
+mod report_certs;
+mod report_rows;
 mod report_texts;
 mod reports;
 mod rows;
@@ -13,6 +15,7 @@ mod scripts;
 mod steps;
 mod stores;
 mod tables;
+mod words;
 
 pub use items::ScriptItem;
 pub use report_texts::write_report;

@@ -3,6 +3,7 @@
 ghost use Rattle.std.specs.Prelude.{◌≡◌, IfOk, IfErr, option_map};
 ghost use Rattle.csv.specs.Records.{fields_of, field_at};
 ghost use Rattle.task_script.specs.Header.{has_text, is_script_header};
+ghost use Rattle.task_script.specs.Items.{field_or};
 ghost use Rattle.task_script.specs.Plain.{IsPlain};
 ghost use Rattle.task_script.specs.Readings.{IsOutside};
 ghost use Rattle.task_script.specs.Rows.{TakesRow, rows_left, rows_of};
@@ -39,8 +40,18 @@ pub fn take_row<R: Read>(rows: &mut Reader<R>, row: &mut ByteRecord) -> Result<b
     }
 }
 
+/// A field of a record; nothing where there is none.
+pub fn field_in(row: &ByteRecord, place: usize) -> &[u8]
+    ensures { result.now ≡ field_or (fields_of row.now) place }
+{
+    match row.get(place) {
+        Some(field) => field,
+        None => b"".as_slice(),
+    }
+}
+
 /// Whether a field of a record is this text.
-fn is_named(row: &ByteRecord, place: usize, name: &str) -> bool
+pub fn is_named(row: &ByteRecord, place: usize, name: &str) -> bool
     ensures { result ≡ has_text (field_at (fields_of row.now) place) name.now }
 {
     match row.get(place) {

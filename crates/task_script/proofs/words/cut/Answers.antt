@@ -1,7 +1,7 @@
-use Rattle.std.proofs.Common.{◌≡◌, ◌==◌, ◌+◌, ◌∷◌, ap, sym, ◌∙◌, take}
+use Rattle.std.proofs.Common.{◌==◌, ◌+◌, ◌∷◌, ap, sym, ◌∙◌, take}
 use Rattle.std.specs.List.{slice_split}
-use Rattle.task_script.proofs.OpLaws.{from-place, split-found, split-unfound}
-use Rattle.task_script.proofs.ops.cut.Goals as goal
+use Rattle.task_script.proofs.WordLaws.{from-place, split-found, split-unfound}
+use Rattle.task_script.proofs.words.cut.Goals as goal
 
 pub returns-in-Some-clause-parts : goal.returns-in-Some-clause-parts
 returns-in-Some-clause-parts c =
