@@ -9,3 +9,7 @@ pub mod StepLaws
 pub mod RecordLaws
 pub mod ProgressLaws
 pub mod ReadingLaws
+pub mod FieldsBack
+pub mod RecordsBack
+pub mod RowsBack
+pub mod CertsBack
