@@ -1,7 +1,6 @@
 -- The certificates of a well-formed report read as they were.
-use Rattle.std.proofs.Common.{◌≡◌, ℕ, ◌+◌, ◌<◌, ◌≤◌, ◌==◌, ◌^◌, List, [], ◌∷◌, ◌++◌, Bool, true, false, Option, Some, None, Result, Ok, Err, length, map, refl, sym, ap, ◌∙◌, arith}
-use Rattle.std.specs.Prelude.{decimal, flat_map, ℤ}
-use Rattle.std.specs.Fmt.{signed_decimal}
+use Rattle.std.proofs.Common.{◌≡◌, ℕ, ◌+◌, ◌<◌, ◌^◌, List, [], ◌∷◌, ◌++◌, true, Option, Some, None, Ok, length, map, refl, sym, ap, ◌∙◌, arith}
+use Rattle.std.specs.Prelude.{flat_map}
 use Rattle.std.specs.Ordering.{int_eq}
 use Rattle.std.proofs.lemmas.Bool.{eq-eqb}
 use Rattle.std.proofs.lemmas.Bool.Decides.{Decides-int_eq}
@@ -11,8 +10,8 @@ use Rattle.late_cert.specs.declared.certificates.Certificate.{Certificate}
 use Rattle.task_script.specs.ReportOf.{Reading, certs_for, certs_from}
 use Rattle.task_script.specs.ReportText.{cert_fields, cert_record, cert_record_of}
 use Rattle.task_script.specs.Rows.{Fields}
-use Rattle.task_script.specs.WellFormed.{AreDies, AreRows, HasCert, IsCert, IsDie, finish_in, on_die}
-use Rattle.task_script.specs.Worst.{cert_of, late, worst_of}
+use Rattle.task_script.specs.WellFormed.{AreDies, AreRows, HasCert, IsCert, finish_in, on_die}
+use Rattle.task_script.specs.Worst.{cert_of, worst_of}
 use Rattle.task_script.specs.declared.report_certs.Finish.{Finish}
 use Rattle.task_script.specs.declared.reports.DieReport.{DieReport}
 use Rattle.task_script.specs.declared.reports.ReportRow.{ReportRow}

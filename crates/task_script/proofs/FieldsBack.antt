@@ -1,20 +1,19 @@
 -- Each field of a report reads as what was written.
-use Rattle.std.proofs.Common.{◌≡◌, ℕ, ◌+◌, ◌-◌, ◌*◌, ◌<◌, ◌≤◌, ◌==◌, List, [], ◌∷◌, ◌++◌, Bool, true, false, Option, Some, None, length, length-append, get_or, map, refl, sym, ap, ◌∙◌, rules, arith, zero, suc}
-use Rattle.std.specs.Prelude.{decimal, ◌&&◌, ◌||◌, nat_lt, ◌^◌, ℤ, pos, negsuc, option_map, IfSome, All}
+use Rattle.std.proofs.Common.{◌≡◌, ℕ, ◌+◌, ◌-◌, ◌*◌, ◌<◌, ◌==◌, List, [], ◌∷◌, ◌++◌, true, false, Option, Some, None, length, length-append, get_or, map, refl, ap, ◌∙◌, rules, arith, suc}
+use Rattle.std.specs.Prelude.{decimal, nat_lt, ◌^◌, ℤ, pos, negsuc, option_map, IfSome, All}
 use Rattle.std.specs.Char.{is_ascii_digit}
 use Rattle.std.specs.Fmt.{signed_decimal}
-use Rattle.std.specs.List.{join_with_byte, slice_split, list_any}
+use Rattle.std.specs.List.{join_with_byte, slice_split}
 use Rattle.std.specs.Str.{all_ascii_digits}
 use Rattle.std.proofs.lemmas.Bool.{and_parts, ne_eqb}
 use Rattle.std.proofs.lemmas.Fmt.{decimal_nonempty, digits_decimal, digits_value-decimal, length-decimal-le}
 use Rattle.std.proofs.lemmas.List.Elements.{All-head, All-tail}
 use Rattle.std.proofs.lemmas.Str.Parse.{IsNumeralModel, numerals_by_fold}
-use Rattle.hex.specs.Hex.{encode_lower}
 use Rattle.hex.proofs.HexLemmas.{decode_sized-encode_lower, length-encode_with}
 use Rattle.hex.specs.Hex.{lower_digits}
 use Rattle.slot_types.specs.declared.pages.PageData.{PageData}
 use Rattle.task_script.specs.Number.{number_from, number_of}
-use Rattle.task_script.specs.ReportRows.{above_zero, below_zero, if_filled, lateness_in}
+use Rattle.task_script.specs.ReportRows.{above_zero, if_filled, lateness_in}
 use Rattle.task_script.specs.ReportText.{lateness_field, number_field, numbers_field, page_word, pages_field}
 use Rattle.task_script.specs.WellFormed.{IsPage}
 use Rattle.task_script.specs.Words.{all_of, list_of, page_of}

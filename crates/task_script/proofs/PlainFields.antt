@@ -1,12 +1,12 @@
 -- The fields of a report need no quotes, so csv writes them as they are.
-use Rattle.std.proofs.Common.{◌≡◌, ℕ, ◌+◌, ◌*◌, ◌/◌, ◌%◌, ◌<◌, ◌≤◌, ◌^◌, ◌==◌, List, [], ◌∷◌, ◌++◌, Bool, true, false, Option, Some, None, length, map, get_or, refl, sym, ap, ◌∙◌, append_assoc, arith, zero, suc, inl, inr, Result, Ok, Err, OnOk}
-use Rattle.std.specs.Prelude.{ℤ, pos, negsuc, codes, decimal, flat_map, ◌||◌, ◌&&◌, slice_index, nat_lt}
-use Rattle.std.specs.List.{list_any, list_all, join_with_byte}
+use Rattle.std.proofs.Common.{◌≡◌, ℕ, ◌+◌, ◌/◌, ◌%◌, ◌≤◌, ◌==◌, List, [], ◌∷◌, ◌++◌, Bool, true, false, map, get_or, refl, sym, ap, ◌∙◌, append_assoc, arith, zero, suc, inl, inr, Result, Ok, Err, OnOk}
+use Rattle.std.specs.Prelude.{ℤ, pos, negsuc, decimal, flat_map, ◌||◌, slice_index, nat_lt}
+use Rattle.std.specs.List.{list_any, join_with_byte}
 use Rattle.std.specs.Fmt.{signed_decimal, digits, digits_onto, digit_glyph}
 use Rattle.std.proofs.lemmas.Bool.{ne_eqb, cases_Bool}
 use Rattle.std.proofs.lemmas.List.{append-nil}
 use Rattle.std.proofs.lemmas.List.Folds.{list_any-append}
-use Rattle.csv.specs.Writing.{default_writer, needs_byte, row_text, fields_text, is_blank, field_text}
+use Rattle.csv.specs.Writing.{default_writer, needs_byte, row_text, fields_text, is_blank}
 use Rattle.task_script.specs.Commas.{after_commas}
 use Rattle.hex.specs.Hex.{encode_with, encode_lower, lower_digits}
 

@@ -1,20 +1,16 @@
 -- The rows of a well-formed report are gathered as they were.
-use Rattle.std.proofs.Common.{◌≡◌, ℕ, ◌+◌, ◌-◌, ◌<◌, ◌≤◌, ◌==◌, ◌^◌, List, [], ◌∷◌, ◌++◌, Bool, true, false, Option, Some, None, Result, Ok, Err, length, length-append, map, refl, sym, ap, ◌∙◌, subst, append_assoc, arith, zero, suc, ◌⊎◌, inl, inr}
-use Rattle.std.specs.Prelude.{decimal, ◌&&◌, nat_le, nat_lt, is_none, is_some, flat_map, ℤ, pos, negsuc, IfSome, All}
-use Rattle.std.specs.Fmt.{signed_decimal}
-use Rattle.std.specs.Ordering.{int_eq}
+use Rattle.std.proofs.Common.{◌≡◌, ℕ, ◌+◌, ◌<◌, ◌≤◌, ◌==◌, ◌^◌, List, [], ◌∷◌, ◌++◌, true, false, Option, Some, None, length, length-append, map, refl, sym, ap, ◌∙◌, append_assoc, arith, zero, suc, ◌⊎◌, inl, inr}
+use Rattle.std.specs.Prelude.{◌&&◌, nat_le, nat_lt, is_none, is_some, flat_map, ℤ, IfSome}
 use Rattle.std.proofs.lemmas.Bool.{and_parts, cases_Bool, eq-eqb, eqb-true, leb-true, lt-ltb, ltb-true, ne_eqb}
 use Rattle.std.proofs.lemmas.Bool.Decides.{Decides-int_eq}
 use Rattle.std.proofs.lemmas.List.{append-nil}
 use Rattle.csv.specs.Records.{field_at}
 use Rattle.late_cert.specs.Schedule.{lateness_of}
-use Rattle.slot_types.specs.declared.pages.PageData.{PageData}
-use Rattle.task_script.specs.Number.{number_of}
-use Rattle.task_script.specs.ReportOf.{Reading, all_dies, certs_from, gathered_with, if_follows, may_follow, no_rows, report_on, rows_from, with_row}
-use Rattle.task_script.specs.ReportRows.{has_outcome, if_sound, is_done, is_late, is_placed, is_sound, is_timed, kind_in, lateness_in, row_in, sound_row}
-use Rattle.task_script.specs.ReportText.{cert_record, cert_record_of, die_records, kind_word, lateness_field, number_field, pages_field, row_fields}
+use Rattle.task_script.specs.ReportOf.{Reading, all_dies, certs_from, may_follow, no_rows, report_on, rows_from, with_row}
+use Rattle.task_script.specs.ReportRows.{has_outcome, is_done, is_late, is_placed, is_sound, is_timed, kind_in, row_in, sound_row}
+use Rattle.task_script.specs.ReportText.{cert_record, cert_record_of, die_records, kind_word, row_fields}
 use Rattle.task_script.specs.Rows.{Fields}
-use Rattle.task_script.specs.WellFormed.{AreDies, AreRows, IsDie, IsRow, on_die}
+use Rattle.task_script.specs.WellFormed.{AreDies, AreRows, IsRow, on_die}
 use Rattle.task_script.specs.Worst.{is_cert}
 use Rattle.late_cert.specs.declared.certificates.Certificate.{Certificate}
 use Rattle.task_script.specs.declared.gathered.Gathered.{Gathered}
@@ -150,10 +146,12 @@ rows-on done die before (row ∷ rows) more are line =
     let longer : length (before ++ row ∷ []) ≡ length before + 1 = length-append before (row ∷ []) in
     let rest : AreRows die (length (before ++ row ∷ [])) rows = rw longer are.1 in
     let step = rows-on done die (before ++ row ∷ []) rows more rest (line + 1) in
-    let made : with_row g (on_die die row) ≡ record { done = done; die = die; rows = before ++ row ∷ [] } = rw (same-die die) refl in
-    (step.0, one-row g die (length before) line row (map (row_fields die) rows ++ more) are.0 follows
-    ∙ ap (λ h. rows_from h (line + 1) (map (row_fields die) rows ++ more)) made ∙ step.1
-    ∙ ap (λ rs. rows_from (record { done = done; die = die; rows = rs }) step.0 more) (append_assoc before (row ∷ []) rows))
+    let made : with_row g (on_die die row) ≡ record { done = done; die = die; rows = before ++ row ∷ [] } = rw (same-die die) refl in (
+      step.0,
+      one-row g die (length before) line row (map (row_fields die) rows ++ more) are.0 follows
+          ∙ ap (λ h. rows_from h (line + 1) (map (row_fields die) rows ++ more)) made ∙ step.1
+          ∙ ap (λ rs. rows_from (record { done = done; die = die; rows = rs }) step.0 more) (append_assoc before (row ∷ []) rows),
+    )
 
 -- a later die may begin, or any die where no row was
 abbrev pub Begins : Gathered → ℕ → Type 0
@@ -188,9 +186,11 @@ die-on : (g : Gathered) (die : ℕ) (rows : List ReportRow) (more : List Fields)
 die-on g die [] more some are begins line = absurd (omega arith)
 die-on g die (row ∷ rows) more some are begins line =
     let follows = first-follows g die row begins are.0.number in
-    let step = rows-on (all_dies g) die (row ∷ []) rows more are.1 (line + 1) in
-    (step.0, one-row g die 0 line row (map (row_fields die) rows ++ more) are.0 follows
-    ∙ ap (λ h. rows_from h (line + 1) (map (row_fields die) rows ++ more)) (first-row g die row begins) ∙ step.1)
+    let step = rows-on (all_dies g) die (row ∷ []) rows more are.1 (line + 1) in (
+      step.0,
+      one-row g die 0 line row (map (row_fields die) rows ++ more) are.0 follows
+          ∙ ap (λ h. rows_from h (line + 1) (map (row_fields die) rows ++ more)) (first-row g die row begins) ∙ step.1,
+    )
 
 -- all dies of a report are gathered, and then comes what follows
 pub record AllGathered (g : Gathered) (dies : List DieReport) (line : ℕ) (records more : List Fields) : Type 0 where

@@ -1,5 +1,5 @@
 -- How an item follows from the records.
-use Rattle.std.proofs.Common.{◌≡◌, ◌≢◌, ℕ, ◌+◌, List, [], ◌∷◌, Bool, true, false, Option, Some, None, Result, Ok, Err, refl, sym, ap, ◌∙◌, ◌<◌, ◌==◌, ◌⊎◌, inl, inr, max, arith}
+use Rattle.std.proofs.Common.{◌≡◌, ◌≢◌, ℕ, ◌+◌, List, [], Bool, true, false, Option, Some, None, Result, Ok, Err, refl, ap, ◌∙◌, ◌<◌, ◌==◌, ◌⊎◌, inl, inr, max, arith}
 use Rattle.std.proofs.lemmas.Bool.{ne_eqb}
 use Rattle.std.specs.Prelude.{nat_lt, option_map, if◌then◌else◌}
 use Rattle.slot_types.specs.declared.refusals.Cause.TheVariants as cause
@@ -11,7 +11,7 @@ use Rattle.task_script.specs.Items.{item_of}
 use Rattle.task_script.specs.Left.{unless_refused}
 use Rattle.task_script.specs.Readings.{IsOutside}
 use Rattle.task_script.specs.Rows.{Fields, TakesRow}
-use Rattle.task_script.specs.Script.{Script, StepOf, Yields, after_item, items_from, script_from, script_at, with_front}
+use Rattle.task_script.specs.Script.{Script, StepOf, Yields, after_item, items_from, script_from, script_at}
 
 -- a refusal of no row says nothing of the records
 pub step-outside : (before : List Fields → Script) (after : ScriptItem → List Fields → Script) (old new : Option (List Fields)) (e : Refusal) → IsOutside e → StepOf before after old new (Err e)

@@ -1,11 +1,11 @@
 -- How the words of a field are read, one by one.
-use Rattle.std.proofs.Common.{◌≡◌, ℕ, ◌+◌, ◌<◌, List, [], ◌∷◌, ◌++◌, Bool, true, false, Option, Some, None, ◌-◌, length, take, drop, length-drop, refl, sym, ap, ◌∙◌, append_assoc, arith, inl, inr, ◌⊎◌, Result, Ok, Err}
+use Rattle.std.proofs.Common.{◌≡◌, ℕ, ◌+◌, List, [], ◌∷◌, ◌++◌, Bool, Option, Some, None, ◌-◌, length, take, drop, length-drop, refl, sym, ap, ◌∙◌, append_assoc, arith, inl, inr}
 use Rattle.std.specs.Prelude.{nat_lt}
-use Rattle.std.specs.List.{position, position_or_len, slice_split, onto_first}
+use Rattle.std.specs.List.{position, position_or_len, slice_split}
 use Rattle.std.proofs.lemmas.Bool.{cases_Bool}
 use Rattle.std.proofs.lemmas.List.{append-nil, take_all}
 use Rattle.std.proofs.lemmas.List.Sums.{prefix_len-le-length}
-use Rattle.std.proofs.lemmas.List.Splits.{slice_split_first, slice_split-cons_no}
+use Rattle.std.proofs.lemmas.List.Splits.{slice_split_first}
 use Rattle.task_script.specs.Words.{all_of, and_word, words_of}
 
 -- these, and then those that are read

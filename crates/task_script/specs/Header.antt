@@ -1,6 +1,6 @@
 -- The headers of scripts and of reports.
 use Rattle.std.specs.Cmp.Lexicographic.{pointwise}
-use Rattle.std.specs.Prelude.{ℕ, ◌==◌, ◌&&◌, Bool, true, false, List, length, codes, Option, Some, None, nat_eq}
+use Rattle.std.specs.Prelude.{ℕ, ◌==◌, ◌&&◌, Bool, false, List, length, codes, Option, Some, None, nat_eq}
 use Rattle.csv.specs.Records.{field_at}
 
 -- whether there is a field, and it is this text

@@ -1,5 +1,5 @@
 -- What a row of a report says, if it is of the right shape and its numbers agree.
-use Rattle.std.specs.Prelude.{ℕ, ◌-◌, ◌==◌, ◌&&◌, nat_lt, nat_le, is_some, is_none, Bool, true, false, List, [], ◌∷◌, codes, length, Option, Some, None, option_map, option_and_then, ℤ, pos, negsuc, if◌then◌else◌, unwrap_or}
+use Rattle.std.specs.Prelude.{ℕ, ◌-◌, ◌==◌, ◌&&◌, nat_lt, nat_le, is_some, is_none, Bool, false, List, [], ◌∷◌, codes, length, Option, Some, None, option_map, option_and_then, ℤ, pos, negsuc, if◌then◌else◌}
 use Rattle.std.specs.Ordering.{int_eq}
 use Rattle.csv.specs.Records.{field_at}
 use Rattle.late_cert.specs.Schedule.{lateness_of}

@@ -1,5 +1,5 @@
 -- What a plan asks of its tables.
-use Rattle.std.specs.Prelude.{ℕ, ℤ, pos, negsuc, nat_lt, nat_eq, ◌&&◌, ◌||◌, is_some, Bool, true, false, List, codes, Option, Some, None, option_and_then, Result, Ok, Err, if◌then◌else◌}
+use Rattle.std.specs.Prelude.{ℕ, ℤ, pos, negsuc, nat_lt, nat_eq, ◌&&◌, ◌||◌, is_some, Bool, true, List, codes, Option, Some, None, option_and_then, Result, Ok, Err, if◌then◌else◌}
 use Rattle.std.specs.Cmp.Lexicographic.{pointwise}
 use Rattle.toml.specs.Data.{Members, no_members, member, get_member, as_integer}
 use Rattle.slot_types.specs.declared.refusals.Cause.{Cause}

@@ -123,7 +123,15 @@ pub fn item(
             cause: Cause::At,
         });
     }
-    let event = event(alloc, line, collects, TaskNo(task), release, due, field_in(row, 6))?;
+    let event = event(
+        alloc,
+        line,
+        collects,
+        TaskNo(task),
+        release,
+        due,
+        field_in(row, 6),
+    )?;
     Ok(ScriptItem {
         line,
         at,

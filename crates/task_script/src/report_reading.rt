@@ -32,10 +32,7 @@ fn take_header<R: Read>(records: &mut Records<R>) -> Result<(), Refusal>
 }
 
 /// Takes the rows of all dies.
-fn take_rows<R: Read>(
-    alloc: Global,
-    records: &mut Records<R>,
-) -> Result<Items<DieReport>, Refusal>
+fn take_rows<R: Read>(alloc: Global, records: &mut Records<R>) -> Result<Items<DieReport>, Refusal>
     requires { IsReady records.old }
     ensures read { Reads (rows_from no_rows (record_line records.old)) (λ dies. certs_from dies (record_line records.new)) (records_left R.remaining records.old) (records_left R.remaining records.new) result }
     ensures ready { OnOk result (IsReady records.new) }

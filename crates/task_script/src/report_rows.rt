@@ -137,9 +137,7 @@ fn row(fields: &ByteRecord, reads: Option<Reads>) -> Option<DieRow>
 fn agrees(row: &ReportRow, completion: u32) -> bool
     ensures { result ≡ is_done row.now completion }
 {
-    completion <= MAX_SLOT
-        && 1 <= row.work
-        && row.lateness == Some(lateness(completion, row.due))
+    completion <= MAX_SLOT && 1 <= row.work && row.lateness == Some(lateness(completion, row.due))
 }
 
 /// Whether a row fills the fields that it should, and no others.
@@ -148,9 +146,7 @@ fn fills(row: &ReportRow) -> bool
 {
     match (row.row, row.completion) {
         (RowKind::Job, Some(completion)) => {
-            agrees(row, completion)
-                && row.given.is_none()
-                && row.reads.len() <= MAX_OPS as usize
+            agrees(row, completion) && row.given.is_none() && row.reads.len() <= MAX_OPS as usize
         }
         (RowKind::Collect, Some(completion)) => {
             agrees(row, completion) && row.given.is_some() && row.reads.is_empty()
@@ -163,10 +159,7 @@ fn fills(row: &ReportRow) -> bool
             row.lateness.is_none() && row.given.is_none() && row.reads.is_empty()
         }
         (RowKind::Waived, None) => {
-            row.lateness.is_none()
-                && row.given.is_some()
-                && row.reads.is_empty()
-                && row.work == 0
+            row.lateness.is_none() && row.given.is_some() && row.reads.is_empty() && row.work == 0
         }
     }
 }

@@ -167,9 +167,7 @@ fn put_cert(text: &mut Vec<u8>, die: u32, cert: &Certificate) -> io::Result<()>
 fn put_header(text: &mut Vec<u8>) -> io::Result<()>
     ensures { OnOk result (text.new.items ≡ text.old.items ++ row_text default_writer header_fields) }
 {
-    text.extend_from_slice(
-        b"row,die,job,task,release,due,work,completion,lateness,given,items\n",
-    )?;
+    text.extend_from_slice(b"row,die,job,task,release,due,work,completion,lateness,given,items\n")?;
     Ok(())
 }
 
@@ -229,11 +227,7 @@ fn text_of(alloc: Global, report: &Report) -> io::Result<Vec<u8>>
 ///
 /// NoMemory comes before the first byte, and the writer is as it was. WriteFault comes where the writer fails; how
 /// much it took by then is not said.
-pub fn write_report<W: Write>(
-    alloc: Global,
-    writer: &mut W,
-    report: &Report,
-) -> Result<(), Refusal>
+pub fn write_report<W: Write>(alloc: Global, writer: &mut W, report: &Report) -> Result<(), Refusal>
     ensures written { OnOk result (Appends (W.contents writer.old) (W.contents writer.new) (report_text report.now)) }
     ensures memory { result ≡ Err Refusal.NoMemory → writer.new ≡ writer.old }
     ensures refused { IfErr result (λ refusal. (refusal ≡ Refusal.NoMemory) ⊎ (refusal ≡ Refusal.WriteFault)) }

@@ -85,7 +85,14 @@ impl<R: Read> ScriptReader<R> {
             return Ok(None);
         }
         let line = self.line;
-        match read_step(self.alloc, &mut self.rows, &mut self.row, self.slots, &self.lasts, line) {
+        match read_step(
+            self.alloc,
+            &mut self.rows,
+            &mut self.row,
+            self.slots,
+            &self.lasts,
+            line,
+        ) {
             Ok(Some(item)) => {
                 self.line = line.max(2) + 1;
                 self.lasts[item.die as usize] = item.at;

@@ -1,4 +1,4 @@
-use Rattle.std.proofs.Common.{◌≡◌, ◌∙◌, ap, refl, inl, []}
+use Rattle.std.proofs.Common.{◌∙◌, ap, refl, inl}
 use Rattle.std.specs.Prelude.{flat_map}
 use Rattle.task_script.specs.ReportOf.{certs_from, no_rows, report_from}
 use Rattle.task_script.specs.ReportText.{cert_record}

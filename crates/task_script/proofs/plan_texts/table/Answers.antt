@@ -1,4 +1,4 @@
-use Rattle.std.proofs.Common.{inr, rules, ◌≡◌, ◌∙◌, false, length}
+use Rattle.std.proofs.Common.{inr, rules, ◌≡◌, false, length}
 use Rattle.std.specs.Prelude.{nat_lt}
 use Rattle.toml.specs.View.{table_view}
 use Rattle.task_script.proofs.PlanLaws.{table-no_text, table-found}

@@ -1,4 +1,4 @@
-use Rattle.std.proofs.Common.{inr, rules, ◌≡◌, ◌∙◌, sym, ap, Some, None, Ok, get_or}
+use Rattle.std.proofs.Common.{inr, rules, ◌≡◌, sym, Some, None, get_or}
 use Rattle.toml.specs.Data.{as_table}
 use Rattle.toml.specs.View.{view, table_view}
 use Rattle.task_script.proofs.PlanLaws.{tasks-untabled, tasks-fault, tasks-more, tasks-end}

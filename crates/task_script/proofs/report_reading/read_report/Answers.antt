@@ -1,5 +1,4 @@
-use Rattle.std.proofs.Common.{refl}
-use Rattle.task_script.proofs.ReadingLaws.{tells-fault, tells-text, tells-then}
+use Rattle.task_script.proofs.ReadingLaws.{tells-text, tells-then}
 use Rattle.task_script.specs.Rows.{rows_of}
 use Rattle.task_script.specs.ReportOf.{report_from}
 use Rattle.task_script.proofs.report_reading.read_report.Goals as goal

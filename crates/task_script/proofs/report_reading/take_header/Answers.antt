@@ -1,4 +1,4 @@
-use Rattle.std.proofs.Common.{rules, ◌≡◌, true, ap, sym, refl, ◌∙◌, ◌+◌}
+use Rattle.std.proofs.Common.{rules, ◌≡◌, true, ap, sym, refl, ◌+◌}
 use Rattle.csv.specs.Records.{fields_of}
 use Rattle.task_script.specs.Header.{is_report_header}
 use Rattle.task_script.specs.RecordsLeft.{record_line}

@@ -1,4 +1,4 @@
-use Rattle.std.proofs.Common.{◌≡◌, ◌++◌, ◌∷◌, drop}
+use Rattle.std.proofs.Common.{◌≡◌, ◌++◌, drop}
 use Rattle.std.specs.Prelude.{flat_map}
 use Rattle.task_script.specs.ReportText.{records_text, cert_record}
 use Rattle.task_script.proofs.report_texts.put_certs.Given as goal

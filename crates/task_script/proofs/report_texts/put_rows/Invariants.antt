@@ -1,4 +1,4 @@
-use Rattle.std.proofs.Common.{◌≡◌, ◌++◌, ◌∷◌, drop}
+use Rattle.std.proofs.Common.{◌≡◌, ◌++◌, drop}
 use Rattle.std.specs.Prelude.{map}
 use Rattle.task_script.specs.ReportText.{records_text, row_fields}
 use Rattle.task_script.proofs.report_texts.put_rows.Given as goal

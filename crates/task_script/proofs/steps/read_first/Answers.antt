@@ -1,4 +1,4 @@
-use Rattle.std.proofs.Common.{rules, arith, ◌≡◌, false, true}
+use Rattle.std.proofs.Common.{rules, ◌≡◌, true}
 use Rattle.task_script.proofs.StepLaws.{step-header}
 use Rattle.task_script.proofs.steps.read_first.Goals as goal
 

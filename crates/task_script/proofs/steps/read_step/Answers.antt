@@ -1,4 +1,4 @@
-use Rattle.std.proofs.Common.{rules, arith, ◌≡◌, ◌+◌, false, true, max}
+use Rattle.std.proofs.Common.{rules}
 use Rattle.task_script.proofs.StepLaws.{step-one, step-more}
 use Rattle.task_script.proofs.steps.read_step.Goals as goal
 
