@@ -6,14 +6,14 @@ use Rattle.die_log.specs.Log.{Log, acts}
 use Rattle.die_log.specs.Answers.{run, answer}
 use Rattle.die_log.proofs.Worked.Plans.{roomy, submit, slot, bytes, numbers, worst_of}
 
-abbrev row : Log
-row = run roomy [] (submit 0 1 (Read 7 ∷ []) ∷ slot ∷ [])
+abbrev history : Log
+history = run roomy [] (submit 0 1 (Read 7 ∷ []) ∷ slot ∷ [])
 
-reads : acts 0 row ≡ does.Read 7 (bytes 255) ∷ []
+reads : acts 0 history ≡ does.Read 7 (bytes 255) ∷ []
 unfolding answer
 reads = refl
 
-in_time : worst_of roomy row ≡ Some (0, pos 0)
+in_time : worst_of roomy history ≡ Some (0, pos 0)
 unfolding answer
 in_time = refl
 

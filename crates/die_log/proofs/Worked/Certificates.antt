@@ -10,11 +10,11 @@ use Rattle.die_log.proofs.Worked.EqualDues.{four, five}
 use Rattle.die_log.proofs.Worked.TwoJobsOneDue as one_due
 use Rattle.die_log.proofs.Worked.FillingHistory.{full}
 
-of_the_write : certificate roomy read_after_write.row ≡ Some (record { job = 0; start = 0; due = 2; completion = 1; jobs = 0 ∷ [] })
+of_the_write : certificate roomy read_after_write.history ≡ Some (record { job = 0; start = 0; due = 2; completion = 1; jobs = 0 ∷ [] })
 unfolding answer
 of_the_write = refl
 
-of_the_preempting : certificate roomy preempts.row ≡ Some (record { job = 1; start = 1; due = 3; completion = 2; jobs = 1 ∷ [] })
+of_the_preempting : certificate roomy preempts.history ≡ Some (record { job = 1; start = 1; due = 3; completion = 2; jobs = 1 ∷ [] })
 unfolding answer
 of_the_preempting = refl
 
@@ -31,7 +31,7 @@ rows_after_four : rows roomy four ≡ record { number = 0; release = 2; due = 5;
 unfolding answer
 rows_after_four = refl
 
-of_one_due : certificate roomy one_due.row ≡ Some (record { job = 1; start = 0; due = 2; completion = 3; jobs = 0 ∷ 1 ∷ [] })
+of_one_due : certificate roomy one_due.history ≡ Some (record { job = 1; start = 0; due = 2; completion = 3; jobs = 0 ∷ 1 ∷ [] })
 unfolding answer
 of_one_due = refl
 

@@ -6,17 +6,17 @@ use Rattle.die_log.specs.Work.{lateness_of}
 use Rattle.die_log.specs.Answers.{run, answer}
 use Rattle.die_log.proofs.Worked.Plans.{roomy, submit, slot, numbers, worst_of}
 
-abbrev pub row : Log
-row = run roomy [] (submit 0 10 (Read 0 ∷ Read 1 ∷ Read 2 ∷ []) ∷ slot ∷ submit 1 3 (Read 0 ∷ []) ∷ slot ∷ slot ∷ slot ∷ [])
+abbrev pub history : Log
+history = run roomy [] (submit 0 10 (Read 0 ∷ Read 1 ∷ Read 2 ∷ []) ∷ slot ∷ submit 1 3 (Read 0 ∷ []) ∷ slot ∷ slot ∷ slot ∷ [])
 
-carries : numbers row ≡ Some 0 ∷ Some 1 ∷ Some 0 ∷ Some 0 ∷ []
+carries : numbers history ≡ Some 0 ∷ Some 1 ∷ Some 0 ∷ Some 0 ∷ []
 unfolding answer
 carries = refl
 
-lateness : map (λ j. lateness_of row j) (jobs row) ≡ negsuc 5 ∷ negsuc 0 ∷ []
+lateness : map (λ j. lateness_of history j) (jobs history) ≡ negsuc 5 ∷ negsuc 0 ∷ []
 unfolding answer
 lateness = refl
 
-is_worst : worst_of roomy row ≡ Some (1, negsuc 0)
+is_worst : worst_of roomy history ≡ Some (1, negsuc 0)
 unfolding answer
 is_worst = refl

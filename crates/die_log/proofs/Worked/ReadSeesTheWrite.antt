@@ -7,18 +7,18 @@ use Rattle.die_log.specs.Work.{completion}
 use Rattle.die_log.specs.Answers.{run, answer}
 use Rattle.die_log.proofs.Worked.Plans.{roomy, submit, slot, bytes, worst_of}
 
-abbrev pub row : Log
-row = run roomy [] (submit 0 2 (Write 3 (bytes 17) ∷ []) ∷ slot ∷ submit 1 3 (Read 3 ∷ []) ∷ slot ∷ [])
+abbrev pub history : Log
+history = run roomy [] (submit 0 2 (Write 3 (bytes 17) ∷ []) ∷ slot ∷ submit 1 3 (Read 3 ∷ []) ∷ slot ∷ [])
 
-reads : acts 1 row ≡ does.Read 3 (bytes 17) ∷ []
+reads : acts 1 history ≡ does.Read 3 (bytes 17) ∷ []
 unfolding answer
 reads = refl
 
-ends : map (λ n. completion n row) (0 ∷ 1 ∷ []) ≡ 1 ∷ 2 ∷ []
+ends : map (λ n. completion n history) (0 ∷ 1 ∷ []) ≡ 1 ∷ 2 ∷ []
 unfolding answer
 ends = refl
 
 -- both are one slot early: the one that was completed first
-is_worst : worst_of roomy row ≡ Some (0, negsuc 0)
+is_worst : worst_of roomy history ≡ Some (0, negsuc 0)
 unfolding answer
 is_worst = refl

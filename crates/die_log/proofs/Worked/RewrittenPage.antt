@@ -20,33 +20,33 @@ since : written_since 11 2 rewritten ≡ true
 unfolding answer
 since = refl
 
-abbrev row : Log
-row = run tight rewritten (slot ∷ slot ∷ slot ∷ [])
+abbrev history : Log
+history = run tight rewritten (slot ∷ slot ∷ slot ∷ [])
 
-its_acts : acts 11 row ≡ does.CopyRead 2 ∷ does.Erase 1 ∷ does.Erase 1 ∷ does.Erase 1 ∷ []
+its_acts : acts 11 history ≡ does.CopyRead 2 ∷ does.Erase 1 ∷ does.Erase 1 ∷ does.Erase 1 ∷ []
 unfolding answer
 its_acts = refl
 
-takes : work 11 row ≡ 4
+takes : work 11 history ≡ 4
 unfolding answer
 takes = refl
 
-ends : completion 11 row ≡ 23
+ends : completion 11 history ≡ 23
 unfolding answer
 ends = refl
 
-is_late : lateness_of (completion 11 row) 40 ≡ negsuc 16
+is_late : lateness_of (completion 11 history) 40 ≡ negsuc 16
 unfolding answer
 is_late = refl
 
-tokens : accounts tight row ≡ amounts tight 2 2 0 2
+tokens : accounts tight history ≡ amounts tight 2 2 0 2
 unfolding answer
 tokens = refl
 
-frees : free tight row ≡ 6
+frees : free tight history ≡ 6
 unfolding answer
 frees = refl
 
-reads : content tight row 2 ≡ bytes 170
+reads : content tight history 2 ≡ bytes 170
 unfolding answer
 reads = refl

@@ -6,13 +6,13 @@ use Rattle.die_log.specs.Work.{completion}
 use Rattle.die_log.specs.Answers.{run, answer}
 use Rattle.die_log.proofs.Worked.Plans.{roomy, submit, slot, worst_of}
 
-abbrev pub row : Log
-row = run roomy [] (submit 0 2 (Read 0 ∷ Read 1 ∷ []) ∷ submit 0 2 (Read 2 ∷ []) ∷ slot ∷ slot ∷ slot ∷ [])
+abbrev pub history : Log
+history = run roomy [] (submit 0 2 (Read 0 ∷ Read 1 ∷ []) ∷ submit 0 2 (Read 2 ∷ []) ∷ slot ∷ slot ∷ slot ∷ [])
 
-ends : map (λ n. completion n row) (0 ∷ 1 ∷ []) ≡ 2 ∷ 3 ∷ []
+ends : map (λ n. completion n history) (0 ∷ 1 ∷ []) ≡ 2 ∷ 3 ∷ []
 unfolding answer
 ends = refl
 
-is_worst : worst_of roomy row ≡ Some (1, pos 1)
+is_worst : worst_of roomy history ≡ Some (1, pos 1)
 unfolding answer
 is_worst = refl

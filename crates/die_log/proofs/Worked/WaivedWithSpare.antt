@@ -15,21 +15,21 @@ busy : answer roomy taken (Collect 0 0 5) ≡ replies.Refused CollectorBusy
 unfolding answer
 busy = refl
 
-abbrev row : Log
-row = run roomy taken (slot ∷ [])
+abbrev history : Log
+history = run roomy taken (slot ∷ [])
 
-gives_nothing : waived row ≡ record { number = 0; given = 0 } ∷ []
+gives_nothing : waived history ≡ record { number = 0; given = 0 } ∷ []
 unfolding answer
 gives_nothing = refl
 
-idle : numbers row ≡ None ∷ []
+idle : numbers history ≡ None ∷ []
 unfolding answer
 idle = refl
 
-tokens : accounts roomy row ≡ amounts roomy 26 4 0 2
+tokens : accounts roomy history ≡ amounts roomy 26 4 0 2
 unfolding answer
 tokens = refl
 
-nobody : worst_of roomy row ≡ None
+nobody : worst_of roomy history ≡ None
 unfolding answer
 nobody = refl
