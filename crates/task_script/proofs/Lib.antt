@@ -1,0 +1,15 @@
+pub mod PlainFields
+pub mod Written
+pub mod PlainRecords
+pub mod TableLaws
+pub mod PlanLaws
+pub mod RowLaws
+pub mod WordLaws
+pub mod StepLaws
+pub mod RecordLaws
+pub mod ProgressLaws
+pub mod ReadingLaws
+pub mod FieldsBack
+pub mod RecordsBack
+pub mod RowsBack
+pub mod CertsBack
