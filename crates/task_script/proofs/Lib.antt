@@ -13,3 +13,4 @@ pub mod FieldsBack
 pub mod RecordsBack
 pub mod RowsBack
 pub mod CertsBack
+pub mod DieRows

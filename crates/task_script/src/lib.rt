@@ -2,6 +2,7 @@
 #![tactic(auto)]
 
 mod bounded;
+mod die_reports;
 mod gathered;
 mod items;
 mod laws;
@@ -21,6 +22,7 @@ mod stores;
 mod tables;
 mod words;
 
+pub use die_reports::die_report;
 pub use items::ScriptItem;
 pub use laws::reports_come_back;
 pub use report_reading::read_report;

@@ -1,0 +1,78 @@
+-- The report of a die, read off its log.
+use Rattle.std.specs.Prelude.{ℕ, ℤ, Bool, true, false, if◌then◌else◌, List, [], ◌∷◌, map, Option, Some, None}
+use Rattle.slot_types.specs.declared.plans.DiePlan.{DiePlan}
+use Rattle.slot_types.specs.declared.pages.PageData.{PageData}
+use Rattle.late_cert.specs.declared.rows.JobRow.{JobRow}
+use Rattle.die_log.specs.Log.{Log, Job, jobs, work}
+use Rattle.die_log.specs.Rows.{certificate}
+use Rattle.slot_core.specs.declared.outcomes.JobHead.{JobHead}
+use Rattle.slot_core.specs.declared.outcomes.Outcome.{Outcome}
+use Rattle.slot_core.specs.declared.outcomes.Outcome.TheVariants as outcomes
+use Rattle.slot_core.specs.Outcomes.{outcome_of, head_of}
+use Rattle.task_script.specs.declared.reports.DieReport.{DieReport}
+use Rattle.task_script.specs.declared.reports.ReportRow.{ReportRow}
+use Rattle.task_script.specs.declared.reports.RowKind.{RowKind}
+use Rattle.task_script.specs.declared.reports.RowKind.TheVariants as kind
+
+abbrev pub kind_of : Bool → RowKind
+kind_of true = kind.Collect
+kind_of false = kind.Job
+
+-- only a collection gives its task anything
+abbrev pub given_by : Bool → ℕ → Option ℕ
+given_by true given = Some given
+given_by false given = None
+
+abbrev pub row_from : RowKind → ℕ → JobHead → ℕ → Option ℕ → Option ℤ → Option ℕ → List PageData → ReportRow
+row_from row number head took completion lateness given reads = record {
+  row = row;
+  job = number;
+  task = head.task;
+  release = head.release;
+  due = head.due;
+  work = took;
+  completion = completion;
+  lateness = lateness;
+  given = given;
+  reads = reads;
+}
+
+-- the row of a number, by what it was accepted with, the slots that it took and what became of it: a waiting one has
+-- neither completion nor lateness, and a waived one took no slot
+abbrev pub row_as : ℕ → JobHead → ℕ → Outcome → ReportRow
+row_as number head took outcomes.Waiting = row_from (kind_of head.collects) number head took None None None []
+row_as number head took (outcomes.Done completion lateness given reads) =
+    row_from (kind_of head.collects) number head took (Some completion) (Some lateness) (given_by head.collects given) reads
+row_as number head took (outcomes.Waived given) = row_from kind.Waived number head 0 None None (Some given) []
+
+-- the row of a job or collection of a log
+abbrev pub report_row_of : DiePlan → Log → Job → ReportRow
+report_row_of plan log j = row_as j.number (head_of j) (work j.number log) (outcome_of plan log j)
+
+-- the rows of all, by number
+abbrev pub report_rows_of : DiePlan → Log → List ReportRow
+report_rows_of plan log = map (report_row_of plan log) (jobs log)
+
+-- the report of the die of this number, whose log this is: all rows, and the certificate of the worst
+abbrev pub die_report_of : DiePlan → Log → ℕ → DieReport
+die_report_of plan log die = record { die = die; rows = report_rows_of plan log; cert = certificate plan log }
+
+-- Along the rows of work, of which a waived collection has none
+
+abbrev pub first_work : List JobRow → ℕ
+first_work [] = 0
+first_work (row ∷ rest) = row.work
+
+abbrev pub own_work : Outcome → List JobRow → ℕ
+own_work outcomes.Waiting rest = first_work rest
+own_work (outcomes.Done completion lateness given reads) rest = first_work rest
+own_work (outcomes.Waived given) rest = 0
+
+abbrev pub rest_of : List JobRow → List JobRow
+rest_of [] = []
+rest_of (row ∷ rest) = rest
+
+abbrev pub rows_behind : Outcome → List JobRow → List JobRow
+rows_behind outcomes.Waiting rest = rest_of rest
+rows_behind (outcomes.Done completion lateness given reads) rest = rest_of rest
+rows_behind (outcomes.Waived given) rest = rest
