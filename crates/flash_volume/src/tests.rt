@@ -1,13 +1,8 @@
 //! Volumes of small dies: what is written is read, a device fails, a block is collected.
 
-ghost use Rattle.std.specs.Prelude.{◌≡◌, ◌∷◌, [], ◌<◌, ℕ, Some, None, length, IsSome, IfOk, OnOk};
-ghost use Rattle.flash_die.specs.Flash.{block_at};
-ghost use Rattle.flash_die.specs.Memory.{fresh_memory};
-ghost use Rattle.flash_die.specs.Fuse.{fuse_round};
-ghost use Rattle.flash_volume.specs.Running.{running_of};
-ghost use Rattle.flash_volume.specs.State.{fresh_volume};
+ghost use Rattle.std.specs.Prelude.{◌≡◌, ◌∷◌, [], IfOk};
 
-use crate::{Began, Collected, Volume};
+use crate::{Began, Volume};
 use flash_die::{FuseNand, MemoryNand, Nand};
 use plan_rules::bound;
 use slot_types::{Caps, DiePlan, PageData, Refusal, Shape, TaskNo};
@@ -60,5 +55,40 @@ fn a_write_is_read_back_and_a_collection_with_spare_pages_is_waived(
     assert_eq!(rt; volume.plan().logical, 12);
     assert_eq!(rt; volume.device().shape().blocks, 8);
     assert!(rt; !volume.failed());
+    Ok(())
+}
+
+/// Writes two pages, reads both and writes the first again, each by one call of the device. Answers
+/// how many of these succeeded before the device failed, and with what later calls are refused.
+fn successes(alloc: Global, calls: u64) -> Result<(u32, bool), Refusal> {
+    let plan = roomy(alloc)?;
+    bound(&plan)?;
+    let device = FuseNand::new(MemoryNand::new(alloc, plan.shape)?, calls);
+    let mut volume = Volume::new(alloc, plan, device)?;
+    volume.admit(TASK, 3)?;
+    let passed = if volume.write(TASK, 0, ONES).is_err() {
+        0
+    } else if volume.write(TASK, 1, ONES).is_err() {
+        1
+    } else if volume.read(0).is_err() {
+        2
+    } else if volume.read(1).is_err() {
+        3
+    } else if volume.write(TASK, 0, ONES).is_err() {
+        4
+    } else {
+        5
+    };
+    let stopped = volume.admit(TASK, 0) == Err(Refusal::DieStopped);
+    Ok((passed, stopped))
+}
+
+#[test]
+fn a_volume_stops_with_the_first_call_that_fails(rt: HostRuntime) -> Result<(), Fail> {
+    for (calls, passed) in [(0, 0), (1, 1), (2, 2), (3, 3), (4, 4), (5, 5), (1000, 5)] {
+        let (succeeded, stopped) = successes(rt.alloc(), calls)?;
+        assert_eq!(rt; succeeded, passed, "with {calls}");
+        assert_eq!(rt; stopped, passed < 5, "with {calls}");
+    }
     Ok(())
 }
