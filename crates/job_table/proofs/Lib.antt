@@ -8,3 +8,4 @@ pub mod Waivers
 pub mod Releasing
 pub mod Roomy
 pub mod Tables
+pub mod Reading
