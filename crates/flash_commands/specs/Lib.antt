@@ -1,0 +1,6 @@
+pub mod Syntax
+pub mod Commands
+pub mod Figures
+pub mod Audit
+pub mod Acts
+pub mod Faults
