@@ -23,3 +23,6 @@ pub use pages::{PageData, Place};
 pub use plans::{Caps, DiePlan, Shape, StorePlan};
 pub use refusals::{Cause, Refusal};
 pub use replies::{Entry, Reads, Reply, SlotReply, Waived, WaivedList};
+
+#[cfg(test)]
+mod tests;

@@ -4,52 +4,87 @@ ghost use Rattle.std.specs.Prelude.{◌≡◌};
 ghost use Rattle.slot_types.specs.Refusal.{number_of};
 
 use std::alloc::AllocError;
+use std::fmt;
+use std::fmt::{Display, Formatter, Write};
 
-/// Why a plan text or a row of a script is refused.
-#[derive(Clone, Copy, PartialEq, Eq, Debug)]
+/// Why a plan text or a row of a script is refused: what is wrong with it first.
+#[derive(Clone, Copy, PartialEq, Eq, Debug, Drop)]
 pub enum Cause {
+    /// A plan text above 1,048,576 bytes.
     TooLong,
+    /// Not a TOML document, or not UTF-8.
     NotToml,
+    /// A key that no plan has.
     ExtraKey,
     MissingKey,
+    /// A value that is no whole number from 0 to 4,294,967,295, or tasks that are no array of tables.
     WrongKind,
+    /// A version that isn't read.
     BadVersion,
+    /// A record numbered above 1,000,001.
     TooManyRows,
+    /// Another first record than the header, or none.
     Header,
+    /// Another number of fields.
     Fields,
+    /// A field that is no number.
     Number,
+    /// Neither `job` nor `collect`.
     Kind,
+    /// No such die.
     Die,
+    /// A slot below that of the die's row before, or above the slots that are run.
     At,
+    /// Operations that can't be read.
     Ops,
 }
 
-/// Why a call is refused.
-#[derive(Clone, Copy, PartialEq, Eq, Debug)]
+/// Why a call is refused. In the order of their numbers, from 1.
+#[derive(Clone, Copy, PartialEq, Eq, Debug, Drop)]
 pub enum Refusal {
+    /// Memory was asked for and not had.
     NoMemory,
+    /// Blocks, pages, erase slots or dies out of their limits, or a device of another shape.
     BadShape,
+    /// Any other number of a plan out of its limits, the plan's bound not met, or another number of devices than dies.
     BadPlan,
     UnknownDie,
     UnknownTask,
+    /// A job without an operation.
     EmptyJob,
+    /// A job of more than 64 operations.
     TooManyOps,
+    /// An operation on a page that the die doesn't have: the first such.
     BadPage { page: u32 },
+    /// A release below the present slot.
     ReleasePast { now: u32 },
+    /// A due that isn't above its release, or is above 1,048,576.
     BadDue,
+    /// 65,536 jobs and collections were accepted.
     JobsFull,
+    /// A job of more writes than its task has tokens.
     NoTokens { have: u32, need: u32 },
+    /// The task has a collection that is neither done nor waived.
     CollectorBusy,
+    /// The present slot is the last one.
     ClockEnd,
+    /// The device failed in this very call.
     DeviceFault,
+    /// The device failed before.
     DieStopped,
     UnknownJob,
     PlanText { cause: Cause },
+    /// A record of a script, the header being 1.
     ScriptRow { line: u32, cause: Cause },
+    /// The first record that no report goes on with, the header being 1.
     ReportText { line: u32 },
+    /// A reader failed, or went past its bound.
     ReadFault,
+    /// A writer failed.
     WriteFault,
+    /// 65,536 passes were made.
     PassesFull,
+    /// So many passes are neither this one nor joined into it.
     PassesOut { out: u32 },
 }
 
@@ -95,5 +130,27 @@ impl From<AllocError> for Refusal {
 
     fn from(_: AllocError) -> Self {
         Refusal::NoMemory
+    }
+}
+
+impl Display for Cause {
+    fn fmt<W: Write>(&self, f: &mut Formatter<W>) -> fmt::Result {
+        write!(f, "{self:?}")
+    }
+}
+
+/// The refusal's name, its numbers and the name of its cause, each after one space: as `ScriptRow 6 Fields`.
+impl Display for Refusal {
+    fn fmt<W: Write>(&self, f: &mut Formatter<W>) -> fmt::Result {
+        match self {
+            Refusal::BadPage { page } => write!(f, "BadPage {page}"),
+            Refusal::ReleasePast { now } => write!(f, "ReleasePast {now}"),
+            Refusal::NoTokens { have, need } => write!(f, "NoTokens {have} {need}"),
+            Refusal::PlanText { cause } => write!(f, "PlanText {cause}"),
+            Refusal::ScriptRow { line, cause } => write!(f, "ScriptRow {line} {cause}"),
+            Refusal::ReportText { line } => write!(f, "ReportText {line}"),
+            Refusal::PassesOut { out } => write!(f, "PassesOut {out}"),
+            plain => write!(f, "{plain:?}"),
+        }
     }
 }
