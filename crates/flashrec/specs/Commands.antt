@@ -1,0 +1,74 @@
+-- What the words of a command line ask for.
+use Rattle.std.specs.Prelude.{ℕ, nat_le, ◌&&◌, is_some, Bool, List, [], ◌∷◌, codes, Option, Some, None, option_and_then, if◌then◌else◌}
+use Rattle.std.specs.Str.{bytes_eq}
+use Rattle.clap.specs.Words.{Row, Text, first_of, subcommand_of}
+use Rattle.clap.specs.Kinds.{Kinds, or_else}
+use Rattle.clap.specs.Faults.{fault_of}
+use Rattle.clap.specs.declared.error.kind.ErrorKind.TheVariants.{ValueValidation}
+use Rattle.task_script.specs.Number.{number_of}
+use Rattle.flashrec.specs.Syntax.{flashrec_app}
+use Rattle.flashrec.specs.declared.commands.Command.{Command}
+use Rattle.flashrec.specs.declared.commands.Command.TheVariants as command
+
+-- a command, with the names of its files as texts
+pub data Task : Type 0 where
+  Alone : Task
+  Run : (plan script : Text) (slots workers : ℕ) → Task
+  Audit : (report : Text) → Task
+  Plan : (plan : Text) → Task
+
+abbrev pub task_of : Command → Task
+task_of command.Alone = Alone
+task_of (command.Run plan script slots workers) = Run plan.now script.now slots workers
+task_of (command.Audit report) = Audit report.now
+task_of (command.Plan plan) = Plan plan.now
+
+-- the next step, where there is a value
+infixl 10 ◌>>=◌
+abbrev pub ◌>>=◌ : {A B : Type 0} → Option A → (A → Option B) → Option B
+o >>= f = option_and_then f o
+
+-- the number that a text writes, if it lies from the first of these to the second
+abbrev pub number_between : ℕ → ℕ → Text → Option ℕ
+number_between least most text = number_of text >>= (λ n. if nat_le least n && nat_le n most then Some n else None)
+
+abbrev pub run_of : List Row → Option Task
+run_of rows = do
+  plan ← first_of (codes "PLAN") rows
+  script ← first_of (codes "SCRIPT") rows
+  slots ← first_of (codes "slots") rows >>= number_between 0 1048576
+  workers ← first_of (codes "workers") rows >>= number_between 1 16
+  Some (Run plan script slots workers)
+
+abbrev pub audit_of : List Row → Option Task
+audit_of rows = do
+  report ← first_of (codes "REPORT") rows
+  Some (Audit report)
+
+abbrev pub plan_of : List Row → Option Task
+plan_of rows = do
+  plan ← first_of (codes "PLAN") rows
+  Some (Plan plan)
+
+abbrev pub named : Text → List Row → Option Task
+named name rows =
+    if bytes_eq name (codes "run") then run_of rows
+    else if bytes_eq name (codes "audit") then audit_of rows
+    else if bytes_eq name (codes "plan") then plan_of rows
+    else None
+
+-- what the command that clap met in the words asks for, if its numbers lie in their ranges
+abbrev pub asked_by : Option (Text × List Row) → Option Task
+asked_by None = Some Alone
+asked_by (Some met) = named met.0 met.1
+
+abbrev pub asked : List Text → Option Task
+asked words = asked_by (subcommand_of flashrec_app words)
+
+abbrev pub range_fault : Option Task → Kinds
+range_fault None = ValueValidation ∷ []
+range_fault (Some task) = []
+
+-- what is wrong with the words: clap's own faults, and then a number that is none or out of its range
+abbrev pub words_fault : List Text → Kinds
+words_fault words = or_else (fault_of flashrec_app words) (range_fault (asked words))

@@ -1,0 +1,37 @@
+-- The words that the program takes, as clap reads them.
+use Rattle.std.specs.Prelude.{ℕ, List, [], ◌∷◌, codes, Bool, true, Some}
+use Rattle.clap.specs.Words.{App, Rule, Text, new_app, new_rule, with_rule, with_subcommand}
+use Rattle.clap.specs.declared.builder.command.Command.{Command}
+use Rattle.clap.specs.declared.builder.command.Command.TheViews.{out-Command}
+
+-- an argument that has to be there
+abbrev pub needed : Text → Rule
+needed id = record (new_rule id) { required = true }
+
+-- `--slots N`, which has to be there
+abbrev pub slots_rule : Rule
+slots_rule = record (needed (codes "slots")) { long = Some (codes "slots"); value_names = 1 }
+
+-- `--workers W`, which is 1 where it is not there
+abbrev pub workers_rule : Rule
+workers_rule = record (new_rule (codes "workers")) { long = Some (codes "workers"); value_names = 1; defaults = codes "1" ∷ [] }
+
+abbrev pub files_app : App
+files_app = with_rule (with_rule (new_app (codes "run")) (needed (codes "PLAN"))) (needed (codes "SCRIPT"))
+
+abbrev pub run_app : App
+run_app = with_rule (with_rule files_app slots_rule) workers_rule
+
+abbrev pub audit_app : App
+audit_app = with_rule (new_app (codes "audit")) (needed (codes "REPORT"))
+
+abbrev pub plan_app : App
+plan_app = with_rule (new_app (codes "plan")) (needed (codes "PLAN"))
+
+-- the program's command line
+abbrev pub flashrec_app : App
+flashrec_app = with_subcommand (with_subcommand (with_subcommand (new_app (codes "flashrec")) run_app.top) audit_app.top) plan_app.top
+
+-- whether a command has an argument that is global
+abbrev pub has_globals : Command → Bool
+has_globals c = (out-Command c).has_globals

@@ -1,0 +1,106 @@
+//! The words that the program takes.
+
+ghost use Rattle.std.specs.Prelude.{◌≡◌, false, codes, IfOk};
+ghost use Rattle.clap.specs.Words.{app_of, rule_of};
+ghost use Rattle.flashrec.specs.Syntax.{audit_app, files_app, flashrec_app, has_globals, needed, plan_app, run_app, slots_rule, workers_rule};
+
+use clap::{Arg, Command};
+use std::alloc::{AllocError, Global};
+
+/// How many slots each die runs.
+fn slots<'a>(alloc: Global) -> Arg<'a>
+    ensures rule { rule_of result ≡ slots_rule }
+    ensures local { result.global ≡ false }
+{
+    Arg::new(alloc, "slots")
+        .long("slots")
+        .value_name("N")
+        .required(true)
+        .help("How many slots each die runs, from 0 to 1048576")
+}
+
+/// How many workers run the dies.
+fn workers<'a>(alloc: Global) -> Arg<'a>
+    ensures rule { rule_of result ≡ workers_rule }
+    ensures local { result.global ≡ false }
+{
+    Arg::new(alloc, "workers")
+        .long("workers")
+        .value_name("W")
+        .default_value("1")
+        .help("How many workers run the dies, from 1 to 16")
+}
+
+/// The file that has the plan.
+fn plan_file<'a>(alloc: Global) -> Arg<'a>
+    ensures rule { rule_of result ≡ needed (codes "PLAN") }
+    ensures local { result.global ≡ false }
+{
+    Arg::new(alloc, "PLAN")
+        .required(true)
+        .help("The plan of the store, a TOML file")
+}
+
+/// The command `run`, with its files.
+fn run_files<'a>(alloc: Global) -> Result<Command<'a>, AllocError>
+    ensures app { IfOk result (λ c. app_of c ≡ files_app) }
+    ensures local { IfOk result (λ c. has_globals c ≡ false) }
+{
+    let script = Arg::new(alloc, "SCRIPT")
+        .required(true)
+        .help("The jobs and collections that the dies get, a CSV file");
+    Command::new(alloc, "run")
+        .about("Run a script on a store, and print its report")
+        .after_help("Example: flashrec run plan.toml script.csv --slots 1000 --workers 4")
+        .arg(plan_file(alloc))?
+        .arg(script)
+}
+
+/// The command `run`.
+fn run_words<'a>(alloc: Global) -> Result<Command<'a>, AllocError>
+    ensures app { IfOk result (λ c. app_of c ≡ run_app) }
+    ensures local { IfOk result (λ c. has_globals c ≡ false) }
+{
+    let files = run_files(alloc)?;
+    files.arg(slots(alloc))?.arg(workers(alloc))
+}
+
+/// The command `audit`.
+fn audit_words<'a>(alloc: Global) -> Result<Command<'a>, AllocError>
+    ensures app { IfOk result (λ c. app_of c ≡ audit_app) }
+    ensures local { IfOk result (λ c. has_globals c ≡ false) }
+{
+    let report = Arg::new(alloc, "REPORT")
+        .required(true)
+        .help("A report, as run prints it");
+    Command::new(alloc, "audit")
+        .about("Check the certificate of each die of a report")
+        .after_help("Example: flashrec audit report.csv")
+        .arg(report)
+}
+
+/// The command `plan`.
+fn plan_words<'a>(alloc: Global) -> Result<Command<'a>, AllocError>
+    ensures app { IfOk result (λ c. app_of c ≡ plan_app) }
+    ensures local { IfOk result (λ c. has_globals c ≡ false) }
+{
+    Command::new(alloc, "plan")
+        .about("Print the figures of a store's plan")
+        .after_help("Example: flashrec plan plan.toml")
+        .arg(plan_file(alloc))
+}
+
+/// The words of the program.
+pub fn program_words<'a>(alloc: Global) -> Result<Command<'a>, AllocError>
+    ensures { IfOk result (λ c. app_of c ≡ flashrec_app) }
+{
+    let run = run_words(alloc)?;
+    let audit = audit_words(alloc)?;
+    let plan = plan_words(alloc)?;
+    let program = Command::new(alloc, "flashrec")
+        .about("A real-time flash store. Without a command, runs the script that is built in")
+        .subcommand(run)?
+        .subcommand(audit)?
+        .subcommand(plan)?;
+    Ok(program)
+}
