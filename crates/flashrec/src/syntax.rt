@@ -1,7 +1,7 @@
 //! The words that the program takes.
 
 ghost use Rattle.std.specs.Prelude.{◌≡◌, false, codes, IfOk};
-ghost use Rattle.clap.specs.Words.{app_of, rule_of};
+ghost use Rattle.clap.specs.Words.{app_of, new_app, rule_of, with_subcommand};
 ghost use Rattle.flashrec.specs.Syntax.{audit_app, files_app, flashrec_app, has_globals, needed, plan_app, run_app, slots_rule, workers_rule};
 
 use clap::{Arg, Command};
@@ -90,6 +90,25 @@ fn plan_words<'a>(alloc: Global) -> Result<Command<'a>, AllocError>
         .arg(plan_file(alloc))
 }
 
+/// The program's name and what it is about.
+fn name<'a>(alloc: Global) -> Command<'a>
+    ensures { app_of result ≡ new_app (codes "flashrec") }
+{
+    Command::new(alloc, "flashrec")
+        .about("A real-time flash store. Without a command, runs the script that is built in")
+}
+
+/// A program with one more command.
+fn with_command<'a>(
+    program: Command<'a>,
+    command: Command<'a>,
+) -> Result<Command<'a>, AllocError>
+    requires { has_globals command ≡ false }
+    ensures { IfOk result (λ c. app_of c ≡ with_subcommand (app_of program.entry) (app_of command.entry).top) }
+{
+    program.subcommand(command)
+}
+
 /// The words of the program.
 pub fn program_words<'a>(alloc: Global) -> Result<Command<'a>, AllocError>
     ensures { IfOk result (λ c. app_of c ≡ flashrec_app) }
@@ -97,10 +116,7 @@ pub fn program_words<'a>(alloc: Global) -> Result<Command<'a>, AllocError>
     let run = run_words(alloc)?;
     let audit = audit_words(alloc)?;
     let plan = plan_words(alloc)?;
-    let program = Command::new(alloc, "flashrec")
-        .about("A real-time flash store. Without a command, runs the script that is built in")
-        .subcommand(run)?
-        .subcommand(audit)?
-        .subcommand(plan)?;
-    Ok(program)
+    let with_run = with_command(name(alloc), run)?;
+    let with_audit = with_command(with_run, audit)?;
+    with_command(with_audit, plan)
 }
