@@ -3,3 +3,6 @@ pub mod Written
 pub mod PlainRecords
 pub mod TableLaws
 pub mod PlanLaws
+pub mod RowLaws
+pub mod WordLaws
+pub mod StepLaws

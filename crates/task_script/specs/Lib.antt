@@ -5,3 +5,15 @@ pub mod Commas
 pub mod Tables
 pub mod PlanText
 pub mod Stores
+pub mod Readings
+pub mod Words
+pub mod Ops
+pub mod Bounded
+pub mod Plain
+pub mod Rows
+pub mod Header
+pub mod Items
+pub mod Script
+pub mod Left
+pub mod ReportRows
+pub mod Worst

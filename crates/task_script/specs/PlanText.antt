@@ -1,12 +1,12 @@
 -- The numbers of a plan's text, or the first fault of the text.
-use Rattle.std.specs.Prelude.{◌≡◌, ℕ, nat_lt, ◌==◌, ◌&&◌, is_some, Bool, true, List, [], ◌∷◌, ◌++◌, length, codes, Option, Some, None, option_and_then, Result, Ok, Err, if◌then◌else◌, ◌⊎◌}
+use Rattle.std.specs.Prelude.{ℕ, nat_lt, ◌==◌, ◌&&◌, is_some, Bool, true, List, [], ◌∷◌, ◌++◌, length, codes, Option, Some, None, option_and_then, Result, Ok, Err, if◌then◌else◌}
 use Rattle.std.specs.Str.{is_utf8}
 use Rattle.toml.specs.Data.{Items, no_items, item, Members, get_member, as_array, as_table}
 use Rattle.toml.specs.Parse.{parse_document}
 use Rattle.slot_types.specs.declared.refusals.Cause.TheVariants as cause
 use Rattle.slot_types.specs.declared.refusals.Refusal.{Refusal}
-use Rattle.slot_types.specs.declared.refusals.Refusal.TheVariants.{NoMemory}
-use Rattle.task_script.specs.Tables.{◌>>=◌, checked_keys, fault, has_only, has_task_keys, has_top_keys, is_task_key, is_top_key, number_at, or_fault}
+use Rattle.task_script.specs.Readings.{◌>>=◌}
+use Rattle.task_script.specs.Tables.{checked_keys, fault, has_only, has_task_keys, has_top_keys, is_task_key, is_top_key, number_at, or_fault}
 use Rattle.task_script.specs.declared.plan_texts.PlanNumbers.{PlanNumbers}
 use Rattle.task_script.specs.declared.plan_texts.TaskNumbers.{TaskNumbers}
 use Rattle.task_script.specs.declared.plan_texts.TopNumbers.{TopNumbers}
@@ -75,14 +75,6 @@ table_of text =
 -- the numbers of a plan's text, or its first fault
 abbrev pub plan_of : List ℕ → Result PlanNumbers Refusal
 plan_of text = table_of text >>= numbers_of
-
--- what a call gave, seen by view, is what reading gives, unless memory ran out
-abbrev pub Shows : {X Y : Type 0} → (X → Y) → Result X Refusal → Result Y Refusal → Type 0
-Shows view (Ok x) read = read ≡ Ok (view x)
-Shows view (Err e) read = (e ≡ NoMemory) ⊎ (read ≡ Err e)
-
-abbrev pub Gives : {X : Type 0} → Result X Refusal → Result X Refusal → Type 0
-Gives result read = Shows (λ x. x) result read
 
 -- these, and then those that are read
 abbrev pub with_front : List TaskNumbers → Result (List TaskNumbers) Refusal → Result (List TaskNumbers) Refusal

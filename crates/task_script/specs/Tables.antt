@@ -7,12 +7,6 @@ use Rattle.slot_types.specs.declared.refusals.Cause.TheVariants as cause
 use Rattle.slot_types.specs.declared.refusals.Refusal.{Refusal}
 use Rattle.slot_types.specs.declared.refusals.Refusal.TheVariants.{PlanText}
 
--- the second step, if the first gave a value
-infixl 10 ◌>>=◌
-abbrev pub ◌>>=◌ : {A B : Type 0} → Result A Refusal → (A → Result B Refusal) → Result B Refusal
-(Ok x) >>= f = f x
-(Err e) >>= f = Err e
-
 -- a fault of a plan's text
 abbrev pub fault : {A : Type 0} → Cause → Result A Refusal
 fault c = Err (PlanText c)

@@ -1,14 +1,25 @@
 //! Plans, scripts and reports as texts.
 #![tactic(auto)]
 
+mod bounded;
+mod items;
 mod numbers;
+mod ops;
 mod plan_texts;
+mod report_certs;
+mod report_rows;
 mod report_texts;
 mod reports;
+mod rows;
+mod scripts;
+mod steps;
 mod stores;
 mod tables;
+mod words;
 
+pub use items::ScriptItem;
 pub use numbers::number;
 pub use report_texts::write_report;
 pub use reports::{DieReport, Report, ReportRow, ReportRows, RowKind};
+pub use scripts::ScriptReader;
 pub use stores::read_plan;

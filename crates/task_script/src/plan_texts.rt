@@ -4,7 +4,8 @@ ghost use Rattle.std.specs.Prelude.{◌≡◌, is_some, codes, option_and_then, 
 ghost use Rattle.std.specs.List.{list_all};
 ghost use Rattle.toml.specs.Data.{as_array, as_table, get_member};
 ghost use Rattle.toml.specs.View.{table_view, items_view, view};
-ghost use Rattle.task_script.specs.PlanText.{Gives, Shows, are_tables, numbers_of, plan_of, table_of, tables_or, task_of, tasks_of, top_of};
+ghost use Rattle.task_script.specs.Readings.{Gives, Shows};
+ghost use Rattle.task_script.specs.PlanText.{are_tables, numbers_of, plan_of, table_of, tables_or, task_of, tasks_of, top_of};
 
 use crate::tables::{check_task_keys, check_top_keys, find, number_in};
 use slot_types::{Cause, Items, Refusal};

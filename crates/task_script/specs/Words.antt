@@ -1,0 +1,34 @@
+-- Fields that hold several words, with one space between two.
+use Rattle.std.specs.Prelude.{ℕ, ◌==◌, List, [], ◌∷◌, Option, Some, None, Result, Ok, Err}
+use Rattle.std.specs.List.{slice_split}
+use Rattle.hex.specs.Hex.{decode_sized}
+use Rattle.hex.specs.declared.error.FromHexError.{FromHexError}
+use Rattle.slot_types.specs.declared.pages.PageData.{PageData}
+
+abbrev pub and_word : {A : Type 0} → Option A → Option (List A) → Option (List A)
+and_word None found = None
+and_word (Some x) None = None
+and_word (Some x) (Some found) = Some (x ∷ found)
+
+-- what all of these words say, if each says something
+unfoldable pub all_of : {A : Type 0} → (List ℕ → Option A) → List (List ℕ) → Option (List A)
+all_of read [] = Some []
+all_of read (word ∷ words) = and_word (read word) (all_of read words)
+
+-- the words of a text, if there is one
+abbrev pub words_of : Option (List ℕ) → List (List ℕ)
+words_of None = []
+words_of (Some text) = slice_split (λ b. b == 32) text
+
+-- what the words of a field say, if each says something; an empty field has none
+abbrev pub list_of : {A : Type 0} → (List ℕ → Option A) → List ℕ → Option (List A)
+list_of read [] = Some []
+list_of read (b ∷ bytes) = all_of read (slice_split (λ c. c == 32) (b ∷ bytes))
+
+abbrev pub page_or : Result (List ℕ) FromHexError → Option PageData
+page_or (Ok bytes) = Some (record { 0 = bytes })
+page_or (Err fault) = None
+
+-- the page that 32 hexadecimal digits write, in either case
+abbrev pub page_of : List ℕ → Option PageData
+page_of digits = page_or (decode_sized digits 16)
