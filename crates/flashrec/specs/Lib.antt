@@ -1,2 +1,4 @@
 pub mod Syntax
 pub mod Commands
+pub mod Figures
+pub mod Audit

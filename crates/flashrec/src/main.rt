@@ -1,7 +1,9 @@
 //! The program `flashrec`.
 #![tactic(auto)]
 
+mod audits;
 mod commands;
+mod figures;
 mod syntax;
 
 use commands::read_words;

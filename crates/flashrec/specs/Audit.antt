@@ -1,0 +1,57 @@
+-- What an audit of a report prints, and its status.
+use Rattle.std.specs.Prelude.{ℕ, ◌++◌, not, Bool, false, List, [], ◌∷◌, flat_map, codes, decimal, Option, Some, None, All, if◌then◌else◌}
+use Rattle.std.specs.Fmt.{signed_decimal}
+use Rattle.std.specs.List.{list_any}
+use Rattle.late_cert.specs.Check.{verdict_of}
+use Rattle.late_cert.specs.Rows.{RowsRise}
+use Rattle.late_cert.specs.Schedule.{lateness_of}
+use Rattle.late_cert.specs.Verdict.{fault_number, is_holds, name_of}
+use Rattle.late_cert.specs.declared.certificates.Certificate.{Certificate}
+use Rattle.late_cert.specs.declared.verdicts.Verdict.{Verdict}
+use Rattle.task_script.specs.JobRows.{job_rows_of}
+use Rattle.task_script.specs.declared.reports.DieReport.{DieReport}
+use Rattle.task_script.specs.declared.reports.ReportRow.{ReportRow}
+
+-- the verdict on a certificate, by the rows that its die has in the report
+abbrev pub verdict_on : List ReportRow → Certificate → Verdict
+verdict_on rows cert = verdict_of (job_rows_of rows) cert.start cert.due cert.completion cert.jobs
+
+abbrev pub fault_text : Option ℕ → List ℕ → List ℕ
+fault_text None name = codes "holds"
+fault_text (Some number) name = codes "refused " ++ decimal number ++ codes " " ++ name
+
+-- `holds`, or the number and the name of what is refused
+abbrev pub verdict_text : Verdict → List ℕ
+verdict_text verdict = fault_text (fault_number verdict) (name_of verdict)
+
+-- the lateness and the job that a certificate speaks of
+abbrev pub worst_text : ℕ → Certificate → List ℕ
+worst_text die cert = codes "die " ++ decimal die ++ codes " worst " ++ signed_decimal (lateness_of cert.completion cert.due) ++ codes " job " ++ decimal cert.job ++ codes " "
+
+abbrev pub cert_line : ℕ → List ReportRow → Option Certificate → List ℕ
+cert_line die rows None = codes "die " ++ decimal die ++ codes " no lateness" ++ 10 ∷ []
+cert_line die rows (Some cert) = worst_text die cert ++ verdict_text (verdict_on rows cert) ++ 10 ∷ []
+
+-- the line of a die
+abbrev pub die_line : DieReport → List ℕ
+die_line die = cert_line die.die die.rows die.cert
+
+-- the lines of all dies, in order
+abbrev pub audit_text : List DieReport → List ℕ
+audit_text report = flat_map die_line report
+
+abbrev pub refuses : List ReportRow → Option Certificate → Bool
+refuses rows None = false
+refuses rows (Some cert) = not (is_holds (verdict_on rows cert))
+
+-- whether a die has a certificate that is refused
+abbrev pub is_refused : DieReport → Bool
+is_refused die = refuses die.rows die.cert
+
+-- the status of an audit: 3 where some certificate is refused
+abbrev pub audit_status : List DieReport → ℕ
+audit_status report = if list_any is_refused report then 3 else 0
+
+-- on each die the numbers of jobs rise
+abbrev pub NumbersRise : List DieReport → Type 0
+NumbersRise report = All (λ (die : DieReport). RowsRise (job_rows_of die.rows)) report

@@ -1,0 +1,120 @@
+//! Audits of reports: the verdict on each certificate.
+
+ghost use Rattle.std.specs.Prelude.{◌≡◌, ◌++◌, ◌∷◌, [], codes, decimal, IfOk, IfErr, OnOk, Some, None};
+ghost use Rattle.std.specs.List.{list_any};
+ghost use Rattle.late_cert.specs.Rows.{RowsRise};
+ghost use Rattle.task_script.specs.JobRows.{job_rows_of};
+ghost use Rattle.flashrec.specs.Audit.{NumbersRise, audit_text, cert_line, die_line, is_refused, refuses, verdict_on, verdict_text, worst_text};
+
+use late_cert::{Certificate, Verdict, check, lateness};
+use slot_types::Refusal;
+use std::alloc::Global;
+use std::io;
+use std::io::Write;
+use task_script::{DieReport, Report};
+
+/// What an audit found.
+#[derive(Drop)]
+pub struct Audit {
+    /// A line for each die.
+    pub text: Vec<u8>,
+    /// Whether a certificate is refused.
+    pub refused: bool,
+}
+
+/// Adds what a check says.
+fn put_verdict(text: &mut Vec<u8>, verdict: Verdict) -> io::Result<()>
+    ensures { OnOk result (text.new.items ≡ text.old.items ++ verdict_text verdict) }
+{
+    match verdict.number() {
+        None => write!(text, "holds"),
+        Some(number) => {
+            let name = verdict.name();
+            write!(text, "refused {number} {name}")
+        }
+    }
+}
+
+/// Adds the lateness and the job that a certificate speaks of.
+fn put_worst(text: &mut Vec<u8>, die: u32, cert: &Certificate) -> io::Result<()>
+    ensures { OnOk result (text.new.items ≡ text.old.items ++ worst_text die cert.now) }
+{
+    let (late, job) = (lateness(cert.completion, cert.due), cert.job.0);
+    write!(text, "die {die} worst {late} job {job} ")
+}
+
+/// The verdict on a die's certificate.
+fn verdict(alloc: Global, die: &DieReport, cert: &Certificate) -> Result<Verdict, Refusal>
+    requires { RowsRise (job_rows_of die.now.rows) }
+    ensures ok { IfOk result (λ verdict. verdict ≡ verdict_on die.now.rows cert.now) }
+    ensures refused { IfErr result (λ refusal. refusal ≡ Refusal.NoMemory) }
+{
+    let rows = die.job_rows(alloc)?;
+    Ok(check(&rows, cert))
+}
+
+/// Adds the line of a die without a certificate.
+fn put_none(text: &mut Vec<u8>, die: u32) -> io::Result<()>
+    ensures { OnOk result (text.new.items ≡ text.old.items ++ cert_line die [] None) }
+{
+    write!(text, "die {die} no lateness")?;
+    text.push(b'\n')?;
+    Ok(())
+}
+
+/// Adds the line of a certificate.
+fn put_cert(text: &mut Vec<u8>, die: u32, cert: &Certificate, verdict: Verdict) -> io::Result<()>
+    ensures { OnOk result (text.new.items ≡ text.old.items ++ (worst_text die cert.now ++ verdict_text verdict ++ 10 ∷ [])) }
+{
+    put_worst(text, die, cert)?;
+    put_verdict(text, verdict)?;
+    text.push(b'\n')?;
+    Ok(())
+}
+
+/// Adds the line of a die, and says whether its certificate is refused.
+fn put_die(alloc: Global, text: &mut Vec<u8>, die: &DieReport) -> Result<bool, Refusal>
+    requires { RowsRise (job_rows_of die.now.rows) }
+    ensures text { OnOk result (text.new.items ≡ text.old.items ++ die_line die.now) }
+    ensures refusal { IfOk result (λ is. is ≡ is_refused die.now) }
+    ensures refused { IfErr result (λ refusal. refusal ≡ Refusal.NoMemory) }
+{
+    let Some(cert) = &die.cert else {
+        if put_none(text, die.die).is_err() {
+            return Err(Refusal::NoMemory);
+        }
+        return Ok(false);
+    };
+    let verdict = verdict(alloc, die, cert)?;
+    if put_cert(text, die.die, cert, verdict).is_err() {
+        return Err(Refusal::NoMemory);
+    }
+    Ok(verdict.number().is_some())
+}
+
+/// Adds the lines of dies, and says whether a certificate of theirs is refused.
+fn put_dies(alloc: Global, text: &mut Vec<u8>, dies: &[DieReport]) -> Result<bool, Refusal>
+    requires { NumbersRise dies.now }
+    ensures text { OnOk result (text.new.items ≡ text.old.items ++ audit_text dies.now) }
+    ensures refusal { IfOk result (λ is. is ≡ list_any is_refused dies.now) }
+    ensures refused { IfErr result (λ refusal. refusal ≡ Refusal.NoMemory) }
+{
+    let mut refused = false;
+    for die in dies {
+        let is_refused = put_die(alloc, text, die)?;
+        refused |= is_refused;
+    }
+    Ok(refused)
+}
+
+/// What an audit of a report finds. The only refusal is NoMemory.
+pub fn audit_report(alloc: Global, report: &Report) -> Result<Audit, Refusal>
+    requires { NumbersRise report.now }
+    ensures text { IfOk result (λ audit. audit.text.items ≡ audit_text report.now) }
+    ensures refusal { IfOk result (λ audit. audit.refused ≡ list_any is_refused report.now) }
+    ensures refused { IfErr result (λ refusal. refusal ≡ Refusal.NoMemory) }
+{
+    let mut text = Vec::new(alloc);
+    let refused = put_dies(alloc, &mut text, report.as_slice())?;
+    Ok(Audit { text, refused })
+}
