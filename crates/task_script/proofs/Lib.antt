@@ -6,3 +6,6 @@ pub mod PlanLaws
 pub mod RowLaws
 pub mod WordLaws
 pub mod StepLaws
+pub mod RecordLaws
+pub mod ProgressLaws
+pub mod ReadingLaws

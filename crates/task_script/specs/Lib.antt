@@ -17,3 +17,6 @@ pub mod Script
 pub mod Left
 pub mod ReportRows
 pub mod Worst
+pub mod RecordsLeft
+pub mod ReportOf
+pub mod Progress

@@ -82,10 +82,16 @@ has_outcome row kind.Job None = is_none row.lateness && (is_none row.given && (l
 has_outcome row kind.Collect None = is_none row.lateness && (is_none row.given && (length row.reads == 0))
 has_outcome row kind.Waived None = is_none row.lateness && (is_some row.given && ((length row.reads == 0) && (row.work == 0)))
 
--- the numbers of a row are within their limits, its due is above its release, and it fills its fields
+-- the numbers of die, task and job are within their limits
+abbrev pub is_placed : DieRow → Bool
+is_placed x = nat_lt x.die 8 && (nat_lt x.row.task 16 && nat_lt x.row.job 65536)
+
+-- the due is above the release, and within its limit
+abbrev pub is_timed : ReportRow → Bool
+is_timed row = nat_lt row.release row.due && nat_le row.due 1048576
+
 abbrev pub is_sound : DieRow → Bool
-is_sound x = nat_le x.die 7 && (nat_le x.row.task 15 && (nat_le x.row.job 65535 && (nat_lt x.row.release x.row.due
-    && (nat_le x.row.due 1048576 && has_outcome x.row x.row.row x.row.completion))))
+is_sound x = is_placed x && (is_timed x.row && has_outcome x.row x.row.row x.row.completion)
 
 abbrev pub if_sound : DieRow → Option DieRow
 if_sound x = if is_sound x then Some x else None

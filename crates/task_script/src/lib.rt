@@ -2,11 +2,14 @@
 #![tactic(auto)]
 
 mod bounded;
+mod gathered;
 mod items;
 mod numbers;
 mod ops;
 mod plan_texts;
+mod records;
 mod report_certs;
+mod report_reading;
 mod report_rows;
 mod report_texts;
 mod reports;
@@ -19,6 +22,7 @@ mod words;
 
 pub use items::ScriptItem;
 pub use numbers::number;
+pub use report_reading::read_report;
 pub use report_texts::write_report;
 pub use reports::{DieReport, Report, ReportRow, ReportRows, RowKind};
 pub use scripts::ScriptReader;

@@ -5,7 +5,7 @@ ghost use Rattle.csv.specs.Records.{field_at, fields_of};
 ghost use Rattle.task_script.specs.Header.{has_text};
 ghost use Rattle.task_script.specs.Items.{field_or};
 ghost use Rattle.task_script.specs.Number.{number_of};
-ghost use Rattle.task_script.specs.ReportRows.{has_outcome, if_filled, is_done, is_sound, kind_in, lateness_in, number_at, row_in, sound_row};
+ghost use Rattle.task_script.specs.ReportRows.{has_outcome, if_filled, is_done, is_placed, is_sound, is_timed, kind_in, lateness_in, number_at, row_in, sound_row};
 ghost use Rattle.task_script.specs.Words.{list_of, page_of};
 
 use crate::numbers::number;
@@ -14,7 +14,7 @@ use crate::rows::{field_in, is_named};
 use crate::words::list;
 use csv::ByteRecord;
 use late_cert::lateness;
-use slot_types::{JobNo, MAX_OPS, MAX_SLOT, Reads, TaskNo};
+use slot_types::{JobNo, MAX_DIES, MAX_JOBS, MAX_OPS, MAX_SLOT, MAX_TASKS, Reads, TaskNo};
 use std::alloc::{AllocError, Global};
 
 /// A row, and the die that it is of.
@@ -171,16 +171,25 @@ fn fills(row: &ReportRow) -> bool
     }
 }
 
+/// Whether the numbers of die, task and job are within their limits.
+fn has_place(found: &DieRow) -> bool
+    ensures { result ≡ is_placed found.now }
+{
+    found.die < MAX_DIES && found.row.task.0 < MAX_TASKS && found.row.job.0 < MAX_JOBS
+}
+
+/// Whether the due is above the release, and within its limit.
+fn has_times(row: &ReportRow) -> bool
+    ensures { result ≡ is_timed row.now }
+{
+    row.release < row.due && row.due <= MAX_SLOT
+}
+
 /// Whether the numbers of a row are within their limits, and it fills its fields.
 fn stands(found: &DieRow) -> bool
     ensures { result ≡ is_sound found.now }
 {
-    found.die <= 7
-        && found.row.task.0 <= 15
-        && found.row.job.0 <= 65_535
-        && found.row.release < found.row.due
-        && found.row.due <= MAX_SLOT
-        && fills(&found.row)
+    has_place(found) && has_times(&found.row) && fills(&found.row)
 }
 
 /// The row that a record says, if it is of the right shape.

@@ -2,7 +2,7 @@
 
 ghost use Rattle.std.specs.Prelude.{◌≡◌, IfOk, IfErr, option_map};
 ghost use Rattle.csv.specs.Records.{fields_of, field_at};
-ghost use Rattle.task_script.specs.Header.{has_text, is_script_header};
+ghost use Rattle.task_script.specs.Header.{has_text, is_report_header, is_script_header};
 ghost use Rattle.task_script.specs.Items.{field_or};
 ghost use Rattle.task_script.specs.Plain.{IsPlain};
 ghost use Rattle.task_script.specs.Readings.{IsOutside};
@@ -72,4 +72,22 @@ pub fn heads_script(row: &ByteRecord) -> bool
         && is_named(row, 4, "release")
         && is_named(row, 5, "due")
         && is_named(row, 6, "ops")
+}
+
+/// Whether a record is the header of a report.
+pub fn heads_report(row: &ByteRecord) -> bool
+    ensures { result ≡ is_report_header (fields_of row.now) }
+{
+    row.len() == 11
+        && is_named(row, 0, "row")
+        && is_named(row, 1, "die")
+        && is_named(row, 2, "job")
+        && is_named(row, 3, "task")
+        && is_named(row, 4, "release")
+        && is_named(row, 5, "due")
+        && is_named(row, 6, "work")
+        && is_named(row, 7, "completion")
+        && is_named(row, 8, "lateness")
+        && is_named(row, 9, "given")
+        && is_named(row, 10, "items")
 }
