@@ -9,3 +9,4 @@ pub mod StepLaws
 pub mod RecordLaws
 pub mod ProgressLaws
 pub mod ReadingLaws
+pub mod NumberLaws

@@ -20,3 +20,4 @@ pub mod Worst
 pub mod RecordsLeft
 pub mod ReportOf
 pub mod Progress
+pub mod Numbered
