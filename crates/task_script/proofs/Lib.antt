@@ -10,3 +10,7 @@ pub mod RecordLaws
 pub mod ProgressLaws
 pub mod ReadingLaws
 pub mod NumberLaws
+pub mod FieldsBack
+pub mod RecordsBack
+pub mod RowsBack
+pub mod CertsBack

@@ -10,50 +10,32 @@ use Rattle.csv.specs.Writing.{default_writer, needs_byte, row_text, fields_text,
 use Rattle.task_script.specs.Commas.{after_commas}
 use Rattle.hex.specs.Hex.{encode_with, encode_lower, lower_digits}
 
+-- no byte of a text passes the test
+abbrev pub Lacks : (ℕ → Bool) → List ℕ → Type 0
+Lacks p text = list_any p text ≡ false
+
 -- no byte of the field calls for quotes
 abbrev pub IsPlain : List ℕ → Type 0
-IsPlain field = list_any (needs_byte default_writer) field ≡ false
+IsPlain field = Lacks (needs_byte default_writer) field
 
--- a byte above the comma
-pub plain-byte : (b : ℕ) → 44 < b → needs_byte default_writer b ≡ false
-plain-byte b above =
+-- the test passes no byte from the digits on
+abbrev pub PassesLow : (ℕ → Bool) → Type 0
+PassesLow p = (b : ℕ) → 48 ≤ b → p b ≡ false
+
+pub quotes-low : PassesLow (needs_byte default_writer)
+quotes-low b above =
     let comma : (b == 44) ≡ false = ne_eqb b 44 (omega arith) in
     let quote : (b == 34) ≡ false = ne_eqb b 34 (omega arith) in
     let return : (b == 13) ≡ false = ne_eqb b 13 (omega arith) in
     let feed : (b == 10) ≡ false = ne_eqb b 10 (omega arith) in
     rw (comma, quote, return, feed) refl
 
-pub plain-append : (xs ys : List ℕ) → IsPlain xs → IsPlain ys → IsPlain (xs ++ ys)
-plain-append xs ys a b = list_any-append (needs_byte default_writer) xs ys ∙ rw (a, b) refl
+pub lacks-append : (p : ℕ → Bool) (xs ys : List ℕ) → Lacks p xs → Lacks p ys → Lacks p (xs ++ ys)
+lacks-append p xs ys a b = list_any-append p xs ys ∙ rw (a, b) refl
 
-pub plain-cons : (b : ℕ) (xs : List ℕ) → needs_byte default_writer b ≡ false → IsPlain xs → IsPlain (b ∷ xs)
-plain-cons b xs first rest = rw (first, rest) refl
+pub lacks-cons : (p : ℕ → Bool) (b : ℕ) (xs : List ℕ) → p b ≡ false → Lacks p xs → Lacks p (b ∷ xs)
+lacks-cons p b xs first rest = rw (first, rest) refl
 
--- numbers
-plain-glyph : (d : ℕ) → needs_byte default_writer (digit_glyph false d) ≡ false
-plain-glyph d = elim (cases_Bool (nat_lt d 10)) [
-  | inl low ↦ rw low (plain-byte (48 + d) (omega arith))
-  | inr high ↦ rw high (plain-byte (87 + d) (omega arith))
-]
-
-plain-digits : (k n : ℕ) (acc : List ℕ) → IsPlain acc → IsPlain (digits_onto k 10 false n acc)
-plain-digits zero n acc so-far = so-far
-plain-digits (suc k) n acc so-far =
-    let more : IsPlain (digit_glyph false (n % 10) ∷ acc) = plain-cons (digit_glyph false (n % 10)) acc (plain-glyph (n % 10)) so-far in
-    elim (cases_Bool (n / 10 == 0)) [
-      | inl last ↦ rw last more
-      | inr left ↦ rw left (plain-digits k (n / 10) (digit_glyph false (n % 10) ∷ acc) more)
-    ]
-
-pub plain-decimal : (n : ℕ) → IsPlain (decimal n)
-unfolding digits
-plain-decimal n = plain-digits 64 n [] refl
-
-pub plain-signed : (z : ℤ) → IsPlain (signed_decimal z)
-plain-signed (pos n) = plain-decimal n
-plain-signed (negsuc n) = plain-cons 45 (decimal (suc n)) refl (plain-decimal (suc n))
-
--- hexadecimal digits
 or-left : (a b : Bool) → (a || b) ≡ false → a ≡ false
 or-left true b e = e
 or-left false b e = refl
@@ -62,17 +44,54 @@ or-right : (a b : Bool) → (a || b) ≡ false → b ≡ false
 or-right true b e = cc e
 or-right false b e = e
 
-plain-looked_up : (digits : List ℕ) (i : ℕ) → IsPlain digits → needs_byte default_writer (get_or digits i 0) ≡ false
-plain-looked_up [] i all = refl
-plain-looked_up (d ∷ ds) zero all = or-left (needs_byte default_writer d) _ all
-plain-looked_up (d ∷ ds) (suc i) all = plain-looked_up ds i (or-right (needs_byte default_writer d) _ all)
+pub lacks-head : (p : ℕ → Bool) (b : ℕ) (xs : List ℕ) → Lacks p (b ∷ xs) → p b ≡ false
+lacks-head p b xs all = or-left (p b) (list_any p xs) all
+
+pub lacks-tail : (p : ℕ → Bool) (b : ℕ) (xs : List ℕ) → Lacks p (b ∷ xs) → Lacks p xs
+lacks-tail p b xs all = or-right (p b) (list_any p xs) all
+
+-- numbers
+lacks-glyph : (p : ℕ → Bool) → PassesLow p → (d : ℕ) → p (digit_glyph false d) ≡ false
+lacks-glyph p low d = elim (cases_Bool (nat_lt d 10)) [
+  | inl small ↦ rw small (low (48 + d) (omega arith))
+  | inr large ↦ rw large (low (87 + d) (omega arith))
+]
+
+lacks-digits : (p : ℕ → Bool) → PassesLow p → (k n : ℕ) (acc : List ℕ) → Lacks p acc → Lacks p (digits_onto k 10 false n acc)
+lacks-digits p low zero n acc so-far = so-far
+lacks-digits p low (suc k) n acc so-far =
+    let more : Lacks p (digit_glyph false (n % 10) ∷ acc) = lacks-cons p (digit_glyph false (n % 10)) acc (lacks-glyph p low (n % 10)) so-far in
+    elim (cases_Bool (n / 10 == 0)) [
+      | inl last ↦ rw last more
+      | inr left ↦ rw left (lacks-digits p low k (n / 10) (digit_glyph false (n % 10) ∷ acc) more)
+    ]
+
+pub lacks-decimal : (p : ℕ → Bool) → PassesLow p → (n : ℕ) → Lacks p (decimal n)
+unfolding digits
+lacks-decimal p low n = lacks-digits p low 64 n [] refl
+
+pub plain-decimal : (n : ℕ) → IsPlain (decimal n)
+plain-decimal n = lacks-decimal (needs_byte default_writer) quotes-low n
+
+pub plain-signed : (z : ℤ) → IsPlain (signed_decimal z)
+plain-signed (pos n) = plain-decimal n
+plain-signed (negsuc n) = lacks-cons (needs_byte default_writer) 45 (decimal (suc n)) refl (plain-decimal (suc n))
+
+-- hexadecimal digits
+lacks-looked_up : (p : ℕ → Bool) → p 0 ≡ false → (digits : List ℕ) (i : ℕ) → Lacks p digits → p (get_or digits i 0) ≡ false
+lacks-looked_up p none [] i all = none
+lacks-looked_up p none (d ∷ ds) zero all = lacks-head p d ds all
+lacks-looked_up p none (d ∷ ds) (suc i) all = lacks-looked_up p none ds i (lacks-tail p d ds all)
+
+pub lacks-encode : (p : ℕ → Bool) → p 0 ≡ false → Lacks p lower_digits → (bytes : List ℕ) → Lacks p (encode_lower bytes)
+unfolding encode_with
+lacks-encode p none digits [] = refl
+lacks-encode p none digits (b ∷ rest) =
+    let low = lacks-cons p (slice_index lower_digits (b % 16)) (encode_lower rest) (lacks-looked_up p none lower_digits (b % 16) digits) (lacks-encode p none digits rest) in
+    lacks-cons p (slice_index lower_digits (b / 16)) (slice_index lower_digits (b % 16) ∷ encode_lower rest) (lacks-looked_up p none lower_digits (b / 16) digits) low
 
 pub plain-encode : (bytes : List ℕ) → IsPlain (encode_lower bytes)
-unfolding encode_with
-plain-encode [] = refl
-plain-encode (b ∷ rest) =
-    let low = plain-cons (slice_index lower_digits (b % 16)) (encode_lower rest) (plain-looked_up lower_digits (b % 16) refl) (plain-encode rest) in
-    plain-cons (slice_index lower_digits (b / 16)) (slice_index lower_digits (b % 16) ∷ encode_lower rest) (plain-looked_up lower_digits (b / 16) refl) low
+plain-encode bytes = lacks-encode (needs_byte default_writer) refl refl bytes
 
 -- words with a space between two
 pub joined-text : {A : Type 0} (f : A → List ℕ) (x : A) (xs : List A) → join_with_byte 32 (map f (x ∷ xs)) ≡ f x ++ flat_map (λ y. 32 ∷ f y) xs
@@ -82,7 +101,7 @@ joined-text f x (y ∷ ys) = ap (λ t. f x ++ 32 ∷ t) (joined-text f y ys)
 pub plain-joined : {A : Type 0} (f : A → List ℕ) (xs : List A) → ((x : A) → IsPlain (f x)) → IsPlain (join_with_byte 32 (map f xs))
 plain-joined f [] each = refl
 plain-joined f (x ∷ []) each = each x
-plain-joined f (x ∷ y ∷ ys) each = plain-append (f x) (32 ∷ join_with_byte 32 (map f (y ∷ ys))) (each x) (plain-cons 32 (join_with_byte 32 (map f (y ∷ ys))) refl (plain-joined f (y ∷ ys) each))
+plain-joined f (x ∷ y ∷ ys) each = lacks-append (needs_byte default_writer) (f x) (32 ∷ join_with_byte 32 (map f (y ∷ ys))) (each x) (lacks-cons (needs_byte default_writer) 32 (join_with_byte 32 (map f (y ∷ ys))) refl (plain-joined f (y ∷ ys) each))
 
 -- all of them are plain
 unfoldable pub ArePlain : List (List ℕ) → Type 0

@@ -21,3 +21,4 @@ pub mod RecordsLeft
 pub mod ReportOf
 pub mod Progress
 pub mod Numbered
+pub mod WellFormed

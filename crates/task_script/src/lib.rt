@@ -4,6 +4,7 @@
 mod bounded;
 mod gathered;
 mod items;
+mod laws;
 mod numbers;
 mod ops;
 mod plan_texts;
@@ -21,6 +22,7 @@ mod tables;
 mod words;
 
 pub use items::ScriptItem;
+pub use laws::reports_come_back;
 pub use numbers::number;
 pub use report_reading::read_report;
 pub use report_texts::write_report;
