@@ -1,9 +1,8 @@
 -- What an audit of a report prints, and its status.
-use Rattle.std.specs.Prelude.{ℕ, ◌++◌, not, Bool, false, List, [], ◌∷◌, flat_map, codes, decimal, Option, Some, None, All, if◌then◌else◌}
+use Rattle.std.specs.Prelude.{ℕ, ◌++◌, not, Bool, false, List, [], ◌∷◌, flat_map, codes, decimal, Option, Some, None, if◌then◌else◌}
 use Rattle.std.specs.Fmt.{signed_decimal}
 use Rattle.std.specs.List.{list_any}
 use Rattle.late_cert.specs.Check.{verdict_of}
-use Rattle.late_cert.specs.Rows.{RowsRise}
 use Rattle.late_cert.specs.Schedule.{lateness_of}
 use Rattle.late_cert.specs.Verdict.{fault_number, is_holds, name_of}
 use Rattle.late_cert.specs.declared.certificates.Certificate.{Certificate}
@@ -51,7 +50,3 @@ is_refused die = refuses die.rows die.cert
 -- the status of an audit: 3 where some certificate is refused
 abbrev pub audit_status : List DieReport → ℕ
 audit_status report = if list_any is_refused report then 3 else 0
-
--- on each die the numbers of jobs rise
-abbrev pub NumbersRise : List DieReport → Type 0
-NumbersRise report = All (λ (die : DieReport). RowsRise (job_rows_of die.rows)) report

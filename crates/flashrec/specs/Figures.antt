@@ -1,11 +1,8 @@
 -- What the program prints of a plan.
-use Rattle.std.specs.Prelude.{◌≡◌, ℕ, ◌++◌, List, [], ◌∷◌, flat_map, codes, decimal, Ok, All}
+use Rattle.std.specs.Prelude.{ℕ, ◌++◌, List, [], ◌∷◌, flat_map, codes, decimal, All}
 use Rattle.std.specs.List.{enumerate_from}
 use Rattle.plan_rules.specs.Bound.{MeetsBound, closed_of, fmax_of, live_of}
 use Rattle.slot_types.specs.declared.plans.DiePlan.{DiePlan}
-use Rattle.task_script.specs.PlanText.{plan_of}
-use Rattle.task_script.specs.Stores.{IsStore}
-use Rattle.task_script.specs.declared.plan_texts.PlanNumbers.{PlanNumbers}
 
 -- the line of a die, from its figures
 abbrev pub figures_line : (die fmax closed live logical : ℕ) → List ℕ
@@ -22,10 +19,6 @@ numbered_line p = plan_line p.0 p.1
 -- the lines of all dies, numbered from 0
 abbrev pub plan_text : List DiePlan → List ℕ
 plan_text store = flat_map numbered_line (enumerate_from 0 store)
-
--- the store that a plan's text makes
-abbrev pub MakesStore : List ℕ → List DiePlan → Type 0
-MakesStore bytes store = (plan : PlanNumbers) × (plan_of bytes ≡ Ok plan) × IsStore plan store
 
 -- each die may be used
 abbrev pub AllMeetBound : List DiePlan → Type 0

@@ -2,3 +2,5 @@ pub mod Syntax
 pub mod Commands
 pub mod Figures
 pub mod Audit
+pub mod Acts
+pub mod Faults

@@ -2,9 +2,8 @@
 
 ghost use Rattle.std.specs.Prelude.{◌≡◌, ◌++◌, ◌∷◌, [], codes, decimal, IfOk, IfErr, OnOk, Some, None};
 ghost use Rattle.std.specs.List.{list_any};
-ghost use Rattle.late_cert.specs.Rows.{RowsRise};
-ghost use Rattle.task_script.specs.JobRows.{job_rows_of};
-ghost use Rattle.flashrec.specs.Audit.{NumbersRise, audit_text, cert_line, die_line, is_refused, refuses, verdict_on, verdict_text, worst_text};
+ghost use Rattle.task_script.specs.Numbered.{AreNumbered, IsNumbered};
+ghost use Rattle.flashrec.specs.Audit.{audit_text, cert_line, die_line, is_refused, refuses, verdict_on, verdict_text, worst_text};
 
 use late_cert::{Certificate, Verdict, check, lateness};
 use slot_types::Refusal;
@@ -45,7 +44,7 @@ fn put_worst(text: &mut Vec<u8>, die: u32, cert: &Certificate) -> io::Result<()>
 
 /// The verdict on a die's certificate.
 fn verdict(alloc: Global, die: &DieReport, cert: &Certificate) -> Result<Verdict, Refusal>
-    requires { RowsRise (job_rows_of die.now.rows) }
+    requires { IsNumbered die.now.rows }
     ensures ok { IfOk result (λ verdict. verdict ≡ verdict_on die.now.rows cert.now) }
     ensures refused { IfErr result (λ refusal. refusal ≡ Refusal.NoMemory) }
 {
@@ -74,7 +73,7 @@ fn put_cert(text: &mut Vec<u8>, die: u32, cert: &Certificate, verdict: Verdict) 
 
 /// Adds the line of a die, and says whether its certificate is refused.
 fn put_die(alloc: Global, text: &mut Vec<u8>, die: &DieReport) -> Result<bool, Refusal>
-    requires { RowsRise (job_rows_of die.now.rows) }
+    requires { IsNumbered die.now.rows }
     ensures text { OnOk result (text.new.items ≡ text.old.items ++ die_line die.now) }
     ensures refusal { IfOk result (λ is. is ≡ is_refused die.now) }
     ensures refused { IfErr result (λ refusal. refusal ≡ Refusal.NoMemory) }
@@ -94,7 +93,7 @@ fn put_die(alloc: Global, text: &mut Vec<u8>, die: &DieReport) -> Result<bool, R
 
 /// Adds the lines of dies, and says whether a certificate of theirs is refused.
 fn put_dies(alloc: Global, text: &mut Vec<u8>, dies: &[DieReport]) -> Result<bool, Refusal>
-    requires { NumbersRise dies.now }
+    requires { AreNumbered dies.now }
     ensures text { OnOk result (text.new.items ≡ text.old.items ++ audit_text dies.now) }
     ensures refusal { IfOk result (λ is. is ≡ list_any is_refused dies.now) }
     ensures refused { IfErr result (λ refusal. refusal ≡ Refusal.NoMemory) }
@@ -109,7 +108,7 @@ fn put_dies(alloc: Global, text: &mut Vec<u8>, dies: &[DieReport]) -> Result<boo
 
 /// What an audit of a report finds. The only refusal is NoMemory.
 pub fn audit_report(alloc: Global, report: &Report) -> Result<Audit, Refusal>
-    requires { NumbersRise report.now }
+    requires { AreNumbered report.now }
     ensures text { IfOk result (λ audit. audit.text.items ≡ audit_text report.now) }
     ensures refusal { IfOk result (λ audit. audit.refused ≡ list_any is_refused report.now) }
     ensures refused { IfErr result (λ refusal. refusal ≡ Refusal.NoMemory) }

@@ -1,0 +1,51 @@
+-- What a command prints, and its status.
+use Rattle.std.specs.Prelude.{◌≡◌, ⊤, ℕ, List, Option, IfSome, Ok, Err, ◌⊎◌}
+use Rattle.std.specs.Io.KnownBytes.{Appends}
+use Rattle.slot_types.specs.declared.plans.DiePlan.{DiePlan}
+use Rattle.slot_types.specs.declared.refusals.Refusal.{Refusal}
+use Rattle.slot_types.specs.declared.refusals.Refusal.TheVariants.{WriteFault}
+use Rattle.task_script.specs.PlanText.{plan_of}
+use Rattle.task_script.specs.Readings.{IsOutside}
+use Rattle.task_script.specs.ReportOf.{report_of}
+use Rattle.task_script.specs.Stores.{IsStore, RefusesPlan}
+use Rattle.task_script.specs.declared.plan_texts.PlanNumbers.{PlanNumbers}
+use Rattle.task_script.specs.declared.reports.DieReport.{DieReport}
+use Rattle.flashrec.specs.Audit.{audit_status, audit_text}
+use Rattle.flashrec.specs.Figures.{plan_text}
+use Rattle.flashrec.specs.declared.commands.Command.{Command}
+use Rattle.flashrec.specs.declared.commands.Command.TheVariants as command
+
+-- the report of a text, where the text is known
+abbrev pub IsReportOf : Option (List ℕ) → List DieReport → Type 0
+IsReportOf text report = IfSome text (λ bytes. report_of bytes ≡ Ok report)
+
+-- the store that a plan's text makes, where the text is known
+abbrev pub IsStoreOf : Option (List ℕ) → List DiePlan → Type 0
+IsStoreOf text store = (plan : PlanNumbers) × IsStore plan store × IfSome text (λ bytes. plan_of bytes ≡ Ok plan)
+
+-- memory ran out, or a reader or a writer failed
+abbrev pub IsHostFault : Refusal → Type 0
+IsHostFault refusal = IsOutside refusal ⊎ (refusal ≡ WriteFault)
+
+-- why no report is audited
+abbrev pub RefusesAudit : Option (List ℕ) → Refusal → Type 0
+RefusesAudit text refusal = IsHostFault refusal ⊎ IfSome text (λ bytes. report_of bytes ≡ Err refusal)
+
+-- why no plan's figures are shown
+abbrev pub RefusesFigures : Option (List ℕ) → Refusal → Type 0
+RefusesFigures text refusal = IsHostFault refusal ⊎ IfSome text (λ bytes. RefusesPlan (plan_of bytes) refusal)
+
+-- the audit of the report that was read is printed, and this is its status
+abbrev pub PrintsAudit : Option (List ℕ) → Option (List ℕ) → Option (List ℕ) → ℕ → Type 0
+PrintsAudit text old new status = (report : List DieReport) × IsReportOf text report × Appends old new (audit_text report) × (status ≡ audit_status report)
+
+-- the figures of the plan that was read are printed
+abbrev pub PrintsFigures : Option (List ℕ) → Option (List ℕ) → Option (List ℕ) → Type 0
+PrintsFigures text old new = (store : List DiePlan) × IsStoreOf text store × Appends old new (plan_text store)
+
+-- a command printed what it is to print of what it read, and this is its status
+abbrev pub Prints : Command → Option (List ℕ) → Option (List ℕ) → Option (List ℕ) → ℕ → Type 0
+Prints (command.Audit report) first old new status = PrintsAudit first old new status
+Prints (command.Plan plan) first old new status = PrintsFigures first old new × (status ≡ 0)
+Prints command.Alone first old new status = status ≡ 2
+Prints (command.Run plan script slots workers) first old new status = status ≡ 2

@@ -1,0 +1,13 @@
+-- With which status the program ends.
+use Rattle.std.specs.Prelude.{ℕ, Result, Ok, Err}
+use Rattle.flashrec.specs.declared.faults.Fault.{Fault}
+use Rattle.flashrec.specs.declared.faults.Fault.TheVariants.{Refused, Words, Certificate}
+
+abbrev pub status_of : Fault → ℕ
+status_of (Refused refusal) = 1
+status_of (Words error) = 2
+status_of Certificate = 3
+
+abbrev pub outcome_status : Result (Unit {0}) Fault → ℕ
+outcome_status (Ok x) = 0
+outcome_status (Err fault) = status_of fault

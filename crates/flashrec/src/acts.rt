@@ -1,0 +1,95 @@
+//! Commands that are carried out.
+
+ghost use Rattle.std.specs.Prelude.{◌≡◌, ◌⊎◌, IfOk, IfErr, OnOk, if◌then◌else◌};
+ghost use Rattle.std.specs.Io.KnownBytes.{Appends};
+ghost use Rattle.flashrec.specs.Acts.{Prints, PrintsAudit, PrintsFigures, RefusesAudit, RefusesFigures};
+ghost use Rattle.flashrec.specs.Faults.{outcome_status};
+
+use crate::audits::audit_report;
+use crate::commands::Command;
+use crate::faults::{Fault, end};
+use crate::figures::figures_text;
+use crate::plans::store_in;
+use slot_types::Refusal;
+use std::alloc::Global;
+use std::io::{Read, Write};
+use task_script::read_report;
+
+/// Writes a text that is whole.
+fn put<W: Write>(out: &mut W, text: &[u8]) -> Result<(), Refusal>
+    ensures written { OnOk result (Appends (W.contents out.old) (W.contents out.new) text.now) }
+    ensures refused { IfErr result (λ refusal. refusal ≡ Refusal.WriteFault) }
+{
+    match out.write_all(text) {
+        Ok(()) => Ok(()),
+        Err(_) => Err(Refusal::WriteFault),
+    }
+}
+
+/// Prints the figures of a plan.
+fn print_figures<R: Read + Drop, W: Write>(alloc: Global, first: R, out: &mut W) -> Result<(), Refusal>
+    ensures printed { OnOk result (PrintsFigures (R.remaining first) (W.contents out.old) (W.contents out.new)) }
+    ensures refused { IfErr result (RefusesFigures (R.remaining first)) }
+{
+    let store = store_in(alloc, first)?;
+    let Ok(text) = figures_text(alloc, &store) else {
+        return Err(Refusal::NoMemory);
+    };
+    put(out, &text)
+}
+
+/// Prints the audit of a report, and says whether a certificate is refused.
+fn print_audit<R: Read + Drop, W: Write>(alloc: Global, first: R, out: &mut W) -> Result<bool, Refusal>
+    ensures printed { IfOk result (λ refused. PrintsAudit (R.remaining first) (W.contents out.old) (W.contents out.new) (if refused then 3 else 0)) }
+    ensures refused { IfErr result (RefusesAudit (R.remaining first)) }
+{
+    let report = read_report(alloc, first)?;
+    let audit = audit_report(alloc, &report)?;
+    put(out, &audit.text)?;
+    Ok(audit.refused)
+}
+
+/// Shows the figures of a plan, or says why not.
+fn figures<R: Read + Drop, W: Write>(alloc: Global, first: R, out: &mut W) -> Result<(), Fault>
+    ensures printed { (outcome_status result ≡ 1) ⊎ (PrintsFigures (R.remaining first) (W.contents out.old) (W.contents out.new) × (outcome_status result ≡ 0)) }
+{
+    print_figures(alloc, first, out)?;
+    Ok(())
+}
+
+/// Audits a report, or says why not.
+fn audit<R: Read + Drop, W: Write>(alloc: Global, first: R, out: &mut W) -> Result<(), Fault>
+    ensures printed { (outcome_status result ≡ 1) ⊎ PrintsAudit (R.remaining first) (W.contents out.old) (W.contents out.new) (outcome_status result) }
+{
+    if print_audit(alloc, first, out)? {
+        return Err(Fault::Certificate);
+    }
+    Ok(())
+}
+
+/// Carries a command out, with `first` in place of the file of the plan or of the report, and `second` in place of
+/// that of the script, which no other command than `run` reads. Answers the status.
+///
+/// `audit` prints for each die of the report the lateness and the job of its certificate, and whether it holds, as
+/// `die 0 worst -1 job 0 holds` or `die 0 worst 0 job 1 refused 5 EarlyRelease`, or that it has none, as
+/// `die 0 no lateness`; the status is 3 where some certificate is refused. `plan` prints for each die the figures of
+/// its plan, as `die 0 fmax 7 closed 6 live 18 logical 12 accepted`; no more of the plan is read than 1,048,577 bytes.
+///
+/// Each text for `out` is made whole before its first byte. A refusal is told in a line to `err`, as
+/// `error 19 ScriptRow 6 Fields`, and the status is 1. Where `err` fails, that is passed over.
+pub fn act<R: Read + Drop, S: Read + Drop, W: Write, E: Write>(
+    alloc: Global,
+    command: Command<'_>,
+    first: R,
+    second: S,
+    out: &mut W,
+    err: &mut E,
+) -> u8
+    ensures { (result ≡ 1) ⊎ Prints command.entry (R.remaining first) (W.contents out.old) (W.contents out.new) result }
+{
+    match command {
+        Command::Audit { .. } => end(err, audit(alloc, first, out)),
+        Command::Plan { .. } => end(err, figures(alloc, first, out)),
+        Command::Alone | Command::Run { .. } => 2,
+    }
+}
