@@ -9,6 +9,7 @@ pub mod StepLaws
 pub mod RecordLaws
 pub mod ProgressLaws
 pub mod ReadingLaws
+pub mod NumberLaws
 pub mod FieldsBack
 pub mod RecordsBack
 pub mod RowsBack

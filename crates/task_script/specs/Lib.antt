@@ -20,5 +20,6 @@ pub mod Worst
 pub mod RecordsLeft
 pub mod ReportOf
 pub mod Progress
+pub mod Numbered
 pub mod WellFormed
 pub mod DieReports

@@ -25,6 +25,7 @@ mod words;
 pub use die_reports::die_report;
 pub use items::ScriptItem;
 pub use laws::reports_come_back;
+pub use numbers::number;
 pub use report_reading::read_report;
 pub use report_texts::write_report;
 pub use reports::{DieReport, Report, ReportRow, ReportRows, RowKind};

@@ -1,6 +1,7 @@
 //! Reports read from texts.
 
-ghost use Rattle.std.specs.Prelude.{◌≡◌, ◌≤◌, ℕ, List, OnOk, length, option_map};
+ghost use Rattle.std.specs.Prelude.{◌≡◌, ◌≤◌, ℕ, List, IfOk, OnOk, length, option_map};
+ghost use Rattle.task_script.specs.Numbered.{AreNumbered};
 ghost use Rattle.task_script.specs.ReportOf.{Reading, Reads, Tells, certs_for, certs_from, no_rows, report_from, report_of, rows_from, with_die};
 ghost use Rattle.task_script.specs.RecordsLeft.{IsReady, record_line, records_left};
 ghost use Rattle.task_script.specs.Rows.{Fields};
@@ -36,6 +37,7 @@ fn take_rows<R: Read>(alloc: Global, records: &mut Records<R>) -> Result<Items<D
     requires { IsReady records.old }
     ensures read { Reads (rows_from no_rows (record_line records.old)) (λ dies. certs_from dies (record_line records.new)) (records_left R.remaining records.old) (records_left R.remaining records.new) result }
     ensures ready { OnOk result (IsReady records.new) }
+    ensures numbered { IfOk result AreNumbered }
 {
     let mut gathered = no_rows(alloc);
     while let Some(fields) = records.get_row() {
@@ -62,6 +64,7 @@ fn take_cert<R: Read>(
     requires { IsReady records.old }
     ensures read { (more : ℕ → List Fields → Reading) → Reads (certs_for die.old more (worst_of die.old.rows) (record_line records.old)) (λ _ rest. with_die die.new (more (record_line records.new) rest)) (records_left R.remaining records.old) (records_left R.remaining records.new) result }
     ensures ready { OnOk result (IsReady records.new) }
+    ensures rows { OnOk result (die.new.rows ≡ die.old.rows) }
 {
     let Some(worst) = worst(die.rows.as_slice()) else {
         return Ok(());
@@ -83,8 +86,10 @@ fn take_certs<R: Read>(
     records: &mut Records<R>,
     dies: Items<DieReport>,
 ) -> Result<Report, Refusal>
-    requires { IsReady records.old }
-    ensures { Tells (option_map (certs_from dies (record_line records.old)) (records_left R.remaining records.old)) result }
+    requires ready { IsReady records.old }
+    requires numbered { AreNumbered dies }
+    ensures report { Tells (option_map (certs_from dies (record_line records.old)) (records_left R.remaining records.old)) result }
+    ensures numbered { IfOk result AreNumbered }
 {
     let mut dies = dies.into_vec();
     for i in 0..dies.len() {
@@ -115,7 +120,8 @@ fn take_certs<R: Read>(
 /// comes where the reader fails or goes on beyond its bound; the records before it are judged first. NoMemory comes
 /// where memory is refused.
 pub fn read_report<R: Read + Drop>(alloc: Global, reader: R) -> Result<Report, Refusal>
-    ensures { Tells (option_map report_of (R.remaining reader)) result }
+    ensures report { Tells (option_map report_of (R.remaining reader)) result }
+    ensures numbered { IfOk result AreNumbered }
 {
     let mut records = records_in(alloc, reader)?;
     take_header(&mut records)?;

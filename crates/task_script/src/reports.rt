@@ -1,7 +1,9 @@
 //! Reports: what became of the jobs and collections of each die.
 
 ghost use Rattle.std.specs.Prelude.{◌≡◌, IfOk, IfErr};
+ghost use Rattle.late_cert.specs.Rows.{RowsRise};
 ghost use Rattle.task_script.specs.JobRows.{job_rows_of};
+ghost use Rattle.task_script.specs.Numbered.{IsNumbered};
 
 use late_cert::{Certificate, JobRow, JobRows};
 use slot_types::{Items, JobNo, Reads, Refusal, TaskNo};
@@ -56,9 +58,11 @@ pub type Report = Items<DieReport>;
 
 impl DieReport {
     /// The rows that a certificate is checked against: those of jobs and collections, without the waived ones, in
-    /// their order. The only refusal is NoMemory.
+    /// their order. They rise by number where the die's rows are numbered from 0, as those of a report that was read
+    /// are. The only refusal is NoMemory.
     pub fn job_rows(&self, alloc: Global) -> Result<JobRows, Refusal>
         ensures rows { IfOk result (λ rows. rows ≡ job_rows_of self.now.rows) }
+        ensures rise { IsNumbered self.now.rows → IfOk result RowsRise }
         ensures refused { IfErr result (λ refusal. refusal ≡ Refusal.NoMemory) }
     {
         let mut rows = JobRows::new(alloc);

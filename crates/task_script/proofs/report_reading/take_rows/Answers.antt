@@ -1,8 +1,10 @@
-use Rattle.std.proofs.Common.{sym, Ok, Err}
+use Rattle.std.proofs.Common.{sym, subst, Ok, Err}
 use Rattle.csv.specs.Records.{fields_of}
 use Rattle.task_script.specs.RecordsLeft.{record_line}
+use Rattle.task_script.specs.Numbered.{AreNumbered}
 use Rattle.task_script.specs.ReportOf.{rows_from}
 use Rattle.task_script.proofs.RecordLaws.{reads-on, reads-outside}
+use Rattle.task_script.proofs.NumberLaws.{numbered-dies, numbered-more}
 use Rattle.task_script.proofs.ReadingLaws.{rows-broken, rows-end, rows-more}
 use Rattle.task_script.proofs.report_reading.take_rows.Goals as goal
 
@@ -25,6 +27,7 @@ loop-fields-preserved g c =
     let more = sym (rw c.if-not-branch.false at c.in_ok-gather.ensures.row) in
     record {
       ready = c.in-Ok.ensures.ready;
+      numbered = numbered-more c.loop-fields.gathered c.gather.new.gathered (fields_of c.in-Some.fields.now) more c.loop-fields.invariant.numbered;
       few = c.in_ok-gather.ensures.few c.if-not-branch.false;
       read = rows-more c.loop-fields.gathered c.gather.new.gathered (record_line records) (record_line c.advance.new.self) records.found (fields_of records.fields)
           (fields_of c.in-Some.fields.now) _ _ _ (sym c.in-Some.ensures) more c.in-Ok.ensures.line c.in-Ok.ensures.next c.loop-fields.invariant.read;
@@ -36,3 +39,6 @@ returns-clause-read g c =
     let rows = c.loop-fields.gathered in
     reads-on _ (rows_from rows (record_line records)) _ _ _ _ (Ok c.in_ok-dies.dies) c.loop-fields.invariant.read
     (rows-end rows c.in_ok-dies.dies (record_line records) records.found (fields_of records.fields) _ (sym c.in_default.ensures) c.in_ok-dies.ensures)
+
+pub returns-clause-numbered : goal.returns-clause-numbered
+returns-clause-numbered g c = subst AreNumbered (sym c.in_ok-dies.ensures) (numbered-dies c.loop-fields.gathered c.loop-fields.invariant.numbered)
