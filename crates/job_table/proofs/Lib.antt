@@ -8,4 +8,3 @@ pub mod Waivers
 pub mod Releasing
 pub mod Roomy
 pub mod Tables
-pub mod Reading

@@ -1,11 +1,11 @@
 //! The jobs and collections of a die by number.
 
-ghost use Rattle.std.specs.Prelude.{◌≡◌, ◌<◌, ◌≤◌, ◌+◌, ◌^◌, ◌==◌, ◌∷◌, ◌++◌, [], if◌then◌else◌, nat_lt, List, true, false, length, slice_get, option_copied, Contains, OnOk, IfOk, OnErr, IfErr, IfSome, IfNone};
+ghost use Rattle.std.specs.Prelude.{◌≡◌, ◌<◌, ◌≤◌, ◌+◌, ◌^◌, ◌==◌, ◌∷◌, ◌++◌, [], if◌then◌else◌, nat_lt, true, false, length, slice_get, option_copied, Contains, OnOk, IfOk, OnErr, IfErr, IfSome, IfNone};
 ghost use Rattle.due_queue.specs.Queue.{inserted};
 ghost use Rattle.due_queue.specs.Keys.{is_due_before, is_released_before};
-ghost use Rattle.job_table.specs.Jobs.{JobRecord, new_job, new_collection, carried, with_read, with_stage};
-ghost use Rattle.job_table.specs.Table.{empty_table, with_job, changed_at, with_change, work_at, reads_next_at, is_collecting};
-ghost use Rattle.job_table.specs.Waivers.{AreWaived, WereOpen, waived_in, reopened, stopped};
+ghost use Rattle.job_table.specs.Jobs.{new_job, new_collection, carried, with_read, with_stage};
+ghost use Rattle.job_table.specs.Table.{empty_table, with_job, changed_at, with_change, work_at, reads_left, is_collecting};
+ghost use Rattle.job_table.specs.Waivers.{AreWaived, reopened, stopped};
 ghost use Rattle.job_table.specs.Kept.{AreOfTasks, unmarked};
 ghost use Rattle.job_table.specs.Order.{IsHead, NothingReady};
 ghost use Rattle.job_table.specs.Worst.{IsWorst, NothingDone, lateness_at};
@@ -196,11 +196,10 @@ impl JobTable {
         }
     }
 
-    /// The head took one more slot, which wasn't a read of a job.
+    /// The head took one more slot, in which it read nothing for its job.
     pub fn carry(&mut self, number: JobNo)
         requires running { self.old.ended ≡ false }
         requires head { IsHead self.old number }
-        requires reads { reads_next_at self.old.jobs number ≡ false }
         requires room { work_at self.old.jobs number + 1 < 2 ^ 32 }
         ensures carried { self.new ≡ with_change self.old number carried }
         ensures head { IsHead self.new number }
@@ -209,17 +208,18 @@ impl JobTable {
         job.carry();
     }
 
-    /// The head took one more slot, in which its read gave these bytes.
+    /// The head took one more slot, in which one of its reads gave these bytes.
     pub fn carry_read(&mut self, number: JobNo, bytes: PageData)
         requires running { self.old.ended ≡ false }
         requires head { IsHead self.old number }
-        requires reads { reads_next_at self.old.jobs number ≡ true }
         requires room { work_at self.old.jobs number + 1 < 2 ^ 32 }
+        requires reads { 0 < reads_left self.old.jobs number }
         ensures carried { self.new ≡ with_change self.old number (λ job. with_read bytes (carried job)) }
         ensures head { IsHead self.new number }
     {
         let job = &mut self.jobs[number.0 as usize];
-        job.carry_read(bytes);
+        job.carry();
+        job.take_read(bytes);
     }
 
     /// The head is done: `completion` is 1 + its last slot, and `given` counts the pages that a collection gave its
@@ -257,8 +257,7 @@ impl JobTable {
     /// The die has stopped, and the waivers of its last slot are taken back. From now on the table is only read.
     pub fn stop(&mut self, waived: &[Waived])
         requires { AreWaived self.old.jobs waived.now }
-        ensures stopped { self.new ≡ stopped self.old waived.now }
-        ensures as_before { (jobs : List JobRecord) → WereOpen jobs waived.now → self.old.jobs ≡ waived_in jobs waived.now → self.new.jobs ≡ jobs }
+        ensures { self.new ≡ stopped self.old waived.now }
     {
         self.ended = true;
         reopen(&mut self.jobs, waived);

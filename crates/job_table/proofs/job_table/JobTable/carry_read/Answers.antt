@@ -11,7 +11,7 @@ pub invariant_of-self : goal.invariant_of-self
 invariant_of-self c =
     let seen = subst (λ (t : Table). IsHead t c.args.number) (sym c.self.view_is) c.requires.head in
     let is_at = rw (sym c.number.view_is) at seen.is_at in
-    rw (written c.self.inside.jobs.items c.number.inside.0 (λ (job : JobRecord). with_read c.args.bytes (carried job)) seen.head c.index_mut-job.result.now c.carry_read.new.self is_at c.index_mut-job.ensures.value c.carry_read.ensures)
+    rw (written c.self.inside.jobs.items c.number.inside.0 (λ (job : JobRecord). with_read c.args.bytes (carried job)) seen.head c.index_mut-job.result.now c.take_read.new.self is_at c.index_mut-job.ensures.value (c.take_read.ensures ∙ ap (with_read c.args.bytes) c.carry.ensures))
     (quiet_sound c.self.inside.jobs.items c.number.inside.0 (λ (job : JobRecord). with_read c.args.bytes (carried job)) seen.head c.self.inside.clock c.self.inside.ended c.self.inside.collecting.items c.self.inside.queues c.self.inside.worst
     (read_quiet c.args.bytes) is_at (ready_open c.self.inside.clock seen.head seen.ready) c.self.invariant)
 
@@ -20,7 +20,7 @@ returns-clause-carried c =
     let seen = subst (λ (t : Table). IsHead t c.args.number) (sym c.self.view_is) c.requires.head in
     let is_at = rw (sym c.number.view_is) at seen.is_at in
     viewed _ _ _ _ _ (λ (job : JobRecord). with_read c.args.bytes (carried job)) c.self.view_is c.number.view_is
-    (written c.self.inside.jobs.items c.number.inside.0 (λ (job : JobRecord). with_read c.args.bytes (carried job)) seen.head c.index_mut-job.result.now c.carry_read.new.self is_at c.index_mut-job.ensures.value c.carry_read.ensures)
+    (written c.self.inside.jobs.items c.number.inside.0 (λ (job : JobRecord). with_read c.args.bytes (carried job)) seen.head c.index_mut-job.result.now c.take_read.new.self is_at c.index_mut-job.ensures.value (c.take_read.ensures ∙ ap (with_read c.args.bytes) c.carry.ensures))
 
 pub returns-clause-head : goal.returns-clause-head
 returns-clause-head c =
