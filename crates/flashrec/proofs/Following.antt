@@ -17,35 +17,44 @@ use Rattle.die_log.specs.Answers.{answer, IsAccepted}
 use Rattle.slot_core.specs.Core.{with_entry}
 use Rattle.slot_core.specs.Calls.{RefusedBy}
 use Rattle.flashrec.specs.declared.first_run.JobItem.{JobItem}
-use Rattle.flashrec.specs.Calls.{Calls, submit_of, slot_call, is_due, due_by, later_than, calls_from, answered, log_behind}
-use Rattle.flashrec.specs.Runs.{Follows, Refuses}
+use Rattle.flashrec.specs.Calls.{Calls, submit_of, slot_call, is_due, due_by, later_than, calls_from, calls_of, answered, log_behind}
+use Rattle.flashrec.specs.Runs.{Follows, Refuses, Runs, Prints, RefusesPlan, RefusesRun, FailsWriting}
+use Rattle.std.proofs.Common.{Option, Some, None, subst}
+use Rattle.std.specs.Io.KnownBytes.{Appends}
+use Rattle.plan_rules.specs.Bound.{MeetsBound}
+use Rattle.task_script.specs.declared.reports.DieReport.{DieReport}
+use Rattle.task_script.specs.DieReports.{die_report_of}
+use Rattle.task_script.specs.ReportText.{report_text}
 
 -- the value of a result that is Ok
-log_of : Log → Result Log Refusal → Log
+abbrev log_of : Log → Result Log Refusal → Log
 log_of d (Ok log) = log
 log_of d (Err e) = d
 
-same_ok : (a b : Log) → Ok {Log} {Refusal} a ≡ Ok b → a ≡ b
+abbrev ok_log : Log → Result Log Refusal
+ok_log log = Ok log
+
+same_ok : (a b : Log) → ok_log a ≡ Ok b → a ≡ b
 same_ok a b e = ap (log_of a) e
 
-is_ok_type : Result Log Refusal → Type 0
-is_ok_type (Ok log) = Unit {0}
-is_ok_type (Err e) = ⊥
+abbrev IsOkLog : Result Log Refusal → Type 0
+IsOkLog (Ok log) = Unit {0}
+IsOkLog (Err e) = ⊥
 
-ok_not_err : (a : Log) (e : Refusal) → Err {Log} {Refusal} e ≡ Ok a → ⊥
-ok_not_err a e h = subst is_ok_type (sym h) tt
+ok_not_err : (a : Log) (e : Refusal) (r : Result Log Refusal) → r ≡ Err e → r ≡ Ok a → ⊥
+ok_not_err a e r is h = subst IsOkLog (sym (sym is ∙ h)) tt
 
 -- One call
 
 pub taken_follows : (plan : DiePlan) (past log : Log) (caller : ℕ) (event : Event) (number : ℕ) → answer plan past event ≡ replies.Taken number
     → log ≡ with_entry caller event (replies.Taken number) past → Follows plan past ((caller, event) ∷ []) log
 taken_follows plan past log caller event number is log_is =
-    ap (λ (r : Reply). answered caller event r past (λ l. Ok l)) is ∙ ap (λ (l : Log). Ok {Log} {Refusal} l) (sym log_is)
+    ap (λ (r : Reply). answered caller event r past (λ l. Ok l)) is ∙ ap ok_log (sym log_is)
 
 pub slot_follows : (plan : DiePlan) (past log : Log) (caller : ℕ) (event : Event) (reply : SlotReply) → answer plan past event ≡ replies.Slot reply
     → log ≡ with_entry caller event (replies.Slot reply) past → Follows plan past ((caller, event) ∷ []) log
 slot_follows plan past log caller event reply is log_is =
-    ap (λ (r : Reply). answered caller event r past (λ l. Ok l)) is ∙ ap (λ (l : Log). Ok {Log} {Refusal} l) (sym log_is)
+    ap (λ (r : Reply). answered caller event r past (λ l. Ok l)) is ∙ ap ok_log (sym log_is)
 
 pub call_refused : (plan : DiePlan) (past : Log) (caller : ℕ) (event : Event) (refusal : Refusal) → RefusedBy plan past event refusal → Refuses plan past ((caller, event) ∷ []) refusal
 call_refused plan past caller event refusal (inl is) = inr (ap (λ (r : Reply). answered caller event r past (λ l. Ok l)) is)
@@ -56,7 +65,7 @@ call_refused plan past caller event refusal (inr h) = inl h.1
 
 then_ok : (plan : DiePlan) (caller : ℕ) (event : Event) (past mid : Log) (f g : Log → Result Log Refusal) (out : Result Log Refusal) (r : Reply)
     → ((l : Log) → f l ≡ Ok mid → g l ≡ out) → answered caller event r past f ≡ Ok mid → answered caller event r past g ≡ out
-then_ok plan caller event past mid f g out (replies.Refused refusal) h e = absurd (ok_not_err mid refusal e)
+then_ok plan caller event past mid f g out (replies.Refused refusal) h e = absurd (ok_not_err mid refusal (Err refusal) refl e)
 then_ok plan caller event past mid f g out (replies.Taken number) h e = h _ e
 then_ok plan caller event past mid f g out (replies.Slot reply) h e = h _ e
 
@@ -73,7 +82,7 @@ then_err caller event past f g refusal (replies.Taken number) h e = h _ e
 then_err caller event past f g refusal (replies.Slot reply) h e = h _ e
 
 err_more : (plan : DiePlan) (past : Log) (calls more : Calls) (refusal : Refusal) → log_behind plan past calls ≡ Err refusal → log_behind plan past (calls ++ more) ≡ Err refusal
-err_more plan past [] more refusal e = absurd (ok_not_err past refusal (sym e))
+err_more plan past [] more refusal e = absurd (ok_not_err past refusal (Ok past) e refl)
 err_more plan past (call ∷ calls) more refusal e =
     then_err call.0 call.1 past (λ l. log_behind plan l calls) (λ l. log_behind plan l (calls ++ more)) refusal (answer plan past call.1)
       (λ l. err_more plan l calls more refusal) e
@@ -106,7 +115,7 @@ submit_refused plan past items i item refusal whole below is refuses so_far =
       (ap (λ (xs : List JobItem). log_behind plan past (map submit_of xs)) (sym (drop_at items i item below is)) ∙ so_far)
 
 pub all_submitted : (plan : DiePlan) (past : Log) (items : List JobItem) (i : ℕ) (whole : Result Log Refusal) → length items ≤ i → log_behind plan past (map submit_of (drop i items)) ≡ whole → whole ≡ Ok past
-all_submitted plan past items i whole past_all so_far = sym so_far ∙ ap (λ (xs : List JobItem). log_behind plan past (map submit_of xs)) (drop_all items i past_all)
+all_submitted plan past items i whole past_all so_far = sym so_far ∙ ap (λ (xs : List JobItem). log_behind plan past (map submit_of xs)) (drop_all i items past_all)
 
 -- Slots
 
@@ -199,6 +208,40 @@ counted_here slot items i d below past c =
 pub counted_all : (slot : ℕ) (items : List JobItem) (n : ℕ) → n ≡ length items → IsCounted slot items n
     → (take n items ≡ due_by slot items) × (drop n items ≡ later_than slot items)
 counted_all slot items n all c =
-    let none = drop_all items n (omega (arith, all)) in
+    let none = drop_all n items (omega (arith, all)) in
     ( sym (c.due ∙ (ap (λ (xs : List JobItem). take n items ++ due_by slot xs) none ∙ append-nil (take n items)))
     , none ∙ sym (c.later ∙ ap (later_than slot) none) )
+
+-- By another name of the plan
+
+pub refused_by : (plan other : DiePlan) (past : Log) (calls : Calls) (refusal : Refusal) → other ≡ plan → Refuses other past calls refusal → Refuses plan past calls refusal
+refused_by plan other past calls refusal same h = subst (λ (p : DiePlan). Refuses p past calls refusal) same h
+
+pub follows_by : (plan other : DiePlan) (past log : Log) (calls : Calls) → other ≡ plan → Follows other past calls log → Follows plan past calls log
+follows_by plan other past log calls same h = subst (λ (p : DiePlan). Follows p past calls log) same h
+
+-- Whole runs
+
+pub run_refused : (plan core_plan : DiePlan) (past : Log) (slots : ℕ) (items : List JobItem) (refusal : Refusal) → core_plan ≡ plan → past ≡ [] → MeetsBound plan
+    → Refuses core_plan past (calls_of slots items) refusal → RefusesRun plan slots items refusal
+run_refused plan core_plan past slots items refusal same fresh bound (inl e) = inl (inl e)
+run_refused plan core_plan past slots items refusal same fresh bound (inr e) =
+    inr (bound, ap (λ (p : DiePlan). log_behind p [] (calls_of slots items)) (sym same) ∙ (ap (λ (l : Log). log_behind core_plan l (calls_of slots items)) (sym fresh) ∙ e))
+
+pub prints : (plan core_plan : DiePlan) (slots : ℕ) (items : List JobItem) (log : Log) (old new : Option (List ℕ)) (report : List DieReport) → core_plan ≡ plan → Runs plan slots items log
+    → report ≡ die_report_of core_plan log 0 ∷ [] → Appends old new (report_text report) → Prints plan slots items old new
+prints plan core_plan slots items log old new report same runs is text = record {
+  log = log;
+  runs = runs;
+  text = subst (λ (r : List DieReport). Appends old new (report_text r)) (is ∙ ap (λ (p : DiePlan). die_report_of p log 0 ∷ []) same) text;
+}
+
+pub fails_writing : (plan : DiePlan) (slots : ℕ) (items : List JobItem) (log : Log) (refusal : Refusal) → Runs plan slots items log
+    → (refusal ≡ because.NoMemory) ⊎ (refusal ≡ because.WriteFault) → RefusesRun plan slots items refusal ⊎ FailsWriting plan slots items refusal
+fails_writing plan slots items log refusal runs (inl e) = inl (inl (inl e))
+fails_writing plan slots items log refusal runs (inr e) = inr (e, (log, runs))
+
+pub unwritten : {A : Type 0} (old new : A) (refusal : Refusal) → (refusal ≡ because.NoMemory → new ≡ old) → (refusal ≡ because.NoMemory) ⊎ (refusal ≡ because.WriteFault)
+    → (refusal ≡ because.WriteFault → ⊥) → new ≡ old
+unwritten old new refusal memory (inl e) other = memory e
+unwritten old new refusal memory (inr e) other = absurd (other e)

@@ -91,6 +91,14 @@ fn count_due(items: &[JobItem], slot: u32) -> usize
     items.len()
 }
 
+/// The items in front that come by a slot, and those behind them.
+fn split_due<'a>(items: &'a [JobItem], slot: u32) -> (&'a [JobItem], &'a [JobItem])
+    ensures due { result.0.now ≡ due_by slot items.now }
+    ensures later { result.1.now ≡ later_than slot items.now }
+{
+    items.split_at(count_due(items, slot))
+}
+
 /// Carries out a slot.
 fn carry_slot(alloc: Global, core: &mut DieCore<MemoryNand>) -> Result<(), Refusal>
     requires runs { core.old.stopped ≡ false }
@@ -105,6 +113,7 @@ fn carry_slot(alloc: Global, core: &mut DieCore<MemoryNand>) -> Result<(), Refus
 
 /// Carries out so many slots from slot 0 on. Before each it submits the items that come by then, and after the last one
 /// those that are left.
+#[tactic(auto, using(crate::proofs::Following::due_refused, crate::proofs::Following::slot_refused, crate::proofs::Following::slot_carried))]
 fn carry_slots(
     alloc: Global,
     core: &mut DieCore<MemoryNand>,
@@ -118,9 +127,15 @@ fn carry_slots(
 {
     let mut rest = items;
     for slot in 0..slots {
-        let (due, later) = rest.split_at(count_due(rest, slot));
-        submit_all(alloc, core, due)?;
-        carry_slot(alloc, core)?;
+        let (due, later) = split_due(rest, slot);
+        match submit_all(alloc, core, due) {
+            Ok(()) => {}
+            Err(refusal) => return Err(refusal),
+        }
+        match carry_slot(alloc, core) {
+            Ok(()) => {}
+            Err(refusal) => return Err(refusal),
+        }
         rest = later;
     }
     submit_all(alloc, core, rest)
@@ -138,6 +153,7 @@ fn fresh_die(alloc: Global, plan: DiePlan) -> Result<DieCore<MemoryNand>, Refusa
 }
 
 /// A die that ran from its jobs.
+#[tactic(auto, using(crate::proofs::Following::run_refused))]
 fn run_die(
     alloc: Global,
     plan: DiePlan,
@@ -149,9 +165,13 @@ fn run_die(
     ensures refused { IfErr result (RefusesRun plan slots items.now) }
 {
     let mut core = fresh_die(alloc, plan)?;
-    carry_slots(alloc, &mut core, items.as_slice(), slots)?;
-    core.promises();
-    Ok(core)
+    match carry_slots(alloc, &mut core, items.as_slice(), slots) {
+        Err(refusal) => Err(refusal),
+        Ok(()) => {
+            core.promises();
+            Ok(core)
+        }
+    }
 }
 
 /// The report of a store of one die.
@@ -173,6 +193,7 @@ fn report_of(alloc: Global, core: &DieCore<MemoryNand>) -> Result<Report, Refusa
 /// It ends with the plan's refusal, `BadShape` or `BadPlan`; else with the first refusal of its calls, `ClockEnd` behind
 /// 1,048,576 slots among them; or with `NoMemory`. Nothing is written then. `WriteFault` comes where the writer fails; how
 /// much it took by then is not said.
+#[tactic(auto, using(crate::proofs::Following::prints, crate::proofs::Following::fails_writing, crate::proofs::Following::unwritten))]
 pub fn run_items<W: Write>(
     alloc: Global,
     plan: DiePlan,
@@ -186,5 +207,8 @@ pub fn run_items<W: Write>(
 {
     let core = run_die(alloc, plan, items, slots)?;
     let report = report_of(alloc, &core)?;
-    write_report(alloc, writer, &report)
+    match write_report(alloc, writer, &report) {
+        Ok(()) => Ok(()),
+        Err(refusal) => Err(refusal),
+    }
 }
