@@ -27,7 +27,11 @@ fn put<W: Write>(out: &mut W, text: &[u8]) -> Result<(), Refusal>
 }
 
 /// Prints the figures of a plan.
-fn print_figures<R: Read + Drop, W: Write>(alloc: Global, first: R, out: &mut W) -> Result<(), Refusal>
+fn print_figures<R: Read + Drop, W: Write>(
+    alloc: Global,
+    first: R,
+    out: &mut W,
+) -> Result<(), Refusal>
     ensures printed { OnOk result (PrintsFigures (R.remaining first) (W.contents out.old) (W.contents out.new)) }
     ensures refused { IfErr result (RefusesFigures (R.remaining first)) }
 {
@@ -39,7 +43,11 @@ fn print_figures<R: Read + Drop, W: Write>(alloc: Global, first: R, out: &mut W)
 }
 
 /// Prints the audit of a report, and says whether a certificate is refused.
-fn print_audit<R: Read + Drop, W: Write>(alloc: Global, first: R, out: &mut W) -> Result<bool, Refusal>
+fn print_audit<R: Read + Drop, W: Write>(
+    alloc: Global,
+    first: R,
+    out: &mut W,
+) -> Result<bool, Refusal>
     ensures printed { IfOk result (λ refused. PrintsAudit (R.remaining first) (W.contents out.old) (W.contents out.new) (if refused then 3 else 0)) }
     ensures refused { IfErr result (RefusesAudit (R.remaining first)) }
 {

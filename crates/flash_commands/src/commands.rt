@@ -29,9 +29,13 @@ pub enum Command<'a> {
         workers: u32,
     },
     /// Check the certificates of a report.
-    Audit { report: &'a str },
+    Audit {
+        report: &'a str,
+    },
     /// Print the figures of a plan.
-    Plan { plan: &'a str },
+    Plan {
+        plan: &'a str,
+    },
 }
 
 /// The value of an argument.

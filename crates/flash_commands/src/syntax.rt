@@ -94,15 +94,13 @@ fn plan_words<'a>(alloc: Global) -> Result<Command<'a>, AllocError>
 fn name<'a>(alloc: Global) -> Command<'a>
     ensures { app_of result ≡ new_app (codes "flashrec") }
 {
-    Command::new(alloc, "flashrec")
-        .about("A real-time flash store. Without a command, runs the script that is built in")
+    Command::new(alloc, "flashrec").about(
+        "A real-time flash store. Without a command, runs the script that is built in",
+    )
 }
 
 /// A program with one more command.
-fn with_command<'a>(
-    program: Command<'a>,
-    command: Command<'a>,
-) -> Result<Command<'a>, AllocError>
+fn with_command<'a>(program: Command<'a>, command: Command<'a>) -> Result<Command<'a>, AllocError>
     requires { has_globals command ≡ false }
     ensures { IfOk result (λ c. app_of c ≡ with_subcommand (app_of program.entry) (app_of command.entry).top) }
 {

@@ -62,7 +62,6 @@ call_refused plan past caller event refusal (inr h) = inl h.1
 
 -- Calls behind calls
 
-
 then_ok : (plan : DiePlan) (caller : ℕ) (event : Event) (past mid : Log) (f g : Log → Result Log Refusal) (out : Result Log Refusal) (r : Reply)
     → ((l : Log) → f l ≡ Ok mid → g l ≡ out) → answered caller event r past f ≡ Ok mid → answered caller event r past g ≡ out
 then_ok plan caller event past mid f g out (replies.Refused refusal) h e = absurd (ok_not_err mid refusal (Err refusal) refl e)
@@ -73,7 +72,7 @@ pub behind_more : (plan : DiePlan) (past mid : Log) (calls more : Calls) → Fol
 behind_more plan past mid [] more e = ap (λ (l : Log). log_behind plan l more) (same_ok past mid e)
 behind_more plan past mid (call ∷ calls) more e =
     then_ok plan call.0 call.1 past mid (λ l. log_behind plan l calls) (λ l. log_behind plan l (calls ++ more)) (log_behind plan mid more) (answer plan past call.1)
-      (λ l. behind_more plan l mid calls more) e
+    (λ l. behind_more plan l mid calls more) e
 
 then_err : (caller : ℕ) (event : Event) (past : Log) (f g : Log → Result Log Refusal) (refusal : Refusal) (r : Reply)
     → ((l : Log) → f l ≡ Err refusal → g l ≡ Err refusal) → answered caller event r past f ≡ Err refusal → answered caller event r past g ≡ Err refusal
@@ -85,14 +84,13 @@ err_more : (plan : DiePlan) (past : Log) (calls more : Calls) (refusal : Refusal
 err_more plan past [] more refusal e = absurd (ok_not_err past refusal (Ok past) e refl)
 err_more plan past (call ∷ calls) more refusal e =
     then_err call.0 call.1 past (λ l. log_behind plan l calls) (λ l. log_behind plan l (calls ++ more)) refusal (answer plan past call.1)
-      (λ l. err_more plan l calls more refusal) e
+    (λ l. err_more plan l calls more refusal) e
 
 pub refuses_more : (plan : DiePlan) (past : Log) (calls more : Calls) (refusal : Refusal) → Refuses plan past calls refusal → Refuses plan past (calls ++ more) refusal
 refuses_more plan past calls more refusal (inl e) = inl e
 refuses_more plan past calls more refusal (inr e) = inr (err_more plan past calls more refusal e)
 
 -- Items by arrival
-
 
 drop_at : (items : List JobItem) (i : ℕ) (item : JobItem) → i < length items → item ≡ get_or items i item → drop i items ≡ item ∷ drop (i + 1) items
 drop_at items i item below is = drop_more items i item below ∙ ap (λ (x : JobItem). x ∷ drop (i + 1) items) (sym is)
@@ -111,8 +109,8 @@ pub submit_refused : (plan : DiePlan) (past : Log) (items : List JobItem) (i : �
     → Refuses plan past (submit_of item ∷ []) refusal → log_behind plan past (map submit_of (drop i items)) ≡ whole → (refusal ≡ because.NoMemory) ⊎ (whole ≡ Err refusal)
 submit_refused plan past items i item refusal whole below is refuses so_far =
     whole_refused refusal (log_behind plan past (submit_of item ∷ map submit_of (drop (i + 1) items))) whole
-      (refuses_more plan past (submit_of item ∷ []) (map submit_of (drop (i + 1) items)) refusal refuses)
-      (ap (λ (xs : List JobItem). log_behind plan past (map submit_of xs)) (sym (drop_at items i item below is)) ∙ so_far)
+    (refuses_more plan past (submit_of item ∷ []) (map submit_of (drop (i + 1) items)) refusal refuses)
+    (ap (λ (xs : List JobItem). log_behind plan past (map submit_of xs)) (sym (drop_at items i item below is)) ∙ so_far)
 
 pub all_submitted : (plan : DiePlan) (past : Log) (items : List JobItem) (i : ℕ) (whole : Result Log Refusal) → length items ≤ i → log_behind plan past (map submit_of (drop i items)) ≡ whole → whole ≡ Ok past
 all_submitted plan past items i whole past_all so_far = sym so_far ∙ ap (λ (xs : List JobItem). log_behind plan past (map submit_of xs)) (drop_all i items past_all)
@@ -141,8 +139,8 @@ pub due_refused : (plan : DiePlan) (past : Log) (slot slots : ℕ) (rest due lat
     → log_behind plan past (calls_from slot (slots - slot) rest) ≡ whole → (refusal ≡ because.NoMemory) ⊎ (whole ≡ Err refusal)
 due_refused plan past slot slots rest due later refusal whole below due_is later_is refuses so_far =
     whole_refused refusal _ whole
-      (refuses_more plan past (map submit_of due) (slot_call ∷ calls_from (slot + 1) (slots - (slot + 1)) later) refusal refuses)
-      (left_at plan past slot slots rest due later whole below due_is later_is so_far)
+    (refuses_more plan past (map submit_of due) (slot_call ∷ calls_from (slot + 1) (slots - (slot + 1)) later) refusal refuses)
+    (left_at plan past slot slots rest due later whole below due_is later_is so_far)
 
 pub slot_refused : (plan : DiePlan) (past mid : Log) (slot slots : ℕ) (rest due later : List JobItem) (refusal : Refusal) (whole : Result Log Refusal) → slot < slots → due ≡ due_by slot rest → later ≡ later_than slot rest
     → Follows plan past (map submit_of due) mid → Refuses plan mid (slot_call ∷ []) refusal
@@ -150,9 +148,9 @@ pub slot_refused : (plan : DiePlan) (past mid : Log) (slot slots : ℕ) (rest du
 slot_refused plan past mid slot slots rest due later refusal whole below due_is later_is submitted refuses so_far =
     let calls = calls_from (slot + 1) (slots - (slot + 1)) later in
     whole_refused refusal (log_behind plan mid (slot_call ∷ calls)) whole
-      (refuses_more plan mid (slot_call ∷ []) calls refusal refuses)
-      (sym (behind_more plan past mid (map submit_of due) (slot_call ∷ calls) submitted)
-      ∙ left_at plan past slot slots rest due later whole below due_is later_is so_far)
+    (refuses_more plan mid (slot_call ∷ []) calls refusal refuses)
+    (sym (behind_more plan past mid (map submit_of due) (slot_call ∷ calls) submitted)
+    ∙ left_at plan past slot slots rest due later whole below due_is later_is so_far)
 
 last_left : (plan : DiePlan) (past : Log) (slot slots : ℕ) (rest : List JobItem) (whole : Result Log Refusal) → slots ≤ slot
     → log_behind plan past (calls_from slot (slots - slot) rest) ≡ whole → log_behind plan past (map submit_of rest) ≡ whole
@@ -201,16 +199,18 @@ pub counted_here : (slot : ℕ) (items : List JobItem) (i : ℕ) (d : JobItem) �
 counted_here slot items i d below past c =
     let item = get_or items i d in
     let here = drop_more items i d below in
-    let b = lt-leb item.at slot past in
-    ( sym (c.due ∙ (ap (λ (xs : List JobItem). take i items ++ due_by slot xs) here ∙ (ap (λ (xs : List JobItem). take i items ++ xs) (due_step slot item (drop (i + 1) items) false b) ∙ append-nil (take i items))))
-    , sym (c.later ∙ (ap (later_than slot) here ∙ (later_step slot item (drop (i + 1) items) false b ∙ sym here))) )
+    let b = lt-leb item.at slot past in (
+      sym (c.due ∙ (ap (λ (xs : List JobItem). take i items ++ due_by slot xs) here ∙ (ap (λ (xs : List JobItem). take i items ++ xs) (due_step slot item (drop (i + 1) items) false b) ∙ append-nil (take i items)))),
+      sym (c.later ∙ (ap (later_than slot) here ∙ (later_step slot item (drop (i + 1) items) false b ∙ sym here))),
+    )
 
 pub counted_all : (slot : ℕ) (items : List JobItem) (n : ℕ) → n ≡ length items → IsCounted slot items n
     → (take n items ≡ due_by slot items) × (drop n items ≡ later_than slot items)
 counted_all slot items n all c =
-    let none = drop_all n items (omega (arith, all)) in
-    ( sym (c.due ∙ (ap (λ (xs : List JobItem). take n items ++ due_by slot xs) none ∙ append-nil (take n items)))
-    , none ∙ sym (c.later ∙ ap (later_than slot) none) )
+    let none = drop_all n items (omega (arith, all)) in (
+      sym (c.due ∙ (ap (λ (xs : List JobItem). take n items ++ due_by slot xs) none ∙ append-nil (take n items))),
+      none ∙ sym (c.later ∙ ap (later_than slot) none),
+    )
 
 -- By another name of the plan
 

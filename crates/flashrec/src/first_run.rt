@@ -43,11 +43,7 @@ fn copy_of(alloc: Global, ops: &OpList) -> Result<OpList, Refusal>
 }
 
 /// Submits a job.
-fn submit_item(
-    alloc: Global,
-    core: &mut DieCore<MemoryNand>,
-    item: &JobItem,
-) -> Result<(), Refusal>
+fn submit_item(alloc: Global, core: &mut DieCore<MemoryNand>, item: &JobItem) -> Result<(), Refusal>
     requires runs { core.old.stopped ≡ false }
     ensures runs { core.new.stopped ≡ false }
     ensures plan { core.new.plan ≡ core.old.plan }

@@ -3,7 +3,6 @@
 
 mod first_run;
 mod samples;
-
 #[cfg(test)]
 mod tests;
 

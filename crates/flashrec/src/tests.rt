@@ -4,7 +4,8 @@ use slot_types::Refusal;
 use std::test::Fail;
 
 /// The report of a write and a read of it, each done a slot before its due.
-const SAMPLE: &[u8] = b"row,die,job,task,release,due,work,completion,lateness,given,items\njob,0,0,0,0,2,1,1,-1,,\njob,0,1,0,1,3,1,2,-1,,11111111111111111111111111111111\ncert,0,0,,0,2,,1,-1,,0\n";
+const SAMPLE: &[u8] =
+    b"row,die,job,task,release,due,work,completion,lateness,given,items\njob,0,0,0,0,2,1,1,-1,,\njob,0,1,0,1,3,1,2,-1,,11111111111111111111111111111111\ncert,0,0,,0,2,,1,-1,,0\n";
 
 #[test]
 fn the_sample_prints_its_report(rt: HostRuntime) -> Result<(), Fail> {

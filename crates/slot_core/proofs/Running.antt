@@ -73,26 +73,31 @@ pub submit_refused : {N : Type 0} (failures : N → ℕ) (task release due : ℕ
     → (refusal ≡ DieStopped ↔ (old.stopped ≡ true)) → (old.stopped ≡ false → RefusedBy old.plan old.log (Submit task release due ops) refusal) → new ≡ old
     → IsStep old.plan (Submit task release due ops) (Refused refusal) (moment_of failures old) (moment_of failures new)
 submit_refused {N} failures task release due ops refusal old new stopped refused same = by_stopped old.stopped refl where
-    event : Event
-    event = Submit task release due ops
-    left : moment_of failures new ≡ moment_of failures old
-    left = ap (moment_of failures) same
-    rises : (after : Moment) → after ≡ moment_of failures old → after.failures ≡ failures old.device + 1 → ⊥
-    rises after is more = no_more (failures old.device) (sym (ap (λ (m : Moment). m.failures) is) ∙ more)
-    step : (AnsweredByLog old.plan event (Refused refusal) (moment_of failures old) (moment_of failures new)
-        ⊎ FoundNoMemory old.plan event (Refused refusal) (moment_of failures old) (moment_of failures new)
-        ⊎ StoppedByFault old.plan event (Refused refusal) (moment_of failures old) (moment_of failures new)
-        ⊎ FoundStopped old.plan event (Refused refusal) (moment_of failures old) (moment_of failures new))
-        → (refusal ≡ DeviceFault → ⊥) → IsStep old.plan event (Refused refusal) (moment_of failures old) (moment_of failures new)
-    step answered other = record { answered = answered; faults = ((λ e. absurd (other (refused_is refusal DeviceFault e))), (λ more. absurd (rises (moment_of failures new) left more))) }
-    by_refused : old.stopped ≡ false → RefusedBy old.plan old.log event refusal → IsStep old.plan event (Refused refusal) (moment_of failures old) (moment_of failures new)
-    by_refused runs (inl e) =
-        step (inl (record { ran = runs; reply_is = sym e; log_is = ap (λ (m : Moment). m.log) left; runs = ap (λ (m : Moment). m.stopped) left ∙ runs }))
-        (λ is. no_fault old.plan old.log task release due ops (e ∙ ap Refused is))
-    by_refused runs (inr h) = step (inr (inl (record { ran = runs; accepted = h.0; reply_is = ap Refused h.1; unchanged = left }))) (λ is. absurd cc)
-    by_stopped : (b : Bool) → old.stopped ≡ b → IsStep old.plan event (Refused refusal) (moment_of failures old) (moment_of failures new)
-    by_stopped true is = let why = stopped.1 is in step (inr (inr (inr (record { was_stopped = is; reply_is = ap Refused why; unchanged = left })))) (λ fault. absurd cc)
-    by_stopped false is = by_refused is (refused is)
+  event : Event
+  event = Submit task release due ops
+
+  left : moment_of failures new ≡ moment_of failures old
+  left = ap (moment_of failures) same
+
+  rises : (after : Moment) → after ≡ moment_of failures old → after.failures ≡ failures old.device + 1 → ⊥
+  rises after is more = no_more (failures old.device) (sym (ap (λ (m : Moment). m.failures) is) ∙ more)
+
+  step : (AnsweredByLog old.plan event (Refused refusal) (moment_of failures old) (moment_of failures new)
+      ⊎ FoundNoMemory old.plan event (Refused refusal) (moment_of failures old) (moment_of failures new)
+      ⊎ StoppedByFault old.plan event (Refused refusal) (moment_of failures old) (moment_of failures new)
+      ⊎ FoundStopped old.plan event (Refused refusal) (moment_of failures old) (moment_of failures new))
+      → (refusal ≡ DeviceFault → ⊥) → IsStep old.plan event (Refused refusal) (moment_of failures old) (moment_of failures new)
+  step answered other = record { answered = answered; faults = ((λ e. absurd (other (refused_is refusal DeviceFault e))), (λ more. absurd (rises (moment_of failures new) left more))) }
+
+  by_refused : old.stopped ≡ false → RefusedBy old.plan old.log event refusal → IsStep old.plan event (Refused refusal) (moment_of failures old) (moment_of failures new)
+  by_refused runs (inl e) =
+      step (inl (record { ran = runs; reply_is = sym e; log_is = ap (λ (m : Moment). m.log) left; runs = ap (λ (m : Moment). m.stopped) left ∙ runs }))
+      (λ is. no_fault old.plan old.log task release due ops (e ∙ ap Refused is))
+  by_refused runs (inr h) = step (inr (inl (record { ran = runs; accepted = h.0; reply_is = ap Refused h.1; unchanged = left }))) (λ is. absurd cc)
+
+  by_stopped : (b : Bool) → old.stopped ≡ b → IsStep old.plan event (Refused refusal) (moment_of failures old) (moment_of failures new)
+  by_stopped true is = let why = stopped.1 is in step (inr (inr (inr (record { was_stopped = is; reply_is = ap Refused why; unchanged = left })))) (λ fault. absurd cc)
+  by_stopped false is = by_refused is (refused is)
 
 -- a slot that is refused changes nothing, or is stopped by a fault
 pub slot_refused_step : {N : Type 0} (failures : N → ℕ) (refusal : Refusal) (old new : Core N)
@@ -102,24 +107,28 @@ pub slot_refused_step : {N : Type 0} (failures : N → ℕ) (refusal : Refusal) 
     → (refusal ≡ DeviceFault → new.stopped ≡ true) → new.log ≡ old.log → ((refusal ≡ DeviceFault → ⊥) → new ≡ old)
     → IsStep old.plan Slot (Refused refusal) (moment_of failures old) (moment_of failures new)
 slot_refused_step {N} failures refusal old new stopped refused fault stops log_stays same = record { answered = by_stopped old.stopped refl; faults = ((λ e. fault.0 (refused_is refusal DeviceFault e)), (λ more. ap Refused (fault.1 more))) } where
-    Answered : Type 0
-    Answered = AnsweredByLog old.plan Slot (Refused refusal) (moment_of failures old) (moment_of failures new)
-        ⊎ FoundNoMemory old.plan Slot (Refused refusal) (moment_of failures old) (moment_of failures new)
-        ⊎ StoppedByFault old.plan Slot (Refused refusal) (moment_of failures old) (moment_of failures new)
-        ⊎ FoundStopped old.plan Slot (Refused refusal) (moment_of failures old) (moment_of failures new)
-    left : (refusal ≡ DeviceFault → ⊥) → moment_of failures new ≡ moment_of failures old
-    left other = ap (moment_of failures) (same other)
-    slot_fault : answer old.plan old.log Slot ≡ Refused DeviceFault → ⊥
-    slot_fault e = no_slot_fault old.plan old.log e
-    by_refused : old.stopped ≡ false → RefusedBy old.plan old.log Slot refusal ⊎ (IsAccepted (answer old.plan old.log Slot) × (refusal ≡ DeviceFault)) → Answered
-    by_refused runs (inl (inl e)) =
-        let unchanged = left (λ is. slot_fault (e ∙ ap Refused is)) in
-        inl (record { ran = runs; reply_is = sym e; log_is = ap (λ (m : Moment). m.log) unchanged; runs = ap (λ (m : Moment). m.stopped) unchanged ∙ runs })
-    by_refused runs (inl (inr h)) = inr (inl (record { ran = runs; accepted = h.0; reply_is = ap Refused h.1; unchanged = left (λ is. absurd cc) }))
-    by_refused runs (inr h) = inr (inr (inl (record { ran = runs; slot = refl; accepted = h.0; reply_is = ap Refused h.1; log_stays = log_stays; stops = stops h.1 })))
-    by_stopped : (b : Bool) → old.stopped ≡ b → Answered
-    by_stopped true is = let why = stopped.1 is in inr (inr (inr (record { was_stopped = is; reply_is = ap Refused why; unchanged = left (λ fault. absurd cc) })))
-    by_stopped false is = by_refused is (refused is)
+  Answered : Type 0
+  Answered = AnsweredByLog old.plan Slot (Refused refusal) (moment_of failures old) (moment_of failures new)
+      ⊎ FoundNoMemory old.plan Slot (Refused refusal) (moment_of failures old) (moment_of failures new)
+      ⊎ StoppedByFault old.plan Slot (Refused refusal) (moment_of failures old) (moment_of failures new)
+      ⊎ FoundStopped old.plan Slot (Refused refusal) (moment_of failures old) (moment_of failures new)
+
+  left : (refusal ≡ DeviceFault → ⊥) → moment_of failures new ≡ moment_of failures old
+  left other = ap (moment_of failures) (same other)
+
+  slot_fault : answer old.plan old.log Slot ≡ Refused DeviceFault → ⊥
+  slot_fault e = no_slot_fault old.plan old.log e
+
+  by_refused : old.stopped ≡ false → RefusedBy old.plan old.log Slot refusal ⊎ (IsAccepted (answer old.plan old.log Slot) × (refusal ≡ DeviceFault)) → Answered
+  by_refused runs (inl (inl e)) =
+      let unchanged = left (λ is. slot_fault (e ∙ ap Refused is)) in
+      inl (record { ran = runs; reply_is = sym e; log_is = ap (λ (m : Moment). m.log) unchanged; runs = ap (λ (m : Moment). m.stopped) unchanged ∙ runs })
+  by_refused runs (inl (inr h)) = inr (inl (record { ran = runs; accepted = h.0; reply_is = ap Refused h.1; unchanged = left (λ is. absurd cc) }))
+  by_refused runs (inr h) = inr (inr (inl (record { ran = runs; slot = refl; accepted = h.0; reply_is = ap Refused h.1; log_stays = log_stays; stops = stops h.1 })))
+
+  by_stopped : (b : Bool) → old.stopped ≡ b → Answered
+  by_stopped true is = let why = stopped.1 is in inr (inr (inr (record { was_stopped = is; reply_is = ap Refused why; unchanged = left (λ fault. absurd cc) })))
+  by_stopped false is = by_refused is (refused is)
 
 -- Iterations
 

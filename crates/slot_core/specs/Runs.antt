@@ -63,10 +63,10 @@ pub record FoundStopped (plan : DiePlan) (event : Event) (reply : Reply) (before
 -- how one event is answered; a fault is answered exactly where the device failed
 pub record IsStep (plan : DiePlan) (event : Event) (reply : Reply) (before after : Moment) : Type 0 where
   pub answered :
-    AnsweredByLog plan event reply before after
-    ⊎ FoundNoMemory plan event reply before after
-    ⊎ StoppedByFault plan event reply before after
-    ⊎ FoundStopped plan event reply before after
+      AnsweredByLog plan event reply before after
+      ⊎ FoundNoMemory plan event reply before after
+      ⊎ StoppedByFault plan event reply before after
+      ⊎ FoundStopped plan event reply before after
   pub faults : (reply ≡ Refused DeviceFault) ↔ (after.failures ≡ before.failures + 1)
 
 -- Events in order

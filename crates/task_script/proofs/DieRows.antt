@@ -107,9 +107,9 @@ more_at plan log n made rest j at number s =
     let later = filter live (drop (n + 1) (jobs log)) in
     let here : rest ≡ map (row_for plan log) (cond (live j) (j ∷ later) later) = s.rest_is ∙ ap (λ (js : List Job). map (row_for plan log) (filter live js)) (drop_next (jobs log) n j at) in
     let row : row_as n (head_of j) (own_work (outcome_of plan log j) rest) (outcome_of plan log j) ≡ report_row_of plan log j =
-        ap (λ (r : List JobRow). row_as n (head_of j) (own_work (outcome_of plan log j) r) (outcome_of plan log j)) here
-        ∙ (row_is (row_for plan log) n (head_of j) j later (waiver_among j.number (waived log)) (is_waived log j.number) (is_done plan log j) (completion j.number log) (lateness_of log j) (given plan j.number log) (reads_of (acts j.number log)) (waiver_stands j.number (waived log))
-        ∙ ap (λ (k : ℕ). row_as k (head_of j) (work j.number log) (outcome_of plan log j)) (sym number)) in
+    ap (λ (r : List JobRow). row_as n (head_of j) (own_work (outcome_of plan log j) r) (outcome_of plan log j)) here
+    ∙ (row_is (row_for plan log) n (head_of j) j later (waiver_among j.number (waived log)) (is_waived log j.number) (is_done plan log j) (completion j.number log) (lateness_of log j) (given plan j.number log) (reads_of (acts j.number log)) (waiver_stands j.number (waived log))
+    ∙ ap (λ (k : ℕ). row_as k (head_of j) (work j.number log) (outcome_of plan log j)) (sym number)) in
     record {
       made_is = ap (λ (m : List ReportRow). m ++ row_as n (head_of j) (own_work (outcome_of plan log j) rest) (outcome_of plan log j) ∷ []) s.made_is
           ∙ (ap (λ (r : ReportRow). map (report_row_of plan log) (take n (jobs log)) ++ r ∷ []) row

@@ -10,5 +10,5 @@ invariant-loop-event g l = record {
   room : vec_capacity l.replies ≡ length l.fn.events;
   replied : vec_len l.replies ≡ length l.yielded;
   ran : IsRun l.fn.self.plan (moment_of g.N.Nand.failures l.fn.self) l.yielded l.replies.items (moment_of g.N.Nand.failures l.self);
-  plan : l.self.plan ≡ l.fn.self.plan
+  plan : l.self.plan ≡ l.fn.self.plan;
 }
