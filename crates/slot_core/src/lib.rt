@@ -14,3 +14,6 @@ pub mod turns;
 pub use die_core::DieCore;
 pub use outcomes::{JobHead, Outcome, Worst};
 pub use runs::Replies;
+
+#[cfg(test)]
+mod tests;
