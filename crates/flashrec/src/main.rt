@@ -3,8 +3,6 @@
 
 mod first_run;
 mod samples;
-#[cfg(test)]
-mod tests;
 
 use first_run::run_items;
 use samples::{sample_items, sample_plan};
