@@ -3,6 +3,8 @@
 
 mod first_run;
 mod samples;
+#[cfg(test)]
+mod tests;
 
 use first_run::run_items;
 use samples::{sample_items, sample_plan};
