@@ -1,0 +1,122 @@
+use crate::answers::{TWO_REPORT, TWO_SCRIPT, report_refusal, script_refusal};
+use slot_types::Refusal;
+use std::io;
+use std::io::{ErrorKind, Read, Write};
+use std::test::Fail;
+use task_script::{read_report, write_report};
+
+/// Gives a text seven bytes a call. The call of this number, from 1, fails, and those after it don't.
+#[derive(Drop)]
+struct Faulty<'a> {
+    text: &'a [u8],
+    calls: u32,
+}
+
+fn failing_at(text: &str, calls: u32) -> Faulty<'_> {
+    Faulty {
+        text: text.as_bytes(),
+        calls,
+    }
+}
+
+impl<'a> Read for Faulty<'a> {
+    fn read(&mut self, buf: &mut [u8]) -> io::Result<usize> {
+        if self.calls == 1 {
+            self.calls = 0;
+            return Err(io::Error::from(ErrorKind::BrokenPipe));
+        }
+        self.calls = self.calls.saturating_sub(1);
+        let most = buf.len().min(7);
+        self.text.read(&mut buf[..most])
+    }
+}
+
+/// Takes seven bytes a call. The call of this number, from 1, fails, and those after it don't.
+#[derive(Drop)]
+struct Choppy {
+    text: Vec<u8>,
+    calls: u32,
+}
+
+impl Write for Choppy {
+    fn write(&mut self, buf: &[u8]) -> io::Result<usize> {
+        if self.calls == 1 {
+            self.calls = 0;
+            return Err(io::Error::from(ErrorKind::BrokenPipe));
+        }
+        self.calls = self.calls.saturating_sub(1);
+        let most = buf.len().min(7);
+        self.text.extend_from_slice(&buf[..most])?;
+        Ok(most)
+    }
+
+    fn flush(&mut self) -> io::Result<()> {
+        Ok(())
+    }
+}
+
+#[test]
+fn a_failing_reader_is_a_read_fault(rt: HostRuntime) {
+    // The first call asks for one byte, to see whether a mark stands before the text, and the last one shows the end.
+    let script_calls = TWO_SCRIPT.len().saturating_sub(1).div_ceil(7) + 2;
+    let report_calls = TWO_REPORT.len().saturating_sub(1).div_ceil(7) + 2;
+    for call in 1..100 {
+        let script = script_refusal(rt.alloc(), failing_at(TWO_SCRIPT, call));
+        let whole = script_calls < call as usize;
+        assert!(rt;
+            script
+                == if whole {
+                    None
+                } else {
+                    Some(Refusal::ReadFault)
+                },
+            "{call}"
+        );
+        let report = report_refusal(rt.alloc(), failing_at(TWO_REPORT, call));
+        let whole = report_calls < call as usize;
+        assert!(rt;
+            report
+                == if whole {
+                    None
+                } else {
+                    Some(Refusal::ReadFault)
+                },
+            "{call}"
+        );
+    }
+}
+
+#[test]
+fn records_before_a_failing_read_are_judged_first(rt: HostRuntime) {
+    let text = "at,die,task,kind,release,due,ops\n0,0,0,jab,0,2,R3\n0,0,0,job,0,2,R3\n";
+    let refusal = script_refusal(rt.alloc(), failing_at(text, 9));
+    assert!(rt; refusal.is_some_and(|refusal| refusal != Refusal::ReadFault));
+}
+
+#[test]
+fn a_failing_writer_is_a_write_fault(rt: HostRuntime) -> Result<(), Fail> {
+    let alloc = rt.alloc();
+    let report = read_report(alloc, TWO_REPORT.as_bytes())?;
+    for calls in 1..100 {
+        let mut writer = Choppy {
+            text: Vec::new(alloc),
+            calls,
+        };
+        let answer = write_report(alloc, &mut writer, &report);
+        let whole = TWO_REPORT.len().div_ceil(7) < calls as usize;
+        assert!(rt;
+            answer
+                == if whole {
+                    Ok(())
+                } else {
+                    Err(Refusal::WriteFault)
+                },
+            "{calls}"
+        );
+        assert!(rt;
+            TWO_REPORT.as_bytes().starts_with(writer.text.as_slice()),
+            "{calls}"
+        );
+    }
+    Ok(())
+}

@@ -1,0 +1,14 @@
+//! Texts and what reading them answers: the worked rows of the store, faulty texts, failing readers and writers.
+//! Expected answers are worked out by hand, and compared as `Debug` prints them.
+#![tactic(auto)]
+
+#[cfg(test)]
+mod answers;
+#[cfg(test)]
+mod faults;
+#[cfg(test)]
+mod plans;
+#[cfg(test)]
+mod reports;
+#[cfg(test)]
+mod scripts;

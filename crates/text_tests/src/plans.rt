@@ -1,0 +1,127 @@
+use crate::answers::{PLAN, TWO_DIES, Text, check_cases, check_prefixes, refusal};
+use std::test::Fail;
+use task_script::read_plan;
+
+#[test]
+fn plans_are_read(rt: HostRuntime) -> Result<(), Fail> {
+    let alloc = rt.alloc();
+    let plan = format!(in alloc; "{:?}", read_plan(alloc, PLAN.as_bytes())?)?;
+    let die =
+        "DiePlan { shape: Shape { blocks: 8, pages: 4, erase_slots: 3 }, logical: 12, alpha: 2, caps: [4] }";
+    assert_eq!(rt; plan.as_str(), format!(in alloc; "[{die}]")?.as_str());
+    let plan = format!(in alloc; "{:?}", read_plan(alloc, TWO_DIES.as_bytes())?)?;
+    assert_eq!(rt;
+        plan.as_str(),
+        format!(in alloc; "[{die}, {die}]")?.as_str()
+    );
+    Ok(())
+}
+
+#[test]
+fn tasks_of_a_die_keep_their_order(rt: HostRuntime) -> Result<(), Fail> {
+    let alloc = rt.alloc();
+    let text = "version = 1
+dies = 2
+blocks = 64
+pages = 4
+erase_slots = 3
+logical = 12
+alpha = 2
+task = [{die = 1, cap = 5}, {die = 0, cap = 4}, {die = 1, cap = 6}]
+";
+    let plan = format!(in alloc; "{:?}", read_plan(alloc, text.as_bytes())?)?;
+    let die =
+        "DiePlan { shape: Shape { blocks: 64, pages: 4, erase_slots: 3 }, logical: 12, alpha: 2, caps: ";
+    let want = format!(in alloc; "[{die}[4] }}, {die}[5, 6] }}]")?;
+    assert_eq!(rt; plan.as_str(), want.as_str());
+    Ok(())
+}
+
+#[test]
+fn plans_are_refused_for_their_first_fault(rt: HostRuntime) -> Result<(), Fail> {
+    let cases = "alpha = 2|wear = 1|Some(PlanText { cause: ExtraKey })
+alpha = 2||Some(PlanText { cause: MissingKey })
+alpha = 2|alpha = \"2\"|Some(PlanText { cause: WrongKind })
+alpha = 2|alpha = 4294967296|Some(PlanText { cause: WrongKind })
+alpha = 2|alpha = 2.0|Some(PlanText { cause: WrongKind })
+alpha = 2|alpha = 99999999999999999999|Some(PlanText { cause: NotToml })
+alpha = 2|alpha = 0x2|None
+version = 1|version = 3|Some(PlanText { cause: BadVersion })
+version = 1|version = 2|Some(PlanText { cause: BadVersion })
+version = 1|version = -1|Some(PlanText { cause: WrongKind })
+version = 1|version = 2~common = 3|Some(PlanText { cause: ExtraKey })
+version = 1|version = 3~version = 3|Some(PlanText { cause: NotToml })
+cap = 4|cap = 4~wear = 1|Some(PlanText { cause: ExtraKey })
+cap = 4||Some(PlanText { cause: MissingKey })
+cap = 4|cap = true|Some(PlanText { cause: WrongKind })
+[[task]]|[task]|Some(PlanText { cause: WrongKind })
+[[task]]~die = 0~cap = 4|task = [1]|Some(PlanText { cause: WrongKind })
+alpha = 2~~[[task]]~die = 0~cap = 4|wear = 2~task = [1]|Some(PlanText { cause: ExtraKey })
+version = 1~dies = 1|version = 3~dies = true|Some(PlanText { cause: WrongKind })";
+    check_cases(&rt, rt.alloc(), Text::Plan, PLAN, cases)?;
+    let faulty = "version = 3
+dies = 1
+blocks = 8
+pages = 4
+erase_slots = 3
+logical = 12
+alpha = 2
+task = [{die = 0}]
+";
+    let cases = "version = 3|version = 3|Some(PlanText { cause: BadVersion })
+version = 3|version = 1|Some(PlanText { cause: MissingKey })
+{die = 0}|1|Some(PlanText { cause: WrongKind })";
+    check_cases(&rt, rt.alloc(), Text::Plan, faulty, cases)
+}
+
+#[test]
+fn a_shape_is_judged_before_the_rest(rt: HostRuntime) -> Result<(), Fail> {
+    let cases = "blocks = 8|blocks = 1|Some(BadShape)
+dies = 1|dies = 0|Some(BadShape)
+dies = 1|dies = 9|Some(BadShape)
+pages = 4|pages = 257|Some(BadShape)
+erase_slots = 3|erase_slots = 0|Some(BadShape)
+erase_slots = 3~logical = 12|erase_slots = 65~logical = 0|Some(BadShape)
+logical = 12|logical = 0|Some(BadPlan)
+logical = 12|logical = 17|None
+logical = 12|logical = 18|Some(BadPlan)
+alpha = 2|alpha = 5|Some(BadPlan)
+dies = 1|dies = 2|Some(BadPlan)
+die = 0|die = 1|Some(BadPlan)
+cap = 4|cap = 0|Some(BadPlan)
+[[task]]~die = 0~cap = 4|task = []|Some(BadPlan)";
+    check_cases(&rt, rt.alloc(), Text::Plan, PLAN, cases)
+}
+
+#[test]
+fn a_plan_is_text_of_so_many_bytes(rt: HostRuntime) -> Result<(), Fail> {
+    let alloc = rt.alloc();
+    let empty = format!(in alloc; "{:?}", refusal(alloc, Text::Plan, b"".as_slice()))?;
+    assert_eq!(rt; empty.as_str(), "Some(PlanText { cause: MissingKey })");
+    let bytes = format!(in alloc; "{:?}", refusal(alloc, Text::Plan, b"# \xff".as_slice()))?;
+    assert_eq!(rt; bytes.as_str(), "Some(PlanText { cause: NotToml })");
+    let mut text = vec![in alloc; b' '; 1_048_576]?;
+    let last = refusal(alloc, Text::Plan, &text);
+    assert_eq!(rt;
+        format!(in alloc; "{last:?}")?.as_str(),
+        "Some(PlanText { cause: MissingKey })"
+    );
+    text.push(b' ')?;
+    let over = refusal(alloc, Text::Plan, &text);
+    assert_eq!(rt;
+        format!(in alloc; "{over:?}")?.as_str(),
+        "Some(PlanText { cause: TooLong })"
+    );
+    Ok(())
+}
+
+#[test]
+fn each_prefix_of_a_plan_is_read_to_an_answer(rt: HostRuntime) -> Result<(), Fail> {
+    check_prefixes(
+        &rt,
+        rt.alloc(),
+        Text::Plan,
+        PLAN,
+        "None Some(PlanText Some(BadPlan)",
+    )
+}

@@ -1,0 +1,133 @@
+use crate::answers::{REPORT, TWO_REPORT, Text, check_cases, check_prefixes};
+use std::alloc::Global;
+use std::process::Abort;
+use std::test::Fail;
+use task_script::{read_report, write_report};
+
+/// The header of reports.
+const HEADER: &str = "row,die,job,task,release,due,work,completion,lateness,given,items\n";
+
+/// Waiting rows, collections, and numbers at their limits.
+const LIMITS: &str = "row,die,job,task,release,due,work,completion,lateness,given,items
+collect,3,0,15,0,1048576,7,1048576,0,4294967295,
+collect,3,1,0,1,2,4294967295,,,,
+job,3,2,0,1,2,0,,,,
+cert,3,0,,4294967295,1048576,,1048576,0,,
+";
+
+/// A report is read and written again as the same text.
+fn check_same(rt: &impl Abort, alloc: Global, text: &str) -> Result<(), Fail> {
+    let report = read_report(alloc, text.as_bytes())?;
+    let mut written = Vec::new(alloc);
+    write_report(alloc, &mut written, &report)?;
+    assert_eq!(rt; written.as_slice(), text.as_bytes());
+    Ok(())
+}
+
+#[test]
+fn reports_are_read_and_written(rt: HostRuntime) -> Result<(), Fail> {
+    let alloc = rt.alloc();
+    let report = format!(in alloc; "{:?}", read_report(alloc, REPORT.as_bytes())?)?;
+    let want = "[DieReport { die: 0, rows: [\
+ReportRow { row: Job, job: JobNo(0), task: TaskNo(0), release: 0, due: 2, work: 1, completion: Some(1), lateness: Some(-1), given: None, reads: [] }, \
+ReportRow { row: Job, job: JobNo(1), task: TaskNo(0), release: 1, due: 3, work: 1, completion: Some(2), lateness: Some(-1), given: None, reads: \
+[PageData([17, 17, 17, 17, 17, 17, 17, 17, 17, 17, 17, 17, 17, 17, 17, 17])] }], \
+cert: Some(Certificate { job: JobNo(0), start: 0, due: 2, completion: 1, jobs: [JobNo(0)] }) }]";
+    assert_eq!(rt; report.as_str(), want);
+    check_same(&rt, alloc, REPORT)?;
+    check_same(&rt, alloc, TWO_REPORT)?;
+    check_same(&rt, alloc, LIMITS)?;
+    check_same(&rt, alloc, HEADER)
+}
+
+#[test]
+fn waived_collections_are_no_job_rows(rt: HostRuntime) -> Result<(), Fail> {
+    let alloc = rt.alloc();
+    let report = read_report(alloc, TWO_REPORT.as_bytes())?;
+    let die = report.get(1).ok_or("no die")?;
+    let rows = format!(in alloc; "{:?}", die.job_rows(alloc)?)?;
+    let want = "[JobRow { number: JobNo(0), release: 0, due: 2, work: 1, completion: Some(1) }, \
+JobRow { number: JobNo(2), release: 1, due: 9, work: 1, completion: Some(2) }]";
+    assert_eq!(rt; rows.as_str(), want);
+    Ok(())
+}
+
+#[test]
+fn reports_are_refused_at_the_first_record_that_breaks_them(rt: HostRuntime) -> Result<(), Fail> {
+    let cases = "row,die|raw,die|Some(ReportText { line: 1 })
+cert,1,0,,0,2,,1,-1,,0~||Some(ReportText { line: 8 })
+cert,0,1,,0,5,,5,0,,0 1~||Some(ReportText { line: 7 })
+cert,1,0,,0,2,,1,-1,,0~|cert,1,0,,0,2,,1,-1,,0~cert,1,0,,0,2,,1,-1,,0~|Some(ReportText { line: 9 })
+cert,1,0,,0,2,,1,-1,,0~|cert,1,0,,0,2,,1,-1,,0~job,1,3,0,1,2,0,,,,~|Some(ReportText { line: 9 })
+cert,0,1,,0,5,,5,0,,0 1~|cert,0,0,,0,5,,4,-1,,0 1~|Some(ReportText { line: 7 })
+cert,0,1,,0,5,,5,0,,0 1~|cert,0,1,,0,5,,5,-0,,0 1~|Some(ReportText { line: 7 })
+cert,0,1,,0,5,,5,0,,0 1~|cert,0,1,0,0,5,,5,0,,0 1~|Some(ReportText { line: 7 })
+cert,0,1,,0,5,,5,0,,0 1~|cert,0,1,,0,5,,5,0,,0  1~|Some(ReportText { line: 7 })
+cert,0,1,,0,5,,5,0,,0 1~|cert,0,1,,,5,,5,0,,0 1~|Some(ReportText { line: 7 })
+job,0,1,0|job,0,2,0|Some(ReportText { line: 3 })
+job,1,0,0|job,0,0,0|Some(ReportText { line: 4 })
+job,1,0,0|job,8,0,0|Some(ReportText { line: 4 })
+job,1,0,0|job,1,1,0|Some(ReportText { line: 4 })
+job,1,2,0|job,0,2,0|Some(ReportText { line: 6 })
+waived,1,1,0|waived,1,1,16|Some(ReportText { line: 5 })
+waived,1,1,0|collect,1,1,0|Some(ReportText { line: 5 })
+waived,1,1,0,1,4,0,,,1|waived,1,1,0,1,4,1,,,1|Some(ReportText { line: 5 })
+waived,1,1,0,1,4,0,,,1|waived,1,1,0,1,4,0,,,|Some(ReportText { line: 5 })
+waived,1,1,0,1,4,0,,,1,|waived,1,1,0,1,4,0,,,1|Some(ReportText { line: 5 })
+waived,1,1,0,1,4|waived,1,1,0,4,4|Some(ReportText { line: 5 })
+waived,1,1,0,1,4|waived,1,1,0,1,1048577|Some(ReportText { line: 5 })
+job,0,1,0,0,5,3,5,0,|job,0,1,0,0,5,3,5,1,|Some(ReportText { line: 3 })
+job,0,1,0,0,5,3,5,0,|job,0,1,0,0,5,3,5,,|Some(ReportText { line: 3 })
+job,0,1,0,0,5,3,5,0,|job,0,1,0,0,5,0,5,0,|Some(ReportText { line: 3 })
+job,0,1,0,0,5,3,5,0,|job,0,1,0,0,5,3,5,0,0|Some(ReportText { line: 3 })
+job,0,1,0,0,5,3,5,0,|job,0,1,0,0,5,3,,,|Some(ReportText { line: 3 })
+job,0,1,0,0,5,3,5,0,|job,0,1,0,0,5,3,1048577,1048572,|Some(ReportText { line: 3 })
+0e0f10|0e0f1|Some(ReportText { line: 6 })
+0e0f10|0e0f1x|Some(ReportText { line: 6 })";
+    check_cases(&rt, rt.alloc(), Text::Report, TWO_REPORT, cases)?;
+    check_cases(
+        &rt,
+        rt.alloc(),
+        Text::Report,
+        "x",
+        "x||Some(ReportText { line: 1 })",
+    )
+}
+
+#[test]
+fn what_a_certificate_lists_is_judged_by_its_check(rt: HostRuntime) -> Result<(), Fail> {
+    let cases = "5,0,,0 1~|5,0,,~|None
+5,0,,0 1~|5,0,,0 0 1~|None
+5,0,,0 1~|5,0,,0 1 9~|None
+5,0,,0 1~|5,0,,1~|None
+cert,0,1,,0,5|cert,0,1,,1,5|None
+0102030405060708090a0b0c0d0e0f10|0102030405060708090A0B0C0D0E0F10|None
+2,-7,,|2,-07,,|None
+2,,1,-1,,0~|2,,1,-1,,0|None
+~|\r~|None";
+    check_cases(&rt, rt.alloc(), Text::Report, TWO_REPORT, cases)
+}
+
+#[test]
+fn of_equally_late_jobs_the_one_completed_first_is_the_worst(rt: HostRuntime) -> Result<(), Fail> {
+    let base = "row,die,job,task,release,due,work,completion,lateness,given,items
+job,0,0,0,0,3,1,2,-1,,
+job,0,1,0,0,2,1,1,-1,,
+job,0,2,0,0,9,1,3,-6,,
+";
+    let cases = "-6,,~|-6,,~cert,0,1,,0,2,,1,-1,,1|None
+-6,,~|-6,,~cert,0,0,,0,3,,2,-1,,0|Some(ReportText { line: 5 })
+-6,,~|-6,,~cert,0,2,,0,9,,3,-6,,2|Some(ReportText { line: 5 })";
+    check_cases(&rt, rt.alloc(), Text::Report, base, cases)
+}
+
+#[test]
+fn each_prefix_of_a_report_is_read_to_an_answer(rt: HostRuntime) -> Result<(), Fail> {
+    check_prefixes(
+        &rt,
+        rt.alloc(),
+        Text::Report,
+        TWO_REPORT,
+        "None Some(ReportText",
+    )
+}
