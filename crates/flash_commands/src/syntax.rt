@@ -94,9 +94,9 @@ fn plan_words<'a>(alloc: Global) -> Result<Command<'a>, AllocError>
 fn name<'a>(alloc: Global) -> Command<'a>
     ensures { app_of result ≡ new_app (codes "flashrec") }
 {
-    Command::new(alloc, "flashrec").about(
-        "A real-time flash store. Without a command, runs the script that is built in",
-    )
+    Command::new(alloc, "flashrec")
+        .about("A real-time flash store. Without a command, runs the script that is built in")
+        .after_help("Example: flashrec run plan.toml script.csv --slots 1000")
 }
 
 /// A program with one more command.

@@ -1,0 +1,150 @@
+//! Readers and writers that fail, and texts without an end.
+
+use super::{AUDIT, PLAN, PLAN_COMMAND, REPORT};
+use crate::acts::act;
+use crate::commands::Command;
+use std::alloc::Global;
+use std::io;
+use std::io::{Read, Write};
+use std::test::Fail;
+
+/// Gives its text 16 bytes at a call, and fails at the call of a number.
+#[derive(Drop)]
+struct FailingReader<'a> {
+    text: &'a [u8],
+    calls_left: usize,
+}
+
+impl Read for FailingReader<'_> {
+    fn read(&mut self, buf: &mut [u8]) -> io::Result<usize> {
+        if self.calls_left == 0 {
+            return Err(io::Error::from(io::ErrorKind::BrokenPipe));
+        }
+        self.calls_left -= 1;
+        let most = buf.len().min(16);
+        self.text.read(&mut buf[..most])
+    }
+}
+
+/// Takes 16 bytes at a call, and fails at the call of a number.
+#[derive(Drop)]
+struct FailingWriter {
+    text: Vec<u8>,
+    calls_left: usize,
+}
+
+impl Write for FailingWriter {
+    fn write(&mut self, buf: &[u8]) -> io::Result<usize> {
+        if self.calls_left == 0 {
+            return Err(io::Error::from(io::ErrorKind::BrokenPipe));
+        }
+        self.calls_left -= 1;
+        let most = buf.len().min(16);
+        self.text.write(&buf[..most])
+    }
+
+    fn flush(&mut self) -> io::Result<()> {
+        Ok(())
+    }
+}
+
+/// Gives spaces for ever.
+#[derive(Drop)]
+struct Endless;
+
+impl Read for Endless {
+    fn read(&mut self, buf: &mut [u8]) -> io::Result<usize> {
+        buf.fill(b' ');
+        Ok(buf.len())
+    }
+}
+
+/// Whether a command whose reader fails at the call of a number ends as it should: with 21 and nothing printed.
+/// None where the reader was not called as often.
+fn fails_at(alloc: Global, command: Command<'_>, text: &str, calls: usize) -> Option<bool> {
+    let (mut out, mut err) = (Vec::new(alloc), Vec::new(alloc));
+    let first = FailingReader {
+        text: text.as_bytes(),
+        calls_left: calls,
+    };
+    let status = act(alloc, command, first, io::empty(), &mut out, &mut err);
+    if status == 0 {
+        return None;
+    }
+    let told = err.as_slice() == b"error 21 ReadFault\n".as_slice();
+    Some(status == 1 && out.is_empty() && told)
+}
+
+#[test]
+fn a_reader_that_fails_is_told(rt: HostRuntime) {
+    let alloc = rt.alloc();
+    for (command, text) in [(PLAN_COMMAND, PLAN), (AUDIT, REPORT)] {
+        let mut failed: usize = 0;
+        for calls in 0..100 {
+            match fails_at(alloc, command, text, calls) {
+                Some(right) => {
+                    assert!(rt; right, "at call {calls}");
+                    failed = calls;
+                }
+                None => break,
+            }
+        }
+        assert!(rt; failed > text.len() / 16);
+    }
+}
+
+#[test]
+fn a_writer_that_fails_is_told(rt: HostRuntime) {
+    let alloc = rt.alloc();
+    for calls in 0..5 {
+        let mut out = FailingWriter {
+            text: Vec::new(alloc),
+            calls_left: calls,
+        };
+        let mut err = Vec::new(alloc);
+        let status = act(
+            alloc,
+            AUDIT,
+            REPORT.as_bytes(),
+            io::empty(),
+            &mut out,
+            &mut err,
+        );
+        let (line, told) = (err.as_slice(), b"error 22 WriteFault\n".as_slice());
+        if calls < 4 {
+            assert!(rt; status == 1 && line == told, "at call {calls}");
+        } else {
+            assert!(rt; status == 0 && line.is_empty());
+        }
+    }
+}
+
+#[test]
+fn a_fault_of_the_error_writer_is_passed_over(rt: HostRuntime) {
+    let alloc = rt.alloc();
+    let mut out = Vec::new(alloc);
+    let mut err = FailingWriter {
+        text: Vec::new(alloc),
+        calls_left: 0,
+    };
+    let status = act(
+        alloc,
+        AUDIT,
+        PLAN.as_bytes(),
+        io::empty(),
+        &mut out,
+        &mut err,
+    );
+    assert!(rt; status == 1 && out.is_empty());
+}
+
+#[test]
+fn a_plan_without_an_end_is_too_long(rt: HostRuntime) -> Result<(), Fail> {
+    let alloc = rt.alloc();
+    let (mut out, mut err) = (Vec::new(alloc), Vec::new(alloc));
+    let first = PLAN.as_bytes().chain(Endless);
+    let status = act(alloc, PLAN_COMMAND, first, io::empty(), &mut out, &mut err);
+    assert!(rt; status == 1 && out.is_empty());
+    assert!(rt; err.as_slice() == b"error 18 PlanText TooLong\n".as_slice());
+    Ok(())
+}

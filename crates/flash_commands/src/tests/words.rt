@@ -1,0 +1,138 @@
+//! The words of the command line, and what clap shows of them.
+
+use crate::commands::{Command, read_words};
+use crate::faults::Fault;
+use std::alloc::{AllocError, Global};
+use std::test::Fail;
+
+/// The words of a line.
+fn words_of(alloc: Global, line: &str) -> Result<Vec<String>, AllocError> {
+    let mut words = Vec::new(alloc);
+    for word in line.split(' ') {
+        words.push(String::from_str(alloc, word)?)?;
+    }
+    Ok(words)
+}
+
+#[test]
+fn words_name_a_command(rt: HostRuntime) -> Result<(), Fail> {
+    let alloc = rt.alloc();
+    for (line, command) in [
+        ("flashrec", Command::Alone),
+        ("flashrec audit r.csv", Command::Audit { report: "r.csv" }),
+        ("flashrec plan p.toml", Command::Plan { plan: "p.toml" }),
+        (
+            "flashrec run p.toml s.csv --slots 0",
+            Command::Run {
+                plan: "p.toml",
+                script: "s.csv",
+                slots: 0,
+                workers: 1,
+            },
+        ),
+        (
+            "flashrec run --workers=16 p.toml --slots 1048576 s.csv",
+            Command::Run {
+                plan: "p.toml",
+                script: "s.csv",
+                slots: 1_048_576,
+                workers: 16,
+            },
+        ),
+    ] {
+        let words = words_of(alloc, line)?;
+        let read = read_words(alloc, words.as_slice());
+        assert!(rt; read.is_ok_and(|read| read == command), "{line}");
+    }
+    Ok(())
+}
+
+#[test]
+fn other_words_end_with_two(rt: HostRuntime) -> Result<(), Fail> {
+    let alloc = rt.alloc();
+    for line in [
+        "flashrec walk",
+        "flashrec audit",
+        "flashrec plan p.toml s.csv",
+        "flashrec run p.toml s.csv",
+        "flashrec run p.toml --slots 5",
+        "flashrec run p.toml s.csv --slots",
+        "flashrec run p.toml s.csv --slots 5 --slots 5",
+        "flashrec run p.toml s.csv --slots 1048577",
+        "flashrec run p.toml s.csv --slots +5",
+        "flashrec run p.toml s.csv --slots 00000000005",
+        "flashrec run p.toml s.csv --slots 5 --workers 0",
+        "flashrec run p.toml s.csv --slots 5 --workers 17",
+        "flashrec run p.toml s.csv --slots 5 --speed 3",
+    ] {
+        let words = words_of(alloc, line)?;
+        match read_words(alloc, words.as_slice()) {
+            Ok(_) => assert!(rt; false, "{line}"),
+            Err(error) => assert!(rt;
+                error.use_stderr() && Fault::Words(error).status() == 2,
+                "{line}"
+            ),
+        }
+    }
+    Ok(())
+}
+
+#[test]
+fn a_call_for_help_is_no_fault(rt: HostRuntime) -> Result<(), Fail> {
+    let alloc = rt.alloc();
+    for line in [
+        "flashrec --help",
+        "flashrec help",
+        "flashrec run -h",
+        "flashrec help audit",
+    ] {
+        let words = words_of(alloc, line)?;
+        let read = read_words(alloc, words.as_slice());
+        assert!(rt; read.is_err_and(|error| !error.use_stderr()), "{line}");
+    }
+    Ok(())
+}
+
+#[test]
+fn help_tells_what_a_run_needs(rt: HostRuntime) -> Result<(), Fail> {
+    let alloc = rt.alloc();
+    let words = words_of(alloc, "flashrec run --help")?;
+    let Err(help) = read_words(alloc, words.as_slice()) else {
+        assert!(rt; false);
+        return Ok(());
+    };
+    assert_eq!(rt;
+        help.to_string(alloc)?.as_str(),
+        "Run a script on a store, and print its report
+
+Usage: flashrec run [OPTIONS] --slots <N> <PLAN> <SCRIPT>
+
+Arguments:
+  <PLAN>    The plan of the store, a TOML file
+  <SCRIPT>  The jobs and collections that the dies get, a CSV file
+
+Options:
+      --slots <N>    How many slots each die runs, from 0 to 1048576
+      --workers <W>  How many workers run the dies, from 1 to 16 [default: 1]
+  -h, --help         Print help
+
+Example: flashrec run plan.toml script.csv --slots 1000 --workers 4
+"
+    );
+    Ok(())
+}
+
+#[test]
+fn a_number_out_of_its_range_is_told(rt: HostRuntime) -> Result<(), Fail> {
+    let alloc = rt.alloc();
+    let words = words_of(alloc, "flashrec run p.toml s.csv --slots 1048577")?;
+    let Err(error) = read_words(alloc, words.as_slice()) else {
+        assert!(rt; false);
+        return Ok(());
+    };
+    let text = Fault::Words(error).to_string(alloc)?;
+    assert!(rt;
+        text.starts_with("error: slots are a number from 0 to 1048576, workers one from 1 to 16\n")
+    );
+    Ok(())
+}
