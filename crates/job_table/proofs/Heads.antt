@@ -1,6 +1,5 @@
 -- The first of the queue is the head, and the head is the first of the queue.
-use Rattle.std.proofs.Common.{◌≡◌, ◌≢◌, ℕ, ◌<◌, ◌≤◌, Bool, true, false, refl, sym, ap, ◌∙◌, arith, ◌&&◌, nat_le, List, [], ◌∷◌, slice_get, Some, None, option_map, ◌⊎◌, inl, inr}
-use Rattle.std.specs.List.{AllByRecursion}
+use Rattle.std.proofs.Common.{◌≡◌, ℕ, ◌<◌, ◌≤◌, Bool, true, false, refl, sym, ap, ◌∙◌, arith, ◌&&◌, nat_le, List, [], ◌∷◌, slice_get, Some, None, option_map, inl, inr}
 use Rattle.std.proofs.lemmas.Bool.Decides.{nat_tests}
 use Rattle.due_queue.specs.declared.keys.Key.{Key}
 use Rattle.due_queue.specs.declared.keys.WaitKey.{WaitKey}
@@ -10,7 +9,7 @@ use Rattle.job_table.specs.Jobs.{JobRecord, is_open}
 use Rattle.job_table.specs.Table.{Table, changed_at}
 use Rattle.job_table.specs.Order.{is_ready, due_key, goes_before, IsHead, NothingReady}
 use Rattle.job_table.specs.Queued.{IsAmong, IsStanding, AreQueued, AreLater, release_key}
-use Rattle.job_table.proofs.Changes.{changed_here, same_at}
+use Rattle.job_table.proofs.Changed.{changed_here}
 use Rattle.job_table.proofs.Keyed.{IsQuiet, changed_cases}
 use Rattle.job_table.proofs.Members.{at_member}
 use Rattle.job_table.proofs.Orders.{due_strict, due_irreflexive}

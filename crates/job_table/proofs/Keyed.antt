@@ -1,19 +1,18 @@
 -- The queues keep the keys of the open jobs.
-use Rattle.std.proofs.Common.{◌≡◌, ◌≢◌, ℕ, zero, suc, ◌<◌, ◌≤◌, Bool, true, false, cond, refl, sym, ap, ◌∙◌, arith, List, [], ◌∷◌, ◌++◌, length, slice_get, Option, Some, None, option_map, Contains, ◌⊎◌, inl, inr, nat_le}
+use Rattle.std.proofs.Common.{◌≡◌, ◌≢◌, ℕ, zero, suc, ◌<◌, ◌≤◌, true, false, refl, sym, ap, ◌∙◌, arith, List, [], ◌∷◌, ◌++◌, length, slice_get, Some, Contains, ◌⊎◌, inl, inr}
 use Rattle.std.specs.List.{AllByRecursion}
 use Rattle.std.proofs.lemmas.Option.{slice_get_within}
-use Rattle.std.proofs.lemmas.Bool.Decides.{nat_tests}
 use Rattle.due_queue.specs.declared.keys.Key.{Key}
 use Rattle.due_queue.specs.declared.keys.WaitKey.{WaitKey}
-use Rattle.due_queue.specs.Queue.{inserted, rest_of, IsRising}
+use Rattle.due_queue.specs.Queue.{inserted, IsRising}
 use Rattle.due_queue.specs.Keys.{is_due_before, is_released_before}
 use Rattle.due_queue.proofs.Inserted.{every, every-inserted}
 use Rattle.job_table.specs.Jobs.{JobRecord, is_open}
 use Rattle.job_table.specs.Table.{changed_at}
 use Rattle.job_table.specs.Order.{due_key}
-use Rattle.job_table.specs.Queued.{IsAmong, IsWaiting, IsStanding, AreQueued, AreLater, release_key}
-use Rattle.job_table.proofs.Changes.{changed_here, changed_elsewhere, push_before, push_here, push_cases, same_at}
-use Rattle.job_table.proofs.Members.{at_member, both, inserted_member, inserted_keeps, not_contained}
+use Rattle.job_table.specs.Queued.{IsWaiting, IsStanding, AreQueued, AreLater, release_key}
+use Rattle.job_table.proofs.Changed.{changed_elsewhere, push_before, push_here, push_cases, same_at}
+use Rattle.job_table.proofs.Members.{both, inserted_member, inserted_keeps, not_contained}
 use Rattle.job_table.proofs.Orders.{later_release, not_before_same, not_due_before_same}
 
 -- a key stays in order where its job stands in another list

@@ -1,4 +1,4 @@
-pub mod Changes
+pub mod Changed
 pub mod Members
 pub mod Orders
 pub mod Keyed
@@ -8,3 +8,4 @@ pub mod Waivers
 pub mod Releasing
 pub mod Roomy
 pub mod Tables
+pub mod Reading

@@ -1,5 +1,5 @@
 -- Members of lists of keys.
-use Rattle.std.proofs.Common.{◌≡◌, ◌≢◌, ℕ, zero, suc, ◌<◌, Bool, true, false, cond, refl, sym, ap, ◌∙◌, arith, List, [], ◌∷◌, length, get_or, Contains, ◌⊎◌, inl, inr}
+use Rattle.std.proofs.Common.{◌≢◌, Bool, true, false, cond, refl, sym, List, [], ◌∷◌, Contains, inl, inr}
 use Rattle.std.specs.List.{AllByRecursion}
 use Rattle.std.proofs.lemmas.List.Elements.{All-from_recursion, All-contains}
 use Rattle.due_queue.specs.Queue.{inserted}

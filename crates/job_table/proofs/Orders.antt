@@ -1,10 +1,9 @@
 -- The orders of keys tell any two keys apart.
-use Rattle.std.proofs.Common.{◌≡◌, ◌≤◌, ℕ, Bool, true, false, arith}
+use Rattle.std.proofs.Common.{◌≡◌, ◌≤◌, true, false, arith}
 use Rattle.std.proofs.lemmas.Bool.Decides.{nat_tests}
 use Rattle.due_queue.specs.declared.keys.Key.{Key}
 use Rattle.due_queue.specs.declared.keys.WaitKey.{WaitKey}
 use Rattle.due_queue.specs.Keys.{is_due_before, is_released_before}
-use Rattle.due_queue.specs.Pairs.{is_pair_before}
 use Rattle.due_queue.proofs.Orders.{IsStrict, pairs_strict}
 
 pub due_strict : IsStrict is_due_before

@@ -1,11 +1,9 @@
 -- What is always true of a table stays true.
-use Rattle.std.proofs.Common.{◌≡◌, ◌≢◌, ℕ, suc, ◌+◌, ◌<◌, ◌≤◌, Bool, true, false, cond, if◌then◌else◌, ◌&&◌, ◌==◌, nat_lt, refl, sym, ap, ◌∙◌, subst, arith, List, [], ◌∷◌, ◌++◌, length, get_or, set, slice_get, Option, Some, None, option_map, MatchOption, Contains, count_by, ◌⊎◌, inl, inr, get_or-set_same, get_or-set_other, length-append}
+use Rattle.std.proofs.Common.{◌≡◌, ◌≢◌, ℕ, suc, ◌+◌, ◌<◌, ◌≤◌, Bool, true, false, cond, if◌then◌else◌, ◌&&◌, ◌==◌, nat_lt, refl, sym, ap, ◌∙◌, subst, arith, List, [], ◌∷◌, ◌++◌, length, get_or, set, slice_get, Option, Some, None, option_map, MatchOption, count_by, inl, inr, get_or-set_same, get_or-set_other, length-append}
 use Rattle.std.proofs.Math.ListN.{length-set}
-use Rattle.std.proofs.lemmas.Bool.{cases_eq, cases_lt}
+use Rattle.std.proofs.lemmas.Bool.{cases_eq}
 use Rattle.std.proofs.lemmas.Bool.Decides.{nat_tests}
 use Rattle.std.proofs.lemmas.List.Sums.{sum_by_push}
-use Rattle.std.proofs.lemmas.Option.{slice_get_within}
-use Rattle.std.specs.List.{AllByRecursion, list_any}
 use Rattle.slot_types.specs.declared.limits.TheConstants.{MAX_JOBS}
 use Rattle.slot_types.specs.declared.pages.PageData.{PageData}
 use Rattle.due_queue.specs.declared.keys.Key.{Key}
@@ -20,8 +18,8 @@ use Rattle.job_table.specs.Table.{Table, changed_at, is_collection_of, is_collec
 use Rattle.job_table.specs.Order.{due_key, IsHead}
 use Rattle.job_table.specs.Queued.{Lines, AreQueued, AreLater, release_key}
 use Rattle.job_table.specs.Worst.{IsWorst, NothingDone, IsDoneAt}
-use Rattle.job_table.specs.Kept.{AreOfTasks, unmarked, IsRunning, IsSound}
-use Rattle.job_table.proofs.Changes.{length-changed_at, changed_here, one_if, count_by-changed_at, list_any-none, list_any-some, push_cases, same_at}
+use Rattle.job_table.specs.Kept.{unmarked, IsRunning, IsSound}
+use Rattle.job_table.proofs.Changed.{length-changed_at, changed_here, one_if, count_by-changed_at, list_any-none, list_any-some, push_cases, same_at}
 use Rattle.job_table.proofs.Keyed.{IsQuiet, changed_cases, quiet_queues, end_first, enter_waiting, enter_ready}
 use Rattle.job_table.proofs.Heads.{BeginsWith, head_is_first, ready_open}
 use Rattle.job_table.proofs.Worsts.{undone_worst, pushed_worst}

@@ -1,5 +1,5 @@
 -- Waivers that are taken back leave the jobs as they were.
-use Rattle.std.proofs.Common.{◌≡◌, ◌≢◌, ℕ, zero, suc, ◌<◌, Bool, true, false, not, subst, refl, sym, ap, ◌∙◌, arith, List, [], ◌∷◌, ◌++◌, slice_get, Option, Some, None, option_map, MatchOption, ◌⊎◌, inl, inr, length, take, get_or, ◌+◌}
+use Rattle.std.proofs.Common.{◌≡◌, ◌≢◌, ℕ, zero, suc, ◌<◌, Bool, true, false, not, subst, refl, sym, ap, ◌∙◌, arith, List, [], ◌∷◌, ◌++◌, slice_get, Option, Some, None, option_map, MatchOption, inl, inr, length, take, get_or, ◌+◌}
 use Rattle.std.specs.List.{AllByRecursion}
 use Rattle.std.proofs.lemmas.Bool.{cases_eq}
 use Rattle.std.proofs.lemmas.List.{take_more}
@@ -13,8 +13,7 @@ use Rattle.job_table.specs.Table.{Table, changed_at}
 use Rattle.job_table.specs.Order.{IsHead}
 use Rattle.job_table.specs.Waivers.{after_waiver, waived_in, IsOpenAt, WereOpen, without_waiver, reopened, is_waived_one, AreWaived}
 use Rattle.job_table.specs.Worst.{IsWorst, NothingDone}
-use Rattle.job_table.proofs.Changes.{changed_here, changed_elsewhere, length-changed_at, same_at}
-use Rattle.job_table.proofs.Keyed.{changed_cases}
+use Rattle.job_table.proofs.Changed.{changed_here, changed_elsewhere, length-changed_at, same_at}
 use Rattle.job_table.proofs.Heads.{ready_open}
 use Rattle.job_table.proofs.Worsts.{undone_worst}
 

@@ -1,14 +1,14 @@
 -- Who is worst, before and after somebody is done.
-use Rattle.std.proofs.Common.{◌≡◌, ◌≢◌, ℕ, ◌<◌, ◌≤◌, Bool, true, false, refl, sym, ap, ◌∙◌, arith, ◌&&◌, ◌||◌, not, nat_lt, nat_le, ◌==◌, List, [], ◌∷◌, ◌++◌, slice_get, Option, Some, None, MatchOption, option_map, ◌⊎◌, inl, inr, ℤ, pos, ◌-ℤ◌, ◌<ℤ◌, int_lt, length}
+use Rattle.std.proofs.Common.{◌≡◌, ◌≢◌, ℕ, Bool, true, false, refl, sym, ap, ◌∙◌, arith, ◌&&◌, ◌||◌, not, List, [], ◌∷◌, ◌++◌, slice_get, Option, Some, None, MatchOption, ◌⊎◌, inl, inr, ℤ, ◌<ℤ◌, int_lt}
 use Rattle.std.proofs.lemmas.Bool.{cases_eq}
 use Rattle.std.proofs.lemmas.Bool.Decides.{nat_tests}
 use Rattle.std.proofs.lemmas.Int.{ints}
 use Rattle.due_queue.specs.Pairs.{is_pair_before}
 use Rattle.due_queue.proofs.Orders.{pairs_strict}
-use Rattle.job_table.specs.Jobs.{JobRecord, is_open, is_done, completion_in, lateness_of}
+use Rattle.job_table.specs.Jobs.{JobRecord, is_done, completion_in, lateness_of}
 use Rattle.job_table.specs.Table.{changed_at}
 use Rattle.job_table.specs.Worst.{is_worse, IsWorst, NothingDone, IsDoneAt, IsWorstBeside, NothingDoneBeside}
-use Rattle.job_table.proofs.Changes.{changed_here, changed_elsewhere, same_at, push_before, push_cases}
+use Rattle.job_table.proofs.Changed.{changed_elsewhere, same_at, push_before, push_cases}
 use Rattle.job_table.proofs.Keyed.{changed_cases}
 
 -- by lateness, and where it is equal by a test

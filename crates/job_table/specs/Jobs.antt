@@ -1,5 +1,5 @@
 -- A job or a collection, as the table keeps it.
-use Rattle.std.specs.Prelude.{ℕ, ◌+◌, Bool, true, false, List, [], ◌∷◌, ◌++◌, ℤ, pos, ◌-ℤ◌}
+use Rattle.std.specs.Prelude.{ℕ, ◌+◌, Bool, true, false, List, [], ◌∷◌, ◌++◌, Option, Some, None, slice_get, take, count_by, ◌≡◌, ◌≤◌, ℤ, pos, ◌-ℤ◌}
 use Rattle.slot_types.specs.declared.events.Op.{Op}
 use Rattle.slot_types.specs.declared.events.Op.TheVariants.{Read, Write}
 use Rattle.slot_types.specs.declared.pages.PageData.{PageData}
@@ -46,6 +46,19 @@ lateness_of job = pos (completion_in job.stage) -ℤ pos job.due
 abbrev pub is_read : Op → Bool
 is_read (Read page) = true
 is_read (Write page bytes) = false
+
+abbrev pub is_some_read : Option Op → Bool
+is_some_read None = false
+is_some_read (Some op) = is_read op
+
+-- its next operation is a read
+abbrev pub reads_next : JobRecord → Bool
+reads_next job = is_some_read (slice_get job.ops job.work)
+
+-- it has as many bytes as it carried reads, and room for those of all its reads
+pub record HasRoom (ops : List Op) (work len capacity : ℕ) : Type 0 where
+  pub len_is : len ≡ count_by is_read (take work ops)
+  pub room : count_by is_read ops ≤ capacity
 
 -- a job that has not begun
 abbrev pub new_job : ℕ → ℕ → ℕ → List Op → JobRecord

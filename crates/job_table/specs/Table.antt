@@ -1,7 +1,7 @@
 -- The jobs and collections of a die by number, and what happens to them.
-use Rattle.std.specs.Prelude.{ℕ, zero, suc, ◌-◌, ◌&&◌, ◌==◌, Bool, false, List, [], ◌∷◌, ◌++◌, Option, Some, None, slice_get, length, count_by}
+use Rattle.std.specs.Prelude.{ℕ, zero, suc, ◌&&◌, ◌==◌, Bool, false, List, [], ◌∷◌, ◌++◌, Option, Some, None, slice_get}
 use Rattle.std.specs.List.{list_any}
-use Rattle.job_table.specs.Jobs.{JobRecord, is_open, is_read}
+use Rattle.job_table.specs.Jobs.{JobRecord, is_open, reads_next}
 
 -- how many tasks there are, the slot up to which releases were looked at, whether the die has stopped, and the jobs and
 -- collections by number
@@ -35,13 +35,13 @@ work_of (Some job) = job.work
 abbrev pub work_at : List JobRecord → ℕ → ℕ
 work_at jobs number = work_of (slice_get jobs number)
 
--- how many more reads the job of this number has
-abbrev pub reads_left_of : Option JobRecord → ℕ
-reads_left_of None = 0
-reads_left_of (Some job) = count_by is_read job.ops - length job.reads
+abbrev pub reads_next_of : Option JobRecord → Bool
+reads_next_of None = false
+reads_next_of (Some job) = reads_next job
 
-abbrev pub reads_left : List JobRecord → ℕ → ℕ
-reads_left jobs number = reads_left_of (slice_get jobs number)
+-- the next operation of the job of this number is a read
+abbrev pub reads_next_at : List JobRecord → ℕ → Bool
+reads_next_at jobs number = reads_next_of (slice_get jobs number)
 
 -- a collection for this task that is neither done nor waived
 abbrev pub is_collection_of : ℕ → JobRecord → Bool

@@ -1,5 +1,5 @@
 -- The job that was done with the greatest lateness.
-use Rattle.std.specs.Prelude.{◌≡◌, ◌≢◌, ℕ, nat_lt, ◌==◌, ◌&&◌, ◌||◌, not, Bool, true, false, List, Option, Some, None, slice_get, option_map, ℤ, int_lt}
+use Rattle.std.specs.Prelude.{◌≡◌, ◌≢◌, ℕ, nat_lt, ◌==◌, ◌&&◌, ◌||◌, not, Bool, true, false, List, Option, Some, slice_get, option_map, ℤ, int_lt}
 use Rattle.job_table.specs.Jobs.{JobRecord, is_done, completion_in, lateness_of}
 
 -- later; or as late, and completed first; or completed in the same slot, under a smaller number

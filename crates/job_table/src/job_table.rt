@@ -1,20 +1,17 @@
 //! The jobs and collections of a die by number.
 
-ghost use Rattle.std.specs.Prelude.{◌≡◌, ◌<◌, ◌≤◌, ◌+◌, ◌^◌, ◌==◌, ◌∷◌, ◌++◌, [], if◌then◌else◌, nat_lt, true, false, length, slice_get, option_copied, Contains, OnOk, IfOk, OnErr, IfErr, IfSome, IfNone};
-ghost use Rattle.due_queue.specs.Queue.{inserted};
-ghost use Rattle.due_queue.specs.Keys.{is_due_before, is_released_before};
-ghost use Rattle.job_table.specs.Jobs.{new_job, new_collection, carried, with_read, with_stage};
-ghost use Rattle.job_table.specs.Table.{empty_table, with_job, changed_at, with_change, work_at, reads_left, is_collecting};
-ghost use Rattle.job_table.specs.Waivers.{AreWaived, reopened, stopped};
-ghost use Rattle.job_table.specs.Kept.{AreOfTasks, unmarked};
+ghost use Rattle.std.specs.Prelude.{◌≡◌, ◌<◌, ◌≤◌, ◌+◌, ◌^◌, ◌==◌, List, true, false, length, slice_get, option_copied, OnOk, IfOk, OnErr, IfErr, IfSome, IfNone};
+ghost use Rattle.job_table.specs.Jobs.{JobRecord, new_job, new_collection, carried, with_read, with_stage};
+ghost use Rattle.job_table.specs.Table.{empty_table, with_job, with_change, work_at, reads_next_at, is_collecting};
+ghost use Rattle.job_table.specs.Waivers.{AreWaived, WereOpen, waived_in, stopped};
 ghost use Rattle.job_table.specs.Order.{IsHead, NothingReady};
 ghost use Rattle.job_table.specs.Worst.{IsWorst, NothingDone, lateness_at};
 
+use crate::changes::{end_job, push_job, reopen};
 use crate::jobs::Job;
 use crate::queues::Queues;
 use crate::stages::Stage;
 use crate::worst::worse_of;
-use due_queue::{Key, WaitKey};
 use slot_types::{JobNo, MAX_JOBS, OpList, PageData, Refusal, TaskNo, Waived};
 use std::alloc::Global;
 use std::marker::Model;
@@ -22,7 +19,8 @@ use std::marker::Model;
 /// The jobs and collections of a die by number, 0, 1, 2, .. in order of acceptance, and who of them is next.
 ///
 /// Contracts see the number of tasks, the last slot that `head` was asked for, whether the die has stopped, and the
-/// jobs in order. Accepting is all that takes memory.
+/// jobs in order. Accepting is all that takes memory. A slot is: `head` asked for its number; each head that is waived,
+/// and `head` asked again; then the head carried, and finished with its last act.
 #[derive(Drop)]
 pub struct JobTable {
     jobs: Vec<Job>,
@@ -48,7 +46,7 @@ impl Model for JobTable {
 }
 
 impl JobTable {
-    /// A table of a die with so many tasks, without jobs, at slot 0.
+    /// A table of a die with so many tasks, without jobs, at slot 0. It may be refused with `NoMemory`.
     pub fn new(alloc: Global, tasks: u32) -> Result<JobTable, Refusal>
         ensures ok { IfOk result (λ table. table ≡ empty_table tasks) }
         ensures refused { IfErr result (λ refusal. refusal ≡ Refusal.NoMemory) }
@@ -106,7 +104,7 @@ impl JobTable {
         self.jobs.get(number.0 as usize)
     }
 
-    /// Whether a task has a collection that is neither done nor waived.
+    /// Whether a task has a collection that is neither done nor waived. It isn't asked of a die that has stopped.
     pub fn is_collecting(&self, task: TaskNo) -> bool
         requires running { self.now.ended ≡ false }
         requires task { task < self.now.tasks }
@@ -115,8 +113,8 @@ impl JobTable {
         self.collecting[task.0 as usize]
     }
 
-    /// The done job or collection with the greatest lateness, of equal ones the one completed first, with its
-    /// lateness.
+    /// The done job or collection with the greatest lateness, of equal ones the one completed first, and its lateness:
+    /// its completion minus its due.
     pub fn worst(&self) -> Option<(JobNo, i64)>
         ensures worst { IfSome result (λ w. IsWorst self.now.jobs w.0) }
         ensures lateness { IfSome result (λ w. lateness_at self.now.jobs w.0 ≡ Some w.1) }
@@ -128,7 +126,8 @@ impl JobTable {
         }
     }
 
-    /// Accepts a job under the next number. Refused with `NoMemory` the table stays as it was.
+    /// Accepts a job under the next number, to run from slot `release` on. There are fewer than `MAX_JOBS`. All memory
+    /// that it will ever need is taken here: refused with `NoMemory`, the table stays as it was.
     pub fn add_job(
         &mut self,
         alloc: Global,
@@ -147,12 +146,12 @@ impl JobTable {
         self.queues.reserve()?;
         let job = Job::new_job(alloc, task, release, due, ops)?;
         let number = push_job(&mut self.jobs, job)?;
-        enter(&mut self.queues, self.clock, number, release, due);
+        self.queues.enter(self.clock, number, release, due);
         Ok(JobNo(number))
     }
 
-    /// Accepts a collection for a task that has no open one, under the next number. Refused with `NoMemory` the table
-    /// stays as it was.
+    /// Accepts a collection for a task that has no open one, under the next number. There are fewer than `MAX_JOBS`.
+    /// Refused with `NoMemory`, the table stays as it was.
     pub fn add_collection(
         &mut self,
         alloc: Global,
@@ -174,13 +173,14 @@ impl JobTable {
             &mut self.jobs,
             Job::new_collection(alloc, task, release, due),
         )?;
-        enter(&mut self.queues, self.clock, number, release, due);
+        self.queues.enter(self.clock, number, release, due);
         self.collecting[task.0 as usize] = true;
         Ok(JobNo(number))
     }
 
-    /// The job or collection that has slot `now`: of those that are released by then and neither done nor waived the
-    /// one with the earliest due, and of equal ones the smallest number.
+    /// The job or collection that has slot `now`, which is never before a slot asked for earlier: of those that are
+    /// released by then and neither done nor waived the one with the earliest due, and of equal ones the one with the
+    /// smallest number.
     pub fn head(&mut self, now: u32) -> Option<JobNo>
         requires running { self.old.ended ≡ false }
         requires forward { self.old.clock ≤ now }
@@ -196,10 +196,12 @@ impl JobTable {
         }
     }
 
-    /// The head took one more slot, in which it read nothing for its job.
+    /// The head took one more slot, in which it carried no read of its own: a collection, or a job whose next operation
+    /// is none.
     pub fn carry(&mut self, number: JobNo)
         requires running { self.old.ended ≡ false }
         requires head { IsHead self.old number }
+        requires reads { reads_next_at self.old.jobs number ≡ false }
         requires room { work_at self.old.jobs number + 1 < 2 ^ 32 }
         ensures carried { self.new ≡ with_change self.old number carried }
         ensures head { IsHead self.new number }
@@ -208,18 +210,17 @@ impl JobTable {
         job.carry();
     }
 
-    /// The head took one more slot, in which one of its reads gave these bytes.
+    /// The head took one more slot: its next operation, a read, gave these bytes.
     pub fn carry_read(&mut self, number: JobNo, bytes: PageData)
         requires running { self.old.ended ≡ false }
         requires head { IsHead self.old number }
+        requires reads { reads_next_at self.old.jobs number ≡ true }
         requires room { work_at self.old.jobs number + 1 < 2 ^ 32 }
-        requires reads { 0 < reads_left self.old.jobs number }
         ensures carried { self.new ≡ with_change self.old number (λ job. with_read bytes (carried job)) }
         ensures head { IsHead self.new number }
     {
         let job = &mut self.jobs[number.0 as usize];
-        job.carry();
-        job.take_read(bytes);
+        job.carry_read(bytes);
     }
 
     /// The head is done: `completion` is 1 + its last slot, and `given` counts the pages that a collection gave its
@@ -257,79 +258,10 @@ impl JobTable {
     /// The die has stopped, and the waivers of its last slot are taken back. From now on the table is only read.
     pub fn stop(&mut self, waived: &[Waived])
         requires { AreWaived self.old.jobs waived.now }
-        ensures { self.new ≡ stopped self.old waived.now }
+        ensures stopped { self.new ≡ stopped self.old waived.now }
+        ensures as_before { (jobs : List JobRecord) → WereOpen jobs waived.now → self.old.jobs ≡ waived_in jobs waived.now → self.new.jobs ≡ jobs }
     {
         self.ended = true;
         reopen(&mut self.jobs, waived);
     }
-}
-
-/// Adds a job at the end, and answers its number.
-fn push_job(jobs: &mut Vec<Job>, job: Job) -> Result<u32, Refusal>
-    requires { length jobs.old.items < MAX_JOBS }
-    ensures ok { OnOk result (jobs.new.items ≡ jobs.old.items ++ job ∷ []) }
-    ensures number { IfOk result (λ number. number ≡ length jobs.old.items) }
-    ensures refused { IfErr result (λ refusal. refusal ≡ Refusal.NoMemory) }
-    ensures err { OnErr result (jobs.new.items ≡ jobs.old.items) }
-{
-    let number = jobs.len() as u32;
-    match jobs.push(job) {
-        Ok(()) => Ok(number),
-        Err(_) => Err(Refusal::NoMemory),
-    }
-}
-
-/// A job comes into the queue that its release puts it in.
-fn enter(queues: &mut Queues, clock: u32, number: u32, release: u32, due: u32)
-    requires room { 0 < queues.old.room }
-    requires not_waiting { ¬ Contains queues.old.waiting (record { release = release; number = number }) }
-    requires not_ready { ¬ Contains queues.old.ready (record { due = due; number = number }) }
-    ensures waiting { queues.new.waiting ≡ (if nat_lt clock release then inserted is_released_before (record { release = release; number = number }) queues.old.waiting else queues.old.waiting) }
-    ensures ready { queues.new.ready ≡ (if nat_lt clock release then queues.old.ready else inserted is_due_before (record { due = due; number = number }) queues.old.ready) }
-{
-    if clock < release {
-        queues.wait(WaitKey { release, number });
-    } else {
-        queues.stand(Key { due, number });
-    }
-}
-
-/// A job is over. If it is a collection, its task has no open one any more.
-fn end_job(jobs: &mut Vec<Job>, collecting: &mut Vec<bool>, number: JobNo, stage: Stage)
-    requires number { number < length jobs.old.items }
-    requires tasks { AreOfTasks jobs.old.items (length collecting.old.items) }
-    ensures jobs { jobs.new.items ≡ changed_at jobs.old.items number (with_stage stage) }
-    ensures marks { collecting.new.items ≡ unmarked (slice_get jobs.old.items number) collecting.old.items }
-{
-    unmark(collecting, &jobs[number.0 as usize]);
-    put_stage(jobs, number, stage);
-}
-
-/// The task of a collection has no open one any more.
-fn unmark(collecting: &mut Vec<bool>, job: &Job)
-    requires { job.now.collects ≡ true → job.now.task < length collecting.old.items }
-    ensures { collecting.new.items ≡ unmarked (Some job.now) collecting.old.items }
-{
-    if job.collects() {
-        collecting[job.task().0 as usize] = false;
-    }
-}
-
-/// Takes waivers back.
-fn reopen(jobs: &mut Vec<Job>, waived: &[Waived])
-    requires { AreWaived jobs.old.items waived.now }
-    ensures { jobs.new.items ≡ reopened jobs.old.items waived.now }
-{
-    for w in waived {
-        put_stage(jobs, w.number, Stage::Open);
-    }
-}
-
-/// A job stands otherwise from now on.
-fn put_stage(jobs: &mut Vec<Job>, number: JobNo, stage: Stage)
-    requires { number < length jobs.old.items }
-    ensures { jobs.new.items ≡ changed_at jobs.old.items number (with_stage stage) }
-{
-    let job = &mut jobs[number.0 as usize];
-    job.set_stage(stage);
 }

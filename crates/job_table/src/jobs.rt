@@ -1,7 +1,7 @@
 //! A job or a collection of a die.
 
-ghost use Rattle.std.specs.Prelude.{◌≡◌, ◌<◌, ◌+◌, ◌^◌, length, count_by, slice_get, IfOk};
-ghost use Rattle.job_table.specs.Jobs.{is_read, is_open, new_job, new_collection, carried, with_read, with_stage, lateness_of, completion_in};
+ghost use Rattle.std.specs.Prelude.{◌≡◌, ◌<◌, ◌+◌, ◌^◌, true, false, count_by, slice_get, IfOk};
+ghost use Rattle.job_table.specs.Jobs.{is_read, is_open, reads_next, new_job, new_collection, carried, with_read, with_stage, lateness_of, completion_in};
 
 use crate::stages::Stage;
 use slot_types::{Op, OpList, PageData, TaskNo};
@@ -23,14 +23,14 @@ pub struct Job {
 }
 
 impl Model for Job {
-    ghost use Rattle.std.specs.Prelude.{◌≤◌, count_by, vec_capacity};
-    ghost use Rattle.job_table.specs.Jobs.{JobRecord, is_read};
+    ghost use Rattle.std.specs.Prelude.{vec_len, vec_capacity};
+    ghost use Rattle.job_table.specs.Jobs.{JobRecord, HasRoom};
 
     ghost Value = { JobRecord };
 
     ghost view = { λ j. record { collects = j.collects; task = j.task; release = j.release; due = j.due; ops = j.ops; work = j.work; reads = j.reads.items; stage = j.stage } };
 
-    ghost invariant = { λ j. count_by is_read j.ops ≤ vec_capacity j.reads };
+    ghost invariant = { λ j. HasRoom j.ops j.work (vec_len j.reads) (vec_capacity j.reads) };
 }
 
 impl Job {
@@ -144,21 +144,23 @@ impl Job {
         matches!(self.stage, Stage::Open)
     }
 
-    /// It took one more slot.
+    /// It took one more slot, which wasn't a read of a job.
     pub(crate) fn carry(&mut self)
-        requires { self.old.work + 1 < 2 ^ 32 }
+        requires reads { reads_next self.old ≡ false }
+        requires room { self.old.work + 1 < 2 ^ 32 }
         ensures { self.new ≡ carried self.old }
     {
         self.work += 1;
     }
 
-    /// One of its reads gave these bytes.
-    pub(crate) fn take_read(&mut self, bytes: PageData)
-        requires { length self.old.reads < count_by is_read self.old.ops }
-        ensures { self.new ≡ with_read bytes self.old }
+    /// It took one more slot, in which its read gave these bytes.
+    pub(crate) fn carry_read(&mut self, bytes: PageData)
+        requires reads { reads_next self.old ≡ true }
+        requires room { self.old.work + 1 < 2 ^ 32 }
+        ensures { self.new ≡ with_read bytes (carried self.old) }
     {
-        // There is room, so this can't fail.
-        let _ = self.reads.push(bytes);
+        self.reads.push_reserved(bytes);
+        self.work += 1;
     }
 
     /// It stands otherwise from now on.

@@ -1,6 +1,7 @@
 //! The jobs and collections of a die by number: who of them is ready, who is next, and who was done latest.
 #![tactic(auto)]
 
+mod changes;
 pub mod job_table;
 pub mod jobs;
 mod queues;

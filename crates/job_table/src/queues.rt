@@ -1,6 +1,6 @@
 //! Who waits for a release, and who is released, by due date.
 
-ghost use Rattle.std.specs.Prelude.{◌≡◌, ◌<◌, ◌≤◌, ◌^◌, [], length, Contains, option_map, OnOk, IfErr};
+ghost use Rattle.std.specs.Prelude.{◌≡◌, ◌<◌, ◌≤◌, ◌^◌, [], length, nat_lt, if◌then◌else◌, Contains, option_map, OnOk, IfErr};
 ghost use Rattle.due_queue.specs.Queue.{inserted, first_of, rest_of, IsRising};
 ghost use Rattle.due_queue.specs.Keys.{is_due_before, is_released_before};
 ghost use Rattle.job_table.specs.Queued.{AreQueued, AreLater};
@@ -54,8 +54,23 @@ impl Queues {
         self.waiting.reserve(1)
     }
 
+    /// A job comes into the queue that its release puts it in.
+    pub(crate) fn enter(&mut self, clock: u32, number: u32, release: u32, due: u32)
+        requires room { 0 < self.old.room }
+        requires not_waiting { ¬ Contains self.old.waiting (record { release = release; number = number }) }
+        requires not_ready { ¬ Contains self.old.ready (record { due = due; number = number }) }
+        ensures waiting { self.new.waiting ≡ (if nat_lt clock release then inserted is_released_before (record { release = release; number = number }) self.old.waiting else self.old.waiting) }
+        ensures ready { self.new.ready ≡ (if nat_lt clock release then self.old.ready else inserted is_due_before (record { due = due; number = number }) self.old.ready) }
+    {
+        if clock < release {
+            self.wait(WaitKey { release, number });
+        } else {
+            self.stand(Key { due, number });
+        }
+    }
+
     /// A job waits for its release.
-    pub(crate) fn wait(&mut self, key: WaitKey)
+    fn wait(&mut self, key: WaitKey)
         requires room { 0 < self.old.room }
         requires absent { ¬ Contains self.old.waiting key }
         ensures waiting { self.new.waiting ≡ inserted is_released_before key self.old.waiting }
@@ -65,7 +80,7 @@ impl Queues {
     }
 
     /// A job is released.
-    pub(crate) fn stand(&mut self, key: Key)
+    fn stand(&mut self, key: Key)
         requires room { 0 < self.old.room }
         requires absent { ¬ Contains self.old.ready key }
         ensures waiting { self.new.waiting ≡ self.old.waiting }

@@ -3,7 +3,6 @@
 ghost use Rattle.std.specs.Prelude.{◌≡◌, slice_get, option_map};
 
 use crate::job_table::JobTable;
-use crate::jobs::count_reads;
 use crate::stages::Stage;
 use slot_types::{JobNo, MAX_JOBS, Op, OpList, PageData, Refusal, TaskNo, Waived};
 use std::alloc::Global;
@@ -39,20 +38,26 @@ fn add_reads(
     add_ops(alloc, table, release, due, ops)
 }
 
+/// What each read gives.
+const BYTES: PageData = PageData([0x11; 16]);
+
 /// The slot is the head's, if there is one; it is done with its last operation.
 fn run_slot(table: &mut JobTable, now: u32) -> Option<JobNo> {
     if table.ended() || now < table.clock() || now >= 1_000 {
         return None;
     }
     let number = table.head(now)?;
-    let (work, count) = match table.job(number) {
-        Some(job) => (job.work(), job.ops().len()),
+    let (work, count, next) = match table.job(number) {
+        Some(job) => (job.work(), job.ops().len(), job.op(job.work())),
         None => return None,
     };
     if work >= 1_000 {
         return None;
     }
-    table.carry(number);
+    match next {
+        Some(Op::Read(_)) => table.carry_read(number, BYTES),
+        _ => table.carry(number),
+    }
     if work as usize + 1 >= count {
         table.finish(number, now + 1, 0);
     }
@@ -203,34 +208,10 @@ fn waivers_are_taken_back(rt: HostRuntime) -> Result<(), Fail> {
     Ok(())
 }
 
-/// The head reads these bytes, if it has a read left, and is done with its last operation.
-fn read_slot(table: &mut JobTable, now: u32, bytes: PageData) -> Option<JobNo> {
-    if table.ended() || now < table.clock() || now >= 1_000 {
-        return None;
-    }
-    let number = table.head(now)?;
-    let (work, count, left) = match table.job(number) {
-        Some(job) => (
-            job.work(),
-            job.ops().len(),
-            count_reads(job.ops()) > job.reads().len(),
-        ),
-        None => return None,
-    };
-    if work >= 1_000 || !left {
-        return None;
-    }
-    table.carry_read(number, bytes);
-    if work as usize + 1 >= count {
-        table.finish(number, now + 1, 0);
-    }
-    Some(number)
-}
-
 /// A table with a job that writes page 3 and then reads it.
-fn with_write_and_read(alloc: Global, bytes: PageData) -> Result<JobTable, Refusal> {
+fn with_write_and_read(alloc: Global) -> Result<JobTable, Refusal> {
     let mut ops = OpList::new(alloc);
-    ops.push(Op::Write(3, bytes))?;
+    ops.push(Op::Write(3, BYTES))?;
     ops.push(Op::Read(3))?;
     let mut table = JobTable::new(alloc, 1)?;
     add_ops(alloc, &mut table, 0, 4, ops)?;
@@ -239,11 +220,10 @@ fn with_write_and_read(alloc: Global, bytes: PageData) -> Result<JobTable, Refus
 
 #[test]
 fn a_job_keeps_what_its_reads_gave(rt: HostRuntime) -> Result<(), Fail> {
-    let bytes = PageData([0x11; 16]);
-    let mut table = with_write_and_read(rt.alloc(), bytes)?;
+    let mut table = with_write_and_read(rt.alloc())?;
     let heads = [
         number_of(run_slot(&mut table, 0)),
-        number_of(read_slot(&mut table, 1, bytes)),
+        number_of(run_slot(&mut table, 1)),
         number_of(run_slot(&mut table, 2)),
     ];
     assert_eq!(rt; heads, [0, 0, 99]);
@@ -255,6 +235,6 @@ fn a_job_keeps_what_its_reads_gave(rt: HostRuntime) -> Result<(), Fail> {
     );
     assert_eq!(rt; (job.collects(), job.is_open()), (false, false));
     assert_eq!(rt; [job.op(1), job.op(2)], [Some(Op::Read(3)), None]);
-    assert_eq!(rt; job.reads(), [bytes].as_slice());
+    assert_eq!(rt; job.reads(), [BYTES].as_slice());
     Ok(())
 }

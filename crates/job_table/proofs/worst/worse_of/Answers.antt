@@ -1,4 +1,4 @@
-use Rattle.std.proofs.Common.{◌≡◌, ◌<◌, sym, ap, ◌∙◌, true, false}
+use Rattle.std.proofs.Common.{sym, ap, ◌∙◌}
 use Rattle.std.proofs.lemmas.Option.{get_or_from_slice_get, MatchOption-at_some}
 use Rattle.job_table.specs.Worst.{is_worse, IsWorstBeside, NothingDoneBeside}
 use Rattle.job_table.proofs.Worsts.{worst_now, worst_stays}

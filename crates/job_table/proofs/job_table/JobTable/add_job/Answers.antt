@@ -2,6 +2,7 @@ use Rattle.std.proofs.Common.{◌≡◌, ◌<◌, false, length, refl, sym, subs
 use Rattle.slot_types.specs.declared.limits.TheConstants.{MAX_JOBS}
 use Rattle.job_table.specs.Jobs.{JobRecord, new_job}
 use Rattle.job_table.specs.Table.{Table}
+use Rattle.job_table.proofs.Keyed.{not_waiting, not_ready}
 use Rattle.job_table.proofs.Tables.{has_entered, job_sound}
 use Rattle.job_table.proofs.job_table.JobTable.add_job.Goals as goal
 
@@ -12,9 +13,23 @@ invariant_of-self-2 c =
     let waiting = rw (c.in_ok-number.ensures.number, c.in_ok-reserve.ensures.waiting) at c.enter.ensures.waiting in
     let ready = rw (c.in_ok-number.ensures.number, c.in_ok-reserve.ensures.ready) at c.enter.ensures.ready in
     rw (c.in_ok-number.ensures.ok, c.in_ok-job.ensures)
-    (job_sound c.self.inside.jobs.items job c.self.inside.clock c.self.inside.ended c.self.inside.collecting.items c.self.inside.queues c.enter.new.queues c.self.inside.worst
+    (job_sound c.self.inside.jobs.items job c.self.inside.clock c.self.inside.ended c.self.inside.collecting.items c.self.inside.queues c.enter.new.self c.self.inside.worst
     few refl refl
     (λ runs. let r = c.self.invariant.running runs in
-    has_entered c.self.inside.jobs.items job c.self.inside.clock c.self.inside.queues.waiting c.enter.new.queues.waiting c.self.inside.queues.ready c.enter.new.queues.ready
+    has_entered c.self.inside.jobs.items job c.self.inside.clock c.self.inside.queues.waiting c.enter.new.self.waiting c.self.inside.queues.ready c.enter.new.self.ready
     refl waiting ready r.queued r.later)
     c.self.invariant)
+
+pub enter-requires-clause-not_waiting : goal.enter-requires-clause-not_waiting
+enter-requires-clause-not_waiting c =
+    let runs = subst (λ (t : Table). t.ended ≡ false) (sym c.self.view_is) c.requires.running in
+    let r = c.self.invariant.running runs in
+    rw (c.in_ok-reserve.ensures.waiting, c.in_ok-number.ensures.number)
+    (not_waiting c.self.inside.jobs.items c.self.inside.clock c.self.inside.queues.waiting c.self.inside.queues.ready c.args.release r.queued)
+
+pub enter-requires-clause-not_ready : goal.enter-requires-clause-not_ready
+enter-requires-clause-not_ready c =
+    let runs = subst (λ (t : Table). t.ended ≡ false) (sym c.self.view_is) c.requires.running in
+    let r = c.self.invariant.running runs in
+    rw (c.in_ok-reserve.ensures.ready, c.in_ok-number.ensures.number)
+    (not_ready c.self.inside.jobs.items c.self.inside.clock c.self.inside.queues.waiting c.self.inside.queues.ready c.args.due r.queued)

@@ -2,7 +2,7 @@ use Rattle.std.proofs.Common.{sym, subst}
 use Rattle.job_table.specs.Jobs.{carried}
 use Rattle.job_table.specs.Table.{Table}
 use Rattle.job_table.specs.Order.{IsHead}
-use Rattle.job_table.proofs.Changes.{written, viewed}
+use Rattle.job_table.proofs.Changed.{written, viewed}
 use Rattle.job_table.proofs.Heads.{ready_open, head_goes_on}
 use Rattle.job_table.proofs.Tables.{carried_quiet, quiet_sound}
 use Rattle.job_table.proofs.job_table.JobTable.carry.Goals as goal

@@ -1,5 +1,4 @@
 use Rattle.std.proofs.Common.{false, sym, ◌∙◌}
-use Rattle.job_table.specs.Order.{IsHead, NothingReady}
 use Rattle.job_table.proofs.Heads.{number_is_head, no_number_ready}
 use Rattle.job_table.proofs.job_table.JobTable.head.Goals as goal
 use Rattle.job_table.proofs.job_table.JobTable.head.Goals.{in-Some, in-None}

@@ -1,4 +1,4 @@
-use Rattle.std.proofs.Common.{◌≡◌, ◌<◌, Bool, false, length, get_or, sym, ap, ◌∙◌, subst}
+use Rattle.std.proofs.Common.{◌≡◌, ◌<◌, false, length, sym, ap, ◌∙◌, subst}
 use Rattle.job_table.specs.Table.{Table, is_collecting}
 use Rattle.std.proofs.lemmas.List.{get_or_default}
 use Rattle.job_table.proofs.Tables.{mark_is}

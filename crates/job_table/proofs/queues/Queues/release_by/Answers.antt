@@ -1,7 +1,4 @@
-use Rattle.std.proofs.Common.{rules, sym, ◌∙◌, ap, subst, refl, arith}
-use Rattle.due_queue.specs.Queue.{inserted}
-use Rattle.due_queue.specs.Keys.{is_due_before}
-use Rattle.job_table.specs.Queued.{AreQueued, AreLater}
+use Rattle.std.proofs.Common.{sym, ◌∙◌, arith}
 use Rattle.job_table.proofs.Releasing.{release_step, none_popped}
 use Rattle.job_table.proofs.queues.Queues.release_by.Goals as goal
 

@@ -1,6 +1,4 @@
 use Rattle.std.proofs.Common.{◌≤◌, length}
-use Rattle.due_queue.specs.Queue.{IsRising}
-use Rattle.due_queue.specs.Keys.{is_due_before, is_released_before}
 use Rattle.job_table.specs.Queued.{AreQueued, IsRoomy}
 use Rattle.job_table.proofs.queues.Queues.release_by.Given as goal
 

@@ -1,10 +1,10 @@
-use Rattle.std.proofs.Common.{◌≡◌, ◌<◌, length, sym, ap, ◌∙◌, take_all}
+use Rattle.std.proofs.Common.{sym, ap, ◌∙◌, take_all}
 use Rattle.job_table.specs.declared.stages.Stage.TheVariants as stages
 use Rattle.job_table.specs.Jobs.{with_stage}
 use Rattle.job_table.specs.Table.{changed_at}
 use Rattle.job_table.specs.Waivers.{reopened}
 use Rattle.job_table.proofs.Waivers.{reopened_more, waived_in_range, length-reopened}
-use Rattle.job_table.proofs.job_table.reopen.Goals as goal
+use Rattle.job_table.proofs.changes.reopen.Goals as goal
 
 pub put_stage-requires : goal.put_stage-requires
 put_stage-requires c =

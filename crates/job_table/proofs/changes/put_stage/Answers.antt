@@ -1,8 +1,8 @@
 use Rattle.std.proofs.Common.{◌<◌, length, refl}
 use Rattle.std.proofs.lemmas.Option.{slice_get_read}
 use Rattle.job_table.specs.Jobs.{with_stage}
-use Rattle.job_table.proofs.Changes.{changed_at-set}
-use Rattle.job_table.proofs.job_table.put_stage.Goals as goal
+use Rattle.job_table.proofs.Changed.{changed_at-set}
+use Rattle.job_table.proofs.changes.put_stage.Goals as goal
 
 pub returns : goal.returns
 returns c =
