@@ -1,6 +1,6 @@
 //! Collections: a block is chosen, its pages are copied elsewhere, and it is erased.
 
-ghost use Rattle.std.specs.Prelude.{◌≡◌, ◌≢◌, ◌+◌, ◌<◌, ◌↔◌, ℕ, true, false, Some, None, length, is_err, IsOk, IsSome, IfOk, IfErr, IfSome, IfNone, OnOk, OnErr};
+ghost use Rattle.std.specs.Prelude.{◌≡◌, ◌≢◌, ◌+◌, ◌<◌, ◌↔◌, ◌⊎◌, ℕ, true, false, Some, None, length, is_err, IsOk, IsSome, IfOk, IfErr, IfSome, IfNone, OnOk, OnErr};
 ghost use Rattle.slot_types.specs.Places.{place_of, owner_of};
 ghost use Rattle.flash_die.specs.Flash.{block_at};
 ghost use Rattle.flash_volume.specs.declared.collection.Collection.{Collection};
@@ -62,6 +62,7 @@ impl<N: Nand> Volume<N> {
         ensures places_stay { OnErr result (self.new.places ≡ self.old.places) }
         ensures accounts_stay { OnErr result (self.new.accounts ≡ self.old.accounts) }
         ensures running_stay { OnErr result (self.new.running ≡ self.old.running) }
+        ensures refused { IfErr result (λ refusal. (refusal ≡ Refusal.DieStopped) ⊎ (refusal ≡ Refusal.DeviceFault)) }
         ensures stopped { (result ≡ Err Refusal.DieStopped) ↔ (self.old.failed ≡ true) }
         ensures fault { (result ≡ Err Refusal.DeviceFault) ↔ (N.failures self.new.device ≡ N.failures self.old.device + 1) }
         ensures failed { OnErr result (self.new.failed ≡ true) }
