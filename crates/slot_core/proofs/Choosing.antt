@@ -10,25 +10,12 @@ use Rattle.die_log.specs.Work.{ready, least}
 use Rattle.die_log.specs.Accounts.{accounts}
 use Rattle.die_log.specs.Answers.{Choice, choice, choice_among, chosen, weighed, nobody, without, with_waiver, is_waivable}
 use Rattle.die_log.specs.Legal.{is_among}
+use Rattle.slot_core.specs.Slotted.{unwaived, behind, GoesOn}
 use Rattle.die_log.proofs.Choices.{OfSome}
 use Rattle.die_log.proofs.Heads.{least_less}
 
--- those of the waiting that are not waived
-abbrev pub unwaived : List Waived → List Job → List Job
-unwaived ws waiting = filter (λ j. not (is_among j.number ws)) waiting
-
--- a choice behind these waivers
-abbrev pub behind : List Waived → Choice → Choice
-behind ws c = record { waived = ws ++ c.waived; head = c.head }
-
 abbrev pub waiver_of : Accounts → Job → Waived
 waiver_of a j = record { number = j.number; given = given_of a j.task }
-
--- so far these were waived, these are the accounts, and the choice goes on among the others that are ready
-pub record GoesOn (plan : DiePlan) (past : Log) (ws : List Waived) (a : Accounts) : Type 0 where
-  pub turns : ℕ
-  pub enough : length (unwaived ws (ready plan past)) ≤ turns
-  pub rest : choice plan past ≡ behind ws (choice_among plan past turns a (unwaived ws (ready plan past)))
 
 filter_all : {X : Type 0} (xs : List X) → filter (λ (x : X). true) xs ≡ xs
 filter_all [] = refl

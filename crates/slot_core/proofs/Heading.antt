@@ -20,7 +20,8 @@ use Rattle.die_log.proofs.Choices.{OfSome, least_all}
 use Rattle.die_log.proofs.Heads.{none_before}
 use Rattle.die_log.proofs.Standing.Longer.{number_at, stands_at, same_job, kept_both}
 use Rattle.slot_core.specs.Records.{record_with, waiver_among, stage_by, given}
-use Rattle.slot_core.proofs.Choosing.{unwaived, filter_twice}
+use Rattle.slot_core.specs.Slotted.{unwaived}
+use Rattle.slot_core.proofs.Choosing.{filter_twice}
 
 -- Lists that are mapped
 

@@ -1,10 +1,17 @@
+pub mod Collections
 pub mod Choosing
 pub mod Recording
 pub mod Heading
+pub mod Emptying
 pub mod Flashing
+pub mod Opened
+pub mod Victims
+pub mod Taking
+pub mod Waiving
 pub mod Keeping
 pub mod Serving
 pub mod Turning
+pub mod Beginning
 pub mod Slotting
 pub mod Running
 pub mod Worsts

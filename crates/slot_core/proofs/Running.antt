@@ -1,5 +1,5 @@
 -- Runs of events.
-use Rattle.std.proofs.Common.{◌≡◌, ◌↔◌, ◌⊎◌, inl, inr, ℕ, suc, ◌+◌, ◌<◌, Bool, true, false, List, [], ◌∷◌, ◌++◌, Option, Some, None, Err, length, refl, ap, sym, ◌∙◌, subst, arith}
+use Rattle.std.proofs.Common.{◌≡◌, ◌≢◌, ◌↔◌, ◌⊎◌, inl, inr, ℕ, suc, ◌+◌, ◌<◌, Bool, true, false, List, [], ◌∷◌, ◌++◌, Option, Some, None, Err, length, refl, ap, sym, ◌∙◌, subst, arith}
 use Rattle.std.specs.declared.result.Result.{Result}
 use Rattle.std.specs.Iterator.{Yields}
 use Rattle.std.specs.List.{AllByRecursion}
@@ -8,16 +8,16 @@ use Rattle.std.specs.declared.vec.IntoIter.{IntoIter}
 use Rattle.slot_types.specs.declared.plans.DiePlan.{DiePlan}
 use Rattle.slot_types.specs.declared.events.Op.{Op}
 use Rattle.slot_types.specs.declared.events.Event.{Event}
-use Rattle.slot_types.specs.declared.events.Event.TheVariants.{Submit, Slot}
+use Rattle.slot_types.specs.declared.events.Event.TheVariants.{Submit, Collect, Slot}
 use Rattle.slot_types.specs.declared.refusals.Refusal.{Refusal}
 use Rattle.slot_types.specs.declared.refusals.Refusal.TheVariants.{NoMemory, DeviceFault, DieStopped}
 use Rattle.slot_types.specs.declared.replies.Reply.{Reply}
 use Rattle.slot_types.specs.declared.replies.Reply.TheVariants.{Refused}
 use Rattle.die_log.specs.Log.{Log}
-use Rattle.die_log.specs.Answers.{answer, answer_by, refusal_of, refusals, first_standing, IsAccepted}
+use Rattle.die_log.specs.Answers.{answer, answer_by, accepted, refusal_of, refusals, first_standing, IsAccepted}
 use Rattle.slot_core.specs.Core.{Core}
 use Rattle.slot_core.specs.Calls.{RefusedBy}
-use Rattle.slot_core.specs.Runs.{is_collect, NoCollects, Moment, moment_of, AnsweredByLog, FoundNoMemory, StoppedByFault, FoundStopped, IsStep, IsRun}
+use Rattle.slot_core.specs.Runs.{Moment, moment_of, AnsweredByLog, FoundNoMemory, StoppedByFault, FoundStopped, IsStep, IsRun}
 
 -- No submission is refused by the log for a fault
 
@@ -26,32 +26,28 @@ not_standing r [] others e = absurd cc
 not_standing r ((true, x) ∷ cs) others e = others.0 cc
 not_standing r ((false, x) ∷ cs) others e = not_standing r cs others.1 e
 
-refused_by : (plan : DiePlan) (past : Log) (task release due : ℕ) (ops : List Op) (r : Refusal) (o : Option Refusal)
-    → answer_by plan past (Submit task release due ops) o ≡ Refused r → o ≡ Some r
-refused_by plan past task release due ops r None e = absurd cc
-refused_by plan past task release due ops r (Some x) e = cc
+refused_by : (plan : DiePlan) (past : Log) (event : Event) (r : Refusal) (o : Option Refusal) → answer_by plan past event o ≡ Refused r → accepted plan past event ≢ Refused r → o ≡ Some r
+refused_by plan past event r None e other = absurd (other e)
+refused_by plan past event r (Some x) e other = cc
 
-log_refuses : (plan : DiePlan) (past : Log) (task release due : ℕ) (ops : List Op) (r : Refusal)
-    → answer plan past (Submit task release due ops) ≡ Refused r → refusal_of plan past (Submit task release due ops) ≡ Some r
+log_refuses : (plan : DiePlan) (past : Log) (event : Event) (r : Refusal) → answer plan past event ≡ Refused r → accepted plan past event ≢ Refused r → refusal_of plan past event ≡ Some r
 unfolding answer
-log_refuses plan past task release due ops r e = refused_by plan past task release due ops r (refusal_of plan past (Submit task release due ops)) e
+log_refuses plan past event r e other = refused_by plan past event r (refusal_of plan past event) e other
 
 no_fault : (plan : DiePlan) (past : Log) (task release due : ℕ) (ops : List Op) → answer plan past (Submit task release due ops) ≡ Refused DeviceFault → ⊥
 no_fault plan past task release due ops e =
     not_standing DeviceFault (refusals plan past (Submit task release due ops))
     ((λ h. absurd cc), ((λ h. absurd cc), ((λ h. absurd cc), ((λ h. absurd cc), ((λ h. absurd cc), ((λ h. absurd cc), ((λ h. absurd cc), ((λ h. absurd cc), tt))))))))
-    (log_refuses plan past task release due ops DeviceFault e)
+    (log_refuses plan past (Submit task release due ops) DeviceFault e (λ h. absurd cc))
 
-slot_refused_by : (plan : DiePlan) (past : Log) (r : Refusal) (o : Option Refusal) → answer_by plan past Slot o ≡ Refused r → o ≡ Some r
-slot_refused_by plan past r None e = absurd cc
-slot_refused_by plan past r (Some x) e = cc
-
-slot_log_refuses : (plan : DiePlan) (past : Log) (r : Refusal) → answer plan past Slot ≡ Refused r → refusal_of plan past Slot ≡ Some r
-unfolding answer
-slot_log_refuses plan past r e = slot_refused_by plan past r (refusal_of plan past Slot) e
+no_collect_fault : (plan : DiePlan) (past : Log) (task release due : ℕ) → answer plan past (Collect task release due) ≡ Refused DeviceFault → ⊥
+no_collect_fault plan past task release due e =
+    not_standing DeviceFault (refusals plan past (Collect task release due))
+    ((λ h. absurd cc), ((λ h. absurd cc), ((λ h. absurd cc), ((λ h. absurd cc), ((λ h. absurd cc), tt)))))
+    (log_refuses plan past (Collect task release due) DeviceFault e (λ h. absurd cc))
 
 no_slot_fault : (plan : DiePlan) (past : Log) → answer plan past Slot ≡ Refused DeviceFault → ⊥
-no_slot_fault plan past e = not_standing DeviceFault (refusals plan past Slot) ((λ h. absurd cc), tt) (slot_log_refuses plan past DeviceFault e)
+no_slot_fault plan past e = not_standing DeviceFault (refusals plan past Slot) ((λ h. absurd cc), tt) (log_refuses plan past Slot DeviceFault e (λ h. absurd cc))
 
 -- Steps
 
@@ -68,14 +64,11 @@ err_is r s e = cc
 pub refused_where : {T Q : Type 0} (r s : Refusal) → (◌≡◌ {A = Result T Refusal} (Err r) (Err s) ↔ Q) → (r ≡ s ↔ Q)
 refused_where r s h = ((λ e. h.0 (ap Err e)), (λ q. err_is r s (h.1 q)))
 
--- a submission that is refused changes nothing
-pub submit_refused : {N : Type 0} (failures : N → ℕ) (task release due : ℕ) (ops : List Op) (refusal : Refusal) (old new : Core N)
-    → (refusal ≡ DieStopped ↔ (old.stopped ≡ true)) → (old.stopped ≡ false → RefusedBy old.plan old.log (Submit task release due ops) refusal) → new ≡ old
-    → IsStep old.plan (Submit task release due ops) (Refused refusal) (moment_of failures old) (moment_of failures new)
-submit_refused {N} failures task release due ops refusal old new stopped refused same = by_stopped old.stopped refl where
-  event : Event
-  event = Submit task release due ops
-
+-- an arrival that is refused changes nothing
+arrival_refused : {N : Type 0} (failures : N → ℕ) (event : Event) (refusal : Refusal) (old new : Core N)
+    → (refusal ≡ DieStopped ↔ (old.stopped ≡ true)) → (old.stopped ≡ false → RefusedBy old.plan old.log event refusal) → new ≡ old → (answer old.plan old.log event ≡ Refused DeviceFault → ⊥)
+    → IsStep old.plan event (Refused refusal) (moment_of failures old) (moment_of failures new)
+arrival_refused {N} failures event refusal old new stopped refused same faultless = by_stopped old.stopped refl where
   left : moment_of failures new ≡ moment_of failures old
   left = ap (moment_of failures) same
 
@@ -92,12 +85,22 @@ submit_refused {N} failures task release due ops refusal old new stopped refused
   by_refused : old.stopped ≡ false → RefusedBy old.plan old.log event refusal → IsStep old.plan event (Refused refusal) (moment_of failures old) (moment_of failures new)
   by_refused runs (inl e) =
       step (inl (record { ran = runs; reply_is = sym e; log_is = ap (λ (m : Moment). m.log) left; runs = ap (λ (m : Moment). m.stopped) left ∙ runs }))
-      (λ is. no_fault old.plan old.log task release due ops (e ∙ ap Refused is))
+      (λ is. faultless (e ∙ ap Refused is))
   by_refused runs (inr h) = step (inr (inl (record { ran = runs; accepted = h.0; reply_is = ap Refused h.1; unchanged = left }))) (λ is. absurd cc)
 
   by_stopped : (b : Bool) → old.stopped ≡ b → IsStep old.plan event (Refused refusal) (moment_of failures old) (moment_of failures new)
   by_stopped true is = let why = stopped.1 is in step (inr (inr (inr (record { was_stopped = is; reply_is = ap Refused why; unchanged = left })))) (λ fault. absurd cc)
   by_stopped false is = by_refused is (refused is)
+
+pub submit_refused : {N : Type 0} (failures : N → ℕ) (task release due : ℕ) (ops : List Op) (refusal : Refusal) (old new : Core N)
+    → (refusal ≡ DieStopped ↔ (old.stopped ≡ true)) → (old.stopped ≡ false → RefusedBy old.plan old.log (Submit task release due ops) refusal) → new ≡ old
+    → IsStep old.plan (Submit task release due ops) (Refused refusal) (moment_of failures old) (moment_of failures new)
+submit_refused failures task release due ops refusal old new stopped refused same = arrival_refused failures (Submit task release due ops) refusal old new stopped refused same (no_fault old.plan old.log task release due ops)
+
+pub collect_refused : {N : Type 0} (failures : N → ℕ) (task release due : ℕ) (refusal : Refusal) (old new : Core N)
+    → (refusal ≡ DieStopped ↔ (old.stopped ≡ true)) → (old.stopped ≡ false → RefusedBy old.plan old.log (Collect task release due) refusal) → new ≡ old
+    → IsStep old.plan (Collect task release due) (Refused refusal) (moment_of failures old) (moment_of failures new)
+collect_refused failures task release due refusal old new stopped refused same = arrival_refused failures (Collect task release due) refusal old new stopped refused same (no_collect_fault old.plan old.log task release due)
 
 -- a slot that is refused changes nothing, or is stopped by a fault
 pub slot_refused_step : {N : Type 0} (failures : N → ℕ) (refusal : Refusal) (old new : Core N)
@@ -136,10 +139,6 @@ slot_refused_step {N} failures refusal old new stopped refused fault stops log_s
 pub taken_front : {X A : Type 0} (s : IntoIter X A) (xs : List X) (t : IntoIter X A) → Yields into_iter_steps s xs t → into_iter_items s ≡ xs ++ into_iter_items t
 taken_front s [] t y = ap into_iter_items y
 taken_front s (x ∷ xs) t y = y.1.0 ∙ ap (λ ys. x ∷ ys) (taken_front y.0 xs t y.2)
-
-pub at_front : (es : List Event) (e : Event) (rest : List Event) → NoCollects (es ++ e ∷ rest) → is_collect e ≡ false
-at_front [] e rest h = h.0
-at_front (x ∷ es) e rest h = at_front es e rest h.1
 
 pub run_more : (plan : DiePlan) (before between after : Moment) (es : List Event) (rs : List Reply) (e : Event) (r : Reply)
     → IsRun plan before es rs between → IsStep plan e r between after → IsRun plan before (es ++ e ∷ []) (rs ++ r ∷ []) after

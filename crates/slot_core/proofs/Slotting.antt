@@ -1,46 +1,71 @@
--- A slot that was carried out keeps what the fields of a die say of its log.
-use Rattle.std.proofs.Common.{◌≡◌, ℕ, zero, suc, ◌+◌, ◌<◌, ◌≤◌, ◌==◌, ◌&&◌, ◌||◌, not, nat_le, nat_lt, Bool, true, false, cond, List, [], ◌∷◌, ◌++◌, Option, Some, None, refl, ap, sym, ◌∙◌, subst, length, map, slice_get, if◌then◌else◌, append-nil, arith}
+-- A slot keeps what the fields of a die say of its log.
+use Rattle.std.proofs.Common.{◌≡◌, ℕ, zero, suc, ◌+◌, ◌<◌, ◌≤◌, ◌==◌, ◌&&◌, ◌||◌, ◌^◌, not, nat_le, nat_lt, Bool, true, false, cond, List, [], ◌∷◌, ◌++◌, Option, Some, None, option_map, refl, ap, sym, ◌∙◌, subst, length, map, reverse, slice_get, slice_set, slice_index, slice_index_or, unwrap_or, if◌then◌else◌, append-nil, sum, arith}
+use Rattle.std.specs.Prelude.{Contains}
 use Rattle.std.proofs.lemmas.Bool.{and_parts, not-true, true≢false}
 use Rattle.std.proofs.lemmas.Bool.Decides.{nat_tests}
+use Rattle.std.proofs.lemmas.List.{length_push, reverse-append}
+use Rattle.std.proofs.lemmas.Option.{same_Some, none-some}
 use Rattle.slot_types.specs.declared.plans.DiePlan.{DiePlan}
 use Rattle.slot_types.specs.declared.limits.TheConstants.{MAX_SLOT}
 use Rattle.slot_types.specs.declared.acts.Act.{Act}
 use Rattle.slot_types.specs.declared.acts.Act.TheVariants as does
+use Rattle.slot_types.specs.declared.pages.PageData.{PageData}
 use Rattle.slot_types.specs.declared.refusals.Refusal.TheVariants.{ClockEnd}
 use Rattle.slot_types.specs.declared.events.Op.{Op}
 use Rattle.slot_types.specs.declared.events.Op.TheVariants as asks
 use Rattle.slot_types.specs.declared.events.Event.TheVariants as events
 use Rattle.slot_types.specs.declared.replies.Reply.TheVariants as replies
+use Rattle.slot_types.specs.declared.replies.Entry.{Entry}
 use Rattle.slot_types.specs.declared.replies.SlotReply.{SlotReply}
 use Rattle.slot_types.specs.declared.replies.Waived.{Waived}
-use Rattle.plan_rules.specs.Accounts.{Accounts}
+use Rattle.plan_rules.specs.Accounts.{Accounts, given_of}
 use Rattle.flash_die.specs.Flash as device
+use Rattle.flash_volume.specs.declared.collection.Collection.{Collection}
+use Rattle.flash_volume.specs.declared.collection.Collected.{Collected}
+use Rattle.flash_volume.specs.declared.collection.Collected.TheVariants as acts_of
+use Rattle.flash_volume.specs.Cells.{open_in}
+use Rattle.flash_volume.specs.Running.{running_of}
 use Rattle.flash_volume.specs.State.{State}
 use Rattle.job_table.specs.declared.stages.Stage.{Stage}
 use Rattle.job_table.specs.declared.stages.Stage.TheVariants.{Open, Done, Waived as Gone}
-use Rattle.job_table.specs.Jobs.{JobRecord, is_open, is_read, with_stage}
+use Rattle.job_table.specs.Jobs.{JobRecord, is_open, is_read, is_some_read, reads_next, with_stage}
 use Rattle.job_table.specs.Jobs as jobs_table
-use Rattle.job_table.specs.Table.{Table, changed_at, with_change}
-use Rattle.job_table.specs.Waivers.{stopped}
+use Rattle.job_table.specs.Table.{Table, changed_at, with_change, reads_next_at, reads_next_of}
+use Rattle.job_table.specs.Waivers.{WereOpen, waived_in, AreWaived, stopped}
+use Rattle.job_table.proofs.Waivers.{AreWaived-waived_in}
 use Rattle.job_table.specs.Order as table
 use Rattle.late_cert.specs.Schedule.{Slots}
-use Rattle.die_log.specs.Log.{Log, Job, jobs, job_at, acts, waived, is_waived, now}
-use Rattle.die_log.specs.Work.{is_ready, is_done, are_all}
-use Rattle.die_log.specs.Answers.{answer, accepted, IsAccepted, refusal_of, act_for, is_waivable}
+use Rattle.die_log.specs.Log.{Log, Job, Carried, jobs, job_at, carried, acts, waived, is_waived, now, work}
+use Rattle.die_log.specs.Flash as flash
+use Rattle.die_log.specs.Flash.{cells, contents, free}
+use Rattle.die_log.specs.Work.{is_ready, is_done, are_all, is_write, owed}
+use Rattle.die_log.specs.Accounts.{accounts, after_waivers}
+use Rattle.die_log.specs.Answers.{answer, accepted, IsAccepted, refusal_of, Choice, choice, slot_reply, reply_with, act_for, act_of_op, is_waivable}
+use Rattle.die_log.specs.Held.{held_of, lent_to, IsTaken as IsOfPlan}
 use Rattle.die_log.specs.Legal.{is_among}
-use Rattle.die_log.proofs.Legality.{accepted_answer, refused_answer}
-use Rattle.die_log.proofs.Standing.Kept.{waiting_undone}
+use Rattle.die_log.specs.Rows.{carried_numbers}
+use Rattle.die_log.proofs.Cells.Steps.{opens}
+use Rattle.die_log.proofs.Legality.{entry, accepted_answer, refused_answer}
+use Rattle.die_log.proofs.Tokens.Amounts.{one_le_sum}
+use Rattle.die_log.proofs.Tokens.Sums.{all_at}
+use Rattle.die_log.proofs.Tokens.Turns.{owed_fits}
 use Rattle.slot_core.specs.Core.{with_entry}
 use Rattle.slot_core.specs.Kept.{Keeps}
-use Rattle.slot_core.specs.Records.{record_with, waiver_among, gift_of}
-use Rattle.slot_core.specs.Device.{IsFlashOf}
-use Rattle.slot_core.specs.Acting.{FlashState, flash_of, act_by, operated}
-use Rattle.slot_core.specs.declared.turns.Turn.{Turn}
-use Rattle.slot_core.specs.Turns.{next_in, is_read_act, after_read, after_turn}
-use Rattle.slot_core.proofs.Recording.{acted_is, acted_record, acted_reply, stage_after, slot_of}
-use Rattle.slot_core.proofs.Heading.{is_some_waiver, waiver_is, among_both, stays, open_is}
-use Rattle.slot_core.proofs.Keeping.{InSlot, slot_starts, slot_idles, slot_acts, idle_reply}
-use Rattle.slot_core.proofs.Turning.{IsServed, is_served, has_next, act_is, flash_operated}
+use Rattle.slot_core.specs.Records.{record_with, records, waiver_among, gift_of}
+use Rattle.slot_core.specs.Device.{FlashState, flash_of, counts_of, AreRunning, IsFlashOf}
+use Rattle.slot_core.specs.Slotted.{GoesOn, IsWaivedFlash, IsSlot, InSlot, OthersRun, HasTurn}
+use Rattle.slot_core.specs.Acting.{act_by, operated}
+use Rattle.slot_core.specs.declared.turn.Turn.{Turn}
+use Rattle.slot_core.specs.Turns.{is_read_act, after_read, finished, after_turn, turn_by, DidOp, DidCollect, DidBy, DidTurn}
+use Rattle.slot_core.proofs.Choosing.{starts, begins, ends}
+use Rattle.slot_core.proofs.Collections.{running_acted}
+use Rattle.slot_core.proofs.Recording.{records-idle, records-act, acted_is, acted_record, acted_reply, stage_after, slot_of}
+use Rattle.slot_core.proofs.Heading.{is_some_waiver, waiver_is, among_both, nothing_least, table_at, open_is}
+use Rattle.slot_core.proofs.Flashing.{slot_entry, slot_with, unwaived_flash, flash-idle, flash-read, flash-write, content_is}
+use Rattle.slot_core.proofs.Opened.{opens_same}
+use Rattle.slot_core.proofs.Serving.{hold_positive}
+use Rattle.slot_core.proofs.Taking.{IsCollector, IsTaken, took}
+use Rattle.slot_core.proofs.Turning.{IsHeadJob, turn_job, table_is}
 
 past_clock : (m n : ℕ) → n < m → nat_le m n ≡ false
 past_clock m n h = grind (arith, nat_tests)
@@ -49,32 +74,170 @@ past_clock m n h = grind (arith, nat_tests)
 pub slot_unrefused : (plan : DiePlan) (log : Log) (present : ℕ) → present ≡ now log → present < MAX_SLOT → refusal_of plan log events.Slot ≡ None
 slot_unrefused plan log present is few = rw (past_clock MAX_SLOT (now log) (subst (λ (n : ℕ). n < MAX_SLOT) is few)) refl
 
--- a die that has not failed
-alive_keeps : {N : Type 0} (blocks_of : N → List device.Block) (log : Log) (present : ℕ) (t : Table) (slots : Slots) (v : State N)
-    → Keeps v.accounts.plan log present t slots v.failed v.accounts v.pages v.places (blocks_of v.device) → v.failed ≡ false
-    → Keeps v.accounts.plan log present t slots false v.accounts v.pages v.places (blocks_of v.device)
-alive_keeps blocks_of log present t slots v k alive = subst (λ (b : Bool). Keeps v.accounts.plan log present t slots b v.accounts v.pages v.places (blocks_of v.device)) alive k
+unrefused : (plan : DiePlan) (log : Log) (present : ℕ) → IsSlot plan log present → refusal_of plan log events.Slot ≡ None
+unrefused plan log present s = rw (past_clock MAX_SLOT (now log) s.few) refl
 
-pub idle_kept : {N : Type 0} (blocks_of : N → List device.Block) (log later : Log) (present caller : ℕ) (t u : Table) (slots after : Slots) (v : State N) (reply : SlotReply)
-    → Keeps v.accounts.plan log present t slots v.failed v.accounts v.pages v.places (blocks_of v.device) → v.failed ≡ false → present < MAX_SLOT
-    → u ≡ record t { clock = present } → table.NothingReady u → after ≡ slots ++ None ∷ [] → reply ≡ idle_reply present [] → later ≡ with_entry caller events.Slot (replies.Slot reply) log
-    → Keeps v.accounts.plan later (present + 1) u after v.failed v.accounts v.pages v.places (blocks_of v.device) × (answer v.accounts.plan log events.Slot ≡ replies.Slot reply)
-idle_kept blocks_of log later present caller t u slots after v reply k alive few table_is nothing slots_are reply_is later_is = (
-  rw later_is (rw reply_is (rw slots_are (rw alive (rw table_is done.0)))),
-  accepted_answer v.accounts.plan log events.Slot none ∙ (done.1 ∙ ap replies.Slot (sym reply_is)),
-)
+-- The slot begins
+
+starts_with : (plan : DiePlan) (log : Log) (present : ℕ) (t : Table) (slots : Slots) (f : FlashState) → Keeps plan log present t slots false f → present < MAX_SLOT → t.clock ≡ present → InSlot plan log present [] t f
+starts_with plan log present t slots f k few clock = record {
+  slot = record { exact = k.exact; bound = k.bound; now_is = k.now_is; few = subst (λ (n : ℕ). n < MAX_SLOT) k.now_is few };
+  table = record {
+    tasks_are = k.tasks_are;
+    clock_is = clock ∙ k.now_is;
+    running = k.ended_is;
+    jobs_are = rw (append-nil (waived log)) k.jobs_are;
+    were_open = tt;
+    were = k.jobs_are;
+  };
+  goes_on = subst (GoesOn plan log []) (sym (k.flash refl).accounts_are) (starts plan log);
+  flash = unwaived_flash plan log f (k.flash refl);
+  running = (k.flash refl).running_are;
+}
+
+pub slot_starts : {N : Type 0} (blocks_of : N → List device.Block) (log : Log) (present : ℕ) (t : Table) (slots : Slots) (v : State N) → Keeps v.accounts.plan log present t slots v.failed (flash_of blocks_of v) → v.failed ≡ false → present < MAX_SLOT
+    → t.clock ≡ present → InSlot v.accounts.plan log present [] t (flash_of blocks_of v)
+slot_starts blocks_of log present t slots v k alive few clock =
+    starts_with v.accounts.plan log present t slots (flash_of blocks_of v) (subst (λ (b : Bool). Keeps v.accounts.plan log present t slots b (flash_of blocks_of v)) alive k) few clock
+
+-- a table asked for its head
+pub clock_kept : (plan : DiePlan) (log : Log) (present : ℕ) (t u : Table) (slots : Slots) (failed : Bool) (f : FlashState) → Keeps plan log present t slots failed f → u ≡ record t { clock = present } → Keeps plan log present u slots failed f
+clock_kept plan log present t u slots failed f k is = rw is (record {
+  exact = k.exact;
+  bound = k.bound;
+  now_is = k.now_is;
+  tasks_are = k.tasks_are;
+  clock_by = omega arith;
+  ended_is = k.ended_is;
+  jobs_are = k.jobs_are;
+  slots_are = k.slots_are;
+  flash = k.flash;
+})
+
+numbers_more : (c : Carried) (cs : List Carried) → map (λ (x : Carried). option_map (λ ran. ran.0) x) (cs ++ c ∷ []) ≡ map (λ (x : Carried). option_map (λ ran. ran.0) x) cs ++ option_map (λ ran. ran.0) c ∷ []
+numbers_more c [] = refl
+numbers_more c (x ∷ cs) = ap (λ ys. option_map (λ ran. ran.0) x ∷ ys) (numbers_more c cs)
+
+-- Without a head
+
+abbrev pub idle_reply : ℕ → List Waived → SlotReply
+idle_reply slot ws = record { slot = slot; waived = ws; ran = None; finished = None }
+
+pub slot_idles : (plan : DiePlan) (log : Log) (present : ℕ) (ws : List Waived) (t : Table) (slots : Slots) (f : FlashState) (caller : ℕ) → slots ≡ carried_numbers log → InSlot plan log present ws t f → table.NothingReady t
+    → Keeps plan (entry caller events.Slot (replies.Slot (idle_reply present ws)) ∷ log) (present + 1) t (slots ++ None ∷ []) false f × (accepted plan log events.Slot ≡ replies.Slot (idle_reply present ws))
+slot_idles plan log present ws t slots f caller slots_are s nothing =
+    (subst (λ (n : ℕ). Keeps plan (entry caller events.Slot (replies.Slot (idle_reply n ws)) ∷ log) (present + 1) t (slots ++ None ∷ []) false f) (sym s.slot.now_is) kept, rw s.slot.now_is replied)
   where
-    none : refusal_of v.accounts.plan log events.Slot ≡ None
-    none = slot_unrefused v.accounts.plan log present k.now_is few
+    chosen : choice plan log ≡ record { waived = ws; head = None }
+    chosen = ends plan log ws f.tokens s.goes_on (nothing_least plan log ws (length plan.caps) false (subst table.NothingReady (table_is plan log ws t s.table) nothing))
 
-    started : InSlot v.accounts.plan log present [] (record t { clock = present }) slots v.accounts v.pages v.places (blocks_of v.device)
-    started = slot_starts v.accounts.plan log present t slots v.accounts v.pages v.places (blocks_of v.device) (alive_keeps blocks_of log present t slots v k alive) few
+    replied : accepted plan log events.Slot ≡ replies.Slot (idle_reply (now log) ws)
+    replied = ap (λ (c : Choice). replies.Slot (slot_reply plan log c.waived c.head)) chosen
 
-    done : Keeps v.accounts.plan (with_entry caller events.Slot (replies.Slot (idle_reply present [])) log) (present + 1) (record t { clock = present }) (slots ++ None ∷ []) false v.accounts v.pages v.places (blocks_of v.device)
-        × (accepted v.accounts.plan log events.Slot ≡ replies.Slot (idle_reply present []))
-    done = slot_idles v.accounts.plan log present [] (record t { clock = present }) slots v.accounts v.pages v.places (blocks_of v.device) caller started (subst table.NothingReady table_is nothing) none
+    kept : Keeps plan (entry caller events.Slot (replies.Slot (idle_reply (now log) ws)) ∷ log) (present + 1) t (slots ++ None ∷ []) false f
+    kept = record {
+      exact = (s.slot.exact, sym (accepted_answer plan log events.Slot (unrefused plan log present s.slot) ∙ replied), tt);
+      bound = s.slot.bound;
+      now_is = ap (λ n. n + 1) s.slot.now_is ∙ sym (length_push (carried log) None);
+      tasks_are = s.table.tasks_are;
+      clock_by = omega (arith, s.table.clock_is, s.slot.now_is);
+      ended_is = s.table.running;
+      jobs_are = s.table.jobs_are ∙ sym (records-idle plan log caller ws);
+      slots_are = ap (λ ns. ns ++ None ∷ []) slots_are ∙ sym (numbers_more None (carried log));
+      flash = λ alive. flash-idle plan log caller (now log) ws f s.flash s.running;
+    }
 
--- The change of the head's record
+pub idle_kept : {N : Type 0} (blocks_of : N → List device.Block) (log later : Log) (present caller : ℕ) (ws : List Waived) (t : Table) (slots after : Slots) (v : State N) (reply : SlotReply) → slots ≡ carried_numbers log
+    → InSlot v.accounts.plan log present ws t (flash_of blocks_of v) → table.NothingReady t → v.failed ≡ false → after ≡ slots ++ None ∷ [] → reply ≡ idle_reply present ws → later ≡ with_entry caller events.Slot (replies.Slot reply) log
+    → Keeps v.accounts.plan later (present + 1) t after v.failed (flash_of blocks_of v) × (answer v.accounts.plan log events.Slot ≡ replies.Slot reply)
+idle_kept blocks_of log later present caller ws t slots after v reply slots_are s nothing alive after_is reply_is later_is =
+    let done = slot_idles v.accounts.plan log present ws t slots (flash_of blocks_of v) caller slots_are s nothing in (
+      rw later_is (rw reply_is (rw after_is (rw alive done.0))),
+      accepted_answer v.accounts.plan log events.Slot (unrefused v.accounts.plan log present s.slot) ∙ (done.1 ∙ ap replies.Slot (sym reply_is)),
+    )
+
+-- A job's operation
+
+-- the act of the head's operation is what the log determines
+act_is : (plan : DiePlan) (log : Log) (f : FlashState) (j : Job) (op : Op) → f.pages ≡ contents plan log → j.collects ≡ false → slice_get j.ops (work j.number log) ≡ Some op → act_for plan log j ≡ Some (act_by f op)
+act_is plan log f j op pages_are plain next = rw plain (rw next (by_op op))
+  where
+    by_op : (o : Op) → act_of_op plan log (Some o) ≡ Some (act_by f o)
+    by_op (asks.Read page) = ap (λ (bytes : PageData). Some (does.Read page bytes)) (sym (content_is plan log f.pages page pages_are))
+    by_op (asks.Write page bytes) = refl
+
+-- and it leaves the flash of the log with that act
+flash_operated : (plan : DiePlan) (log : Log) (caller slot : ℕ) (ws : List Waived) (j : Job) (op : Op) (finished : Option ℕ) (f : FlashState)
+    → job_at log j.number ≡ Some j → f.tokens.plan ≡ plan → IsWaivedFlash plan log ws f → AreRunning plan (slot_with caller slot ws j.number (act_by f op) finished log) f.running → (is_write op ≡ true → 0 < free plan log)
+    → IsFlashOf plan (slot_with caller slot ws j.number (act_by f op) finished log) (operated f j.task op)
+flash_operated plan log caller slot ws j (asks.Read page) finished f at plan_is w runs some = flash-read plan log caller slot ws j page (slice_index_or f.pages page device.blank) finished f at w runs
+flash_operated plan log caller slot ws j (asks.Write page bytes) finished f at plan_is w runs some =
+    rw (ap (λ (p : DiePlan). open_in p.shape.pages f.blocks) plan_is ∙ (opens_same plan (cells plan log) f.blocks w.blocks_are ∙ opened.1))
+    (flash-write plan log caller slot ws j page bytes finished f opened.0 at opened.1 w runs)
+  where
+    opened : (b : ℕ) × (flash.open_block plan (cells plan log) ≡ Some b)
+    opened = opens plan (cells plan log) (some refl)
+
+plain_all : (plan : DiePlan) (j : Job) (own : List Act) (act : Act) → j.collects ≡ false → are_all plan j (own ++ act ∷ []) ≡ (length own + 1 == length j.ops)
+plain_all plan j own act plain = rw plain (ap (λ (n : ℕ). n == length j.ops) (length_push own act))
+
+took_op : {N : Type 0} (blocks_of : N → List device.Block) (log : Log) (present caller : ℕ) (ws : List Waived) (t : Table) (n : ℕ) (v w : State N) (turn : Turn) → (h : HasTurn v.accounts.plan log present ws t (flash_of blocks_of v) n) → h.job.collects ≡ false
+    → DidOp blocks_of v (record_with v.accounts.plan log (waived log ++ ws) h.job) turn w → IsTaken blocks_of log caller ws h.job v w turn
+took_op blocks_of log present caller ws t n v w turn h plain d = rw d.turn_is (record {
+  act_is = act_is v.accounts.plan log (flash_of blocks_of v) h.job d.op h.flash.pages_are plain d.next;
+  last_is = plain_all v.accounts.plan h.job (acts h.job.number log) (act_by (flash_of blocks_of v) d.op) plain;
+  given_is = λ e. rw plain refl;
+  flash = λ slot finished. subst (IsFlashOf v.accounts.plan (slot_with caller slot ws h.job.number (act_by (flash_of blocks_of v) d.op) finished log)) (sym d.flash)
+      (flash_operated v.accounts.plan log caller slot ws h.job d.op finished (flash_of blocks_of v) job.own_at refl h.flash (runs slot finished) some_free);
+})
+  where
+    job : IsHeadJob v.accounts.plan log ws t n h.job
+    job = turn_job v.accounts.plan log present ws t (flash_of blocks_of v) n h
+
+    runs : (slot : ℕ) (finished : Option ℕ) → AreRunning v.accounts.plan (slot_with caller slot ws h.job.number (act_by (flash_of blocks_of v) d.op) finished log) v.running
+    runs slot finished =
+        running_acted v.accounts.plan (slot_entry caller slot ws h.job.number (act_by (flash_of blocks_of v) d.op) finished) log h.job (act_by (flash_of blocks_of v) d.op) (flash_of blocks_of v) v.running refl refl
+        job.both.0.numbered job.stands h.others h.others.len (λ task apart. refl) (λ collects. absurd (true≢false (sym collects ∙ plain)))
+
+    some_free : is_write d.op ≡ true → 0 < free v.accounts.plan log
+    some_free is =
+        let agree = job.both.1.true_accounts.agree in
+        let held = hold_positive v.accounts.plan (accounts v.accounts.plan log) (λ k. acts k log) (lent_to v.accounts.plan (λ k. acts k log) (is_waived log) (jobs log)) (owed log) (free v.accounts.plan log) (jobs log) h.job d.op agree job.limits.task job.own_at d.next is in
+        omega (
+          arith,
+          held,
+          one_le_sum (accounts v.accounts.plan log).holds h.job.task (omega (arith, job.limits.task, agree.holds_len)),
+          agree.owed_is,
+          owed_fits v.accounts.plan (accounts v.accounts.plan log) (held_of (λ k. acts k log) (jobs log)) (lent_to v.accounts.plan (λ k. acts k log) (is_waived log) (jobs log)) (owed log) (free v.accounts.plan log) agree,
+        )
+
+-- The head's turn
+
+took_turn : {N : Type 0} (blocks_of : N → List device.Block) (log : Log) (present caller : ℕ) (ws : List Waived) (t : Table) (n : ℕ) (v w : State N) (turn : Turn) → (h : HasTurn v.accounts.plan log present ws t (flash_of blocks_of v) n)
+    → DidTurn blocks_of v (record_with v.accounts.plan log (waived log ++ ws) h.job) turn w → IsTaken blocks_of log caller ws h.job v w turn
+took_turn blocks_of log present caller ws t n v w turn h d = by_kind h.job.collects refl d
+  where
+    job : IsHeadJob v.accounts.plan log ws t n h.job
+    job = turn_job v.accounts.plan log present ws t (flash_of blocks_of v) n h
+
+    by_kind : (b : Bool) → h.job.collects ≡ b → DidBy blocks_of v (record_with v.accounts.plan log (waived log ++ ws) h.job) b turn w → IsTaken blocks_of log caller ws h.job v w turn
+    by_kind false plain k = took_op blocks_of log present caller ws t n v w turn h plain k
+    by_kind true collects k =
+        let c = h.runs collects in
+        let same : c.0 ≡ k.collection = same_Some c.0 k.collection (sym c.1.runs ∙ k.runs) in
+        rw k.turn_is (took blocks_of log caller ws h.job v w k.collection k.did (subst (IsCollector blocks_of log ws h.job v) same (record {
+          bound = h.slot.bound;
+          both = job.both;
+          stands = job.stands;
+          at = job.own_at;
+          collects = collects;
+          undone = job.undone;
+          opened = job.open_if collects;
+          task = job.limits.task;
+          flash = h.flash;
+          run = c.1;
+          others = h.others;
+        })) k.does_it)
 
 none_among : (o : Option Waived) → is_some_waiver o ≡ false → o ≡ None
 none_among None h = refl
@@ -102,147 +265,162 @@ changed_twice (x ∷ xs) zero f g = refl
 changed_twice (x ∷ xs) (suc n) f g = ap (λ ys. x ∷ ys) (changed_twice xs n f g)
 
 -- what the turn does to the head's record
-abbrev turned : Bool → ℕ → Act → JobRecord → JobRecord
-turned last completion act r = if last then with_stage (Done completion 0) (after_read act (jobs_table.carried r)) else after_read act (jobs_table.carried r)
+abbrev turned : Turn → ℕ → JobRecord → JobRecord
+turned turn completion r = if turn.last then with_stage (Done completion turn.given) (after_read turn.act (jobs_table.carried r)) else after_read turn.act (jobs_table.carried r)
 
-turn_change : (t : Table) (n : ℕ) (act : Act) (last : Bool) (completion : ℕ) → after_turn t n act last completion ≡ with_change t n (turned last completion act)
-turn_change t n act true completion = ap (λ (js : List JobRecord). record t { jobs = js }) (changed_twice t.jobs n (λ r. after_read act (jobs_table.carried r)) (with_stage (Done completion 0)))
-turn_change t n act false completion = refl
-
-turned_is : (plan : DiePlan) (log : Log) (present caller : ℕ) (j : Job) (act : Act) (last : Bool) → present ≡ now log → job_at log j.number ≡ Some j → j.collects ≡ false → stays plan log [] j ≡ true
-    → are_all plan j (acts j.number log ++ act ∷ []) ≡ last
-    → turned last (present + 1) act (record_with plan log (waived log ++ []) j) ≡ acted_record plan log caller [] j act last
-turned_is plan log present caller j act last now_is at plain stayed is = by_last last is
+turn_change : (t : Table) (n : ℕ) (turn : Turn) (completion : ℕ) → after_turn t n turn completion ≡ with_change t n (turned turn completion)
+turn_change t n turn completion = by_last turn.last
   where
-    unwaived_past : is_waived log j.number ≡ false
-    unwaived_past = not-true (is_waived log j.number) (and_parts (nat_le j.release (now log) && not (is_done plan log j)) (not (is_waived log j.number)) (and_parts (is_ready plan log j) (not (is_among j.number [])) stayed).0).1
+    by_last : (b : Bool) → finished b n completion turn.given (with_change t n (λ job. after_read turn.act (jobs_table.carried job)))
+        ≡ with_change t n (λ r. if b then with_stage (Done completion turn.given) (after_read turn.act (jobs_table.carried r)) else after_read turn.act (jobs_table.carried r))
+    by_last true = ap (λ (js : List JobRecord). record t { jobs = js }) (changed_twice t.jobs n (λ r. after_read turn.act (jobs_table.carried r)) (with_stage (Done completion turn.given)))
+    by_last false = refl
 
-    unwaived : is_among j.number (waived log ++ []) ≡ false
-    unwaived = among_both j.number (waived log) [] ∙ or_both (is_among j.number (waived log)) (is_among j.number []) unwaived_past refl
+turned_is : {N : Type 0} (blocks_of : N → List device.Block) (log : Log) (present caller : ℕ) (ws : List Waived) (t : Table) (n : ℕ) (v w : State N) (turn : Turn) → (h : HasTurn v.accounts.plan log present ws t (flash_of blocks_of v) n)
+    → IsTaken blocks_of log caller ws h.job v w turn
+    → turned turn (present + 1) (record_with v.accounts.plan log (waived log ++ ws) h.job) ≡ acted_record v.accounts.plan log caller ws h.job turn.act turn.last
+turned_is blocks_of log present caller ws t n v w turn h k = by_last turn.last refl
+  where
+    job : IsHeadJob v.accounts.plan log ws t n h.job
+    job = turn_job v.accounts.plan log present ws t (flash_of blocks_of v) n h
 
-    none : waiver_among j.number (waived log ++ []) ≡ None
-    none = none_among (waiver_among j.number (waived log ++ [])) (waiver_is j.number (waived log ++ []) ∙ unwaived)
+    unwaived : is_among h.job.number (waived log ++ ws) ≡ false
+    unwaived = among_both h.job.number (waived log) ws ∙ or_both (is_among h.job.number (waived log)) (is_among h.job.number ws) past job.unwaived_now
+      where
+        past : is_waived log h.job.number ≡ false
+        past = not-true (is_waived log h.job.number) (and_parts (nat_le h.job.release (now log) && not (is_done v.accounts.plan log h.job)) (not (is_waived log h.job.number)) job.ready_now).1
 
-    undone : is_done plan log j ≡ false
-    undone = waiting_undone plan log j (and_parts (is_ready plan log j) (not (is_among j.number [])) stayed).0
+    none : waiver_among h.job.number (waived log ++ ws) ≡ None
+    none = none_among (waiver_among h.job.number (waived log ++ ws)) (waiver_is h.job.number (waived log ++ ws) ∙ unwaived)
 
-    stage_is : (record_with plan log (waived log ++ []) j).stage ≡ Open
-    stage_is = stage_open (record_with plan log (waived log ++ []) j).stage (open_is plan log (waived log ++ []) j ∙ rw undone (rw unwaived refl))
+    stage_is : (record_with v.accounts.plan log (waived log ++ ws) h.job).stage ≡ Open
+    stage_is = stage_open (record_with v.accounts.plan log (waived log ++ ws) h.job).stage (open_is v.accounts.plan log (waived log ++ ws) h.job ∙ rw job.undone (rw unwaived refl))
 
-    no_gift : (b : Bool) → gift_of plan log (acted_reply log [] j.number act b) (Some j) ≡ 0
-    no_gift b = rw plain refl
+    moved : JobRecord
+    moved = after_read turn.act (jobs_table.carried (record_with v.accounts.plan log (waived log ++ ws) h.job))
 
-    by_last : (b : Bool) → are_all plan j (acts j.number log ++ act ∷ []) ≡ b → turned b (present + 1) act (record_with plan log (waived log ++ []) j) ≡ acted_record plan log caller [] j act b
+    by_last : (b : Bool) → turn.last ≡ b
+        → (if b then with_stage (Done (present + 1) turn.given) moved else moved) ≡ acted_record v.accounts.plan log caller ws h.job turn.act b
     by_last true e =
-        ap (λ (n : ℕ). with_stage (Done (n + 1) 0) (after_read act (jobs_table.carried (record_with plan log (waived log ++ []) j)))) now_is
-        ∙ (ap (λ (g : ℕ). with_stage (Done (now log + 1) g) (after_read act (jobs_table.carried (record_with plan log (waived log ++ []) j)))) (sym (no_gift true)) ∙ sym (acted_is plan log caller [] j act true at none e))
+        ap (λ (m : ℕ). with_stage (Done (m + 1) turn.given) moved) h.slot.now_is
+        ∙ (ap (λ (g : ℕ). with_stage (Done (now log + 1) g) moved) (k.given_is e) ∙ sym (acted_is v.accounts.plan log caller ws h.job turn.act true job.own_at none (k.last_is ∙ e)))
     by_last false e =
-        sym (same_stage act (record_with plan log (waived log ++ []) j) stage_is) ∙ sym (acted_is plan log caller [] j act false at none e)
+        sym (same_stage turn.act (record_with v.accounts.plan log (waived log ++ ws) h.job) stage_is) ∙ sym (acted_is v.accounts.plan log caller ws h.job turn.act false job.own_at none (k.last_is ∙ e))
 
--- The head's turn
+abbrev pub turn_reply : ℕ → List Waived → ℕ → Turn → SlotReply
+turn_reply slot ws n turn = record { slot = slot; waived = ws; ran = Some (n, turn.act); finished = if turn.last then Some n else None }
 
-pub turn_kept : {N : Type 0} (blocks_of : N → List device.Block) (log later : Log) (present caller n : ℕ) (turn : Turn) (act : Act) (t u x : Table) (slots after : Slots) (v w : State N) (reply : SlotReply)
-    → Keeps v.accounts.plan log present t slots v.failed v.accounts v.pages v.places (blocks_of v.device) → v.failed ≡ false → present < MAX_SLOT
-    → u ≡ record t { clock = present } → table.IsHead u n → next_in (slice_get u.jobs n) ≡ Some turn
-    → act ≡ act_by (flash_of blocks_of v) turn.op → flash_of blocks_of w ≡ operated (flash_of blocks_of v) turn.task turn.op → w.accounts.plan ≡ v.accounts.plan → w.failed ≡ false
-    → x ≡ after_turn u n act turn.last (present + 1) → after ≡ slots ++ Some n ∷ []
-    → reply ≡ record { slot = present; waived = []; ran = Some (n, act); finished = if turn.last then Some n else None } → later ≡ with_entry caller events.Slot (replies.Slot reply) log
-    → Keeps w.accounts.plan later (present + 1) x after w.failed w.accounts w.pages w.places (blocks_of w.device) × (answer v.accounts.plan log events.Slot ≡ replies.Slot reply)
-turn_kept blocks_of log later present caller n turn act t u x slots after v w reply k alive few table_is head next act_eq flash_eq plan_is well turned_table slots_are reply_is later_is = (
-  subst (λ (p : DiePlan). Keeps p later (present + 1) x after w.failed w.accounts w.pages w.places (blocks_of w.device)) (sym plan_is) (rw later_is (rw reply_is (rw slots_are (rw well (rw turned_table (rw (turn_change u n act turn.last (present + 1)) (rw table_is
-      (subst (λ (m : ℕ). Keeps plan (with_entry caller events.Slot (replies.Slot (record { slot = present; waived = []; ran = Some (m, act); finished = if turn.last then Some m else None })) log) (present + 1) (with_change (record t { clock = present }) m (turned turn.last (present + 1) act)) (slots ++ Some m ∷ []) false w.accounts w.pages w.places (blocks_of w.device)) served.number_is kept.0)))))))),
-  accepted_answer plan log events.Slot none
-      ∙ (subst (λ (m : ℕ). accepted plan log events.Slot ≡ replies.Slot (record { slot = present; waived = []; ran = Some (m, act); finished = if turn.last then Some m else None })) served.number_is kept.1 ∙ ap replies.Slot (sym reply_is)),
-)
+slot_acts : {N : Type 0} (blocks_of : N → List device.Block) (log : Log) (present caller : ℕ) (ws : List Waived) (t : Table) (slots : Slots) (n : ℕ) (v w : State N) (turn : Turn) → slots ≡ carried_numbers log
+    → (h : HasTurn v.accounts.plan log present ws t (flash_of blocks_of v) n) → IsTaken blocks_of log caller ws h.job v w turn
+    → Keeps v.accounts.plan (with_entry caller events.Slot (replies.Slot (turn_reply (now log) ws h.job.number turn)) log) (present + 1) (with_change t h.job.number (turned turn (present + 1))) (slots ++ Some h.job.number ∷ []) false (flash_of blocks_of w)
+    × (accepted v.accounts.plan log events.Slot ≡ replies.Slot (turn_reply (now log) ws h.job.number turn))
+slot_acts blocks_of log present caller ws t slots n v w turn slots_are h k = (kept, replied)
   where
     plan : DiePlan
     plan = v.accounts.plan
 
-    none : refusal_of v.accounts.plan log events.Slot ≡ None
-    none = slot_unrefused v.accounts.plan log present k.now_is few
+    job : IsHeadJob v.accounts.plan log ws t n h.job
+    job = turn_job v.accounts.plan log present ws t (flash_of blocks_of v) n h
 
-    started : InSlot v.accounts.plan log present [] (record t { clock = present }) slots v.accounts v.pages v.places (blocks_of v.device)
-    started = slot_starts v.accounts.plan log present t slots v.accounts v.pages v.places (blocks_of v.device) (alive_keeps blocks_of log present t slots v k alive) few
+    chosen : choice v.accounts.plan log ≡ record { waived = ws; head = Some h.job }
+    chosen = begins v.accounts.plan log ws v.accounts h.job h.goes_on job.least_is h.unwaivable
 
-    head_is : table.IsHead (record t { clock = present }) n
-    head_is = subst (λ (y : Table). table.IsHead y n) table_is head
+    replied : accepted v.accounts.plan log events.Slot ≡ replies.Slot (turn_reply (now log) ws h.job.number turn)
+    replied =
+        ap (λ (c : Choice). replies.Slot (slot_reply v.accounts.plan log c.waived c.head)) chosen
+        ∙ (ap (λ (o : Option Act). replies.Slot (reply_with v.accounts.plan log ws h.job o)) k.act_is
+        ∙ ap (λ (b : Bool). replies.Slot (acted_reply log ws h.job.number turn.act b)) k.last_is)
 
-    served : IsServed v.accounts.plan log (record t { clock = present }) v.accounts v.pages n turn.task turn.op turn.last
-    served = is_served v.accounts.plan log present (record t { clock = present }) slots v.accounts v.pages v.places (blocks_of v.device) n turn started head_is
-        (subst (λ (y : Table). next_in (slice_get y.jobs n) ≡ Some turn) table_is next)
+    kept : Keeps v.accounts.plan (with_entry caller events.Slot (replies.Slot (turn_reply (now log) ws h.job.number turn)) log) (present + 1) (with_change t h.job.number (turned turn (present + 1))) (slots ++ Some h.job.number ∷ []) false (flash_of blocks_of w)
+    kept = record {
+      exact = (h.slot.exact, sym (accepted_answer v.accounts.plan log events.Slot (unrefused v.accounts.plan log present h.slot) ∙ replied), tt);
+      bound = h.slot.bound;
+      now_is = ap (λ m. m + 1) h.slot.now_is ∙ sym (length_push (carried log) (Some (h.job.number, turn.act)));
+      tasks_are = h.table.tasks_are;
+      clock_by = omega (arith, h.table.clock_is, h.slot.now_is);
+      ended_is = h.table.running;
+      jobs_are = ap (λ (js : List JobRecord). changed_at js h.job.number (turned turn (present + 1))) h.table.jobs_are
+          ∙ records-act v.accounts.plan log caller ws h.job turn.act turn.last (turned turn (present + 1)) job.both.0.numbered job.own_at (turned_is blocks_of log present caller ws t n v w turn h k);
+      slots_are = ap (λ ns. ns ++ Some h.job.number ∷ []) slots_are ∙ sym (numbers_more (Some (h.job.number, turn.act)) (carried log));
+      flash = λ alive. k.flash (now log) (if turn.last then Some h.job.number else None);
+    }
 
-    j : Job
-    j = served.job
+pub turn_kept : {N : Type 0} (blocks_of : N → List device.Block) (log later : Log) (present caller : ℕ) (ws : List Waived) (t x : Table) (slots after : Slots) (n : ℕ) (v w : State N) (r : JobRecord) (turn : Turn) (reply : SlotReply) → slots ≡ carried_numbers log
+    → HasTurn v.accounts.plan log present ws t (flash_of blocks_of v) n → slice_get t.jobs n ≡ Some r → DidTurn blocks_of v r turn w → w.accounts.plan ≡ v.accounts.plan → w.failed ≡ false
+    → x ≡ after_turn t n turn (present + 1) → after ≡ slots ++ Some n ∷ [] → reply ≡ turn_reply present ws n turn → later ≡ with_entry caller events.Slot (replies.Slot reply) log
+    → Keeps w.accounts.plan later (present + 1) x after w.failed (flash_of blocks_of w) × (answer v.accounts.plan log events.Slot ≡ replies.Slot reply)
+turn_kept blocks_of log later present caller ws t x slots after n v w r turn reply slots_are h at did plan_is well table_after after_is reply_is later_is = (
+  subst (λ (p : DiePlan). Keeps p later (present + 1) x after w.failed (flash_of blocks_of w)) (sym plan_is)
+      (rw later_is (rw reply_is (rw after_is (rw well (rw (table_after ∙ turn_change t n turn (present + 1))
+      (subst (λ (m : ℕ). Keeps v.accounts.plan (with_entry caller events.Slot (replies.Slot (turn_reply m ws n turn)) log) (present + 1) (with_change t n (turned turn (present + 1))) (slots ++ Some n ∷ []) false (flash_of blocks_of w)) (sym h.slot.now_is)
+      (subst (λ (m : ℕ). Keeps v.accounts.plan (with_entry caller events.Slot (replies.Slot (turn_reply (now log) ws m turn)) log) (present + 1) (with_change t m (turned turn (present + 1))) (slots ++ Some m ∷ []) false (flash_of blocks_of w)) job.number_is done.0))))))),
+  accepted_answer v.accounts.plan log events.Slot (unrefused v.accounts.plan log present h.slot)
+      ∙ (done.1 ∙ (ap (λ (m : ℕ). replies.Slot (turn_reply (now log) ws m turn)) job.number_is ∙ (ap (λ (m : ℕ). replies.Slot (turn_reply m ws n turn)) (sym h.slot.now_is) ∙ ap replies.Slot (sym reply_is)))),
+)
+  where
+    job : IsHeadJob v.accounts.plan log ws t n h.job
+    job = turn_job v.accounts.plan log present ws t (flash_of blocks_of v) n h
 
-    own_at : job_at log served.job.number ≡ Some served.job
-    own_at = ap (slice_get (jobs log)) served.number_is ∙ served.at
+    record_is : r ≡ record_with v.accounts.plan log (waived log ++ ws) h.job
+    record_is = same_Some r (record_with v.accounts.plan log (waived log ++ ws) h.job) (sym at ∙ job.record_at)
 
-    f : FlashState
-    f = flash_of blocks_of v
+    done : Keeps v.accounts.plan (with_entry caller events.Slot (replies.Slot (turn_reply (now log) ws h.job.number turn)) log) (present + 1) (with_change t h.job.number (turned turn (present + 1))) (slots ++ Some h.job.number ∷ []) false (flash_of blocks_of w)
+        × (accepted v.accounts.plan log events.Slot ≡ replies.Slot (turn_reply (now log) ws h.job.number turn))
+    done = slot_acts blocks_of log present caller ws t slots n v w turn slots_are h (took_turn blocks_of log present caller ws t n v w turn h (subst (λ (x : JobRecord). DidTurn blocks_of v x turn w) record_is did))
 
-    acts_as : act_for v.accounts.plan log served.job ≡ Some act
-    acts_as = act_is v.accounts.plan log (flash_of blocks_of v) served.job turn.op started.flash.pages_are served.plain served.next ∙ ap Some (sym act_eq)
+-- a turn carries a read where the next operation is one
+pub turn_reads : {N : Type 0} (blocks_of : N → List device.Block) (log : Log) (present : ℕ) (ws : List Waived) (t : Table) (n : ℕ) (v w : State N) (r : JobRecord) (turn : Turn) → HasTurn v.accounts.plan log present ws t (flash_of blocks_of v) n → slice_get t.jobs n ≡ Some r
+    → DidTurn blocks_of v r turn w → reads_next_at t.jobs n ≡ is_read_act turn.act
+turn_reads blocks_of log present ws t n v w r turn h at did = ap reads_next_of at ∙ by_kind r.collects refl did
+  where
+    job : IsHeadJob v.accounts.plan log ws t n h.job
+    job = turn_job v.accounts.plan log present ws t (flash_of blocks_of v) n h
 
-    unwaivable : is_waivable v.accounts.plan log v.accounts served.job ≡ false
-    unwaivable = rw served.plain refl
+    record_is : r ≡ record_with v.accounts.plan log (waived log ++ ws) h.job
+    record_is = same_Some r (record_with v.accounts.plan log (waived log ++ ws) h.job) (sym at ∙ job.record_at)
 
-    flash_after : IsFlashOf v.accounts.plan (slot_of caller (acted_reply log [] served.job.number act turn.last) ∷ log) w.accounts w.pages w.places (blocks_of w.device)
-    flash_after =
-        subst (λ (g : FlashState). IsFlashOf v.accounts.plan (slot_of caller (acted_reply log [] served.job.number act turn.last) ∷ log) g.tokens g.pages g.places g.blocks) (sym flash_eq)
-        (subst (λ (a : Act). IsFlashOf v.accounts.plan (slot_of caller (acted_reply log [] served.job.number a turn.last) ∷ log) (operated (flash_of blocks_of v) turn.task turn.op).tokens (operated (flash_of blocks_of v) turn.task turn.op).pages (operated (flash_of blocks_of v) turn.task turn.op).places (operated (flash_of blocks_of v) turn.task turn.op).blocks) (sym act_eq)
-        (subst (λ (m : ℕ). IsFlashOf v.accounts.plan (slot_of caller (acted_reply log [] served.job.number (act_by (flash_of blocks_of v) turn.op) turn.last) ∷ log) (operated (flash_of blocks_of v) m turn.op).tokens (operated (flash_of blocks_of v) m turn.op).pages (operated (flash_of blocks_of v) m turn.op).places (operated (flash_of blocks_of v) m turn.op).blocks) served.task_is
-        (flash_operated v.accounts.plan log caller served.job turn.op turn.last (flash_of blocks_of v) own_at refl started.flash served.some_free)))
+    by_op : (op : Op) → is_read op ≡ is_read_act (act_by (flash_of blocks_of v) op)
+    by_op (asks.Read page) = refl
+    by_op (asks.Write page bytes) = refl
 
-    kept : Keeps v.accounts.plan (with_entry caller events.Slot (replies.Slot (record { slot = present; waived = []; ran = Some (served.job.number, act); finished = if turn.last then Some served.job.number else None })) log) (present + 1) (with_change (record t { clock = present }) served.job.number (turned turn.last (present + 1) act)) (slots ++ Some served.job.number ∷ []) false w.accounts w.pages w.places (blocks_of w.device)
-        × (accepted v.accounts.plan log events.Slot ≡ replies.Slot (record { slot = present; waived = []; ran = Some (served.job.number, act); finished = if turn.last then Some served.job.number else None }))
-    kept = slot_acts v.accounts.plan log present [] (record t { clock = present }) slots v.accounts v.pages v.places (blocks_of v.device) caller served.job act turn.last (turned turn.last (present + 1) act) w.accounts w.pages w.places (blocks_of w.device)
-        started none own_at (subst (λ (m : ℕ). table.IsHead (record t { clock = present }) m) (sym served.number_is) head_is) unwaivable acts_as (served.last_is act)
-        (turned_is v.accounts.plan log present caller served.job act turn.last k.now_is own_at served.plain served.unwaived (served.last_is act)) flash_after
+    by_did : (did : Collected) → false ≡ is_read_act (turn_by did).act
+    by_did (acts_of.CopyRead page) = refl
+    by_did (acts_of.CopyProgram page) = refl
+    by_did (acts_of.EraseSlot block) = refl
+    by_did (acts_of.Finished block given) = refl
+
+    nothing_at : (k : ℕ) → ◌≡◌ {A = Option Op} (slice_get [] k) None
+    nothing_at k = refl
+
+    by_kind : (b : Bool) → r.collects ≡ b → DidBy blocks_of v r b turn w → is_some_read (slice_get r.ops r.work) ≡ is_read_act turn.act
+    by_kind false plain d = ap is_some_read d.next ∙ (by_op d.op ∙ ap (λ (x : Turn). is_read_act x.act) (sym d.turn_is))
+    by_kind true collects d =
+        let none : h.job.ops ≡ [] = (all_at (IsOfPlan v.accounts.plan) (jobs log) n h.job job.both.1.true_accounts.taken job.at).none (sym (ap (λ (x : JobRecord). x.collects) record_is) ∙ collects) in
+        ap (λ (l : List Op). is_some_read (slice_get l r.work)) (ap (λ (x : JobRecord). x.ops) record_is ∙ none) ∙ (ap is_some_read (nothing_at r.work) ∙ (by_did d.did ∙ ap (λ (x : Turn). is_read_act x.act) (sym d.turn_is)))
 
 -- A fault
 
+-- the waivers of a slot are all waived
+pub all_waived : (plan : DiePlan) (log : Log) (present : ℕ) (ws : List Waived) (t : Table) (f : FlashState) (n : ℕ) → HasTurn plan log present ws t f n → AreWaived t.jobs ws
+all_waived plan log present ws t f n h = subst (λ (js : List JobRecord). AreWaived js ws) (sym h.table.were) (AreWaived-waived_in (records plan log) ws h.table.were_open)
+
 -- the die has stopped, and nothing else has changed
-pub fault_kept : {N : Type 0} (blocks_of : N → List device.Block) (log later : Log) (present : ℕ) (t u x : Table) (slots after : Slots) (v w : State N)
-    → Keeps v.accounts.plan log present t slots v.failed v.accounts v.pages v.places (blocks_of v.device)
-    → u ≡ record t { clock = present } → x ≡ stopped u [] → w.accounts.plan ≡ v.accounts.plan → w.failed ≡ true → after ≡ slots → later ≡ log
-    → Keeps w.accounts.plan later present x after w.failed w.accounts w.pages w.places (blocks_of w.device)
-fault_kept blocks_of log later present t u x slots after v w k table_is stopped_is plan_is failed_is slots_are later_is =
-    subst (λ (p : DiePlan). Keeps p later present x after w.failed w.accounts w.pages w.places (blocks_of w.device)) (sym plan_is) (rw later_is (rw slots_are (rw failed_is (rw stopped_is (rw table_is (record {
-      exact = k.exact;
-      bound = k.bound;
-      now_is = k.now_is;
-      tasks_are = k.tasks_are;
-      clock_by = omega arith;
-      ended_is = refl;
-      jobs_are = k.jobs_are;
-      slots_are = k.slots_are;
-      plain = k.plain;
+pub fault_kept : {N : Type 0} (blocks_of : N → List device.Block) (log later : Log) (present : ℕ) (ws : List Waived) (t x : Table) (slots after : Slots) (n : ℕ) (v w : State N) → slots ≡ carried_numbers log
+    → HasTurn v.accounts.plan log present ws t (flash_of blocks_of v) n → x ≡ stopped t ws → ((js : List JobRecord) → WereOpen js ws → t.jobs ≡ waived_in js ws → x.jobs ≡ js)
+    → w.accounts.plan ≡ v.accounts.plan → w.failed ≡ true → after ≡ slots → later ≡ log
+    → Keeps w.accounts.plan later present x after w.failed (flash_of blocks_of w)
+fault_kept blocks_of log later present ws t x slots after n v w slots_are h stopped_is back plan_is failed_is after_is later_is =
+    subst (λ (p : DiePlan). Keeps p later present x after w.failed (flash_of blocks_of w)) (sym plan_is) (rw later_is (rw after_is (rw failed_is (record {
+      exact = h.slot.exact;
+      bound = h.slot.bound;
+      now_is = h.slot.now_is;
+      tasks_are = ap (λ (u : Table). u.tasks) stopped_is ∙ h.table.tasks_are;
+      clock_by = omega (arith, ap (λ (u : Table). u.clock) stopped_is, h.table.clock_is, h.slot.now_is);
+      ended_is = ap (λ (u : Table). u.ended) stopped_is;
+      jobs_are = back (records v.accounts.plan log) h.table.were_open h.table.were;
+      slots_are = slots_are;
       flash = λ alive. absurd cc;
-    }))))))
-
--- What the head finds, in a die's fields as they come
-
-pub turn_served : {N : Type 0} (blocks_of : N → List device.Block) (log : Log) (present n : ℕ) (turn : Turn) (t u : Table) (slots : Slots) (v : State N)
-    → Keeps v.accounts.plan log present t slots v.failed v.accounts v.pages v.places (blocks_of v.device) → v.failed ≡ false → present < MAX_SLOT
-    → u ≡ record t { clock = present } → table.IsHead u n → next_in (slice_get u.jobs n) ≡ Some turn
-    → IsServed v.accounts.plan log u v.accounts v.pages n turn.task turn.op turn.last
-turn_served blocks_of log present n turn t u slots v k alive few table_is head next =
-    is_served v.accounts.plan log present u slots v.accounts v.pages v.places (blocks_of v.device) n turn
-    (subst (λ (y : Table). InSlot v.accounts.plan log present [] y slots v.accounts v.pages v.places (blocks_of v.device)) (sym table_is) (slot_starts v.accounts.plan log present t slots v.accounts v.pages v.places (blocks_of v.device) (alive_keeps blocks_of log present t slots v k alive) few))
-    head next
-
-pub turn_exists : {N : Type 0} (blocks_of : N → List device.Block) (log : Log) (present n : ℕ) (t u : Table) (slots : Slots) (v : State N)
-    → Keeps v.accounts.plan log present t slots v.failed v.accounts v.pages v.places (blocks_of v.device) → v.failed ≡ false → present < MAX_SLOT
-    → u ≡ record t { clock = present } → table.IsHead u n → next_in (slice_get u.jobs n) ≡ None → ⊥
-turn_exists blocks_of log present n t u slots v k alive few table_is head next =
-    has_next v.accounts.plan log present u slots v.accounts v.pages v.places (blocks_of v.device) n
-    (subst (λ (y : Table). InSlot v.accounts.plan log present [] y slots v.accounts v.pages v.places (blocks_of v.device)) (sym table_is) (slot_starts v.accounts.plan log present t slots v.accounts v.pages v.places (blocks_of v.device) (alive_keeps blocks_of log present t slots v k alive) few))
-    head next
-
--- an act that reads comes of an operation that reads
-pub read_asked : {N : Type 0} (blocks_of : N → List device.Block) (v : State N) (op : Op) (act : Act) → act ≡ act_by (flash_of blocks_of v) op → is_read_act act ≡ true → is_read op ≡ true
-read_asked blocks_of v (asks.Read page) act is h = refl
-read_asked blocks_of v (asks.Write page bytes) act is h = sym (ap is_read_act is) ∙ h
+    }))))
 
 -- What a slot is refused with
 
@@ -254,3 +432,8 @@ slot_refused plan log present is past = refused_answer plan log events.Slot Cloc
 
 pub slot_accepts : (plan : DiePlan) (log : Log) (present : ℕ) → present ≡ now log → present < MAX_SLOT → IsAccepted (answer plan log events.Slot)
 slot_accepts plan log present is few = subst IsAccepted (sym (accepted_answer plan log events.Slot (slot_unrefused plan log present is few))) tt
+
+-- What was noted
+
+pub logged_is : (before after : List Entry) (log : Log) (caller : ℕ) (reply : SlotReply) → after ≡ before ++ slot_of caller reply ∷ [] → reverse before ≡ log → reverse after ≡ with_entry caller events.Slot (replies.Slot reply) log
+logged_is before after log caller reply is behind = ap reverse is ∙ (reverse-append before (slot_of caller reply ∷ []) ∙ ap (λ (past : Log). slot_of caller reply ∷ past) behind)

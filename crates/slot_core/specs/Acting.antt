@@ -1,25 +1,13 @@
 -- What an operation of a job does to the flash.
-use Rattle.std.specs.Prelude.{◌≡◌, ℕ, Bool, false, List, Option, Some, slice_index_or, slice_set}
-use Rattle.slot_types.specs.declared.pages.Place.{Place}
-use Rattle.slot_types.specs.declared.pages.PageData.{PageData}
+use Rattle.std.specs.Prelude.{ℕ, Some, slice_index_or, slice_set}
 use Rattle.slot_types.specs.declared.acts.Act.{Act}
 use Rattle.slot_types.specs.declared.acts.Act.TheVariants as does
 use Rattle.slot_types.specs.declared.events.Op.{Op}
 use Rattle.slot_types.specs.declared.events.Op.TheVariants as asks
-use Rattle.plan_rules.specs.Accounts.{Accounts, hold_spent}
-use Rattle.flash_die.specs.Flash.{Block, blank, programmed}
+use Rattle.plan_rules.specs.Accounts.{hold_spent}
+use Rattle.flash_die.specs.Flash.{blank, programmed}
 use Rattle.flash_volume.specs.Cells.{next_cell}
-use Rattle.flash_volume.specs.State.{State}
-
--- what a volume keeps, without its collections
-pub record FlashState : Type 0 where
-  pub tokens : Accounts
-  pub pages : List PageData
-  pub places : List (Option Place)
-  pub blocks : List Block
-
-abbrev pub flash_of : {N : Type 0} → (N → List Block) → State N → FlashState
-flash_of blocks v = record { tokens = v.accounts; pages = v.pages; places = v.places; blocks = blocks v.device }
+use Rattle.slot_core.specs.Device.{FlashState}
 
 -- the act that an operation is, with what its page holds
 abbrev pub act_by : FlashState → Op → Act
@@ -36,4 +24,5 @@ operated f task (asks.Write page bytes) =
       pages = slice_set f.pages page bytes;
       places = slice_set f.places page (Some cell);
       blocks = programmed f.blocks cell.block bytes;
+      running = f.running;
     }

@@ -1,23 +1,17 @@
 -- What the fields of a die have to do with its log.
-use Rattle.std.specs.Prelude.{◌≡◌, ℕ, ◌≤◌, Bool, false, List, length, Option}
-use Rattle.std.specs.List.{AllByRecursion}
+use Rattle.std.specs.Prelude.{◌≡◌, ℕ, ◌≤◌, Bool, false, length}
 use Rattle.slot_types.specs.declared.plans.DiePlan.{DiePlan}
-use Rattle.slot_types.specs.declared.pages.Place.{Place}
-use Rattle.slot_types.specs.declared.pages.PageData.{PageData}
 use Rattle.plan_rules.specs.Bound.{MeetsBound}
-use Rattle.plan_rules.specs.Accounts.{Accounts}
-use Rattle.flash_die.specs.Flash as device
 use Rattle.job_table.specs.Table.{Table}
 use Rattle.late_cert.specs.Schedule.{Slots}
-use Rattle.die_log.specs.Log.{Log, jobs, now}
+use Rattle.die_log.specs.Log.{Log, now}
 use Rattle.die_log.specs.Answers.{IsExact}
 use Rattle.die_log.specs.Rows.{carried_numbers}
 use Rattle.slot_core.specs.Records.{records}
-use Rattle.slot_core.specs.Device.{IsFlashOf}
+use Rattle.slot_core.specs.Device.{FlashState, IsFlashOf}
 
 -- the log is exact, the table and the slots are read off it, and so is the flash until a fault
-pub record Keeps (plan : DiePlan) (log : Log) (present : ℕ) (table : Table) (slots : Slots) (failed : Bool)
-    (tokens : Accounts) (pages : List PageData) (places : List (Option Place)) (blocks : List device.Block) : Type 0 where
+pub record Keeps (plan : DiePlan) (log : Log) (present : ℕ) (table : Table) (slots : Slots) (failed : Bool) (f : FlashState) : Type 0 where
   pub exact : IsExact plan log
   pub bound : MeetsBound plan
   pub now_is : present ≡ now log
@@ -26,5 +20,4 @@ pub record Keeps (plan : DiePlan) (log : Log) (present : ℕ) (table : Table) (s
   pub ended_is : table.ended ≡ failed
   pub jobs_are : table.jobs ≡ records plan log
   pub slots_are : slots ≡ carried_numbers log
-  pub plain : AllByRecursion (λ j. j.collects ≡ false) (jobs log)
-  pub flash : failed ≡ false → IsFlashOf plan log tokens pages places blocks
+  pub flash : failed ≡ false → IsFlashOf plan log f

@@ -2,6 +2,7 @@ pub mod Core
 pub mod Records
 pub mod Device
 pub mod Kept
+pub mod Slotted
 pub mod Acting
 pub mod Calls
 pub mod Runs

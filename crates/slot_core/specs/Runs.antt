@@ -1,24 +1,14 @@
 -- What a run of events answers, and what it leaves.
 use Rattle.std.specs.Prelude.{◌≡◌, ℕ, ◌+◌, ◌⊎◌, ◌↔◌, Bool, true, false, List, [], ◌∷◌}
-use Rattle.std.specs.List.{AllByRecursion}
 use Rattle.slot_types.specs.declared.plans.DiePlan.{DiePlan}
 use Rattle.slot_types.specs.declared.events.Event.{Event}
-use Rattle.slot_types.specs.declared.events.Event.TheVariants.{Collect, Slot}
+use Rattle.slot_types.specs.declared.events.Event.TheVariants.{Slot}
 use Rattle.slot_types.specs.declared.refusals.Refusal.TheVariants.{NoMemory, DeviceFault, DieStopped}
 use Rattle.slot_types.specs.declared.replies.Reply.{Reply}
 use Rattle.slot_types.specs.declared.replies.Reply.TheVariants.{Refused}
 use Rattle.die_log.specs.Log.{Log}
 use Rattle.die_log.specs.Answers.{answer, IsAccepted, with_answer}
 use Rattle.slot_core.specs.Core.{Core}
-
--- Events without a collection
-
-abbrev pub is_collect : Event → Bool
-is_collect (Collect task release due) = true
-is_collect _ = false
-
-abbrev pub NoCollects : List Event → Type 0
-NoCollects events = AllByRecursion (λ event. is_collect event ≡ false) events
 
 -- One event
 

@@ -1,20 +1,103 @@
--- What a slot does to the table.
-use Rattle.std.specs.Prelude.{ℕ, ◌+◌, ◌==◌, Bool, true, false, Option, Some, None, option_map, length, slice_get}
+-- What the head of a slot does, and what that leaves in the volume and in the table.
+use Rattle.std.specs.Prelude.{◌≡◌, ℕ, ◌+◌, ◌<◌, ◌≤◌, ◌==◌, ◌&&◌, Bool, true, false, List, length, Option, Some, None, option_map, slice_get, slice_index}
 use Rattle.slot_types.specs.declared.acts.Act.{Act}
 use Rattle.slot_types.specs.declared.acts.Act.TheVariants as does
 use Rattle.slot_types.specs.declared.events.Op.{Op}
-use Rattle.slot_core.specs.declared.turns.Turn.{Turn}
+use Rattle.flash_die.specs.Flash.{Block, block_at}
+use Rattle.flash_volume.specs.declared.collection.Collection.{Collection}
+use Rattle.flash_volume.specs.declared.collection.Collected.{Collected}
+use Rattle.flash_volume.specs.declared.collection.Collected.TheVariants as acts
+use Rattle.flash_volume.specs.Running.{running_of}
+use Rattle.flash_volume.specs.Acts.{Waives, Begins, Does}
+use Rattle.flash_volume.specs.State.{State}
 use Rattle.job_table.specs.declared.stages.Stage.TheVariants.{Done}
 use Rattle.job_table.specs.Jobs.{JobRecord, carried, with_read, with_stage}
+use Rattle.job_table.specs.Order.{IsHead}
 use Rattle.job_table.specs.Table.{Table, with_change}
+use Rattle.die_log.specs.Work.{is_write}
+use Rattle.die_log.specs.Answers.{page_of}
+use Rattle.slot_core.specs.declared.turn.Turn.{Turn}
+use Rattle.slot_core.specs.Device.{flash_of}
+use Rattle.slot_core.specs.Acting.{act_by, operated}
 
--- the task of a job, its next operation, and whether that is its last
-abbrev pub turn_of : JobRecord → Op → Turn
-turn_of job op = record { task = job.task; op = op; last = job.work + 1 == length job.ops }
+-- The beginning of a collection
 
-abbrev pub next_in : Option JobRecord → Option Turn
-next_in None = None
-next_in (Some job) = option_map (turn_of job) (slice_get job.ops job.work)
+-- a collection that has not begun
+abbrev pub is_fresh : JobRecord → Bool
+is_fresh job = job.collects && (job.work == 0)
+
+abbrev pub is_fresh_of : Option JobRecord → Bool
+is_fresh_of None = false
+is_fresh_of (Some job) = is_fresh job
+
+-- there is room for a waiver of each task, if the head is a collection that has not begun
+abbrev pub HasWaiverRoom : ℕ → Table → Type 0
+HasWaiverRoom room table = (n : ℕ) → IsHead table n → is_fresh_of (slice_get table.jobs n) ≡ true → table.tasks ≤ room
+
+-- it is waived and gives so many pages, or takes its victim
+abbrev pub BeginsFresh : {N : Type 0} → (N → List Block) → State N → ℕ → Option ℕ → State N → Type 0
+BeginsFresh blocks old task (Some given) new = Waives old task given new
+BeginsFresh blocks old task None new = (victim : ℕ) × Begins blocks old task victim new
+
+abbrev pub BeginsBy : {N : Type 0} → (N → List Block) → State N → ℕ → Bool → Option ℕ → State N → Type 0
+BeginsBy blocks old task true result new = BeginsFresh blocks old task result new
+BeginsBy blocks old task false result new = (result ≡ None) × (new ≡ old)
+
+-- what is no collection that has not begun leaves the volume as it is
+abbrev pub BeginsAs : {N : Type 0} → (N → List Block) → State N → JobRecord → Option ℕ → State N → Type 0
+BeginsAs blocks old job result new = BeginsBy blocks old job.task (is_fresh job) result new
+
+-- The turn
+
+-- what an operation of a job finds on a volume: a page of the die, and a page that its task holds if it is a write
+pub record OpFits {N : Type 0} (v : State N) (job : JobRecord) : Type 0 where
+  pub op : Op
+  pub next : slice_get job.ops job.work ≡ Some op
+  pub page : page_of op < length v.pages
+  pub held : is_write op ≡ true → 0 < slice_index v.accounts.holds job.task
+
+-- what a collection finds: it runs, and its block can be erased once more
+pub record RunFits {N : Type 0} (blocks : N → List Block) (v : State N) (job : JobRecord) : Type 0 where
+  pub collection : Collection
+  pub runs : running_of v.running job.task ≡ Some collection
+  pub few_erases : (block_at (blocks v.device) collection.victim).erases < 4294967295
+
+-- what the head finds on a volume
+pub record HeadFits {N : Type 0} (blocks : N → List Block) (v : State N) (job : JobRecord) : Type 0 where
+  pub task : job.task < length v.accounts.plan.caps
+  pub op : job.collects ≡ false → OpFits v job
+  pub run : job.collects ≡ true → RunFits blocks v job
+
+-- the turn of a collection that did this
+abbrev pub turn_by : Collected → Turn
+turn_by (acts.CopyRead page) = record { act = does.CopyRead page; last = false; given = 0 }
+turn_by (acts.CopyProgram page) = record { act = does.CopyProgram page; last = false; given = 0 }
+turn_by (acts.EraseSlot block) = record { act = does.Erase block; last = false; given = 0 }
+turn_by (acts.Finished block given) = record { act = does.Erase block; last = true; given = given }
+
+-- a job did its next operation
+pub record DidOp {N : Type 0} (blocks : N → List Block) (old : State N) (job : JobRecord) (turn : Turn) (new : State N) : Type 0 where
+  pub op : Op
+  pub next : slice_get job.ops job.work ≡ Some op
+  pub turn_is : turn ≡ record { act = act_by (flash_of blocks old) op; last = job.work + 1 == length job.ops; given = 0 }
+  pub flash : flash_of blocks new ≡ operated (flash_of blocks old) job.task op
+
+-- a collection did a slot of its work
+pub record DidCollect {N : Type 0} (blocks : N → List Block) (old : State N) (task : ℕ) (turn : Turn) (new : State N) : Type 0 where
+  pub collection : Collection
+  pub runs : running_of old.running task ≡ Some collection
+  pub did : Collected
+  pub does_it : Does blocks old task collection did new
+  pub turn_is : turn ≡ turn_by did
+
+abbrev pub DidBy : {N : Type 0} → (N → List Block) → State N → JobRecord → Bool → Turn → State N → Type 0
+DidBy blocks old job true turn new = DidCollect blocks old job.task turn new
+DidBy blocks old job false turn new = DidOp blocks old job turn new
+
+abbrev pub DidTurn : {N : Type 0} → (N → List Block) → State N → JobRecord → Turn → State N → Type 0
+DidTurn blocks old job turn new = DidBy blocks old job job.collects turn new
+
+-- The table
 
 -- what a read gave goes to the reads
 abbrev pub after_read : Act → JobRecord → JobRecord
@@ -25,10 +108,10 @@ abbrev pub is_read_act : Act → Bool
 is_read_act (does.Read page bytes) = true
 is_read_act _ = false
 
-abbrev pub finished : Bool → ℕ → ℕ → Table → Table
-finished true number completion table = with_change table number (with_stage (Done completion 0))
-finished false number completion table = table
+abbrev pub finished : Bool → ℕ → ℕ → ℕ → Table → Table
+finished true number completion given table = with_change table number (with_stage (Done completion given))
+finished false number completion given table = table
 
--- the table after an act of this number, which may be its last
-abbrev pub after_turn : Table → ℕ → Act → Bool → ℕ → Table
-after_turn table number act last completion = finished last number completion (with_change table number (λ job. after_read act (carried job)))
+-- the table after a turn of this number
+abbrev pub after_turn : Table → ℕ → Turn → ℕ → Table
+after_turn table number turn completion = finished turn.last number completion turn.given (with_change table number (λ job. after_read turn.act (carried job)))

@@ -1,10 +1,11 @@
-//! Jobs that arrive at a die.
+//! Jobs and collections that arrive at a die.
 
 ghost use Rattle.std.specs.Prelude.{◌≡◌, ◌∷◌, ◌++◌, ◌<◌, ◌↔◌, true, false, length, IfOk, IfErr, OnOk, OnErr};
 ghost use Rattle.std.specs.Prelude.{vec_len, vec_capacity, reverse};
 ghost use Rattle.std.specs.Prelude.{[]};
-ghost use Rattle.job_table.specs.Jobs.{new_job};
-ghost use Rattle.job_table.specs.Table.{with_job};
+ghost use Rattle.job_table.specs.Jobs.{new_job, new_collection};
+ghost use Rattle.job_table.specs.Table.{with_job, is_collecting};
+ghost use Rattle.die_log.specs.Work.{is_collecting as collecting};
 ghost use Rattle.die_log.specs.Answers.{answer, refusal_of};
 ghost use Rattle.slot_core.specs.Core.{with_entry};
 ghost use Rattle.slot_core.specs.Calls.{RefusedBy};
@@ -72,6 +73,37 @@ fn enter_job(
             due,
             ops: logged,
         },
+        reply: Reply::Taken(number),
+    });
+    Ok(number)
+}
+
+/// Enters an accepted collection into the table and the log, or finds no memory and changes neither.
+fn enter_collection(
+    alloc: Global,
+    table: &mut JobTable,
+    entries: &mut Vec<Entry>,
+    caller: u32,
+    task: TaskNo,
+    release: u32,
+    due: u32,
+) -> Result<JobNo, Refusal>
+    requires running { table.old.ended ≡ false }
+    requires few { length table.old.jobs < MAX_JOBS }
+    requires task { task < table.old.tasks }
+    requires single { is_collecting table.old.jobs task ≡ false }
+    ensures table { OnOk result (table.new ≡ with_job table.old (new_collection task release due)) }
+    ensures number { IfOk result (λ number. number ≡ length table.old.jobs) }
+    ensures logged { IfOk result (λ number. entries.new.items ≡ entries.old.items ++ record { caller = caller; event = Event.Collect task release due; reply = Reply.Taken number } ∷ []) }
+    ensures refused { IfErr result (λ refusal. refusal ≡ Refusal.NoMemory) }
+    ensures table_stays { OnErr result (table.new ≡ table.old) }
+    ensures log_stays { OnErr result (entries.new.items ≡ entries.old.items) }
+{
+    reserve_entry(entries)?;
+    let number = table.add_collection(alloc, task, release, due)?;
+    entries.push_reserved(Entry {
+        caller,
+        event: Event::Collect { task, release, due },
         reply: Reply::Taken(number),
     });
     Ok(number)
@@ -161,5 +193,75 @@ impl<N: Nand> DieCore<N> {
                 Ok(number)
             }
         }
+    }
+
+    /// Whether the task has a collection that is neither done nor waived, on a die that isn't stopped.
+    fn is_collecting(&self, task: TaskNo) -> bool
+        requires running { self.now.stopped ≡ false }
+        requires task { task < length self.now.plan.caps }
+        ensures { result ≡ collecting self.now.plan self.now.log task }
+    {
+        self.table.is_collecting(task)
+    }
+
+    /// Why a collection is refused by a die that isn't stopped, if it is.
+    fn collect_refusal(&self, task: TaskNo, release: u32, due: u32) -> Option<Refusal>
+        requires { self.now.stopped ≡ false }
+        ensures { result ≡ refusal_of self.now.plan self.now.log (Event.Collect task release due) }
+    {
+        if task.0 as usize >= self.volume.plan().caps.len() {
+            return Some(Refusal::UnknownTask);
+        }
+        if release < self.present {
+            return Some(Refusal::ReleasePast { now: self.present });
+        }
+        if due <= release || due > MAX_SLOT {
+            return Some(Refusal::BadDue);
+        }
+        if self.is_collecting(task) {
+            return Some(Refusal::CollectorBusy);
+        }
+        if self.table.len() >= MAX_JOBS {
+            return Some(Refusal::JobsFull);
+        }
+        None
+    }
+
+    /// Accepts a collection for the task, to run from slot `release` on and to be done by `due`, and answers its number.
+    ///
+    /// The refusals, of which the first that stands is answered and nothing is changed: `DieStopped`; `UnknownTask`;
+    /// `ReleasePast`, where the release is below the present slot; `BadDue`, where the due isn't above the release or is
+    /// above 1,048,576; `CollectorBusy`, where the task has a collection that is neither done nor waived; `JobsFull`,
+    /// where 65,536 were accepted; `NoMemory`.
+    pub fn collect(
+        &mut self,
+        alloc: Global,
+        caller: u32,
+        task: TaskNo,
+        release: u32,
+        due: u32,
+    ) -> Result<JobNo, Refusal>
+        ensures stopped { (result ≡ Err Refusal.DieStopped) ↔ (self.old.stopped ≡ true) }
+        ensures taken { IfOk result (λ number. answer self.old.plan self.old.log (Event.Collect task release due) ≡ Reply.Taken number) }
+        ensures logged { IfOk result (λ number. self.new ≡ record self.old { log = with_entry caller (Event.Collect task release due) (Reply.Taken number) self.old.log }) }
+        ensures refused { self.old.stopped ≡ false → IfErr result (RefusedBy self.old.plan self.old.log (Event.Collect task release due)) }
+        ensures unchanged { OnErr result (self.new ≡ self.old) }
+    {
+        if self.volume.failed() {
+            return Err(Refusal::DieStopped);
+        }
+        match self.collect_refusal(task, release, due) {
+            Some(refusal) => return Err(refusal),
+            None => {}
+        }
+        enter_collection(
+            alloc,
+            &mut self.table,
+            &mut self.entries,
+            caller,
+            task,
+            release,
+            due,
+        )
     }
 }

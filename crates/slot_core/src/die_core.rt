@@ -31,12 +31,13 @@ impl<N: Nand> Model for DieCore<N> {
     ghost use Rattle.std.specs.Prelude.{reverse};
     ghost use Rattle.slot_core.specs.Core.{Core};
     ghost use Rattle.slot_core.specs.Kept.{Keeps};
+    ghost use Rattle.slot_core.specs.Device.{flash_of};
 
     ghost Value = { Core N };
 
     ghost view = { λ c. record { plan = c.volume.accounts.plan; device = c.volume.device; stopped = c.volume.failed; log = reverse c.entries.items } };
 
-    ghost invariant = { λ c. Keeps c.volume.accounts.plan (reverse c.entries.items) c.present c.table c.carried.slots c.volume.failed c.volume.accounts c.volume.pages c.volume.places (N.blocks c.volume.device) };
+    ghost invariant = { λ c. Keeps c.volume.accounts.plan (reverse c.entries.items) c.present c.table c.carried.slots c.volume.failed (flash_of N.blocks c.volume) };
 }
 
 impl<N: Nand> DieCore<N> {

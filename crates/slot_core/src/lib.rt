@@ -5,11 +5,13 @@ pub mod admission;
 pub mod certificates;
 pub mod devices;
 pub mod die_core;
+mod notes;
 pub mod operations;
 pub mod outcomes;
 pub mod runs;
 pub mod slots;
-pub mod turns;
+pub mod turn;
+mod turns;
 
 pub use die_core::DieCore;
 pub use outcomes::{JobHead, Outcome, Worst};

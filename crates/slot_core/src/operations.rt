@@ -3,7 +3,8 @@
 ghost use Rattle.std.specs.Prelude.{◌≡◌, ◌+◌, ◌<◌, ◌↔◌, true, false, length, slice_index, IsOk, IfOk, IfErr, OnOk, OnErr, find, option_map, nat_le};
 ghost use Rattle.die_log.specs.Work.{is_write, writes};
 ghost use Rattle.die_log.specs.Answers.{page_of};
-ghost use Rattle.slot_core.specs.Acting.{flash_of, act_by, operated};
+ghost use Rattle.slot_core.specs.Device.{flash_of};
+ghost use Rattle.slot_core.specs.Acting.{act_by, operated};
 
 use flash_die::Nand;
 use flash_volume::Volume;
@@ -49,7 +50,6 @@ pub(crate) fn operate<N: Nand>(volume: &mut Volume<N>, task: TaskNo, op: Op) -> 
     requires held { is_write op ≡ true → 0 < slice_index volume.old.accounts.holds task }
     ensures act { IfOk result (λ act. act ≡ act_by (flash_of N.blocks volume.old) op) }
     ensures flash { OnOk result (flash_of N.blocks volume.new ≡ operated (flash_of N.blocks volume.old) task op) }
-    ensures running { volume.new.running ≡ volume.old.running }
     ensures plan { volume.new.accounts.plan ≡ volume.old.accounts.plan }
     ensures well { OnOk result (volume.new.failed ≡ false) }
     ensures fault { IfErr result (λ refusal. refusal ≡ Refusal.DeviceFault) }

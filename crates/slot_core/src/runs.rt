@@ -1,7 +1,7 @@
 //! Events carried out one after the other.
 
-ghost use Rattle.std.specs.Prelude.{◌≡◌, false, length, IfOk, IfErr, OnErr};
-ghost use Rattle.slot_core.specs.Runs.{is_collect, NoCollects, moment_of, IsStep, IsRun};
+ghost use Rattle.std.specs.Prelude.{◌≡◌, length, IfOk, IfErr, OnErr};
+ghost use Rattle.slot_core.specs.Runs.{moment_of, IsStep, IsRun};
 
 use crate::die_core::DieCore;
 use flash_die::Nand;
@@ -14,7 +14,6 @@ pub type Replies = Items<Reply>;
 impl<N: Nand> DieCore<N> {
     /// Carries out one event for caller 0.
     fn apply(&mut self, alloc: Global, event: Event) -> Reply
-        requires no_collect { is_collect event ≡ false }
         ensures step { IsStep self.old.plan event result (moment_of N.failures self.old) (moment_of N.failures self.new) }
         ensures plan { self.new.plan ≡ self.old.plan }
     {
@@ -28,7 +27,12 @@ impl<N: Nand> DieCore<N> {
                 Ok(number) => Reply::Taken(number),
                 Err(refusal) => Reply::Refused(refusal),
             },
-            Event::Collect { .. } => unreachable!(),
+            Event::Collect { task, release, due } => {
+                match self.collect(alloc, 0, task, release, due) {
+                    Ok(number) => Reply::Taken(number),
+                    Err(refusal) => Reply::Refused(refusal),
+                }
+            }
             Event::Slot => match self.slot(alloc, 0) {
                 Ok(reply) => Reply::Slot(reply),
                 Err(refusal) => Reply::Refused(refusal),
@@ -36,13 +40,11 @@ impl<N: Nand> DieCore<N> {
         }
     }
 
-    /// Carries out events in their order for caller 0, and answers one reply an event: that of [`DieCore::submit`] or
-    /// [`DieCore::slot`] at its place. A refused event doesn't end the run.
+    /// Carries out events in their order for caller 0, and answers one reply an event: that of [`DieCore::submit`],
+    /// [`DieCore::collect`] or [`DieCore::slot`] at its place. A refused event doesn't end the run.
     ///
-    /// No event may be a collection. The only refusal is `NoMemory`, where memory is refused for the replies; no event
-    /// is carried out then.
+    /// The only refusal is `NoMemory`, where memory is refused for the replies; no event is carried out then.
     pub fn run(&mut self, alloc: Global, events: Items<Event>) -> Result<Replies, Refusal>
-        requires no_collects { NoCollects events }
         ensures one_each { IfOk result (λ replies. length replies ≡ length events) }
         ensures ran { IfOk result (λ replies. IsRun self.old.plan (moment_of N.failures self.old) events replies (moment_of N.failures self.new)) }
         ensures plan { self.new.plan ≡ self.old.plan }

@@ -1,175 +1,166 @@
 //! The slots of a die.
 
-ghost use Rattle.std.specs.Prelude.{◌≡◌, ◌+◌, ◌<◌, ◌∷◌, ◌++◌, ◌^◌, ◌⊎◌, ◌↔◌, [], if◌then◌else◌, None, Some, true, false, length, slice_get, reverse, vec_len, vec_capacity, IsOk, IfOk, IfErr, OnOk, OnErr};
-ghost use Rattle.job_table.specs.Order.{IsHead};
-ghost use Rattle.job_table.specs.Table.{work_at, reads_left};
-ghost use Rattle.die_log.specs.Answers.{answer, IsAccepted, accepted, refusal_of};
+ghost use Rattle.std.specs.Prelude.{◌≡◌, ◌+◌, ◌<◌, ◌≤◌, ◌⊎◌, ◌↔◌, [], true, false, length, reverse, slice_get, vec_len, vec_capacity, IsOk, IfOk, IfErr, IfSome, IfNone, OnOk, OnErr};
+ghost use Rattle.job_table.specs.Order.{NothingReady};
+ghost use Rattle.die_log.specs.Log.{Log};
+ghost use Rattle.die_log.specs.Answers.{answer, IsAccepted};
 ghost use Rattle.slot_core.specs.Core.{with_entry};
 ghost use Rattle.slot_core.specs.Calls.{RefusedBy};
+ghost use Rattle.slot_core.specs.Device.{flash_of};
 ghost use Rattle.slot_core.specs.Kept.{Keeps};
-ghost use Rattle.slot_core.specs.Turns.{next_in, is_read_act, after_turn};
+ghost use Rattle.slot_core.specs.Slotted.{InSlot, HasTurn};
+ghost use Rattle.slot_core.specs.Turns.{is_fresh_of, HasWaiverRoom};
 
 use crate::admission::reserve_entry;
 use crate::die_core::DieCore;
-use crate::operations::operate;
-use crate::turns::Turn;
+use crate::notes::{idle_reply, note_slot, note_turn, turn_reply};
+use crate::turns::{begin, take_turn};
 use flash_die::Nand;
 use flash_volume::Volume;
 use job_table::JobTable;
 use late_cert::Carried;
-use slot_types::{Act, Entry, Event, JobNo, MAX_SLOT, Refusal, Reply, SlotReply, WaivedList};
+use slot_types::{Entry, Event, JobNo, MAX_SLOT, Refusal, Reply, SlotReply, Waived};
 use std::alloc::Global;
 
-/// What the job of a number does next, if it has an operation left.
-fn next_of(table: &JobTable, number: JobNo) -> Option<Turn>
-    ensures { result ≡ next_in (slice_get table.now.jobs number) }
-{
-    let job = table.job(number)?;
-    let op = job.op(job.work())?;
-    Some(Turn {
-        task: job.task(),
-        op,
-        last: job.work() as usize + 1 == job.ops().len(),
-    })
-}
-
-/// Notes an act of the head, which may be its last.
-fn note_turn(table: &mut JobTable, number: JobNo, act: Act, last: bool, completion: u32)
+/// How many waivers this slot may have: one a task where the head is a collection that has not begun, else none.
+fn waiver_room(table: &mut JobTable, present: u32) -> usize
     requires running { table.old.ended ≡ false }
-    requires head { IsHead table.old number }
-    requires room { work_at table.old.jobs number + 1 < 2 ^ 32 }
-    requires reads { is_read_act act ≡ true → 0 < reads_left table.old.jobs number }
-    ensures { table.new ≡ after_turn table.old number act last completion }
+    requires forward { table.old.clock ≤ present }
+    ensures clock { table.new ≡ record table.old { clock = present } }
+    ensures room { HasWaiverRoom result table.new }
 {
-    match act {
-        Act::Read { bytes, .. } => table.carry_read(number, bytes),
-        _ => table.carry(number),
-    }
-    if last {
-        table.finish(number, completion, 0);
-    }
-}
-
-/// Notes an idle slot in the log, in room that was made, and answers it.
-fn note_idle(
-    alloc: Global,
-    carried: &mut Carried,
-    entries: &mut Vec<Entry>,
-    caller: u32,
-    slot: u32,
-) -> SlotReply
-    requires entry { vec_len entries.old < vec_capacity entries.old }
-    requires slot { 0 < carried.old.room }
-    ensures reply { result ≡ record { slot = slot; waived = []; ran = None; finished = None } }
-    ensures logged { entries.new.items ≡ entries.old.items ++ record { caller = caller; event = Event.Slot; reply = Reply.Slot result } ∷ [] }
-    ensures carried { carried.new.slots ≡ carried.old.slots ++ None ∷ [] }
-{
-    carried.push_reserved(None);
-    entries.push_reserved(Entry {
-        caller,
-        event: Event::Slot,
-        reply: Reply::Slot(SlotReply {
-            slot,
-            waived: WaivedList::new(alloc),
-            ran: None,
-            finished: None,
-        }),
-    });
-    SlotReply {
-        slot,
-        waived: WaivedList::new(alloc),
-        ran: None,
-        finished: None,
+    let Some(number) = table.head(present) else {
+        return 0;
+    };
+    if is_fresh(table, number) {
+        table.tasks()
+    } else {
+        0
     }
 }
 
-/// The number, if it is its last act.
-fn finished(number: JobNo, last: bool) -> Option<JobNo>
-    ensures { result ≡ (if last then Some number else None) }
+/// Whether this number is of a collection that has not begun.
+fn is_fresh(table: &JobTable, number: JobNo) -> bool
+    ensures { result ≡ is_fresh_of (slice_get table.now.jobs number) }
 {
-    if last { Some(number) } else { None }
+    match table.job(number) {
+        Some(job) => job.collects() && job.work() == 0,
+        None => false,
+    }
 }
 
-/// Notes the slot of an act in the log, in room that was made, and answers it.
-fn note_act(
-    alloc: Global,
-    carried: &mut Carried,
-    entries: &mut Vec<Entry>,
-    caller: u32,
-    slot: u32,
-    number: JobNo,
-    act: Act,
-    last: bool,
-) -> SlotReply
-    requires entry { vec_len entries.old < vec_capacity entries.old }
-    requires slot { 0 < carried.old.room }
-    ensures reply { result ≡ record { slot = slot; waived = []; ran = Some (number, act); finished = (if last then Some number else None) } }
-    ensures logged { entries.new.items ≡ entries.old.items ++ record { caller = caller; event = Event.Slot; reply = Reply.Slot result } ∷ [] }
-    ensures carried { carried.new.slots ≡ carried.old.slots ++ Some number ∷ [] }
+/// Waives the collections that come first and needn't begin, and answers who has the slot: the job or collection with
+/// the least key of those that are left. A collection that has not begun takes its victim.
+fn choose<N: Nand>(
+    volume: &mut Volume<N>,
+    table: &mut JobTable,
+    logged: &mut Vec<Waived>,
+    told: &mut Vec<Waived>,
+    present: u32,
+) -> Option<JobNo>
+    ghost log: { Log }
+    requires alive { volume.old.failed ≡ false }
+    requires within { InSlot volume.old.accounts.plan log present told.old.items table.old (flash_of N.blocks volume.old) }
+    requires same { logged.old.items ≡ told.old.items }
+    requires logged_room { HasWaiverRoom (vec_capacity logged.old) table.old }
+    requires told_room { HasWaiverRoom (vec_capacity told.old) table.old }
+    ensures turn { IfSome result (HasTurn volume.new.accounts.plan log present told.new.items table.new (flash_of N.blocks volume.new)) }
+    ensures idle { IfNone result (InSlot volume.new.accounts.plan log present told.new.items table.new (flash_of N.blocks volume.new) × NothingReady table.new) }
+    ensures same { logged.new.items ≡ told.new.items }
+    ensures plan { volume.new.accounts.plan ≡ volume.old.accounts.plan }
+    ensures alive { volume.new.failed ≡ false }
+    ensures device { volume.new.device ≡ volume.old.device }
 {
-    carried.push_reserved(Some(number));
-    entries.push_reserved(Entry {
-        caller,
-        event: Event::Slot,
-        reply: Reply::Slot(SlotReply {
-            slot,
-            waived: WaivedList::new(alloc),
-            ran: Some((number, act)),
-            finished: finished(number, last),
-        }),
-    });
-    SlotReply {
-        slot,
-        waived: WaivedList::new(alloc),
-        ran: Some((number, act)),
-        finished: finished(number, last),
+    loop {
+        let Some(number) = table.head(present) else {
+            return None;
+        };
+        let waived = match table.job(number) {
+            Some(job) => begin(volume, job),
+            None => unreachable!(),
+        };
+        match waived {
+            None => return Some(number),
+            Some(given) => {
+                table.waive(number, given);
+                logged.push_reserved(Waived { number, given });
+                told.push_reserved(Waived { number, given });
+            }
+        }
     }
 }
 
 /// Carries out the present slot of a die that isn't stopped, in room that was made.
 fn carry_out<N: Nand>(
-    alloc: Global,
     volume: &mut Volume<N>,
     table: &mut JobTable,
     carried: &mut Carried,
     entries: &mut Vec<Entry>,
     caller: u32,
     present: u32,
+    mut logged: Vec<Waived>,
+    mut told: Vec<Waived>,
 ) -> Result<SlotReply, Refusal>
+    ghost log: { Log }
     requires alive { volume.old.failed ≡ false }
+    requires log { reverse entries.old.items ≡ log }
     requires few { present < MAX_SLOT }
+    requires clock { table.old.clock ≡ present }
     requires entry { vec_len entries.old < vec_capacity entries.old }
     requires slot { 0 < carried.old.room }
-    requires kept { Keeps volume.old.accounts.plan (reverse entries.old.items) present table.old carried.old.slots volume.old.failed volume.old.accounts volume.old.pages volume.old.places (N.blocks volume.old.device) }
-    ensures kept { OnOk result (Keeps volume.new.accounts.plan (reverse entries.new.items) (present + 1) table.new carried.new.slots volume.new.failed volume.new.accounts volume.new.pages volume.new.places (N.blocks volume.new.device)) }
-    ensures answered { IfOk result (λ reply. answer volume.old.accounts.plan (reverse entries.old.items) Event.Slot ≡ Reply.Slot reply) }
-    ensures logged { IfOk result (λ reply. reverse entries.new.items ≡ with_entry caller Event.Slot (Reply.Slot reply) (reverse entries.old.items)) }
+    requires logged_none { logged.items ≡ [] }
+    requires told_none { told.items ≡ [] }
+    requires logged_room { HasWaiverRoom (vec_capacity logged) table.old }
+    requires told_room { HasWaiverRoom (vec_capacity told) table.old }
+    requires kept { Keeps volume.old.accounts.plan log present table.old carried.old.slots volume.old.failed (flash_of N.blocks volume.old) }
+    ensures kept { OnOk result (Keeps volume.new.accounts.plan (reverse entries.new.items) (present + 1) table.new carried.new.slots volume.new.failed (flash_of N.blocks volume.new)) }
+    ensures answered { IfOk result (λ reply. answer volume.old.accounts.plan log Event.Slot ≡ Reply.Slot reply) }
+    ensures logged { IfOk result (λ reply. reverse entries.new.items ≡ with_entry caller Event.Slot (Reply.Slot reply) log) }
     ensures well { OnOk result (volume.new.failed ≡ false) }
     ensures plan { volume.new.accounts.plan ≡ volume.old.accounts.plan }
     ensures fault { IfErr result (λ refusal. refusal ≡ Refusal.DeviceFault) }
     ensures failed { OnErr result (volume.new.failed ≡ true) }
     ensures log_stays { OnErr result (entries.new.items ≡ entries.old.items) }
-    ensures still_kept { OnErr result (Keeps volume.new.accounts.plan (reverse entries.new.items) present table.new carried.new.slots volume.new.failed volume.new.accounts volume.new.pages volume.new.places (N.blocks volume.new.device)) }
+    ensures still_kept { OnErr result (Keeps volume.new.accounts.plan (reverse entries.new.items) present table.new carried.new.slots volume.new.failed (flash_of N.blocks volume.new)) }
     ensures failures { (result ≡ Err Refusal.DeviceFault) ↔ (N.failures volume.new.device ≡ N.failures volume.old.device + 1) }
     ensures never { N.never_fails ≡ true → IsOk result }
 {
-    let Some(number) = table.head(present) else {
-        return Ok(note_idle(alloc, carried, entries, caller, present));
+    let Some(number) = choose(volume, table, &mut logged, &mut told, present) else {
+        note_slot(carried, entries, caller, None, idle_reply(present, logged));
+        return Ok(idle_reply(present, told));
     };
-    let Some(turn) = next_of(table, number) else {
-        unreachable!()
+    let turn = match table.job(number) {
+        Some(job) => take_turn(volume, job),
+        None => unreachable!(),
     };
-    match operate(volume, turn.task, turn.op) {
+    match turn {
         Err(refusal) => {
-            table.stop(&[]);
+            table.stop(told.as_slice());
             Err(refusal)
         }
-        Ok(act) => {
-            note_turn(table, number, act, turn.last, present + 1);
-            Ok(note_act(
-                alloc, carried, entries, caller, present, number, act, turn.last,
-            ))
+        Ok(turn) => {
+            note_turn(table, number, turn, present + 1);
+            note_slot(
+                carried,
+                entries,
+                caller,
+                Some(number),
+                turn_reply(present, logged, number, turn),
+            );
+            Ok(turn_reply(present, told, number, turn))
         }
+    }
+}
+
+/// Room for the waivers of a slot.
+fn waiver_list(alloc: Global, room: usize) -> Result<Vec<Waived>, Refusal>
+    ensures none { IfOk result (λ list. list.items ≡ []) }
+    ensures room { IfOk result (λ list. vec_capacity list ≡ room) }
+    ensures refused { IfErr result (λ refusal. refusal ≡ Refusal.NoMemory) }
+{
+    match Vec::with_capacity(alloc, room) {
+        Ok(list) => Ok(list),
+        Err(_) => Err(Refusal::NoMemory),
     }
 }
 
@@ -187,12 +178,13 @@ fn reserve_slot(carried: &mut Carried, entries: &mut Vec<Entry>) -> Result<(), R
 }
 
 impl<N: Nand> DieCore<N> {
-    /// Carries out the present slot: the job that is released, not done, and has the earliest due (of equal ones the
-    /// smallest number) does its next operation; without one the slot is idle.
+    /// Carries out the present slot. Of what is released and neither done nor waived, the head has the earliest due, of
+    /// equal ones the smallest number. While the head is a collection that has not begun and at least `alpha` pages are
+    /// spare, it is waived, and the next one is the head. The head does one act; without one the slot is idle.
     ///
     /// The refusals, in this order: `DieStopped`, where a fault has stopped the die; `ClockEnd`, where the present slot is
     /// 1,048,576; `NoMemory`; these change nothing. `DeviceFault`, exactly where a call of the device failed: the die is
-    /// stopped from then on, and its log stays.
+    /// stopped from then on, and its log stays, without this slot's waivers.
     pub fn slot(&mut self, alloc: Global, caller: u32) -> Result<SlotReply, Refusal>
         ensures stopped { (result ≡ Err Refusal.DieStopped) ↔ (self.old.stopped ≡ true) }
         ensures answered { IfOk result (λ reply. answer self.old.plan self.old.log Event.Slot ≡ Reply.Slot reply) }
@@ -216,14 +208,24 @@ impl<N: Nand> DieCore<N> {
             Ok(()) => {}
             Err(refusal) => return Err(refusal),
         }
+        let room = waiver_room(&mut self.table, self.present);
+        let logged = match waiver_list(alloc, room) {
+            Ok(list) => list,
+            Err(refusal) => return Err(refusal),
+        };
+        let told = match waiver_list(alloc, room) {
+            Ok(list) => list,
+            Err(refusal) => return Err(refusal),
+        };
         match carry_out(
-            alloc,
             &mut self.volume,
             &mut self.table,
             &mut self.carried,
             &mut self.entries,
             caller,
             self.present,
+            logged,
+            told,
         ) {
             Err(refusal) => Err(refusal),
             Ok(reply) => {

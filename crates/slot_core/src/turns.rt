@@ -1,11 +1,123 @@
-//! What a job does next.
+//! The turn of a slot's head: a collection begins, and then the head does its act.
 
-use slot_types::{Op, TaskNo};
+ghost use Rattle.std.specs.Prelude.{◌≡◌, ◌+◌, ◌<◌, ◌↔◌, true, false, None, length, IsOk, IfOk, IfErr, OnOk, OnErr};
+ghost use Rattle.flash_die.specs.Flash.{block_at};
+ghost use Rattle.flash_volume.specs.declared.collection.Collection.{Collection};
+ghost use Rattle.flash_volume.specs.Running.{running_of};
+ghost use Rattle.slot_core.specs.Turns.{is_fresh, BeginsAs, RunFits, HeadFits, turn_by, DidCollect, DidTurn};
 
-/// The next operation of a job of this task, and whether it is the job's last.
-#[derive(Clone, Copy, PartialEq, Eq, Debug, Drop)]
-pub struct Turn {
-    pub task: TaskNo,
-    pub op: Op,
-    pub last: bool,
+use crate::operations::operate;
+use crate::turn::Turn;
+use flash_die::Nand;
+use flash_volume::{Began, Collected, Volume};
+use job_table::Job;
+use slot_types::{Act, Refusal, TaskNo};
+
+/// Begins a collection that has not begun: while enough pages are spare it is waived, and this is how many its task is
+/// given; else it takes its victim.
+pub(crate) fn begin<N: Nand>(volume: &mut Volume<N>, job: &Job) -> Option<u32>
+    requires alive { volume.old.failed ≡ false }
+    requires task { job.now.task < length volume.old.accounts.plan.caps }
+    requires idle { is_fresh job.now ≡ true → running_of volume.old.running job.now.task ≡ None }
+    ensures { BeginsAs N.blocks volume.old job.now result volume.new }
+{
+    if !job.collects() || job.work() > 0 {
+        return None;
+    }
+    match volume.begin(job.task()) {
+        Ok(Began::Waived { given }) => Some(given),
+        _ => None,
+    }
+}
+
+/// Does the next act of the head, which finds what it needs.
+pub(crate) fn take_turn<N: Nand>(volume: &mut Volume<N>, job: &Job) -> Result<Turn, Refusal>
+    requires alive { volume.old.failed ≡ false }
+    requires fits { HeadFits N.blocks volume.old job.now }
+    ensures did { IfOk result (λ turn. DidTurn N.blocks volume.old job.now turn volume.new) }
+    ensures plan { volume.new.accounts.plan ≡ volume.old.accounts.plan }
+    ensures well { OnOk result (volume.new.failed ≡ false) }
+    ensures fault { IfErr result (λ refusal. refusal ≡ Refusal.DeviceFault) }
+    ensures failed { OnErr result (volume.new.failed ≡ true) }
+    ensures failures { (result ≡ Err Refusal.DeviceFault) ↔ (N.failures volume.new.device ≡ N.failures volume.old.device + 1) }
+    ensures never { N.never_fails ≡ true → IsOk result }
+{
+    if job.collects() {
+        collect(volume, job.task())
+    } else {
+        operate_next(volume, job)
+    }
+}
+
+/// Does the next operation of a job.
+fn operate_next<N: Nand>(volume: &mut Volume<N>, job: &Job) -> Result<Turn, Refusal>
+    requires alive { volume.old.failed ≡ false }
+    requires plain { job.now.collects ≡ false }
+    requires fits { HeadFits N.blocks volume.old job.now }
+    ensures did { IfOk result (λ turn. DidTurn N.blocks volume.old job.now turn volume.new) }
+    ensures plan { volume.new.accounts.plan ≡ volume.old.accounts.plan }
+    ensures well { OnOk result (volume.new.failed ≡ false) }
+    ensures fault { IfErr result (λ refusal. refusal ≡ Refusal.DeviceFault) }
+    ensures failed { OnErr result (volume.new.failed ≡ true) }
+    ensures failures { (result ≡ Err Refusal.DeviceFault) ↔ (N.failures volume.new.device ≡ N.failures volume.old.device + 1) }
+    ensures never { N.never_fails ≡ true → IsOk result }
+{
+    let Some(op) = job.op(job.work()) else {
+        unreachable!()
+    };
+    match operate(volume, job.task(), op) {
+        Err(refusal) => Err(refusal),
+        Ok(act) => Ok(Turn {
+            act,
+            last: job.work() as usize + 1 == job.ops().len(),
+            given: 0,
+        }),
+    }
+}
+
+/// Does a slot of the collection that the task runs.
+fn collect<N: Nand>(volume: &mut Volume<N>, task: TaskNo) -> Result<Turn, Refusal>
+    requires alive { volume.old.failed ≡ false }
+    requires task { task < length volume.old.accounts.plan.caps }
+    requires fits { (c : Collection) × (running_of volume.old.running task ≡ Some c) × ((block_at (N.blocks volume.old.device) c.victim).erases < 4294967295) }
+    ensures did { IfOk result (λ turn. DidCollect N.blocks volume.old task turn volume.new) }
+    ensures plan { volume.new.accounts.plan ≡ volume.old.accounts.plan }
+    ensures well { OnOk result (volume.new.failed ≡ false) }
+    ensures fault { IfErr result (λ refusal. refusal ≡ Refusal.DeviceFault) }
+    ensures failed { OnErr result (volume.new.failed ≡ true) }
+    ensures failures { (result ≡ Err Refusal.DeviceFault) ↔ (N.failures volume.new.device ≡ N.failures volume.old.device + 1) }
+    ensures never { N.never_fails ≡ true → IsOk result }
+{
+    match volume.collect_slot(task) {
+        Err(refusal) => Err(refusal),
+        Ok(did) => Ok(turn_by(did)),
+    }
+}
+
+/// The turn of a collection that did this.
+fn turn_by(did: Collected) -> Turn
+    ensures { result ≡ turn_by did }
+{
+    match did {
+        Collected::CopyRead { page } => Turn {
+            act: Act::CopyRead { page },
+            last: false,
+            given: 0,
+        },
+        Collected::CopyProgram { page } => Turn {
+            act: Act::CopyProgram { page },
+            last: false,
+            given: 0,
+        },
+        Collected::EraseSlot { block } => Turn {
+            act: Act::Erase { block },
+            last: false,
+            given: 0,
+        },
+        Collected::Finished { block, given } => Turn {
+            act: Act::Erase { block },
+            last: true,
+            given,
+        },
+    }
 }

@@ -1,0 +1,6 @@
+use Rattle.std.proofs.Common.{◌∙◌, reverse}
+use Rattle.slot_core.proofs.Keeping.{collecting_is}
+use Rattle.slot_core.proofs.die_core.DieCore.is_collecting.Goals as goal
+
+pub returns : goal.returns
+returns g c = rw (← c.self.view_is) (c.is_collecting.ensures ∙ collecting_is c.self.inside.volume.accounts.plan (reverse c.self.inside.entries.items) c.self.inside.table.jobs c.args.task c.self.invariant.jobs_are)

@@ -1,0 +1,80 @@
+//! What is noted of a slot: in the table, and in the log.
+
+ghost use Rattle.std.specs.Prelude.{◌≡◌, ◌+◌, ◌<◌, ◌∷◌, ◌++◌, ◌^◌, [], if◌then◌else◌, None, Some, true, false, vec_len, vec_capacity};
+ghost use Rattle.job_table.specs.Order.{IsHead};
+ghost use Rattle.job_table.specs.Table.{work_at, reads_next_at};
+ghost use Rattle.slot_core.specs.Turns.{is_read_act, after_turn};
+
+use crate::turn::Turn;
+use job_table::JobTable;
+use late_cert::Carried;
+use slot_types::{Act, Entry, Event, JobNo, Reply, SlotReply, Waived, WaivedList};
+
+/// Notes a turn of the head in the table.
+pub(crate) fn note_turn(table: &mut JobTable, number: JobNo, turn: Turn, completion: u32)
+    requires running { table.old.ended ≡ false }
+    requires head { IsHead table.old number }
+    requires room { work_at table.old.jobs number + 1 < 2 ^ 32 }
+    requires reads { reads_next_at table.old.jobs number ≡ is_read_act turn.act }
+    ensures { table.new ≡ after_turn table.old number turn completion }
+{
+    match turn.act {
+        Act::Read { bytes, .. } => table.carry_read(number, bytes),
+        _ => table.carry(number),
+    }
+    if turn.last {
+        table.finish(number, completion, turn.given);
+    }
+}
+
+/// The number, if it is its last act.
+fn finished(number: JobNo, last: bool) -> Option<JobNo>
+    ensures { result ≡ (if last then Some number else None) }
+{
+    if last { Some(number) } else { None }
+}
+
+/// The answer of a slot without a head.
+pub(crate) fn idle_reply(slot: u32, waived: Vec<Waived>) -> SlotReply
+    ensures { result ≡ record { slot = slot; waived = waived.items; ran = None; finished = None } }
+{
+    SlotReply {
+        slot,
+        waived: WaivedList::from_vec(waived),
+        ran: None,
+        finished: None,
+    }
+}
+
+/// The answer of a slot in which this number had a turn.
+pub(crate) fn turn_reply(slot: u32, waived: Vec<Waived>, number: JobNo, turn: Turn) -> SlotReply
+    ensures { result ≡ record { slot = slot; waived = waived.items; ran = Some (number, turn.act); finished = (if turn.last then Some number else None) } }
+{
+    SlotReply {
+        slot,
+        waived: WaivedList::from_vec(waived),
+        ran: Some((number, turn.act)),
+        finished: finished(number, turn.last),
+    }
+}
+
+/// Notes a slot and whom it carried in the log, in room that was made.
+pub(crate) fn note_slot(
+    carried: &mut Carried,
+    entries: &mut Vec<Entry>,
+    caller: u32,
+    number: Option<JobNo>,
+    reply: SlotReply,
+)
+    requires entry { vec_len entries.old < vec_capacity entries.old }
+    requires slot { 0 < carried.old.room }
+    ensures logged { entries.new.items ≡ entries.old.items ++ record { caller = caller; event = Event.Slot; reply = Reply.Slot reply } ∷ [] }
+    ensures carried { carried.new.slots ≡ carried.old.slots ++ number ∷ [] }
+{
+    carried.push_reserved(number);
+    entries.push_reserved(Entry {
+        caller,
+        event: Event::Slot,
+        reply: Reply::Slot(reply),
+    });
+}
