@@ -1,5 +1,4 @@
-use Rattle.std.proofs.Common.{◌∙◌, ap, rules}
-use Rattle.task_script.proofs.DieRows.{one_more, at_first, all_made}
+use Rattle.task_script.proofs.DieRows.{one_more}
 use Rattle.task_script.proofs.die_reports.report_rows.Goals as goal
 
 pub loop-number-preserved : goal.loop-number-preserved
