@@ -15,3 +15,6 @@ pub mod RecordsBack
 pub mod RowsBack
 pub mod CertsBack
 pub mod DieRows
+pub mod Calling
+pub mod Dealing
+pub mod Gathering

@@ -1,5 +1,5 @@
 -- What a reader of scripts has left.
-use Rattle.std.specs.Prelude.{◌≡◌, ℕ, List, [], Option, Some, None, IfSome, option_map, Result, Ok, Err, if◌then◌else◌}
+use Rattle.std.specs.Prelude.{◌≡◌, ℕ, List, [], length, Option, Some, None, IfSome, option_map, Result, Ok, Err, if◌then◌else◌}
 use Rattle.slot_types.specs.declared.refusals.Refusal.{Refusal}
 use Rattle.task_script.specs.declared.items.ScriptItem.{ScriptItem}
 use Rattle.task_script.specs.declared.scripts.ScriptReader.{ScriptReader}
@@ -15,6 +15,10 @@ unless_refused (Some refusal) known = None
 -- what a reader has left of its script, where it is known
 abbrev pub script_left : {R : Type 0} → (R → Option (List ℕ)) → ScriptReader R → Option Script
 script_left rem s = unless_refused s.refused (if s.ended then Some (Ok []) else option_map (script_at s.slots s.lasts.items s.line) (rows_left (bounded_remaining rem) s.rows))
+
+-- for how many dies a reader reads
+abbrev pub dies_of : {R : Type 0} → ScriptReader R → ℕ
+dies_of s = length s.lasts.items
 
 -- a reader that was refused answers the same again, and one that is refused now will
 abbrev pub Recalls : {R : Type 0} → ScriptReader R → ScriptReader R → Result (Option ScriptItem) Refusal → Type 0

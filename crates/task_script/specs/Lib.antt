@@ -23,3 +23,7 @@ pub mod Progress
 pub mod Numbered
 pub mod WellFormed
 pub mod DieReports
+pub mod Feeds
+pub mod RunCounts
+pub mod DieRuns
+pub mod TextRuns

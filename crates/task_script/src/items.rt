@@ -2,6 +2,7 @@
 
 ghost use Rattle.std.specs.Prelude.{◌≡◌, ◌<◌, length, IfOk};
 ghost use Rattle.csv.specs.Records.{fields_of};
+ghost use Rattle.task_script.specs.Feeds.{IsArrival};
 ghost use Rattle.task_script.specs.Items.{collects_at, event_of, item_of, number_at};
 ghost use Rattle.task_script.specs.Readings.{Gives};
 
@@ -67,7 +68,8 @@ fn event(
     due: u32,
     field: &[u8],
 ) -> Result<Event, Refusal>
-    ensures { Gives result (event_of line collects task release due field.now) }
+    ensures event { Gives result (event_of line collects task release due field.now) }
+    ensures arrives { IfOk result IsArrival }
 {
     if collects {
         if !field.is_empty() {
@@ -98,6 +100,7 @@ pub fn item(
 ) -> Result<ScriptItem, Refusal>
     ensures item { Gives result (item_of slots lasts.now line (fields_of row.now)) }
     ensures die { IfOk result (λ item. item.die < length lasts.now) }
+    ensures arrives { IfOk result (λ item. IsArrival item.event) }
 {
     if row.len() != 7 {
         return Err(Refusal::ScriptRow {

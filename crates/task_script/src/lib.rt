@@ -3,6 +3,8 @@
 
 mod bounded;
 mod die_reports;
+mod die_runs;
+mod feeds;
 mod gathered;
 mod items;
 mod laws;
@@ -16,10 +18,12 @@ mod report_rows;
 mod report_texts;
 mod reports;
 mod rows;
+mod run_counts;
 mod scripts;
 mod steps;
 mod stores;
 mod tables;
+mod text_runs;
 mod words;
 
 pub use die_reports::die_report;
@@ -29,5 +33,7 @@ pub use numbers::number;
 pub use report_reading::read_report;
 pub use report_texts::write_report;
 pub use reports::{DieReport, Report, ReportRow, ReportRows, RowKind};
+pub use run_counts::RunCount;
 pub use scripts::ScriptReader;
 pub use stores::read_plan;
+pub use text_runs::run_text;

@@ -1,6 +1,6 @@
 //! Scripts, row by row.
 
-ghost use Rattle.std.specs.Prelude.{◌≡◌, ◌<◌, ◌≤◌, IfOk, IfErr, None, length, option_map};
+ghost use Rattle.std.specs.Prelude.{◌≡◌, ◌<◌, ◌≤◌, IfOk, IfErr, IfSome, None, length, option_map};
 ghost use Rattle.task_script.specs.Plain.{IsPlain};
 
 use crate::bounded::Bounded;
@@ -40,7 +40,8 @@ pub struct ScriptReader<R> {
 
 impl<R: Read> ScriptReader<R> {
     ghost use Rattle.task_script.specs.Script.{Yields, script_of};
-    ghost use Rattle.task_script.specs.Left.{Recalls, script_left};
+    ghost use Rattle.task_script.specs.Feeds.{IsRowFor};
+    ghost use Rattle.task_script.specs.Left.{Recalls, dies_of, script_left};
 
     /// A reader of a script for the dies of a store and so many slots. The only refusal is NoMemory.
     pub fn new(
@@ -51,6 +52,7 @@ impl<R: Read> ScriptReader<R> {
     ) -> Result<ScriptReader<R>, Refusal>
     where
         R: Drop,
+        ensures dies { IfOk result (λ script. dies_of script ≡ length plan.now) }
         ensures script { IfOk result (λ script. script_left R.remaining script ≡ option_map (script_of (length plan.now) slots) (R.remaining reader)) }
         ensures refused { IfErr result (λ refusal. refusal ≡ Refusal.NoMemory) }
     {
@@ -76,6 +78,8 @@ impl<R: Read> ScriptReader<R> {
     /// is refused.
     pub fn next(&mut self) -> Result<Option<ScriptItem>, Refusal>
         ensures item { Yields (script_left R.remaining self.old) (script_left R.remaining self.new) result }
+        ensures row { IfOk result (λ o. IfSome o (IsRowFor (dies_of self.old))) }
+        ensures dies { dies_of self.new ≡ dies_of self.old }
         ensures again { Recalls self.old self.new result }
     {
         if let Some(refusal) = self.refused {

@@ -1,0 +1,24 @@
+use Rattle.std.proofs.Common.{◌∙◌, refl}
+use Rattle.task_script.proofs.Dealing.{deals_none, deals_more, deals_all, deals_fault}
+use Rattle.task_script.proofs.feeds.read_feeds.Goals as goal
+
+pub loop-init : goal.loop-init
+loop-init g c = record {
+  dies = c.in_ok-script.ensures.dies;
+  dealt = deals_none _ _ _ _ _ c.in_ok-script.ensures.script c.in_ok-feeds.ensures.ok c.len.ensures;
+}
+
+pub returns-in-Ok-None-clause-feeds : goal.returns-in-Ok-None-clause-feeds
+returns-in-Ok-None-clause-feeds g c = deals_all _ _ _ _ c.args.slots _ (rw c.in-Ok-None.field-0-is at c.in-Ok-None.ensures.item) c.loop.invariant.dealt
+
+pub returns-in-Err-clause-refused : goal.returns-in-Err-clause-refused
+returns-in-Err-clause-refused g c = deals_fault _ _ _ _ c.args.slots _ c.in-Err.refusal c.in-Err.ensures.item c.loop.invariant.dealt
+
+pub loop-preserved : goal.loop-preserved
+loop-preserved g c =
+    let row = rw c.in-Ok-Some.field-0-is at c.in-Ok-Some.ensures.row in
+    let step = rw c.in-Ok-Some.field-0-is at c.in-Ok-Some.ensures.item in
+    record {
+      dies = c.next.ensures.dies ∙ c.loop.invariant.dies;
+      dealt = deals_more _ _ _ _ _ _ c.in-Ok-Some.item _ _ (rw c.loop.invariant.dies at row) c.index_mut.ensures.value c.in-Ok.ensures.ok refl step c.loop.invariant.dealt;
+    }

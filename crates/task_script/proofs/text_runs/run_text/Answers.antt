@@ -1,0 +1,9 @@
+use Rattle.std.proofs.Common.{◌∙◌, ap}
+use Rattle.task_script.specs.RunCounts.{count_of}
+use Rattle.task_script.proofs.Gathering.{runs_text}
+use Rattle.task_script.proofs.text_runs.run_text.Goals as goal
+
+pub returns-in-Ok-clause-ran : goal.returns-in-Ok-clause-ran
+returns-in-Ok-clause-ran g c =
+    runs_text _ c.args.plan.now c.args.slots c.in_ok-feeds.feeds.items _ _ _ _ _ c.in_ok-feeds.ensures.feeds
+    (rw (c.deref.ensures.value, c.as_slice.ensures) at c.in_ok-ran.ensures.ran) (c.count.ensures ∙ ap count_of c.as_slice-in-Ok.ensures) c.in-Ok.ensures.written

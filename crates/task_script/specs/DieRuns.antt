@@ -1,0 +1,84 @@
+-- What a die is asked in a run, and what comes of it.
+use Rattle.std.specs.Prelude.{◌≡◌, ℕ, zero, suc, ◌+◌, nat_le, Bool, if◌then◌else◌, List, [], ◌∷◌, ◌++◌, map, Option, Some, None}
+use Rattle.slot_types.specs.declared.plans.DiePlan.{DiePlan}
+use Rattle.slot_types.specs.declared.events.Event.{Event}
+use Rattle.slot_types.specs.declared.events.Event.TheVariants as events
+use Rattle.slot_types.specs.declared.refusals.Refusal.{Refusal}
+use Rattle.die_log.specs.Log.{Log, now}
+use Rattle.die_log.specs.Answers.{answer, IsAccepted, IsExact}
+use Rattle.slot_core.specs.Calls.{RefusedBy}
+use Rattle.slot_core.specs.Core.{with_entry}
+use Rattle.task_script.specs.declared.items.ScriptItem.{ScriptItem}
+use Rattle.task_script.specs.declared.run_counts.RowEnd.{RowEnd}
+
+-- Calls
+
+-- what a die is asked: what a row says, or to carry out a slot
+pub data Call : Type 0 where
+  Row : (item : ScriptItem) → Call
+  Slot : Call
+
+abbrev pub is_due : ℕ → ScriptItem → Bool
+is_due slot item = nat_le item.at slot
+
+-- the rows in front that come by a slot
+abbrev pub due_by : ℕ → List ScriptItem → List ScriptItem
+due_by slot [] = []
+due_by slot (item ∷ items) = if is_due slot item then item ∷ due_by slot items else []
+
+-- the rows behind these
+abbrev pub later_than : ℕ → List ScriptItem → List ScriptItem
+later_than slot [] = []
+later_than slot (item ∷ items) = if is_due slot item then later_than slot items else item ∷ items
+
+-- the calls of so many slots from a slot on: before each slot the rows that come by then, and after the last one those
+-- that are left
+abbrev pub calls_from : ℕ → ℕ → List ScriptItem → List Call
+calls_from slot zero items = map Row items
+calls_from slot (suc left) items = map Row (due_by slot items) ++ Slot ∷ calls_from (slot + 1) left (later_than slot items)
+
+abbrev pub calls_of : ℕ → List ScriptItem → List Call
+calls_of slots items = calls_from 0 slots items
+
+-- What comes of them
+
+-- how far a die has come: its log, and what became of the rows
+pub record DieRun : Type 0 where
+  pub log : Log
+  pub ends : List RowEnd
+
+abbrev pub run_at : Log → List RowEnd → DieRun
+run_at log ends = record { log = log; ends = ends }
+
+abbrev pub fresh_run : DieRun
+fresh_run = run_at [] []
+
+-- the log accepts an event, and its answer is one more entry of caller 0
+abbrev pub Accepts : DiePlan → Log → Event → Log → Type 0
+Accepts plan past event log = IsAccepted (answer plan past event) × (log ≡ with_entry 0 event (answer plan past event) past)
+
+-- a row's event was accepted; or it was refused, by the log's own answer or for want of memory, and is no event
+abbrev pub Ends : DiePlan → Log → Event → Option Refusal → Log → Type 0
+Ends plan past event None log = Accepts plan past event log
+Ends plan past event (Some refusal) log = RefusedBy plan past event refusal × (log ≡ past)
+
+-- the end of a row
+abbrev pub end_of : ScriptItem → Option Refusal → RowEnd
+end_of item refusal = record { line = item.line; refusal = refusal }
+
+-- one call: a row ends, or the slot is carried out
+abbrev pub IsStep : DiePlan → Call → DieRun → DieRun → Type 0
+IsStep plan (Row item) before after =
+    (refusal : Option Refusal) × Ends plan before.log item.event refusal after.log × (after.ends ≡ before.ends ++ end_of item refusal ∷ [])
+IsStep plan Slot before after = Accepts plan before.log events.Slot after.log × (after.ends ≡ before.ends)
+
+-- calls one after the other
+abbrev pub Runs : DiePlan → DieRun → List Call → DieRun → Type 0
+Runs plan before [] after = after ≡ before
+Runs plan before (call ∷ calls) after = (between : DieRun) × IsStep plan call before between × Runs plan between calls after
+
+-- a fresh die carried out all slots, each row came at its place, and the log is exact
+pub record IsRun (plan : DiePlan) (slots : ℕ) (items : List ScriptItem) (run : DieRun) : Type 0 where
+  pub ran : Runs plan fresh_run (calls_of slots items) run
+  pub all_slots : now run.log ≡ slots
+  pub exact : IsExact plan run.log

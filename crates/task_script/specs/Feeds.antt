@@ -1,0 +1,59 @@
+-- The rows of a script, by die.
+use Rattle.std.specs.Prelude.{◌≡◌, ◌==◌, ◌⊎◌, ⊤, ℕ, ◌<◌, List, [], ◌++◌, All, filter, length, get_or, Option, Some, None, IfSome, Ok, Err}
+use Rattle.slot_types.specs.declared.events.Event.{Event}
+use Rattle.slot_types.specs.declared.events.Event.TheVariants.{Slot}
+use Rattle.slot_types.specs.declared.refusals.Refusal.{Refusal}
+use Rattle.task_script.specs.Readings.{IsOutside}
+use Rattle.task_script.specs.Script.{Script, script_of}
+use Rattle.task_script.specs.declared.items.ScriptItem.{ScriptItem}
+
+-- what a row asks: any event but a slot
+abbrev pub IsArrival : Event → Type 0
+IsArrival Slot = ⊥
+IsArrival _ = Unit {0}
+
+-- a row for one of so many dies
+abbrev pub IsRowFor : ℕ → ScriptItem → Type 0
+IsRowFor dies item = (item.die < dies) × IsArrival item.event
+
+abbrev pub AllArrive : List ScriptItem → Type 0
+AllArrive items = All (λ item. IsArrival item.event) items
+
+-- the rows of a die, in their order
+abbrev pub feed_of : List ScriptItem → ℕ → List ScriptItem
+feed_of items die = filter (λ item. item.die == die) items
+
+-- the rows of so many dies, by die
+pub record IsDealt (dies : ℕ) (items : List ScriptItem) (feeds : List (List ScriptItem)) : Type 0 where
+  pub all : length feeds ≡ dies
+  pub rows : (die : ℕ) → die < dies → get_or feeds die [] ≡ feed_of items die
+  pub arrive : All AllArrive feeds
+
+-- the items of the script, where its text is known
+abbrev pub AreItemsOf : Option (List ℕ) → ℕ → ℕ → List ScriptItem → Type 0
+AreItemsOf text dies slots items = IfSome text (λ bytes. script_of dies slots bytes ≡ Ok items)
+
+-- the items of the script, by die
+abbrev pub AreFeedsOf : Option (List ℕ) → ℕ → ℕ → List (List ScriptItem) → Type 0
+AreFeedsOf text dies slots feeds = (items : List ScriptItem) × AreItemsOf text dies slots items × IsDealt dies items feeds
+
+-- memory ran out, or the reader failed; or the script has this fault
+abbrev pub RefusesScript : Option (List ℕ) → ℕ → ℕ → Refusal → Type 0
+RefusesScript text dies slots refusal = IsOutside refusal ⊎ IfSome text (λ bytes. script_of dies slots bytes ≡ Err refusal)
+
+-- While a script is read
+
+-- these items, and then what is left
+abbrev pub with_items : List ScriptItem → Script → Script
+with_items items (Ok more) = Ok (items ++ more)
+with_items items (Err e) = Err e
+
+-- the whole is these items and what is left, where it is known
+abbrev pub IsReadTo : Option Script → Option Script → List ScriptItem → Type 0
+IsReadTo None left items = ⊤
+IsReadTo (Some all) None items = ⊥
+IsReadTo (Some all) (Some more) items = all ≡ with_items items more
+
+-- so far these feeds were dealt
+abbrev pub HasDealt : Option Script → Option Script → ℕ → List (List ScriptItem) → Type 0
+HasDealt whole left dies feeds = (items : List ScriptItem) × IsReadTo whole left items × IsDealt dies items feeds

@@ -1,0 +1,33 @@
+-- What became of the rows of a script, and their counts.
+use Rattle.std.specs.Prelude.{ℕ, nat_lt, Bool, if◌then◌else◌, List, [], ◌∷◌, Option, Some, None, is_none, is_some, count_by}
+use Rattle.slot_types.specs.Refusal.{number_of}
+use Rattle.slot_types.specs.declared.refusals.Refusal.{Refusal}
+use Rattle.task_script.specs.declared.run_counts.RowEnd.{RowEnd}
+use Rattle.task_script.specs.declared.run_counts.RunCount.{RunCount}
+
+abbrev pub was_accepted : RowEnd → Bool
+was_accepted end = is_none end.refusal
+
+abbrev pub was_refused : RowEnd → Bool
+was_refused end = is_some end.refusal
+
+-- the record and the number of a refusal, unless an earlier record was refused
+abbrev pub or_earlier : ℕ → Refusal → Option (ℕ × ℕ) → Option (ℕ × ℕ)
+or_earlier line refusal None = Some (line, number_of refusal)
+or_earlier line refusal (Some first) = if nat_lt line first.0 then Some (line, number_of refusal) else Some first
+
+abbrev pub first_by : ℕ → Option Refusal → Option (ℕ × ℕ) → Option (ℕ × ℕ)
+first_by line None first = first
+first_by line (Some refusal) first = or_earlier line refusal first
+
+-- of these rows and a refused one before them the refused one of the smallest record: its record and the refusal's number
+abbrev pub first_behind : Option (ℕ × ℕ) → List RowEnd → Option (ℕ × ℕ)
+first_behind first [] = first
+first_behind first (end ∷ ends) = first_behind (first_by end.line end.refusal first) ends
+
+abbrev pub first_refused : List RowEnd → Option (ℕ × ℕ)
+first_refused ends = first_behind None ends
+
+-- how many rows were accepted and refused, and the first refused one
+abbrev pub count_of : List RowEnd → RunCount
+count_of ends = record { accepted = count_by was_accepted ends; refused = count_by was_refused ends; first = first_refused ends }

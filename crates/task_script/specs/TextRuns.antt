@@ -1,0 +1,68 @@
+-- What comes of a script on the dies of a store.
+use Rattle.std.specs.Prelude.{◌≡◌, ◌==◌, ◌⊎◌, ⊤, ℕ, ◌+◌, if◌then◌else◌, List, [], ◌∷◌, ◌++◌, flat_map, length, get_or, Option}
+use Rattle.std.specs.Io.KnownBytes.{Appends}
+use Rattle.slot_types.specs.declared.plans.DiePlan.{DiePlan}
+use Rattle.slot_types.specs.declared.refusals.Refusal.{Refusal}
+use Rattle.slot_types.specs.declared.refusals.Refusal.TheVariants.{WriteFault}
+use Rattle.task_script.specs.DieReports.{die_report_of}
+use Rattle.task_script.specs.DieRuns.{DieRun, IsRun}
+use Rattle.task_script.specs.Feeds.{AreItemsOf, RefusesScript, feed_of}
+use Rattle.task_script.specs.ReportText.{report_text}
+use Rattle.task_script.specs.RunCounts.{count_of}
+use Rattle.task_script.specs.declared.items.ScriptItem.{ScriptItem}
+use Rattle.task_script.specs.declared.reports.DieReport.{DieReport}
+use Rattle.task_script.specs.declared.run_counts.RowEnd.{RowEnd}
+use Rattle.task_script.specs.declared.run_counts.RunCount.{RunCount}
+
+-- by die, from this number on, a run of its rows
+abbrev pub AreRuns : ℕ → (ℕ → List ScriptItem) → ℕ → List DiePlan → List DieRun → Type 0
+AreRuns slots feed die [] [] = ⊤
+AreRuns slots feed die (plan ∷ plans) (run ∷ runs) = IsRun plan slots (feed die) run × AreRuns slots feed (die + 1) plans runs
+AreRuns slots feed die _ _ = ⊥
+
+-- a die without rows has no report
+abbrev pub with_rows : DieReport → List DieReport → List DieReport
+with_rows die report = if length die.rows == 0 then report else die ∷ report
+
+-- the reports of the dies that have rows, numbered from this number on
+abbrev pub reports_from : ℕ → List DiePlan → List DieRun → List DieReport
+reports_from die (plan ∷ plans) (run ∷ runs) = with_rows (die_report_of plan run.log die) (reports_from (die + 1) plans runs)
+reports_from die _ _ = []
+
+-- what became of all rows, die by die
+abbrev pub ends_of : List DieRun → List RowEnd
+ends_of runs = flat_map (λ (run : DieRun). run.ends) runs
+
+-- each die of the store ran all its slots with its rows of the script, the rows are counted, and what is written is the
+-- report of the dies' exact logs
+pub record RunsText (text : Option (List ℕ)) (plans : List DiePlan) (slots : ℕ) (count : RunCount) (old new : Option (List ℕ)) : Type 0 where
+  pub items : List ScriptItem
+  pub script : AreItemsOf text (length plans) slots items
+  pub runs : List DieRun
+  pub ran : AreRuns slots (feed_of items) 0 plans runs
+  pub counted : count ≡ count_of (ends_of runs)
+  pub written : Appends old new (report_text (reports_from 0 plans runs))
+
+-- the script is refused; or memory ran out; or the writer failed
+abbrev pub RefusesText : Option (List ℕ) → ℕ → ℕ → Refusal → Type 0
+RefusesText text dies slots refusal = RefusesScript text dies slots refusal ⊎ (refusal ≡ WriteFault)
+
+-- While the dies run
+
+abbrev pub feed_at : List (List ScriptItem) → ℕ → List ScriptItem
+feed_at feeds die = get_or feeds die []
+
+-- a die of this number ran its rows, and its report and what became of its rows were added
+pub record AddsRun (die : ℕ) (plan : DiePlan) (slots : ℕ) (items : List ScriptItem) (report : List DieReport) (ends : List RowEnd)
+    (report2 : List DieReport) (ends2 : List RowEnd) : Type 0 where
+  pub run : DieRun
+  pub ran : IsRun plan slots items run
+  pub reported : report2 ≡ report ++ with_rows (die_report_of plan run.log die) []
+  pub ended : ends2 ≡ ends ++ run.ends
+
+-- these dies ran, and these are their reports and what became of their rows
+pub record HaveRun (slots : ℕ) (feeds : List (List ScriptItem)) (plans : List DiePlan) (report : List DieReport) (ends : List RowEnd) : Type 0 where
+  pub runs : List DieRun
+  pub ran : AreRuns slots (feed_at feeds) 0 plans runs
+  pub reported : report ≡ reports_from 0 plans runs
+  pub ended : ends ≡ ends_of runs

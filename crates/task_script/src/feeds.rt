@@ -1,0 +1,66 @@
+//! The rows of a script, by die.
+
+ghost use Rattle.std.specs.Prelude.{◌≡◌, ◌∷◌, ◌++◌, [], length, replicate, IfOk, IfErr, OnOk};
+ghost use Rattle.task_script.specs.Feeds.{AreFeedsOf, RefusesScript};
+
+use crate::items::ScriptItem;
+use crate::scripts::ScriptReader;
+use slot_types::{Items, Refusal, StorePlan};
+use std::alloc::Global;
+use std::io::Read;
+
+/// The rows of a die, in their order.
+pub type Feed = Items<ScriptItem>;
+
+/// By die no row.
+fn no_feeds(alloc: Global, dies: usize) -> Result<Vec<Feed>, Refusal>
+    ensures ok { IfOk result (λ feeds. feeds.items ≡ replicate dies []) }
+    ensures refused { IfErr result (λ refusal. refusal ≡ Refusal.NoMemory) }
+{
+    let mut feeds = Vec::new(alloc);
+    for _ in 0..dies {
+        match feeds.push(Feed::new(alloc)) {
+            Ok(()) => {}
+            Err(_) => return Err(Refusal::NoMemory),
+        }
+    }
+    Ok(feeds)
+}
+
+/// Adds a row.
+fn add(feed: &mut Feed, item: ScriptItem) -> Result<(), Refusal>
+    ensures ok { OnOk result (feed.new ≡ feed.old ++ item ∷ []) }
+    ensures refused { IfErr result (λ refusal. refusal ≡ Refusal.NoMemory) }
+{
+    feed.push(item)?;
+    Ok(())
+}
+
+/// By die its rows of a script.
+pub fn read_feeds<R: Read + Drop>(
+    alloc: Global,
+    reader: R,
+    plan: &StorePlan,
+    slots: u32,
+) -> Result<Vec<Feed>, Refusal>
+    ensures feeds { IfOk result (λ feeds. AreFeedsOf (R.remaining reader) (length plan.now) slots feeds.items) }
+    ensures refused { IfErr result (RefusesScript (R.remaining reader) (length plan.now) slots) }
+{
+    let mut feeds = no_feeds(alloc, plan.len())?;
+    let mut script = ScriptReader::new(alloc, reader, plan, slots)?;
+    for _ in 0..u64::MAX {
+        match script.next() {
+            Ok(Some(item)) => {
+                let die = item.die as usize;
+                match add(&mut feeds[die], item) {
+                    Ok(()) => {}
+                    Err(refusal) => return Err(refusal),
+                }
+            }
+            Ok(None) => return Ok(feeds),
+            Err(refusal) => return Err(refusal),
+        }
+    }
+    // No script has so many rows.
+    Err(Refusal::ReadFault)
+}
