@@ -1,0 +1,4 @@
+pub mod Lists
+pub mod Replying
+pub mod Passing
+pub mod Making

@@ -1,0 +1,67 @@
+-- What a die replies in its turn, and how long its log is.
+use Rattle.std.proofs.Common.{◌≡◌, ℕ, ◌+◌, ◌≤◌, ◌⊎◌, inl, inr, ◌↔◌, Bool, true, false, [], length, Result, Err, refl, ap, sym, ◌∙◌, arith}
+use Rattle.std.proofs.lemmas.List.{length_push}
+use Rattle.std.proofs.lemmas.Bool.{false≢true}
+use Rattle.slot_types.specs.declared.plans.DiePlan.{DiePlan}
+use Rattle.slot_types.specs.declared.events.Event.{Event}
+use Rattle.slot_types.specs.declared.events.Event.TheVariants as events
+use Rattle.slot_types.specs.declared.refusals.Refusal.{Refusal}
+use Rattle.slot_types.specs.declared.refusals.Refusal.TheVariants.{DeviceFault, DieStopped}
+use Rattle.die_log.specs.Log.{Log, jobs, carried, now}
+use Rattle.std.specs.List.{AllByRecursion}
+use Rattle.die_log.specs.Answers.{IsExact, IsAccepted, answer, accepted, refusals, slot_reply, choice}
+use Rattle.die_log.proofs.Legality.{exact_induction}
+use Rattle.slot_core.specs.Core.{with_entry}
+use Rattle.die_log.proofs.Limits.{keeps_limits}
+use Rattle.slot_core.specs.Calls.{RefusedBy}
+use Rattle.die_service.specs.Replies.{MayRefuse}
+
+-- an entry is a job or collection, or a slot
+abbrev Counted : DiePlan → Log → Type 0
+Counted plan log = length log ≡ length (jobs log) + now log
+
+counted : (plan : DiePlan) (log : Log) → IsExact plan log → Counted plan log
+counted plan = exact_induction plan (Counted plan) refl step
+  where
+    step : (past : Log) (caller : ℕ) (event : Event) → IsExact plan past → Counted plan past → AllByRecursion (λ c. c.0 ≡ false) (refusals plan past event) → Counted plan (with_entry caller event (accepted plan past event) past)
+    step past caller (events.Submit task release due ops) exact h none =
+        omega (arith, h, length_push (jobs past) (record { number = length (jobs past); collects = false; task = task; release = release; due = due; ops = ops }))
+    step past caller (events.Collect task release due) exact h none =
+        omega (arith, h, length_push (jobs past) (record { number = length (jobs past); collects = true; task = task; release = release; due = due; ops = [] }))
+    step past caller events.Slot exact h none =
+        omega (arith, h, length_push (carried past) (slot_reply plan past (choice plan past).waived (choice plan past).head).ran)
+
+-- a die has at most 65,536 jobs and collections, and 1,048,576 slots
+pub few_entries : (plan : DiePlan) (log : Log) → IsExact plan log → length log ≤ 4294967295
+few_entries plan log exact = let k = keeps_limits plan log exact in omega (arith, counted plan log exact, k.slots, k.few_jobs)
+
+-- A refusal of a die is one that it may give: where its device never fails, it isn't stopped
+
+no_fault : (never stopped : Bool) → (never ≡ true → stopped ≡ false) → stopped ≡ true → never ≡ false
+no_fault false stopped runs is = refl
+no_fault true stopped runs is = absurd (false≢true (sym (runs refl) ∙ is))
+
+err_is : {T : Type 0} (r s : Refusal) → ◌≡◌ {A = Result T Refusal} (Err r) (Err s) → r ≡ s
+err_is r s e = cc
+
+pub may_refuse : {T : Type 0} (never stopped : Bool) (plan : DiePlan) (log : Log) (event : Event) (refusal : Refusal) → (never ≡ true → stopped ≡ false)
+    → (◌≡◌ {A = Result T Refusal} (Err refusal) (Err DieStopped) ↔ (stopped ≡ true)) → (stopped ≡ false → RefusedBy plan log event refusal)
+    → MayRefuse never plan log event refusal
+may_refuse never false plan log event refusal runs why by_log = inl (by_log refl)
+may_refuse never true plan log event refusal runs why by_log = inr (inr (no_fault never true runs refl, err_is refusal DieStopped (why.1 refl)))
+
+pub may_refuse_slot : {T : Type 0} (never stopped : Bool) (plan : DiePlan) (log : Log) (refusal : Refusal) → (never ≡ true → stopped ≡ false)
+    → (◌≡◌ {A = Result T Refusal} (Err refusal) (Err DieStopped) ↔ (stopped ≡ true))
+    → (stopped ≡ false → RefusedBy plan log events.Slot refusal ⊎ (IsAccepted (answer plan log events.Slot) × (refusal ≡ DeviceFault)))
+    → (never ≡ true → ◌≡◌ {A = Result T Refusal} (Err refusal) (Err DeviceFault) → ⊥)
+    → MayRefuse never plan log events.Slot refusal
+may_refuse_slot never true plan log refusal runs why by_log never_faults = inr (inr (no_fault never true runs refl, err_is refusal DieStopped (why.1 refl)))
+may_refuse_slot never false plan log refusal runs why by_log never_faults = by (by_log refl)
+  where
+    well : (b : Bool) → (b ≡ true → refusal ≡ DeviceFault → ⊥) → refusal ≡ DeviceFault → b ≡ false
+    well false h is = refl
+    well true h is = absurd (h refl is)
+
+    by : RefusedBy plan log events.Slot refusal ⊎ (IsAccepted (answer plan log events.Slot) × (refusal ≡ DeviceFault)) → MayRefuse never plan log events.Slot refusal
+    by (inl h) = inl h
+    by (inr h) = inr (inl (well never (λ yes is. never_faults yes (ap Err is)) h.1, refl, h.0, h.1))

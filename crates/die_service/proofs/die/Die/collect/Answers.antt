@@ -1,0 +1,5 @@
+use Rattle.die_service.proofs.Passing.{collect_taken}
+use Rattle.die_service.proofs.die.Die.collect.Goals as goal
+
+pub taken_number-requires : goal.taken_number-requires
+taken_number-requires g c = collect_taken _ _ _ _ _ _ c.in-Ok.ensures.added.answered c.in-Ok.ensures.accepted

@@ -1,0 +1,5 @@
+pub mod Logs
+pub mod Replies
+pub mod Answers
+pub mod Passes
+pub mod Stores

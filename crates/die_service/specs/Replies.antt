@@ -1,0 +1,31 @@
+-- What a die behind its turn may reply to an event.
+use Rattle.std.specs.Prelude.{◌≡◌, ◌⊎◌, Bool, false, List, length, Result, Ok, Err}
+use Rattle.slot_types.specs.declared.plans.DiePlan.{DiePlan}
+use Rattle.slot_types.specs.declared.events.Event.{Event}
+use Rattle.slot_types.specs.declared.events.Event.TheVariants.{Slot}
+use Rattle.slot_types.specs.declared.refusals.Refusal.{Refusal}
+use Rattle.slot_types.specs.declared.refusals.Refusal.TheVariants.{DeviceFault, DieStopped}
+use Rattle.slot_types.specs.declared.replies.Reply.{Reply}
+use Rattle.die_log.specs.Log.{Log}
+use Rattle.die_log.specs.Answers.{answer, IsAccepted, IsExact}
+use Rattle.slot_core.specs.Calls.{RefusedBy}
+use Rattle.die_service.specs.declared.refused.RefusedAt.{RefusedAt}
+use Rattle.die_service.specs.Logs.{Call, log_of}
+
+-- each call was answered as a die of this plan answers it behind the calls before it
+abbrev pub HasExactLog : DiePlan → List Call → Type 0
+HasExactLog plan calls = IsExact plan (log_of calls)
+
+-- A die at this log may refuse the event so: the log refuses it; or the log accepts it, and memory is refused; or the
+-- log accepts it, it is a slot, and the device fails; or the device failed before. A device that never fails does neither.
+abbrev pub MayRefuse : Bool → DiePlan → Log → Event → Refusal → Type 0
+MayRefuse never_fails plan log event refusal =
+    RefusedBy plan log event refusal
+    ⊎ ((never_fails ≡ false) × (event ≡ Slot) × IsAccepted (answer plan log event) × (refusal ≡ DeviceFault))
+    ⊎ ((never_fails ≡ false) × (refusal ≡ DieStopped))
+
+-- an accepted event is answered by the log; a refused one tells how many entries there were
+abbrev pub MayReply : Bool → DiePlan → List Call → Event → Result Reply RefusedAt → Type 0
+MayReply never_fails plan calls event (Ok reply) = (answer plan (log_of calls) event ≡ reply) × IsAccepted reply
+MayReply never_fails plan calls event (Err refused) =
+    (refused.entries ≡ length calls) × MayRefuse never_fails plan (log_of calls) event refused.refusal

@@ -1,0 +1,139 @@
+//! A die as the book behind its turn.
+
+ghost use Rattle.std.specs.Prelude.{◌≡◌, false, IfOk, IfErr, OnErr};
+ghost use Rattle.std.specs.Box.{box_value};
+ghost use Rattle.die_log.specs.Answers.{answer, IsAccepted};
+ghost use Rattle.slot_core.specs.Core.{with_entry};
+ghost use Rattle.die_service.specs.Replies.{MayRefuse};
+
+use crate::queries::{Answer, Query};
+use crate::refused::RefusedAt;
+use flash_die::Nand;
+use slot_core::DieCore;
+use slot_types::{DiePlan, Event, Refusal, Reply};
+use std::alloc::Global;
+use std::marker::Model;
+use turn_lock::Book;
+
+/// A die and what it takes its memory from. Contracts see the die.
+// The book is moved out of its slot and back at each turn, so the die itself lies in a box.
+#[derive(Drop)]
+pub struct DieBook<N: Nand> {
+    pub(crate) core: Box<DieCore<N>>,
+    alloc: Global,
+}
+
+impl<N: Nand> Model for DieBook<N> {
+    ghost use Rattle.std.specs.Prelude.{◌≡◌, true, false};
+    ghost use Rattle.std.specs.Box.{box_value};
+    ghost use Rattle.slot_core.specs.Core.{Core};
+
+    ghost Value = { Core N };
+
+    ghost view = { λ b. box_value b.core };
+
+    // A die whose device never fails is never stopped.
+    ghost invariant = { λ b. N.never_fails ≡ true → (box_value b.core).stopped ≡ false };
+}
+
+impl<N: Nand> DieBook<N> {
+    /// The book of a die that isn't stopped.
+    pub(crate) fn new(alloc: Global, core: Box<DieCore<N>>) -> DieBook<N>
+        requires runs { (box_value core).stopped ≡ false }
+        ensures { result ≡ box_value core }
+    {
+        DieBook { core, alloc }
+    }
+
+    /// The die.
+    pub(crate) fn into_core(self) -> DieCore<N>
+        ensures { result ≡ self }
+    {
+        Box::into_inner(self.core)
+    }
+
+    /// What the die says to an event.
+    fn perform(&mut self, caller: u32, event: Event) -> Result<Reply, Refusal>
+        ensures plan { self.new.plan ≡ self.old.plan }
+        ensures answered { IfOk result (λ reply. answer self.old.plan self.old.log event ≡ reply) }
+        ensures accepted { IfOk result IsAccepted }
+        ensures logged { IfOk result (λ reply. self.new.log ≡ with_entry caller event reply self.old.log) }
+        ensures refused { IfErr result (MayRefuse N.never_fails self.old.plan self.old.log event) }
+        ensures log_stays { OnErr result (self.new.log ≡ self.old.log) }
+    {
+        let alloc = self.alloc;
+        match event {
+            Event::Submit {
+                task,
+                release,
+                due,
+                ops,
+            } => match self.core.submit(alloc, caller, task, release, due, ops) {
+                Ok(number) => Ok(Reply::Taken(number)),
+                Err(refusal) => Err(refusal),
+            },
+            Event::Collect { task, release, due } => {
+                match self.core.collect(alloc, caller, task, release, due) {
+                    Ok(number) => Ok(Reply::Taken(number)),
+                    Err(refusal) => Err(refusal),
+                }
+            }
+            Event::Slot => match self.core.slot(alloc, caller) {
+                Ok(reply) => Ok(Reply::Slot(reply)),
+                Err(refusal) => Err(refusal),
+            },
+        }
+    }
+}
+
+impl<N: Nand> Book for DieBook<N> {
+    ghost use Rattle.std.specs.Prelude.{is_ok};
+    ghost use Rattle.die_service.specs.Logs.{calls_of};
+    ghost use Rattle.die_service.specs.Replies.{HasExactLog, MayReply};
+    ghost use Rattle.die_service.specs.Answers.{MayAnswer};
+
+    type Event = Event;
+
+    type Reply = Result<Reply, RefusedAt>;
+
+    type Query = Query;
+
+    type Answer = Answer;
+
+    type About = DiePlan;
+
+    ghost log = { λ die. calls_of die.log };
+
+    ghost about = { λ die. die.plan };
+
+    ghost accepts = { is_ok };
+
+    ghost gives = { λ plan calls _ event reply. MayReply N.never_fails plan calls event reply };
+
+    ghost tells = { MayAnswer };
+
+    ghost fits = { HasExactLog };
+
+    fn apply(&mut self, caller: u32, event: Event) -> Result<Reply, RefusedAt> {
+        let entries = self.core.len();
+        match self.perform(caller, event) {
+            Ok(reply) => Ok(reply),
+            Err(refusal) => Err(RefusedAt { entries, refusal }),
+        }
+    }
+
+    fn ask(&self, query: Query) -> Answer {
+        match query {
+            Query::Outcome(job) => Answer::Outcome(self.core.outcome(self.alloc, job)),
+            Query::Worst => Answer::Worst(self.core.worst()),
+            Query::Certificate => Answer::Certificate(self.core.certificate(self.alloc)),
+            Query::Now => Answer::Now(self.core.now()),
+        }
+    }
+
+    fn len(&self) -> u64 {
+        // It says that the log is exact.
+        self.core.promises();
+        self.core.len()
+    }
+}

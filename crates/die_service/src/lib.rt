@@ -1,0 +1,19 @@
+//! The store: dies that any number of threads use, each die behind a turn of its own.
+//!
+//! A [`Store`] has its [`Die`]s, and a caller uses one with a [`DiePass`] of that die. The clauses speak of what a pass
+//! has seen of its die, the accepted calls from the first: they are an exact log of the die's plan, they begin the
+//! list of calls that the die has, and of the pass's own calls they are all.
+//!
+//! `look` and `join_pass` don't wait. The other calls of a die, and [`close`], may wait for the die's turn, and nothing
+//! is claimed of how long.
+#![tactic(auto)]
+
+pub mod book;
+pub mod die;
+pub mod queries;
+pub mod refused;
+pub mod store;
+
+pub use die::{Die, DiePass};
+pub use refused::RefusedAt;
+pub use store::Store;

@@ -1,0 +1,173 @@
+//! A store: its dies.
+
+ghost use Rattle.std.specs.Prelude.{◌≡◌, ◌↔◌, ◌≤◌, ◌<◌, ◌⊎◌, All, IsTrue, IsOk, IsErr, IfOk, IfErr, Some, [], length, map, slice_get, vec_len};
+ghost use Rattle.slot_types.specs.Shapes.{IsShape};
+ghost use Rattle.plan_rules.specs.Bound.{MeetsBound};
+ghost use Rattle.flash_die.specs.Flash.{IsFresh};
+ghost use Rattle.turn_lock.specs.Views.{first_view};
+ghost use Rattle.die_service.specs.Stores.{Fit, IsShaped, IsServed};
+
+use crate::book::DieBook;
+use crate::die::{Die, DiePass};
+use flash_die::Nand;
+use plan_rules::bound;
+use slot_core::DieCore;
+use slot_types::{DiePlan, MAX_DIES, Refusal, StorePlan};
+use std::alloc::Global;
+use std::marker::Model;
+use turn_lock::Turned;
+
+/// The dies of a store, each behind a turn of its own. Contracts see their locks.
+#[derive(Drop)]
+pub struct Store<N: Nand> {
+    pub(crate) dies: Vec<Die<N>>,
+    pub(crate) alloc: Global,
+}
+
+impl<N: Nand> Model for Store<N> {
+    ghost use Rattle.std.specs.Prelude.{◌≤◌, List, length};
+    ghost use Rattle.atomic_table.specs.Seated.{TableId};
+
+    ghost Value = { List TableId };
+
+    ghost view = { λ s. s.dies.items };
+
+    ghost invariant = { λ s. length s.dies.items ≤ 8 };
+}
+
+/// Whether each shape is within its limits.
+fn are_shapes(plans: &[DiePlan]) -> bool
+    ensures { IsTrue result ↔ All (λ plan. IsShape plan.shape) plans.now }
+{
+    plans
+        .iter()
+        .all(|plan| bound(plan) != Err(Refusal::BadShape))
+}
+
+/// Whether each plan meets its bound.
+fn are_bound(plans: &[DiePlan]) -> bool
+    ensures { IsTrue result ↔ All MeetsBound plans.now }
+{
+    plans.iter().all(|plan| bound(plan).is_ok())
+}
+
+/// Whether each device has the shape of the die in its place.
+fn do_fit<N: Nand>(plans: &[DiePlan], nands: &[N]) -> bool
+    ensures { IsTrue result ↔ Fit plans.now (map N.shape_of nands.now) }
+{
+    match (plans.split_first(), nands.split_first()) {
+        (Some((plan, plans)), Some((nand, nands))) => {
+            nand.shape() == plan.shape && do_fit(plans, nands)
+        }
+        _ => true,
+    }
+}
+
+/// Why a store isn't made of these, if memory is no matter.
+fn refusal_of<N: Nand>(plans: &[DiePlan], nands: &[N]) -> Result<(), Refusal>
+    ensures ok { IsOk result ↔ (IsShaped plans.now (map N.shape_of nands.now) × IsServed plans.now (length nands.now)) }
+    ensures bad_shape { (result ≡ Err Refusal.BadShape) ↔ ¬ IsShaped plans.now (map N.shape_of nands.now) }
+    ensures bad_plan { (result ≡ Err Refusal.BadPlan) ↔ (IsShaped plans.now (map N.shape_of nands.now) × ¬ IsServed plans.now (length nands.now)) }
+    ensures refused { IfErr result (λ refusal. (refusal ≡ Refusal.BadShape) ⊎ (refusal ≡ Refusal.BadPlan)) }
+{
+    if plans.is_empty()
+        || plans.len() > MAX_DIES as usize
+        || !are_shapes(plans)
+        || !do_fit(plans, nands)
+    {
+        return Err(Refusal::BadShape);
+    }
+    if nands.len() != plans.len() || !are_bound(plans) {
+        return Err(Refusal::BadPlan);
+    }
+    Ok(())
+}
+
+/// A die that can be made, behind its turn, with its first pass.
+fn new_die<N: Nand>(alloc: Global, plan: DiePlan, nand: N) -> Result<(Die<N>, DiePass<N>), Refusal>
+    requires fresh { IsFresh (N.shape_of nand) (N.blocks nand) (N.failures nand) }
+    requires fits { N.shape_of nand ≡ plan.shape }
+    requires bound { MeetsBound plan }
+    ensures own { IfOk result (λ made. made.1.lock ≡ made.0) }
+    ensures first { IfOk result (λ made. made.1.view ≡ first_view plan) }
+    ensures refused { IfErr result (λ refusal. refusal ≡ Refusal.NoMemory) }
+{
+    let core = DieCore::new(alloc, plan, nand)?;
+    let boxed = match Box::new(alloc, core) {
+        Ok(boxed) => boxed,
+        Err(_) => return Err(Refusal::NoMemory),
+    };
+    let (turned, pass) = Turned::new(alloc, DieBook::new(alloc, boxed))?;
+    Ok((Die { turned }, pass))
+}
+
+/// Makes each die with its device, in order.
+fn new_dies<N: Nand>(
+    alloc: Global,
+    plans: Vec<DiePlan>,
+    nands: Vec<N>,
+) -> Result<(Vec<Die<N>>, Vec<DiePass<N>>), Refusal>
+    requires fresh { All (λ nand. IsFresh (N.shape_of nand) (N.blocks nand) (N.failures nand)) nands.items }
+    requires fit { Fit plans.items (map N.shape_of nands.items) }
+    requires served { IsServed plans.items (vec_len nands) }
+    ensures own { IfOk result (λ made. map (λ pass. pass.lock) made.1.items ≡ made.0.items) }
+    ensures first { IfOk result (λ made. map (λ pass. pass.view) made.1.items ≡ map first_view plans.items) }
+    ensures refused { IfErr result (λ refusal. refusal ≡ Refusal.NoMemory) }
+{
+    let count = plans.len();
+    let mut dies = Vec::with_capacity(alloc, count)?;
+    let mut passes = Vec::with_capacity(alloc, count)?;
+    let mut nands = nands.into_iter();
+    for plan in plans {
+        let Some(nand) = nands.next() else {
+            unreachable!()
+        };
+        let (die, pass) = new_die(alloc, plan, nand)?;
+        dies.push_reserved(die);
+        passes.push_reserved(pass);
+    }
+    Ok((dies, passes))
+}
+
+impl<N: Nand> Store<N> {
+    /// A store on which nothing was done: each plan with the device in its place, and with each die its first pass.
+    ///
+    /// `BadShape` where there are not 1 to 8 dies, a shape is out of its limits, or a device has another shape than the
+    /// die in its place; else `BadPlan` where there are not as many devices as dies, or a plan doesn't meet its bound;
+    /// else `NoMemory` where memory is refused. Plan and devices are given up then.
+    pub fn new(
+        alloc: Global,
+        plan: StorePlan,
+        nands: Vec<N>,
+    ) -> Result<(Store<N>, Vec<DiePass<N>>), Refusal>
+        requires fresh { All (λ nand. IsFresh (N.shape_of nand) (N.blocks nand) (N.failures nand)) nands.items }
+        ensures own { IfOk result (λ made. map (λ pass. pass.lock) made.1.items ≡ made.0) }
+        ensures first { IfOk result (λ made. map (λ pass. pass.view) made.1.items ≡ map first_view plan) }
+        ensures bad_shape { (result ≡ Err Refusal.BadShape) ↔ ¬ IsShaped plan (map N.shape_of nands.items) }
+        ensures bad_plan { (result ≡ Err Refusal.BadPlan) ↔ (IsShaped plan (map N.shape_of nands.items) × ¬ IsServed plan (vec_len nands)) }
+        ensures refused { IfErr result (λ refusal. (refusal ≡ Refusal.BadShape) ⊎ (refusal ≡ Refusal.BadPlan) ⊎ (refusal ≡ Refusal.NoMemory)) }
+    {
+        refusal_of(plan.as_slice(), nands.as_slice())?;
+        let (dies, passes) = new_dies(alloc, plan.into_vec(), nands)?;
+        Ok((Store { dies, alloc }, passes))
+    }
+
+    /// The die of a number from 0. `UnknownDie` exactly from the number of dies on.
+    pub fn die(&self, die: u32) -> Result<&Die<N>, Refusal>
+        ensures ok { IfOk result (λ found. slice_get self.now die ≡ Some found.now) }
+        ensures unknown { IsErr result ↔ (length self.now ≤ die) }
+        ensures refused { IfErr result (λ refusal. refusal ≡ Refusal.UnknownDie) }
+    {
+        match self.dies.get(die as usize) {
+            Some(found) => Ok(found),
+            None => Err(Refusal::UnknownDie),
+        }
+    }
+
+    /// How many dies there are.
+    pub fn dies(&self) -> u32
+        ensures { result ≡ length self.now }
+    {
+        self.dies.len() as u32
+    }
+}
