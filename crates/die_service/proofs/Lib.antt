@@ -2,3 +2,4 @@ pub mod Lists
 pub mod Replying
 pub mod Passing
 pub mod Making
+pub mod LastPasses

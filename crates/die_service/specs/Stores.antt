@@ -1,9 +1,20 @@
 -- What a store is made of, and what becomes of its passes where it closes.
-use Rattle.std.specs.Prelude.{◌≡◌, ℕ, ◌≤◌, List, ◌∷◌, length, All}
+use Rattle.std.specs.Prelude.{◌≡◌, ℕ, ◌+◌, ◌<◌, ◌≤◌, ◌⊎◌, List, [], ◌∷◌, length, All, Some, Result}
 use Rattle.slot_types.specs.Shapes.{IsShape}
 use Rattle.slot_types.specs.declared.plans.DiePlan.{DiePlan}
 use Rattle.slot_types.specs.declared.plans.Shape.{Shape}
+use Rattle.slot_types.specs.declared.events.Event.{Event}
+use Rattle.slot_types.specs.declared.replies.Reply.{Reply}
+use Rattle.slot_types.specs.declared.refusals.Refusal.{Refusal}
+use Rattle.slot_types.specs.declared.refusals.Refusal.TheVariants.{NoMemory, PassesOut}
 use Rattle.plan_rules.specs.Bound.{MeetsBound}
+use Rattle.turn_lock.specs.Views.{Known, IsSamePass}
+use Rattle.turn_lock.specs.Passes.{IsOut}
+use Rattle.slot_core.specs.Core.{Core}
+use Rattle.die_service.specs.declared.refused.RefusedAt.{RefusedAt}
+use Rattle.die_service.specs.Logs.{log_of, calls_of}
+use Rattle.die_service.specs.Replies.{HasExactLog}
+use Rattle.die_service.specs.Passes.{DieView, HasGrown}
 
 -- each device has the shape of the die in its place; a die or a device that is alone in its place fits
 abbrev pub Fit : List DiePlan → List Shape → Type 0
@@ -21,3 +32,35 @@ pub record IsShaped (plans : List DiePlan) (shapes : List Shape) : Type 0 where
 pub record IsServed (plans : List DiePlan) (devices : ℕ) : Type 0 where
   pub one_each : devices ≡ length plans
   pub bound : All MeetsBound plans
+
+-- a pass of a die, as clauses see it
+abbrev pub DiePass : Type 0
+DiePass = Known Event (Result Reply RefusedAt) DiePlan
+
+-- the pass was told that so many passes are out
+abbrev pub IsTold : DiePass → ℕ → DiePass → Type 0
+IsTold p out q = IsSamePass p q × IsOut HasExactLog p.view out q.view
+
+-- the passes were told in order that none is out, until one was told that some are; the later ones are as they were
+abbrev pub AreTold : List DiePass → ℕ → List DiePass → Type 0
+AreTold [] out [] = out ≡ 0
+AreTold (p ∷ ps) out (q ∷ qs) = (IsTold p 0 q × AreTold ps out qs) ⊎ ((0 < out) × IsTold p out q × (qs ≡ ps))
+AreTold _ _ _ = ⊥
+
+-- the store stays open: on the first die that has passes out there are so many, or none has and memory is refused
+abbrev pub StayOpen : List DiePass → Refusal → List DiePass → Type 0
+StayOpen ps refusal qs = ((out : ℕ) × (0 < out) × (refusal ≡ PassesOut out) × AreTold ps out qs) ⊎ ((refusal ≡ NoMemory) × AreTold ps 0 qs)
+
+-- a die that was closed with this pass: no other pass of it was left, and its log is what the pass then had seen
+pub record IsClosed {N : Type 0} (pass : DiePass) (die : Core N) : Type 0 where
+  pub last : DieView
+  pub grown : HasGrown pass.view last
+  pub plan_is : grown.topic ≡ die.plan
+  pub log_is : die.log ≡ log_of last.seen
+  pub all_joined : last.made ≡ 1 + length last.joined
+
+-- a die whose log is just what the pass has seen, which was its only one
+pub record HasLogOf {N : Type 0} (pass : DiePass) (die : Core N) : Type 0 where
+  pub calls_are : calls_of die.log ≡ pass.view.seen
+  pub about_is : pass.view.about ≡ Some die.plan
+  pub all_joined : (made : ℕ) × (pass.view.made ≤ made) × (made ≡ 1 + length pass.view.joined)

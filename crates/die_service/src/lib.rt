@@ -9,11 +9,13 @@
 #![tactic(auto)]
 
 pub mod book;
+pub mod closing;
 pub mod die;
 pub mod queries;
 pub mod refused;
 pub mod store;
 
+pub use closing::{StillOpen, close};
 pub use die::{Die, DiePass};
 pub use refused::RefusedAt;
 pub use store::Store;

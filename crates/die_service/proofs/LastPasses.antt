@@ -1,0 +1,84 @@
+-- Closing the dies of a store.
+use Rattle.std.proofs.Common.{◌≡◌, ℕ, suc, inl, inr, true, List, [], ◌∷◌, ◌++◌, length, map, take, drop, Some, refl, ap, sym, ◌∙◌, arith}
+use Rattle.std.proofs.lemmas.List.{append-nil}
+use Rattle.std.specs.List.{AllByRecursion, AllZip}
+use Rattle.slot_types.specs.declared.plans.DiePlan.{DiePlan}
+use Rattle.slot_core.specs.Core.{Core}
+use Rattle.die_service.specs.Logs.{log_of}
+use Rattle.die_service.specs.Stores.{DiePass, IsTold, AreTold, HasLogOf, IsClosed}
+use Rattle.die_service.proofs.Lists.{log_of_calls}
+
+-- Passes that were told
+
+pub told_length : (ps : List DiePass) (out : ℕ) (qs : List DiePass) → AreTold ps out qs → length qs ≡ length ps
+told_length [] out [] told = refl
+told_length [] out (q ∷ qs) told = absurd told
+told_length (p ∷ ps) out [] told = absurd told
+told_length (p ∷ ps) out (q ∷ qs) (inl told) = ap suc (told_length ps out qs told.1)
+told_length (p ∷ ps) out (q ∷ qs) (inr told) = ap suc (ap length told.2)
+
+pub told_locks : (ps : List DiePass) (qs : List DiePass) → AreTold ps 0 qs → map (λ (p : DiePass). p.lock) qs ≡ map (λ (p : DiePass). p.lock) ps
+told_locks [] [] told = refl
+told_locks [] (q ∷ qs) told = absurd told
+told_locks (p ∷ ps) [] told = absurd told
+told_locks (p ∷ ps) (q ∷ qs) (inl told) = rw (told.0.0.0, told_locks ps qs told.1) refl
+told_locks (p ∷ ps) (q ∷ qs) (inr told) = absurd (omega (arith, told.0))
+
+pub told_sole : (ps : List DiePass) (qs : List DiePass) → AreTold ps 0 qs → AllByRecursion (λ (p : DiePass). p.view.sole ≡ true) qs
+told_sole [] [] told = tt
+told_sole [] (q ∷ qs) told = absurd told
+told_sole (p ∷ ps) [] told = absurd told
+told_sole (p ∷ ps) (q ∷ qs) (inl told) = (told.0.1.2 refl, told_sole ps qs told.1)
+told_sole (p ∷ ps) (q ∷ qs) (inr told) = absurd (omega (arith, told.0))
+
+-- the slice is the whole of the list
+pub written : {A : Type 0} (n : ℕ) (xs ys : List A) → length ys ≡ length xs → n ≡ length xs → take n (ys ++ drop (length ys) xs) ≡ ys
+written n xs ys same is = rw (is, same, drop_all xs, append-nil ys, sym same) (take_all ys)
+  where
+    drop_all : {A : Type 0} (zs : List A) → drop (length zs) zs ≡ []
+    drop_all [] = refl
+    drop_all (z ∷ zs) = drop_all zs
+
+    take_all : {A : Type 0} (zs : List A) → take (length zs) zs ≡ zs
+    take_all [] = refl
+    take_all (z ∷ zs) = ap (λ rest. z ∷ rest) (take_all zs)
+
+-- Dies that were closed
+
+same_plan : (a b : DiePlan) → Some a ≡ Some b → a ≡ b
+same_plan a b e = cc
+
+module _ {N : Type 0} where
+  closed_after : (p q : DiePass) (die : Core N) → IsTold p 0 q → HasLogOf q die → IsClosed p die
+  closed_after p q die told has = record {
+    last = q.view;
+    grown = told.1.0;
+    plan_is = same_plan told.1.0.topic die.plan (sym told.1.0.about_is ∙ (sym told.0.3 ∙ has.about_is));
+    log_is = sym (log_of_calls die.log) ∙ ap log_of has.calls_are;
+    all_joined = sym told.1.1;
+  }
+
+  pub closed_each : (ps qs : List DiePass) (dies : List (Core N)) → AreTold ps 0 qs → AllZip HasLogOf qs dies → AllZip IsClosed ps dies
+  closed_each [] [] [] told has = tt
+  closed_each [] [] (die ∷ dies) told has = has
+  closed_each [] (q ∷ qs) dies told has = absurd told
+  closed_each (p ∷ ps) [] dies told has = absurd told
+  closed_each (p ∷ ps) (q ∷ qs) [] told has = absurd has
+  closed_each (p ∷ ps) (q ∷ qs) (die ∷ dies) (inl told) has = (closed_after p q die told.0 has.0, closed_each ps qs dies told.1 has.1)
+  closed_each (p ∷ ps) (q ∷ qs) (die ∷ dies) (inr told) has = absurd (omega (arith, told.0))
+
+  pub one_closed : (qs : List DiePass) (dies : List (Core N)) (q : DiePass) (die : Core N) → AllZip HasLogOf qs dies → HasLogOf q die → AllZip HasLogOf (qs ++ q ∷ []) (dies ++ die ∷ [])
+  one_closed [] [] q die has last = (last, tt)
+  one_closed [] (d ∷ dies) q die has last = absurd has
+  one_closed (p ∷ qs) [] q die has last = absurd has
+  one_closed (p ∷ qs) (d ∷ dies) q die has last = (has.0, one_closed qs dies q die has.1 last)
+
+pub next_own : {A : Type 0} {B : Type 0} (f : A → B) (all rest : List A) (dies later : List B) (p : A) (die : B) → map f all ≡ dies → all ≡ p ∷ rest → dies ≡ die ∷ later → map f rest ≡ later
+next_own f all rest dies later p die own at is = tail (f p) die (map f rest) later (sym (ap (map f) at) ∙ (own ∙ is))
+  where
+    tail : {B : Type 0} (x y : B) (xs ys : List B) → x ∷ xs ≡ y ∷ ys → xs ≡ ys
+    tail x y xs ys e = cc
+
+pub as_they_are : {A : Type 0} (xs : List A) → map (λ x. x) xs ≡ xs
+as_they_are [] = refl
+as_they_are (x ∷ xs) = ap (λ rest. x ∷ rest) (as_they_are xs)

@@ -1,0 +1,33 @@
+use Rattle.std.proofs.Common.{◌≡◌, ℕ, true, List, sym, ◌∙◌, subst, rules, arith}
+use Rattle.std.proofs.lemmas.List.Elements.{All-from_recursion}
+use Rattle.std.specs.List.{AllZip}
+use Rattle.die_service.specs.Stores.{DiePass, AreTold, HasLogOf}
+use Rattle.die_service.proofs.LastPasses.{told_length, told_locks, told_sole, written, closed_each}
+use Rattle.die_service.proofs.closing.close.Goals as goal
+
+pub close_each-requires-clause-own : goal.close_each-requires-clause-own
+close_each-requires-clause-own g c =
+    let ps = c.args.passes.items in
+    let qs = c.first_out-out.new.passes in
+    let zero : c.first_out-out.result ≡ 0 = omega (arith, c.if-out-gt0.false) in
+    let told : AreTold ps 0 qs = subst (λ (n : ℕ). AreTold ps n qs) zero (subst (λ (xs : List DiePass). AreTold xs c.first_out-out.result qs) c.as_mut_slice.ensures.value c.first_out-out.ensures.told) in
+    let whole = written c.args.passes.len ps qs (told_length ps 0 qs told) (search rules) in
+    rw whole (told_locks ps qs told ∙ (c.requires.own ∙ sym c.store.view_is))
+
+pub close_each-requires-clause-sole : goal.close_each-requires-clause-sole
+close_each-requires-clause-sole g c =
+    let ps = c.args.passes.items in
+    let qs = c.first_out-out.new.passes in
+    let zero : c.first_out-out.result ≡ 0 = omega (arith, c.if-out-gt0.false) in
+    let told : AreTold ps 0 qs = subst (λ (n : ℕ). AreTold ps n qs) zero (subst (λ (xs : List DiePass). AreTold xs c.first_out-out.result qs) c.as_mut_slice.ensures.value c.first_out-out.ensures.told) in
+    let whole = written c.args.passes.len ps qs (told_length ps 0 qs told) (search rules) in
+    All-from_recursion (λ (p : DiePass). p.view.sole ≡ true) _ (rw whole (told_sole ps qs told))
+
+pub returns-clause-closed : goal.returns-clause-closed
+returns-clause-closed g c =
+    let ps = c.args.passes.items in
+    let qs = c.first_out-out.new.passes in
+    let zero : c.first_out-out.result ≡ 0 = omega (arith, c.if-out-gt0.false) in
+    let told : AreTold ps 0 qs = subst (λ (n : ℕ). AreTold ps n qs) zero (subst (λ (xs : List DiePass). AreTold xs c.first_out-out.result qs) c.as_mut_slice.ensures.value c.first_out-out.ensures.told) in
+    let whole = written c.args.passes.len ps qs (told_length ps 0 qs told) (search rules) in
+    closed_each ps qs c.close_each.result.items told (subst (λ (xs : List DiePass). AllZip HasLogOf xs c.close_each.result.items) whole c.close_each.ensures)
