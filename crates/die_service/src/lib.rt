@@ -19,3 +19,6 @@ pub use closing::{StillOpen, close};
 pub use die::{Die, DiePass};
 pub use refused::RefusedAt;
 pub use store::Store;
+
+#[cfg(test)]
+mod tests;
