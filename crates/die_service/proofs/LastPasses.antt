@@ -17,12 +17,12 @@ told_length (p ∷ ps) out [] told = absurd told
 told_length (p ∷ ps) out (q ∷ qs) (inl told) = ap suc (told_length ps out qs told.1)
 told_length (p ∷ ps) out (q ∷ qs) (inr told) = ap suc (ap length told.2)
 
-pub told_locks : (ps : List DiePass) (qs : List DiePass) → AreTold ps 0 qs → map (λ (p : DiePass). p.lock) qs ≡ map (λ (p : DiePass). p.lock) ps
-told_locks [] [] told = refl
-told_locks [] (q ∷ qs) told = absurd told
-told_locks (p ∷ ps) [] told = absurd told
-told_locks (p ∷ ps) (q ∷ qs) (inl told) = rw (told.0.0.0, told_locks ps qs told.1) refl
-told_locks (p ∷ ps) (q ∷ qs) (inr told) = absurd (omega (arith, told.0))
+pub told_locks : (ps : List DiePass) (out : ℕ) (qs : List DiePass) → AreTold ps out qs → map (λ (p : DiePass). p.lock) qs ≡ map (λ (p : DiePass). p.lock) ps
+told_locks [] out [] told = refl
+told_locks [] out (q ∷ qs) told = absurd told
+told_locks (p ∷ ps) out [] told = absurd told
+told_locks (p ∷ ps) out (q ∷ qs) (inl told) = rw (told.0.0.0, told_locks ps out qs told.1) refl
+told_locks (p ∷ ps) out (q ∷ qs) (inr told) = rw (told.1.0.0, told.2) refl
 
 pub told_sole : (ps : List DiePass) (qs : List DiePass) → AreTold ps 0 qs → AllByRecursion (λ (p : DiePass). p.view.sole ≡ true) qs
 told_sole [] [] told = tt

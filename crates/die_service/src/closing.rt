@@ -79,6 +79,7 @@ pub fn close<N: Nand, R: Wait>(
     ensures closed { IfOk result (λ dies. AllZip IsClosed passes.items dies.items) }
     ensures refused { IfErr result (λ kept. StayOpen passes.items kept.refusal kept.passes.items) }
     ensures back { IfErr result (λ kept. kept.store ≡ store) }
+    ensures own { IfErr result (λ kept. map (λ pass. pass.lock) kept.passes.items ≡ kept.store) }
 {
     let mut passes = passes;
     let out = first_out(rt, store.dies.as_slice(), passes.as_mut_slice());

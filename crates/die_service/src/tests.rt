@@ -284,3 +284,57 @@ fn a_fault_stops_one_die_alone(rt: HostRuntime) -> Result<(), Fail> {
     assert!(rt; store.die(2).is_err());
     Ok(())
 }
+
+// Submits reads and carries out slots, and says whether each refusal was for want of memory and made no entry.
+fn grows_or_stays<N: Nand, R: Wait>(
+    rt: &R,
+    alloc: Global,
+    die: &Die<N>,
+    pass: &mut DiePass<N>,
+) -> bool
+    requires { pass.old.lock ≡ die.now }
+    ensures { pass.new.lock ≡ pass.old.lock }
+{
+    let mut entries = 0u64;
+    let mut right = true;
+    for _ in 0..8u32 {
+        match submit(rt, alloc, die, pass, 99, 199, Op::Read(0)) {
+            Ok(_) => entries = entries.saturating_add(1),
+            Err(refusal) => right = right && refusal == Refusal::NoMemory,
+        }
+        match carry(rt, die, pass) {
+            Ok(_) => entries = entries.saturating_add(1),
+            Err(refused) => right = right && refused.refusal == Refusal::NoMemory,
+        }
+        right = right && die.look(pass) == entries;
+    }
+    right && entries >= 15
+}
+
+// Run it with each allocation made to fail in turn: a refused growth is told, and leaves the store as it was.
+#[test]
+fn a_refused_growth_changes_nothing(rt: HostRuntime) {
+    let alloc = rt.alloc();
+    let Ok((store, passes)) = one_die(alloc) else {
+        assert!(rt; one_die(alloc).is_ok());
+        return;
+    };
+    let Some(mut pass) = only_pass(&store, passes) else {
+        panic!(rt; "another number of passes")
+    };
+    let Ok(die) = store.die(0) else {
+        panic!(rt; "no die")
+    };
+    assert!(rt; grows_or_stays(&rt, alloc, die, &mut pass));
+    let Ok(mut passes) = Vec::with_capacity(alloc, 1) else {
+        return;
+    };
+    passes.push_reserved(pass);
+    match close(&rt, store, passes) {
+        Ok(dies) => assert_eq!(rt; dies.len(), 1),
+        Err(kept) => {
+            assert_eq!(rt; kept.refusal, Refusal::NoMemory);
+            assert!(rt; close(&rt, kept.store, kept.passes).is_ok());
+        }
+    }
+}

@@ -12,7 +12,7 @@ close_each-requires-clause-own g c =
     let zero : c.first_out-out.result ≡ 0 = omega (arith, c.if-out-gt0.false) in
     let told : AreTold ps 0 qs = subst (λ (n : ℕ). AreTold ps n qs) zero (subst (λ (xs : List DiePass). AreTold xs c.first_out-out.result qs) c.as_mut_slice.ensures.value c.first_out-out.ensures.told) in
     let whole = written c.args.passes.len ps qs (told_length ps 0 qs told) (search rules) in
-    rw whole (told_locks ps qs told ∙ (c.requires.own ∙ sym c.store.view_is))
+    rw whole (told_locks ps 0 qs told ∙ (c.requires.own ∙ sym c.store.view_is))
 
 pub close_each-requires-clause-sole : goal.close_each-requires-clause-sole
 close_each-requires-clause-sole g c =
@@ -31,3 +31,21 @@ returns-clause-closed g c =
     let told : AreTold ps 0 qs = subst (λ (n : ℕ). AreTold ps n qs) zero (subst (λ (xs : List DiePass). AreTold xs c.first_out-out.result qs) c.as_mut_slice.ensures.value c.first_out-out.ensures.told) in
     let whole = written c.args.passes.len ps qs (told_length ps 0 qs told) (search rules) in
     closed_each ps qs c.close_each.result.items told (subst (λ (xs : List DiePass). AllZip HasLogOf xs c.close_each.result.items) whole c.close_each.ensures)
+
+pub returns-then-out-gt0-clause-own : goal.returns-then-out-gt0-clause-own
+returns-then-out-gt0-clause-own g c =
+    let ps = c.args.passes.items in
+    let qs = c.first_out-out.new.passes in
+    let out = c.first_out-out.result in
+    let told : AreTold ps out qs = subst (λ (xs : List DiePass). AreTold xs out qs) c.as_mut_slice.ensures.value c.first_out-out.ensures.told in
+    let whole = written c.args.passes.len ps qs (told_length ps out qs told) (search rules) in
+    rw whole (told_locks ps out qs told ∙ c.requires.own)
+
+pub returns-in-Err-clause-own : goal.returns-in-Err-clause-own
+returns-in-Err-clause-own g c =
+    let ps = c.args.passes.items in
+    let qs = c.first_out-out.new.passes in
+    let out = c.first_out-out.result in
+    let told : AreTold ps out qs = subst (λ (xs : List DiePass). AreTold xs out qs) c.as_mut_slice.ensures.value c.first_out-out.ensures.told in
+    let whole = written c.args.passes.len ps qs (told_length ps out qs told) (search rules) in
+    rw whole (told_locks ps out qs told ∙ c.requires.own)
