@@ -1,6 +1,8 @@
-//! Worked rows: what a die of 8 blocks answers.
+//! Worked rows: what a die answers.
 
+mod collections;
 mod dies;
 mod ends;
+mod histories;
 mod jobs;
 mod refusals;

@@ -18,11 +18,15 @@ pub(crate) const ONES: PageData = PageData([0x11; 16]);
 pub(crate) const NONE: u32 = u32::MAX;
 
 fn plan(alloc: Global) -> Result<DiePlan, Refusal> {
+    plan_of(alloc, SHAPE, 12)
+}
+
+pub(crate) fn plan_of(alloc: Global, shape: Shape, logical: u32) -> Result<DiePlan, Refusal> {
     let mut caps = Caps::new(alloc);
     caps.push(4)?;
     Ok(DiePlan {
-        shape: SHAPE,
-        logical: 12,
+        shape,
+        logical,
         alpha: 2,
         caps,
     })
@@ -117,7 +121,7 @@ pub(crate) fn slot_refuses<N: Nand>(die: &mut DieCore<N>, alloc: Global, wanted:
     }
 }
 
-fn is_end(outcome: &Outcome, end: u32, late: i64, gave: &[PageData]) -> bool {
+fn is_end(outcome: &Outcome, end: u32, late: i64, gift: u32, gave: &[PageData]) -> bool {
     match outcome {
         Outcome::Done {
             completion,
@@ -126,7 +130,7 @@ fn is_end(outcome: &Outcome, end: u32, late: i64, gave: &[PageData]) -> bool {
             reads,
         } => (*completion == end)
             & (*lateness == late)
-            & (*given == 0)
+            & (*given == gift)
             & (reads.as_slice() == gave),
         _ => false,
     }
@@ -142,7 +146,22 @@ pub(crate) fn is_done<N: Nand>(
     gave: &[PageData],
 ) -> bool {
     match die.outcome(alloc, JobNo(number)) {
-        Ok(outcome) => is_end(&outcome, end, late, gave),
+        Ok(outcome) => is_end(&outcome, end, late, 0, gave),
+        Err(_) => false,
+    }
+}
+
+/// Whether a collection is done with this completion and this lateness, and gave its task so many pages.
+pub(crate) fn is_collected<N: Nand>(
+    die: &DieCore<N>,
+    alloc: Global,
+    number: u32,
+    end: u32,
+    late: i64,
+    given: u32,
+) -> bool {
+    match die.outcome(alloc, JobNo(number)) {
+        Ok(outcome) => is_end(&outcome, end, late, given, &[]),
         Err(_) => false,
     }
 }

@@ -3,7 +3,7 @@
 use crate::DieCore;
 use crate::tests::dies::{ONES, die, is_unknown, refuses, submit, submit_of};
 use flash_die::MemoryNand;
-use slot_types::{Op, Refusal};
+use slot_types::{Op, Refusal, TaskNo};
 use std::alloc::Global;
 use std::test::Fail;
 
@@ -92,6 +92,10 @@ fn no_job_is_accepted_behind_65536(rt: HostRuntime) -> Result<(), Fail> {
         &[Op::Read(0)],
         Refusal::JobsFull,
     );
-    assert!(rt; full & (die.len() == 65536));
+    let collect = matches!(
+        die.collect(alloc, 0, TaskNo(0), 0, 1048576),
+        Err(Refusal::JobsFull)
+    );
+    assert!(rt; full & collect & (die.len() == 65536));
     Ok(())
 }

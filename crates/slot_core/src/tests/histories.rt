@@ -1,0 +1,131 @@
+//! Random histories of a die with as many logical pages as its bound allows, on which a collection copies as a rule: each read gives the page's last finished write.
+
+use crate::DieCore;
+use crate::tests::collections::holds;
+use crate::tests::dies::{plan_of, submit_of};
+use flash_die::MemoryNand;
+use slot_types::{Act, Op, PageData, Refusal, Shape, TaskNo};
+use std::alloc::Global;
+use std::test::Fail;
+
+const CONTENTS: [PageData; 4] = [
+    PageData([1; 16]),
+    PageData([2; 16]),
+    PageData([3; 16]),
+    PageData([4; 16]),
+];
+
+const SHAPE: Shape = Shape {
+    blocks: 8,
+    pages: 4,
+    erase_slots: 3,
+};
+
+/// How many logical pages the die has: as many as its plan's bound allows.
+const PAGES: usize = 17;
+
+/// How many slots a history has.
+const SLOTS: u32 = 3000;
+
+/// What a history came to.
+#[derive(Drop)]
+struct Played {
+    /// Whether each read gave the page's last finished write.
+    agrees: bool,
+    writes: u32,
+    copies: u32,
+    erases: u32,
+}
+
+/// What comes after a number in a fixed order that looks random.
+fn next(dice: u32) -> u32 {
+    dice.wrapping_mul(1664525).wrapping_add(1013904223)
+}
+
+/// One arrival, which may be refused: a write, a read or a collection.
+fn arrive(die: &mut DieCore<MemoryNand>, alloc: Global, dice: u32, now: u32) -> bool {
+    let page = dice / 65536 % 17;
+    let bytes = CONTENTS[(dice / 2097152 % 4) as usize];
+    match dice / 16777216 % 8 {
+        0..=3 => submit_of(
+            die,
+            alloc,
+            0,
+            now,
+            now.wrapping_add(12),
+            &[Op::Write(page, bytes)],
+        )
+        .is_ok(),
+        4 => submit_of(die, alloc, 0, now, now.wrapping_add(8), &[Op::Read(page)]).is_ok(),
+        _ => die
+            .collect(alloc, 0, TaskNo(0), now, now.wrapping_add(16))
+            .is_ok(),
+    }
+}
+
+/// Notes an act, and whether what it read agrees with what was written last.
+fn note(played: &mut Played, pages: &mut [PageData; PAGES], act: Act) {
+    match act {
+        Act::Read { page, bytes } => match pages.get(page as usize) {
+            Some(content) => played.agrees &= *content == bytes,
+            None => played.agrees = false,
+        },
+        Act::Write { page, bytes } => {
+            played.writes = played.writes.wrapping_add(1);
+            match pages.get_mut(page as usize) {
+                Some(content) => *content = bytes,
+                None => played.agrees = false,
+            }
+        }
+        Act::CopyRead { .. } => {}
+        Act::CopyProgram { .. } => played.copies = played.copies.wrapping_add(1),
+        Act::Erase { .. } => played.erases = played.erases.wrapping_add(1),
+    }
+}
+
+/// Plays a history from this seed, an arrival and a slot at a time.
+fn play(alloc: Global, seed: u32) -> Result<Played, Refusal> {
+    let nand = MemoryNand::new(alloc, SHAPE)?;
+    let mut die = DieCore::new(alloc, plan_of(alloc, SHAPE, 17)?, nand)?;
+    let mut pages = [PageData([0xFF; 16]); PAGES];
+    let mut played = Played {
+        agrees: true,
+        writes: 0,
+        copies: 0,
+        erases: 0,
+    };
+    let mut dice = seed;
+    for now in 0..SLOTS {
+        dice = next(dice);
+        let _ = arrive(&mut die, alloc, dice, now);
+        match die.slot(alloc, 0)?.ran {
+            Some((_, act)) => note(&mut played, &mut pages, act),
+            None => {}
+        }
+    }
+    played.agrees &= holds(&die, alloc);
+    Ok(played)
+}
+
+/// Whether a history agrees, and copied more than one page for each two collections.
+fn agrees(alloc: Global, seed: u32) -> Result<bool, Refusal> {
+    let played = play(alloc, seed)?;
+    let collections = played.erases / 3;
+    Ok(
+        played.agrees
+            & (played.writes > 300)
+            & (collections > 100)
+            & (played.copies > collections / 2),
+    )
+}
+
+#[test]
+fn random_histories_read_what_was_written(rt: HostRuntime) -> Result<(), Fail> {
+    let alloc = rt.alloc();
+    let mut all = true;
+    for seed in [7, 1974, 1973, 20040801] {
+        all &= agrees(alloc, seed)?;
+    }
+    assert!(rt; all);
+    Ok(())
+}
