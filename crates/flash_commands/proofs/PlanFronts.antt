@@ -75,3 +75,11 @@ meets-bound plan store is = subst (λ s. All MeetsBound s) (sym is.dies) (λ k d
 pub store-meets-bound : (P : PlanNumbers → Type 0) (r : Result (List DiePlan) Refusal) → IfOk r (λ store. (plan : PlanNumbers) × P plan × IsStore plan store) → IfOk r AllMeetBound
 store-meets-bound P (Ok store) h = meets-bound h.0 store h.2
 store-meets-bound P (Err e) h = tt
+
+few-dies : (plan : PlanNumbers) (store : List DiePlan) → IsStore plan store → length store ≤ 8
+few-dies plan store is = omega (arith, ap length is.dies, length-map-range_with_len (die_of plan) 0 plan.top.dies, is.shaped.few_dies)
+
+-- and there are at most eight
+pub store-few : (P : PlanNumbers → Type 0) (r : Result (List DiePlan) Refusal) → IfOk r (λ store. (plan : PlanNumbers) × P plan × IsStore plan store) → IfOk r (λ store. length store ≤ 8)
+store-few P (Ok store) h = few-dies h.0 store h.2
+store-few P (Err e) h = tt

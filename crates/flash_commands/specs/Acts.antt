@@ -1,5 +1,5 @@
 -- What a command prints, and its status.
-use Rattle.std.specs.Prelude.{◌≡◌, ⊤, ℕ, List, Option, IfSome, Ok, Err, ◌⊎◌}
+use Rattle.std.specs.Prelude.{◌≡◌, ⊤, ℕ, List, Option, Some, IfSome, Ok, Err, ◌⊎◌}
 use Rattle.std.specs.Io.KnownBytes.{Appends}
 use Rattle.slot_types.specs.declared.plans.DiePlan.{DiePlan}
 use Rattle.slot_types.specs.declared.refusals.Refusal.{Refusal}
@@ -12,6 +12,9 @@ use Rattle.task_script.specs.declared.plan_texts.PlanNumbers.{PlanNumbers}
 use Rattle.task_script.specs.declared.reports.DieReport.{DieReport}
 use Rattle.flash_commands.specs.Audit.{audit_status, audit_text}
 use Rattle.flash_commands.specs.Figures.{plan_text}
+use Rattle.task_script.specs.TextRuns.{RefusesText, RunsText}
+use Rattle.task_script.specs.declared.run_counts.RunCount.{RunCount}
+use Rattle.flash_commands.specs.declared.built_in.TheConstants.{PLAN, SCRIPT, SLOTS}
 use Rattle.flash_commands.specs.declared.commands.Command.{Command}
 use Rattle.flash_commands.specs.declared.commands.Command.TheVariants as command
 
@@ -43,9 +46,20 @@ PrintsAudit text old new status = (report : List DieReport) × IsReportOf text r
 abbrev pub PrintsFigures : Option (List ℕ) → Option (List ℕ) → Option (List ℕ) → Type 0
 PrintsFigures text old new = (store : List DiePlan) × IsStoreOf text store × Appends old new (plan_text store)
 
+-- the report of a run is printed: of the script that was read, on the store of the plan that was read
+pub record PrintsRun (plan script : Option (List ℕ)) (slots : ℕ) (old new : Option (List ℕ)) : Type 0 where
+  pub store : List DiePlan
+  pub planned : IsStoreOf plan store
+  pub count : RunCount
+  pub ran : RunsText script store slots count old new
+
+-- why nothing is run
+abbrev pub RefusesRun : Option (List ℕ) → Option (List ℕ) → ℕ → Refusal → Type 0
+RefusesRun plan script slots refusal = RefusesFigures plan refusal ⊎ ((dies : ℕ) × RefusesText script dies slots refusal)
+
 -- a command printed what it is to print of what it read, and this is its status
-abbrev pub Prints : Command → Option (List ℕ) → Option (List ℕ) → Option (List ℕ) → ℕ → Type 0
-Prints (command.Audit report) first old new status = PrintsAudit first old new status
-Prints (command.Plan plan) first old new status = PrintsFigures first old new × (status ≡ 0)
-Prints command.Alone first old new status = status ≡ 2
-Prints (command.Run plan script slots workers) first old new status = status ≡ 2
+abbrev pub Prints : Command → Option (List ℕ) → Option (List ℕ) → Option (List ℕ) → Option (List ℕ) → ℕ → Type 0
+Prints (command.Audit report) first second old new status = PrintsAudit first old new status
+Prints (command.Plan plan) first second old new status = PrintsFigures first old new × (status ≡ 0)
+Prints (command.Run plan script slots) first second old new status = PrintsRun first second slots old new × (status ≡ 0)
+Prints command.Alone first second old new status = PrintsRun (Some PLAN.now) (Some SCRIPT.now) SLOTS old new × (status ≡ 0)

@@ -1,19 +1,21 @@
 //! Commands that are carried out.
 
-ghost use Rattle.std.specs.Prelude.{◌≡◌, ◌⊎◌, IfOk, IfErr, OnOk, if◌then◌else◌};
+ghost use Rattle.std.specs.Prelude.{◌≡◌, ◌≤◌, ◌⊎◌, IfOk, IfErr, OnOk, if◌then◌else◌};
 ghost use Rattle.std.specs.Io.KnownBytes.{Appends};
-ghost use Rattle.flash_commands.specs.Acts.{Prints, PrintsAudit, PrintsFigures, RefusesAudit, RefusesFigures};
+ghost use Rattle.flash_commands.specs.Acts.{Prints, PrintsAudit, PrintsFigures, PrintsRun, RefusesAudit, RefusesFigures, RefusesRun};
+ghost use Rattle.flash_commands.specs.Commands.{FitsSlots};
 ghost use Rattle.flash_commands.specs.Faults.{outcome_status};
 
 use crate::audits::audit_report;
+use crate::built_in;
 use crate::commands::Command;
 use crate::faults::{Fault, end};
 use crate::figures::figures_text;
 use crate::plans::store_in;
-use slot_types::Refusal;
+use slot_types::{MAX_SLOT, Refusal};
 use std::alloc::Global;
 use std::io::{Read, Write};
-use task_script::read_report;
+use task_script::{RunCount, read_report, run_text};
 
 /// Writes a text that is whole.
 fn put<W: Write>(out: &mut W, text: &[u8]) -> Result<(), Refusal>
@@ -57,6 +59,47 @@ fn print_audit<R: Read + Drop, W: Write>(
     Ok(audit.refused)
 }
 
+/// Runs a script on the store of a plan, and prints its report.
+fn print_run<R: Read + Drop, S: Read + Drop, W: Write>(
+    alloc: Global,
+    first: R,
+    second: S,
+    slots: u32,
+    out: &mut W,
+) -> Result<RunCount, Refusal>
+    requires { slots ≤ MAX_SLOT }
+    ensures printed { OnOk result (PrintsRun (R.remaining first) (S.remaining second) slots (W.contents out.old) (W.contents out.new)) }
+    ensures refused { IfErr result (RefusesRun (R.remaining first) (S.remaining second) slots) }
+{
+    let store = store_in(alloc, first)?;
+    run_text(alloc, &store, second, out, slots)
+}
+
+/// Tells how many rows were refused, and the first of them, if there is one. A writer that fails is passed over.
+fn tell_refused<E: Write>(err: &mut E, count: &RunCount) {
+    if let Some((line, number)) = count.first {
+        let refused = count.refused;
+        let _ = writeln!(err, "refused {refused} first line {line} with {number}");
+    }
+}
+
+/// Runs a script on the store of a plan, or says why not.
+fn run<R: Read + Drop, S: Read + Drop, W: Write, E: Write>(
+    alloc: Global,
+    first: R,
+    second: S,
+    slots: u32,
+    out: &mut W,
+    err: &mut E,
+) -> Result<(), Fault>
+    requires { slots ≤ MAX_SLOT }
+    ensures printed { (outcome_status result ≡ 1) ⊎ (PrintsRun (R.remaining first) (S.remaining second) slots (W.contents out.old) (W.contents out.new) × (outcome_status result ≡ 0)) }
+{
+    let count = print_run(alloc, first, second, slots, out)?;
+    tell_refused(err, &count);
+    Ok(())
+}
+
 /// Shows the figures of a plan, or says why not.
 fn figures<R: Read + Drop, W: Write>(alloc: Global, first: R, out: &mut W) -> Result<(), Fault>
     ensures printed { (outcome_status result ≡ 1) ⊎ (PrintsFigures (R.remaining first) (W.contents out.old) (W.contents out.new) × (outcome_status result ≡ 0)) }
@@ -78,7 +121,8 @@ fn audit<R: Read + Drop, W: Write>(alloc: Global, first: R, out: &mut W) -> Resu
 /// Carries a command out, with `first` in place of the file of the plan or of the report, and `second` in place of
 /// that of the script, which no other command than `run` reads. Answers the status.
 ///
-/// `audit` prints for each die of the report the lateness and the job of its certificate, and whether it holds, as
+/// `run` runs the script on the store of the plan, and prints the report of what became of it. Where rows were refused,
+/// `err` gets a line, as `refused 1 first line 6 with 6`. Without words the plan and the script are built in. `audit` prints for each die of the report the lateness and the job of its certificate, and whether it holds, as
 /// `die 0 worst -1 job 0 holds` or `die 0 worst 0 job 1 refused 5 EarlyRelease`, or that it has none, as
 /// `die 0 no lateness`; the status is 3 where some certificate is refused. `plan` prints for each die the figures of
 /// its plan, as `die 0 fmax 7 closed 6 live 18 logical 12 accepted`; no more of the plan is read than 1,048,577 bytes.
@@ -93,11 +137,20 @@ pub fn act<R: Read + Drop, S: Read + Drop, W: Write, E: Write>(
     out: &mut W,
     err: &mut E,
 ) -> u8
-    ensures { (result ≡ 1) ⊎ Prints command.entry (R.remaining first) (W.contents out.old) (W.contents out.new) result }
+    requires { FitsSlots command }
+    ensures { (result ≡ 1) ⊎ Prints command.entry (R.remaining first) (S.remaining second) (W.contents out.old) (W.contents out.new) result }
 {
     match command {
+        Command::Alone => {
+            let (plan, script) = (built_in::PLAN.as_bytes(), built_in::SCRIPT.as_bytes());
+            let done = run(alloc, plan, script, built_in::SLOTS, out, err);
+            end(err, done)
+        }
+        Command::Run { slots, .. } => {
+            let done = run(alloc, first, second, slots, out, err);
+            end(err, done)
+        }
         Command::Audit { .. } => end(err, audit(alloc, first, out)),
         Command::Plan { .. } => end(err, figures(alloc, first, out)),
-        Command::Alone | Command::Run { .. } => 2,
     }
 }

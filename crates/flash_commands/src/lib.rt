@@ -1,10 +1,9 @@
-//! The commands of the program: what its words mean, and what an audit of a report and the figures of a plan print.
-//!
-//! The program takes no words yet: this crate is what it will stand on once it runs plans and scripts.
+//! The commands of the program: what its words mean, and what each of them prints.
 #![tactic(auto)]
 
 pub mod acts;
 pub mod audits;
+pub mod built_in;
 pub mod commands;
 pub mod faults;
 pub mod figures;

@@ -1,6 +1,6 @@
 //! Plans that are read.
 
-ghost use Rattle.std.specs.Prelude.{◌≡◌, IfOk, IfErr, IfSome, take};
+ghost use Rattle.std.specs.Prelude.{◌≡◌, ◌≤◌, IfOk, IfErr, IfSome, length, take};
 ghost use Rattle.task_script.specs.Readings.{IsOutside};
 ghost use Rattle.flash_commands.specs.Acts.{IsStoreOf, RefusesFigures};
 ghost use Rattle.flash_commands.specs.Figures.{AllMeetBound};
@@ -29,6 +29,7 @@ fn plan_bytes<R: Read + Drop>(alloc: Global, reader: R) -> Result<Vec<u8>, Refus
 /// The store of the plan that a reader gives.
 pub fn store_in<R: Read + Drop>(alloc: Global, reader: R) -> Result<StorePlan, Refusal>
     ensures store { IfOk result (IsStoreOf (R.remaining reader)) }
+    ensures few { IfOk result (λ store. length store ≤ 8) }
     ensures bound { IfOk result AllMeetBound }
     ensures refused { IfErr result (RefusesFigures (R.remaining reader)) }
 {

@@ -2,7 +2,7 @@
 
 ghost use Rattle.std.specs.Prelude.{◌≡◌, false, codes, IfOk};
 ghost use Rattle.clap.specs.Words.{app_of, new_app, rule_of, with_subcommand};
-ghost use Rattle.flash_commands.specs.Syntax.{audit_app, files_app, flashrec_app, has_globals, needed, plan_app, run_app, slots_rule, workers_rule};
+ghost use Rattle.flash_commands.specs.Syntax.{audit_app, files_app, flashrec_app, has_globals, needed, plan_app, run_app, slots_rule};
 
 use clap::{Arg, Command};
 use std::alloc::{AllocError, Global};
@@ -17,18 +17,6 @@ fn slots<'a>(alloc: Global) -> Arg<'a>
         .value_name("N")
         .required(true)
         .help("How many slots each die runs, from 0 to 1048576")
-}
-
-/// How many workers run the dies.
-fn workers<'a>(alloc: Global) -> Arg<'a>
-    ensures rule { rule_of result ≡ workers_rule }
-    ensures local { result.global ≡ false }
-{
-    Arg::new(alloc, "workers")
-        .long("workers")
-        .value_name("W")
-        .default_value("1")
-        .help("How many workers run the dies, from 1 to 16")
 }
 
 /// The file that has the plan.
@@ -51,7 +39,7 @@ fn run_files<'a>(alloc: Global) -> Result<Command<'a>, AllocError>
         .help("The jobs and collections that the dies get, a CSV file");
     Command::new(alloc, "run")
         .about("Run a script on a store, and print its report")
-        .after_help("Example: flashrec run plan.toml script.csv --slots 1000 --workers 4")
+        .after_help("Example: flashrec run plan.toml script.csv --slots 1000")
         .arg(plan_file(alloc))?
         .arg(script)
 }
@@ -61,8 +49,7 @@ fn run_words<'a>(alloc: Global) -> Result<Command<'a>, AllocError>
     ensures app { IfOk result (λ c. app_of c ≡ run_app) }
     ensures local { IfOk result (λ c. has_globals c ≡ false) }
 {
-    let files = run_files(alloc)?;
-    files.arg(slots(alloc))?.arg(workers(alloc))
+    run_files(alloc)?.arg(slots(alloc))
 }
 
 /// The command `audit`.

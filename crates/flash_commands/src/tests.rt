@@ -2,7 +2,10 @@
 
 mod acting;
 mod failing;
+mod running;
 mod words;
+
+ghost use Rattle.flash_commands.specs.Commands.{FitsSlots};
 
 use crate::acts::act;
 use crate::commands::Command;
@@ -51,7 +54,9 @@ impl Printed {
 }
 
 /// What a command prints of a text.
-fn acted(alloc: Global, command: Command<'_>, text: &[u8]) -> Printed {
+fn acted(alloc: Global, command: Command<'_>, text: &[u8]) -> Printed
+    requires { FitsSlots command }
+{
     let (mut out, mut err) = (Vec::new(alloc), Vec::new(alloc));
     let status = act(alloc, command, text, io::empty(), &mut out, &mut err);
     Printed { out, err, status }

@@ -1,5 +1,7 @@
 //! Readers and writers that fail, and texts without an end.
 
+ghost use Rattle.flash_commands.specs.Commands.{FitsSlots};
+
 use super::{AUDIT, PLAN, PLAN_COMMAND, REPORT};
 use crate::acts::act;
 use crate::commands::Command;
@@ -61,7 +63,9 @@ impl Read for Endless {
 
 /// Whether a command whose reader fails at the call of a number ends as it should: with 21 and nothing printed.
 /// None where the reader was not called as often.
-fn fails_at(alloc: Global, command: Command<'_>, text: &str, calls: usize) -> Option<bool> {
+fn fails_at(alloc: Global, command: Command<'_>, text: &str, calls: usize) -> Option<bool>
+    requires { FitsSlots command }
+{
     let (mut out, mut err) = (Vec::new(alloc), Vec::new(alloc));
     let first = FailingReader {
         text: text.as_bytes(),

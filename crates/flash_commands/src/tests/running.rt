@@ -1,0 +1,77 @@
+//! What a run prints.
+
+use super::{PLAN, Printed, REPORT, acted};
+use crate::acts::act;
+use crate::built_in;
+use crate::commands::Command;
+use std::alloc::Global;
+use std::test::Fail;
+
+/// A script for two dies and five slots, of which [`REPORT`] is the report.
+const SCRIPT: &str = "at,die,task,kind,release,due,ops
+0,0,0,job,2,5,R0 R1
+0,0,0,job,0,5,R2 R3 R4
+0,1,0,job,0,2,W3=0102030405060708090A0B0C0D0E0F10
+0,1,0,collect,1,4,
+1,1,0,job,1,9,R3
+";
+
+/// The report of the run without words.
+const FIRST_REPORT: &str = "row,die,job,task,release,due,work,completion,lateness,given,items
+job,0,0,0,0,2,1,1,-1,,
+job,0,1,0,1,3,1,2,-1,,11111111111111111111111111111111
+cert,0,0,,0,2,,1,-1,,0
+";
+
+/// What a run of a script prints, for five slots.
+fn ran(alloc: Global, plan: &[u8], script: &[u8]) -> Printed {
+    let command = Command::Run {
+        plan: "plan.toml",
+        script: "script.csv",
+        slots: 5,
+    };
+    let (mut out, mut err) = (Vec::new(alloc), Vec::new(alloc));
+    let status = act(alloc, command, plan, script, &mut out, &mut err);
+    Printed { out, err, status }
+}
+
+#[test]
+fn without_words_the_built_in_run_is_printed(rt: HostRuntime) {
+    assert!(rt; acted(rt.alloc(), Command::Alone, b"".as_slice()).is(FIRST_REPORT, "", 0));
+}
+
+#[test]
+fn the_report_of_two_dies_is_printed(rt: HostRuntime) -> Result<(), Fail> {
+    let alloc = rt.alloc();
+    let two = PLAN.replace(alloc, "dies = 1", "dies = 2")?;
+    let two = format!(in alloc; "{two}\n[[task]]\ndie = 1\ncap = 4\n")?;
+    assert!(rt; ran(alloc, two.as_bytes(), SCRIPT.as_bytes()).is(REPORT, "", 0));
+    Ok(())
+}
+
+#[test]
+fn refused_rows_are_told_and_the_status_stays(rt: HostRuntime) {
+    let script = "at,die,task,kind,release,due,ops\n0,0,0,job,0,2,\n0,0,1,job,0,2,R0\n";
+    let header = "row,die,job,task,release,due,work,completion,lateness,given,items\n";
+    let printed = ran(rt.alloc(), PLAN.as_bytes(), script.as_bytes());
+    assert!(rt; printed.is(header, "refused 2 first line 2 with 6\n", 0));
+}
+
+#[test]
+fn a_script_at_fault_is_told_in_a_line(rt: HostRuntime) -> Result<(), Fail> {
+    let alloc = rt.alloc();
+    for (old, new, line) in [
+        ("1,3,R3", "1,3,R", "error 19 ScriptRow 3 Ops\n"),
+        ("1,3,R3", "1,3", "error 19 ScriptRow 3 Fields\n"),
+        ("1,0,0,job", "1,1,0,job", "error 19 ScriptRow 3 Die\n"),
+        ("1,0,0,job", "6,0,0,job", "error 19 ScriptRow 3 At\n"),
+        ("at,die", "die,at", "error 19 ScriptRow 1 Header\n"),
+    ] {
+        let script = built_in::SCRIPT.replace(alloc, old, new)?;
+        assert!(rt;
+            ran(alloc, PLAN.as_bytes(), script.as_bytes()).is("", line, 1),
+            "{line}"
+        );
+    }
+    Ok(())
+}
