@@ -1,38 +1,51 @@
-//! Runs a die that is built in, and prints its report.
+//! The program `flashrec`.
 #![tactic(auto)]
 
-mod first_run;
-mod samples;
-#[cfg(test)]
-mod tests;
+ghost use Rattle.flash_commands.specs.Commands.{FitsSlots};
 
-use first_run::run_items;
-use samples::{sample_items, sample_plan};
+use flash_commands::{Command, Fault, act, end, read_words};
 use slot_types::Refusal;
-use std::alloc::Global;
-use std::io::Write;
 use std::process::ExitCode;
-use std::{env, io};
+use std::{env, fs, io};
 
-/// How many slots the sample runs.
-const SLOTS: u32 = 2;
-
-/// Runs the sample, and writes its report.
-fn run_sample<W: Write>(alloc: Global, writer: &mut W) -> Result<(), Refusal> {
-    let plan = sample_plan(alloc)?;
-    let items = sample_items(alloc)?;
-    run_items(alloc, plan, &items, SLOTS, writer)
+/// Carries out a command on the files that it names. They are opened, in its order, before any of them is read.
+fn act_on_files(rt: &HostRuntime, command: Command<'_>) -> u8
+    requires { FitsSlots command }
+{
+    let alloc = rt.alloc();
+    let (mut out, mut err) = (rt.stdout(), rt.stderr());
+    let unopened = Err(Fault::Refused(Refusal::ReadFault));
+    match command {
+        Command::Alone => act(alloc, command, io::empty(), io::empty(), &mut out, &mut err),
+        Command::Audit { report: first } | Command::Plan { plan: first } => {
+            match fs::open(rt, first) {
+                Ok(first) => act(alloc, command, first, io::empty(), &mut out, &mut err),
+                Err(_) => end(&mut err, unopened),
+            }
+        }
+        Command::Run { plan, script, .. } => match (fs::open(rt, plan), fs::open(rt, script)) {
+            (Ok(first), Ok(second)) => act(alloc, command, first, second, &mut out, &mut err),
+            _ => end(&mut err, unopened),
+        },
+    }
 }
 
-/// Status 0 where the report is printed, 1 where the run is refused, and 2 where there is any word.
+/// Shows what clap answers in place of a command. Only a call for help is no fault.
+fn show(rt: &HostRuntime, error: clap::Error) -> io::Result<u8> {
+    error.print(rt)?;
+    if error.use_stderr() {
+        Ok(Fault::Words(error).status())
+    } else {
+        Ok(0)
+    }
+}
+
 fn main(rt: HostRuntime) -> io::Result<ExitCode> {
-    let words: Vec<String> = env::args(&rt)?.collect(rt.alloc())?;
-    if words.len() > 1 {
-        return Ok(ExitCode::from(2));
-    }
-    let mut out = rt.stdout();
-    match run_sample(rt.alloc(), &mut out) {
-        Ok(()) => Ok(ExitCode::from(0)),
-        Err(_) => Ok(ExitCode::from(1)),
-    }
+    let alloc = rt.alloc();
+    let words: Vec<String> = env::args(&rt)?.collect(alloc)?;
+    let status = match read_words(alloc, words.as_slice()) {
+        Ok(command) => act_on_files(&rt, command),
+        Err(error) => show(&rt, error)?,
+    };
+    Ok(ExitCode::from(status))
 }
