@@ -1,7 +1,6 @@
 //! A die, as its passes use it. The condition of each call: the pass is of this die.
 
 ghost use Rattle.std.specs.Prelude.{◌≡◌, length, IfOk, IfErr};
-ghost use Rattle.late_cert.specs.Rows.{RowsRise};
 ghost use Rattle.die_log.specs.Log.{now};
 ghost use Rattle.die_log.specs.Answers.{IsAccepted};
 ghost use Rattle.slot_core.specs.Outcomes.{worst_of};

@@ -1,6 +1,6 @@
 //! A store: its dies.
 
-ghost use Rattle.std.specs.Prelude.{◌≡◌, ◌↔◌, ◌≤◌, ◌<◌, ◌⊎◌, All, IsTrue, IsOk, IsErr, IfOk, IfErr, Some, [], length, map, slice_get, vec_len};
+ghost use Rattle.std.specs.Prelude.{◌≡◌, ◌↔◌, ◌≤◌, ◌⊎◌, All, IsTrue, IsOk, IsErr, IfOk, IfErr, Some, length, map, slice_get, vec_len};
 ghost use Rattle.slot_types.specs.Shapes.{IsShape};
 ghost use Rattle.plan_rules.specs.Bound.{MeetsBound};
 ghost use Rattle.flash_die.specs.Flash.{IsFresh};
@@ -130,7 +130,8 @@ fn new_dies<N: Nand>(
 }
 
 impl<N: Nand> Store<N> {
-    /// A store on which nothing was done: each plan with the device in its place, and with each die its first pass.
+    /// A store on which nothing was done: each plan with the device in its place, which has to be fresh, and the first
+    /// pass of each die.
     ///
     /// `BadShape` where there are not 1 to 8 dies, a shape is out of its limits, or a device has another shape than the
     /// die in its place; else `BadPlan` where there are not as many devices as dies, or a plan doesn't meet its bound;
