@@ -1,7 +1,8 @@
 //! Why a call is refused.
 
-ghost use Rattle.std.specs.Prelude.{◌≡◌};
+ghost use Rattle.std.specs.Prelude.{◌≡◌, Some};
 ghost use Rattle.slot_types.specs.Refusal.{number_of};
+ghost use Rattle.slot_types.specs.Texts.{cause_text, refusal_text};
 
 use std::alloc::AllocError;
 use std::fmt;
@@ -134,23 +135,58 @@ impl From<AllocError> for Refusal {
 }
 
 impl Display for Cause {
+    ghost output = { λ cause. Some (cause_text cause) };
+
     fn fmt<W: Write>(&self, f: &mut Formatter<W>) -> fmt::Result {
-        write!(f, "{self:?}")
+        f.write_str(match self {
+            Cause::TooLong => "TooLong",
+            Cause::NotToml => "NotToml",
+            Cause::ExtraKey => "ExtraKey",
+            Cause::MissingKey => "MissingKey",
+            Cause::WrongKind => "WrongKind",
+            Cause::BadVersion => "BadVersion",
+            Cause::TooManyRows => "TooManyRows",
+            Cause::Header => "Header",
+            Cause::Fields => "Fields",
+            Cause::Number => "Number",
+            Cause::Kind => "Kind",
+            Cause::Die => "Die",
+            Cause::At => "At",
+            Cause::Ops => "Ops",
+        })
     }
 }
 
 /// The refusal's name, its numbers and the name of its cause, each after one space: as `ScriptRow 6 Fields`.
 impl Display for Refusal {
+    ghost output = { λ refusal. Some (refusal_text refusal) };
+
     fn fmt<W: Write>(&self, f: &mut Formatter<W>) -> fmt::Result {
         match self {
+            Refusal::NoMemory => f.write_str("NoMemory"),
+            Refusal::BadShape => f.write_str("BadShape"),
+            Refusal::BadPlan => f.write_str("BadPlan"),
+            Refusal::UnknownDie => f.write_str("UnknownDie"),
+            Refusal::UnknownTask => f.write_str("UnknownTask"),
+            Refusal::EmptyJob => f.write_str("EmptyJob"),
+            Refusal::TooManyOps => f.write_str("TooManyOps"),
             Refusal::BadPage { page } => write!(f, "BadPage {page}"),
             Refusal::ReleasePast { now } => write!(f, "ReleasePast {now}"),
+            Refusal::BadDue => f.write_str("BadDue"),
+            Refusal::JobsFull => f.write_str("JobsFull"),
             Refusal::NoTokens { have, need } => write!(f, "NoTokens {have} {need}"),
+            Refusal::CollectorBusy => f.write_str("CollectorBusy"),
+            Refusal::ClockEnd => f.write_str("ClockEnd"),
+            Refusal::DeviceFault => f.write_str("DeviceFault"),
+            Refusal::DieStopped => f.write_str("DieStopped"),
+            Refusal::UnknownJob => f.write_str("UnknownJob"),
             Refusal::PlanText { cause } => write!(f, "PlanText {cause}"),
             Refusal::ScriptRow { line, cause } => write!(f, "ScriptRow {line} {cause}"),
             Refusal::ReportText { line } => write!(f, "ReportText {line}"),
+            Refusal::ReadFault => f.write_str("ReadFault"),
+            Refusal::WriteFault => f.write_str("WriteFault"),
+            Refusal::PassesFull => f.write_str("PassesFull"),
             Refusal::PassesOut { out } => write!(f, "PassesOut {out}"),
-            plain => write!(f, "{plain:?}"),
         }
     }
 }
