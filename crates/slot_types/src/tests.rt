@@ -1,4 +1,4 @@
-//! What no clause says: the texts of refusals, and lists at a concrete type.
+//! The texts of refusals as they are printed, and lists at a concrete type.
 
 use crate::{Cause, DiePlan, Items, Op, PageData, Refusal, Shape};
 use std::test::Fail;
@@ -6,31 +6,29 @@ use std::test::Fail;
 #[test]
 fn a_refusal_is_told_by_name_numbers_and_cause(rt: HostRuntime) -> Result<(), Fail> {
     let alloc = rt.alloc();
-    let row = Refusal::ScriptRow {
-        line: 6,
-        cause: Cause::Fields,
-    };
-    assert_eq!(rt;
-        format!(in alloc; "{} {row}", row.number())?.as_str(),
-        "19 ScriptRow 6 Fields"
-    );
-    let tokens = Refusal::NoTokens { have: 4, need: 5 };
-    assert_eq!(rt;
-        format!(in alloc; "{} {tokens}", tokens.number())?.as_str(),
-        "12 NoTokens 4 5"
-    );
-    let plan = Refusal::BadPlan;
-    assert_eq!(rt;
-        format!(in alloc; "{} {plan}", plan.number())?.as_str(),
-        "3 BadPlan"
-    );
-    let text = Refusal::PlanText {
-        cause: Cause::NotToml,
-    };
-    assert_eq!(rt;
-        format!(in alloc; "{} {text}", text.number())?.as_str(),
-        "18 PlanText NotToml"
-    );
+    let cause = Cause::Fields;
+    let told = [
+        (Refusal::BadPlan, "3 BadPlan"),
+        (Refusal::BadPage { page: 12 }, "8 BadPage 12"),
+        (Refusal::ReleasePast { now: 5 }, "9 ReleasePast 5"),
+        (Refusal::NoTokens { have: 4, need: 5 }, "12 NoTokens 4 5"),
+        (
+            Refusal::PlanText {
+                cause: Cause::NotToml,
+            },
+            "18 PlanText NotToml",
+        ),
+        (
+            Refusal::ScriptRow { line: 6, cause },
+            "19 ScriptRow 6 Fields",
+        ),
+        (Refusal::ReportText { line: 7 }, "20 ReportText 7"),
+        (Refusal::PassesOut { out: 1 }, "24 PassesOut 1"),
+    ];
+    for (refusal, want) in told {
+        let text = format!(in alloc; "{} {refusal}", refusal.number())?;
+        assert_eq!(rt; text.as_str(), want);
+    }
     Ok(())
 }
 
