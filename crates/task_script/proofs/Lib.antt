@@ -18,3 +18,4 @@ pub mod DieRows
 pub mod Calling
 pub mod Dealing
 pub mod Gathering
+pub mod StoreLaws

@@ -1,6 +1,6 @@
 //! The plan of a store, from the numbers of its text.
 
-ghost use Rattle.std.specs.Prelude.{◌≡◌, ◌↔◌, ◌<◌, ◌⊎◌, ℕ, All, IsTrue, IfOk, IfErr, Ok};
+ghost use Rattle.std.specs.Prelude.{◌≡◌, ◌↔◌, ◌<◌, ◌≤◌, ◌⊎◌, ℕ, All, IsTrue, IfOk, IfErr, Ok, length};
 ghost use Rattle.plan_rules.specs.Bound.{IsShape, MeetsBound};
 ghost use Rattle.task_script.specs.PlanText.{plan_of};
 ghost use Rattle.task_script.specs.Stores.{IsShaped, IsServed, IsStore, RefusesPlan, RefusesStore, caps_of, die_of, dies_of, shape_of};
@@ -117,6 +117,8 @@ fn store_of(alloc: Global, plan: &PlanNumbers) -> Result<StorePlan, Refusal>
 /// there, or a die doesn't meet the bound on plans. NoMemory comes where memory is refused.
 pub fn read_plan(alloc: Global, bytes: &[u8]) -> Result<StorePlan, Refusal>
     ensures ok { IfOk result (λ store. (plan : PlanNumbers) × (plan_of bytes.now ≡ Ok plan) × IsStore plan store) }
+    ensures few { IfOk result (λ store. length store ≤ 8) }
+    ensures bound { IfOk result (All MeetsBound) }
     ensures err { IfErr result (λ refusal. (refusal ≡ Refusal.NoMemory) ⊎ RefusesPlan (plan_of bytes.now) refusal) }
 {
     let plan = plan_numbers(alloc, bytes)?;
