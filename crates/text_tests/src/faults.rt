@@ -7,12 +7,12 @@ use task_script::{read_report, write_report};
 
 /// Gives a text seven bytes a call. The call of this number, from 1, fails, and those after it don't.
 #[derive(Drop)]
-struct Faulty<'a> {
+pub struct Faulty<'a> {
     text: &'a [u8],
     calls: u32,
 }
 
-fn failing_at(text: &str, calls: u32) -> Faulty<'_> {
+pub fn failing_at(text: &str, calls: u32) -> Faulty<'_> {
     Faulty {
         text: text.as_bytes(),
         calls,
@@ -33,9 +33,9 @@ impl<'a> Read for Faulty<'a> {
 
 /// Takes seven bytes a call. The call of this number, from 1, fails, and those after it don't.
 #[derive(Drop)]
-struct Choppy {
-    text: Vec<u8>,
-    calls: u32,
+pub struct Choppy {
+    pub text: Vec<u8>,
+    pub calls: u32,
 }
 
 impl Write for Choppy {

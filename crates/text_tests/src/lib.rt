@@ -11,4 +11,6 @@ mod plans;
 #[cfg(test)]
 mod reports;
 #[cfg(test)]
+mod runs;
+#[cfg(test)]
 mod scripts;
