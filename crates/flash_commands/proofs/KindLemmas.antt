@@ -1,5 +1,5 @@
 -- What a first list of kinds has, the choice of the first that isn't empty has.
-use Rattle.std.proofs.Common.{◌⊎◌, inl, inr, [], ◌∷◌}
+use Rattle.std.proofs.Common.{inl, inr, [], ◌∷◌}
 use Rattle.clap.specs.Kinds.{HasKind, IsAmong, Kinds, or_else}
 use Rattle.clap.specs.declared.error.Error.{Error}
 use Rattle.clap.specs.declared.error.kind.ErrorKind.{ErrorKind}

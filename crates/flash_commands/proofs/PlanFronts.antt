@@ -1,22 +1,18 @@
 -- A plan is read up to one byte more than it may have: what it says, or is refused for, is what the whole text says.
-use Rattle.std.proofs.Common.{◌≡◌, ℕ, ◌<◌, ◌≤◌, ◌⊎◌, List, [], ◌++◌, Bool, true, false, Option, Some, None, Result, Ok, Err, IfOk, IfErr, IfSome, length, take, option_map, refl, sym, ap, subst, ◌∙◌, inl, inr, arith}
-use Rattle.std.specs.Prelude.{All, nat_lt}
-use Rattle.std.specs.List.{range_with_len}
+use Rattle.std.proofs.Common.{◌≡◌, ℕ, ◌<◌, ◌⊎◌, List, [], ◌++◌, true, Option, Some, None, Result, Ok, Err, IfOk, IfErr, IfSome, length, take, option_map, refl, sym, ap, subst, ◌∙◌, inl, inr, arith}
+use Rattle.std.specs.Prelude.{nat_lt}
 use Rattle.std.specs.Io.Take.{take_remaining}
 use Rattle.std.specs.declared.io.traits.Take.{Take}
 use Rattle.std.proofs.lemmas.Bool.{cases_lt}
 use Rattle.std.proofs.lemmas.List.{length-take-le, take_all}
-use Rattle.std.proofs.lemmas.List.FromFn.{get_or-map-range_with_len, length-map-range_with_len}
-use Rattle.plan_rules.specs.Bound.{MeetsBound}
 use Rattle.slot_types.specs.declared.plans.DiePlan.{DiePlan}
 use Rattle.slot_types.specs.declared.refusals.Refusal.{Refusal}
 use Rattle.slot_types.specs.declared.refusals.Cause.TheVariants.{TooLong}
 use Rattle.slot_types.specs.declared.refusals.Refusal.TheVariants.{NoMemory, PlanText}
 use Rattle.task_script.specs.PlanText.{plan_of}
-use Rattle.task_script.specs.Stores.{IsStore, RefusesPlan, die_of}
+use Rattle.task_script.specs.Stores.{IsStore, RefusesPlan}
 use Rattle.task_script.specs.declared.plan_texts.PlanNumbers.{PlanNumbers}
 use Rattle.flash_commands.specs.Acts.{IsStoreOf, RefusesFigures}
-use Rattle.flash_commands.specs.Figures.{AllMeetBound}
 
 -- The first bytes
 
@@ -63,23 +59,3 @@ pub refused-front : (text : Option (List ℕ)) (got : List ℕ) (r : Result (Lis
 refused-front text got (Ok store) front h = tt
 refused-front text got (Err e) front (inl memory) = inl (inl (inl memory))
 refused-front text got (Err e) front (inr fault) = inr (said-front (λ read. RefusesPlan read e) text got front fault)
-
--- The dies
-
-meets-bound : (plan : PlanNumbers) (store : List DiePlan) → IsStore plan store → AllMeetBound store
-meets-bound plan store is = subst (λ s. All MeetsBound s) (sym is.dies) (λ k d below.
-    let within : k < plan.top.dies = omega (arith, below, length-map-range_with_len (die_of plan) 0 plan.top.dies) in
-    subst MeetsBound (sym (get_or-map-range_with_len (die_of plan) 0 plan.top.dies k k d within (omega arith))) (is.served.bound k within))
-
--- each die of a store may be used
-pub store-meets-bound : (P : PlanNumbers → Type 0) (r : Result (List DiePlan) Refusal) → IfOk r (λ store. (plan : PlanNumbers) × P plan × IsStore plan store) → IfOk r AllMeetBound
-store-meets-bound P (Ok store) h = meets-bound h.0 store h.2
-store-meets-bound P (Err e) h = tt
-
-few-dies : (plan : PlanNumbers) (store : List DiePlan) → IsStore plan store → length store ≤ 8
-few-dies plan store is = omega (arith, ap length is.dies, length-map-range_with_len (die_of plan) 0 plan.top.dies, is.shaped.few_dies)
-
--- and there are at most eight
-pub store-few : (P : PlanNumbers → Type 0) (r : Result (List DiePlan) Refusal) → IfOk r (λ store. (plan : PlanNumbers) × P plan × IsStore plan store) → IfOk r (λ store. length store ≤ 8)
-store-few P (Ok store) h = few-dies h.0 store h.2
-store-few P (Err e) h = tt
