@@ -38,9 +38,7 @@ fn print_figures<R: Read + Drop, W: Write>(
     ensures refused { IfErr result (RefusesFigures (R.remaining first)) }
 {
     let store = store_in(alloc, first)?;
-    let Ok(text) = figures_text(alloc, &store) else {
-        return Err(Refusal::NoMemory);
-    };
+    let text = figures_text(alloc, &store)?;
     put(out, &text)
 }
 

@@ -1,11 +1,11 @@
 //! The figures of plans.
 
-ghost use Rattle.std.specs.Prelude.{◌≡◌, ◌++◌, IfOk, OnOk};
+ghost use Rattle.std.specs.Prelude.{◌≡◌, ◌++◌, IfErr, IfOk, OnOk};
 ghost use Rattle.plan_rules.specs.Bound.{MeetsBound};
 ghost use Rattle.flash_commands.specs.Figures.{AllMeetBound, figures_line, plan_line, plan_text};
 
 use plan_rules::{Figures, figures};
-use slot_types::{DiePlan, StorePlan};
+use slot_types::{DiePlan, Refusal, StorePlan};
 use std::alloc::Global;
 use std::io;
 use std::io::Write;
@@ -40,12 +40,15 @@ fn put_plans(text: &mut Vec<u8>, plans: &[DiePlan]) -> io::Result<()>
     Ok(())
 }
 
-/// A line with the figures of each die.
-pub fn figures_text(alloc: Global, store: &StorePlan) -> io::Result<Vec<u8>>
+/// A line with the figures of each die. The only refusal is NoMemory.
+pub fn figures_text(alloc: Global, store: &StorePlan) -> Result<Vec<u8>, Refusal>
     requires { AllMeetBound store.now }
-    ensures { IfOk result (λ text. text.items ≡ plan_text store.now) }
+    ensures text { IfOk result (λ text. text.items ≡ plan_text store.now) }
+    ensures refused { IfErr result (λ refusal. refusal ≡ Refusal.NoMemory) }
 {
     let mut text = Vec::new(alloc);
-    put_plans(&mut text, store.as_slice())?;
-    Ok(text)
+    match put_plans(&mut text, store.as_slice()) {
+        Ok(()) => Ok(text),
+        Err(_) => Err(Refusal::NoMemory),
+    }
 }
