@@ -6,7 +6,7 @@ use Rattle.atomic_table.specs.Table.{Me, Step}
 use Rattle.turn_lock.specs.declared.entry.Entry.{Entry}
 use Rattle.turn_lock.specs.declared.view.View.{View}
 use Rattle.turn_lock.specs.declared.view.Kept.{Kept}
-use Rattle.turn_lock.specs.Log.{times, StartsWith, calls_by, NoneBy}
+use Rattle.turn_lock.specs.Log.{times, StartsWith, calls_by, NoneBy, AllBy}
 use Rattle.turn_lock.specs.Views.{numbers_of}
 
 abbrev pub IsTurnTable : TableId → Type 0
@@ -52,6 +52,7 @@ module _ {E R A B : Type 0} (log : B → List (Entry E R)) (about : B → A) whe
     pub few : k.made ≤ 65536
     pub enough : length (numbers_of v) ≤ k.made
     pub whole : length (numbers_of v) ≡ k.made → more ≡ []
+    pub own : length (numbers_of v) ≡ k.made → AllBy (numbers_of v) (log k.book)
     pub alone : v.sole ≡ true → length (numbers_of v) ≡ k.made
 
   -- a take that finds another number than it looked for changes nothing

@@ -1,7 +1,7 @@
 //! The lock and its calls. The condition of each: the pass is of this lock.
 ghost use Rattle.std.specs.Prelude.{◌≡◌, [], ◌++◌, ◌∷◌, length, true, if◌then◌else◌, IsOk, IfOk, IfErr};
 ghost use Rattle.slot_types.specs.declared.refusals.Refusal.TheVariants.{NoMemory, PassesFull};
-ghost use Rattle.turn_lock.specs.Log.{entry, calls_by};
+ghost use Rattle.turn_lock.specs.Log.{entry, calls_by, AllBy};
 ghost use Rattle.turn_lock.specs.Views.{first_view, IsSamePass};
 ghost use Rattle.turn_lock.specs.Passes.{Grown, Answers, Replies, Parts, IsFull, Joined, IsOut, Closes, StaysOpen};
 
@@ -178,11 +178,14 @@ impl<B: Book> Turned<B> {
 
     /// Gives the book back, whose entries are just those that the pass has seen. May wait for the turn.
     ///
+    /// Each entry is by this pass, or by one that was joined into it.
+    ///
     /// `PassesOut` exactly where `out` isn't 0 in that turn, with that number: the lock and the pass are handed back.
     /// Once `out` answered 0 no other pass is left, and `close` is not refused.
     pub fn close<R: Wait>(self, rt: &R, mut pass: Pass<B>) -> Result<B, Closing<B>>
         requires { pass.lock ≡ self }
         ensures closed { IfOk result (λ book. Closes B.log B.about pass.view book) }
+        ensures own { IfOk result (λ book. AllBy (pass.view.number ∷ pass.view.joined) (B.log book)) }
         ensures out { IfErr result (λ kept. StaysOpen B.fits pass.view kept.refusal kept.pass.view) }
         ensures back { IfErr result (λ kept. (kept.lock ≡ self) × IsSamePass pass kept.pass) }
         ensures sole { pass.view.sole ≡ true → IsOk result }
