@@ -1,10 +1,14 @@
 -- Closing the dies of a store.
-use Rattle.std.proofs.Common.{◌≡◌, ℕ, suc, inl, inr, true, List, [], ◌∷◌, ◌++◌, length, map, take, drop, Some, refl, ap, sym, ◌∙◌, arith}
+use Rattle.std.proofs.Common.{◌≡◌, ◌≤◌, ◌+◌, ℕ, suc, inl, inr, true, List, [], ◌∷◌, ◌++◌, length, map, take, drop, Some, refl, ap, sym, subst, ◌∙◌, arith}
 use Rattle.std.proofs.lemmas.List.{append-nil}
 use Rattle.std.specs.List.{AllByRecursion, AllZip}
 use Rattle.slot_types.specs.declared.plans.DiePlan.{DiePlan}
 use Rattle.slot_core.specs.Core.{Core}
-use Rattle.die_service.specs.Logs.{log_of}
+use Rattle.turn_lock.specs.Log.{AllBy}
+use Rattle.die_log.specs.Log.{Log}
+use Rattle.die_log.specs.Answers.{IsExact}
+use Rattle.die_service.specs.Logs.{log_of, calls_of}
+use Rattle.die_service.specs.Passes.{DieView}
 use Rattle.die_service.specs.Stores.{DiePass, IsTold, AreTold, HasLogOf, IsClosed}
 use Rattle.die_service.proofs.Lists.{log_of_calls}
 
@@ -51,12 +55,24 @@ same_plan a b e = cc
 module _ {N : Type 0} where
   closed_after : (p q : DiePass) (die : Core N) → IsTold p 0 q → HasLogOf q die → IsClosed p die
   closed_after p q die told has = record {
-    last = q.view;
-    grown = told.1.0;
-    plan_is = same_plan told.1.0.topic die.plan (sym told.1.0.about_is ∙ (sym told.0.3 ∙ has.about_is));
-    log_is = sym (log_of_calls die.log) ∙ ap log_of has.calls_are;
-    all_joined = sym told.1.1;
+    log_is = sym (log_of_calls die.log) ∙ ap log_of (has.calls_are ∙ told.1.3 refl);
+    exact = subst (λ (x : DiePlan × Log). IsExact x.0 x.1) (λ i. (plan_is i, seen_is i)) told.1.0.fit;
+    about_is = about_is;
+    all_joined = (q.view.made, later, sym told.1.1 ∙ ap (λ (l : List ℕ). 1 + length l) told.0.2);
+    by_own = subst (λ (x : ℕ × List ℕ). AllBy (x.0 ∷ x.1) (calls_of die.log)) (λ i. (told.0.1 i, told.0.2 i)) has.by_own;
   }
+    where
+      about_is : p.view.about ≡ Some die.plan
+      about_is = sym told.0.3 ∙ has.about_is
+
+      plan_is : told.1.0.topic ≡ die.plan
+      plan_is = same_plan told.1.0.topic die.plan (sym told.1.0.about_is ∙ about_is)
+
+      seen_is : log_of q.view.seen ≡ die.log
+      seen_is = ap log_of (sym has.calls_are) ∙ log_of_calls die.log
+
+      later : p.view.made ≤ q.view.made
+      later = subst (λ (n : ℕ). p.view.made ≤ n) (sym (ap (λ (v : DieView). v.made) told.1.0.view_is)) told.1.0.later
 
   pub closed_each : (ps qs : List DiePass) (dies : List (Core N)) → AreTold ps 0 qs → AllZip HasLogOf qs dies → AllZip IsClosed ps dies
   closed_each [] [] [] told has = tt

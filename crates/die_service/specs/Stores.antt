@@ -9,12 +9,13 @@ use Rattle.slot_types.specs.declared.refusals.Refusal.{Refusal}
 use Rattle.slot_types.specs.declared.refusals.Refusal.TheVariants.{NoMemory, PassesOut}
 use Rattle.plan_rules.specs.Bound.{MeetsBound}
 use Rattle.turn_lock.specs.Views.{Known, IsSamePass}
+use Rattle.turn_lock.specs.Log.{AllBy}
 use Rattle.turn_lock.specs.Passes.{IsOut}
+use Rattle.die_log.specs.Answers.{IsExact}
 use Rattle.slot_core.specs.Core.{Core}
 use Rattle.die_service.specs.declared.refused.RefusedAt.{RefusedAt}
 use Rattle.die_service.specs.Logs.{log_of, calls_of}
 use Rattle.die_service.specs.Replies.{HasExactLog}
-use Rattle.die_service.specs.Passes.{DieView, HasGrown}
 
 -- each device has the shape of the die in its place; a die or a device that is alone in its place fits
 abbrev pub Fit : List DiePlan → List Shape → Type 0
@@ -51,16 +52,21 @@ AreTold _ _ _ = ⊥
 abbrev pub StayOpen : List DiePass → Refusal → List DiePass → Type 0
 StayOpen ps refusal qs = ((out : ℕ) × (0 < out) × (refusal ≡ PassesOut out) × AreTold ps out qs) ⊎ ((refusal ≡ NoMemory) × AreTold ps 0 qs)
 
--- a die that was closed with this pass: no other pass of it was left, and its log is what the pass then had seen
+-- all passes that were made are this one and those that were joined into it
+abbrev pub AllJoined : DiePass → Type 0
+AllJoined pass = (made : ℕ) × (pass.view.made ≤ made) × (made ≡ 1 + length pass.view.joined)
+
+-- a die that was closed with this pass: no other pass of it was left, and its log is exact, and just what the pass had seen
 pub record IsClosed {N : Type 0} (pass : DiePass) (die : Core N) : Type 0 where
-  pub last : DieView
-  pub grown : HasGrown pass.view last
-  pub plan_is : grown.topic ≡ die.plan
-  pub log_is : die.log ≡ log_of last.seen
-  pub all_joined : last.made ≡ 1 + length last.joined
+  pub log_is : die.log ≡ log_of pass.view.seen
+  pub exact : IsExact die.plan die.log
+  pub about_is : pass.view.about ≡ Some die.plan
+  pub all_joined : AllJoined pass
+  pub by_own : AllBy (pass.view.number ∷ pass.view.joined) (calls_of die.log)
 
 -- a die whose log is just what the pass has seen, which was its only one
 pub record HasLogOf {N : Type 0} (pass : DiePass) (die : Core N) : Type 0 where
   pub calls_are : calls_of die.log ≡ pass.view.seen
   pub about_is : pass.view.about ≡ Some die.plan
-  pub all_joined : (made : ℕ) × (pass.view.made ≤ made) × (made ≡ 1 + length pass.view.joined)
+  pub all_joined : AllJoined pass
+  pub by_own : AllBy (pass.view.number ∷ pass.view.joined) (calls_of die.log)

@@ -65,8 +65,9 @@ fn close_each<N: Nand, R: Wait>(
     cores
 }
 
-/// Ends a store, and gives its dies back in order, whose logs are what their passes have then seen. It takes one pass of
-/// each die, in order. May wait for the turn of each die.
+/// Ends a store, and gives its dies back in order, whose logs are what their passes had seen: each call in a log is by
+/// the die's pass or by one that was joined into it. It takes one pass of each die, in order. May wait for the turn of each
+/// die.
 ///
 /// `PassesOut` with what `out` answers on the first die where it isn't 0; else `NoMemory` where memory is refused. No die
 /// is closed then, and the store and all passes are handed back.

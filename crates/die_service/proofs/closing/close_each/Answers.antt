@@ -27,7 +27,8 @@ loop-pass-preserved g c =
     let i = c.loop-pass.invariant in
     let step = c.in-Some.ensures.steps.0 in
     let book = c.in-Ok.ensures.closed in
-    let has : HasLogOf c.in-Some.pass c.into_core.result = rw c.into_core.ensures (record { calls_are = book.0; about_is = book.1; all_joined = book.2 }) in record {
+    let own = c.in-Ok.ensures.own in
+    let has : HasLogOf c.in-Some.pass c.into_core.result = rw c.into_core.ensures (record { calls_are = book.0; about_is = book.1; all_joined = book.2; by_own = own }) in record {
       can_next = tt;
       is_finite = tt;
       room = rw c.push_reserved.ensures.capacity i.room;
