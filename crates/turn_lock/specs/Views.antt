@@ -22,9 +22,9 @@ module _ {E R A : Type 0} where
   abbrev pub CountsOwn : View E R A → Type 0
   CountsOwn v = (p : ℕ) → 0 < times p (v.number ∷ v.joined) → p < v.made
 
-  -- the first pass of a lock
+  -- the first pass of a lock, which is its only one
   abbrev pub first_view : A → View E R A
-  first_view a = record { number = 0; seen = []; joined = []; made = 1; told = []; about = Some a; live = true; turn = false; sole = false }
+  first_view a = record { number = 0; seen = []; joined = []; made = 1; told = []; about = Some a; live = true; turn = false; sole = true }
 
   -- a pass that was joined into another
   abbrev pub spent_view : View E R A

@@ -45,7 +45,7 @@ impl<B: Book> Model for Turned<B> {
 }
 
 impl<B: Book> Turned<B> {
-    /// Puts a book without entries behind a lock, and makes the first pass, whose number is 0.
+    /// Puts a book without entries behind a lock, and makes the first pass, whose number is 0. No other pass is left then.
     ///
     /// `NoMemory` where memory is refused; the book is then dropped.
     pub fn new(alloc: Global, book: B) -> Result<(Turned<B>, Pass<B>), Refusal>
@@ -183,7 +183,8 @@ impl<B: Book> Turned<B> {
     /// Each entry is by this pass, or by one that was joined into it.
     ///
     /// `PassesOut` exactly where `out` isn't 0 in that turn, with that number: the lock and the pass are handed back.
-    /// Once `out` answered 0 no other pass is left, and `close` is not refused.
+    /// Where the pass knows that no other is left, `close` is not refused: so it is from `new`, or from an `out` that
+    /// answered 0, to the next split.
     pub fn close<R: Wait>(self, rt: &R, mut pass: Pass<B>) -> Result<B, Closing<B>>
         requires { pass.lock ≡ self }
         ensures closed { IfOk result (λ book. Closes B.log B.about pass.view book) }
