@@ -50,9 +50,10 @@ module _ {E R A : Type 0} where
     pub second : StartsWith w.seen other.seen
     pub once : (p : ℕ) → times p (w.number ∷ w.joined) ≤ 1
 
-  -- so many passes are neither this one nor joined into it; where there are none, the pass had seen all entries
+  -- so many passes are neither this one nor joined into it; where there are none, the pass had seen all entries.
+  -- There are none where the pass knew that no other is left
   abbrev pub IsOut : (fits : A → List (Entry E R) → Type 0) → View E R A → ℕ → View E R A → Type 0
-  IsOut fits v out w = Grown fits v w × (out + 1 + length w.joined ≡ w.made) × (out ≡ 0 → w.sole ≡ true) × (out ≡ 0 → w.seen ≡ v.seen)
+  IsOut fits v out w = Grown fits v w × (out + 1 + length w.joined ≡ w.made) × (out ≡ 0 → w.sole ≡ true) × (out ≡ 0 → w.seen ≡ v.seen) × (v.sole ≡ true → out ≡ 0)
 
   -- the lock stays open: so many passes are out, and some are
   abbrev pub StaysOpen : (fits : A → List (Entry E R) → Type 0) → View E R A → Refusal → View E R A → Type 0

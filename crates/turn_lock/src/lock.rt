@@ -165,7 +165,7 @@ impl<B: Book> Turned<B> {
 
     /// How many of the passes made are neither this one nor joined into it. May wait for the turn.
     ///
-    /// Where the answer is 0, the pass had already seen all entries.
+    /// Where the answer is 0, the pass had already seen all entries. It is 0 where the pass knew that no other is left.
     pub fn out<R: Wait>(&self, rt: &R, pass: &mut Pass<B>) -> u32
         requires { pass.old.lock ≡ self.now }
         ensures same { IsSamePass pass.old pass.new }
