@@ -35,6 +35,14 @@ told_sole (p ∷ ps) [] told = absurd told
 told_sole (p ∷ ps) (q ∷ qs) (inl told) = (told.0.1.2 refl, told_sole ps qs told.1)
 told_sole (p ∷ ps) (q ∷ qs) (inr told) = absurd (omega (arith, told.0))
 
+-- where each pass knew that no other is left, none is out
+pub sole_none_out : (ps : List DiePass) (out : ℕ) (qs : List DiePass) → AreTold ps out qs → AllByRecursion (λ (p : DiePass). p.view.sole ≡ true) ps → out ≡ 0
+sole_none_out [] out [] told sole = told
+sole_none_out [] out (q ∷ qs) told sole = absurd told
+sole_none_out (p ∷ ps) out [] told sole = absurd told
+sole_none_out (p ∷ ps) out (q ∷ qs) (inl told) sole = sole_none_out ps out qs told.1 sole.1
+sole_none_out (p ∷ ps) out (q ∷ qs) (inr told) sole = told.1.1.4 sole.0
+
 -- the slice is the whole of the list
 pub written : {A : Type 0} (n : ℕ) (xs ys : List A) → length ys ≡ length xs → n ≡ length xs → take n (ys ++ drop (length ys) xs) ≡ ys
 written n xs ys same is = rw (is, same, drop_all xs, append-nil ys, sym same) (take_all ys)

@@ -71,6 +71,9 @@ fn close_each<N: Nand, R: Wait>(
 ///
 /// `PassesOut` with what `out` answers on the first die where it isn't 0; else `NoMemory` where memory is refused. No die
 /// is closed then, and the store and all passes are handed back.
+///
+/// Where each pass knows that no other pass of its die is left, as those of a store just made do, only memory can be
+/// refused.
 pub fn close<N: Nand, R: Wait>(
     rt: &R,
     store: Store<N>,
@@ -81,6 +84,7 @@ pub fn close<N: Nand, R: Wait>(
     ensures refused { IfErr result (λ kept. StayOpen passes.items kept.refusal kept.passes.items) }
     ensures back { IfErr result (λ kept. kept.store ≡ store) }
     ensures own { IfErr result (λ kept. map (λ pass. pass.lock) kept.passes.items ≡ kept.store) }
+    ensures sole { All (λ pass. pass.view.sole ≡ true) passes.items → IfErr result (λ kept. kept.refusal ≡ Refusal.NoMemory) }
 {
     let mut passes = passes;
     let out = first_out(rt, store.dies.as_slice(), passes.as_mut_slice());

@@ -1,8 +1,8 @@
 use Rattle.std.proofs.Common.{◌≡◌, ℕ, true, List, sym, ◌∙◌, subst, rules, arith}
-use Rattle.std.proofs.lemmas.List.Elements.{All-from_recursion}
+use Rattle.std.proofs.lemmas.List.Elements.{All-from_recursion, recursion_from_All}
 use Rattle.std.specs.List.{AllZip}
 use Rattle.die_service.specs.Stores.{DiePass, AreTold, HasLogOf}
-use Rattle.die_service.proofs.LastPasses.{told_length, told_locks, told_sole, written, closed_each}
+use Rattle.die_service.proofs.LastPasses.{told_length, told_locks, told_sole, sole_none_out, written, closed_each}
 use Rattle.die_service.proofs.closing.close.Goals as goal
 
 pub close_each-requires-clause-own : goal.close_each-requires-clause-own
@@ -40,6 +40,15 @@ returns-then-out-gt0-clause-own g c =
     let told : AreTold ps out qs = subst (λ (xs : List DiePass). AreTold xs out qs) c.as_mut_slice.ensures.value c.first_out-out.ensures.told in
     let whole = written c.args.passes.len ps qs (told_length ps out qs told) (search rules) in
     rw whole (told_locks ps out qs told ∙ c.requires.own)
+
+pub returns-then-out-gt0-clause-sole : goal.returns-then-out-gt0-clause-sole
+returns-then-out-gt0-clause-sole g c = λ sole.
+    let ps = c.args.passes.items in
+    let qs = c.first_out-out.new.passes in
+    let out = c.first_out-out.result in
+    let told : AreTold ps out qs = subst (λ (xs : List DiePass). AreTold xs out qs) c.as_mut_slice.ensures.value c.first_out-out.ensures.told in
+    let zero = sole_none_out ps out qs told (recursion_from_All (λ (p : DiePass). p.view.sole ≡ true) ps sole) in
+    absurd (omega (arith, zero, c.if-out-gt0.true))
 
 pub returns-in-Err-clause-own : goal.returns-in-Err-clause-own
 returns-in-Err-clause-own g c =
