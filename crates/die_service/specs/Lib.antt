@@ -3,3 +3,4 @@ pub mod Replies
 pub mod Answers
 pub mod Passes
 pub mod Stores
+pub mod Runs

@@ -11,12 +11,18 @@
 pub mod book;
 pub mod closing;
 pub mod die;
+pub mod ends;
+pub mod feeds;
+pub mod gate;
 pub mod queries;
 pub mod refused;
 pub mod store;
 
 pub use closing::{StillOpen, close};
 pub use die::{Die, DiePass};
+pub use ends::{DieEnd, DieEnds, RefusedEvent, RefusedList};
+pub use feeds::{Arrival, Feed};
+pub use gate::{FreeGate, Gate};
 pub use refused::RefusedAt;
 pub use store::Store;
 

@@ -1,0 +1,134 @@
+-- A run of slots on a die: what a pass asked of it in which order, what it was replied, and what came of it.
+use Rattle.std.specs.Prelude.{true, ◌≡◌, ℕ, zero, suc, ◌+◌, ◌≤◌, ◌⊎◌, nat_le, Bool, if◌then◌else◌, List, [], ◌∷◌, ◌++◌, length, map, filter, take, All, Option, Some, None, Result, Ok, Err, is_ok}
+use Rattle.slot_types.specs.declared.plans.DiePlan.{DiePlan}
+use Rattle.slot_types.specs.declared.events.Event.{Event}
+use Rattle.slot_types.specs.declared.events.Event.TheVariants as events
+use Rattle.slot_types.specs.declared.replies.Reply.{Reply}
+use Rattle.slot_types.specs.declared.replies.Reply.TheVariants as replies
+use Rattle.slot_types.specs.declared.replies.SlotReply.{SlotReply}
+use Rattle.turn_lock.specs.Log.{StartsWith, entry, calls_by}
+use Rattle.turn_lock.specs.Views.{IsSamePass}
+use Rattle.die_service.specs.declared.ends.DieEnd.{DieEnd}
+use Rattle.die_service.specs.declared.ends.RefusedEvent.{RefusedEvent}
+use Rattle.die_service.specs.declared.feeds.Arrival.{Arrival}
+use Rattle.die_service.specs.declared.refused.RefusedAt.{RefusedAt}
+use Rattle.die_service.specs.Logs.{Call, log_of}
+use Rattle.die_service.specs.Passes.{DieView}
+use Rattle.die_service.specs.Replies.{HasExactLog, MayRefuse}
+use Rattle.die_service.specs.Stores.{DiePass}
+
+-- What is asked, and in which order
+
+-- an event, and the reply to it
+pub record Said : Type 0 where
+  pub event : Event
+  pub reply : Result Reply RefusedAt
+
+abbrev pub said : Event → Result Reply RefusedAt → Said
+said event reply = record { event = event; reply = reply }
+
+-- any event but a slot
+abbrev pub IsArrival : Event → Type 0
+IsArrival events.Slot = ⊥
+IsArrival _ = Unit {0}
+
+abbrev pub AllArrive : List Arrival → Type 0
+AllArrive feed = All (λ arrival. IsArrival arrival.event) feed
+
+-- the events in front of a feed that come by this slot
+abbrev pub due_by : ℕ → List Arrival → List Arrival
+due_by slot [] = []
+due_by slot (arrival ∷ feed) = if nat_le arrival.at slot then arrival ∷ due_by slot feed else []
+
+-- the events behind these
+abbrev pub later_than : ℕ → List Arrival → List Arrival
+later_than slot [] = []
+later_than slot (arrival ∷ feed) = if nat_le arrival.at slot then later_than slot feed else arrival ∷ feed
+
+-- these events were asked, in their order
+abbrev pub AreAsked : List Arrival → List Said → Type 0
+AreAsked feed saids = map (λ (s : Said). s.event) saids ≡ map (λ (arrival : Arrival). arrival.event) feed
+
+-- Where a worker's clock is at a slot and so many slots are left: it asks for the events of the feed that come by the
+-- clock; and then, where a slot is left, for that, and goes on with the clock behind the slot that was carried out. A
+-- refused slot is the last that it asks for.
+abbrev pub InClockOrder : ℕ → ℕ → List Arrival → List Said → Type 0
+InClockOrder zero clock feed saids = AreAsked (due_by clock feed) saids
+InClockOrder (suc left) clock feed saids = (fed : List Said) × (rest : List Said) × (saids ≡ fed ++ rest) × AreAsked (due_by clock feed) fed
+    × (((slot : SlotReply) × (more : List Said) × (rest ≡ said events.Slot (Ok (replies.Slot slot)) ∷ more) × InClockOrder left (slot.slot + 1) (later_than clock feed) more)
+    ⊎ ((refused : RefusedAt) × (rest ≡ said events.Slot (Err refused) ∷ [])))
+
+-- What came of it
+
+abbrev pub was_accepted : Said → Bool
+was_accepted s = is_ok s.reply
+
+-- the accepted calls, as entries of this caller
+abbrev pub accepted_by : ℕ → List Said → List Call
+accepted_by caller saids = map (λ (s : Said). entry caller s.event s.reply) (filter was_accepted saids)
+
+abbrev pub slot_counted : Event → Result Reply RefusedAt → ℕ → ℕ
+slot_counted events.Slot (Ok reply) slots = suc slots
+slot_counted _ _ slots = slots
+
+-- how many slots were carried out
+abbrev pub slots_in : List Said → ℕ
+slots_in [] = 0
+slots_in (s ∷ saids) = slot_counted s.event s.reply (slots_in saids)
+
+abbrev pub place_behind : Event → ℕ → ℕ
+place_behind events.Slot place = place
+place_behind _ place = suc place
+
+abbrev pub noted : ℕ → Event → Result Reply RefusedAt → List RefusedEvent → List RefusedEvent
+noted place events.Slot reply more = more
+noted place _ (Ok reply) more = more
+noted place _ (Err refused) more = record { place = place; refused = refused } ∷ more
+
+-- of the events of a feed, the first of which has this place, those that were refused
+abbrev pub refused_from : ℕ → List Said → List RefusedEvent
+refused_from place [] = []
+refused_from place (s ∷ saids) = noted place s.event s.reply (refused_from (place_behind s.event place) saids)
+
+abbrev pub stop_or : Event → Result Reply RefusedAt → Option RefusedAt → Option RefusedAt
+stop_or events.Slot (Err refused) later = Some refused
+stop_or _ _ later = later
+
+-- why a slot was refused, if one was
+abbrev pub stop_of : List Said → Option RefusedAt
+stop_of [] = None
+stop_of (s ∷ saids) = stop_or s.event s.reply (stop_of saids)
+
+abbrev pub end_of : List Said → DieEnd
+end_of saids = record { slots = slots_in saids; refused = refused_from 0 saids; stop = stop_of saids }
+
+-- A call was refused behind so many entries of those that the pass `w` has seen: a die with these may refuse it so, and
+-- of the pass's own entries they are the ones from before the call.
+pub record IsReasoned (never_fails : Bool) (plan : DiePlan) (v : DieView) (before : List Said) (event : Event) (refused : RefusedAt) (w : DieView) : Type 0 where
+  pub within : refused.entries ≤ length w.seen
+  pub reason : MayRefuse never_fails plan (log_of (take refused.entries w.seen)) event refused.refusal
+  pub own : calls_by v.number (take refused.entries w.seen) ≡ calls_by v.number v.seen ++ accepted_by v.number before
+
+-- A pass that knew `v` ran so many slots with this feed, and knows `w`: it has seen an exact log, its own entries are
+-- those that it had and then the accepted calls in the order of the clock, and each refused call has its reason. Where no
+-- other pass was left, none is.
+pub record HasRun (never_fails : Bool) (slots : ℕ) (feed : List Arrival) (v : DieView) (end : DieEnd) (w : DieView) : Type 0 where
+  pub saids : List Said
+  pub plan : DiePlan
+  pub about_is : v.about ≡ Some plan
+  pub ordered : InClockOrder slots 0 feed saids
+  pub starts : StartsWith w.seen v.seen
+  pub exact : HasExactLog plan w.seen
+  pub own : calls_by v.number w.seen ≡ calls_by v.number v.seen ++ accepted_by v.number saids
+  pub refused : (before after : List Said) (event : Event) (refused : RefusedAt) → saids ≡ before ++ said event (Err refused) ∷ after
+      → IsReasoned never_fails plan v before event refused w
+  pub sole : v.sole ≡ true → w.sole ≡ true
+  pub end_is : end ≡ end_of saids
+  pub whole : end.stop ≡ None → end.slots ≡ slots
+
+-- each die's pass ran with the feed in its place
+abbrev pub HaveRun : Bool → ℕ → List (List Arrival) → List DiePass → List DieEnd → List DiePass → Type 0
+HaveRun never_fails slots [] [] [] [] = Unit {0}
+HaveRun never_fails slots (feed ∷ feeds) (p ∷ ps) (end ∷ ends) (q ∷ qs) =
+    IsSamePass p q × HasRun never_fails slots feed p.view end q.view × HaveRun never_fails slots feeds ps ends qs
+HaveRun never_fails slots _ _ _ _ = ⊥
