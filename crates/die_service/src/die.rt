@@ -4,6 +4,7 @@ ghost use Rattle.std.specs.Prelude.{◌≡◌, length, IfOk, IfErr};
 ghost use Rattle.die_log.specs.Log.{now};
 ghost use Rattle.die_log.specs.Answers.{IsAccepted};
 ghost use Rattle.slot_core.specs.Outcomes.{worst_of};
+ghost use Rattle.turn_lock.specs.Log.{calls_by};
 ghost use Rattle.turn_lock.specs.Views.{IsSamePass};
 ghost use Rattle.turn_lock.specs.Passes.{Parts, IsFull, Joined, IsOut};
 ghost use Rattle.die_service.specs.Replies.{HasExactLog};
@@ -222,6 +223,7 @@ impl<N: Nand> Die<N> {
         ensures same { IsSamePass pass.old pass.new }
         ensures grown { HasGrown pass.old.view pass.new.view }
         ensures length { result ≡ length pass.new.view.seen }
+        ensures own { calls_by pass.old.view.number pass.new.view.seen ≡ calls_by pass.old.view.number pass.old.view.seen }
     {
         self.turned.look(pass)
     }

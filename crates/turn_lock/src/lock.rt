@@ -78,6 +78,8 @@ impl<B: Book> Turned<B> {
         ensures same { IsSamePass pass.old pass.new }
         ensures grown { Grown B.fits pass.old.view pass.new.view }
         ensures length { result ≡ length pass.new.view.seen }
+        // no entry of the pass's own is added
+        ensures own { let own = calls_by pass.old.view.number in own pass.new.view.seen ≡ own pass.old.view.seen }
     {
         self.table.shared.load::<Look>(&mut pass.seat, 0) / 2
     }
