@@ -57,7 +57,7 @@ written n xs ys same is = rw (is, same, drop_all xs, append-nil ys, sym same) (t
 
 -- Dies that were closed
 
-same_plan : (a b : DiePlan) → Some a ≡ Some b → a ≡ b
+pub same_plan : (a b : DiePlan) → Some a ≡ Some b → a ≡ b
 same_plan a b e = cc
 
 module _ {N : Type 0} where

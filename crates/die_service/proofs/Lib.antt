@@ -3,3 +3,7 @@ pub mod Replying
 pub mod Passing
 pub mod Making
 pub mod LastPasses
+pub mod Driving
+pub mod Bringing
+pub mod Clocking
+pub mod Gathering

@@ -4,3 +4,4 @@ pub mod Answers
 pub mod Passes
 pub mod Stores
 pub mod Runs
+pub mod Drives

@@ -4,18 +4,24 @@
 //! has seen of its die, the accepted calls from the first: they are an exact log of the die's plan, they begin the
 //! list of calls that the die has, and of the pass's own calls they are all.
 //!
-//! `look` and `join_pass` don't wait. The other calls of a die, and [`close`], may wait for the die's turn, and nothing
+//! [`run_slots`] runs the dies of a store by workers, each die with a pass and a [`Feed`] of events that come by its clock,
+//! and says what was asked of each in which order, and what came of it. A [`Gate`] is called around each slot.
+//!
+//! `look` and `join_pass` don't wait. The other calls of a die, [`close`] and [`run_slots`] may wait for the die's turn, and nothing
 //! is claimed of how long.
 #![tactic(auto)]
 
 pub mod book;
 pub mod closing;
+mod courses;
 pub mod die;
+mod drivers;
 pub mod ends;
 pub mod feeds;
 pub mod gate;
 pub mod queries;
 pub mod refused;
+pub mod runs;
 pub mod store;
 
 pub use closing::{StillOpen, close};
@@ -24,6 +30,7 @@ pub use ends::{DieEnd, DieEnds, RefusedEvent, RefusedList};
 pub use feeds::{Arrival, Feed};
 pub use gate::{FreeGate, Gate};
 pub use refused::RefusedAt;
+pub use runs::run_slots;
 pub use store::Store;
 
 #[cfg(test)]

@@ -1,0 +1,216 @@
+-- What a worker has asked of its die, event by event and slot by slot.
+use Rattle.std.proofs.Common.{◌≡◌, ℕ, ◌+◌, ◌-◌, ◌<◌, ◌≤◌, Bool, true, false, nat_le, List, [], ◌∷◌, ◌++◌, map, Option, Some, None, Result, Ok, Err, if◌then◌else◌, refl, ap, sym, ◌∙◌, subst, arith, append_assoc}
+use Rattle.std.proofs.lemmas.Bool.{le-leb, leb-false}
+use Rattle.std.proofs.lemmas.List.{append-nil}
+use Rattle.slot_types.specs.declared.limits.TheConstants.{MAX_SLOT}
+use Rattle.slot_types.specs.declared.plans.DiePlan.{DiePlan}
+use Rattle.slot_types.specs.declared.events.Event.{Event}
+use Rattle.slot_types.specs.declared.events.Event.TheVariants as events
+use Rattle.slot_types.specs.declared.refusals.Refusal.{Refusal}
+use Rattle.slot_types.specs.declared.replies.Reply.{Reply}
+use Rattle.slot_types.specs.declared.replies.Reply.TheVariants as replies
+use Rattle.slot_types.specs.declared.replies.SlotReply.{SlotReply}
+use Rattle.turn_lock.specs.Views.{IsSamePass}
+use Rattle.slot_types.specs.declared.acts.Act.{Act}
+use Rattle.slot_types.specs.declared.refusals.Refusal.TheVariants.{ClockEnd}
+use Rattle.slot_types.specs.declared.replies.Waived.{Waived}
+use Rattle.die_log.specs.Log.{Log, Job, now}
+use Rattle.die_log.specs.Answers.{answer, answer_by, choice, slot_reply, reply_with, act_for}
+use Rattle.die_service.specs.declared.feeds.Arrival.{Arrival}
+use Rattle.die_service.specs.declared.refused.RefusedAt.{RefusedAt}
+use Rattle.die_service.specs.Passes.{AddsEntry, AddsNone}
+use Rattle.die_service.specs.Runs.{Said, said, IsArrival, due_by, later_than, AreAsked, place_behind, noted, slots_in, slot_counted, stop_of, stop_or}
+use Rattle.die_service.specs.Stores.{DiePass}
+use Rattle.die_service.specs.Drives.{Course, Standing, Asks, IsFit, Comes, NoneDue, BringsOne, Brings, TakesSlot, IsStopped}
+use Rattle.die_service.proofs.Driving.{far_accepts, far_refuses, asks_joins, asks_none, slots_more, stop_more}
+
+-- One event
+
+behind_arrival : (e : Event) (n : ℕ) → IsArrival e → place_behind e n ≡ n + 1
+behind_arrival events.Slot n arrives = absurd arrives
+behind_arrival (events.Submit task release due ops) n arrives = omega arith
+behind_arrival (events.Collect task release due) n arrives = omega arith
+
+none_noted : (e : Event) (n : ℕ) (reply : Reply) → noted n e (Ok reply) [] ≡ []
+none_noted events.Slot n reply = refl
+none_noted (events.Submit task release due ops) n reply = refl
+none_noted (events.Collect task release due) n reply = refl
+
+one_noted : (e : Event) (n : ℕ) (refused : RefusedAt) → IsArrival e → noted n e (Err refused) [] ≡ record { place = n; refused = refused } ∷ []
+one_noted events.Slot n refused arrives = absurd arrives
+one_noted (events.Submit task release due ops) n refused arrives = refl
+one_noted (events.Collect task release due) n refused arrives = refl
+
+abbrev at : DiePass → Course → ℕ → Option RefusedAt → Standing
+at p c slots stop = record { pass = p; course = c; slots = slots; stop = stop }
+
+module _ (never : Bool) (clock : ℕ) (p q : DiePass) (c d : Course) (event : Event) (slots : ℕ) (stop : Option RefusedAt) where
+  pub brings_accepted : (reply : Reply) → Comes clock c event d → IsSamePass p q → AddsEntry p.view event reply q.view → BringsOne never clock (at p c slots stop) (at q d slots stop)
+  brings_accepted reply comes same added =
+      let arrives : IsArrival comes.arrival.event = subst IsArrival comes.event_is comes.arrives in
+      let adds : AddsEntry p.view comes.arrival.event reply q.view = subst (λ (e : Event). AddsEntry p.view e reply q.view) comes.event_is added in record {
+        arrival = comes.arrival;
+        by = comes.by;
+        arrives = arrives;
+        rest = comes.rest;
+        reply = Ok reply;
+        asks = record {
+          same = same;
+          plan = adds.grown.topic;
+          far = far_accepts never p.view q.view comes.arrival.event reply adds;
+          place = comes.place ∙ sym (behind_arrival comes.arrival.event c.place arrives);
+          refused = comes.refused ∙ (sym (append-nil c.refused) ∙ ap (λ l. c.refused ++ l) (sym (none_noted comes.arrival.event c.place reply)));
+        };
+        slots = refl;
+        stop = refl;
+      }
+
+  pub brings_refused : (refused : RefusedAt) (e : Course) → Comes clock c event d → IsSamePass p q → AddsNone never p.view event refused q.view
+      → e.rest ≡ d.rest → e.place ≡ d.place → e.refused ≡ d.refused ++ record { place = d.place - 1; refused = refused } ∷ [] → BringsOne never clock (at p c slots stop) (at q e slots stop)
+  brings_refused refused e comes same left rest place notes =
+      let arrives : IsArrival comes.arrival.event = subst IsArrival comes.event_is comes.arrives in
+      let none : AddsNone never p.view comes.arrival.event refused q.view = subst (λ (x : Event). AddsNone never p.view x refused q.view) comes.event_is left in
+      let here : d.place - 1 ≡ c.place = omega (arith, comes.place) in record {
+        arrival = comes.arrival;
+        by = comes.by;
+        arrives = arrives;
+        rest = comes.rest ∙ ap (λ l. comes.arrival ∷ l) (sym rest);
+        reply = Err refused;
+        asks = record {
+          same = same;
+          plan = none.grown.topic;
+          far = far_refuses never p.view q.view comes.arrival.event refused none;
+          place = place ∙ (comes.place ∙ sym (behind_arrival comes.arrival.event c.place arrives));
+          refused = notes ∙ (ap (λ l. l ++ record { place = d.place - 1; refused = refused } ∷ []) comes.refused
+              ∙ ap (λ l. c.refused ++ l) (ap (λ n. record { place = n; refused = refused } ∷ []) here ∙ sym (one_noted comes.arrival.event c.place refused arrives)));
+        };
+        slots = refl;
+        stop = refl;
+      }
+
+-- One slot
+
+slot_by : (plan : DiePlan) (past : Log) (waived : List Waived) (j : Job) (act : Option Act) → (reply_with plan past waived j act).slot ≡ now past
+slot_by plan past waived j None = refl
+slot_by plan past waived j (Some act) = refl
+
+slot_number : (plan : DiePlan) (past : Log) (waived : List Waived) (o : Option Job) → (slot_reply plan past waived o).slot ≡ now past
+slot_number plan past waived None = refl
+slot_number plan past waived (Some j) = slot_by plan past waived j (act_for plan past j)
+
+pub slot_below : (plan : DiePlan) (past : Log) (reply : SlotReply) → answer plan past events.Slot ≡ replies.Slot reply → reply.slot < 1048576
+unfolding answer
+slot_below plan past reply is = by (nat_le MAX_SLOT (now past)) refl is
+  where
+    same_slot : (a b : SlotReply) → replies.Slot a ≡ replies.Slot b → a ≡ b
+    same_slot a b e = cc
+
+    no_slot : (refusal : Refusal) (a : SlotReply) → replies.Refused refusal ≡ replies.Slot a → ⊥
+    no_slot refusal a e = cc
+
+    by : (b : Bool) → nat_le MAX_SLOT (now past) ≡ b → answer_by plan past events.Slot (if b then Some ClockEnd else None) ≡ replies.Slot reply → reply.slot < 1048576
+    by true e h = absurd (no_slot ClockEnd reply h)
+    by false e h =
+        let below = leb-false MAX_SLOT (now past) e in
+        let is_now : reply.slot ≡ now past = ap (λ r. r.slot) (sym (same_slot _ reply h)) ∙ slot_number plan past (choice plan past).waived (choice plan past).head in
+        omega (arith, below, is_now)
+
+module _ (never : Bool) (p q : DiePass) (c : Course) (slots : ℕ) (stop : Option RefusedAt) where
+  pub slot_taken : (reply : SlotReply) → IsSamePass p q → AddsEntry p.view events.Slot (replies.Slot reply) q.view → TakesSlot never (at p c slots stop) reply.slot (at q c (slots + 1) stop)
+  slot_taken reply same added = record {
+    reply = reply;
+    slot_is = refl;
+    asks = record {
+      same = same;
+      plan = added.grown.topic;
+      far = far_accepts never p.view q.view events.Slot (replies.Slot reply) added;
+      place = refl;
+      refused = sym (append-nil c.refused);
+    };
+    rest = refl;
+    slots = refl;
+    stop = refl;
+  }
+
+  pub slot_stopped : (refused : RefusedAt) → IsSamePass p q → AddsNone never p.view events.Slot refused q.view → IsStopped never (at p c slots stop) (at q c slots (Some refused))
+  slot_stopped refused same left = record {
+    refused = refused;
+    asks = record {
+      same = same;
+      plan = left.grown.topic;
+      far = far_refuses never p.view q.view events.Slot refused left;
+      place = refl;
+      refused = sym (append-nil c.refused);
+    };
+    rest = refl;
+    slots = refl;
+    stop = refl;
+  }
+
+-- The events that come by a slot
+
+due_one : (clock : ℕ) (a : Arrival) (rest : List Arrival) → a.at ≤ clock → due_by clock (a ∷ rest) ≡ a ∷ due_by clock rest
+due_one clock a rest by = rw (le-leb a.at clock by) refl
+
+later_one : (clock : ℕ) (a : Arrival) (rest : List Arrival) → a.at ≤ clock → later_than clock (a ∷ rest) ≡ later_than clock rest
+later_one clock a rest by = rw (le-leb a.at clock by) refl
+
+no_slot_of : (e : Event) (r : Result Reply RefusedAt) → IsArrival e → slot_counted e r 0 ≡ 0
+no_slot_of events.Slot r arrives = absurd arrives
+no_slot_of (events.Submit task release due ops) r arrives = refl
+no_slot_of (events.Collect task release due) r arrives = refl
+
+no_stop_of : (e : Event) (r : Result Reply RefusedAt) → IsArrival e → stop_or e r None ≡ None
+no_stop_of events.Slot r arrives = absurd arrives
+no_stop_of (events.Submit task release due ops) r arrives = refl
+no_stop_of (events.Collect task release due) r arrives = refl
+
+-- some of the events that come by the clock were asked; whatever those that are left come to, all come to
+pub record IsBringing (never : Bool) (clock : ℕ) (s t : Standing) : Type 0 where
+  pub fed : List Said
+  pub asks : Asks never s.pass s.course fed t.pass t.course
+  pub asked : (more : List Said) → AreAsked (due_by clock t.course.rest) more → AreAsked (due_by clock s.course.rest) (fed ++ more)
+  pub rest : later_than clock s.course.rest ≡ later_than clock t.course.rest
+  pub no_slot : slots_in fed ≡ 0
+  pub no_stop : stop_of fed ≡ None
+  pub slots : t.slots ≡ s.slots
+  pub stop : t.stop ≡ s.stop
+
+module _ (never : Bool) (clock : ℕ) where
+  pub brings_none : (s : Standing) → IsFit s.pass.view → IsBringing never clock s s
+  brings_none s fit = record {
+    fed = [];
+    asks = asks_none never s.pass s.course fit;
+    asked = λ more asked. asked;
+    rest = refl;
+    no_slot = refl;
+    no_stop = refl;
+    slots = refl;
+    stop = refl;
+  }
+
+  pub brings_more : (s t u : Standing) → IsBringing never clock s t → BringsOne never clock t u → IsBringing never clock s u
+  brings_more s t u b one =
+      let last = said one.arrival.event one.reply in record {
+        fed = b.fed ++ last ∷ [];
+        asks = asks_joins never s.pass t.pass u.pass s.course t.course u.course b.fed (last ∷ []) b.asks one.asks;
+        asked = λ more asked. subst (AreAsked (due_by clock s.course.rest)) (sym (append_assoc b.fed (last ∷ []) more)) (b.asked (last ∷ more)
+            (subst (λ (l : List Arrival). AreAsked l (last ∷ more)) (sym (ap (due_by clock) one.rest ∙ due_one clock one.arrival u.course.rest one.by)) (ap (λ l. one.arrival.event ∷ l) asked)));
+        rest = b.rest ∙ (ap (later_than clock) one.rest ∙ later_one clock one.arrival u.course.rest one.by);
+        no_slot = slots_more b.fed (last ∷ []) ∙ omega (arith, b.no_slot, no_slot_of one.arrival.event one.reply one.arrives);
+        no_stop = stop_more b.fed (last ∷ []) b.no_stop ∙ no_stop_of one.arrival.event one.reply one.arrives;
+        slots = one.slots ∙ b.slots;
+        stop = one.stop ∙ b.stop;
+      }
+
+  pub brings_all : (s t : Standing) → IsBringing never clock s t → NoneDue clock t.course.rest → Brings never clock s t
+  brings_all s t b none = record {
+    fed = b.fed;
+    asks = b.asks;
+    asked = subst (AreAsked (due_by clock s.course.rest)) (append-nil b.fed) (b.asked [] (ap (map (λ (a : Arrival). a.event)) (sym none.0)));
+    rest = sym (b.rest ∙ none.1);
+    no_slot = b.no_slot;
+    no_stop = b.no_stop;
+    slots = b.slots;
+    stop = b.stop;
+  }

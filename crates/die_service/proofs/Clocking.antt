@@ -1,0 +1,129 @@
+-- Slots by their clock, and what a die is at when its run ends.
+use Rattle.std.proofs.Common.{◌≡◌, ℕ, zero, suc, ◌+◌, ◌-◌, ◌<◌, Bool, List, [], ◌∷◌, ◌++◌, Some, None, Ok, Err, inl, inr, refl, ap, sym, ◌∙◌, subst, arith, append_assoc}
+use Rattle.slot_types.specs.declared.events.Event.TheVariants as events
+use Rattle.slot_types.specs.declared.replies.Reply.TheVariants as replies
+use Rattle.die_service.specs.declared.feeds.Arrival.{Arrival}
+use Rattle.die_service.specs.declared.refused.RefusedAt.{RefusedAt}
+use Rattle.die_service.specs.Runs.{Said, said, slots_in, stop_of, refused_from, InClockOrder}
+use Rattle.die_service.specs.Drives.{Course, Standing, Asks, IsFirst, Brings, TakesSlot, IsStopped, Drives}
+use Rattle.die_service.proofs.Driving.{asks_joins, slots_more, stop_more}
+
+-- So many slots were carried out; whatever the slots that are left come to, all come to
+pub record IsOnTime (never : Bool) (slots done clock : ℕ) (s t : Standing) : Type 0 where
+  pub saids : List Said
+  pub asks : Asks never s.pass s.course saids t.pass t.course
+  pub order : (more : List Said) → InClockOrder (slots - done) clock t.course.rest more → InClockOrder slots 0 s.course.rest (saids ++ more)
+  pub counted : slots_in saids ≡ done
+  pub no_stop : stop_of saids ≡ None
+  pub slots_are : t.slots ≡ done
+  pub stop : t.stop ≡ None
+
+-- a run that ended
+pub record IsOver (never : Bool) (slots : ℕ) (s t : Standing) : Type 0 where
+  pub saids : List Said
+  pub asks : Asks never s.pass s.course saids t.pass t.course
+  pub order : InClockOrder slots 0 s.course.rest saids
+  pub slots_are : t.slots ≡ slots_in saids
+  pub stop : t.stop ≡ stop_of saids
+  pub whole : stop_of saids ≡ None → slots_in saids ≡ slots
+
+module _ (never : Bool) (slots : ℕ) where
+  pub starts : (s t : Standing) → Asks never s.pass s.course [] t.pass t.course → t.course ≡ s.course → t.slots ≡ 0 → t.stop ≡ None → IsOnTime never slots 0 0 s t
+  starts s t asks same none running = record {
+    saids = [];
+    asks = asks;
+    order = λ more order. subst (λ (c : Course). InClockOrder slots 0 c.rest more) same (subst (λ (n : ℕ). InClockOrder n 0 t.course.rest more) minus order);
+    counted = refl;
+    no_stop = refl;
+    slots_are = none;
+    stop = running;
+  }
+    where
+      minus : slots - 0 ≡ slots
+      minus = omega arith
+
+  -- a slot more
+  pub goes_on : (done clock next : ℕ) (slot : ℕ) (s t u w : Standing) → done < slots → IsOnTime never slots done clock s t → Brings never clock t u → TakesSlot never u slot w → next ≡ slot + 1 → IsOnTime never slots (done + 1) next s w
+  goes_on done clock next slot s t u w below i b k is =
+      let last = said events.Slot (Ok (replies.Slot k.reply)) in
+      let front = i.saids ++ b.fed in
+      let one_left : slots - done ≡ suc (slots - (done + 1)) = omega (arith, below) in
+      let clock_is : next ≡ k.reply.slot + 1 = is ∙ ap (λ n. n + 1) k.slot_is in record {
+        saids = front ++ last ∷ [];
+        asks = asks_joins never s.pass u.pass w.pass s.course u.course w.course front (last ∷ [])
+            (asks_joins never s.pass t.pass u.pass s.course t.course u.course i.saids b.fed i.asks b.asks) k.asks;
+        order = λ more order. subst (InClockOrder slots 0 s.course.rest) (sym (append_assoc front (last ∷ []) more ∙ append_assoc i.saids b.fed (last ∷ more)))
+            (i.order (b.fed ++ last ∷ more) (subst (λ (n : ℕ). InClockOrder n clock t.course.rest (b.fed ++ last ∷ more)) (sym one_left) (
+              b.fed,
+              last ∷ more,
+              refl,
+              b.asked,
+              inl (
+                k.reply,
+                more,
+                refl,
+                subst (λ (l : List Arrival). InClockOrder (slots - (done + 1)) (k.reply.slot + 1) l more) (k.rest ∙ b.rest)
+                    (subst (λ (n : ℕ). InClockOrder (slots - (done + 1)) n w.course.rest more) clock_is order),
+              ),
+            )));
+        counted = slots_more front (last ∷ []) ∙ omega (arith, slots_more i.saids b.fed, i.counted, b.no_slot);
+        no_stop = stop_more front (last ∷ []) (stop_more i.saids b.fed i.no_stop ∙ b.no_stop);
+        slots_are = k.slots ∙ ap (λ n. n + 1) (b.slots ∙ i.slots_are);
+        stop = k.stop ∙ (b.stop ∙ i.stop);
+      }
+
+  -- a slot was refused
+  pub gives_up : (done clock : ℕ) (s t u w : Standing) → done < slots → IsOnTime never slots done clock s t → Brings never clock t u → IsStopped never u w → IsOver never slots s w
+  gives_up done clock s t u w below i b k =
+      let last = said events.Slot (Err k.refused) in
+      let front = i.saids ++ b.fed in
+      let one_left : slots - done ≡ suc (slots - (done + 1)) = omega (arith, below) in
+      let stop_is : stop_of (front ++ last ∷ []) ≡ Some k.refused = stop_more front (last ∷ []) (stop_more i.saids b.fed i.no_stop ∙ b.no_stop) in
+      let count : slots_in (front ++ last ∷ []) ≡ done = slots_more front (last ∷ []) ∙ omega (arith, slots_more i.saids b.fed, i.counted, b.no_slot) in record {
+        saids = front ++ last ∷ [];
+        asks = asks_joins never s.pass u.pass w.pass s.course u.course w.course front (last ∷ [])
+            (asks_joins never s.pass t.pass u.pass s.course t.course u.course i.saids b.fed i.asks b.asks) k.asks;
+        order = subst (InClockOrder slots 0 s.course.rest) (sym (append_assoc i.saids b.fed (last ∷ [])))
+            (i.order (b.fed ++ last ∷ []) (subst (λ (n : ℕ). InClockOrder n clock t.course.rest (b.fed ++ last ∷ [])) (sym one_left)
+            (b.fed, last ∷ [], refl, b.asked, inr (k.refused, refl))));
+        slots_are = k.slots ∙ (b.slots ∙ (i.slots_are ∙ sym count));
+        stop = k.stop ∙ sym stop_is;
+        whole = λ none. absurd (some_none k.refused (sym stop_is ∙ none));
+      }
+    where
+      some_none : (r : RefusedAt) → Some r ≡ None → ⊥
+      some_none r e = cc
+
+  -- all slots were carried out
+  pub ends : (done clock : ℕ) (s t u : Standing) → slots ≡ done → IsOnTime never slots done clock s t → Brings never clock t u → IsOver never slots s u
+  ends done clock s t u all i b =
+      let none_left : slots - done ≡ zero = omega (arith, all) in
+      let count : slots_in (i.saids ++ b.fed) ≡ done = slots_more i.saids b.fed ∙ omega (arith, i.counted, b.no_slot) in record {
+        saids = i.saids ++ b.fed;
+        asks = asks_joins never s.pass t.pass u.pass s.course t.course u.course i.saids b.fed i.asks b.asks;
+        order = i.order b.fed (subst (λ (n : ℕ). InClockOrder n clock t.course.rest b.fed) (sym none_left) b.asked);
+        slots_are = b.slots ∙ (i.slots_are ∙ sym count);
+        stop = b.stop ∙ (i.stop ∙ sym (stop_more i.saids b.fed i.no_stop ∙ b.no_stop));
+        whole = λ none. count ∙ sym all;
+      }
+
+  pub drives : (s t : Standing) → IsFirst s → IsOver never slots s t → Drives never slots s t
+  drives s t first o =
+      let place : s.course.place ≡ 0 = ap (λ x. x.course.place) first in
+      let none : s.course.refused ≡ [] = ap (λ x. x.course.refused) first in
+      let noted : t.course.refused ≡ refused_from 0 o.saids = o.asks.refused ∙ (ap (λ l. l ++ refused_from s.course.place o.saids) none ∙ ap (λ n. refused_from n o.saids) place) in (
+        o.asks.same,
+        record {
+          saids = o.saids;
+          plan = o.asks.plan;
+          about_is = o.asks.far.about_is;
+          ordered = o.order;
+          starts = o.asks.far.starts;
+          exact = o.asks.far.exact;
+          own = o.asks.far.own;
+          refused = o.asks.far.refused;
+          sole = o.asks.far.sole;
+          end_is = rw (o.slots_are, o.stop, noted) refl;
+          whole = λ running. o.slots_are ∙ o.whole (sym o.stop ∙ running);
+        },
+      )

@@ -1,0 +1,137 @@
+-- How far a worker is with a die, and what it has asked of it on the way.
+use Rattle.std.specs.Prelude.{◌≡◌, ℕ, ◌+◌, ◌≤◌, Bool, true, List, [], ◌∷◌, ◌++◌, Option, Some, None, Result, Ok, Err}
+use Rattle.slot_types.specs.declared.plans.DiePlan.{DiePlan}
+use Rattle.slot_types.specs.declared.events.Event.{Event}
+use Rattle.slot_types.specs.declared.events.Event.TheVariants as events
+use Rattle.slot_types.specs.declared.replies.Reply.{Reply}
+use Rattle.slot_types.specs.declared.replies.Reply.TheVariants as replies
+use Rattle.slot_types.specs.declared.replies.SlotReply.{SlotReply}
+use Rattle.turn_lock.specs.Log.{StartsWith, calls_by}
+use Rattle.turn_lock.specs.Views.{IsSamePass}
+use Rattle.die_service.specs.declared.ends.DieEnd.{DieEnd}
+use Rattle.die_service.specs.declared.ends.RefusedEvent.{RefusedEvent}
+use Rattle.die_service.specs.declared.feeds.Arrival.{Arrival}
+use Rattle.die_service.specs.declared.refused.RefusedAt.{RefusedAt}
+use Rattle.die_service.specs.Passes.{DieView}
+use Rattle.die_service.specs.Replies.{HasExactLog}
+use Rattle.die_service.specs.Runs.{Said, said, IsArrival, due_by, later_than, AreAsked, accepted_by, slots_in, place_behind, refused_from, stop_of, IsReasoned, HasRun}
+use Rattle.die_service.specs.Stores.{DiePass}
+
+-- The events of a feed that are still to come, how many came, and those of them that were refused
+pub record Course : Type 0 where
+  pub rest : List Arrival
+  pub place : ℕ
+  pub refused : List RefusedEvent
+
+-- a feed of which nothing came
+abbrev pub whole_course : List Arrival → Course
+whole_course feed = record { rest = feed; place = 0; refused = [] }
+
+-- How far a worker is with a die
+pub record Standing : Type 0 where
+  pub pass : DiePass
+  pub course : Course
+  pub slots : ℕ
+  pub stop : Option RefusedAt
+
+-- before anything was asked
+abbrev pub first_standing : DiePass → Course → Standing
+first_standing pass course = record { pass = pass; course = course; slots = 0; stop = None }
+
+abbrev pub IsFirst : Standing → Type 0
+IsFirst s = s ≡ first_standing s.pass (whole_course s.course.rest)
+
+abbrev pub first_standings : List DiePass → List Course → List Standing
+first_standings (pass ∷ passes) (course ∷ courses) = first_standing pass course ∷ first_standings passes courses
+first_standings _ _ = []
+
+-- what came of it
+abbrev pub end_at : Standing → DieEnd
+end_at s = record { slots = s.slots; refused = s.course.refused; stop = s.stop }
+
+-- the place of the next event behind these
+abbrev pub place_after : ℕ → List Said → ℕ
+place_after place [] = place
+place_after place (s ∷ saids) = place_after (place_behind s.event place) saids
+
+-- the pass is of a die of this plan, and has seen an exact log
+abbrev pub Knows : DieView → DiePlan → Type 0
+Knows v plan = (v.about ≡ Some plan) × HasExactLog plan v.seen
+
+abbrev pub IsFit : DieView → Type 0
+IsFit v = (plan : DiePlan) × Knows v plan
+
+-- what a pass that knew `v` knows once these were asked
+pub record Far (never_fails : Bool) (plan : DiePlan) (v : DieView) (saids : List Said) (w : DieView) : Type 0 where
+  pub about_is : v.about ≡ Some plan
+  pub starts : StartsWith w.seen v.seen
+  pub exact : HasExactLog plan w.seen
+  pub own : calls_by v.number w.seen ≡ calls_by v.number v.seen ++ accepted_by v.number saids
+  pub refused : (before after : List Said) (event : Event) (refused : RefusedAt) → saids ≡ before ++ said event (Err refused) ∷ after
+      → IsReasoned never_fails plan v before event refused w
+  pub sole : v.sole ≡ true → w.sole ≡ true
+
+-- these were asked, and those of a feed that were refused are noted
+pub record Asks (never_fails : Bool) (p : DiePass) (c : Course) (saids : List Said) (q : DiePass) (d : Course) : Type 0 where
+  pub same : IsSamePass p q
+  pub plan : DiePlan
+  pub far : Far never_fails plan p.view saids q.view
+  pub place : d.place ≡ place_after c.place saids
+  pub refused : d.refused ≡ c.refused ++ refused_from c.place saids
+
+-- the next event of a feed came by the clock
+pub record Comes (clock : ℕ) (c : Course) (event : Event) (d : Course) : Type 0 where
+  pub arrival : Arrival
+  pub event_is : event ≡ arrival.event
+  pub by : arrival.at ≤ clock
+  pub arrives : IsArrival event
+  pub rest : c.rest ≡ arrival ∷ d.rest
+  pub place : d.place ≡ c.place + 1
+  pub refused : d.refused ≡ c.refused
+
+-- no event is left that comes by the clock
+abbrev pub NoneDue : ℕ → List Arrival → Type 0
+NoneDue clock rest = (due_by clock rest ≡ []) × (later_than clock rest ≡ rest)
+
+-- the next event of the feed came by the clock, and was asked
+pub record BringsOne (never_fails : Bool) (clock : ℕ) (s t : Standing) : Type 0 where
+  pub arrival : Arrival
+  pub by : arrival.at ≤ clock
+  pub arrives : IsArrival arrival.event
+  pub rest : s.course.rest ≡ arrival ∷ t.course.rest
+  pub reply : Result Reply RefusedAt
+  pub asks : Asks never_fails s.pass s.course (said arrival.event reply ∷ []) t.pass t.course
+  pub slots : t.slots ≡ s.slots
+  pub stop : t.stop ≡ s.stop
+
+-- the events that come by the clock were asked, and no slot
+pub record Brings (never_fails : Bool) (clock : ℕ) (s t : Standing) : Type 0 where
+  pub fed : List Said
+  pub asks : Asks never_fails s.pass s.course fed t.pass t.course
+  pub asked : AreAsked (due_by clock s.course.rest) fed
+  pub rest : t.course.rest ≡ later_than clock s.course.rest
+  pub no_slot : slots_in fed ≡ 0
+  pub no_stop : stop_of fed ≡ None
+  pub slots : t.slots ≡ s.slots
+  pub stop : t.stop ≡ s.stop
+
+-- a slot was asked, and carried out under this number
+pub record TakesSlot (never_fails : Bool) (s : Standing) (slot : ℕ) (t : Standing) : Type 0 where
+  pub reply : SlotReply
+  pub slot_is : slot ≡ reply.slot
+  pub asks : Asks never_fails s.pass s.course (said events.Slot (Ok (replies.Slot reply)) ∷ []) t.pass t.course
+  pub rest : t.course.rest ≡ s.course.rest
+  pub slots : t.slots ≡ s.slots + 1
+  pub stop : t.stop ≡ s.stop
+
+-- a slot was asked, and refused
+pub record IsStopped (never_fails : Bool) (s t : Standing) : Type 0 where
+  pub refused : RefusedAt
+  pub asks : Asks never_fails s.pass s.course (said events.Slot (Err refused) ∷ []) t.pass t.course
+  pub rest : t.course.rest ≡ s.course.rest
+  pub slots : t.slots ≡ s.slots
+  pub stop : t.stop ≡ Some refused
+
+-- so many slots were asked, with the events of the feed
+abbrev pub Drives : Bool → ℕ → Standing → Standing → Type 0
+Drives never_fails slots s t = IsSamePass s.pass t.pass × HasRun never_fails slots s.course.rest s.pass.view (end_at t) t.pass.view

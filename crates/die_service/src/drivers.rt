@@ -1,0 +1,146 @@
+//! A die with its pass and its feed, as one worker has them.
+
+ghost use Rattle.std.specs.Prelude.{◌≡◌, ◌<◌, [], false, IsTrue, IfSome, IfNone};
+ghost use Rattle.die_service.specs.Drives.{first_standing, end_at, Asks, IsFit, IsFirst, NoneDue, BringsOne, Brings, TakesSlot, IsStopped, Drives};
+
+use crate::courses::Course;
+use crate::die::{Die, DiePass};
+use crate::ends::DieEnd;
+use crate::gate::Gate;
+use crate::refused::RefusedAt;
+use flash_die::Nand;
+use std::marker::Model;
+use std::sync::Wait;
+
+/// A die, a pass of it, and what it is still to be asked.
+#[derive(Drop)]
+pub(crate) struct Driver<'a, N: Nand> {
+    die: &'a Die<N>,
+    pass: DiePass<N>,
+    course: Course,
+    // How many slots were carried out.
+    slots: u32,
+    // Why a slot was refused.
+    stop: Option<RefusedAt>,
+}
+
+impl<'a, N: Nand> Model for Driver<'a, N> {
+    ghost use Rattle.std.specs.Prelude.{◌≡◌};
+    ghost use Rattle.die_service.specs.Drives as drives;
+
+    ghost Value = { drives.Standing };
+
+    ghost view = { λ d. record { pass = d.pass; course = d.course; slots = d.slots; stop = d.stop } };
+
+    ghost invariant = { λ d. d.pass.lock ≡ d.die.now };
+}
+
+impl<'a, N: Nand> Driver<'a, N> {
+    /// A die of which nothing was asked yet.
+    pub(crate) fn new(die: &'a Die<N>, pass: DiePass<N>, course: Course) -> Driver<'a, N>
+        requires { pass.lock ≡ die.now }
+        ensures { result ≡ first_standing pass course }
+    {
+        Driver {
+            die,
+            pass,
+            course,
+            slots: 0,
+            stop: None,
+        }
+    }
+
+    /// The pass, and what came of it.
+    pub(crate) fn into_end(self) -> (DieEnd, DiePass<N>)
+        ensures end { result.0 ≡ end_at self.entry }
+        ensures pass { result.1 ≡ self.entry.pass }
+    {
+        let Driver {
+            die: _,
+            pass,
+            course,
+            slots,
+            stop,
+        } = self;
+        let end = DieEnd {
+            slots,
+            refused: course.into_refused(),
+            stop,
+        };
+        (end, pass)
+    }
+
+    /// Sees what the die has done.
+    fn look(&mut self)
+        ensures asks { Asks N.never_fails self.old.pass self.old.course [] self.new.pass self.new.course }
+        ensures course { self.new.course ≡ self.old.course }
+        ensures slots { self.new.slots ≡ self.old.slots }
+        ensures stop { self.new.stop ≡ self.old.stop }
+    {
+        let die = self.die;
+        die.look(&mut self.pass);
+    }
+
+    /// Asks for the next event, if it comes by this slot, and says whether it did.
+    fn bring_one<R: Wait>(&mut self, rt: &R, clock: u32) -> bool
+        ensures brought { IsTrue result → BringsOne N.never_fails clock self.old self.new }
+        ensures none { result ≡ false → NoneDue clock self.old.course.rest × (self.new ≡ self.old) }
+    {
+        let Some(event) = self.course.next_due(clock) else {
+            return false;
+        };
+        let die = self.die;
+        match die.apply(rt, &mut self.pass, event) {
+            Ok(_) => {}
+            Err(refused) => self.course.note(refused),
+        }
+        true
+    }
+
+    /// Asks for the events that come by this slot.
+    fn bring_due<R: Wait>(&mut self, rt: &R, clock: u32)
+        requires { IsFit self.old.pass.view }
+        ensures { Brings N.never_fails clock self.old self.new }
+    {
+        while self.bring_one(rt, clock) {}
+    }
+
+    /// Asks for a slot, and answers its number if it was carried out.
+    fn take_slot<R: Wait>(&mut self, rt: &R) -> Option<u32>
+        requires { self.old.slots < 4294967295 }
+        ensures taken { IfSome result (λ slot. TakesSlot N.never_fails self.old slot self.new) }
+        ensures few { IfSome result (λ slot. slot < 1048576) }
+        ensures stopped { IfNone result (IsStopped N.never_fails self.old self.new) }
+    {
+        let die = self.die;
+        match die.slot(rt, &mut self.pass) {
+            Ok(reply) => {
+                self.slots = self.slots + 1;
+                Some(reply.slot)
+            }
+            Err(refused) => {
+                self.stop = Some(refused);
+                None
+            }
+        }
+    }
+
+    /// Asks for so many slots, and before each for the events that come by it.
+    pub(crate) fn drive<G: Gate, R: Wait>(&mut self, rt: &R, gate: &G, number: u32, slots: u32)
+        requires { IsFirst self.old }
+        ensures { Drives N.never_fails slots self.old self.new }
+    {
+        self.look();
+        let mut clock = 0;
+        for _done in 0..slots {
+            self.bring_due(rt, clock);
+            gate.before(number, clock);
+            let Some(slot) = self.take_slot(rt) else {
+                return;
+            };
+            gate.after(number, slot);
+            clock = slot + 1;
+        }
+        self.bring_due(rt, clock);
+    }
+}
