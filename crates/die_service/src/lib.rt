@@ -34,4 +34,8 @@ pub use runs::run_slots;
 pub use store::Store;
 
 #[cfg(test)]
+mod held;
+#[cfg(test)]
+mod run_tests;
+#[cfg(test)]
 mod tests;

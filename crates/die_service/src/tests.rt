@@ -11,18 +11,18 @@ use std::alloc::Global;
 use std::sync::Wait;
 use std::test::Fail;
 
-const SHAPE: Shape = Shape {
+pub(crate) const SHAPE: Shape = Shape {
     blocks: 8,
     pages: 4,
     erase_slots: 3,
 };
 
-const ONES: PageData = PageData([0x11; 16]);
+pub(crate) const ONES: PageData = PageData([0x11; 16]);
 
 const TWOS: PageData = PageData([0x22; 16]);
 
 // The plan of a store of so many dies, each of which serves one task.
-fn plan(alloc: Global, dies: u32) -> Result<StorePlan, Refusal> {
+pub(crate) fn plan(alloc: Global, dies: u32) -> Result<StorePlan, Refusal> {
     let mut plan = StorePlan::new(alloc);
     for _ in 0..dies {
         let mut caps = Caps::new(alloc);
@@ -78,7 +78,7 @@ fn only_pass<N: Nand>(store: &Store<N>, passes: Vec<DiePass<N>>) -> Option<DiePa
 }
 
 // The passes of a store of two dies.
-fn both_passes<N: Nand>(
+pub(crate) fn both_passes<N: Nand>(
     store: &Store<N>,
     passes: Vec<DiePass<N>>,
 ) -> Option<(DiePass<N>, DiePass<N>)>
