@@ -7,8 +7,8 @@
 //! [`run_slots`] runs the dies of a store by workers, each die with a pass and a [`Feed`] of events that come by its clock,
 //! and says what was asked of each in which order, and what came of it. A [`Gate`] is called around each slot.
 //!
-//! `look` and `join_pass` don't wait. The other calls of a die, [`close`] and [`run_slots`] may wait for the die's turn, and nothing
-//! is claimed of how long.
+//! `look` and `join_pass` don't wait. The other calls of a die, [`close`] and [`run_slots`] may wait for the die's turn, and
+//! nothing is claimed of how long.
 #![tactic(auto)]
 
 pub mod book;
