@@ -19,3 +19,10 @@ pub mod Calling
 pub mod Dealing
 pub mod Gathering
 pub mod StoreLaws
+pub mod ExactPages
+pub mod ExactNumbers
+pub mod ExactWorst
+pub mod ExactReports
+pub mod RunPages
+pub mod ScriptPages
+pub mod ReportsBack

@@ -1,5 +1,5 @@
 -- What holds of the dies of a store.
-use Rattle.std.proofs.Common.{◌≡◌, ℕ, ◌<◌, ◌≤◌, List, Result, Ok, Err, IfOk, length, sym, subst, arith, ap}
+use Rattle.std.proofs.Common.{◌<◌, ◌≤◌, List, Result, Ok, Err, IfOk, length, sym, subst, arith, ap}
 use Rattle.std.specs.Prelude.{All}
 use Rattle.std.proofs.lemmas.List.FromFn.{get_or-map-range_with_len, length-map-range_with_len}
 use Rattle.plan_rules.specs.Bound.{MeetsBound}

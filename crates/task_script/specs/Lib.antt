@@ -22,8 +22,10 @@ pub mod ReportOf
 pub mod Progress
 pub mod Numbered
 pub mod WellFormed
+pub mod AskedPages
 pub mod DieReports
 pub mod Feeds
 pub mod RunCounts
 pub mod DieRuns
 pub mod TextRuns
+pub mod ExactRuns

@@ -1,0 +1,93 @@
+-- The jobs of a run are asked to write what its rows say.
+use Rattle.std.proofs.Common.{ℕ, zero, suc, ◌+◌, ◌==◌, Bool, true, false, cond, List, [], ◌∷◌, Option, Some, None, sym, subst, map}
+use Rattle.std.specs.Prelude.{All}
+use Rattle.std.specs.List.{AllByRecursion}
+use Rattle.std.proofs.lemmas.List.Elements.{All-from_recursion, recursion_from_All}
+use Rattle.plan_rules.specs.Bound.{MeetsBound}
+use Rattle.slot_types.specs.declared.plans.DiePlan.{DiePlan}
+use Rattle.slot_types.specs.declared.events.Event.{Event}
+use Rattle.slot_types.specs.declared.refusals.Refusal.{Refusal}
+use Rattle.slot_types.specs.declared.replies.Entry.{Entry}
+use Rattle.die_log.specs.Log.{Log}
+use Rattle.die_log.proofs.Choices.{all_kept}
+use Rattle.die_log.proofs.Known.{all_append}
+use Rattle.task_script.specs.AskedPages.{AsksPages, HasPages, RowsHavePages}
+use Rattle.task_script.specs.DieRuns.{Call, Row, Slot, DieRun, Ends, IsRun, IsStep, Runs, calls_from, due_by, fresh_run, is_due, later_than}
+use Rattle.task_script.specs.ExactRuns.{AreExact}
+use Rattle.task_script.specs.Feeds.{feed_of}
+use Rattle.task_script.specs.TextRuns.{AreRuns}
+use Rattle.task_script.specs.declared.items.ScriptItem.{ScriptItem}
+
+abbrev RowHasPages : ScriptItem → Type 0
+RowHasPages item = AsksPages item.event
+
+abbrev CallHasPages : Call → Type 0
+CallHasPages (Row item) = RowHasPages item
+CallHasPages Slot = Unit {0}
+
+abbrev EntryHasPages : Entry → Type 0
+EntryHasPages e = AsksPages e.event
+
+abbrev AreAsked : Log → Type 0
+AreAsked log = AllByRecursion EntryHasPages log
+
+-- Calls
+
+rows_asked : (items : List ScriptItem) → AllByRecursion RowHasPages items → AllByRecursion CallHasPages (map Row items)
+rows_asked [] h = tt
+rows_asked (item ∷ items) h = (h.0, rows_asked items h.1)
+
+due_asked : (slot : ℕ) (items : List ScriptItem) → AllByRecursion RowHasPages items → AllByRecursion RowHasPages (due_by slot items)
+due_asked slot [] h = tt
+due_asked slot (item ∷ items) h = by_due (is_due slot item) (due_asked slot items h.1)
+  where
+    by_due : (b : Bool) → AllByRecursion RowHasPages (due_by slot items) → AllByRecursion RowHasPages (cond b (item ∷ due_by slot items) [])
+    by_due true later = (h.0, later)
+    by_due false later = tt
+
+later_asked : (slot : ℕ) (items : List ScriptItem) → AllByRecursion RowHasPages items → AllByRecursion RowHasPages (later_than slot items)
+later_asked slot [] h = tt
+later_asked slot (item ∷ items) h = by_due (is_due slot item) (later_asked slot items h.1)
+  where
+    by_due : (b : Bool) → AllByRecursion RowHasPages (later_than slot items) → AllByRecursion RowHasPages (cond b (later_than slot items) (item ∷ items))
+    by_due true later = later
+    by_due false later = h
+
+calls_asked : (slot left : ℕ) (items : List ScriptItem) → AllByRecursion RowHasPages items → AllByRecursion CallHasPages (calls_from slot left items)
+calls_asked slot zero items h = rows_asked items h
+calls_asked slot (suc left) items h =
+    all_append CallHasPages (map Row (due_by slot items)) (Slot ∷ calls_from (slot + 1) left (later_than slot items)) (rows_asked (due_by slot items) (due_asked slot items h))
+    (tt, calls_asked (slot + 1) left (later_than slot items) (later_asked slot items h))
+
+-- Runs
+
+end_asked : (plan : DiePlan) (past log : Log) (event : Event) (refusal : Option Refusal) → Ends plan past event refusal log → AsksPages event → AreAsked past → AreAsked log
+end_asked plan past log event None h page asked = subst AreAsked (sym h.1) (page, asked)
+end_asked plan past log event (Some refusal) h page asked = subst AreAsked (sym h.1) asked
+
+step_asked : (plan : DiePlan) (call : Call) (before after : DieRun) → IsStep plan call before after → CallHasPages call → AreAsked before.log → AreAsked after.log
+step_asked plan (Row item) before after h page asked = end_asked plan before.log after.log item.event h.0 h.1 page asked
+step_asked plan Slot before after h page asked = subst AreAsked (sym h.0.1) (tt, asked)
+
+run_asked : (plan : DiePlan) (before after : DieRun) (calls : List Call) → Runs plan before calls after → AllByRecursion CallHasPages calls → AreAsked before.log → AreAsked after.log
+run_asked plan before after [] h pages asked = subst (λ (run : DieRun). AreAsked run.log) (sym h) asked
+run_asked plan before after (call ∷ calls) h pages asked = run_asked plan h.0 after calls h.2 pages.1 (step_asked plan call before h.0 h.1 pages.0 asked)
+
+die_asked : (plan : DiePlan) (slots : ℕ) (items : List ScriptItem) (run : DieRun) → RowsHavePages items → IsRun plan slots items run → HasPages run.log
+die_asked plan slots items run pages h =
+    All-from_recursion EntryHasPages run.log (run_asked plan fresh_run run _ h.ran (calls_asked 0 slots items (recursion_from_All RowHasPages items pages)) tt)
+
+-- the rows of a die are rows of the script
+pub feed_asked : (items : List ScriptItem) (die : ℕ) → RowsHavePages items → RowsHavePages (feed_of items die)
+feed_asked items die pages =
+    All-from_recursion RowHasPages (feed_of items die) (all_kept RowHasPages (λ (item : ScriptItem). item.die == die) items (recursion_from_All RowHasPages items pages))
+
+runs_exact : (slots : ℕ) (feed : ℕ → List ScriptItem) (die : ℕ) (plans : List DiePlan) (runs : List DieRun) → ((d : ℕ) → RowsHavePages (feed d)) → AllByRecursion MeetsBound plans → AreRuns slots feed die plans runs → AreExact plans runs
+runs_exact slots feed die [] [] pages bound h = tt
+runs_exact slots feed die [] (run ∷ runs) pages bound h = absurd h
+runs_exact slots feed die (plan ∷ plans) [] pages bound h = absurd h
+runs_exact slots feed die (plan ∷ plans) (run ∷ runs) pages bound h =
+    (bound.0, h.0.exact, die_asked plan slots (feed die) run (pages die) h.0, runs_exact slots feed (die + 1) plans runs pages bound.1 h.1)
+
+pub runs_are_exact : (slots : ℕ) (feed : ℕ → List ScriptItem) (plans : List DiePlan) (runs : List DieRun) → ((d : ℕ) → RowsHavePages (feed d)) → All MeetsBound plans → AreRuns slots feed 0 plans runs → AreExact plans runs
+runs_are_exact slots feed plans runs pages bound h = runs_exact slots feed 0 plans runs pages (recursion_from_All MeetsBound plans bound) h
