@@ -14,7 +14,6 @@ use Rattle.slot_types.specs.declared.events.Op.{Op}
 use Rattle.slot_types.specs.declared.events.Op.TheVariants as asks
 use Rattle.slot_types.specs.declared.events.Event.{Event}
 use Rattle.slot_types.specs.declared.events.Event.TheVariants as events
-use Rattle.slot_types.specs.declared.replies.Entry.{Entry}
 use Rattle.slot_types.specs.declared.replies.Waived.{Waived}
 use Rattle.plan_rules.specs.Bound.{MeetsBound}
 use Rattle.die_log.specs.Log.{Log, Job, Carried, jobs, job_at, carried, act_of, acts, work}
@@ -30,7 +29,7 @@ use Rattle.die_log.proofs.Legal.Exact.{stands_well}
 use Rattle.die_log.proofs.Standing.Longer.{number_at, stands_at}
 use Rattle.die_log.proofs.Tokens.Whole.{all_known}
 use Rattle.slot_core.specs.Records.{reads_of}
-use Rattle.task_script.specs.AskedPages.{AsksPages, HasPages, WritesPage}
+use Rattle.task_script.specs.AskedPages.{EntryHasPages, HasPages, WritesPage}
 use Rattle.task_script.specs.WellFormed.{IsPage}
 
 -- Lists
@@ -177,8 +176,8 @@ slot_kept plan past caller bound exact k =
       ran = all_append (HasRunPages (jobs past)) (carried past) (ran ∷ []) k.ran (good, tt);
     }
 
-abbrev AreAsked : Log → Type 0
-AreAsked log = AllByRecursion (λ (e : Entry). AsksPages e.event) log
+abbrev pub AreAsked : Log → Type 0
+AreAsked log = AllByRecursion EntryHasPages log
 
 pages_kept : (plan : DiePlan) → MeetsBound plan → (log : Log) → IsExact plan log → AreAsked log → KeepsPages plan log
 pages_kept plan bound = exact_induction plan (λ log. AreAsked log → KeepsPages plan log) none step
@@ -222,7 +221,7 @@ own_acts js n j (c ∷ cs) at h = cons_pages (HasActPages j.collects) (act_of n 
 
 acts_pages : (plan : DiePlan) (log : Log) (j : Job) → MeetsBound plan → IsExact plan log → HasPages log → Contains (jobs log) j → AllByRecursion (HasActPages j.collects) (acts j.number log)
 acts_pages plan log j bound exact asked stands =
-    let k = pages_kept plan bound log exact (recursion_from_All (λ (e : Entry). AsksPages e.event) log asked) in
+    let k = pages_kept plan bound log exact (recursion_from_All EntryHasPages log asked) in
     own_acts (jobs log) j.number j (carried log) (stands_at (jobs log) j (numbered plan log bound exact) stands) k.ran
 
 read_pages : (collects : Bool) (own : List Act) → AllByRecursion (HasActPages collects) own → AllByRecursion IsPage (reads_of own)

@@ -7,29 +7,20 @@ use Rattle.plan_rules.specs.Bound.{MeetsBound}
 use Rattle.slot_types.specs.declared.plans.DiePlan.{DiePlan}
 use Rattle.slot_types.specs.declared.events.Event.{Event}
 use Rattle.slot_types.specs.declared.refusals.Refusal.{Refusal}
-use Rattle.slot_types.specs.declared.replies.Entry.{Entry}
 use Rattle.die_log.specs.Log.{Log}
 use Rattle.die_log.proofs.Choices.{all_kept}
 use Rattle.die_log.proofs.Known.{all_append}
-use Rattle.task_script.specs.AskedPages.{AsksPages, HasPages, RowsHavePages}
+use Rattle.task_script.specs.AskedPages.{AsksPages, EntryHasPages, HasPages, RowHasPages, RowsHavePages}
 use Rattle.task_script.specs.DieRuns.{Call, Row, Slot, DieRun, Ends, IsRun, IsStep, Runs, calls_from, due_by, fresh_run, is_due, later_than}
 use Rattle.task_script.specs.ExactRuns.{AreExact}
 use Rattle.task_script.specs.Feeds.{feed_of}
 use Rattle.task_script.specs.TextRuns.{AreRuns}
 use Rattle.task_script.specs.declared.items.ScriptItem.{ScriptItem}
-
-abbrev RowHasPages : ScriptItem → Type 0
-RowHasPages item = AsksPages item.event
+use Rattle.task_script.proofs.ExactPages.{AreAsked}
 
 abbrev CallHasPages : Call → Type 0
 CallHasPages (Row item) = RowHasPages item
 CallHasPages Slot = Unit {0}
-
-abbrev EntryHasPages : Entry → Type 0
-EntryHasPages e = AsksPages e.event
-
-abbrev AreAsked : Log → Type 0
-AreAsked log = AllByRecursion EntryHasPages log
 
 -- Calls
 

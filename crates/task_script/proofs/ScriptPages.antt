@@ -14,7 +14,7 @@ use Rattle.slot_types.specs.declared.events.Event.TheVariants.{Collect, Submit}
 use Rattle.slot_types.specs.declared.pages.PageData.{PageData}
 use Rattle.slot_types.specs.declared.refusals.Cause.TheVariants as cause
 use Rattle.slot_types.specs.declared.refusals.Refusal.{Refusal}
-use Rattle.task_script.specs.AskedPages.{AsksPages, RowsHavePages, WritesPage}
+use Rattle.task_script.specs.AskedPages.{AsksPages, RowHasPages, RowsHavePages, WritesPage}
 use Rattle.task_script.specs.Header.{is_script_header}
 use Rattle.task_script.specs.Items.{at_in, collects_at, die_in, event_of, fault, field_or, item_of, number_at}
 use Rattle.task_script.specs.Number.{number_of}
@@ -83,7 +83,7 @@ words_read (word ∷ words) ops e = by_word (op_of word) refl (all_of op_of word
     by_word (Some op) at None again e = absurd (none-some ops e)
     by_word (Some op) at (Some found) again e = subst (λ (os : List Op). AllByRecursion WritesPage os) (same_Some (op ∷ found) ops e) (op_read word op at, again found refl)
 
-ops_read : (field : List ℕ) (ops : List Op) → ops_of field ≡ Some ops → All WritesPage ops
+pub ops_read : (field : List ℕ) (ops : List Op) → ops_of field ≡ Some ops → All WritesPage ops
 ops_read [] ops e = subst (All WritesPage) (same_Some [] ops e) (All-nil WritesPage)
 ops_read (b ∷ bytes) ops e = All-from_recursion WritesPage ops (words_read (slice_split (λ c. c == 32) (b ∷ bytes)) ops e)
 
@@ -104,7 +104,7 @@ bind_ok : {A B : Type 0} (r : Result A Refusal) (f : A → Result B Refusal) (y 
 bind_ok (Ok x) f y e = (x, refl, e)
 bind_ok (Err r) f y e = absurd cc
 
-ops_found : (line : ℕ) (o : Option (List Op)) (ops : List Op) → ops_or line o ≡ Ok ops → o ≡ Some ops
+pub ops_found : (line : ℕ) (o : Option (List Op)) (ops : List Op) → ops_or line o ≡ Ok ops → o ≡ Some ops
 ops_found line None ops e = absurd cc
 ops_found line (Some found) ops e = ap Some (same_ok found ops e)
 
@@ -144,7 +144,7 @@ row_asks slots lasts line fields item e =
     let event = bind_ok (event_of line c.0 t.0 r.0 u.0 (field_or fields 6)) _ item at.2 in
     subst AsksPages (ap (λ (i : ScriptItem). i.event) (same_ok _ item event.2)) (event_asks line c.0 t.0 r.0 u.0 (field_or fields 6) event.0 event.1)
 
-item_asks : (slots : ℕ) (lasts : List ℕ) (line : ℕ) (fields : List (List ℕ)) (item : ScriptItem) → item_of slots lasts line fields ≡ Ok item → AsksPages item.event
+pub item_asks : (slots : ℕ) (lasts : List ℕ) (line : ℕ) (fields : List (List ℕ)) (item : ScriptItem) → item_of slots lasts line fields ≡ Ok item → RowHasPages item
 unfolding item_of
 item_asks slots lasts line fields item = by_length (length fields == 7)
   where
@@ -153,9 +153,6 @@ item_asks slots lasts line fields item = by_length (length fields == 7)
     by_length false e = absurd cc
 
 -- Scripts
-
-abbrev RowHasPages : ScriptItem → Type 0
-RowHasPages item = AsksPages item.event
 
 abbrev ScriptHasPages : Script → Type 0
 ScriptHasPages (Ok items) = AllByRecursion RowHasPages items

@@ -19,9 +19,16 @@ abbrev pub AsksPages : Event → Type 0
 AsksPages (events.Submit task release due ops) = All WritesPage ops
 AsksPages _ = ⊤
 
--- so do all jobs of a log, and all rows of a script
+-- so do all jobs of a log
+abbrev pub EntryHasPages : Entry → Type 0
+EntryHasPages e = AsksPages e.event
+
 abbrev pub HasPages : Log → Type 0
-HasPages log = All (λ (e : Entry). AsksPages e.event) log
+HasPages log = All EntryHasPages log
+
+-- so do all rows of a script
+abbrev pub RowHasPages : ScriptItem → Type 0
+RowHasPages item = AsksPages item.event
 
 abbrev pub RowsHavePages : List ScriptItem → Type 0
-RowsHavePages items = All (λ (item : ScriptItem). AsksPages item.event) items
+RowsHavePages items = All RowHasPages items

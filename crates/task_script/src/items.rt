@@ -2,6 +2,7 @@
 
 ghost use Rattle.std.specs.Prelude.{◌≡◌, ◌<◌, length, IfOk};
 ghost use Rattle.csv.specs.Records.{fields_of};
+ghost use Rattle.task_script.specs.AskedPages.{AsksPages, RowHasPages};
 ghost use Rattle.task_script.specs.Feeds.{IsArrival};
 ghost use Rattle.task_script.specs.Items.{collects_at, event_of, item_of, number_at};
 ghost use Rattle.task_script.specs.Readings.{Gives};
@@ -70,6 +71,7 @@ fn event(
 ) -> Result<Event, Refusal>
     ensures event { Gives result (event_of line collects task release due field.now) }
     ensures arrives { IfOk result IsArrival }
+    ensures pages { IfOk result AsksPages }
 {
     if collects {
         if !field.is_empty() {
@@ -101,6 +103,7 @@ pub fn item(
     ensures item { Gives result (item_of slots lasts.now line (fields_of row.now)) }
     ensures die { IfOk result (λ item. item.die < length lasts.now) }
     ensures arrives { IfOk result (λ item. IsArrival item.event) }
+    ensures pages { IfOk result RowHasPages }
 {
     if row.len() != 7 {
         return Err(Refusal::ScriptRow {

@@ -211,15 +211,25 @@ fn put_certs(text: &mut Vec<u8>, dies: &[DieReport]) -> io::Result<()>
     Ok(())
 }
 
-/// The text of a report.
-fn text_of(alloc: Global, report: &Report) -> io::Result<Vec<u8>>
-    ensures { IfOk result (λ text. text.items ≡ report_text report.now) }
+/// Adds all records of a report.
+fn put_report(text: &mut Vec<u8>, report: &Report) -> io::Result<()>
+    ensures { OnOk result (text.new.items ≡ text.old.items ++ report_text report.now) }
+{
+    put_header(text)?;
+    put_dies(text, report.as_slice())?;
+    put_certs(text, report.as_slice())
+}
+
+/// The text of a report. The only refusal is NoMemory.
+fn text_of(alloc: Global, report: &Report) -> Result<Vec<u8>, Refusal>
+    ensures text { IfOk result (λ text. text.items ≡ report_text report.now) }
+    ensures refused { IfErr result (λ refusal. refusal ≡ Refusal.NoMemory) }
 {
     let mut text = Vec::new(alloc);
-    put_header(&mut text)?;
-    put_dies(&mut text, report.as_slice())?;
-    put_certs(&mut text, report.as_slice())?;
-    Ok(text)
+    match put_report(&mut text, report) {
+        Ok(()) => Ok(text),
+        Err(_) => Err(Refusal::NoMemory),
+    }
 }
 
 /// Writes a report as csv: a header, the rows of each die, and after all of them the certificates. Numbers have no
@@ -232,9 +242,7 @@ pub fn write_report<W: Write>(alloc: Global, writer: &mut W, report: &Report) ->
     ensures memory { result ≡ Err Refusal.NoMemory → writer.new ≡ writer.old }
     ensures refused { IfErr result (λ refusal. (refusal ≡ Refusal.NoMemory) ⊎ (refusal ≡ Refusal.WriteFault)) }
 {
-    let Ok(text) = text_of(alloc, report) else {
-        return Err(Refusal::NoMemory);
-    };
+    let text = text_of(alloc, report)?;
     match writer.write_all(&text) {
         Ok(()) => Ok(()),
         Err(_) => Err(Refusal::WriteFault),

@@ -40,6 +40,7 @@ pub struct ScriptReader<R> {
 
 impl<R: Read> ScriptReader<R> {
     ghost use Rattle.task_script.specs.Script.{Yields, script_of};
+    ghost use Rattle.task_script.specs.AskedPages.{RowHasPages};
     ghost use Rattle.task_script.specs.Feeds.{IsRowFor};
     ghost use Rattle.task_script.specs.Left.{Recalls, dies_of, script_left};
 
@@ -79,6 +80,7 @@ impl<R: Read> ScriptReader<R> {
     pub fn next(&mut self) -> Result<Option<ScriptItem>, Refusal>
         ensures item { Yields (script_left R.remaining self.old) (script_left R.remaining self.new) result }
         ensures row { IfOk result (λ o. IfSome o (IsRowFor (dies_of self.old))) }
+        ensures pages { IfOk result (λ o. IfSome o RowHasPages) }
         ensures dies { dies_of self.new ≡ dies_of self.old }
         ensures again { Recalls self.old self.new result }
     {

@@ -1,6 +1,7 @@
 //! The steps of a reader of scripts.
 
 ghost use Rattle.std.specs.Prelude.{◌≡◌, ◌<◌, ◌+◌, ◌≤◌, length, max, IfOk, IfSome};
+ghost use Rattle.task_script.specs.AskedPages.{RowHasPages};
 ghost use Rattle.task_script.specs.Feeds.{IsArrival};
 ghost use Rattle.task_script.specs.Plain.{IsPlain};
 ghost use Rattle.task_script.specs.Rows.{rows_left};
@@ -32,6 +33,7 @@ fn read_item<R: Read>(
     ensures line { IfOk result (λ o. IfSome o (λ _. line ≤ 1000001)) }
     ensures die { IfOk result (λ o. IfSome o (λ x. x.die < length lasts.now)) }
     ensures arrives { IfOk result (λ o. IfSome o (λ x. IsArrival x.event)) }
+    ensures pages { IfOk result (λ o. IfSome o RowHasPages) }
 {
     if !take_row(rows, row)? {
         return Ok(None);
@@ -59,6 +61,7 @@ fn read_first<R: Read>(
     ensures plain { IfOk result (λ _. IsPlain rows.new) }
     ensures die { IfOk result (λ o. IfSome o (λ x. x.die < length lasts.now)) }
     ensures arrives { IfOk result (λ o. IfSome o (λ x. IsArrival x.event)) }
+    ensures pages { IfOk result (λ o. IfSome o RowHasPages) }
 {
     if !take_row(rows, row)? || !heads_script(row) {
         return Err(Refusal::ScriptRow {
@@ -85,6 +88,7 @@ pub fn read_step<R: Read>(
     ensures line { IfOk result (λ o. IfSome o (λ _. line ≤ 1000001)) }
     ensures die { IfOk result (λ o. IfSome o (λ x. x.die < length lasts.now)) }
     ensures arrives { IfOk result (λ o. IfSome o (λ x. IsArrival x.event)) }
+    ensures pages { IfOk result (λ o. IfSome o RowHasPages) }
 {
     if line == 1 {
         read_first(alloc, rows, row, slots, lasts)
