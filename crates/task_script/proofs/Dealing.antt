@@ -6,7 +6,7 @@ use Rattle.std.proofs.lemmas.List.{append-nil, length-set, length-replicate, get
 use Rattle.std.proofs.lemmas.List.Elements.{All-get_or, All-nil, All-push, All-replicate, All-set, filter-append}
 use Rattle.std.proofs.Math.ListN.{set}
 use Rattle.slot_types.specs.declared.refusals.Refusal.{Refusal}
-use Rattle.task_script.specs.Feeds.{IsArrival, IsRowFor, AllArrive, feed_of, IsDealt, AreFeedsOf, RefusesScript, with_items, IsReadTo, HasDealt}
+use Rattle.task_script.specs.Feeds.{Arrives, IsRowFor, AllArrive, feed_of, IsDealt, AreFeedsOf, RefusesScript, with_items, IsReadTo, HasDealt}
 use Rattle.task_script.specs.Readings.{IsOutside}
 use Rattle.task_script.specs.Script.{Script, Yields, script_of, with_front}
 use Rattle.task_script.specs.declared.items.ScriptItem.{ScriptItem}
@@ -22,11 +22,11 @@ feed_one item die b e = ap (λ (c : Bool). cond c (item ∷ []) []) e
 feed_with : (items : List ScriptItem) (item : ScriptItem) (die : ℕ) (b : Bool) → is_of die item ≡ b → feed_of (items ++ item ∷ []) die ≡ feed_of items die ++ cond b (item ∷ []) []
 feed_with items item die b e = filter-append (is_of die) items (item ∷ []) ∙ ap (λ (xs : List ScriptItem). feed_of items die ++ xs) (feed_one item die b e)
 
-pub dealt_none : (dies : ℕ) → IsDealt dies [] (replicate dies [])
-dealt_none dies = record {
+pub dealt_none : (dies slots : ℕ) → IsDealt dies slots [] (replicate dies [])
+dealt_none dies slots = record {
   all = length-replicate dies [];
   rows = λ die below. get_or-replicate dies die [] [] below;
-  arrive = All-replicate AllArrive dies [] (All-nil (λ (item : ScriptItem). IsArrival item.event));
+  arrive = All-replicate (AllArrive slots) dies [] (All-nil (Arrives slots));
 }
 
 dealt_at : (items : List ScriptItem) (feeds : List (List ScriptItem)) (item : ScriptItem) (die : ℕ) → item.die < length feeds → get_or feeds item.die [] ≡ feed_of items item.die
@@ -44,14 +44,14 @@ dealt_at items feeds item die below own false e other =
         let yes : is_of die item ≡ true = eq-eqb item.die die (sym same) in
         absurd cc
 
-dealt_more : (dies : ℕ) (items : List ScriptItem) (feeds feeds2 : List (List ScriptItem)) (item : ScriptItem) → IsRowFor dies item
-    → feeds2 ≡ set feeds item.die (get_or feeds item.die [] ++ item ∷ []) → IsDealt dies items feeds → IsDealt dies (items ++ item ∷ []) feeds2
-dealt_more dies items feeds feeds2 item row is d =
-    subst (IsDealt dies (items ++ item ∷ [])) (sym is) (record {
+dealt_more : (dies slots : ℕ) (items : List ScriptItem) (feeds feeds2 : List (List ScriptItem)) (item : ScriptItem) → IsRowFor dies slots item
+    → feeds2 ≡ set feeds item.die (get_or feeds item.die [] ++ item ∷ []) → IsDealt dies slots items feeds → IsDealt dies slots (items ++ item ∷ []) feeds2
+dealt_more dies slots items feeds feeds2 item row is d =
+    subst (IsDealt dies slots (items ++ item ∷ [])) (sym is) (record {
       all = length-set feeds item.die _ ∙ d.all;
       rows = λ die below. dealt_at items feeds item die within (d.rows item.die row.0) (is_of die item) refl (d.rows die below);
-      arrive = All-set AllArrive feeds item.die _
-          (All-push (λ (x : ScriptItem). IsArrival x.event) (get_or feeds item.die []) item (All-get_or AllArrive feeds item.die [] within d.arrive) row.1) d.arrive;
+      arrive = All-set (AllArrive slots) feeds item.die _
+          (All-push (Arrives slots) (get_or feeds item.die []) item (All-get_or (AllArrive slots) feeds item.die [] within d.arrive) row.1) d.arrive;
     })
   where
     within : item.die < length feeds
@@ -92,27 +92,27 @@ known_by P f (Some a) h = h
 
 -- Both
 
-pub deals_none : (whole left : Option Script) (n dies : ℕ) (feeds : List (List ScriptItem)) → left ≡ whole → feeds ≡ replicate n [] → n ≡ dies → HasDealt whole left dies feeds
-deals_none whole left n dies feeds same is all =
-    ([], subst (λ (o : Option Script). IsReadTo whole o []) (sym same) (read_none whole), subst (IsDealt dies []) (sym (is ∙ ap (λ m. replicate m []) all)) (dealt_none dies))
+pub deals_none : (whole left : Option Script) (n dies slots : ℕ) (feeds : List (List ScriptItem)) → left ≡ whole → feeds ≡ replicate n [] → n ≡ dies → HasDealt whole left dies slots feeds
+deals_none whole left n dies slots feeds same is all =
+    ([], subst (λ (o : Option Script). IsReadTo whole o []) (sym same) (read_none whole), subst (IsDealt dies slots []) (sym (is ∙ ap (λ m. replicate m []) all)) (dealt_none dies slots))
 
-pub deals_more : (whole left new : Option Script) (dies : ℕ) (feeds feeds2 : List (List ScriptItem)) (item : ScriptItem) (old feed : List ScriptItem) → IsRowFor dies item
-    → old ≡ get_or feeds item.die old → feed ≡ old ++ item ∷ [] → feeds2 ≡ set feeds item.die feed → Yields left new (Ok (Some item)) → HasDealt whole left dies feeds → HasDealt whole new dies feeds2
-deals_more whole left new dies feeds feeds2 item old feed row at grown is step h =
+pub deals_more : (whole left new : Option Script) (dies slots : ℕ) (feeds feeds2 : List (List ScriptItem)) (item : ScriptItem) (old feed : List ScriptItem) → IsRowFor dies slots item
+    → old ≡ get_or feeds item.die old → feed ≡ old ++ item ∷ [] → feeds2 ≡ set feeds item.die feed → Yields left new (Ok (Some item)) → HasDealt whole left dies slots feeds → HasDealt whole new dies slots feeds2
+deals_more whole left new dies slots feeds feeds2 item old feed row at grown is step h =
     let below : item.die < length feeds = omega (arith, row.0, h.2.all) in
     let same : old ≡ get_or feeds item.die [] = at ∙ get_or_default feeds item.die old [] below in (
       h.0 ++ item ∷ [],
       read_more whole left new h.0 item h.1 step,
-      dealt_more dies h.0 feeds feeds2 item row (is ∙ ap (set feeds item.die) (grown ∙ ap (λ (xs : List ScriptItem). xs ++ item ∷ []) same)) h.2,
+      dealt_more dies slots h.0 feeds feeds2 item row (is ∙ ap (set feeds item.die) (grown ∙ ap (λ (xs : List ScriptItem). xs ++ item ∷ []) same)) h.2,
     )
 
 pub deals_all : (text : Option (List ℕ)) (left new : Option Script) (dies slots : ℕ) (feeds : List (List ScriptItem)) → Yields left new (Ok None)
-    → HasDealt (option_map (script_of dies slots) text) left dies feeds → AreFeedsOf text dies slots feeds
+    → HasDealt (option_map (script_of dies slots) text) left dies slots feeds → AreFeedsOf text dies slots feeds
 deals_all text left new dies slots feeds step h =
     (h.0, known_by (λ (all : Script). all ≡ Ok h.0) (script_of dies slots) text (read_all _ left new h.0 h.1 step), h.2)
 
 pub deals_fault : (text : Option (List ℕ)) (left new : Option Script) (dies slots : ℕ) (feeds : List (List ScriptItem)) (e : Refusal) → Yields left new (Err e)
-    → HasDealt (option_map (script_of dies slots) text) left dies feeds → RefusesScript text dies slots e
+    → HasDealt (option_map (script_of dies slots) text) left dies slots feeds → RefusesScript text dies slots e
 deals_fault text left new dies slots feeds e step h = known (read_fault _ left new h.0 e h.1 step)
   where
     known : IsOutside e ⊎ IfSome (option_map (script_of dies slots) text) (λ all. all ≡ Err e) → RefusesScript text dies slots e

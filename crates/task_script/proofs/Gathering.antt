@@ -1,15 +1,26 @@
 -- How the runs of dies are gathered.
-use Rattle.std.proofs.Common.{◌≡◌, ℕ, ◌+◌, ◌<◌, ◌≤◌, Bool, true, false, List, [], ◌∷◌, ◌++◌, refl, ap, sym, ◌∙◌, subst, length, take, get_or, append_assoc, arith, ◌==◌, Option}
+use Rattle.std.proofs.Common.{◌≡◌, ℕ, suc, ◌+◌, ◌<◌, ◌≤◌, Bool, true, false, List, [], ◌∷◌, ◌++◌, refl, ap, sym, ◌∙◌, subst, length, map, drop, get_or, append_assoc, cond, All, Some, None, arith, ◌==◌, Option}
+use Rattle.std.specs.Prelude.{IfSome}
 use Rattle.std.specs.Io.KnownBytes.{Appends}
-use Rattle.std.proofs.lemmas.Grind.{flat_map-append}
-use Rattle.std.proofs.lemmas.List.{append-nil, length-take-le, take_more, take_all}
+use Rattle.std.proofs.lemmas.List.{drop_more}
+use Rattle.std.specs.List.{AllByRecursion}
+use Rattle.std.proofs.lemmas.List.Elements.{recursion_from_All}
+use Rattle.slot_types.specs.declared.limits.TheConstants.{MAX_SLOT}
 use Rattle.slot_types.specs.declared.plans.DiePlan.{DiePlan}
+use Rattle.slot_types.specs.declared.refusals.Refusal.{Refusal}
+use Rattle.slot_types.specs.declared.refusals.Refusal.TheVariants.{NoMemory}
+use Rattle.slot_core.specs.Core.{Core}
+use Rattle.die_service.specs.declared.ends.DieEnd.{DieEnd}
+use Rattle.die_service.specs.declared.ends.RefusedEvent.{RefusedEvent}
 use Rattle.task_script.specs.DieReports.{die_report_of}
-use Rattle.task_script.specs.DieRuns.{DieRun, IsRun}
-use Rattle.task_script.specs.Feeds.{AreFeedsOf, feed_of}
+use Rattle.task_script.specs.DieRuns.{DieRun, IsRun, run_at}
+use Rattle.task_script.specs.Feeds.{AllArrive, AreFeedsOf, feed_of}
 use Rattle.task_script.specs.ReportText.{report_text}
 use Rattle.task_script.specs.RunCounts.{count_of}
-use Rattle.task_script.specs.TextRuns.{AddsRun, AreRuns, HaveRun, RunsText, ends_of, feed_at, reports_from, with_rows}
+use Rattle.task_script.specs.TextRuns.{AreRuns, HaveRun, RunsText, ends_of, feed_at, reports_from, with_rows}
+use Rattle.task_script.specs.RowEnds.{arrivals_of, lines_of, ends_from, row_end, taken_at}
+use Rattle.task_script.specs.StoreRuns.{RanFeeds, reports_of, all_ends}
+use Rattle.task_script.proofs.ClosedRuns.{die_plan, closed_run, closed_stop}
 use Rattle.task_script.specs.declared.items.ScriptItem.{ScriptItem}
 use Rattle.task_script.specs.declared.reports.DieReport.{DieReport}
 use Rattle.task_script.specs.declared.run_counts.RowEnd.{RowEnd}
@@ -19,54 +30,108 @@ rows_behind : (made : DieReport) (rest : List DieReport) (b : Bool) → (length 
 rows_behind made rest true e = rw e refl
 rows_behind made rest false e = rw e refl
 
-runs_more : (slots : ℕ) (feed : ℕ → List ScriptItem) (die : ℕ) (plans : List DiePlan) (runs : List DieRun) (plan : DiePlan) (run : DieRun) → AreRuns slots feed die plans runs
-    → IsRun plan slots (feed (die + length plans)) run → AreRuns slots feed die (plans ++ plan ∷ []) (runs ++ run ∷ [])
-runs_more slots feed die [] [] plan run are one = (subst (λ d. IsRun plan slots (feed d) run) (omega arith) one, tt)
-runs_more slots feed die [] (r ∷ runs) plan run are one = absurd are
-runs_more slots feed die (p ∷ plans) [] plan run are one = absurd are
-runs_more slots feed die (p ∷ plans) (r ∷ runs) plan run are one =
-    (are.0, runs_more slots feed (die + 1) plans runs plan run are.1 (subst (λ d. IsRun plan slots (feed d) run) (omega arith) one))
+-- the report so far, and those of the dies that are left
+pub report_more : {N : Type 0} (die : ℕ) (dies : List (Core N)) (core : Core N) (report report2 all : List DieReport) (made : DieReport) → die < length dies → core ≡ get_or dies die core
+    → made ≡ die_report_of core.plan core.log die → report2 ≡ report ++ with_rows made [] → report ++ reports_of die (drop die dies) ≡ all → report2 ++ reports_of (die + 1) (drop (die + 1) dies) ≡ all
+report_more die dies core report report2 all made below at is added so_far =
+    let here : drop die dies ≡ core ∷ drop (die + 1) dies = drop_more dies die core below ∙ ap (λ c. c ∷ drop (die + 1) dies) (sym at) in
+    let rest = reports_of (die + 1) (drop (die + 1) dies) in
+    ap (λ (xs : List DieReport). xs ++ rest) added
+    ∙ (append_assoc report (with_rows made []) rest
+    ∙ (ap (λ (xs : List DieReport). report ++ xs) (sym (rows_behind made rest _ refl) ∙ ap (λ (m : DieReport). with_rows m rest) is)
+    ∙ (ap (λ xs. report ++ reports_of die xs) (sym here) ∙ so_far)))
 
-reports_more : (slots : ℕ) (feed : ℕ → List ScriptItem) (die : ℕ) (plans : List DiePlan) (runs : List DieRun) (plan : DiePlan) (run : DieRun) → AreRuns slots feed die plans runs
-    → reports_from die (plans ++ plan ∷ []) (runs ++ run ∷ []) ≡ reports_from die plans runs ++ with_rows (die_report_of plan run.log (die + length plans)) []
-reports_more slots feed die [] [] plan run are = ap (λ d. with_rows (die_report_of plan run.log d) []) (omega arith)
-reports_more slots feed die [] (r ∷ runs) plan run are = absurd are
-reports_more slots feed die (p ∷ plans) [] plan run are = absurd are
-reports_more slots feed die (p ∷ plans) (r ∷ runs) plan run are =
-    let made = die_report_of p r.log die in
-    let last = with_rows (die_report_of plan run.log (die + length (p ∷ plans))) [] in
-    let here : die + 1 + length plans ≡ die + length (p ∷ plans) = omega arith in
-    let rest : reports_from (die + 1) (plans ++ plan ∷ []) (runs ++ run ∷ []) ≡ reports_from (die + 1) plans runs ++ last
-    = reports_more slots feed (die + 1) plans runs plan run are.1 ∙ ap (λ d. reports_from (die + 1) plans runs ++ with_rows (die_report_of plan run.log d) []) here in
-    ap (with_rows made) rest
-    ∙ (rows_behind made (reports_from (die + 1) plans runs ++ last) _ refl
-    ∙ (sym (append_assoc (with_rows made []) (reports_from (die + 1) plans runs) last)
-    ∙ ap (λ (xs : List DieReport). xs ++ last) (sym (rows_behind made (reports_from (die + 1) plans runs) _ refl))))
+-- what became of the rows so far, and of those of the dies that are left
+pub ends_more : (die : ℕ) (lines : List (List ℕ)) (ends : List DieEnd) (line : List ℕ) (end : DieEnd) (rows rows2 all : List RowEnd) → die < length lines → die < length ends
+    → line ≡ get_or lines die line → end ≡ get_or ends die end → rows2 ≡ rows ++ ends_from 0 line end.refused
+    → rows ++ all_ends (drop die lines) (drop die ends) ≡ all → rows2 ++ all_ends (drop (die + 1) lines) (drop (die + 1) ends) ≡ all
+ends_more die lines ends line end rows rows2 all below below2 at at2 added so_far =
+    let here : drop die lines ≡ line ∷ drop (die + 1) lines = drop_more lines die line below ∙ ap (λ (l : List ℕ). l ∷ drop (die + 1) lines) (sym at) in
+    let here2 : drop die ends ≡ end ∷ drop (die + 1) ends = drop_more ends die end below2 ∙ ap (λ (e : DieEnd). e ∷ drop (die + 1) ends) (sym at2) in
+    let rest = all_ends (drop (die + 1) lines) (drop (die + 1) ends) in
+    ap (λ (xs : List RowEnd). xs ++ rest) added
+    ∙ (append_assoc rows (ends_from 0 line end.refused) rest
+    ∙ (ap (λ (x : List (List ℕ) × List DieEnd). rows ++ all_ends x.0 x.1) (λ i. (sym here i, sym here2 i)) ∙ so_far))
 
-pub none_ran : (slots : ℕ) (feeds : List (List ScriptItem)) → HaveRun slots feeds [] [] []
-none_ran slots feeds = record { runs = []; ran = tt; reported = refl; ended = refl }
+-- one row more
+taken_is : (place line : ℕ) (lines : List ℕ) (refused : List RefusedEvent)
+    → ends_from place (line ∷ lines) refused ≡ row_end line (taken_at place refused).0 ∷ ends_from (place + 1) lines (taken_at place refused).1
+taken_is place line lines [] = refl
+taken_is place line lines (r ∷ refused) = by (r.place == place)
+  where
+    by : (b : Bool) → cond b (row_end line (Some r.refused.refusal) ∷ ends_from (place + 1) lines refused) (row_end line None ∷ ends_from (place + 1) lines (r ∷ refused))
+        ≡ row_end line (cond {A = Option Refusal × List RefusedEvent} b (Some r.refused.refusal, refused) (None, r ∷ refused)).0
+        ∷ ends_from (place + 1) lines (cond {A = Option Refusal × List RefusedEvent} b (Some r.refused.refusal, refused) (None, r ∷ refused)).1
+    by true = refl
+    by false = refl
 
-pub next_ran : (slots : ℕ) (feeds : List (List ScriptItem)) (plans : List DiePlan) (report report2 : List DieReport) (ends ends2 : List RowEnd) (die : ℕ) (plan : DiePlan) (items : List ScriptItem)
-    → die < length plans → plan ≡ get_or plans die plan → items ≡ feed_at feeds die → AddsRun die plan slots items report ends report2 ends2
-    → HaveRun slots feeds (take die plans) report ends → HaveRun slots feeds (take (die + 1) plans) report2 ends2
-next_ran slots feeds plans report report2 ends ends2 die plan items below at own added h =
-    let len : 0 + length (take die plans) ≡ die = omega (arith, below, length-take-le die plans (omega (arith, below))) in
-    let more : take (die + 1) plans ≡ take die plans ++ plan ∷ [] = take_more plans die plan below ∙ ap (λ (p : DiePlan). take die plans ++ p ∷ []) (sym at) in
-    let run = added.run in
-    let one : IsRun plan slots (feed_at feeds (0 + length (take die plans))) run = subst (λ (xs : List ScriptItem). IsRun plan slots xs run) (own ∙ ap (feed_at feeds) (sym len)) added.ran in
-    subst (λ (ps : List DiePlan). HaveRun slots feeds ps report2 ends2) (sym more) (record {
-      runs = h.runs ++ run ∷ [];
-      ran = runs_more slots (feed_at feeds) 0 (take die plans) h.runs plan run h.ran one;
-      reported = added.reported ∙ (ap (λ (xs : List DieReport). xs ++ with_rows (die_report_of plan run.log die) []) h.reported
-          ∙ (ap (λ d. reports_from 0 (take die plans) h.runs ++ with_rows (die_report_of plan run.log d) []) (sym len)
-          ∙ sym (reports_more slots (feed_at feeds) 0 (take die plans) h.runs plan run h.ran)));
-      ended = added.ended ∙ (ap (λ (xs : List RowEnd). xs ++ run.ends) h.ended
-          ∙ (ap (λ (xs : List RowEnd). ends_of h.runs ++ xs) (sym (append-nil run.ends)) ∙ sym (flat_map-append (λ (r : DieRun). r.ends) h.runs (run ∷ []))));
-    })
+pub row_more : (place line : ℕ) (lines : List ℕ) (refused later : List RefusedEvent) (refusal : Option Refusal) (rows rows2 all : List RowEnd) → place < length lines → line ≡ get_or lines place line
+    → refusal ≡ (taken_at place refused).0 → later ≡ (taken_at place refused).1 → rows2 ≡ rows ++ row_end line refusal ∷ []
+    → rows ++ ends_from place (drop place lines) refused ≡ all → rows2 ++ ends_from (place + 1) (drop (place + 1) lines) later ≡ all
+row_more place line lines refused later refusal rows rows2 all below at is rest added so_far =
+    let here : drop place lines ≡ line ∷ drop (place + 1) lines = drop_more lines place line below ∙ ap (λ (l : ℕ). l ∷ drop (place + 1) lines) (sym at) in
+    ap (λ (xs : List RowEnd). xs ++ ends_from (place + 1) (drop (place + 1) lines) later) added
+    ∙ (append_assoc rows (row_end line refusal ∷ []) _
+    ∙ (ap (λ (x : Option Refusal × List RefusedEvent). rows ++ row_end line x.0 ∷ ends_from (place + 1) (drop (place + 1) lines) x.1) (λ i. (is i, rest i))
+    ∙ (ap (λ (xs : List RowEnd). rows ++ xs) (sym (taken_is place line (drop (place + 1) lines) refused))
+    ∙ (ap (λ (xs : List ℕ). rows ++ ends_from place xs refused) (sym here) ∙ so_far))))
 
-pub all_ran : (slots : ℕ) (feeds : List (List ScriptItem)) (plans : List DiePlan) (report : List DieReport) (ends : List RowEnd) (n : ℕ) → length plans ≤ n
-    → HaveRun slots feeds (take n plans) report ends → HaveRun slots feeds plans report ends
-all_ran slots feeds plans report ends n all h = subst (λ (ps : List DiePlan). HaveRun slots feeds ps report ends) (take_all n plans all) h
+-- The runs of dies that were closed
+
+record Gathered {N : Type 0} (slots number : ℕ) (feed : ℕ → List ScriptItem) (plans : List DiePlan) (rows : List (List ScriptItem)) (ends : List DieEnd) (dies : List (Core N)) : Type 0 where
+  pub runs : List DieRun
+  pub ran : AreRuns slots feed number plans runs
+  pub reported : reports_of number dies ≡ reports_from number plans runs
+  pub ended : all_ends (map lines_of rows) ends ≡ ends_of runs
+
+gathered : {N : Type 0} (slots number : ℕ) (feed : ℕ → List ScriptItem) (plans : List DiePlan) (rows : List (List ScriptItem)) (ends : List DieEnd) (dies : List (Core N))
+    → ((k : ℕ) → k < length rows → feed (number + k) ≡ get_or rows k []) → AllByRecursion (AllArrive slots) rows → AllByRecursion (λ end. end.stop ≡ None) ends
+    → RanFeeds slots plans (map arrivals_of rows) ends dies → Gathered slots number feed plans rows ends dies
+gathered slots number feed [] [] [] [] own arrive none ran = record { runs = []; ran = tt; reported = refl; ended = refl }
+gathered slots number feed (plan ∷ plans) (items ∷ rows) (end ∷ ends) (die ∷ dies) own arrive none ran =
+    let first : feed number ≡ items = ap feed (omega arith) ∙ own 0 (omega arith) in
+    let rest = gathered slots (number + 1) feed plans rows ends dies (λ k below. ap feed (omega arith) ∙ own (suc k) (omega (arith, below))) arrive.1 none.1 ran.1 in
+    let run = run_at die.log (ends_from 0 (lines_of items) end.refused) in
+    record {
+      runs = run ∷ rest.runs;
+      ran = (subst (λ (xs : List ScriptItem). IsRun plan slots xs run) (sym first) (closed_run slots plan items end die ran.0 arrive.0 none.0), rest.ran);
+      reported = ap (λ (p : DiePlan). with_rows (die_report_of p die.log number) (reports_of (number + 1) dies)) (die_plan slots plan (arrivals_of items) end die ran.0)
+          ∙ ap (with_rows (die_report_of plan die.log number)) rest.reported;
+      ended = ap (λ (xs : List RowEnd). ends_from 0 (lines_of items) end.refused ++ xs) rest.ended;
+    }
+gathered slots number feed [] [] [] (die ∷ dies) own arrive none ran = absurd ran
+gathered slots number feed [] [] (end ∷ ends) dies own arrive none ran = absurd ran
+gathered slots number feed [] (items ∷ rows) ends dies own arrive none ran = absurd ran
+gathered slots number feed (plan ∷ plans) [] ends dies own arrive none ran = absurd ran
+gathered slots number feed (plan ∷ plans) (items ∷ rows) [] dies own arrive none ran = absurd ran
+gathered slots number feed (plan ∷ plans) (items ∷ rows) (end ∷ ends) [] own arrive none ran = absurd ran
+
+pub have_run : {N : Type 0} (slots : ℕ) (plans : List DiePlan) (rows : List (List ScriptItem)) (ends : List DieEnd) (dies : List (Core N)) (report : List DieReport) (made : List RowEnd)
+    → All (AllArrive slots) rows → All (λ end. end.stop ≡ None) ends → RanFeeds slots plans (map arrivals_of rows) ends dies → report ≡ reports_of 0 dies → made ≡ all_ends (map lines_of rows) ends
+    → HaveRun slots rows plans report made
+have_run slots plans rows ends dies report made arrive none ran reported ended =
+    let g = gathered slots 0 (feed_at rows) plans rows ends dies (λ k below. ap (feed_at rows) (omega arith)) (recursion_from_All (AllArrive slots) rows arrive) (recursion_from_All (λ end. end.stop ≡ None) ends none) ran in
+    record { runs = g.runs; ran = g.ran; reported = reported ∙ g.reported; ended = ended ∙ g.ended }
+
+-- where the run of a die ended early, memory was refused
+abbrev pub StopsForMemory : DieEnd → Type 0
+StopsForMemory end = IfSome end.stop (λ stop. stop.refusal ≡ NoMemory)
+
+abbrev pub IsWhole : DieEnd → Type 0
+IsWhole end = end.stop ≡ None
+
+-- a slot is refused for want of memory alone
+pub stops_for_memory : {N : Type 0} (slots : ℕ) (plans : List DiePlan) (rows : List (List ScriptItem)) (ends : List DieEnd) (dies : List (Core N)) → slots ≤ MAX_SLOT
+    → AllByRecursion (AllArrive slots) rows → RanFeeds slots plans (map arrivals_of rows) ends dies → AllByRecursion (λ end. IfSome end.stop (λ stop. stop.refusal ≡ NoMemory)) ends
+stops_for_memory slots [] [] [] [] few arrive ran = tt
+stops_for_memory slots (plan ∷ plans) (items ∷ rows) (end ∷ ends) (die ∷ dies) few arrive ran =
+    (closed_stop slots plan items end die ran.0 arrive.0 few, stops_for_memory slots plans rows ends dies few arrive.1 ran.1)
+stops_for_memory slots [] [] [] (die ∷ dies) few arrive ran = absurd ran
+stops_for_memory slots [] [] (end ∷ ends) dies few arrive ran = absurd ran
+stops_for_memory slots [] (items ∷ rows) ends dies few arrive ran = absurd ran
+stops_for_memory slots (plan ∷ plans) [] ends dies few arrive ran = absurd ran
+stops_for_memory slots (plan ∷ plans) (items ∷ rows) [] dies few arrive ran = absurd ran
+stops_for_memory slots (plan ∷ plans) (items ∷ rows) (end ∷ ends) [] few arrive ran = absurd ran
 
 -- the same runs, with the rows of each die by another name
 same_feeds : (slots : ℕ) (one two : ℕ → List ScriptItem) (die : ℕ) (plans : List DiePlan) (runs : List DieRun) → ((d : ℕ) → d < die + length plans → one d ≡ two d)

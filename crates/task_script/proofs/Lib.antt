@@ -19,6 +19,10 @@ pub mod Calling
 pub mod Dealing
 pub mod Gathering
 pub mod StoreLaws
+pub mod Transcripts
+pub mod FeedRuns
+pub mod ClosedRuns
+pub mod Storing
 pub mod ExactPages
 pub mod ExactNumbers
 pub mod ExactWorst

@@ -23,3 +23,10 @@ store_few plan (Err e) h = tt
 pub store_bound : (plan : PlanNumbers) (r : Result (List DiePlan) Refusal) → IfOk r (IsStore plan) → IfOk r (All MeetsBound)
 store_bound plan (Ok store) h = all_bound plan store h
 store_bound plan (Err e) h = tt
+
+some_dies : (plan : PlanNumbers) (store : List DiePlan) → IsStore plan store → 1 ≤ length store
+some_dies plan store is = omega (arith, ap length is.dies, length-map-range_with_len (die_of plan) 0 plan.top.dies, is.shaped.some_dies)
+
+pub store_some : (plan : PlanNumbers) (r : Result (List DiePlan) Refusal) → IfOk r (IsStore plan) → IfOk r (λ store. 1 ≤ length store)
+store_some plan (Ok store) h = some_dies plan store h
+store_some plan (Err e) h = tt

@@ -1,33 +1,31 @@
 -- The rows of a script, by die.
-use Rattle.std.specs.Prelude.{◌≡◌, ◌==◌, ◌⊎◌, ⊤, ℕ, ◌<◌, List, [], ◌++◌, All, filter, length, get_or, Option, Some, None, IfSome, Ok, Err}
-use Rattle.slot_types.specs.declared.events.Event.{Event}
-use Rattle.slot_types.specs.declared.events.Event.TheVariants.{Slot}
+use Rattle.std.specs.Prelude.{◌≡◌, ◌==◌, ◌⊎◌, ⊤, ℕ, ◌<◌, ◌≤◌, List, [], ◌++◌, All, filter, length, get_or, Option, Some, None, IfSome, Ok, Err}
+use Rattle.die_service.specs.Runs.{IsArrival}
 use Rattle.slot_types.specs.declared.refusals.Refusal.{Refusal}
 use Rattle.task_script.specs.Readings.{IsOutside}
 use Rattle.task_script.specs.Script.{Script, script_of}
 use Rattle.task_script.specs.declared.items.ScriptItem.{ScriptItem}
 
--- what a row asks: any event but a slot
-abbrev pub IsArrival : Event → Type 0
-IsArrival Slot = ⊥
-IsArrival _ = Unit {0}
+-- what a row asks: any event but a slot, by the end of so many slots
+abbrev pub Arrives : ℕ → ScriptItem → Type 0
+Arrives slots item = (item.at ≤ slots) × IsArrival item.event
 
 -- a row for one of so many dies
-abbrev pub IsRowFor : ℕ → ScriptItem → Type 0
-IsRowFor dies item = (item.die < dies) × IsArrival item.event
+abbrev pub IsRowFor : ℕ → ℕ → ScriptItem → Type 0
+IsRowFor dies slots item = (item.die < dies) × Arrives slots item
 
-abbrev pub AllArrive : List ScriptItem → Type 0
-AllArrive items = All (λ item. IsArrival item.event) items
+abbrev pub AllArrive : ℕ → List ScriptItem → Type 0
+AllArrive slots items = All (Arrives slots) items
 
 -- the rows of a die, in their order
 abbrev pub feed_of : List ScriptItem → ℕ → List ScriptItem
 feed_of items die = filter (λ item. item.die == die) items
 
 -- the rows of so many dies, by die
-pub record IsDealt (dies : ℕ) (items : List ScriptItem) (feeds : List (List ScriptItem)) : Type 0 where
+pub record IsDealt (dies slots : ℕ) (items : List ScriptItem) (feeds : List (List ScriptItem)) : Type 0 where
   pub all : length feeds ≡ dies
   pub rows : (die : ℕ) → die < dies → get_or feeds die [] ≡ feed_of items die
-  pub arrive : All AllArrive feeds
+  pub arrive : All (AllArrive slots) feeds
 
 -- the items of the script, where its text is known
 abbrev pub AreItemsOf : Option (List ℕ) → ℕ → ℕ → List ScriptItem → Type 0
@@ -35,7 +33,7 @@ AreItemsOf text dies slots items = IfSome text (λ bytes. script_of dies slots b
 
 -- the items of the script, by die
 abbrev pub AreFeedsOf : Option (List ℕ) → ℕ → ℕ → List (List ScriptItem) → Type 0
-AreFeedsOf text dies slots feeds = (items : List ScriptItem) × AreItemsOf text dies slots items × IsDealt dies items feeds
+AreFeedsOf text dies slots feeds = (items : List ScriptItem) × AreItemsOf text dies slots items × IsDealt dies slots items feeds
 
 -- memory ran out, or the reader failed; or the script has this fault
 abbrev pub RefusesScript : Option (List ℕ) → ℕ → ℕ → Refusal → Type 0
@@ -55,5 +53,5 @@ IsReadTo (Some all) None items = ⊥
 IsReadTo (Some all) (Some more) items = all ≡ with_items items more
 
 -- so far these feeds were dealt
-abbrev pub HasDealt : Option Script → Option Script → ℕ → List (List ScriptItem) → Type 0
-HasDealt whole left dies feeds = (items : List ScriptItem) × IsReadTo whole left items × IsDealt dies items feeds
+abbrev pub HasDealt : Option Script → Option Script → ℕ → ℕ → List (List ScriptItem) → Type 0
+HasDealt whole left dies slots feeds = (items : List ScriptItem) × IsReadTo whole left items × IsDealt dies slots items feeds

@@ -20,6 +20,10 @@ script_left rem s = unless_refused s.refused (if s.ended then Some (Ok []) else 
 abbrev pub dies_of : {R : Type 0} → ScriptReader R → ℕ
 dies_of s = length s.lasts.items
 
+-- for how many slots
+abbrev pub slots_of : {R : Type 0} → ScriptReader R → ℕ
+slots_of s = s.slots
+
 -- a reader that was refused answers the same again, and one that is refused now will
 abbrev pub Recalls : {R : Type 0} → ScriptReader R → ScriptReader R → Result (Option ScriptItem) Refusal → Type 0
 Recalls old new (Ok x) = (old.refused ≡ None) × (new.refused ≡ None)

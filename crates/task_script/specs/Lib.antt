@@ -10,6 +10,7 @@ pub mod Words
 pub mod Ops
 pub mod Bounded
 pub mod Plain
+pub mod RowEnds
 pub mod Rows
 pub mod Header
 pub mod Items
@@ -22,10 +23,11 @@ pub mod ReportOf
 pub mod Progress
 pub mod Numbered
 pub mod WellFormed
-pub mod AskedPages
 pub mod DieReports
 pub mod Feeds
 pub mod RunCounts
 pub mod DieRuns
+pub mod AskedPages
 pub mod TextRuns
+pub mod StoreRuns
 pub mod ExactRuns

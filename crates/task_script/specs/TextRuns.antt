@@ -1,5 +1,5 @@
 -- What comes of a script on the dies of a store.
-use Rattle.std.specs.Prelude.{◌≡◌, ◌==◌, ◌⊎◌, ⊤, ℕ, ◌+◌, if◌then◌else◌, List, [], ◌∷◌, ◌++◌, flat_map, length, get_or, Option}
+use Rattle.std.specs.Prelude.{◌≡◌, ◌==◌, ◌⊎◌, ⊤, ℕ, ◌+◌, if◌then◌else◌, List, [], ◌∷◌, flat_map, length, get_or, Option}
 use Rattle.std.specs.Io.KnownBytes.{Appends}
 use Rattle.slot_types.specs.declared.plans.DiePlan.{DiePlan}
 use Rattle.slot_types.specs.declared.refusals.Refusal.{Refusal}
@@ -51,14 +51,6 @@ RefusesText text dies slots refusal = RefusesScript text dies slots refusal ⊎ 
 
 abbrev pub feed_at : List (List ScriptItem) → ℕ → List ScriptItem
 feed_at feeds die = get_or feeds die []
-
--- a die of this number ran its rows, and its report and what became of its rows were added
-pub record AddsRun (die : ℕ) (plan : DiePlan) (slots : ℕ) (items : List ScriptItem) (report : List DieReport) (ends : List RowEnd)
-    (report2 : List DieReport) (ends2 : List RowEnd) : Type 0 where
-  pub run : DieRun
-  pub ran : IsRun plan slots items run
-  pub reported : report2 ≡ report ++ with_rows (die_report_of plan run.log die) []
-  pub ended : ends2 ≡ ends ++ run.ends
 
 -- these dies ran, and these are their reports and what became of their rows
 pub record HaveRun (slots : ℕ) (feeds : List (List ScriptItem)) (plans : List DiePlan) (report : List DieReport) (ends : List RowEnd) : Type 0 where

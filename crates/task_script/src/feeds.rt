@@ -10,16 +10,16 @@ use std::alloc::Global;
 use std::io::Read;
 
 /// The rows of a die, in their order.
-pub type Feed = Items<ScriptItem>;
+pub type DieRows = Items<ScriptItem>;
 
 /// By die no row.
-fn no_feeds(alloc: Global, dies: usize) -> Result<Vec<Feed>, Refusal>
+fn no_feeds(alloc: Global, dies: usize) -> Result<Vec<DieRows>, Refusal>
     ensures ok { IfOk result (λ feeds. feeds.items ≡ replicate dies []) }
     ensures refused { IfErr result (λ refusal. refusal ≡ Refusal.NoMemory) }
 {
     let mut feeds = Vec::new(alloc);
     for _ in 0..dies {
-        match feeds.push(Feed::new(alloc)) {
+        match feeds.push(DieRows::new(alloc)) {
             Ok(()) => {}
             Err(_) => return Err(Refusal::NoMemory),
         }
@@ -28,7 +28,7 @@ fn no_feeds(alloc: Global, dies: usize) -> Result<Vec<Feed>, Refusal>
 }
 
 /// Adds a row.
-fn add(feed: &mut Feed, item: ScriptItem) -> Result<(), Refusal>
+fn add(feed: &mut DieRows, item: ScriptItem) -> Result<(), Refusal>
     ensures ok { OnOk result (feed.new ≡ feed.old ++ item ∷ []) }
     ensures refused { IfErr result (λ refusal. refusal ≡ Refusal.NoMemory) }
 {
@@ -42,7 +42,7 @@ pub fn read_feeds<R: Read + Drop>(
     reader: R,
     plan: &StorePlan,
     slots: u32,
-) -> Result<Vec<Feed>, Refusal>
+) -> Result<Vec<DieRows>, Refusal>
     ensures feeds { IfOk result (λ feeds. AreFeedsOf (R.remaining reader) (length plan.now) slots feeds.items) }
     ensures refused { IfErr result (RefusesScript (R.remaining reader) (length plan.now) slots) }
 {

@@ -2,8 +2,9 @@
 
 ghost use Rattle.std.specs.Prelude.{◌≡◌, ◌<◌, length, IfOk};
 ghost use Rattle.csv.specs.Records.{fields_of};
+ghost use Rattle.die_service.specs.Runs.{IsArrival};
 ghost use Rattle.task_script.specs.AskedPages.{AsksPages, RowHasPages};
-ghost use Rattle.task_script.specs.Feeds.{IsArrival};
+ghost use Rattle.task_script.specs.Feeds.{Arrives};
 ghost use Rattle.task_script.specs.Items.{collects_at, event_of, item_of, number_at};
 ghost use Rattle.task_script.specs.Readings.{Gives};
 
@@ -102,7 +103,7 @@ pub fn item(
 ) -> Result<ScriptItem, Refusal>
     ensures item { Gives result (item_of slots lasts.now line (fields_of row.now)) }
     ensures die { IfOk result (λ item. item.die < length lasts.now) }
-    ensures arrives { IfOk result (λ item. IsArrival item.event) }
+    ensures arrives { IfOk result (Arrives slots) }
     ensures pages { IfOk result RowHasPages }
 {
     if row.len() != 7 {

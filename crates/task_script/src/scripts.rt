@@ -42,7 +42,7 @@ impl<R: Read> ScriptReader<R> {
     ghost use Rattle.task_script.specs.Script.{Yields, script_of};
     ghost use Rattle.task_script.specs.AskedPages.{RowHasPages};
     ghost use Rattle.task_script.specs.Feeds.{IsRowFor};
-    ghost use Rattle.task_script.specs.Left.{Recalls, dies_of, script_left};
+    ghost use Rattle.task_script.specs.Left.{Recalls, dies_of, script_left, slots_of};
 
     /// A reader of a script for the dies of a store and so many slots. The only refusal is NoMemory.
     pub fn new(
@@ -54,6 +54,7 @@ impl<R: Read> ScriptReader<R> {
     where
         R: Drop,
         ensures dies { IfOk result (λ script. dies_of script ≡ length plan.now) }
+        ensures slots { IfOk result (λ script. slots_of script ≡ slots) }
         ensures script { IfOk result (λ script. script_left R.remaining script ≡ option_map (script_of (length plan.now) slots) (R.remaining reader)) }
         ensures refused { IfErr result (λ refusal. refusal ≡ Refusal.NoMemory) }
     {
@@ -79,9 +80,10 @@ impl<R: Read> ScriptReader<R> {
     /// is refused.
     pub fn next(&mut self) -> Result<Option<ScriptItem>, Refusal>
         ensures item { Yields (script_left R.remaining self.old) (script_left R.remaining self.new) result }
-        ensures row { IfOk result (λ o. IfSome o (IsRowFor (dies_of self.old))) }
+        ensures row { IfOk result (λ o. IfSome o (IsRowFor (dies_of self.old) (slots_of self.old))) }
         ensures pages { IfOk result (λ o. IfSome o RowHasPages) }
         ensures dies { dies_of self.new ≡ dies_of self.old }
+        ensures slots { slots_of self.new ≡ slots_of self.old }
         ensures again { Recalls self.old self.new result }
     {
         if let Some(refusal) = self.refused {

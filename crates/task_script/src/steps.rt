@@ -2,7 +2,7 @@
 
 ghost use Rattle.std.specs.Prelude.{◌≡◌, ◌<◌, ◌+◌, ◌≤◌, length, max, IfOk, IfSome};
 ghost use Rattle.task_script.specs.AskedPages.{RowHasPages};
-ghost use Rattle.task_script.specs.Feeds.{IsArrival};
+ghost use Rattle.task_script.specs.Feeds.{Arrives};
 ghost use Rattle.task_script.specs.Plain.{IsPlain};
 ghost use Rattle.task_script.specs.Rows.{rows_left};
 ghost use Rattle.task_script.specs.Script.{StepOf, after_item, items_from, script_at, script_from};
@@ -32,7 +32,7 @@ fn read_item<R: Read>(
     ensures plain { IfOk result (λ _. IsPlain rows.new) }
     ensures line { IfOk result (λ o. IfSome o (λ _. line ≤ 1000001)) }
     ensures die { IfOk result (λ o. IfSome o (λ x. x.die < length lasts.now)) }
-    ensures arrives { IfOk result (λ o. IfSome o (λ x. IsArrival x.event)) }
+    ensures arrives { IfOk result (λ o. IfSome o (Arrives slots)) }
     ensures pages { IfOk result (λ o. IfSome o RowHasPages) }
 {
     if !take_row(rows, row)? {
@@ -60,7 +60,7 @@ fn read_first<R: Read>(
     ensures step { StepOf (script_from slots lasts.now) (λ x. items_from slots (after_item lasts.now x) 3) (rows_left R.remaining rows.old) (rows_left R.remaining rows.new) result }
     ensures plain { IfOk result (λ _. IsPlain rows.new) }
     ensures die { IfOk result (λ o. IfSome o (λ x. x.die < length lasts.now)) }
-    ensures arrives { IfOk result (λ o. IfSome o (λ x. IsArrival x.event)) }
+    ensures arrives { IfOk result (λ o. IfSome o (Arrives slots)) }
     ensures pages { IfOk result (λ o. IfSome o RowHasPages) }
 {
     if !take_row(rows, row)? || !heads_script(row) {
@@ -87,7 +87,7 @@ pub fn read_step<R: Read>(
     ensures plain { IfOk result (λ _. IsPlain rows.new) }
     ensures line { IfOk result (λ o. IfSome o (λ _. line ≤ 1000001)) }
     ensures die { IfOk result (λ o. IfSome o (λ x. x.die < length lasts.now)) }
-    ensures arrives { IfOk result (λ o. IfSome o (λ x. IsArrival x.event)) }
+    ensures arrives { IfOk result (λ o. IfSome o (Arrives slots)) }
     ensures pages { IfOk result (λ o. IfSome o RowHasPages) }
 {
     if line == 1 {

@@ -117,6 +117,7 @@ fn store_of(alloc: Global, plan: &PlanNumbers) -> Result<StorePlan, Refusal>
 /// there, or a die doesn't meet the bound on plans. NoMemory comes where memory is refused.
 pub fn read_plan(alloc: Global, bytes: &[u8]) -> Result<StorePlan, Refusal>
     ensures ok { IfOk result (λ store. (plan : PlanNumbers) × (plan_of bytes.now ≡ Ok plan) × IsStore plan store) }
+    ensures some { IfOk result (λ store. 1 ≤ length store) }
     ensures few { IfOk result (λ store. length store ≤ 8) }
     ensures bound { IfOk result (All MeetsBound) }
     ensures err { IfErr result (λ refusal. (refusal ≡ Refusal.NoMemory) ⊎ RefusesPlan (plan_of bytes.now) refusal) }

@@ -1,20 +1,26 @@
 //! Scripts that are run on the dies of a store.
 
-ghost use Rattle.std.specs.Prelude.{◌≡◌, ◌≤◌, ◌++◌, [], All, length, IfOk, IfErr, OnOk};
+ghost use Rattle.std.specs.Prelude.{◌≡◌, ◌≤◌, ◌++◌, [], None, All, length, map, IfOk, IfErr, IfSome, OnOk};
 ghost use Rattle.plan_rules.specs.Bound.{MeetsBound};
 ghost use Rattle.task_script.specs.Feeds.{AllArrive};
-ghost use Rattle.task_script.specs.TextRuns.{AddsRun, HaveRun, RefusesText, RunsText, with_rows};
+ghost use Rattle.task_script.specs.RowEnds.{ends_from, taken_at};
+ghost use Rattle.task_script.specs.StoreRuns.{all_ends, reports_of};
+ghost use Rattle.task_script.specs.TextRuns.{HaveRun, RefusesText, RunsText, with_rows};
 
 use crate::die_reports::die_report;
-use crate::die_runs::run_die;
-use crate::feeds::{Feed, read_feeds};
-use crate::items::ScriptItem;
+use crate::die_runs::{Lines, run_store, split_all};
+use crate::feeds::{DieRows, read_feeds};
 use crate::report_texts::write_report;
 use crate::reports::{DieReport, Report};
 use crate::run_counts::{RowEnd, RowEnds, RunCount, count};
+use die_service::{DieEnd, RefusedEvent};
+use flash_die::MemoryNand;
+use slot_core::DieCore;
 use slot_types::{DiePlan, MAX_SLOT, Refusal, StorePlan};
 use std::alloc::Global;
 use std::io::{Read, Write};
+use std::sync::Wait;
+use std::thread::Threads;
 
 /// Dies that carried out their slots: their report, and what became of their rows.
 #[derive(Drop)]
@@ -23,13 +29,33 @@ struct RanStore {
     ends: RowEnds,
 }
 
-/// Adds what became of rows.
-fn add_ends(ends: &mut RowEnds, more: &[RowEnd]) -> Result<(), Refusal>
-    ensures ok { OnOk result (ends.new ≡ ends.old ++ more.now) }
+/// Why the event of a place was refused, if it was, and the refused events behind it.
+fn take_refused(refused: &[RefusedEvent], place: usize) -> (Option<Refusal>, &[RefusedEvent])
+    ensures refusal { result.0 ≡ (taken_at place refused.now).0 }
+    ensures rest { result.1.now ≡ (taken_at place refused.now).1 }
+{
+    match refused.split_first() {
+        Some((first, rest)) if first.place == place => (Some(first.refused.refusal), rest),
+        _ => (None, refused),
+    }
+}
+
+/// Adds what became of the rows with these lines, by the events that were refused.
+fn add_ends(lines: &[u32], refused: &[RefusedEvent], ends: &mut RowEnds) -> Result<(), Refusal>
+    ensures ok { OnOk result (ends.new ≡ ends.old ++ ends_from 0 lines.now refused.now) }
     ensures refused { IfErr result (λ refusal. refusal ≡ Refusal.NoMemory) }
 {
-    for end in more {
-        ends.push(*end)?;
+    let mut rest = refused;
+    for place in 0..lines.len() {
+        let (refusal, later) = take_refused(rest, place);
+        match ends.push(RowEnd {
+            line: lines[place],
+            refusal,
+        }) {
+            Ok(()) => {}
+            Err(_) => return Err(Refusal::NoMemory),
+        }
+        rest = later;
     }
     Ok(())
 }
@@ -46,89 +72,112 @@ fn add_report(report: &mut Report, made: DieReport) -> Result<(), Refusal>
     Ok(())
 }
 
-/// Runs a die, and adds its report and what became of its rows of the script.
-fn run_next(
-    alloc: Global,
-    die: u32,
-    plan: &DiePlan,
-    items: &[ScriptItem],
-    slots: u32,
-    report: &mut Report,
-    ends: &mut RowEnds,
-) -> Result<(), Refusal>
-    requires bound { MeetsBound plan.now }
-    requires arrive { AllArrive items.now }
-    requires few { slots ≤ MAX_SLOT }
-    ensures ran { OnOk result (AddsRun die plan.now slots items.now report.old ends.old report.new ends.new) }
+/// Whether each die carried out all its slots. The only refusal is NoMemory.
+fn none_stopped(ends: &[DieEnd]) -> Result<(), Refusal>
+    requires memory { All (λ end. IfSome end.stop (λ stop. stop.refusal ≡ Refusal.NoMemory)) ends.now }
+    ensures ok { OnOk result (All (λ end. end.stop ≡ None) ends.now) }
     ensures refused { IfErr result (λ refusal. refusal ≡ Refusal.NoMemory) }
 {
-    let ran = run_die(alloc, plan, items, slots)?;
-    add_ends(ends, ran.ends.as_slice())?;
-    let made = die_report(alloc, die, &ran.core)?;
-    add_report(report, made)?;
+    for end in ends {
+        match end.stop {
+            Some(stop) => return Err(stop.refusal),
+            None => {}
+        }
+    }
     Ok(())
 }
 
-/// Runs the dies, one after the other, in the order of their numbers.
-fn run_dies(
+/// The report of dies, by number, and what became of their rows, die by die. The only refusal is NoMemory.
+fn gather(
     alloc: Global,
-    plans: &[DiePlan],
-    feeds: &[Feed],
-    slots: u32,
+    lines: &[Lines],
+    ends: &[DieEnd],
+    dies: &[DieCore<MemoryNand>],
 ) -> Result<RanStore, Refusal>
-    requires dies { length plans.now ≤ 8 }
-    requires bound { All MeetsBound plans.now }
-    requires feeds { length feeds.now ≡ length plans.now }
-    requires arrive { All AllArrive feeds.now }
-    requires few { slots ≤ MAX_SLOT }
-    ensures ran { IfOk result (λ ran. HaveRun slots feeds.now plans.now ran.report ran.ends) }
+    requires few { length dies.now ≤ 8 }
+    requires lines { length lines.now ≡ length dies.now }
+    requires ends { length ends.now ≡ length dies.now }
+    ensures report { IfOk result (λ ran. ran.report ≡ reports_of 0 dies.now) }
+    ensures ends { IfOk result (λ ran. ran.ends ≡ all_ends lines.now ends.now) }
     ensures refused { IfErr result (λ refusal. refusal ≡ Refusal.NoMemory) }
 {
-    let mut report = Report::new(alloc);
-    let mut ends = RowEnds::new(alloc);
-    for die in 0..plans.len() {
-        match run_next(
-            alloc,
-            die as u32,
-            &plans[die],
-            feeds[die].as_slice(),
-            slots,
-            &mut report,
-            &mut ends,
-        ) {
+    let mut ran = RanStore {
+        report: Report::new(alloc),
+        ends: RowEnds::new(alloc),
+    };
+    for die in 0..dies.len() {
+        let refused = ends[die].refused.as_slice();
+        match add_ends(lines[die].as_slice(), refused, &mut ran.ends) {
             Ok(()) => {}
             Err(refusal) => return Err(refusal),
         }
+        match die_report(alloc, die as u32, &dies[die]) {
+            Ok(made) => match add_report(&mut ran.report, made) {
+                Ok(()) => {}
+                Err(refusal) => return Err(refusal),
+            },
+            Err(refusal) => return Err(refusal),
+        }
     }
-    Ok(RanStore { report, ends })
+    Ok(ran)
 }
 
-/// Runs a script on a store of 1 to 8 dies in memory, and writes the report of what became of it. Each die carries out
-/// so many slots, from 0 to 1,048,576. A row comes before the slot of its `at`, those of one die in their order, and
-/// those whose `at` is the number of slots come after the last one. A row that its die refuses is no event, and doesn't
-/// stop the run; it is counted.
+/// Runs the dies with their rows. The only refusal is NoMemory.
+fn run_dies<R: Threads + Wait + Sync>(
+    rt: &R,
+    alloc: Global,
+    plans: &[DiePlan],
+    rows: Vec<DieRows>,
+    slots: u32,
+    workers: u32,
+) -> Result<RanStore, Refusal>
+    requires some { 1 ≤ length plans.now }
+    requires few { length plans.now ≤ 8 }
+    requires bound { All MeetsBound plans.now }
+    requires rows { length rows.items ≡ length plans.now }
+    requires arrive { All (AllArrive slots) rows.items }
+    requires slots { slots ≤ MAX_SLOT }
+    requires workers { (1 ≤ workers) × (workers ≤ 16) }
+    ensures ran { IfOk result (λ ran. HaveRun slots rows.items plans.now ran.report ran.ends) }
+    ensures refused { IfErr result (λ refusal. refusal ≡ Refusal.NoMemory) }
+{
+    let (feeds, lines) = split_all(alloc, rows)?;
+    let (dies, ends) = run_store(rt, alloc, plans, feeds, slots, workers)?;
+    none_stopped(ends.as_slice())?;
+    gather(alloc, &lines, ends.as_slice(), &dies)
+}
+
+/// Runs a script on a store of 1 to 8 dies in memory by 1 to 16 workers, and writes the report of what became of it. Each
+/// die carries out so many slots, from 0 to 1,048,576. A row comes before the slot of its `at`, those of one die in their
+/// order, and those whose `at` is the number of slots come after the last one. A row that its die refuses is no event, and
+/// doesn't stop the run; it is counted.
 ///
-/// What is written is proved to be the report read off the exact logs of the accepted rows and the slots.
+/// What is written is proved to be the report read off the exact logs of the accepted rows and the slots, whatever the
+/// number of workers. May wait for the workers.
 ///
 /// It ends with the first fault of the script, as [`ScriptReader`](crate::ScriptReader) tells it; with `ReadFault`; or
 /// with `NoMemory`. Nothing is written before the whole script was read and run, and nothing with these. `WriteFault`
 /// comes where the writer fails; how much it took by then is not said.
-pub fn run_text<R: Read + Drop, W: Write>(
+pub fn run_text<R: Threads + Wait + Sync, S: Read + Drop, W: Write>(
+    rt: &R,
     alloc: Global,
     plan: &StorePlan,
-    script: R,
+    script: S,
     writer: &mut W,
     slots: u32,
+    workers: u32,
 ) -> Result<RunCount, Refusal>
+    requires some { 1 ≤ length plan.now }
     requires dies { length plan.now ≤ 8 }
     requires bound { All MeetsBound plan.now }
     requires few { slots ≤ MAX_SLOT }
-    ensures ran { IfOk result (λ count. RunsText (R.remaining script) plan.now slots count (W.contents writer.old) (W.contents writer.new)) }
-    ensures refused { IfErr result (RefusesText (R.remaining script) (length plan.now) slots) }
+    requires workers { (1 ≤ workers) × (workers ≤ 16) }
+    ensures ran { IfOk result (λ count. RunsText (S.remaining script) plan.now slots count (W.contents writer.old) (W.contents writer.new)) }
+    ensures refused { IfErr result (RefusesText (S.remaining script) (length plan.now) slots) }
     ensures unwritten { IfErr result (λ refusal. (refusal ≡ Refusal.WriteFault → ⊥) → writer.new ≡ writer.old) }
 {
-    let feeds = read_feeds(alloc, script, plan, slots)?;
-    let ran = run_dies(alloc, plan.as_slice(), &feeds, slots)?;
+    let rows = read_feeds(alloc, script, plan, slots)?;
+    let ran = run_dies(rt, alloc, plan.as_slice(), rows, slots, workers)?;
     match write_report(alloc, writer, &ran.report) {
         Ok(()) => Ok(count(ran.ends.as_slice())),
         Err(refusal) => Err(refusal),

@@ -6,6 +6,8 @@ use slot_types::{DiePlan, Refusal, StorePlan};
 use std::alloc::Global;
 use std::io;
 use std::io::Write;
+use std::sync::Wait;
+use std::thread::Threads;
 use task_script::{RunCount, ScriptReader, read_plan, read_report, run_text, write_report};
 
 /// Compares what it is given with a text, and takes no memory.
@@ -114,13 +116,13 @@ fn is_counted(count: RunCount, writer: &Compared<'_>) -> bool {
 }
 
 /// Whether a script is run and its report written, or memory is refused and nothing is written.
-fn is_run(alloc: Global) -> bool {
+fn is_run<R: Threads + Wait + Sync>(rt: &R, alloc: Global) -> bool {
     let mut writer = compare_with(TWO_REPORT);
     let plan = match read_plan(alloc, TWO_DIES.as_bytes()) {
         Ok(plan) => plan,
         Err(refusal) => return refusal == Refusal::NoMemory,
     };
-    match run_text(alloc, &plan, TWO_SCRIPT.as_bytes(), &mut writer, 5) {
+    match run_text(rt, alloc, &plan, TWO_SCRIPT.as_bytes(), &mut writer, 5, 1) {
         Ok(count) => is_counted(count, &writer),
         Err(refusal) => refusal == Refusal::NoMemory && writer.taken == 0,
     }
@@ -128,5 +130,5 @@ fn is_run(alloc: Global) -> bool {
 
 #[test]
 fn a_script_is_run_or_memory_is_refused(rt: HostRuntime) {
-    assert!(rt; is_run(rt.alloc()));
+    assert!(rt; is_run(&rt, rt.alloc()));
 }

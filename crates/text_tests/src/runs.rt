@@ -1,36 +1,69 @@
 //! Scripts that are run, and what is written of them.
 
+ghost use Rattle.std.specs.Prelude.{◌≤◌};
+
 use crate::answers::{PLAN, REPORT, SCRIPT, TWO_DIES, TWO_REPORT, TWO_SCRIPT};
 use crate::faults::{Choppy, failing_at};
 use slot_types::{Cause, Refusal};
 use std::alloc::Global;
 use std::io::{Read, Write};
+use std::sync::Wait;
 use std::test::Fail;
+use std::thread::Threads;
 use task_script::{RunCount, read_plan, run_text};
 
-/// What a run answers on two dies for five slots, with its writer.
-fn run<R: Read + Drop, W: Write>(
+/// What a run answers on two dies for five slots by so many workers, with its writer.
+fn run<R: Threads + Wait + Sync, S: Read + Drop, W: Write>(
+    rt: &R,
     alloc: Global,
-    script: R,
+    script: S,
     writer: &mut W,
-) -> Result<RunCount, Refusal> {
+    workers: u32,
+) -> Result<RunCount, Refusal>
+    requires { (1 ≤ workers) × (workers ≤ 16) }
+{
     let plan = read_plan(alloc, TWO_DIES.as_bytes())?;
-    run_text(alloc, &plan, script, writer, 5)
+    run_text(rt, alloc, &plan, script, writer, 5, workers)
 }
 
-/// Whether a script is run on two dies with this count, and this is written.
-fn is_run(alloc: Global, script: &str, count: RunCount, report: &str) -> bool {
+/// Whether a script is run on two dies by so many workers with this count, and this is written.
+fn is_run_by<R: Threads + Wait + Sync>(
+    rt: &R,
+    alloc: Global,
+    workers: u32,
+    script: &str,
+    count: RunCount,
+    report: &str,
+) -> bool
+    requires { (1 ≤ workers) × (workers ≤ 16) }
+{
     let mut text = Vec::new(alloc);
-    match run(alloc, script.as_bytes(), &mut text) {
+    match run(rt, alloc, script.as_bytes(), &mut text, workers) {
         Ok(made) => made == count && text.as_slice() == report.as_bytes(),
         Err(_) => false,
     }
 }
 
+/// Whether a script is run on two dies with this count, and this is written.
+fn is_run<R: Threads + Wait + Sync>(
+    rt: &R,
+    alloc: Global,
+    script: &str,
+    count: RunCount,
+    report: &str,
+) -> bool {
+    is_run_by(rt, alloc, 1, script, count, report)
+}
+
 /// Whether a script is refused so, and nothing is written.
-fn is_refused(alloc: Global, script: &str, refusal: Refusal) -> bool {
+fn is_refused<R: Threads + Wait + Sync>(
+    rt: &R,
+    alloc: Global,
+    script: &str,
+    refusal: Refusal,
+) -> bool {
     let mut text = Vec::new(alloc);
-    run(alloc, script.as_bytes(), &mut text) == Err(refusal) && text.is_empty()
+    run(rt, alloc, script.as_bytes(), &mut text, 1) == Err(refusal) && text.is_empty()
 }
 
 fn counted(accepted: u64, refused: u64, first: Option<(u32, u8)>) -> RunCount {
@@ -42,28 +75,34 @@ fn counted(accepted: u64, refused: u64, first: Option<(u32, u8)>) -> RunCount {
 }
 
 /// Whether the first run writes its report.
-fn is_first_run(alloc: Global) -> Result<bool, Refusal> {
+fn is_first_run<R: Threads + Wait + Sync>(rt: &R, alloc: Global) -> Result<bool, Refusal> {
     let plan = read_plan(alloc, PLAN.as_bytes())?;
     let mut text = Vec::new(alloc);
-    let count = run_text(alloc, &plan, SCRIPT.as_bytes(), &mut text, 2)?;
+    let count = run_text(rt, alloc, &plan, SCRIPT.as_bytes(), &mut text, 2, 1)?;
     Ok(count == counted(2, 0, None) && text.as_slice() == REPORT.as_bytes())
 }
 
 #[test]
 fn the_first_run_writes_its_report(rt: HostRuntime) {
-    assert!(rt; is_first_run(rt.alloc()) == Ok(true));
+    assert!(rt; is_first_run(&rt, rt.alloc()) == Ok(true));
 }
 
 #[test]
-fn two_dies_write_one_report(rt: HostRuntime) {
-    assert!(rt; is_run(rt.alloc(), TWO_SCRIPT, counted(5, 0, None), TWO_REPORT));
+fn two_dies_write_one_report_by_any_number_of_workers(rt: HostRuntime) {
+    for workers in [1, 2, 5] {
+        let count = counted(5, 0, None);
+        assert!(rt;
+            is_run_by(&rt, rt.alloc(), workers, TWO_SCRIPT, count, TWO_REPORT),
+            "{workers} workers"
+        );
+    }
 }
 
 #[test]
 fn a_script_of_no_rows_writes_the_header(rt: HostRuntime) {
     let script = "at,die,task,kind,release,due,ops\n";
     let report = "row,die,job,task,release,due,work,completion,lateness,given,items\n";
-    assert!(rt; is_run(rt.alloc(), script, counted(0, 0, None), report));
+    assert!(rt; is_run(&rt, rt.alloc(), script, counted(0, 0, None), report));
 }
 
 /// A job of die 1 without operations, one of die 0 with an operation on no page of the die, and one that comes after
@@ -81,7 +120,15 @@ job,0,0,0,5,9,0,,,,
 
 #[test]
 fn refused_rows_are_counted_and_the_first_one_named(rt: HostRuntime) {
-    assert!(rt; is_run(rt.alloc(), REFUSED, counted(1, 3, Some((2, 6))), WAITING));
+    assert!(rt;
+        is_run(
+            &rt,
+            rt.alloc(),
+            REFUSED,
+            counted(1, 3, Some((2, 6))),
+            WAITING
+        )
+    );
 }
 
 #[test]
@@ -92,7 +139,7 @@ fn a_script_at_fault_writes_nothing(rt: HostRuntime) -> Result<(), Fail> {
         line: 6,
         cause: Cause::Fields,
     };
-    assert!(rt; is_refused(alloc, short.as_str(), fault));
+    assert!(rt; is_refused(&rt, alloc, short.as_str(), fault));
     Ok(())
 }
 
@@ -101,7 +148,7 @@ fn a_failing_reader_writes_nothing(rt: HostRuntime) {
     let alloc = rt.alloc();
     for call in 1..26 {
         let mut text = Vec::new(alloc);
-        let ended = run(alloc, failing_at(TWO_SCRIPT, call), &mut text);
+        let ended = run(&rt, alloc, failing_at(TWO_SCRIPT, call), &mut text, 1);
         assert!(rt;
             ended == Err(Refusal::ReadFault) && text.is_empty(),
             "{call}"
@@ -117,7 +164,7 @@ fn a_failing_writer_is_told(rt: HostRuntime) {
             text: Vec::new(alloc),
             calls,
         };
-        let ended = run(alloc, REFUSED.as_bytes(), &mut writer);
+        let ended = run(&rt, alloc, REFUSED.as_bytes(), &mut writer, 1);
         assert!(rt; ended == Err(Refusal::WriteFault), "{calls}");
     }
 }

@@ -5,7 +5,8 @@ use Rattle.task_script.proofs.feeds.read_feeds.Goals as goal
 pub loop-init : goal.loop-init
 loop-init g c = record {
   dies = c.in_ok-script.ensures.dies;
-  dealt = deals_none _ _ _ _ _ c.in_ok-script.ensures.script c.in_ok-feeds.ensures.ok c.len.ensures;
+  slots = c.in_ok-script.ensures.slots;
+  dealt = deals_none _ _ _ _ _ _ c.in_ok-script.ensures.script c.in_ok-feeds.ensures.ok c.len.ensures;
 }
 
 pub returns-in-Ok-None-clause-feeds : goal.returns-in-Ok-None-clause-feeds
@@ -20,5 +21,6 @@ loop-preserved g c =
     let step = rw c.in-Ok-Some.field-0-is at c.in-Ok-Some.ensures.item in
     record {
       dies = c.next.ensures.dies ∙ c.loop.invariant.dies;
-      dealt = deals_more _ _ _ _ _ _ c.in-Ok-Some.item _ _ (rw c.loop.invariant.dies at row) c.index_mut.ensures.value c.in-Ok.ensures.ok refl step c.loop.invariant.dealt;
+      slots = c.next.ensures.slots ∙ c.loop.invariant.slots;
+      dealt = deals_more _ _ _ _ _ _ _ c.in-Ok-Some.item _ _ (rw (c.loop.invariant.dies, c.loop.invariant.slots) at row) c.index_mut.ensures.value c.in-Ok.ensures.ok refl step c.loop.invariant.dealt;
     }

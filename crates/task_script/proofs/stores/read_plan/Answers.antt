@@ -1,5 +1,8 @@
-use Rattle.task_script.proofs.StoreLaws.{store_bound, store_few}
+use Rattle.task_script.proofs.StoreLaws.{store_bound, store_few, store_some}
 use Rattle.task_script.proofs.stores.read_plan.Goals as goal
+
+pub returns-clause-some : goal.returns-clause-some
+returns-clause-some c = store_some _ c.store_of.result c.store_of.ensures.ok
 
 pub returns-clause-few : goal.returns-clause-few
 returns-clause-few c = store_few _ c.store_of.result c.store_of.ensures.ok

@@ -5,5 +5,5 @@ use Rattle.task_script.proofs.text_runs.run_text.Goals as goal
 
 pub returns-in-Ok-clause-ran : goal.returns-in-Ok-clause-ran
 returns-in-Ok-clause-ran g c =
-    runs_text _ c.args.plan.now c.args.slots c.in_ok-feeds.feeds.items _ _ _ _ _ c.in_ok-feeds.ensures.feeds
-    (rw (c.deref.ensures.value, c.as_slice.ensures) at c.in_ok-ran.ensures.ran) (c.count.ensures ∙ ap count_of c.as_slice-in-Ok.ensures) c.in-Ok.ensures.written
+    runs_text _ c.args.plan.now c.args.slots c.in_ok-rows.rows.items _ _ _ _ _ c.in_ok-rows.ensures.feeds
+    (rw c.as_slice.ensures at c.in_ok-ran.ensures.ran) (c.count.ensures ∙ ap count_of c.as_slice-in-Ok.ensures) c.in-Ok.ensures.written
