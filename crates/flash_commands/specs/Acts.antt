@@ -61,5 +61,5 @@ RefusesRun plan script slots refusal = RefusesFigures plan refusal ⊎ ((dies : 
 abbrev pub Prints : Command → Option (List ℕ) → Option (List ℕ) → Option (List ℕ) → Option (List ℕ) → ℕ → Type 0
 Prints (command.Audit report) first second old new status = PrintsAudit first old new status
 Prints (command.Plan plan) first second old new status = PrintsFigures first old new × (status ≡ 0)
-Prints (command.Run plan script slots) first second old new status = PrintsRun first second slots old new × (status ≡ 0)
+Prints (command.Run plan script slots workers) first second old new status = PrintsRun first second slots old new × (status ≡ 0)
 Prints command.Alone first second old new status = PrintsRun (Some PLAN.now) (Some SCRIPT.now) SLOTS old new × (status ≡ 0)

@@ -13,20 +13,20 @@ use Rattle.flash_commands.specs.declared.commands.Command.TheVariants as command
 -- a command, with the names of its files as texts
 pub data Task : Type 0 where
   Alone : Task
-  Run : (plan script : Text) (slots : ℕ) → Task
+  Run : (plan script : Text) (slots workers : ℕ) → Task
   Audit : (report : Text) → Task
   Plan : (plan : Text) → Task
 
 abbrev pub task_of : Command → Task
 task_of command.Alone = Alone
-task_of (command.Run plan script slots) = Run plan.now script.now slots
+task_of (command.Run plan script slots workers) = Run plan.now script.now slots workers
 task_of (command.Audit report) = Audit report.now
 task_of (command.Plan plan) = Plan plan.now
 
--- a run has at most 1,048,576 slots
-abbrev pub FitsSlots : Command → Type 0
-FitsSlots (command.Run plan script slots) = slots ≤ 1048576
-FitsSlots _ = ⊤
+-- a run has at most 1,048,576 slots, and 1 to 16 workers
+abbrev pub FitsRun : Command → Type 0
+FitsRun (command.Run plan script slots workers) = (slots ≤ 1048576) × (1 ≤ workers) × (workers ≤ 16)
+FitsRun _ = ⊤
 
 -- the next step, where there is a value
 infixl 10 ◌>>=◌
@@ -42,7 +42,8 @@ run_of rows = do
   plan ← first_of (codes "PLAN") rows
   script ← first_of (codes "SCRIPT") rows
   slots ← first_of (codes "slots") rows >>= number_between 0 1048576
-  Some (Run plan script slots)
+  workers ← first_of (codes "workers") rows >>= number_between 1 16
+  Some (Run plan script slots workers)
 
 abbrev pub audit_of : List Row → Option Task
 audit_of rows = do

@@ -1,5 +1,5 @@
 -- The words that the program takes, as clap reads them.
-use Rattle.std.specs.Prelude.{codes, Bool, true, Some}
+use Rattle.std.specs.Prelude.{codes, Bool, true, Some, [], ◌∷◌}
 use Rattle.clap.specs.Words.{App, Rule, Text, new_app, new_rule, with_rule, with_subcommand}
 use Rattle.clap.specs.declared.builder.command.Command.{Command}
 use Rattle.clap.specs.declared.builder.command.Command.TheViews.{out-Command}
@@ -12,11 +12,15 @@ needed id = record (new_rule id) { required = true }
 abbrev pub slots_rule : Rule
 slots_rule = record (needed (codes "slots")) { long = Some (codes "slots"); value_names = 1 }
 
+-- `--workers W`, which is 1 where it isn't there
+abbrev pub workers_rule : Rule
+workers_rule = record (new_rule (codes "workers")) { long = Some (codes "workers"); value_names = 1; defaults = codes "1" ∷ [] }
+
 abbrev pub files_app : App
 files_app = with_rule (with_rule (new_app (codes "run")) (needed (codes "PLAN"))) (needed (codes "SCRIPT"))
 
 abbrev pub run_app : App
-run_app = with_rule files_app slots_rule
+run_app = with_rule (with_rule files_app slots_rule) workers_rule
 
 abbrev pub audit_app : App
 audit_app = with_rule (new_app (codes "audit")) (needed (codes "REPORT"))

@@ -3,7 +3,7 @@
 ghost use Rattle.std.specs.Prelude.{◌≡◌, ◌≤◌, ◌⊎◌, IfOk, IfErr, OnOk, if◌then◌else◌};
 ghost use Rattle.std.specs.Io.KnownBytes.{Appends};
 ghost use Rattle.flash_commands.specs.Acts.{Prints, PrintsAudit, PrintsFigures, PrintsRun, RefusesAudit, RefusesFigures, RefusesRun};
-ghost use Rattle.flash_commands.specs.Commands.{FitsSlots};
+ghost use Rattle.flash_commands.specs.Commands.{FitsRun};
 ghost use Rattle.flash_commands.specs.Faults.{outcome_status};
 
 use crate::audits::audit_report;
@@ -15,6 +15,8 @@ use crate::plans::store_in;
 use slot_types::{MAX_SLOT, Refusal};
 use std::alloc::Global;
 use std::io::{Read, Write};
+use std::sync::Wait;
+use std::thread::Threads;
 use task_script::{RunCount, read_report, run_text};
 
 /// Writes a text that is whole.
@@ -58,19 +60,22 @@ fn print_audit<R: Read + Drop, W: Write>(
 }
 
 /// Runs a script on the store of a plan, and prints its report.
-fn print_run<R: Read + Drop, S: Read + Drop, W: Write>(
+fn print_run<R: Threads + Wait + Sync, F: Read + Drop, S: Read + Drop, W: Write>(
+    rt: &R,
     alloc: Global,
-    first: R,
+    first: F,
     second: S,
     slots: u32,
+    workers: u32,
     out: &mut W,
 ) -> Result<RunCount, Refusal>
-    requires { slots ≤ MAX_SLOT }
-    ensures printed { OnOk result (PrintsRun (R.remaining first) (S.remaining second) slots (W.contents out.old) (W.contents out.new)) }
-    ensures refused { IfErr result (RefusesRun (R.remaining first) (S.remaining second) slots) }
+    requires slots { slots ≤ MAX_SLOT }
+    requires workers { (1 ≤ workers) × (workers ≤ 16) }
+    ensures printed { OnOk result (PrintsRun (F.remaining first) (S.remaining second) slots (W.contents out.old) (W.contents out.new)) }
+    ensures refused { IfErr result (RefusesRun (F.remaining first) (S.remaining second) slots) }
 {
     let store = store_in(alloc, first)?;
-    run_text(alloc, &store, second, out, slots)
+    run_text(rt, alloc, &store, second, out, slots, workers)
 }
 
 /// Tells how many rows were refused, and the first of them, if there is one. A writer that fails is passed over.
@@ -82,18 +87,21 @@ fn tell_refused<E: Write>(err: &mut E, count: &RunCount) {
 }
 
 /// Runs a script on the store of a plan, or says why not.
-fn run<R: Read + Drop, S: Read + Drop, W: Write, E: Write>(
+fn run<R: Threads + Wait + Sync, F: Read + Drop, S: Read + Drop, W: Write, E: Write>(
+    rt: &R,
     alloc: Global,
-    first: R,
+    first: F,
     second: S,
     slots: u32,
+    workers: u32,
     out: &mut W,
     err: &mut E,
 ) -> Result<(), Fault>
-    requires { slots ≤ MAX_SLOT }
-    ensures printed { (outcome_status result ≡ 1) ⊎ (PrintsRun (R.remaining first) (S.remaining second) slots (W.contents out.old) (W.contents out.new) × (outcome_status result ≡ 0)) }
+    requires slots { slots ≤ MAX_SLOT }
+    requires workers { (1 ≤ workers) × (workers ≤ 16) }
+    ensures printed { (outcome_status result ≡ 1) ⊎ (PrintsRun (F.remaining first) (S.remaining second) slots (W.contents out.old) (W.contents out.new) × (outcome_status result ≡ 0)) }
 {
-    let count = print_run(alloc, first, second, slots, out)?;
+    let count = print_run(rt, alloc, first, second, slots, workers, out)?;
     tell_refused(err, &count);
     Ok(())
 }
@@ -119,33 +127,36 @@ fn audit<R: Read + Drop, W: Write>(alloc: Global, first: R, out: &mut W) -> Resu
 /// Carries a command out, with `first` in place of the file of the plan or of the report, and `second` in place of
 /// that of the script, which no other command than `run` reads. Answers the status.
 ///
-/// `run` runs the script on the store of the plan, and prints the report of what became of it. Where rows were refused,
-/// `err` gets a line, as `refused 1 first line 6 with 6`. Without words the plan and the script are built in. `audit` prints for each die of the report the lateness and the job of its certificate, and whether it holds, as
+/// `run` runs the script on the store of the plan by its workers, and prints the report of what became of it, which is the
+/// same for any number of them. Where rows were refused, `err` gets a line, as `refused 1 first line 6 with 6`. Without
+/// words the plan and the script are built in. `audit` prints for each die of the report the lateness and the job of its certificate, and whether it holds, as
 /// `die 0 worst -1 job 0 holds` or `die 0 worst 0 job 1 refused 5 EarlyRelease`, or that it has none, as
 /// `die 0 no lateness`; the status is 3 where some certificate is refused. `plan` prints for each die the figures of
 /// its plan, as `die 0 fmax 7 closed 6 live 18 logical 12 accepted`; no more of the plan is read than 1,048,577 bytes.
 ///
 /// Each text for `out` is made whole before its first byte. A refusal is told in a line to `err`, as
-/// `error 19 ScriptRow 6 Fields`, and the status is 1. Where `err` fails, that is passed over.
-pub fn act<R: Read + Drop, S: Read + Drop, W: Write, E: Write>(
+/// `error 19 ScriptRow 6 Fields`, and the status is 1. Where `err` fails, that is passed over. A run may wait for its
+/// workers.
+pub fn act<R: Threads + Wait + Sync, F: Read + Drop, S: Read + Drop, W: Write, E: Write>(
+    rt: &R,
     alloc: Global,
     command: Command<'_>,
-    first: R,
+    first: F,
     second: S,
     out: &mut W,
     err: &mut E,
 ) -> u8
-    requires { FitsSlots command }
-    ensures { (result ≡ 1) ⊎ Prints command.entry (R.remaining first) (S.remaining second) (W.contents out.old) (W.contents out.new) result }
+    requires { FitsRun command }
+    ensures { (result ≡ 1) ⊎ Prints command.entry (F.remaining first) (S.remaining second) (W.contents out.old) (W.contents out.new) result }
 {
     match command {
         Command::Alone => {
             let (plan, script) = (built_in::PLAN.as_bytes(), built_in::SCRIPT.as_bytes());
-            let done = run(alloc, plan, script, built_in::SLOTS, out, err);
+            let done = run(rt, alloc, plan, script, built_in::SLOTS, 1, out, err);
             end(err, done)
         }
-        Command::Run { slots, .. } => {
-            let done = run(alloc, first, second, slots, out, err);
+        Command::Run { slots, workers, .. } => {
+            let done = run(rt, alloc, first, second, slots, workers, out, err);
             end(err, done)
         }
         Command::Audit { .. } => end(err, audit(alloc, first, out)),

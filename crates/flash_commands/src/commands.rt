@@ -4,13 +4,13 @@ ghost use Rattle.std.specs.Prelude.{◌≡◌, IfOk, IfSome, Some, None, map, op
 ghost use Rattle.clap.specs.Words.{app_of, first_of, found_of, rows_of, subcommand_rows_of};
 ghost use Rattle.clap.specs.Kinds.{FailsBy, HasKind};
 ghost use Rattle.clap.specs.Faults.{fault_of};
-ghost use Rattle.flash_commands.specs.Commands.{FitsSlots, asked, asked_by, named, number_between, range_fault, run_of, task_of, words_fault};
+ghost use Rattle.flash_commands.specs.Commands.{FitsRun, asked, asked_by, named, number_between, range_fault, run_of, task_of, words_fault};
 ghost use Rattle.flash_commands.specs.Syntax.{flashrec_app};
 
 use crate::syntax::program_words;
 use clap::error::ErrorKind;
 use clap::{ArgMatches, Error};
-use slot_types::MAX_SLOT;
+use slot_types::{MAX_SLOT, MAX_WORKERS};
 use std::alloc::Global;
 use task_script::number;
 
@@ -25,6 +25,8 @@ pub enum Command<'a> {
         script: &'a str,
         /// How many slots each die runs, from 0 to 1,048,576.
         slots: u32,
+        /// How many workers run the dies, from 1 to 16.
+        workers: u32,
     },
     /// Check the certificates of a report.
     Audit {
@@ -58,22 +60,24 @@ fn number_in(text: &str, least: u32, most: u32) -> Option<u32>
 /// The run that was met.
 fn run<'a>(met: &ArgMatches<'a>) -> Option<Command<'a>>
     ensures run { option_map task_of result ≡ run_of (rows_of (found_of met.now)) }
-    ensures slots { IfSome result FitsSlots }
+    ensures fits { IfSome result FitsRun }
 {
     let plan = value(met, "PLAN")?;
     let script = value(met, "SCRIPT")?;
     let slots = number_in(value(met, "slots")?, 0, MAX_SLOT)?;
+    let workers = number_in(value(met, "workers")?, 1, MAX_WORKERS)?;
     Some(Command::Run {
         plan,
         script,
         slots,
+        workers,
     })
 }
 
 /// The command that was met, by its name.
 fn command_named<'a>(name: &str, met: &ArgMatches<'a>) -> Option<Command<'a>>
     ensures named { option_map task_of result ≡ named name.now (rows_of (found_of met.now)) }
-    ensures slots { IfSome result FitsSlots }
+    ensures fits { IfSome result FitsRun }
 {
     if name == "run" {
         run(met)
@@ -91,7 +95,7 @@ fn command_named<'a>(name: &str, met: &ArgMatches<'a>) -> Option<Command<'a>>
 /// The command that clap met.
 fn command_met<'a>(matches: &ArgMatches<'a>) -> Option<Command<'a>>
     ensures asked { option_map task_of result ≡ asked_by (subcommand_rows_of matches.now) }
-    ensures slots { IfSome result FitsSlots }
+    ensures fits { IfSome result FitsRun }
 {
     match matches.subcommand() {
         None => Some(Command::Alone),
@@ -106,7 +110,7 @@ fn parsed<'a>(
 ) -> Result<Option<Command<'a>>, Error>
     requires { app_of program.old ≡ flashrec_app }
     ensures ok { IfOk result (λ c. option_map task_of c ≡ asked (map string_bytes words.entry.now)) }
-    ensures slots { IfOk result (λ c. IfSome c FitsSlots) }
+    ensures fits { IfOk result (λ c. IfSome c FitsRun) }
     ensures fault { FailsBy (fault_of flashrec_app (map string_bytes words.entry.now)) result }
 {
     let matches = program.try_get_matches_from_mut(words)?;
@@ -119,7 +123,7 @@ fn range_error(mut program: clap::Command<'_>) -> Error
 {
     match program.error(
         ErrorKind::ValueValidation,
-        "slots are a number from 0 to 1048576",
+        "slots are a number from 0 to 1048576, workers one from 1 to 16",
     ) {
         Ok(error) => error,
         Err(error) => Error::from(error),
@@ -128,13 +132,13 @@ fn range_error(mut program: clap::Command<'_>) -> Error
 
 /// What the words ask for, the first of them being the program's name.
 ///
-/// The words are `run PLAN SCRIPT --slots N`, with N from 0 to 1,048,576; `audit REPORT`; `plan PLAN`; or none. A number is 1 to 10 decimal digits. The error is that
-/// of clap, which prints itself: a call for help, a fault of the words, as an option that is given twice, or want of
+/// The words are `run PLAN SCRIPT --slots N --workers W`, with N from 0 to 1,048,576, and W from 1 to 16 or left out, which
+/// is 1; `audit REPORT`; `plan PLAN`; or none. A number is 1 to 10 decimal digits. The error is that of clap, which prints itself: a call for help, a fault of the words, as an option that is given twice, or want of
 /// memory; and ValueValidation for a number that is none or out of its range.
 #[tactic(auto, using(crate::proofs::KindLemmas::has_kind_in_first))]
 pub fn read_words<'a>(alloc: Global, words: &'a [String]) -> Result<Command<'a>, Error>
     ensures ok { IfOk result (λ c. asked (map string_bytes words.entry.now) ≡ Some (task_of c)) }
-    ensures slots { IfOk result FitsSlots }
+    ensures fits { IfOk result FitsRun }
     ensures fault { FailsBy (words_fault (map string_bytes words.entry.now)) result }
 {
     let mut program = program_words(alloc)?;

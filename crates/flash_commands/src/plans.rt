@@ -29,6 +29,7 @@ fn plan_bytes<R: Read + Drop>(alloc: Global, reader: R) -> Result<Vec<u8>, Refus
 /// The store of the plan that a reader gives.
 pub fn store_in<R: Read + Drop>(alloc: Global, reader: R) -> Result<StorePlan, Refusal>
     ensures store { IfOk result (IsStoreOf (R.remaining reader)) }
+    ensures some { IfOk result (λ store. 1 ≤ length store) }
     ensures few { IfOk result (λ store. length store ≤ 8) }
     ensures bound { IfOk result AllMeetBound }
     ensures refused { IfErr result (RefusesFigures (R.remaining reader)) }

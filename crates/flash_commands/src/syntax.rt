@@ -2,7 +2,7 @@
 
 ghost use Rattle.std.specs.Prelude.{◌≡◌, false, codes, IfOk};
 ghost use Rattle.clap.specs.Words.{app_of, new_app, rule_of, with_subcommand};
-ghost use Rattle.flash_commands.specs.Syntax.{audit_app, files_app, flashrec_app, has_globals, needed, plan_app, run_app, slots_rule};
+ghost use Rattle.flash_commands.specs.Syntax.{audit_app, files_app, flashrec_app, has_globals, needed, plan_app, run_app, slots_rule, workers_rule};
 
 use clap::{Arg, Command};
 use std::alloc::{AllocError, Global};
@@ -17,6 +17,18 @@ fn slots<'a>(alloc: Global) -> Arg<'a>
         .value_name("N")
         .required(true)
         .help("How many slots each die runs, from 0 to 1048576")
+}
+
+/// How many workers run the dies.
+fn workers<'a>(alloc: Global) -> Arg<'a>
+    ensures rule { rule_of result ≡ workers_rule }
+    ensures local { result.global ≡ false }
+{
+    Arg::new(alloc, "workers")
+        .long("workers")
+        .value_name("W")
+        .default_value("1")
+        .help("How many workers run the dies, from 1 to 16")
 }
 
 /// The file that has the plan.
@@ -39,7 +51,7 @@ fn run_files<'a>(alloc: Global) -> Result<Command<'a>, AllocError>
         .help("The jobs and collections that the dies get, a CSV file");
     Command::new(alloc, "run")
         .about("Run a script on a store, and print its report")
-        .after_help("Example: flashrec run plan.toml script.csv --slots 1000")
+        .after_help("Example: flashrec run plan.toml script.csv --slots 1000 --workers 2")
         .arg(plan_file(alloc))?
         .arg(script)
 }
@@ -49,7 +61,7 @@ fn run_words<'a>(alloc: Global) -> Result<Command<'a>, AllocError>
     ensures app { IfOk result (λ c. app_of c ≡ run_app) }
     ensures local { IfOk result (λ c. has_globals c ≡ false) }
 {
-    run_files(alloc)?.arg(slots(alloc))
+    run_files(alloc)?.arg(slots(alloc))?.arg(workers(alloc))
 }
 
 /// The command `audit`.

@@ -5,12 +5,14 @@ mod failing;
 mod running;
 mod words;
 
-ghost use Rattle.flash_commands.specs.Commands.{FitsSlots};
+ghost use Rattle.flash_commands.specs.Commands.{FitsRun};
 
 use crate::acts::act;
 use crate::commands::Command;
 use std::alloc::Global;
 use std::io;
+use std::sync::Wait;
+use std::thread::Threads;
 
 /// The plan of one die that the tests use.
 const PLAN: &str = "version = 1
@@ -54,11 +56,16 @@ impl Printed {
 }
 
 /// What a command prints of a text.
-fn acted(alloc: Global, command: Command<'_>, text: &[u8]) -> Printed
-    requires { FitsSlots command }
+fn acted<R: Threads + Wait + Sync>(
+    rt: &R,
+    alloc: Global,
+    command: Command<'_>,
+    text: &[u8],
+) -> Printed
+    requires { FitsRun command }
 {
     let (mut out, mut err) = (Vec::new(alloc), Vec::new(alloc));
-    let status = act(alloc, command, text, io::empty(), &mut out, &mut err);
+    let status = act(rt, alloc, command, text, io::empty(), &mut out, &mut err);
     Printed { out, err, status }
 }
 

@@ -1,31 +1,40 @@
 //! The program `flashrec`.
 #![tactic(auto)]
 
-ghost use Rattle.flash_commands.specs.Commands.{FitsSlots};
+ghost use Rattle.flash_commands.specs.Commands.{FitsRun};
 
 use flash_commands::{Command, Fault, act, end, read_words};
 use slot_types::Refusal;
+use std::alloc::Global;
+use std::io::Write;
 use std::process::ExitCode;
+use std::rt::Files;
+use std::sync::Wait;
+use std::thread::Threads;
 use std::{env, fs, io};
 
 /// Carries out a command on the files that it names. They are opened, in its order, before any of them is read.
-fn act_on_files(rt: &HostRuntime, command: Command<'_>) -> u8
-    requires { FitsSlots command }
+fn act_on_files<R: Files + Threads + Wait + Sync, W: Write, E: Write>(
+    rt: &R,
+    alloc: Global,
+    command: Command<'_>,
+    out: &mut W,
+    err: &mut E,
+) -> u8
+    requires { FitsRun command }
 {
-    let alloc = rt.alloc();
-    let (mut out, mut err) = (rt.stdout(), rt.stderr());
     let unopened = Err(Fault::Refused(Refusal::ReadFault));
     match command {
-        Command::Alone => act(alloc, command, io::empty(), io::empty(), &mut out, &mut err),
+        Command::Alone => act(rt, alloc, command, io::empty(), io::empty(), out, err),
         Command::Audit { report: first } | Command::Plan { plan: first } => {
             match fs::open(rt, first) {
-                Ok(first) => act(alloc, command, first, io::empty(), &mut out, &mut err),
-                Err(_) => end(&mut err, unopened),
+                Ok(first) => act(rt, alloc, command, first, io::empty(), out, err),
+                Err(_) => end(err, unopened),
             }
         }
         Command::Run { plan, script, .. } => match (fs::open(rt, plan), fs::open(rt, script)) {
-            (Ok(first), Ok(second)) => act(alloc, command, first, second, &mut out, &mut err),
-            _ => end(&mut err, unopened),
+            (Ok(first), Ok(second)) => act(rt, alloc, command, first, second, out, err),
+            _ => end(err, unopened),
         },
     }
 }
@@ -44,7 +53,7 @@ fn main(rt: HostRuntime) -> io::Result<ExitCode> {
     let alloc = rt.alloc();
     let words: Vec<String> = env::args(&rt)?.collect(alloc)?;
     let status = match read_words(alloc, words.as_slice()) {
-        Ok(command) => act_on_files(&rt, command),
+        Ok(command) => { act_on_files(&rt, alloc, command, &mut rt.stdout(), &mut rt.stderr()) }
         Err(error) => show(&rt, error)?,
     };
     Ok(ExitCode::from(status))

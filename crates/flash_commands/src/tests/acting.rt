@@ -7,11 +7,11 @@ use std::test::Fail;
 fn a_plan_shows_its_figures(rt: HostRuntime) -> Result<(), Fail> {
     let alloc = rt.alloc();
     let line = "die 0 fmax 7 closed 6 live 18 logical 12 accepted\n";
-    assert!(rt; acted(alloc, PLAN_COMMAND, PLAN.as_bytes()).is(line, "", 0));
+    assert!(rt; acted(&rt, alloc, PLAN_COMMAND, PLAN.as_bytes()).is(line, "", 0));
     let two = PLAN.replace(alloc, "dies = 1", "dies = 2")?;
     let two = format!(in alloc; "{two}\n[[task]]\ndie = 1\ncap = 4\n")?;
     let lines = format!(in alloc; "{line}die 1 fmax 7 closed 6 live 18 logical 12 accepted\n")?;
-    assert!(rt; acted(alloc, PLAN_COMMAND, two.as_bytes()).is(lines.as_str(), "", 0));
+    assert!(rt; acted(&rt, alloc, PLAN_COMMAND, two.as_bytes()).is(lines.as_str(), "", 0));
     Ok(())
 }
 
@@ -30,7 +30,7 @@ fn certificates_are_judged(rt: HostRuntime) -> Result<(), Fail> {
         let lines = format!(in alloc;
             "die 0 worst 0 job 1 {verdict}\ndie 1 worst -1 job 0 holds\n"
         )?;
-        assert!(rt; acted(alloc, AUDIT, report.as_bytes()).is(lines.as_str(), "", status));
+        assert!(rt; acted(&rt, alloc, AUDIT, report.as_bytes()).is(lines.as_str(), "", status));
     }
     Ok(())
 }
@@ -39,9 +39,9 @@ fn certificates_are_judged(rt: HostRuntime) -> Result<(), Fail> {
 fn a_die_without_a_done_job_has_no_lateness(rt: HostRuntime) -> Result<(), Fail> {
     let alloc = rt.alloc();
     let header = "row,die,job,task,release,due,work,completion,lateness,given,items\n";
-    assert!(rt; acted(alloc, AUDIT, header.as_bytes()).is("", "", 0));
+    assert!(rt; acted(&rt, alloc, AUDIT, header.as_bytes()).is("", "", 0));
     let waiting = format!(in alloc; "{header}job,3,0,0,2,5,0,,,,\n")?;
-    assert!(rt; acted(alloc, AUDIT, waiting.as_bytes()).is("die 3 no lateness\n", "", 0));
+    assert!(rt; acted(&rt, alloc, AUDIT, waiting.as_bytes()).is("die 3 no lateness\n", "", 0));
     Ok(())
 }
 
@@ -66,9 +66,9 @@ fn refusals_are_told_in_a_line(rt: HostRuntime) -> Result<(), Fail> {
         ("cap = 4", "cap = 0", "error 3 BadPlan\n"),
     ] {
         let plan = PLAN.replace(alloc, old, new)?;
-        assert!(rt; acted(alloc, PLAN_COMMAND, plan.as_bytes()).is("", line, 1));
+        assert!(rt; acted(&rt, alloc, PLAN_COMMAND, plan.as_bytes()).is("", line, 1));
     }
     let short = REPORT.replace(alloc, "cert,1,0,,0,2,,1,-1,,0\n", "")?;
-    assert!(rt; acted(alloc, AUDIT, short.as_bytes()).is("", "error 20 ReportText 8\n", 1));
+    assert!(rt; acted(&rt, alloc, AUDIT, short.as_bytes()).is("", "error 20 ReportText 8\n", 1));
     Ok(())
 }

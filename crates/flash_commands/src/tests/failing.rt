@@ -1,6 +1,6 @@
 //! Readers and writers that fail, and texts without an end.
 
-ghost use Rattle.flash_commands.specs.Commands.{FitsSlots};
+ghost use Rattle.flash_commands.specs.Commands.{FitsRun};
 
 use super::{AUDIT, PLAN, PLAN_COMMAND, REPORT};
 use crate::acts::act;
@@ -8,7 +8,9 @@ use crate::commands::Command;
 use std::alloc::Global;
 use std::io;
 use std::io::{Read, Write};
+use std::sync::Wait;
 use std::test::Fail;
+use std::thread::Threads;
 
 /// Gives its text 16 bytes at a call, and fails at the call of a number.
 #[derive(Drop)]
@@ -63,15 +65,21 @@ impl Read for Endless {
 
 /// Whether a command whose reader fails at the call of a number ends as it should: with 21 and nothing printed.
 /// None where the reader was not called as often.
-fn fails_at(alloc: Global, command: Command<'_>, text: &str, calls: usize) -> Option<bool>
-    requires { FitsSlots command }
+fn fails_at<R: Threads + Wait + Sync>(
+    rt: &R,
+    alloc: Global,
+    command: Command<'_>,
+    text: &str,
+    calls: usize,
+) -> Option<bool>
+    requires { FitsRun command }
 {
     let (mut out, mut err) = (Vec::new(alloc), Vec::new(alloc));
     let first = FailingReader {
         text: text.as_bytes(),
         calls_left: calls,
     };
-    let status = act(alloc, command, first, io::empty(), &mut out, &mut err);
+    let status = act(rt, alloc, command, first, io::empty(), &mut out, &mut err);
     if status == 0 {
         return None;
     }
@@ -85,7 +93,7 @@ fn a_reader_that_fails_is_told(rt: HostRuntime) {
     for (command, text) in [(PLAN_COMMAND, PLAN), (AUDIT, REPORT)] {
         let mut failed: usize = 0;
         for calls in 0..100 {
-            match fails_at(alloc, command, text, calls) {
+            match fails_at(&rt, alloc, command, text, calls) {
                 Some(right) => {
                     assert!(rt; right, "at call {calls}");
                     failed = calls;
@@ -107,6 +115,7 @@ fn a_writer_that_fails_is_told(rt: HostRuntime) {
         };
         let mut err = Vec::new(alloc);
         let status = act(
+            &rt,
             alloc,
             AUDIT,
             REPORT.as_bytes(),
@@ -132,6 +141,7 @@ fn a_fault_of_the_error_writer_is_passed_over(rt: HostRuntime) {
         calls_left: 0,
     };
     let status = act(
+        &rt,
         alloc,
         AUDIT,
         PLAN.as_bytes(),
@@ -147,7 +157,15 @@ fn a_plan_without_an_end_is_too_long(rt: HostRuntime) -> Result<(), Fail> {
     let alloc = rt.alloc();
     let (mut out, mut err) = (Vec::new(alloc), Vec::new(alloc));
     let first = PLAN.as_bytes().chain(Endless);
-    let status = act(alloc, PLAN_COMMAND, first, io::empty(), &mut out, &mut err);
+    let status = act(
+        &rt,
+        alloc,
+        PLAN_COMMAND,
+        first,
+        io::empty(),
+        &mut out,
+        &mut err,
+    );
     assert!(rt; status == 1 && out.is_empty());
     assert!(rt; err.as_slice() == b"error 18 PlanText TooLong\n".as_slice());
     Ok(())

@@ -1,11 +1,15 @@
 //! What a run prints.
 
+ghost use Rattle.std.specs.Prelude.{◌≤◌};
+
 use super::{PLAN, Printed, REPORT, acted};
 use crate::acts::act;
 use crate::built_in;
 use crate::commands::Command;
 use std::alloc::Global;
+use std::sync::Wait;
 use std::test::Fail;
+use std::thread::Threads;
 
 /// A script for two dies and five slots, of which [`REPORT`] is the report.
 const SCRIPT: &str = "at,die,task,kind,release,due,ops
@@ -24,28 +28,40 @@ cert,0,0,,0,2,,1,-1,,0
 ";
 
 /// What a run of a script prints, for five slots.
-fn ran(alloc: Global, plan: &[u8], script: &[u8]) -> Printed {
+fn ran<R: Threads + Wait + Sync>(
+    rt: &R,
+    alloc: Global,
+    plan: &[u8],
+    script: &[u8],
+    workers: u32,
+) -> Printed
+    requires { (1 ≤ workers) × (workers ≤ 16) }
+{
     let command = Command::Run {
         plan: "plan.toml",
         script: "script.csv",
         slots: 5,
+        workers,
     };
     let (mut out, mut err) = (Vec::new(alloc), Vec::new(alloc));
-    let status = act(alloc, command, plan, script, &mut out, &mut err);
+    let status = act(rt, alloc, command, plan, script, &mut out, &mut err);
     Printed { out, err, status }
 }
 
 #[test]
 fn without_words_the_built_in_run_is_printed(rt: HostRuntime) {
-    assert!(rt; acted(rt.alloc(), Command::Alone, b"".as_slice()).is(FIRST_REPORT, "", 0));
+    assert!(rt; acted(&rt, rt.alloc(), Command::Alone, b"".as_slice()).is(FIRST_REPORT, "", 0));
 }
 
 #[test]
-fn the_report_of_two_dies_is_printed(rt: HostRuntime) -> Result<(), Fail> {
+fn the_report_of_two_dies_is_the_same_for_any_workers(rt: HostRuntime) -> Result<(), Fail> {
     let alloc = rt.alloc();
     let two = PLAN.replace(alloc, "dies = 1", "dies = 2")?;
     let two = format!(in alloc; "{two}\n[[task]]\ndie = 1\ncap = 4\n")?;
-    assert!(rt; ran(alloc, two.as_bytes(), SCRIPT.as_bytes()).is(REPORT, "", 0));
+    for workers in [1, 2, 5, 16] {
+        let printed = ran(&rt, alloc, two.as_bytes(), SCRIPT.as_bytes(), workers);
+        assert!(rt; printed.is(REPORT, "", 0), "{workers} workers");
+    }
     Ok(())
 }
 
@@ -53,7 +69,7 @@ fn the_report_of_two_dies_is_printed(rt: HostRuntime) -> Result<(), Fail> {
 fn refused_rows_are_told_and_the_status_stays(rt: HostRuntime) {
     let script = "at,die,task,kind,release,due,ops\n0,0,0,job,0,2,\n0,0,1,job,0,2,R0\n";
     let header = "row,die,job,task,release,due,work,completion,lateness,given,items\n";
-    let printed = ran(rt.alloc(), PLAN.as_bytes(), script.as_bytes());
+    let printed = ran(&rt, rt.alloc(), PLAN.as_bytes(), script.as_bytes(), 1);
     assert!(rt; printed.is(header, "refused 2 first line 2 with 6\n", 0));
 }
 
@@ -69,7 +85,7 @@ fn a_script_at_fault_is_told_in_a_line(rt: HostRuntime) -> Result<(), Fail> {
     ] {
         let script = built_in::SCRIPT.replace(alloc, old, new)?;
         assert!(rt;
-            ran(alloc, PLAN.as_bytes(), script.as_bytes()).is("", line, 1),
+            ran(&rt, alloc, PLAN.as_bytes(), script.as_bytes(), 1).is("", line, 1),
             "{line}"
         );
     }

@@ -27,6 +27,7 @@ fn words_name_a_command(rt: HostRuntime) -> Result<(), Fail> {
                 plan: "p.toml",
                 script: "s.csv",
                 slots: 0,
+                workers: 1,
             },
         ),
         (
@@ -35,6 +36,16 @@ fn words_name_a_command(rt: HostRuntime) -> Result<(), Fail> {
                 plan: "p.toml",
                 script: "s.csv",
                 slots: 1_048_576,
+                workers: 1,
+            },
+        ),
+        (
+            "flashrec run p.toml s.csv --workers 16 --slots 5",
+            Command::Run {
+                plan: "p.toml",
+                script: "s.csv",
+                slots: 5,
+                workers: 16,
             },
         ),
     ] {
@@ -59,7 +70,10 @@ fn other_words_end_with_two(rt: HostRuntime) -> Result<(), Fail> {
         "flashrec run p.toml s.csv --slots 1048577",
         "flashrec run p.toml s.csv --slots +5",
         "flashrec run p.toml s.csv --slots 00000000005",
-        "flashrec run p.toml s.csv --slots 5 --workers 1",
+        "flashrec run p.toml s.csv --slots 5 --workers 0",
+        "flashrec run p.toml s.csv --slots 5 --workers 17",
+        "flashrec run p.toml s.csv --slots 5 --workers 2 --workers 2",
+        "flashrec run p.toml s.csv --workers 2",
         "flashrec run p.toml s.csv --slots 5 --speed 3",
     ] {
         let words = words_of(alloc, line)?;
@@ -102,17 +116,18 @@ fn help_tells_what_a_run_needs(rt: HostRuntime) -> Result<(), Fail> {
         help.to_string(alloc)?.as_str(),
         "Run a script on a store, and print its report
 
-Usage: flashrec run --slots <N> <PLAN> <SCRIPT>
+Usage: flashrec run [OPTIONS] --slots <N> <PLAN> <SCRIPT>
 
 Arguments:
   <PLAN>    The plan of the store, a TOML file
   <SCRIPT>  The jobs and collections that the dies get, a CSV file
 
 Options:
-      --slots <N>  How many slots each die runs, from 0 to 1048576
-  -h, --help       Print help
+      --slots <N>    How many slots each die runs, from 0 to 1048576
+      --workers <W>  How many workers run the dies, from 1 to 16 [default: 1]
+  -h, --help         Print help
 
-Example: flashrec run plan.toml script.csv --slots 1000
+Example: flashrec run plan.toml script.csv --slots 1000 --workers 2
 "
     );
     Ok(())
@@ -127,6 +142,8 @@ fn a_number_out_of_its_range_is_told(rt: HostRuntime) -> Result<(), Fail> {
         return Ok(());
     };
     let text = Fault::Words(error).to_string(alloc)?;
-    assert!(rt; text.starts_with("error: slots are a number from 0 to 1048576\n"));
+    assert!(rt;
+        text.starts_with("error: slots are a number from 0 to 1048576, workers one from 1 to 16\n")
+    );
     Ok(())
 }
