@@ -10,17 +10,17 @@ has_text (Some field) name = pointwise nat_eq field name
 
 -- whether a record is the header of a script
 abbrev pub is_script_header : List (List ℕ) → Bool
-is_script_header row =
-    (length row == 7)
-    && (has_text (field_at row 0) (codes "at") && (has_text (field_at row 1) (codes "die") && (has_text (field_at row 2) (codes "task")
-    && (has_text (field_at row 3) (codes "kind") && (has_text (field_at row 4) (codes "release")
-    && (has_text (field_at row 5) (codes "due") && has_text (field_at row 6) (codes "ops")))))))
+is_script_header fields =
+    (length fields == 7)
+    && (has_text (field_at fields 0) (codes "at") && (has_text (field_at fields 1) (codes "die") && (has_text (field_at fields 2) (codes "task")
+    && (has_text (field_at fields 3) (codes "kind") && (has_text (field_at fields 4) (codes "release")
+    && (has_text (field_at fields 5) (codes "due") && has_text (field_at fields 6) (codes "ops")))))))
 
 -- whether a record is the header of a report
 abbrev pub is_report_header : List (List ℕ) → Bool
-is_report_header row =
-    (length row == 11)
-    && (has_text (field_at row 0) (codes "row") && (has_text (field_at row 1) (codes "die") && (has_text (field_at row 2) (codes "job")
-    && (has_text (field_at row 3) (codes "task") && (has_text (field_at row 4) (codes "release") && (has_text (field_at row 5) (codes "due")
-    && (has_text (field_at row 6) (codes "work") && (has_text (field_at row 7) (codes "completion") && (has_text (field_at row 8) (codes "lateness")
-    && (has_text (field_at row 9) (codes "given") && has_text (field_at row 10) (codes "items")))))))))))
+is_report_header fields =
+    (length fields == 11)
+    && (has_text (field_at fields 0) (codes "row") && (has_text (field_at fields 1) (codes "die") && (has_text (field_at fields 2) (codes "job")
+    && (has_text (field_at fields 3) (codes "task") && (has_text (field_at fields 4) (codes "release") && (has_text (field_at fields 5) (codes "due")
+    && (has_text (field_at fields 6) (codes "work") && (has_text (field_at fields 7) (codes "completion") && (has_text (field_at fields 8) (codes "lateness")
+    && (has_text (field_at fields 9) (codes "given") && has_text (field_at fields 10) (codes "items")))))))))))
