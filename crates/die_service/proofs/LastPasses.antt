@@ -65,6 +65,8 @@ module _ {N : Type 0} where
   closed_after p q die told has = record {
     log_is = sym (log_of_calls die.log) ∙ ap log_of (has.calls_are ∙ told.1.3 refl);
     exact = subst (λ (x : DiePlan × Log). IsExact x.0 x.1) (λ i. (plan_is i, seen_is i)) told.1.0.fit;
+    legal = has.legal;
+    least_late = has.least_late;
     about_is = about_is;
     all_joined = (q.view.made, later, sym told.1.1 ∙ ap (λ (l : List ℕ). 1 + length l) told.0.2);
     by_own = subst (λ (x : ℕ × List ℕ). AllBy (x.0 ∷ x.1) (calls_of die.log)) (λ i. (told.0.1 i, told.0.2 i)) has.by_own;

@@ -13,6 +13,9 @@ use Rattle.turn_lock.specs.Log.{AllBy}
 use Rattle.turn_lock.specs.Passes.{IsOut}
 use Rattle.die_log.specs.Answers.{IsExact}
 use Rattle.slot_core.specs.Core.{Core}
+use Rattle.late_cert.specs.Stretch.{IsLeastLate}
+use Rattle.die_log.specs.Legal.{IsLegal}
+use Rattle.die_log.specs.Rows.{rows, carried_numbers}
 use Rattle.die_service.specs.declared.refused.RefusedAt.{RefusedAt}
 use Rattle.die_service.specs.Logs.{log_of, calls_of}
 use Rattle.die_service.specs.Replies.{HasExactLog}
@@ -56,10 +59,13 @@ StayOpen ps refusal qs = ((out : ℕ) × (0 < out) × (refusal ≡ PassesOut out
 abbrev pub AllJoined : DiePass → Type 0
 AllJoined pass = (made : ℕ) × (pass.view.made ≤ made) × (made ≡ 1 + length pass.view.joined)
 
--- a die that was closed with this pass: no other pass of it was left, and its log is exact, and just what the pass had seen
+-- A die that was closed with this pass: no other pass of it was left, and its log is just what the pass had seen. The log
+-- is exact, hence legal, and the greatest lateness in it is least.
 pub record IsClosed {N : Type 0} (pass : DiePass) (die : Core N) : Type 0 where
   pub log_is : die.log ≡ log_of pass.view.seen
   pub exact : IsExact die.plan die.log
+  pub legal : IsLegal die.plan die.log
+  pub least_late : IsLeastLate (rows die.plan die.log) (carried_numbers die.log)
   pub about_is : pass.view.about ≡ Some die.plan
   pub all_joined : AllJoined pass
   pub by_own : AllBy (pass.view.number ∷ pass.view.joined) (calls_of die.log)
@@ -67,6 +73,8 @@ pub record IsClosed {N : Type 0} (pass : DiePass) (die : Core N) : Type 0 where
 -- a die whose log is just what the pass has seen, which was its only one
 pub record HasLogOf {N : Type 0} (pass : DiePass) (die : Core N) : Type 0 where
   pub calls_are : calls_of die.log ≡ pass.view.seen
+  pub legal : IsLegal die.plan die.log
+  pub least_late : IsLeastLate (rows die.plan die.log) (carried_numbers die.log)
   pub about_is : pass.view.about ≡ Some die.plan
   pub all_joined : AllJoined pass
   pub by_own : AllBy (pass.view.number ∷ pass.view.joined) (calls_of die.log)

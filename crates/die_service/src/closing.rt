@@ -60,7 +60,10 @@ fn close_each<N: Nand, R: Wait>(
         let Ok(book) = die.turned.close(rt, pass) else {
             unreachable!()
         };
-        cores.push_reserved(book.into_core());
+        let core = book.into_core();
+        // It says what stands of the die's log.
+        core.promises();
+        cores.push_reserved(core);
     }
     cores
 }
