@@ -6,6 +6,7 @@ use Rattle.std.proofs.lemmas.List.{append-nil, length-set, length-replicate, get
 use Rattle.std.proofs.lemmas.List.Elements.{All-get_or, All-nil, All-push, All-replicate, All-set, filter-append}
 use Rattle.std.proofs.Math.ListN.{set}
 use Rattle.slot_types.specs.declared.refusals.Refusal.{Refusal}
+use Rattle.task_script.specs.AskedPages.{RowHasPages, RowsHavePages}
 use Rattle.task_script.specs.Feeds.{Arrives, IsRowFor, AllArrive, feed_of, IsDealt, AreFeedsOf, RefusesScript, with_items, IsReadTo, HasDealt}
 use Rattle.task_script.specs.Readings.{IsOutside}
 use Rattle.task_script.specs.Script.{Script, Yields, script_of, with_front}
@@ -27,6 +28,7 @@ dealt_none dies slots = record {
   all = length-replicate dies [];
   rows = λ die below. get_or-replicate dies die [] [] below;
   arrive = All-replicate (AllArrive slots) dies [] (All-nil (Arrives slots));
+  pages = All-replicate RowsHavePages dies [] (All-nil RowHasPages);
 }
 
 dealt_at : (items : List ScriptItem) (feeds : List (List ScriptItem)) (item : ScriptItem) (die : ℕ) → item.die < length feeds → get_or feeds item.die [] ≡ feed_of items item.die
@@ -44,14 +46,15 @@ dealt_at items feeds item die below own false e other =
         let yes : is_of die item ≡ true = eq-eqb item.die die (sym same) in
         absurd cc
 
-dealt_more : (dies slots : ℕ) (items : List ScriptItem) (feeds feeds2 : List (List ScriptItem)) (item : ScriptItem) → IsRowFor dies slots item
+dealt_more : (dies slots : ℕ) (items : List ScriptItem) (feeds feeds2 : List (List ScriptItem)) (item : ScriptItem) → IsRowFor dies slots item → RowHasPages item
     → feeds2 ≡ set feeds item.die (get_or feeds item.die [] ++ item ∷ []) → IsDealt dies slots items feeds → IsDealt dies slots (items ++ item ∷ []) feeds2
-dealt_more dies slots items feeds feeds2 item row is d =
+dealt_more dies slots items feeds feeds2 item row paged is d =
     subst (IsDealt dies slots (items ++ item ∷ [])) (sym is) (record {
       all = length-set feeds item.die _ ∙ d.all;
       rows = λ die below. dealt_at items feeds item die within (d.rows item.die row.0) (is_of die item) refl (d.rows die below);
       arrive = All-set (AllArrive slots) feeds item.die _
           (All-push (Arrives slots) (get_or feeds item.die []) item (All-get_or (AllArrive slots) feeds item.die [] within d.arrive) row.1) d.arrive;
+      pages = All-set RowsHavePages feeds item.die _ (All-push RowHasPages (get_or feeds item.die []) item (All-get_or RowsHavePages feeds item.die [] within d.pages) paged) d.pages;
     })
   where
     within : item.die < length feeds
@@ -96,14 +99,14 @@ pub deals_none : (whole left : Option Script) (n dies slots : ℕ) (feeds : List
 deals_none whole left n dies slots feeds same is all =
     ([], subst (λ (o : Option Script). IsReadTo whole o []) (sym same) (read_none whole), subst (IsDealt dies slots []) (sym (is ∙ ap (λ m. replicate m []) all)) (dealt_none dies slots))
 
-pub deals_more : (whole left new : Option Script) (dies slots : ℕ) (feeds feeds2 : List (List ScriptItem)) (item : ScriptItem) (old feed : List ScriptItem) → IsRowFor dies slots item
+pub deals_more : (whole left new : Option Script) (dies slots : ℕ) (feeds feeds2 : List (List ScriptItem)) (item : ScriptItem) (old feed : List ScriptItem) → IsRowFor dies slots item → RowHasPages item
     → old ≡ get_or feeds item.die old → feed ≡ old ++ item ∷ [] → feeds2 ≡ set feeds item.die feed → Yields left new (Ok (Some item)) → HasDealt whole left dies slots feeds → HasDealt whole new dies slots feeds2
-deals_more whole left new dies slots feeds feeds2 item old feed row at grown is step h =
+deals_more whole left new dies slots feeds feeds2 item old feed row paged at grown is step h =
     let below : item.die < length feeds = omega (arith, row.0, h.2.all) in
     let same : old ≡ get_or feeds item.die [] = at ∙ get_or_default feeds item.die old [] below in (
       h.0 ++ item ∷ [],
       read_more whole left new h.0 item h.1 step,
-      dealt_more dies slots h.0 feeds feeds2 item row (is ∙ ap (set feeds item.die) (grown ∙ ap (λ (xs : List ScriptItem). xs ++ item ∷ []) same)) h.2,
+      dealt_more dies slots h.0 feeds feeds2 item row paged (is ∙ ap (set feeds item.die) (grown ∙ ap (λ (xs : List ScriptItem). xs ++ item ∷ []) same)) h.2,
     )
 
 pub deals_all : (text : Option (List ℕ)) (left new : Option Script) (dies slots : ℕ) (feeds : List (List ScriptItem)) → Yields left new (Ok None)

@@ -4,7 +4,7 @@ use Rattle.std.specs.Prelude.{IfSome}
 use Rattle.std.specs.Io.KnownBytes.{Appends}
 use Rattle.std.proofs.lemmas.List.{drop_more}
 use Rattle.std.specs.List.{AllByRecursion}
-use Rattle.std.proofs.lemmas.List.Elements.{recursion_from_All}
+use Rattle.std.proofs.lemmas.List.Elements.{All-get_or, recursion_from_All}
 use Rattle.slot_types.specs.declared.limits.TheConstants.{MAX_SLOT}
 use Rattle.slot_types.specs.declared.plans.DiePlan.{DiePlan}
 use Rattle.slot_types.specs.declared.refusals.Refusal.{Refusal}
@@ -12,6 +12,7 @@ use Rattle.slot_types.specs.declared.refusals.Refusal.TheVariants.{NoMemory}
 use Rattle.slot_core.specs.Core.{Core}
 use Rattle.die_service.specs.declared.ends.DieEnd.{DieEnd}
 use Rattle.die_service.specs.declared.ends.RefusedEvent.{RefusedEvent}
+use Rattle.task_script.specs.AskedPages.{RowsHavePages}
 use Rattle.task_script.specs.DieReports.{die_report_of}
 use Rattle.task_script.specs.DieRuns.{DieRun, IsRun, run_at}
 use Rattle.task_script.specs.Feeds.{AllArrive, AreFeedsOf, feed_of}
@@ -149,6 +150,7 @@ pub runs_text : (text : Option (List ℕ)) (plans : List DiePlan) (slots : ℕ) 
 runs_text text plans slots feeds report ends count old new fed h counted written = record {
   items = fed.0;
   script = fed.1;
+  pages = λ d below. subst RowsHavePages (fed.2.rows d (omega (arith, below))) (All-get_or RowsHavePages feeds d [] (omega (arith, below, fed.2.all)) fed.2.pages);
   runs = h.runs;
   ran = same_feeds slots (feed_at feeds) (feed_of fed.0) 0 plans h.runs (λ d below. fed.2.rows d (omega (arith, below))) h.ran;
   counted = counted ∙ ap count_of h.ended;

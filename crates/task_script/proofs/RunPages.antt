@@ -1,5 +1,5 @@
 -- The jobs of a run are asked to write what its rows say.
-use Rattle.std.proofs.Common.{ℕ, zero, suc, ◌+◌, ◌==◌, Bool, true, false, cond, List, [], ◌∷◌, Option, Some, None, sym, subst, map}
+use Rattle.std.proofs.Common.{ℕ, zero, suc, ◌+◌, ◌<◌, length, arith, Bool, true, false, cond, List, [], ◌∷◌, Option, Some, None, sym, subst, map}
 use Rattle.std.specs.Prelude.{All}
 use Rattle.std.specs.List.{AllByRecursion}
 use Rattle.std.proofs.lemmas.List.Elements.{All-from_recursion, recursion_from_All}
@@ -8,12 +8,10 @@ use Rattle.slot_types.specs.declared.plans.DiePlan.{DiePlan}
 use Rattle.slot_types.specs.declared.events.Event.{Event}
 use Rattle.slot_types.specs.declared.refusals.Refusal.{Refusal}
 use Rattle.die_log.specs.Log.{Log}
-use Rattle.die_log.proofs.Choices.{all_kept}
 use Rattle.die_log.proofs.Known.{all_append}
 use Rattle.task_script.specs.AskedPages.{AsksPages, EntryHasPages, HasPages, RowHasPages, RowsHavePages}
 use Rattle.task_script.specs.DieRuns.{Call, Row, Slot, DieRun, Ends, IsRun, IsStep, Runs, calls_from, due_by, fresh_run, is_due, later_than}
 use Rattle.task_script.specs.ExactRuns.{AreExact}
-use Rattle.task_script.specs.Feeds.{feed_of}
 use Rattle.task_script.specs.TextRuns.{AreRuns}
 use Rattle.task_script.specs.declared.items.ScriptItem.{ScriptItem}
 use Rattle.task_script.proofs.ExactPages.{AreAsked}
@@ -68,17 +66,12 @@ die_asked : (plan : DiePlan) (slots : ℕ) (items : List ScriptItem) (run : DieR
 die_asked plan slots items run pages h =
     All-from_recursion EntryHasPages run.log (run_asked plan fresh_run run _ h.ran (calls_asked 0 slots items (recursion_from_All RowHasPages items pages)) tt)
 
--- the rows of a die are rows of the script
-pub feed_asked : (items : List ScriptItem) (die : ℕ) → RowsHavePages items → RowsHavePages (feed_of items die)
-feed_asked items die pages =
-    All-from_recursion RowHasPages (feed_of items die) (all_kept RowHasPages (λ (item : ScriptItem). item.die == die) items (recursion_from_All RowHasPages items pages))
-
-runs_exact : (slots : ℕ) (feed : ℕ → List ScriptItem) (die : ℕ) (plans : List DiePlan) (runs : List DieRun) → ((d : ℕ) → RowsHavePages (feed d)) → AllByRecursion MeetsBound plans → AreRuns slots feed die plans runs → AreExact plans runs
+runs_exact : (slots : ℕ) (feed : ℕ → List ScriptItem) (die : ℕ) (plans : List DiePlan) (runs : List DieRun) → ((d : ℕ) → d < die + length plans → RowsHavePages (feed d)) → AllByRecursion MeetsBound plans → AreRuns slots feed die plans runs → AreExact plans runs
 runs_exact slots feed die [] [] pages bound h = tt
 runs_exact slots feed die [] (run ∷ runs) pages bound h = absurd h
 runs_exact slots feed die (plan ∷ plans) [] pages bound h = absurd h
 runs_exact slots feed die (plan ∷ plans) (run ∷ runs) pages bound h =
-    (bound.0, h.0.exact, die_asked plan slots (feed die) run (pages die) h.0, runs_exact slots feed (die + 1) plans runs pages bound.1 h.1)
+    (bound.0, h.0.exact, die_asked plan slots (feed die) run (pages die (omega arith)) h.0, runs_exact slots feed (die + 1) plans runs (λ d below. pages d (omega (arith, below))) bound.1 h.1)
 
-pub runs_are_exact : (slots : ℕ) (feed : ℕ → List ScriptItem) (plans : List DiePlan) (runs : List DieRun) → ((d : ℕ) → RowsHavePages (feed d)) → All MeetsBound plans → AreRuns slots feed 0 plans runs → AreExact plans runs
-runs_are_exact slots feed plans runs pages bound h = runs_exact slots feed 0 plans runs pages (recursion_from_All MeetsBound plans bound) h
+pub runs_are_exact : (slots : ℕ) (feed : ℕ → List ScriptItem) (plans : List DiePlan) (runs : List DieRun) → ((d : ℕ) → d < length plans → RowsHavePages (feed d)) → All MeetsBound plans → AreRuns slots feed 0 plans runs → AreExact plans runs
+runs_are_exact slots feed plans runs pages bound h = runs_exact slots feed 0 plans runs (λ d below. pages d (omega (arith, below))) (recursion_from_All MeetsBound plans bound) h

@@ -2,6 +2,7 @@
 use Rattle.std.specs.Prelude.{◌≡◌, ◌==◌, ◌⊎◌, ⊤, ℕ, ◌<◌, ◌≤◌, List, [], ◌++◌, All, filter, length, get_or, Option, Some, None, IfSome, Ok, Err}
 use Rattle.die_service.specs.Runs.{IsArrival}
 use Rattle.slot_types.specs.declared.refusals.Refusal.{Refusal}
+use Rattle.task_script.specs.AskedPages.{RowsHavePages}
 use Rattle.task_script.specs.Readings.{IsOutside}
 use Rattle.task_script.specs.Script.{Script, script_of}
 use Rattle.task_script.specs.declared.items.ScriptItem.{ScriptItem}
@@ -26,6 +27,7 @@ pub record IsDealt (dies slots : ℕ) (items : List ScriptItem) (feeds : List (L
   pub all : length feeds ≡ dies
   pub rows : (die : ℕ) → die < dies → get_or feeds die [] ≡ feed_of items die
   pub arrive : All (AllArrive slots) feeds
+  pub pages : All RowsHavePages feeds
 
 -- the items of the script, where its text is known
 abbrev pub AreItemsOf : Option (List ℕ) → ℕ → ℕ → List ScriptItem → Type 0

@@ -1,9 +1,10 @@
 -- What comes of a script on the dies of a store.
-use Rattle.std.specs.Prelude.{◌≡◌, ◌==◌, ◌⊎◌, ⊤, ℕ, ◌+◌, if◌then◌else◌, List, [], ◌∷◌, flat_map, length, get_or, Option}
+use Rattle.std.specs.Prelude.{◌≡◌, ◌==◌, ◌⊎◌, ⊤, ℕ, ◌<◌, ◌+◌, if◌then◌else◌, List, [], ◌∷◌, flat_map, length, get_or, Option}
 use Rattle.std.specs.Io.KnownBytes.{Appends}
 use Rattle.slot_types.specs.declared.plans.DiePlan.{DiePlan}
 use Rattle.slot_types.specs.declared.refusals.Refusal.{Refusal}
 use Rattle.slot_types.specs.declared.refusals.Refusal.TheVariants.{WriteFault}
+use Rattle.task_script.specs.AskedPages.{RowsHavePages}
 use Rattle.task_script.specs.DieReports.{die_report_of}
 use Rattle.task_script.specs.DieRuns.{DieRun, IsRun}
 use Rattle.task_script.specs.Feeds.{AreItemsOf, RefusesScript, feed_of}
@@ -33,11 +34,12 @@ reports_from die _ _ = []
 abbrev pub ends_of : List DieRun → List RowEnd
 ends_of runs = flat_map (λ (run : DieRun). run.ends) runs
 
--- each die of the store ran all its slots with its rows of the script, the rows are counted, and what is written is the
+-- each die of the store ran all its slots with its rows of the script, what those write are pages, the rows are counted, and what is written is the
 -- report of the dies' exact logs
 pub record RunsText (text : Option (List ℕ)) (plans : List DiePlan) (slots : ℕ) (count : RunCount) (old new : Option (List ℕ)) : Type 0 where
   pub items : List ScriptItem
   pub script : AreItemsOf text (length plans) slots items
+  pub pages : (die : ℕ) → die < length plans → RowsHavePages (feed_of items die)
   pub runs : List DieRun
   pub ran : AreRuns slots (feed_of items) 0 plans runs
   pub counted : count ≡ count_of (ends_of runs)

@@ -28,7 +28,7 @@ mod words;
 
 pub use die_reports::die_report;
 pub use items::ScriptItem;
-pub use laws::{exact_reports_come_back, reports_come_back, script_reports_come_back};
+pub use laws::{exact_reports_come_back, reports_come_back, run_reports_come_back};
 pub use numbers::number;
 pub use report_reading::read_report;
 pub use report_texts::write_report;

@@ -18,9 +18,10 @@ returns-in-Err-clause-refused g c = deals_fault _ _ _ _ c.args.slots _ c.in-Err.
 pub loop-preserved : goal.loop-preserved
 loop-preserved g c =
     let row = rw c.in-Ok-Some.field-0-is at c.in-Ok-Some.ensures.row in
+    let paged = rw c.in-Ok-Some.field-0-is at c.in-Ok-Some.ensures.pages in
     let step = rw c.in-Ok-Some.field-0-is at c.in-Ok-Some.ensures.item in
     record {
       dies = c.next.ensures.dies ∙ c.loop.invariant.dies;
       slots = c.next.ensures.slots ∙ c.loop.invariant.slots;
-      dealt = deals_more _ _ _ _ _ _ _ c.in-Ok-Some.item _ _ (rw (c.loop.invariant.dies, c.loop.invariant.slots) at row) c.index_mut.ensures.value c.in-Ok.ensures.ok refl step c.loop.invariant.dealt;
+      dealt = deals_more _ _ _ _ _ _ _ c.in-Ok-Some.item _ _ (rw (c.loop.invariant.dies, c.loop.invariant.slots) at row) paged c.index_mut.ensures.value c.in-Ok.ensures.ok refl step c.loop.invariant.dealt;
     }
