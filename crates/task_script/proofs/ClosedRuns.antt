@@ -13,6 +13,7 @@ use Rattle.die_log.specs.Log.{Log, now}
 use Rattle.die_log.specs.Answers.{IsExact}
 use Rattle.slot_core.specs.Core.{Core}
 use Rattle.slot_core.specs.Calls.{RefusedBy}
+use Rattle.die_service.proofs.LastPasses.{same_plan}
 use Rattle.die_service.specs.declared.ends.DieEnd.{DieEnd}
 use Rattle.die_service.specs.declared.feeds.Arrival.{Arrival}
 use Rattle.die_service.specs.declared.refused.RefusedAt.{RefusedAt}
@@ -27,9 +28,6 @@ use Rattle.task_script.specs.RowEnds.{arrivals_of, lines_of, ends_from}
 use Rattle.task_script.specs.StoreRuns.{RanFeed}
 use Rattle.task_script.proofs.Transcripts.{AreTold, said_log, told_accepted, own_of_log, front_own}
 use Rattle.task_script.proofs.FeedRuns.{slots_run, slots_stop}
-
-same_plan : (a b : DiePlan) → ◌≡◌ {A = Option DiePlan} (Some a) (Some b) → a ≡ b
-same_plan a b e = cc
 
 by_log : (plan : DiePlan) (past : Log) (event : Event) (refusal : Refusal) → MayRefuse true plan past event refusal → RefusedBy plan past event refusal
 by_log plan past event refusal (inl h) = h

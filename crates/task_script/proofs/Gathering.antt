@@ -79,7 +79,7 @@ row_more place line lines refused later refusal rows rows2 all below at is rest 
 
 -- The runs of dies that were closed
 
-record Gathered {N : Type 0} (slots number : ℕ) (feed : ℕ → List ScriptItem) (plans : List DiePlan) (rows : List (List ScriptItem)) (ends : List DieEnd) (dies : List (Core N)) : Type 0 where
+record GatheredRuns {N : Type 0} (slots number : ℕ) (feed : ℕ → List ScriptItem) (plans : List DiePlan) (rows : List (List ScriptItem)) (ends : List DieEnd) (dies : List (Core N)) : Type 0 where
   pub runs : List DieRun
   pub ran : AreRuns slots feed number plans runs
   pub reported : reports_of number dies ≡ reports_from number plans runs
@@ -87,7 +87,7 @@ record Gathered {N : Type 0} (slots number : ℕ) (feed : ℕ → List ScriptIte
 
 gathered : {N : Type 0} (slots number : ℕ) (feed : ℕ → List ScriptItem) (plans : List DiePlan) (rows : List (List ScriptItem)) (ends : List DieEnd) (dies : List (Core N))
     → ((k : ℕ) → k < length rows → feed (number + k) ≡ get_or rows k []) → AllByRecursion (AllArrive slots) rows → AllByRecursion (λ end. end.stop ≡ None) ends
-    → RanFeeds slots plans (map arrivals_of rows) ends dies → Gathered slots number feed plans rows ends dies
+    → RanFeeds slots plans (map arrivals_of rows) ends dies → GatheredRuns slots number feed plans rows ends dies
 gathered slots number feed [] [] [] [] own arrive none ran = record { runs = []; ran = tt; reported = refl; ended = refl }
 gathered slots number feed (plan ∷ plans) (items ∷ rows) (end ∷ ends) (die ∷ dies) own arrive none ran =
     let first : feed number ≡ items = ap feed (omega arith) ∙ own 0 (omega arith) in
