@@ -9,7 +9,7 @@ use Rattle.page_map.specs.Placing.{Placing}
 use Rattle.flash_die.specs.Flash.{Block, block_at, IsProgrammed}
 use Rattle.flash_volume.specs.Cells.{filled_of, fills_of, is_partly, partly_in}
 
--- an array as its callers see it: whether its device has failed, the device, where each page lies, and the full blocks that may be collected with their counts of pages that lie there
+-- an array as its callers see it: whether its device has failed, the device, where each page lies, and the closed blocks that may be collected with their counts of pages that lie there
 pub record ArrayState (N : Type 0) : Type 0 where
   pub failed : Bool
   pub device : N

@@ -32,7 +32,7 @@ pub(crate) struct PageArray<N: Nand> {
     fills: Vec<u32>,
     /// The block that is partly filled. There is one at most.
     writing: Option<u32>,
-    /// The full blocks that may be collected.
+    /// The closed blocks that may be collected.
     victims: Victims,
     failed: bool,
 }
