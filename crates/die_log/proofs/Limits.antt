@@ -13,7 +13,7 @@ use Rattle.slot_types.specs.declared.events.Event.TheVariants as events
 use Rattle.slot_types.specs.declared.replies.Reply.{Reply}
 use Rattle.slot_types.specs.declared.replies.Reply.TheVariants as replies
 use Rattle.die_log.specs.Log.{Log, Job, Carried, jobs, now, carried, with_slot}
-use Rattle.die_log.specs.Flash.{Block, Cells, cells, cells_after, block_at, empty_block, open_block, programmed_in, erased_once, ran_by}
+use Rattle.die_log.specs.Flash.{Block, Cells, cells, cells_after, block_at, free_block, open_block, programmed_in, erased_once, ran_by}
 use Rattle.die_log.specs.Answers.{IsExact, accepted, refusals, page_of, bad_page, choice, slot_reply}
 use Rattle.die_log.specs.Limits.{IsWithinLimits, KeepsLimits}
 use Rattle.die_log.proofs.Legality.{entry, in_time, exact_induction}
@@ -94,13 +94,13 @@ few_jobs plan = exact_induction plan (λ log. length (jobs log) ≤ MAX_JOBS) (o
 
 -- Erases: at most one a slot, of any log
 
-set_erases : (blocks : List Block) (b a : ℕ) (s : Block) → s.erases ≤ (get_or blocks b empty_block).erases + 1 → (get_or (set blocks b s) a empty_block).erases ≤ (get_or blocks a empty_block).erases + 1
+set_erases : (blocks : List Block) (b a : ℕ) (s : Block) → s.erases ≤ (get_or blocks b free_block).erases + 1 → (get_or (set blocks b s) a free_block).erases ≤ (get_or blocks a free_block).erases + 1
 set_erases blocks b a s le = elim (cases_lt b (length blocks)) [
   | inl lt ↦ elim (cases_eq a b) [
-    | inl e ↦ rw e (omega (arith, le, ap (λ (x : Block). x.erases) (get_or-set_same blocks b s empty_block lt)))
-    | inr apart ↦ omega (arith, ap (λ (x : Block). x.erases) (get_or-set_other blocks b a s empty_block apart))
+    | inl e ↦ rw e (omega (arith, le, ap (λ (x : Block). x.erases) (get_or-set_same blocks b s free_block lt)))
+    | inr apart ↦ omega (arith, ap (λ (x : Block). x.erases) (get_or-set_other blocks b a s free_block apart))
   ]
-  | inr past ↦ omega (arith, ap (λ (bs : List Block). (get_or bs a empty_block).erases) (set_past blocks b s past))
+  | inr past ↦ omega (arith, ap (λ (bs : List Block). (get_or bs a free_block).erases) (set_past blocks b s past))
 ]
 
 program_erases : (plan : DiePlan) (page : ℕ) (c : Cells) (o : Option ℕ) (a : ℕ) → (block_at (programmed_in page o c) a).erases ≤ (block_at c a).erases + 1
@@ -119,7 +119,7 @@ step_erases plan (Some (n, does.CopyRead page)) c a = omega arith
 step_erases plan (Some (n, does.CopyProgram page)) c a = program_erases plan page c (open_block plan c) a
 step_erases plan (Some (n, does.Erase b)) c a = set_erases c.blocks b a (erased_once plan (block_at c b)) (once_erases (block_at c b) ((block_at c b).erasing + 1 == plan.shape.erase_slots))
 
-fresh_erases : (n a : ℕ) → (get_or (replicate n empty_block) a empty_block).erases ≡ 0
+fresh_erases : (n a : ℕ) → (get_or (replicate n free_block) a free_block).erases ≡ 0
 fresh_erases zero a = refl
 fresh_erases (suc n) zero = refl
 fresh_erases (suc n) (suc a) = fresh_erases n a

@@ -16,7 +16,7 @@ use Rattle.slot_types.specs.declared.replies.Waived.{Waived}
 use Rattle.slot_types.specs.declared.refusals.Refusal.{Refusal}
 use Rattle.slot_types.specs.declared.refusals.Refusal.TheVariants as because
 use Rattle.die_log.specs.Log.{Log, Job, jobs, now, acts, work}
-use Rattle.die_log.specs.Flash.{Cells, cells, content, block_at, is_full, valid, valid_pages, block_of_page}
+use Rattle.die_log.specs.Flash.{Cells, cells, content, block_at, is_closed, valid, valid_pages, block_of_page}
 use Rattle.die_log.specs.Work.{are_all, is_done, ready, least, is_collecting, victim_of, writes}
 use Rattle.plan_rules.specs.Accounts.{Accounts, given_of}
 use Rattle.plan_rules.specs.Accounts as moves
@@ -126,7 +126,7 @@ is_collected plan past b = list_any (λ j. is_running plan past j && is_block b 
 abbrev pub candidates : DiePlan → Log → List ℕ
 candidates plan past =
     let c = cells plan past in
-    filter (λ b. is_full plan (block_at c b) && not (is_collected plan past b)) (range_with_len 0 plan.shape.blocks)
+    filter (λ b. is_closed plan (block_at c b) && not (is_collected plan past b)) (range_with_len 0 plan.shape.blocks)
 
 -- of these the one with the fewest valid pages, then the smaller number
 abbrev pub victim : DiePlan → Log → Option ℕ

@@ -47,28 +47,31 @@ pub record Cells : Type 0 where
   pub blocks : List Block
   pub places : List (Option Place)
 
-abbrev pub empty_block : Block
-empty_block = record { filled = 0; erasing = 0; erases = 0 }
+-- a wholly free block that was never erased
+abbrev pub free_block : Block
+free_block = record { filled = 0; erasing = 0; erases = 0 }
 
 abbrev pub fresh_cells : DiePlan → Cells
-fresh_cells plan = record { blocks = replicate plan.shape.blocks empty_block; places = replicate plan.logical None }
+fresh_cells plan = record { blocks = replicate plan.shape.blocks free_block; places = replicate plan.logical None }
 
 abbrev pub block_at : Cells → ℕ → Block
-block_at c b = slice_index_or c.blocks b empty_block
+block_at c b = slice_index_or c.blocks b free_block
 
-abbrev pub is_full : DiePlan → Block → Bool
-is_full plan s = s.filled == plan.shape.pages
+-- all its pages are programmed; it stays closed until the last slot of its erase
+abbrev pub is_closed : DiePlan → Block → Bool
+is_closed plan s = s.filled == plan.shape.pages
 
-abbrev pub is_partly_filled : DiePlan → Block → Bool
-is_partly_filled plan s = nat_lt 0 s.filled && nat_lt s.filled plan.shape.pages
+-- some of its pages are programmed, and some aren't
+abbrev pub is_open : DiePlan → Block → Bool
+is_open plan s = nat_lt 0 s.filled && nat_lt s.filled plan.shape.pages
 
 abbrev pub first_of : Option ℕ → Option ℕ → Option ℕ
 first_of None other = other
 first_of (Some b) other = Some b
 
--- the partly filled block, or else the first that is wholly free
+-- the block of the next program: the open one, or else the first that is wholly free
 abbrev pub open_block : DiePlan → Cells → Option ℕ
-open_block plan c = first_of (position (is_partly_filled plan) c.blocks) (position (λ s. s.filled == 0) c.blocks)
+open_block plan c = first_of (position (is_open plan) c.blocks) (position (λ s. s.filled == 0) c.blocks)
 
 -- the next cell of the block holds the page
 abbrev pub programmed_in : ℕ → Option ℕ → Cells → Cells

@@ -24,22 +24,22 @@ abbrev pub held_of : (ℕ → List Act) → List Job → ℕ → ℕ
 held_of own js task = sum_by (λ j. at_task j.task (left_of own j) task) js
 
 -- a collection that is neither done nor waived
-abbrev pub is_open : DiePlan → (ℕ → List Act) → (ℕ → Bool) → Job → Bool
-is_open plan own gone j = j.collects && not (are_all plan j (own j.number)) && not (gone j.number)
+abbrev pub is_pending : DiePlan → (ℕ → List Act) → (ℕ → Bool) → Job → Bool
+is_pending plan own gone j = j.collects && not (are_all plan j (own j.number)) && not (gone j.number)
 
 -- the pages that it copied so far
 abbrev pub copied_of : (ℕ → List Act) → Job → ℕ
 copied_of own j = count_by is_copy_program (own j.number)
 
 abbrev pub lent_of : DiePlan → (ℕ → List Act) → (ℕ → Bool) → Job → ℕ
-lent_of plan own gone j = if is_open plan own gone j then copied_of own j else 0
+lent_of plan own gone j = if is_pending plan own gone j then copied_of own j else 0
 
 -- those of the collections of a task
 abbrev pub lent_to : DiePlan → (ℕ → List Act) → (ℕ → Bool) → List Job → ℕ → ℕ
 lent_to plan own gone js task = sum_by (λ j. at_task j.task (lent_of plan own gone j) task) js
 
-abbrev pub open_of : DiePlan → (ℕ → List Act) → (ℕ → Bool) → List Job → ℕ → ℕ
-open_of plan own gone js task = count_by (λ j. (j.task == task) && is_open plan own gone j) js
+abbrev pub pending_of : DiePlan → (ℕ → List Act) → (ℕ → Bool) → List Job → ℕ → ℕ
+pending_of plan own gone js task = count_by (λ j. (j.task == task) && is_pending plan own gone j) js
 
 -- Accounts
 
@@ -68,5 +68,5 @@ pub record IsTaken (plan : DiePlan) (j : Job) : Type 0 where
 pub record AreTrue (plan : DiePlan) (log : Log) : Type 0 where
   pub agree : Agree plan (accounts plan log) (held_of (λ n. acts n log) (jobs log)) (lent_to plan (λ n. acts n log) (is_waived log) (jobs log)) (owed log) (free plan log)
   pub taken : AllByRecursion (IsTaken plan) (jobs log)
-  pub one_each : (task : ℕ) → open_of plan (λ n. acts n log) (is_waived log) (jobs log) task ≤ 1
+  pub one_each : (task : ℕ) → pending_of plan (λ n. acts n log) (is_waived log) (jobs log) task ≤ 1
   pub idle_waived : (number : ℕ) → is_waived log number ≡ true → acts number log ≡ []

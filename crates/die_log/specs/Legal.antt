@@ -78,11 +78,11 @@ pub record MayCopyProgram (past : Log) (number page : ℕ) : Type 0 where
   pub follows : last_or None (acts number past) ≡ Some (does.CopyRead page)
   pub unwritten : IsFalse (written_since number page past)
 
--- an erase begins on a full block in which no page is placed, and no other collection erases the block until it is done
+-- an erase begins on a closed block in which no page is placed, and no other collection erases the block until it is done
 pub record MayErase (plan : DiePlan) (past : Log) (number b block : ℕ) : Type 0 where
   pub own : block ≡ b
   pub left : erases_of number past < plan.shape.erase_slots
-  pub full : erases_of number past ≡ 0 → (block_at (cells plan past) b).filled ≡ plan.shape.pages
+  pub closed : erases_of number past ≡ 0 → (block_at (cells plan past) b).filled ≡ plan.shape.pages
   pub unplaced : erases_of number past ≡ 0 → valid (cells plan past) b ≡ 0
   pub alone : (i : Job) → Contains (jobs past) i → i.number ≢ number → Contains (acts i.number past) (does.Erase b) → IsTrue (is_done plan past i)
 

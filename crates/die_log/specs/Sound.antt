@@ -10,39 +10,39 @@ use Rattle.die_log.specs.Flash.{Cells, block_at, block_of_page, free_in, valid}
 use Rattle.die_log.specs.Work.{is_erase}
 
 -- some of its pages are programmed, and some aren't
-abbrev pub IsPartly : DiePlan → Cells → ℕ → Type 0
-IsPartly plan c b = (0 < (block_at c b).filled) × ((block_at c b).filled < plan.shape.pages)
+abbrev pub IsOpen : DiePlan → Cells → ℕ → Type 0
+IsOpen plan c b = (0 < (block_at c b).filled) × ((block_at c b).filled < plan.shape.pages)
 
-abbrev pub IsFull : DiePlan → Cells → ℕ → Type 0
-IsFull plan c b = (block_at c b).filled ≡ plan.shape.pages
+abbrev pub IsClosed : DiePlan → Cells → ℕ → Type 0
+IsClosed plan c b = (block_at c b).filled ≡ plan.shape.pages
 
 -- no page is placed in it
 abbrev pub IsUnplaced : Cells → ℕ → Type 0
 IsUnplaced c b = (page : ℕ) → block_of_page c page ≡ Some b → ⊥
 
--- cells fit the plan; a page is placed at a filled cell, no two at one; at most one block is partly filled; and a
--- block in erase is full, with no page placed in it
+-- cells fit the plan; a page is placed at a filled cell, no two at one; at most one block is open; and a
+-- block in erase is closed, with no page placed in it
 pub record AreSound (plan : DiePlan) (c : Cells) : Type 0 where
   pub blocks : length c.blocks ≡ plan.shape.blocks
   pub places : length c.places ≡ plan.logical
   pub within : (b : ℕ) → (block_at c b).filled ≤ plan.shape.pages
   pub placed : (page : ℕ) (q : Place) → place_of c.places page ≡ Some q → q.page < (block_at c q.block).filled
   pub apart : (page other : ℕ) (q r : Place) → place_of c.places page ≡ Some q → place_of c.places other ≡ Some r → q.block ≡ r.block → q.page ≡ r.page → page ≡ other
-  pub one_partly : (a b : ℕ) → IsPartly plan c a → IsPartly plan c b → a ≡ b
-  pub erasing : (b : ℕ) → 0 < (block_at c b).erasing → ((block_at c b).erasing < plan.shape.erase_slots) × IsFull plan c b × IsUnplaced c b
+  pub one_open : (a b : ℕ) → IsOpen plan c a → IsOpen plan c b → a ≡ b
+  pub erasing : (b : ℕ) → 0 < (block_at c b).erasing → ((block_at c b).erasing < plan.shape.erase_slots) × IsClosed plan c b × IsUnplaced c b
 
--- a block with room, and the one that is partly filled if any is
-pub record IsOpen (plan : DiePlan) (c : Cells) (b : ℕ) : Type 0 where
+-- a block with room, and the one that is open if any is
+pub record TakesNext (plan : DiePlan) (c : Cells) (b : ℕ) : Type 0 where
   pub stands : b < length c.blocks
   pub room : (block_at c b).filled < plan.shape.pages
-  pub alone : (a : ℕ) → IsPartly plan c a → a ≡ b
+  pub alone : (a : ℕ) → IsOpen plan c a → a ≡ b
 
 -- the next cell of block b holds the page
 pub record IsProgram (plan : DiePlan) (page b : ℕ) (c d : Cells) : Type 0 where
   pub blocks : length d.blocks ≡ length c.blocks
   pub places : length d.places ≡ length c.places
   pub room : (block_at c b).filled < plan.shape.pages
-  pub alone : (a : ℕ) → IsPartly plan c a → a ≡ b
+  pub alone : (a : ℕ) → IsOpen plan c a → a ≡ b
   pub filled : (block_at d b).filled ≡ (block_at c b).filled + 1
   pub erasing : (block_at d b).erasing ≡ (block_at c b).erasing
   pub others : (a : ℕ) → a ≢ b → block_at d a ≡ block_at c a
@@ -72,7 +72,7 @@ HasRoom plan c _ = Unit {0}
 
 -- a running collection of block b with these acts, where `fresh page` says that a job wrote the page since its last act
 pub record IsCollecting (plan : DiePlan) (c : Cells) (own : List Act) (fresh : ℕ → Bool) (b : ℕ) : Type 0 where
-  pub full : IsFull plan c b
+  pub closed : IsClosed plan c b
   pub erases : (block_at c b).erasing ≡ count_by is_erase own
   pub of_own : (a : ℕ) → Contains own (does.Erase a) → a ≡ b
   pub read : (page : ℕ) → Contains own (does.CopyRead page) → block_of_page c page ≡ Some b → last_or None own ≡ Some (does.CopyRead page)
@@ -90,11 +90,11 @@ pub record MayProgram (c : Cells) (own : List Act) (fresh : ℕ → Bool) (b pag
   pub placed : block_of_page c page ≡ Some b
   pub unwritten : fresh page ≡ false
 
--- the block is its own, full, with no page placed in it, and an erase slot is left
+-- the block is its own, closed, with no page placed in it, and an erase slot is left
 pub record MayEraseSlot (plan : DiePlan) (c : Cells) (own : List Act) (b block : ℕ) : Type 0 where
   pub same : block ≡ b
   pub left : count_by is_erase own < plan.shape.erase_slots
-  pub full : IsFull plan c b
+  pub closed : IsClosed plan c b
   pub valid_none : valid c b ≡ 0
   pub unplaced : IsUnplaced c b
 

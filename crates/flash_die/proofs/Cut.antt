@@ -7,7 +7,7 @@ use Rattle.std.proofs.Math.Nat.{mul-le-mul_right}
 use Rattle.slot_types.specs.declared.pages.Place.{Place}
 use Rattle.slot_types.specs.declared.plans.Shape.{Shape}
 use Rattle.slot_types.specs.declared.pages.PageData.{PageData}
-use Rattle.flash_die.specs.Flash.{Block, blank, empty_block, block_at, cell_at, IsProgrammed, IsNext, programmed}
+use Rattle.flash_die.specs.Flash.{Block, blank, free_block, block_at, cell_at, IsProgrammed, IsNext, programmed}
 use Rattle.flash_die.specs.Memory.{block_of, blocks_of, IsMemory}
 
 one_more : (n k : ℕ) → (n + 1) * k ≡ n * k + k
@@ -17,7 +17,7 @@ pub count_is : (pages : ℕ) (cells : List PageData) (filled erasing erases : Li
 count_is pages cells filled erasing erases = length-map-range_with_len (block_of pages cells filled erasing erases) 0 (length filled)
 
 pub block_is : (pages : ℕ) (cells : List PageData) (filled erasing erases : List ℕ) (k : ℕ) → k < length filled → block_at (blocks_of pages cells filled erasing erases) k ≡ block_of pages cells filled erasing erases k
-block_is pages cells filled erasing erases k below = get_or-map-range_with_len (block_of pages cells filled erasing erases) 0 (length filled) k k empty_block below (omega arith)
+block_is pages cells filled erasing erases k below = get_or-map-range_with_len (block_of pages cells filled erasing erases) 0 (length filled) k k free_block below (omega arith)
 
 pub record Within (shape : Shape) (cells : List PageData) (filled : List ℕ) (place : Place) : Type 0 where
   pub block : place.block < length filled
@@ -45,12 +45,12 @@ pub one_changed : (pages : ℕ) (cells : List PageData) (filled erasing erases :
 one_changed pages cells filled erasing erases cells_then filled_then erasing_then erases_then b new len below here others =
     let before : List Block = blocks_of pages cells filled erasing erases in
     let count : length before ≡ length filled = count_is pages cells filled erasing erases in
-    sym (fill_by_all (block_of pages cells_then filled_then erasing_then erases_then) (set before b new) (length filled_then) empty_block (length-set before b new ∙ count ∙ sym len) (λ k h.
+    sym (fill_by_all (block_of pages cells_then filled_then erasing_then erases_then) (set before b new) (length filled_then) free_block (length-set before b new ∙ count ∙ sym len) (λ k h.
     elim (cases_eq k b) [
-      | inl same ↦ ap (λ (j : ℕ). get_or (set before b new) j empty_block) same ∙ get_or-set_same before b new empty_block (omega (arith, below, count)) ∙ sym here ∙ ap (block_of pages cells_then filled_then erasing_then erases_then) (sym same)
+      | inl same ↦ ap (λ (j : ℕ). get_or (set before b new) j free_block) same ∙ get_or-set_same before b new free_block (omega (arith, below, count)) ∙ sym here ∙ ap (block_of pages cells_then filled_then erasing_then erases_then) (sym same)
       | inr other ↦
           let in_range : k < length filled = omega (arith, h, len) in
-          get_or-set_other before b k new empty_block other ∙ block_is pages cells filled erasing erases k in_range ∙ sym (others k in_range other)
+          get_or-set_other before b k new free_block other ∙ block_is pages cells filled erasing erases k in_range ∙ sym (others k in_range other)
     ]))
 
 -- the cells of another block stay

@@ -14,11 +14,11 @@ pub record Block : Type 0 where
   pub erasing : ℕ
   pub erases : ℕ
 
-abbrev pub empty_block : Block
-empty_block = record { pages = []; erasing = 0; erases = 0 }
+abbrev pub free_block : Block
+free_block = record { pages = []; erasing = 0; erases = 0 }
 
 abbrev pub block_at : List Block → ℕ → Block
-block_at blocks block = slice_index_or blocks block empty_block
+block_at blocks block = slice_index_or blocks block free_block
 
 -- what a cell holds
 abbrev pub cell_at : List Block → Place → PageData
@@ -37,10 +37,10 @@ pub record IsNext (blocks : List Block) (pages : ℕ) (place : Place) : Type 0 w
   pub room : place.page < pages
   pub quiet : (block_at blocks place.block).erasing ≡ 0
 
--- a block that is wholly programmed, or in erase
+-- a closed block, whether its erase has begun or not
 pub record IsErasable (blocks : List Block) (pages : ℕ) (block : ℕ) : Type 0 where
   pub in_range : block < length blocks
-  pub full : ((block_at blocks block).erasing ≡ 0) → length (block_at blocks block).pages ≡ pages
+  pub closed : ((block_at blocks block).erasing ≡ 0) → length (block_at blocks block).pages ≡ pages
   pub few_erases : (block_at blocks block).erases < 4294967295
 
 -- after a program of the block's next cell
@@ -62,7 +62,7 @@ erased blocks slots block = slice_set blocks block (erased_once slots (block_at 
 
 -- the blocks of a device on which nothing was done yet
 abbrev pub fresh_blocks : Shape → List Block
-fresh_blocks shape = replicate shape.blocks empty_block
+fresh_blocks shape = replicate shape.blocks free_block
 
 -- of a device on which nothing was done yet
 pub record IsFresh (shape : Shape) (blocks : List Block) (failures : ℕ) : Type 0 where

@@ -15,13 +15,13 @@ use Rattle.plan_rules.specs.Accounts.{Accounts, total_of}
 use Rattle.plan_rules.proofs.Spread.{choice}
 use Rattle.victim_pick.specs.Candidates.{Candidates, count_of, HasNone, IsLeast}
 use Rattle.page_map.specs.Placing.{Placing}
-use Rattle.flash_die.specs.Flash.{Block, empty_block, block_at}
+use Rattle.flash_die.specs.Flash.{Block, free_block, block_at}
 use Rattle.flash_volume.specs.declared.collection.Collection.{Collection}
-use Rattle.flash_volume.specs.Cells.{fills_of, is_partly, partly_in, free_in, free_cells}
+use Rattle.flash_volume.specs.Cells.{fills_of, is_open_with, opened_in, free_in, free_cells}
 use Rattle.flash_volume.specs.Running.{running_of, RunWell}
-use Rattle.flash_volume.specs.Picks.{IsClosed, IsVictim, PicksWell}
+use Rattle.flash_volume.specs.Picks.{IsCandidate, IsVictim, PicksWell}
 use Rattle.flash_volume.specs.Sound.{IsSound}
-use Rattle.flash_volume.proofs.Opening.{Sound, OneOpen, fill_is, partly_is}
+use Rattle.flash_volume.proofs.Opening.{Sound, OneOpen, fill_is, opened_is}
 use Rattle.flash_volume.proofs.Counting.{none_set}
 use Rattle.flash_volume.proofs.Collections.{who_runs, runs_begun}
 
@@ -40,20 +40,20 @@ sum_by-map g f (x ∷ xs) = omega (arith, sum_by-cons g (f x) (map f xs), sum_by
 
 by_block : (pages : ℕ) (blocks : List Block) (n : ℕ) → length blocks ≡ n → sum_by (free_of pages blocks) (range_with_len 0 n) ≡ free_cells pages blocks
 by_block pages blocks n is =
-    let same : blocks ≡ map (block_at blocks) (range_with_len 0 n) = fill_by_all (block_at blocks) blocks n empty_block is (λ k _. refl) in
+    let same : blocks ≡ map (block_at blocks) (range_with_len 0 n) = fill_by_all (block_at blocks) blocks n free_block is (λ k _. refl) in
     sym (sum_by-map (free_in pages) (block_at blocks) (range_with_len 0 n)) ∙ ap (λ (l : List Block). sum_by (free_in pages) l) (sym same)
 
-open_or_whole : (pages : ℕ) (fills : List ℕ) (block free : ℕ) → OneOpen pages fills → free ≡ pages - get_or fills block 0 → (position (is_partly pages) fills ≡ Some block) ⊎ ((free ≡ 0) ⊎ (pages ≤ free))
+open_or_whole : (pages : ℕ) (fills : List ℕ) (block free : ℕ) → OneOpen pages fills → free ≡ pages - get_or fills block 0 → (position (is_open_with pages) fills ≡ Some block) ⊎ ((free ≡ 0) ⊎ (pages ≤ free))
 open_or_whole pages fills block free one is =
     elim (cases_lt 0 (get_or fills block 0)) [
       | inl some ↦ elim (cases_lt (get_or fills block 0) pages) [
-        | inl few ↦ inl (partly_is pages fills block (position (is_partly pages) fills) refl one some few)
-        | inr full ↦ inr (inl (omega (arith, is, full)))
+        | inl few ↦ inl (opened_is pages fills block (position (is_open_with pages) fills) refl one some few)
+        | inr closed ↦ inr (inl (omega (arith, is, closed)))
       ]
       | inr none ↦ inr (inr (omega (arith, is, none)))
     ]
 
-begins_short : {accounts : Accounts} {shape : Shape} {failures : ℕ} {blocks : List Block} {placing : Placing} {candidates : Candidates} {running : List (Option Collection)} (task : ℕ) → IsSound accounts shape failures blocks placing candidates running → total_of accounts ≤ fmax_of accounts.plan → task < length accounts.plan.caps → running_of running task ≡ None → BeginsShort accounts.plan (free_of accounts.plan.shape.pages blocks) placing.places (map victim_of running) (partly_in accounts.plan.shape.pages blocks)
+begins_short : {accounts : Accounts} {shape : Shape} {failures : ℕ} {blocks : List Block} {placing : Placing} {candidates : Candidates} {running : List (Option Collection)} (task : ℕ) → IsSound accounts shape failures blocks placing candidates running → total_of accounts ≤ fmax_of accounts.plan → task < length accounts.plan.caps → running_of running task ≡ None → BeginsShort accounts.plan (free_of accounts.plan.shape.pages blocks) placing.places (map victim_of running) (opened_in accounts.plan.shape.pages blocks)
 begins_short {accounts} {shape} {failures} {blocks} {placing} {candidates} {running} task sound few in_caps none =
     let pages_are : shape.pages ≡ accounts.plan.shape.pages = ap (λ (s : Shape). s.pages) sound.shape_is in
     let blocks_are : length blocks ≡ accounts.plan.shape.blocks = sound.stands.count ∙ ap (λ (s : Shape). s.blocks) sound.shape_is in
@@ -81,14 +81,14 @@ none_any block (o ∷ os) zero c none is same =
 none_any block (o ∷ os) (suc t) c none is same =
     none_any block os t c (either_false (is_of block (victim_of o)) (list_any (is_of block) (map victim_of os)) none).1 is same
 
-counted_by : {accounts : Accounts} {shape : Shape} {failures : ℕ} {blocks : List Block} {placing : Placing} {candidates : Candidates} {running : List (Option Collection)} (block : ℕ) (o : Option ℕ) → count_of candidates.counts block ≡ o → IsSound accounts shape failures blocks placing candidates running → IsClosed shape.pages blocks running block → count_of candidates.counts block ≡ Some (count_by (is_in block) placing.places)
+counted_by : {accounts : Accounts} {shape : Shape} {failures : ℕ} {blocks : List Block} {placing : Placing} {candidates : Candidates} {running : List (Option Collection)} (block : ℕ) (o : Option ℕ) → count_of candidates.counts block ≡ o → IsSound accounts shape failures blocks placing candidates running → IsCandidate shape.pages blocks running block → count_of candidates.counts block ≡ Some (count_by (is_in block) placing.places)
 counted_by block None is sound closed =
-    let it = sound.picks.closed block closed.in_range closed.full is in
+    let it = sound.picks.closed block closed.in_range closed.closed is in
     absurd (closed.alone it.task it.collection it.runs it.victim)
 counted_by block (Some n) is sound closed = is ∙ ap (λ (m : ℕ). Some m) (sound.stands.counted block n is).1
 
 -- a closed block that no collection works on is counted
-pub counted_closed : {accounts : Accounts} {shape : Shape} {failures : ℕ} {blocks : List Block} {placing : Placing} {candidates : Candidates} {running : List (Option Collection)} (block : ℕ) → IsSound accounts shape failures blocks placing candidates running → IsClosed shape.pages blocks running block → count_of candidates.counts block ≡ Some (count_by (is_in block) placing.places)
+pub counted_closed : {accounts : Accounts} {shape : Shape} {failures : ℕ} {blocks : List Block} {placing : Placing} {candidates : Candidates} {running : List (Option Collection)} (block : ℕ) → IsSound accounts shape failures blocks placing candidates running → IsCandidate shape.pages blocks running block → count_of candidates.counts block ≡ Some (count_by (is_in block) placing.places)
 counted_closed {candidates = candidates} block sound closed = counted_by block (count_of candidates.counts block) refl sound closed
 
 in_counts : (counts : List (Option ℕ)) (block n : ℕ) → count_of counts block ≡ Some n → block < length counts
@@ -99,10 +99,10 @@ in_counts counts block n is =
     ]
 
 -- and only those are
-pub closed_counted : {accounts : Accounts} {shape : Shape} {failures : ℕ} {blocks : List Block} {placing : Placing} {candidates : Candidates} {running : List (Option Collection)} (block n : ℕ) → IsSound accounts shape failures blocks placing candidates running → count_of candidates.counts block ≡ Some n → IsClosed shape.pages blocks running block
+pub closed_counted : {accounts : Accounts} {shape : Shape} {failures : ℕ} {blocks : List Block} {placing : Placing} {candidates : Candidates} {running : List (Option Collection)} (block n : ℕ) → IsSound accounts shape failures blocks placing candidates running → count_of candidates.counts block ≡ Some n → IsCandidate shape.pages blocks running block
 closed_counted {candidates = candidates} block n sound is = record {
   in_range = omega (arith, in_counts candidates.counts block n is, sound.stands.candidates_len, sound.stands.count);
-  full = (sound.stands.counted block n is).0;
+  closed = (sound.stands.counted block n is).0;
   alone = λ t c runs same.
       let none : count_of candidates.counts block ≡ None = ap (λ (b : ℕ). count_of candidates.counts b) (sym same) ∙ sound.picks.taken t c runs in
       cc;
@@ -116,11 +116,11 @@ pub record Chosen (accounts : Accounts) (places : List (Option Place)) (counts :
 
 pub chosen : {accounts : Accounts} {shape : Shape} {failures : ℕ} {blocks : List Block} {placing : Placing} {candidates : Candidates} {running : List (Option Collection)} (task : ℕ) → IsSound accounts shape failures blocks placing candidates running → total_of accounts ≤ fmax_of accounts.plan → task < length accounts.plan.caps → running_of running task ≡ None → Chosen accounts placing.places candidates.counts
 chosen {accounts} {shape} {failures} {blocks} {placing} {candidates} {running} task sound few in_caps none =
-    let it = choice accounts.plan (free_of accounts.plan.shape.pages blocks) placing.places (map victim_of running) (partly_in accounts.plan.shape.pages blocks) sound.bound (begins_short task sound few in_caps none) in
+    let it = choice accounts.plan (free_of accounts.plan.shape.pages blocks) placing.places (map victim_of running) (opened_in accounts.plan.shape.pages blocks) sound.bound (begins_short task sound few in_caps none) in
     let pages_are : shape.pages ≡ accounts.plan.shape.pages = ap (λ (s : Shape). s.pages) sound.shape_is in
-    let closed : IsClosed shape.pages blocks running it.0 = record {
+    let closed : IsCandidate shape.pages blocks running it.0 = record {
       in_range = omega (arith, it.1.in_range, sound.stands.count, ap (λ (s : Shape). s.blocks) sound.shape_is);
-      full = omega (arith, it.1.closed, sound.stands.within it.0, fill_is blocks it.0, pages_are);
+      closed = omega (arith, it.1.closed, sound.stands.within it.0, fill_is blocks it.0, pages_are);
       alone = λ t c runs. none_any it.0 running t c it.1.alone runs;
     } in
     record { block = it.0; counted = counted_closed it.0 sound closed; few = it.1.few_valid }
@@ -135,7 +135,7 @@ pub is_victim : {accounts : Accounts} {shape : Shape} {failures : ℕ} {blocks :
 is_victim {placing = placing} {candidates = candidates} victim sound least =
     let valid : least.valid ≡ count_by (is_in victim) placing.places = (sound.stands.counted victim least.valid least.counted).1 in
     record {
-      closed = closed_counted victim least.valid sound least.counted;
+      candidate = closed_counted victim least.valid sound least.counted;
       fewest = λ other closed. omega (arith, valid, least.fewest other (count_by (is_in other) placing.places) (counted_closed other sound closed));
       first = λ other closed as_few. least.first other (counted_closed other sound closed ∙ ap (λ (n : ℕ). Some n) (as_few ∙ sym valid));
     }
@@ -155,10 +155,10 @@ picks_begun {pages} {blocks} {counts} {running} task n new picks below none coun
         ap (λ (x : Collection). count_of (set counts new.victim None) x.victim) (sym d_is) ∙ get_or-set_same counts new.victim None None (in_counts counts new.victim n counted)
     | inr it ↦ none_set counts new.victim d.victim (picks.taken u d it.1)
   ];
-  closed = λ block in_range full gone. elim (cases_eq block new.victim) [
+  closed = λ block in_range closed gone. elim (cases_eq block new.victim) [
     | inl same ↦ record { task = task; collection = new; runs = get_or-set_same running task (Some new) None below; victim = sym same }
     | inr other ↦
-        let it = picks.closed block in_range full (sym (get_or-set_other counts new.victim block None None other) ∙ gone) in
+        let it = picks.closed block in_range closed (sym (get_or-set_other counts new.victim block None None other) ∙ gone) in
         let apart : it.task ≢ task = (λ same. let nothing : running_of running it.task ≡ None = ap (λ (j : ℕ). running_of running j) same ∙ none in let some = it.runs in cc) in
         record { task = it.task; collection = it.collection; runs = get_or-set_other running task it.task (Some new) None apart ∙ it.runs; victim = it.victim }
   ];
@@ -170,7 +170,7 @@ sound_begun {accounts} {shape} {failures} {blocks} {placing} {candidates} {runni
     let closed = closed_counted victim least.valid sound least.counted in
     let mine : RunWell accounts shape.pages blocks placing.places task new = record {
       in_range = closed.in_range;
-      full = closed.full;
+      closed = closed.closed;
       lent = omega (arith, few_in_victim victim sound least it, sound.runs.idle task in_caps none, ap (λ (s : Shape). s.pages) sound.shape_is);
       source = λ k holds. absurd (cc);
       home = λ k place holds lies here. absurd (cc);

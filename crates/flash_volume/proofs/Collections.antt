@@ -8,7 +8,7 @@ use Rattle.slot_types.specs.declared.plans.Shape.{Shape}
 use Rattle.slot_types.specs.declared.pages.PageData.{PageData}
 use Rattle.plan_rules.specs.Accounts.{Accounts}
 use Rattle.victim_pick.specs.Candidates.{count_of}
-use Rattle.flash_die.specs.Flash.{Block, empty_block, block_at, programmed}
+use Rattle.flash_die.specs.Flash.{Block, free_block, block_at, programmed}
 use Rattle.flash_volume.specs.declared.collection.Collection.{Collection}
 use Rattle.flash_volume.specs.Cells.{filled_of}
 use Rattle.flash_volume.specs.Running.{running_of, RunWell, RunsWell}
@@ -136,12 +136,12 @@ some_not_none (Some n) some is = cc
 pub picks_written : {accounts : Accounts} {shape : Shape} {blocks : List Block} {places : List (Option Place)} {running : List (Option Collection)} {counts : List (Option ℕ)} {place : Place} (bytes : PageData) (counts_then : List (Option ℕ)) → RunsWell accounts shape.pages blocks places running → PicksWell shape.pages blocks counts running → Fits shape blocks place → ((block : ℕ) → block ≢ place.block → is_some (count_of counts_then block) ≡ is_some (count_of counts block)) → (filled_of (block_at (programmed blocks place.block bytes) place.block) ≡ shape.pages → IsSome (count_of counts_then place.block)) → PicksWell shape.pages (programmed blocks place.block bytes) counts_then running
 picks_written {accounts} {shape} {blocks} {places} {running} {counts} {place} bytes counts_then runs picks fit others closes = record {
   taken = λ t c is. none_of (count_of counts_then c.victim) (others c.victim (not_open (runs.each t c is) fit) ∙ ap is_some (picks.taken t c is));
-  closed = λ block below full none. elim (cases_eq block place.block) [
+  closed = λ block below closed none. elim (cases_eq block place.block) [
     | inl same ↦
-        let some : IsSome (count_of counts_then place.block) = closes (ap (λ (b : ℕ). filled_of (block_at (programmed blocks place.block bytes) b)) (sym same) ∙ full) in
+        let some : IsSome (count_of counts_then place.block) = closes (ap (λ (b : ℕ). filled_of (block_at (programmed blocks place.block bytes) b)) (sym same) ∙ closed) in
         let nothing : count_of counts_then place.block ≡ None = ap (λ (b : ℕ). count_of counts_then b) (sym same) ∙ none in
         absurd (some_not_none (count_of counts_then place.block) some nothing)
-    | inr other ↦ picks.closed block (omega (arith, below, count_programmed blocks place.block bytes)) (sym (ap filled_of (other_block blocks place.block block bytes other)) ∙ full) (none_of (count_of counts block) (sym (others block other) ∙ ap is_some none))
+    | inr other ↦ picks.closed block (omega (arith, below, count_programmed blocks place.block bytes)) (sym (ap filled_of (other_block blocks place.block block bytes other)) ∙ closed) (none_of (count_of counts block) (sym (others block other) ∙ ap is_some none))
   ];
 }
 
@@ -151,8 +151,8 @@ picks_changed {pages} {blocks} {counts} {running} task c new picks below is vict
   taken = λ u d now.
       let was = old_victim running task u c new d below is victim now in
       ap (λ (v : ℕ). count_of counts v) (sym was.2) ∙ picks.taken u was.0 was.1;
-  closed = λ block in_range full none.
-      let it = picks.closed block in_range full none in
+  closed = λ block in_range closed none.
+      let it = picks.closed block in_range closed none in
       elim (cases_eq it.task task) [
         | inl same ↦
             let c_is : c ≡ it.collection = (let e : Some c ≡ Some it.collection = sym is ∙ ap (λ (j : ℕ). running_of running j) (sym same) ∙ it.runs in cc) in
@@ -163,11 +163,11 @@ picks_changed {pages} {blocks} {counts} {running} task c new picks below is vict
 
 -- a block had a slot of its erase
 pub picks_erased : {pages : ℕ} {blocks : List Block} {counts : List (Option ℕ)} {running : List (Option Collection)} (block : ℕ) (new : Block) → PicksWell pages blocks counts running → block < length blocks → filled_of (block_at blocks block) ≡ pages → PicksWell pages (set blocks block new) counts running
-picks_erased {pages} {blocks} {counts} {running} block new picks in_range full = record {
+picks_erased {pages} {blocks} {counts} {running} block new picks in_range closed = record {
   taken = picks.taken;
   closed = λ k below filled none. elim (cases_eq k block) [
-    | inl same ↦ picks.closed k (omega (arith, below, length-set blocks block new)) (ap (λ (b : ℕ). filled_of (block_at blocks b)) same ∙ full) none
-    | inr other ↦ picks.closed k (omega (arith, below, length-set blocks block new)) (sym (ap filled_of (get_or-set_other blocks block k new empty_block other)) ∙ filled) none
+    | inl same ↦ picks.closed k (omega (arith, below, length-set blocks block new)) (ap (λ (b : ℕ). filled_of (block_at blocks b)) same ∙ closed) none
+    | inr other ↦ picks.closed k (omega (arith, below, length-set blocks block new)) (sym (ap filled_of (get_or-set_other blocks block k new free_block other)) ∙ filled) none
   ];
 }
 
@@ -183,10 +183,10 @@ picks_ended {accounts} {pages} {blocks} {places} {counts} {running} task erases 
       ];
       closed = λ k in_range filled none. elim (cases_eq k c.victim) [
         | inl same ↦
-            let freed : filled_of (block_at (set blocks c.victim new) k) ≡ 0 = ap (λ (b : ℕ). filled_of (block_at (set blocks c.victim new) b)) same ∙ ap filled_of (get_or-set_same blocks c.victim new empty_block (runs.each task c is).in_range) in
+            let freed : filled_of (block_at (set blocks c.victim new) k) ≡ 0 = ap (λ (b : ℕ). filled_of (block_at (set blocks c.victim new) b)) same ∙ ap filled_of (get_or-set_same blocks c.victim new free_block (runs.each task c is).in_range) in
             absurd (omega (arith, freed, filled, some))
         | inr other ↦
-            let it = picks.closed k (omega (arith, in_range, length-set blocks c.victim new)) (sym (ap filled_of (get_or-set_other blocks c.victim k new empty_block other)) ∙ filled) none in
+            let it = picks.closed k (omega (arith, in_range, length-set blocks c.victim new)) (sym (ap filled_of (get_or-set_other blocks c.victim k new free_block other)) ∙ filled) none in
             let apart : it.task ≢ task = (λ same.
             let c_is : c ≡ it.collection = (let e : Some c ≡ Some it.collection = sym is ∙ ap (λ (j : ℕ). running_of running j) (sym same) ∙ it.runs in cc) in
             other (sym it.victim ∙ ap (λ (x : Collection). x.victim) (sym c_is))) in

@@ -14,7 +14,7 @@ use Rattle.page_map.specs.Placing.{Placing}
 use Rattle.page_map.proofs.Owners.{within}
 use Rattle.flash_die.specs.Flash.{Block, block_at, programmed}
 use Rattle.flash_volume.specs.Cells.{filled_of}
-use Rattle.flash_volume.specs.Array.{Stands, left, closed_when_full}
+use Rattle.flash_volume.specs.Array.{Stands, left, closed_when_filled}
 use Rattle.flash_volume.proofs.Opening.{Fits, same_block, other_block}
 
 abbrev pub here : ℕ → Option Place → ℕ
@@ -92,23 +92,23 @@ left_some (Some place) counts block =
       | inr other ↦ ap is_some (get_or-set_other counts place.block block (lowered (count_of counts place.block)) None other)
     ]
 
-closed_other : (pages block filled valid b : ℕ) (counts : List (Option ℕ)) (t : Bool) → nat_lt filled pages ≡ t → b ≢ block → count_of (closed_when_full pages block filled valid counts) b ≡ count_of counts b
+closed_other : (pages block filled valid b : ℕ) (counts : List (Option ℕ)) (t : Bool) → nat_lt filled pages ≡ t → b ≢ block → count_of (closed_when_filled pages block filled valid counts) b ≡ count_of counts b
 closed_other pages block filled valid b counts true test other = ap (λ (t : Bool). count_of (if t then counts else set counts block (Some valid)) b) test
 closed_other pages block filled valid b counts false test other = ap (λ (t : Bool). count_of (if t then counts else set counts block (Some valid)) b) test ∙ get_or-set_other counts block b (Some valid) None other
 
-pub closed_len : (pages block filled valid : ℕ) (counts : List (Option ℕ)) (t : Bool) → nat_lt filled pages ≡ t → length (closed_when_full pages block filled valid counts) ≡ length counts
+pub closed_len : (pages block filled valid : ℕ) (counts : List (Option ℕ)) (t : Bool) → nat_lt filled pages ≡ t → length (closed_when_filled pages block filled valid counts) ≡ length counts
 closed_len pages block filled valid counts true test = ap (λ (t : Bool). length (if t then counts else set counts block (Some valid))) test
 closed_len pages block filled valid counts false test = ap (λ (t : Bool). length (if t then counts else set counts block (Some valid))) test ∙ length-set counts block (Some valid)
 
-pub closed_here : (pages block filled valid : ℕ) (counts : List (Option ℕ)) → pages ≤ filled → block < length counts → count_of (closed_when_full pages block filled valid counts) block ≡ Some valid
-closed_here pages block filled valid counts full below =
+pub closed_here : (pages block filled valid : ℕ) (counts : List (Option ℕ)) → pages ≤ filled → block < length counts → count_of (closed_when_filled pages block filled valid counts) block ≡ Some valid
+closed_here pages block filled valid counts closed below =
     let test : nat_lt filled pages ≡ false = grind (arith, nat_tests) in
     ap (λ (t : Bool). count_of (if t then counts else set counts block (Some valid)) block) test ∙ get_or-set_same counts block (Some valid) None below
 
 -- the candidates after a page came to a cell
 abbrev pub counts_written : Shape → ℕ → Place → List (Option Place) → List (Option ℕ) → List (Option ℕ)
 counts_written shape page place places counts =
-    closed_when_full shape.pages place.block (place.page + 1) (count_by (is_in place.block) (set places page (Some place))) (left (place_of places page) counts)
+    closed_when_filled shape.pages place.block (place.page + 1) (count_by (is_in place.block) (set places page (Some place))) (left (place_of places page) counts)
 
 pub written_some : (shape : Shape) (page : ℕ) (place : Place) (places : List (Option Place)) (counts : List (Option ℕ)) (block : ℕ) → block ≢ place.block → is_some (count_of (counts_written shape page place places counts) block) ≡ is_some (count_of counts block)
 written_some shape page place places counts block other =
@@ -158,10 +158,10 @@ candidates_written {shape} {failures} {blocks} {placing} {fills} {writing} {cand
             let none : count_of counts place.block ≡ None = ap (λ (t : Bool). count_of (if t then left before candidates.counts else set (left before candidates.counts) place.block (Some (count_by (is_in place.block) new))) place.block) test ∙ left_open_block before stands fit in
             let there : count_of counts block ≡ None = ap (λ (b : ℕ). count_of counts b) same ∙ none in
             absurd (cc)
-        | inr full ↦
-            let there : count_of counts block ≡ Some (count_by (is_in place.block) new) = ap (λ (b : ℕ). count_of counts b) same ∙ closed_here shape.pages place.block (place.page + 1) (count_by (is_in place.block) new) (left before candidates.counts) full (omega (arith, left_len before candidates.counts, stands.candidates_len, fit.in_range, stands.count)) in
+        | inr closed ↦
+            let there : count_of counts block ≡ Some (count_by (is_in place.block) new) = ap (λ (b : ℕ). count_of counts b) same ∙ closed_here shape.pages place.block (place.page + 1) (count_by (is_in place.block) new) (left before candidates.counts) closed (omega (arith, left_len before candidates.counts, stands.candidates_len, fit.in_range, stands.count)) in
             let n_is : count_by (is_in place.block) new ≡ n = cc in (
-              ap (λ (b : ℕ). filled_of (block_at (programmed blocks place.block bytes) b)) same ∙ ap filled_of (same_block blocks place.block bytes fit.in_range) ∙ omega (arith, length_push (block_at blocks place.block).pages bytes, fit.next, fit.room, full),
+              ap (λ (b : ℕ). filled_of (block_at (programmed blocks place.block bytes) b)) same ∙ ap filled_of (same_block blocks place.block bytes fit.in_range) ∙ omega (arith, length_push (block_at blocks place.block).pages bytes, fit.next, fit.room, closed),
               sym n_is ∙ ap (λ (b : ℕ). count_by (is_in b) new) (sym same),
             )
       ]

@@ -11,40 +11,40 @@ use Rattle.slot_types.specs.Places.{place_of, is_in, owner_of}
 use Rattle.victim_pick.specs.Candidates.{Candidates, count_of}
 use Rattle.page_map.specs.Placing.{Placing}
 use Rattle.page_map.proofs.Owners.{unowned}
-use Rattle.flash_die.specs.Flash.{Block, empty_block, blank, block_at, cell_at, IsProgrammed, IsErasable, erased}
-use Rattle.flash_volume.specs.Cells.{filled_of, fills_of, is_partly, free_in, free_cells, content_at, contents}
+use Rattle.flash_die.specs.Flash.{Block, free_block, blank, block_at, cell_at, IsProgrammed, IsErasable, erased}
+use Rattle.flash_volume.specs.Cells.{filled_of, fills_of, is_open_with, free_in, free_cells, content_at, contents}
 use Rattle.flash_volume.specs.Array.{Stands}
-use Rattle.flash_volume.proofs.Opening.{OneOpen, fill_is, seen, partly_is, partly_none, partly_means, none_partly}
+use Rattle.flash_volume.proofs.Opening.{OneOpen, fill_is, seen, opened_is, opened_none, opened_means, none_opened}
 use Rattle.flash_volume.proofs.Counting.{here_other}
 
--- a full block in which no page lies
+-- a closed block in which no page lies
 pub record IsEmptied (shape : Shape) (blocks : List Block) (places : List (Option Place)) (block : ℕ) : Type 0 where
   pub in_range : block < length blocks
-  pub full : filled_of (block_at blocks block) ≡ shape.pages
+  pub closed : filled_of (block_at blocks block) ≡ shape.pages
   pub none : (p : ℕ) (q : Place) → place_of places p ≡ Some q → q.block ≡ block → ⊥
 
-pub emptied : {shape : Shape} {failures : ℕ} {blocks : List Block} {placing : Placing} {fills : List ℕ} {writing : Option ℕ} {candidates : Candidates} (block : ℕ) → Stands shape failures blocks placing fills writing candidates → block < length blocks → filled_of (block_at blocks block) ≡ shape.pages → ((page : ℕ) → page < shape.pages → owner_of placing.places (record { block = block; page = page }) ≡ None) → IsEmptied shape blocks placing.places block
-emptied {shape} {failures} {blocks} {placing} {fills} {writing} {candidates} block stands in_range full empty = record {
+pub unplaced_of : {shape : Shape} {failures : ℕ} {blocks : List Block} {placing : Placing} {fills : List ℕ} {writing : Option ℕ} {candidates : Candidates} (block : ℕ) → Stands shape failures blocks placing fills writing candidates → block < length blocks → filled_of (block_at blocks block) ≡ shape.pages → ((page : ℕ) → page < shape.pages → owner_of placing.places (record { block = block; page = page }) ≡ None) → IsEmptied shape blocks placing.places block
+unplaced_of {shape} {failures} {blocks} {placing} {fills} {writing} {candidates} block stands in_range closed unplaced = record {
   in_range = in_range;
-  full = full;
+  closed = closed;
   none = λ p q lies same.
       let there = stands.placed p q lies in
       let below : q.page < shape.pages = omega (arith, there.filled, fill_is blocks q.block, (seen stands).within q.block) in
       let at : ℕ → Place = λ b. record { block = b; page = q.page } in
-      unowned placing.places p q (ap (λ (b : ℕ). owner_of placing.places (at b)) same ∙ empty q.page below) lies;
+      unowned placing.places p q (ap (λ (b : ℕ). owner_of placing.places (at b)) same ∙ unplaced q.page below) lies;
 }
 
 pub erasable : {shape : Shape} {blocks : List Block} {places : List (Option Place)} {block : ℕ} → IsEmptied shape blocks places block → (block_at blocks block).erases < 4294967295 → IsErasable blocks shape.pages block
-erasable clear few = record { in_range = clear.in_range; full = λ _. clear.full; few_erases = few }
+erasable clear few = record { in_range = clear.in_range; closed = λ _. clear.closed; few_erases = few }
 
 -- another block's cells stay
 elsewhere : (blocks : List Block) (block : ℕ) (new : Block) (q : Place) → (q.block ≡ block → ⊥) → IsProgrammed blocks q → IsProgrammed (set blocks block new) q
 elsewhere blocks block new q other is =
-    let b : block_at (set blocks block new) q.block ≡ block_at blocks q.block = get_or-set_other blocks block q.block new empty_block other in
+    let b : block_at (set blocks block new) q.block ≡ block_at blocks q.block = get_or-set_other blocks block q.block new free_block other in
     record { in_range = omega (arith, length-set blocks block new, is.in_range); filled = rw b is.filled; quiet = rw b is.quiet }
 
 pub same_cell : (blocks : List Block) (block : ℕ) (new : Block) (q : Place) → (q.block ≡ block → ⊥) → cell_at (set blocks block new) q ≡ cell_at blocks q
-same_cell blocks block new q other = ap (λ (b : Block). get_or b.pages q.page blank) (get_or-set_other blocks block q.block new empty_block other)
+same_cell blocks block new q other = ap (λ (b : Block). get_or b.pages q.page blank) (get_or-set_other blocks block q.block new free_block other)
 
 content_same : (blocks : List Block) (block : ℕ) (new : Block) (o : Option Place) → ((q : Place) → o ≡ Some q → q.block ≡ block → ⊥) → content_at (set blocks block new) o ≡ content_at blocks o
 content_same blocks block new None none = refl
@@ -68,7 +68,7 @@ none_valid block (Some r ∷ os) none = omega (arith, sum_by-cons (λ (o : Optio
 pub stands_going : {shape : Shape} {failures : ℕ} {blocks : List Block} {placing : Placing} {fills : List ℕ} {writing : Option ℕ} {candidates : Candidates} {block : ℕ} → Stands shape failures blocks placing fills writing candidates → IsEmptied shape blocks placing.places block → count_of candidates.counts block ≡ None → Stands shape failures (set blocks block (record (block_at blocks block) { erasing = (block_at blocks block).erasing + 1 })) placing fills writing candidates
 stands_going {shape} {failures} {blocks} {placing} {fills} {writing} {candidates} {block} stands clear taken =
     let new : Block = record (block_at blocks block) { erasing = (block_at blocks block).erasing + 1 } in
-    let full : get_or fills block 0 ≡ shape.pages = ap (λ (l : List ℕ). get_or l block 0) stands.fills_are ∙ fill_is blocks block ∙ clear.full in
+    let closed : get_or fills block 0 ≡ shape.pages = ap (λ (l : List ℕ). get_or l block 0) stands.fills_are ∙ fill_is blocks block ∙ clear.closed in
     record {
       limits = stands.limits;
       map_shape = stands.map_shape;
@@ -79,38 +79,38 @@ stands_going {shape} {failures} {blocks} {placing} {fills} {writing} {candidates
       one_open = stands.one_open;
       writing_is = stands.writing_is;
       quiet = λ k few. elim (cases_eq k block) [
-        | inl same ↦ absurd (omega (arith, few, full, ap (λ (j : ℕ). get_or fills j 0) same))
-        | inr other ↦ ap (λ (b : Block). b.erasing) (get_or-set_other blocks block k new empty_block other) ∙ stands.quiet k few
+        | inl same ↦ absurd (omega (arith, few, closed, ap (λ (j : ℕ). get_or fills j 0) same))
+        | inr other ↦ ap (λ (b : Block). b.erasing) (get_or-set_other blocks block k new free_block other) ∙ stands.quiet k few
       ];
       placed = λ p q lies. elsewhere blocks block new q (clear.none p q lies) (stands.placed p q lies);
       few_valid = λ k. elim (cases_eq k block) [
         | inl same ↦ omega (arith, ap (λ (b : ℕ). count_by (is_in b) placing.places) same, none_valid block placing.places clear.none)
-        | inr other ↦ omega (arith, ap filled_of (get_or-set_other blocks block k new empty_block other), stands.few_valid k)
+        | inr other ↦ omega (arith, ap filled_of (get_or-set_other blocks block k new free_block other), stands.few_valid k)
       ];
       candidates_len = stands.candidates_len;
       candidates_pages = stands.candidates_pages;
       counted = λ k n is.
           let other : k ≢ block = λ same. (let both : count_of candidates.counts k ≡ None = ap (λ (b : ℕ). count_of candidates.counts b) same ∙ taken in cc) in
-          (ap filled_of (get_or-set_other blocks block k new empty_block other) ∙ (stands.counted k n is).0, (stands.counted k n is).1);
+          (ap filled_of (get_or-set_other blocks block k new free_block other) ∙ (stands.counted k n is).0, (stands.counted k n is).1);
     }
 
--- a block that is freed is not partly filled, and was not
-same_partly : (pages : ℕ) (fills : List ℕ) (block : ℕ) (p : Option ℕ) → position (is_partly pages) fills ≡ p → get_or fills block 0 ≡ pages → ((k : ℕ) → 0 < get_or (set fills block 0) k 0 → k ≢ block) → OneOpen pages (set fills block 0) → position (is_partly pages) (set fills block 0) ≡ p
-same_partly pages fills block None is full other one =
-    partly_none pages (set fills block 0) (λ k some few.
+-- a block that is freed is not open, and was not
+same_opened : (pages : ℕ) (fills : List ℕ) (block : ℕ) (p : Option ℕ) → position (is_open_with pages) fills ≡ p → get_or fills block 0 ≡ pages → ((k : ℕ) → 0 < get_or (set fills block 0) k 0 → k ≢ block) → OneOpen pages (set fills block 0) → position (is_open_with pages) (set fills block 0) ≡ p
+same_opened pages fills block None is closed other one =
+    opened_none pages (set fills block 0) (λ k some few.
     let stays = get_or-set_other fills block k 0 0 (other k some) in
-    none_partly pages fills k is (omega (arith, some, stays)) (omega (arith, few, stays)))
-same_partly pages fills block (Some k) is full other one =
-    let at = position-Some (is_partly pages) fills k 0 is in
-    let means : (0 < get_or fills k 0) × (get_or fills k 0 < pages) = partly_means pages (get_or fills k 0) at.1 in
-    let stays : get_or (set fills block 0) k 0 ≡ get_or fills k 0 = get_or-set_other fills block k 0 0 (λ same. omega (arith, means.1, full, ap (λ (j : ℕ). get_or fills j 0) same)) in
-    partly_is pages (set fills block 0) k (position (is_partly pages) (set fills block 0)) refl one (omega (arith, means.0, stays)) (omega (arith, means.1, stays))
+    none_opened pages fills k is (omega (arith, some, stays)) (omega (arith, few, stays)))
+same_opened pages fills block (Some k) is closed other one =
+    let at = position-Some (is_open_with pages) fills k 0 is in
+    let means : (0 < get_or fills k 0) × (get_or fills k 0 < pages) = opened_means pages (get_or fills k 0) at.1 in
+    let stays : get_or (set fills block 0) k 0 ≡ get_or fills k 0 = get_or-set_other fills block k 0 0 (λ same. omega (arith, means.1, closed, ap (λ (j : ℕ). get_or fills j 0) same)) in
+    opened_is pages (set fills block 0) k (position (is_open_with pages) (set fills block 0)) refl one (omega (arith, means.0, stays)) (omega (arith, means.1, stays))
 
 -- the last slot frees the block
 pub stands_freed : {shape : Shape} {failures : ℕ} {blocks : List Block} {placing : Placing} {fills : List ℕ} {writing : Option ℕ} {candidates : Candidates} {block : ℕ} (erases : ℕ) → Stands shape failures blocks placing fills writing candidates → IsEmptied shape blocks placing.places block → count_of candidates.counts block ≡ None → Stands shape failures (set blocks block (record { pages = []; erasing = 0; erases = erases })) placing (set fills block 0) writing candidates
 stands_freed {shape} {failures} {blocks} {placing} {fills} {writing} {candidates} {block} erases stands clear taken =
     let new : Block = record { pages = []; erasing = 0; erases = erases } in
-    let full : get_or fills block 0 ≡ shape.pages = ap (λ (l : List ℕ). get_or l block 0) stands.fills_are ∙ fill_is blocks block ∙ clear.full in
+    let closed : get_or fills block 0 ≡ shape.pages = ap (λ (l : List ℕ). get_or l block 0) stands.fills_are ∙ fill_is blocks block ∙ clear.closed in
     let in_fills : block < length fills = omega (arith, clear.in_range, ap length stands.fills_are, length-map blocks filled_of) in
     let zero_is : get_or (set fills block 0) block 0 ≡ 0 = get_or-set_same fills block 0 0 in_fills in
     let only : (k : ℕ) → 0 < get_or (set fills block 0) k 0 → k ≢ block = λ k some same. omega (arith, some, zero_is, ap (λ (j : ℕ). get_or (set fills block 0) j 0) same) in
@@ -129,33 +129,33 @@ stands_freed {shape} {failures} {blocks} {placing} {fills} {writing} {candidates
         | inr other ↦ omega (arith, get_or-set_other fills block k 0 0 other, stands.within k)
       ];
       one_open = one;
-      writing_is = same_partly shape.pages fills block writing stands.writing_is full only one;
+      writing_is = same_opened shape.pages fills block writing stands.writing_is closed only one;
       quiet = λ k few. elim (cases_eq k block) [
-        | inl same ↦ rw same (ap (λ (b : Block). b.erasing) (get_or-set_same blocks block new empty_block clear.in_range))
-        | inr other ↦ ap (λ (b : Block). b.erasing) (get_or-set_other blocks block k new empty_block other) ∙ stands.quiet k (omega (arith, few, get_or-set_other fills block k 0 0 other))
+        | inl same ↦ rw same (ap (λ (b : Block). b.erasing) (get_or-set_same blocks block new free_block clear.in_range))
+        | inr other ↦ ap (λ (b : Block). b.erasing) (get_or-set_other blocks block k new free_block other) ∙ stands.quiet k (omega (arith, few, get_or-set_other fills block k 0 0 other))
       ];
       placed = λ p q lies. elsewhere blocks block new q (clear.none p q lies) (stands.placed p q lies);
       few_valid = λ k. elim (cases_eq k block) [
         | inl same ↦ omega (arith, ap (λ (b : ℕ). count_by (is_in b) placing.places) same, none_valid block placing.places clear.none)
-        | inr other ↦ omega (arith, ap filled_of (get_or-set_other blocks block k new empty_block other), stands.few_valid k)
+        | inr other ↦ omega (arith, ap filled_of (get_or-set_other blocks block k new free_block other), stands.few_valid k)
       ];
       candidates_len = stands.candidates_len;
       candidates_pages = stands.candidates_pages;
       counted = λ k n is.
           let other : k ≢ block = λ same. (let both : count_of candidates.counts k ≡ None = ap (λ (b : ℕ). count_of candidates.counts b) same ∙ taken in cc) in
-          (ap filled_of (get_or-set_other blocks block k new empty_block other) ∙ (stands.counted k n is).0, (stands.counted k n is).1);
+          (ap filled_of (get_or-set_other blocks block k new free_block other) ∙ (stands.counted k n is).0, (stands.counted k n is).1);
     }
 
 -- a block's worth of cells more is free
 pub free_freed : {shape : Shape} {blocks : List Block} {places : List (Option Place)} {block : ℕ} (erases : ℕ) → IsEmptied shape blocks places block → free_cells shape.pages (set blocks block (record { pages = []; erasing = 0; erases = erases })) ≡ free_cells shape.pages blocks + shape.pages
 free_freed {shape} {blocks} {places} {block} erases clear =
     let new : Block = record { pages = []; erasing = 0; erases = erases } in
-    omega (arith, sum_by-set (free_in shape.pages) blocks block new empty_block clear.in_range, clear.full)
+    omega (arith, sum_by-set (free_in shape.pages) blocks block new free_block clear.in_range, clear.closed)
 
 pub free_going : {shape : Shape} {blocks : List Block} {places : List (Option Place)} {block : ℕ} → IsEmptied shape blocks places block → free_cells shape.pages (set blocks block (record (block_at blocks block) { erasing = (block_at blocks block).erasing + 1 })) ≡ free_cells shape.pages blocks
 free_going {shape} {blocks} {places} {block} clear =
     let new : Block = record (block_at blocks block) { erasing = (block_at blocks block).erasing + 1 } in
-    omega (arith, sum_by-set (free_in shape.pages) blocks block new empty_block clear.in_range)
+    omega (arith, sum_by-set (free_in shape.pages) blocks block new free_block clear.in_range)
 
 pub erased_last : (blocks after : List Block) (slots block : ℕ) (last : Bool) → after ≡ erased blocks slots block → last ≡ ((block_at blocks block).erasing + 1 == slots) → last ≡ true → after ≡ set blocks block (record { pages = []; erasing = 0; erases = (block_at blocks block).erases + 1 })
 erased_last blocks after slots block last is last_is so =

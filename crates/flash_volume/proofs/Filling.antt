@@ -11,10 +11,10 @@ use Rattle.slot_types.specs.declared.pages.PageData.{PageData}
 use Rattle.slot_types.specs.Places.{place_of, is_in}
 use Rattle.victim_pick.specs.Candidates.{Candidates, count_of}
 use Rattle.page_map.specs.Placing.{Placing, bound}
-use Rattle.flash_die.specs.Flash.{Block, blank, empty_block, block_at, cell_at, IsProgrammed, programmed}
-use Rattle.flash_volume.specs.Cells.{filled_of, fills_of, is_partly, left_open, content_at, contents, free_in, free_cells}
+use Rattle.flash_die.specs.Flash.{Block, blank, free_block, block_at, cell_at, IsProgrammed, programmed}
+use Rattle.flash_volume.specs.Cells.{filled_of, fills_of, is_open_with, left_open, content_at, contents, free_in, free_cells}
 use Rattle.flash_volume.specs.Array.{Stands, left}
-use Rattle.flash_volume.proofs.Opening.{Opens, OneOpen, Fits, partly_is, partly_none, same_block, other_block, stays}
+use Rattle.flash_volume.proofs.Opening.{Opens, OneOpen, Fits, opened_is, opened_none, same_block, other_block, stays}
 use Rattle.flash_volume.proofs.Counting.{counts_written, closed_len, left_len, closed_here, few_written, candidates_written}
 
 -- What the program keeps
@@ -29,16 +29,16 @@ only_this {pages} {fills} {block} n k o some few =
 still_one : {pages : ℕ} {fills : List ℕ} {block : ℕ} (n : ℕ) → Opens pages fills block → OneOpen pages (set fills block n)
 still_one n o = λ i j some_i few_i some_j few_j. only_this n i o some_i few_i ∙ sym (only_this n j o some_j few_j)
 
-left_open_is : (pages : ℕ) (fills : List ℕ) (block n : ℕ) → Opens pages fills block → position (is_partly pages) (set fills block (n + 1)) ≡ left_open pages block (n + 1)
+left_open_is : (pages : ℕ) (fills : List ℕ) (block n : ℕ) → Opens pages fills block → position (is_open_with pages) (set fills block (n + 1)) ≡ left_open pages block (n + 1)
 left_open_is pages fills block n o =
     let now : get_or (set fills block (n + 1)) block 0 ≡ n + 1 = get_or-set_same fills block (n + 1) 0 o.below in
     elim (cases_lt (n + 1) pages) [
       | inl few ↦
           let test : nat_lt (n + 1) pages ≡ true = grind (arith, nat_tests) in
-          partly_is pages (set fills block (n + 1)) block (position (is_partly pages) (set fills block (n + 1))) refl (still_one (n + 1) o) (omega (arith, now)) (omega (arith, now, few)) ∙ ap (λ t. if t then Some block else None) (sym test)
-      | inr full ↦
+          opened_is pages (set fills block (n + 1)) block (position (is_open_with pages) (set fills block (n + 1))) refl (still_one (n + 1) o) (omega (arith, now)) (omega (arith, now, few)) ∙ ap (λ t. if t then Some block else None) (sym test)
+      | inr closed ↦
           let test : nat_lt (n + 1) pages ≡ false = grind (arith, nat_tests) in
-          partly_none pages (set fills block (n + 1)) (λ k some few. let k_is : k ≡ block = only_this (n + 1) k o some few in omega (arith, few, full, now, ap (λ (j : ℕ). get_or (set fills block (n + 1)) j 0) k_is)) ∙ ap (λ t. if t then Some block else None) (sym test)
+          opened_none pages (set fills block (n + 1)) (λ k some few. let k_is : k ≡ block = only_this (n + 1) k o some few in omega (arith, few, closed, now, ap (λ (j : ℕ). get_or (set fills block (n + 1)) j 0) k_is)) ∙ ap (λ t. if t then Some block else None) (sym test)
     ]
 
 pub stands_written : {shape : Shape} {failures : ℕ} {blocks : List Block} {placing : Placing} {fills : List ℕ} {writing : Option ℕ} {candidates : Candidates} (page : ℕ) (bytes : PageData) {place : Place} → Stands shape failures blocks placing fills writing candidates → Fits shape blocks place → page < length placing.places → Stands shape failures (programmed blocks place.block bytes) (bound placing page place) (set fills place.block (place.page + 1)) (left_open shape.pages place.block (place.page + 1)) (record candidates { counts = counts_written shape page place placing.places candidates.counts })
@@ -84,11 +84,11 @@ stands_written {shape} {failures} {blocks} {placing} {fills} {writing} {candidat
       counted = λ block n. candidates_written page bytes block n stands fit below;
     }
 
--- a block that is full then is a candidate
-pub closes_full : {shape : Shape} {failures : ℕ} {blocks : List Block} {placing : Placing} {fills : List ℕ} {writing : Option ℕ} {candidates : Candidates} {place : Place} (page : ℕ) (bytes : PageData) → Stands shape failures blocks placing fills writing candidates → Fits shape blocks place → filled_of (block_at (programmed blocks place.block bytes) place.block) ≡ shape.pages → IsSome (count_of (counts_written shape page place placing.places candidates.counts) place.block)
-closes_full {shape} {failures} {blocks} {placing} {fills} {writing} {candidates} {place} page bytes stands fit full =
+-- a block that is closed then is a candidate
+pub closes_filled : {shape : Shape} {failures : ℕ} {blocks : List Block} {placing : Placing} {fills : List ℕ} {writing : Option ℕ} {candidates : Candidates} {place : Place} (page : ℕ) (bytes : PageData) → Stands shape failures blocks placing fills writing candidates → Fits shape blocks place → filled_of (block_at (programmed blocks place.block bytes) place.block) ≡ shape.pages → IsSome (count_of (counts_written shape page place placing.places candidates.counts) place.block)
+closes_filled {shape} {failures} {blocks} {placing} {fills} {writing} {candidates} {place} page bytes stands fit closed =
     let valid : ℕ = count_by (is_in place.block) (set placing.places page (Some place)) in
-    let there = closed_here shape.pages place.block (place.page + 1) valid (left (place_of placing.places page) candidates.counts) (omega (arith, full, ap filled_of (same_block blocks place.block bytes fit.in_range), length_push (block_at blocks place.block).pages bytes, fit.next)) (omega (arith, left_len (place_of placing.places page) candidates.counts, stands.candidates_len, fit.in_range, stands.count)) in
+    let there = closed_here shape.pages place.block (place.page + 1) valid (left (place_of placing.places page) candidates.counts) (omega (arith, closed, ap filled_of (same_block blocks place.block bytes fit.in_range), length_push (block_at blocks place.block).pages bytes, fit.next)) (omega (arith, left_len (place_of placing.places page) candidates.counts, stands.candidates_len, fit.in_range, stands.count)) in
     rw there refl
 
 -- a cell less is free
@@ -96,7 +96,7 @@ pub free_written : {shape : Shape} {blocks : List Block} {place : Place} (bytes 
 free_written {shape} {blocks} {place} bytes fit =
     let old : Block = block_at blocks place.block in
     let new : Block = record old { pages = old.pages ++ bytes ∷ [] } in
-    omega (arith, sum_by-set (free_in shape.pages) blocks place.block new empty_block fit.in_range, length_push old.pages bytes, fit.next, fit.room)
+    omega (arith, sum_by-set (free_in shape.pages) blocks place.block new free_block fit.in_range, length_push old.pages bytes, fit.next, fit.room)
 
 content_stays : (blocks : List Block) (block : ℕ) (bytes : PageData) (o : Option Place) → block < length blocks → ((q : Place) → o ≡ Some q → IsProgrammed blocks q) → content_at (programmed blocks block bytes) o ≡ content_at blocks o
 content_stays blocks block bytes None below placed = refl

@@ -15,18 +15,18 @@ use Rattle.slot_types.specs.Places.{place_of, is_in}
 use Rattle.slot_types.specs.Shapes.{IsShape}
 use Rattle.victim_pick.specs.Candidates.{Candidates, count_of}
 use Rattle.page_map.specs.Placing.{blank_map}
-use Rattle.flash_die.specs.Flash.{Block, blank, empty_block, block_at, IsFresh}
+use Rattle.flash_die.specs.Flash.{Block, blank, free_block, block_at, IsFresh}
 use Rattle.flash_volume.specs.Cells.{filled_of, fills_of, free_in, free_cells, contents}
 use Rattle.flash_volume.specs.Array.{Stands}
 use Rattle.flash_volume.specs.Running.{running_of}
 use Rattle.flash_volume.specs.Sound.{IsSound}
 use Rattle.flash_volume.specs.declared.collection.Collection.{Collection}
-use Rattle.flash_volume.proofs.Opening.{seen, partly_none}
+use Rattle.flash_volume.proofs.Opening.{seen, opened_none}
 
 abbrev zeros : ℕ → List ℕ
 zeros n = replicate n 0
 
-fills_fresh : (n : ℕ) → zeros n ≡ fills_of (replicate n empty_block)
+fills_fresh : (n : ℕ) → zeros n ≡ fills_of (replicate n free_block)
 fills_fresh zero = refl
 fills_fresh (suc n) = ap (λ (l : List ℕ). 0 ∷ l) (fills_fresh n)
 
@@ -37,11 +37,11 @@ fill_fresh n k =
       | inr past ↦ get_or_past (zeros n) k 0 (omega (arith, past, length-replicate {A = ℕ} n 0))
     ]
 
-block_fresh : (n k : ℕ) → block_at (replicate n empty_block) k ≡ empty_block
+block_fresh : (n k : ℕ) → block_at (replicate n free_block) k ≡ free_block
 block_fresh n k =
     elim (cases_lt k n) [
-      | inl below ↦ get_or-replicate n k empty_block empty_block below
-      | inr past ↦ get_or_past (replicate n empty_block) k empty_block (omega (arith, past, length-replicate n empty_block))
+      | inl below ↦ get_or-replicate n k free_block free_block below
+      | inr past ↦ get_or_past (replicate n free_block) k free_block (omega (arith, past, length-replicate n free_block))
     ]
 
 pub lies_nowhere : (logical page : ℕ) → place_of (replicate logical None) page ≡ None
@@ -75,11 +75,11 @@ stands_fresh shape failures blocks logical limits fresh =
       limits = limits;
       map_shape = refl;
       well = fresh.well;
-      count = ap length fresh.unused ∙ length-replicate shape.blocks empty_block;
+      count = ap length fresh.unused ∙ length-replicate shape.blocks free_block;
       fills_are = fills_fresh shape.blocks ∙ ap fills_of (sym fresh.unused);
       within = λ k. omega (arith, fill_fresh shape.blocks k);
       one_open = λ i j some_i few_i some_j few_j. absurd (none i some_i);
-      writing_is = partly_none shape.pages (replicate shape.blocks 0) (λ k some few. none k some);
+      writing_is = opened_none shape.pages (replicate shape.blocks 0) (λ k some few. none k some);
       quiet = λ k few. ap (λ (l : List Block). (block_at l k).erasing) fresh.unused ∙ ap (λ (b : Block). b.erasing) (block_fresh shape.blocks k);
       placed = λ page place lies. let none_lies : place_of (replicate logical None) page ≡ None = lies_nowhere logical page in absurd (cc);
       few_valid = λ block. omega (arith, none_valid logical block);
@@ -105,9 +105,9 @@ none_running n task =
 suc_is : (n k : ℕ) → suc n * k ≡ (n + 1) * k
 suc_is n k = let e : suc n ≡ n + 1 = omega arith in ap (λ (m : ℕ). m * k) e
 
-free_fresh_by : (pages n : ℕ) → free_cells pages (replicate n empty_block) ≡ n * pages
+free_fresh_by : (pages n : ℕ) → free_cells pages (replicate n free_block) ≡ n * pages
 free_fresh_by pages zero = omega arith
-free_fresh_by pages (suc n) = omega (arith, sum_by-cons (free_in pages) empty_block (replicate n empty_block), free_fresh_by pages n, one_more n pages, suc_is n pages)
+free_fresh_by pages (suc n) = omega (arith, sum_by-cons (free_in pages) free_block (replicate n free_block), free_fresh_by pages n, one_more n pages, suc_is n pages)
 
 -- all cells of a fresh device are free
 pub free_fresh : (shape : Shape) (failures : ℕ) (blocks : List Block) → IsFresh shape blocks failures → free_cells shape.pages blocks ≡ shape.blocks * shape.pages
@@ -138,6 +138,6 @@ sound_fresh plan shape failures blocks bound same fresh =
       };
       picks = record {
         taken = λ task c is. absurd (nobody task c is);
-        closed = λ block below full none. absurd (omega (arith, full, limits.some_pages, ap (λ (l : List Block). filled_of (block_at l block)) fresh.unused, ap filled_of (block_fresh shape.blocks block)));
+        closed = λ block below closed none. absurd (omega (arith, closed, limits.some_pages, ap (λ (l : List Block). filled_of (block_at l block)) fresh.unused, ap filled_of (block_fresh shape.blocks block)));
       };
     }

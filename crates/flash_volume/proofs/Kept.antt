@@ -13,7 +13,7 @@ use Rattle.plan_rules.specs.Accounts.{Accounts, total_of}
 use Rattle.victim_pick.specs.Candidates.{Candidates, count_of}
 use Rattle.page_map.specs.Placing.{Placing, bound}
 use Rattle.page_map.proofs.Owners.{within}
-use Rattle.flash_die.specs.Flash.{Block, empty_block, block_at, programmed}
+use Rattle.flash_die.specs.Flash.{Block, free_block, block_at, programmed}
 use Rattle.flash_volume.specs.declared.collection.Collection.{Collection}
 use Rattle.flash_volume.specs.declared.collection.Copied.{Copied}
 use Rattle.flash_volume.specs.Cells.{filled_of, free_in, free_cells}
@@ -103,7 +103,7 @@ sound_going {accounts} {shape} {failures} {blocks} {placing} {candidates} {runni
       map_len = sound.map_len;
       total = omega (arith, ap (λ (s : Shape). free_cells s.pages blocks_then) same, free, sound.total);
       runs = rw (same, cells) (runs_changed accounts task c new (set blocks c.victim block) placing.places sound.runs in_caps runs refl refl (λ u other. refl) mine (λ u d other d_runs its. run_going c.victim its run.in_range));
-      picks = rw (same, cells) (picks_changed task c new (picks_erased c.victim block sound.picks run.in_range run.full) (omega (arith, sound.runs.len, in_caps)) runs refl);
+      picks = rw (same, cells) (picks_changed task c new (picks_erased c.victim block sound.picks run.in_range run.closed) (omega (arith, sound.runs.len, in_caps)) runs refl);
     }
 
 -- after the last one
@@ -151,5 +151,5 @@ pub room : {accounts : Accounts} {shape : Shape} {failures : ℕ} {blocks : List
 room {accounts} {shape} {failures} {blocks} {placing} {candidates} {running} task c sound is =
     let run = sound.runs.each task c is in
     let here : total_of accounts + shape.pages ≤ shape.blocks * shape.pages =
-    omega (arith, sum_by-set (free_in shape.pages) blocks c.victim empty_block empty_block run.in_range, free_le shape.pages (set blocks c.victim empty_block), ap (λ (n : ℕ). n * shape.pages) (length-set blocks c.victim empty_block ∙ sound.stands.count), run.full, sound.total) in
+    omega (arith, sum_by-set (free_in shape.pages) blocks c.victim free_block free_block run.in_range, free_le shape.pages (set blocks c.victim free_block), ap (λ (n : ℕ). n * shape.pages) (length-set blocks c.victim free_block ∙ sound.stands.count), run.closed, sound.total) in
     subst (λ (x : Shape). total_of accounts + x.pages ≤ x.blocks * x.pages) sound.shape_is here

@@ -13,107 +13,107 @@ use Rattle.slot_types.specs.Places.{owner_of}
 use Rattle.victim_pick.specs.Candidates.{Candidates}
 use Rattle.page_map.specs.Placing.{Placing, IsCell}
 use Rattle.page_map.proofs.Owners.{fails_where_none, no_owner}
-use Rattle.flash_die.specs.Flash.{Block, blank, empty_block, block_at, cell_at, IsProgrammed, IsNext, programmed}
-use Rattle.flash_volume.specs.Cells.{filled_of, fills_of, is_partly, is_blank, first_of, partly_in, open_in, next_cell, free_in, free_cells}
+use Rattle.flash_die.specs.Flash.{Block, blank, free_block, block_at, cell_at, IsProgrammed, IsNext, programmed}
+use Rattle.flash_volume.specs.Cells.{filled_of, fills_of, is_open_with, is_wholly_free, first_of, opened_in, open_in, next_cell, free_in, free_cells}
 use Rattle.flash_volume.specs.Array.{Stands}
 
 -- The open block
 
--- a block with a free cell, such that no other one is partly filled
+-- a block with a free cell, such that no other one is open
 pub record Opens (pages : ℕ) (fills : List ℕ) (block : ℕ) : Type 0 where
   pub below : block < length fills
   pub room : get_or fills block 0 < pages
   pub alone : (k : ℕ) → 0 < get_or fills k 0 → get_or fills k 0 < pages → k ≡ block
 
--- no two blocks are partly filled
+-- no two blocks are open
 abbrev pub OneOpen : ℕ → List ℕ → Type 0
 OneOpen pages fills = (i j : ℕ) → 0 < get_or fills i 0 → get_or fills i 0 < pages → 0 < get_or fills j 0 → get_or fills j 0 < pages → i ≡ j
 
-pub partly_means : (pages filled : ℕ) → is_partly pages filled ≡ true → (0 < filled) × (filled < pages)
-partly_means pages filled is = grind (arith, nat_tests)
+pub opened_means : (pages filled : ℕ) → is_open_with pages filled ≡ true → (0 < filled) × (filled < pages)
+opened_means pages filled is = grind (arith, nat_tests)
 
-partly_fails : (pages filled : ℕ) → is_partly pages filled ≡ false → 0 < filled → filled < pages → ⊥
-partly_fails pages filled is some few = grind (arith, nat_tests)
+opened_fails : (pages filled : ℕ) → is_open_with pages filled ≡ false → 0 < filled → filled < pages → ⊥
+opened_fails pages filled is some few = grind (arith, nat_tests)
 
-blank_means : (filled : ℕ) → is_blank filled ≡ true → filled ≡ 0
-blank_means filled is = grind (arith, nat_tests)
+free_means : (filled : ℕ) → is_wholly_free filled ≡ true → filled ≡ 0
+free_means filled is = grind (arith, nat_tests)
 
-blank_fails : (filled : ℕ) → is_blank filled ≡ false → 0 < filled
-blank_fails filled is = grind (arith, nat_tests)
+free_fails : (filled : ℕ) → is_wholly_free filled ≡ false → 0 < filled
+free_fails filled is = grind (arith, nat_tests)
 
-pub none_partly : (pages : ℕ) (fills : List ℕ) (k : ℕ) → position (is_partly pages) fills ≡ None → 0 < get_or fills k 0 → get_or fills k 0 < pages → ⊥
-none_partly pages fills k none some few =
+pub none_opened : (pages : ℕ) (fills : List ℕ) (k : ℕ) → position (is_open_with pages) fills ≡ None → 0 < get_or fills k 0 → get_or fills k 0 < pages → ⊥
+none_opened pages fills k none some few =
     elim (cases_lt k (length fills)) [
-      | inl below ↦ partly_fails pages (get_or fills k 0) (fails_where_none (is_partly pages) fills k 0 none below) some few
+      | inl below ↦ opened_fails pages (get_or fills k 0) (fails_where_none (is_open_with pages) fills k 0 none below) some few
       | inr past ↦ omega (arith, get_or_past fills k 0 past)
     ]
 
--- the partly filled block is the one that is found
-pub partly_is : (pages : ℕ) (fills : List ℕ) (block : ℕ) (p : Option ℕ) → position (is_partly pages) fills ≡ p → OneOpen pages fills → 0 < get_or fills block 0 → get_or fills block 0 < pages → p ≡ Some block
-partly_is pages fills block None is one some few = absurd (none_partly pages fills block is some few)
-partly_is pages fills block (Some k) is one some few =
-    let at = position-Some (is_partly pages) fills k 0 is in
-    let means = partly_means pages (get_or fills k 0) at.1 in
+-- the open block is the one that is found
+pub opened_is : (pages : ℕ) (fills : List ℕ) (block : ℕ) (p : Option ℕ) → position (is_open_with pages) fills ≡ p → OneOpen pages fills → 0 < get_or fills block 0 → get_or fills block 0 < pages → p ≡ Some block
+opened_is pages fills block None is one some few = absurd (none_opened pages fills block is some few)
+opened_is pages fills block (Some k) is one some few =
+    let at = position-Some (is_open_with pages) fills k 0 is in
+    let means = opened_means pages (get_or fills k 0) at.1 in
     ap (λ (n : ℕ). Some n) (one k block means.0 means.1 some few)
 
-partly_none_by : (pages : ℕ) (fills : List ℕ) (p : Option ℕ) → position (is_partly pages) fills ≡ p → ((k : ℕ) → 0 < get_or fills k 0 → get_or fills k 0 < pages → ⊥) → p ≡ None
-partly_none_by pages fills None is none = refl
-partly_none_by pages fills (Some k) is none =
-    let at = position-Some (is_partly pages) fills k 0 is in
-    let means = partly_means pages (get_or fills k 0) at.1 in
+opened_none_by : (pages : ℕ) (fills : List ℕ) (p : Option ℕ) → position (is_open_with pages) fills ≡ p → ((k : ℕ) → 0 < get_or fills k 0 → get_or fills k 0 < pages → ⊥) → p ≡ None
+opened_none_by pages fills None is none = refl
+opened_none_by pages fills (Some k) is none =
+    let at = position-Some (is_open_with pages) fills k 0 is in
+    let means = opened_means pages (get_or fills k 0) at.1 in
     absurd (none k means.0 means.1)
 
--- where no block is partly filled, none is found
-pub partly_none : (pages : ℕ) (fills : List ℕ) → ((k : ℕ) → 0 < get_or fills k 0 → get_or fills k 0 < pages → ⊥) → position (is_partly pages) fills ≡ None
-partly_none pages fills none = partly_none_by pages fills (position (is_partly pages) fills) refl none
+-- where no block is open, none is found
+pub opened_none : (pages : ℕ) (fills : List ℕ) → ((k : ℕ) → 0 < get_or fills k 0 → get_or fills k 0 < pages → ⊥) → position (is_open_with pages) fills ≡ None
+opened_none pages fills none = opened_none_by pages fills (position (is_open_with pages) fills) refl none
 
-open_cases : (pages : ℕ) (fills : List ℕ) (block : ℕ) (p : Option ℕ) → position (is_partly pages) fills ≡ p → first_of p (position is_blank fills) ≡ Some block → (position (is_partly pages) fills ≡ Some block) ⊎ ((position (is_partly pages) fills ≡ None) × (position is_blank fills ≡ Some block))
+open_cases : (pages : ℕ) (fills : List ℕ) (block : ℕ) (p : Option ℕ) → position (is_open_with pages) fills ≡ p → first_of p (position is_wholly_free fills) ≡ Some block → (position (is_open_with pages) fills ≡ Some block) ⊎ ((position (is_open_with pages) fills ≡ None) × (position is_wholly_free fills ≡ Some block))
 open_cases pages fills block None e is = inr (e, is)
 open_cases pages fills block (Some k) e is = inl (e ∙ is)
 
 pub opens : (pages : ℕ) (blocks : List Block) (block : ℕ) → 0 < pages → OneOpen pages (fills_of blocks) → open_in pages blocks ≡ Some block → Opens pages (fills_of blocks) block
 opens pages blocks block some_pages one is =
     let fills : List ℕ = fills_of blocks in
-    elim (open_cases pages fills block (position (is_partly pages) fills) refl is) [
-      | inl partly ↦
-          let at = position-Some (is_partly pages) fills block 0 partly in
-          let means : (0 < get_or fills block 0) × (get_or fills block 0 < pages) = partly_means pages (get_or fills block 0) at.1 in
+    elim (open_cases pages fills block (position (is_open_with pages) fills) refl is) [
+      | inl opened ↦
+          let at = position-Some (is_open_with pages) fills block 0 opened in
+          let means : (0 < get_or fills block 0) × (get_or fills block 0 < pages) = opened_means pages (get_or fills block 0) at.1 in
           record { below = at.0; room = means.1; alone = λ k some few. one k block some few means.0 means.1 }
       | inr none ↦
-          let at = position-Some is_blank fills block 0 none.1 in
-          let zero_is : get_or fills block 0 ≡ 0 = blank_means (get_or fills block 0) at.1 in
-          record { below = at.0; room = omega arith; alone = λ k some few. absurd (none_partly pages fills k none.0 some few) }
+          let at = position-Some is_wholly_free fills block 0 none.1 in
+          let zero_is : get_or fills block 0 ≡ 0 = free_means (get_or fills block 0) at.1 in
+          record { below = at.0; room = omega arith; alone = λ k some few. absurd (none_opened pages fills k none.0 some few) }
     ]
 
-sum_none : (f : Block → ℕ) (xs : List Block) → ((i : ℕ) → i < length xs → f (get_or xs i empty_block) ≡ 0) → sum_by f xs ≡ 0
+sum_none : (f : Block → ℕ) (xs : List Block) → ((i : ℕ) → i < length xs → f (get_or xs i free_block) ≡ 0) → sum_by f xs ≡ 0
 sum_none f [] none = refl
 sum_none f (x ∷ xs) none = omega (arith, sum_by-cons f x xs, none 0 (omega arith), sum_none f xs (λ i h. none (suc i) (omega (arith, h))))
 
-open_none : (pages : ℕ) (fills : List ℕ) (p : Option ℕ) → position (is_partly pages) fills ≡ p → first_of p (position is_blank fills) ≡ None → (position (is_partly pages) fills ≡ None) × (position is_blank fills ≡ None)
+open_none : (pages : ℕ) (fills : List ℕ) (p : Option ℕ) → position (is_open_with pages) fills ≡ p → first_of p (position is_wholly_free fills) ≡ None → (position (is_open_with pages) fills ≡ None) × (position is_wholly_free fills ≡ None)
 open_none pages fills None e is = (e, is)
 open_none pages fills (Some k) e is = cc
 
 pub fill_at : (blocks : List Block) (k : ℕ) → k < length blocks → get_or (fills_of blocks) k 0 ≡ length (block_at blocks k).pages
-fill_at blocks k below = get_or-map filled_of blocks k empty_block 0 below
+fill_at blocks k below = get_or-map filled_of blocks k free_block 0 below
 
 -- also past the last block
 pub fill_is : (blocks : List Block) (k : ℕ) → get_or (fills_of blocks) k 0 ≡ filled_of (block_at blocks k)
 fill_is blocks k =
     elim (cases_lt k (length blocks)) [
       | inl below ↦ fill_at blocks k below
-      | inr past ↦ get_or_past (fills_of blocks) k 0 (omega (arith, past, length-map blocks filled_of)) ∙ ap (λ (b : Block). filled_of b) (sym (get_or_past blocks k empty_block past))
+      | inr past ↦ get_or_past (fills_of blocks) k 0 (omega (arith, past, length-map blocks filled_of)) ∙ ap (λ (b : Block). filled_of b) (sym (get_or_past blocks k free_block past))
     ]
 
 all_full : (pages : ℕ) (blocks : List Block) → open_in pages blocks ≡ None → free_cells pages blocks ≡ 0
 all_full pages blocks none =
-    let both = open_none pages (fills_of blocks) (position (is_partly pages) (fills_of blocks)) refl none in
+    let both = open_none pages (fills_of blocks) (position (is_open_with pages) (fills_of blocks)) refl none in
     sum_none (free_in pages) blocks (λ i below.
     let here : i < length (fills_of blocks) = omega (arith, below, length-map blocks filled_of) in
     let is = fill_at blocks i below in
-    let some : 0 < get_or (fills_of blocks) i 0 = blank_fails (get_or (fills_of blocks) i 0) (fails_where_none is_blank (fills_of blocks) i 0 both.1 here) in
+    let some : 0 < get_or (fills_of blocks) i 0 = free_fails (get_or (fills_of blocks) i 0) (fails_where_none is_wholly_free (fills_of blocks) i 0 both.1 here) in
     elim (cases_lt (get_or (fills_of blocks) i 0) pages) [
-      | inl few ↦ absurd (none_partly pages (fills_of blocks) i both.0 some few)
-      | inr full ↦ omega (arith, full, is)
+      | inl few ↦ absurd (none_opened pages (fills_of blocks) i both.0 some few)
+      | inr closed ↦ omega (arith, closed, is)
     ])
 
 some_open_by : (pages : ℕ) (blocks : List Block) (o : Option ℕ) → open_in pages blocks ≡ o → 0 < free_cells pages blocks → IsSome o
@@ -127,10 +127,10 @@ some_open pages blocks some = some_open_by pages blocks (open_in pages blocks) r
 -- The cell
 
 pub same_block : (blocks : List Block) (block : ℕ) (bytes : PageData) → block < length blocks → block_at (programmed blocks block bytes) block ≡ record (block_at blocks block) { pages = (block_at blocks block).pages ++ bytes ∷ [] }
-same_block blocks block bytes below = get_or-set_same blocks block (record (block_at blocks block) { pages = (block_at blocks block).pages ++ bytes ∷ [] }) empty_block below
+same_block blocks block bytes below = get_or-set_same blocks block (record (block_at blocks block) { pages = (block_at blocks block).pages ++ bytes ∷ [] }) free_block below
 
 pub other_block : (blocks : List Block) (block k : ℕ) (bytes : PageData) → k ≢ block → block_at (programmed blocks block bytes) k ≡ block_at blocks k
-other_block blocks block k bytes other = get_or-set_other blocks block k (record (block_at blocks block) { pages = (block_at blocks block).pages ++ bytes ∷ [] }) empty_block other
+other_block blocks block k bytes other = get_or-set_other blocks block k (record (block_at blocks block) { pages = (block_at blocks block).pages ++ bytes ∷ [] }) free_block other
 
 pub count_programmed : (blocks : List Block) (block : ℕ) (bytes : PageData) → length (programmed blocks block bytes) ≡ length blocks
 count_programmed blocks block bytes = length-set blocks block (record (block_at blocks block) { pages = (block_at blocks block).pages ++ bytes ∷ [] })
@@ -165,7 +165,7 @@ pub record Fits (shape : Shape) (blocks : List Block) (place : Place) : Type 0 w
 
 -- the array as its callers see it
 abbrev pub Sound : Shape → ℕ → List Block → Placing → Candidates → Type 0
-Sound shape failures blocks placing candidates = Stands shape failures blocks placing (fills_of blocks) (partly_in shape.pages blocks) candidates
+Sound shape failures blocks placing candidates = Stands shape failures blocks placing (fills_of blocks) (opened_in shape.pages blocks) candidates
 
 -- what is kept is what callers see
 pub seen : {shape : Shape} {failures : ℕ} {blocks : List Block} {placing : Placing} {fills : List ℕ} {writing : Option ℕ} {candidates : Candidates} → Stands shape failures blocks placing fills writing candidates → Sound shape failures blocks placing candidates
@@ -186,9 +186,9 @@ seen {shape} {failures} {blocks} {placing} {fills} {writing} {candidates} stands
   counted = stands.counted;
 }
 
--- the block that is remembered is the partly filled one
-pub remembered : {shape : Shape} {failures : ℕ} {blocks : List Block} {placing : Placing} {fills : List ℕ} {writing : Option ℕ} {candidates : Candidates} → Stands shape failures blocks placing fills writing candidates → partly_in shape.pages blocks ≡ writing
-remembered {shape} stands = ap (λ (l : List ℕ). position (is_partly shape.pages) l) (sym stands.fills_are) ∙ stands.writing_is
+-- the block that is remembered is the open one
+pub remembered : {shape : Shape} {failures : ℕ} {blocks : List Block} {placing : Placing} {fills : List ℕ} {writing : Option ℕ} {candidates : Candidates} → Stands shape failures blocks placing fills writing candidates → opened_in shape.pages blocks ≡ writing
+remembered {shape} stands = ap (λ (l : List ℕ). position (is_open_with shape.pages) l) (sym stands.fills_are) ∙ stands.writing_is
 
 pub fits : {shape : Shape} {failures : ℕ} {blocks : List Block} {placing : Placing} {fills : List ℕ} {writing : Option ℕ} {candidates : Candidates} (place : Place) → Stands shape failures blocks placing fills writing candidates → open_in shape.pages blocks ≡ Some place.block → place.page ≡ filled_of (block_at blocks place.block) → Fits shape blocks place
 fits {shape} {failures} {blocks} {placing} {fills} {writing} {candidates} place stands is page =

@@ -10,7 +10,7 @@ use Rattle.slot_types.specs.declared.pages.PageData.{PageData}
 use Rattle.slot_types.specs.Places.{place_of, is_in}
 use Rattle.plan_rules.specs.Accounts.{Accounts}
 use Rattle.page_map.proofs.Owners.{within}
-use Rattle.flash_die.specs.Flash.{Block, empty_block, blank, block_at, cell_at, IsProgrammed, programmed}
+use Rattle.flash_die.specs.Flash.{Block, free_block, blank, block_at, cell_at, IsProgrammed, programmed}
 use Rattle.flash_volume.specs.declared.collection.Collection.{Collection}
 use Rattle.flash_volume.specs.declared.collection.Copied.{Copied}
 use Rattle.flash_volume.specs.Cells.{filled_of}
@@ -19,10 +19,10 @@ use Rattle.flash_volume.proofs.Opening.{Fits, stays, other_block, count_programm
 use Rattle.flash_volume.proofs.Counting.{here, here_same, here_other, moves}
 use Rattle.flash_volume.proofs.Erasing.{same_cell}
 
--- the victim is full, so not the open block
+-- the victim is closed, so not the open block
 pub not_open : {accounts : Accounts} {shape : Shape} {blocks : List Block} {places : List (Option Place)} {task : ℕ} {c : Collection} {place : Place} → RunWell accounts shape.pages blocks places task c → Fits shape blocks place → c.victim ≢ place.block
 not_open {accounts} {shape} {blocks} run fit same =
-    omega (arith, run.full, fit.next, fit.room, ap (λ (b : ℕ). filled_of (block_at blocks b)) same)
+    omega (arith, run.closed, fit.next, fit.room, ap (λ (b : ℕ). filled_of (block_at blocks b)) same)
 
 -- where a page lies after another one, or it itself, came to a cell
 lay_before : (places : List (Option Place)) (page p : ℕ) (place q : Place) → page < length places → place_of (set places page (Some place)) p ≡ Some q → (p ≡ page → place ≡ q) × (p ≢ page → place_of places p ≡ Some q)
@@ -37,7 +37,7 @@ lay_before places page p place q below lies = (
 pub run_written : {accounts : Accounts} (after : Accounts) {shape : Shape} {blocks : List Block} {places : List (Option Place)} {task : ℕ} {c : Collection} {place : Place} (page : ℕ) (bytes : PageData) → RunWell accounts shape.pages blocks places task c → Fits shape blocks place → ((p : ℕ) (q : Place) → place_of places p ≡ Some q → IsProgrammed blocks q) → page < length places → get_or after.reserves task 0 ≡ get_or accounts.reserves task 0 → RunWell after shape.pages (programmed blocks place.block bytes) (set places page (Some place)) task c
 run_written {accounts} after {shape} {blocks} {places} {task} {c} {place} page bytes run fit placed below reserve = record {
   in_range = omega (arith, run.in_range, count_programmed blocks place.block bytes);
-  full = ap filled_of (other_block blocks place.block c.victim bytes (not_open run fit)) ∙ run.full;
+  closed = ap filled_of (other_block blocks place.block c.victim bytes (not_open run fit)) ∙ run.closed;
   lent = omega (arith, run.lent, moves c.victim page place places below, here_other c.victim place (not_open run fit), reserve);
   source = run.source;
   home = λ k q holds lies here.
@@ -63,7 +63,7 @@ reserved {accounts} {pages} {blocks} {places} {task} {c} k run holds lies =
 pub run_emptied : {accounts : Accounts} (after : Accounts) {pages : ℕ} {blocks : List Block} {places : List (Option Place)} {task : ℕ} {c : Collection} → RunWell accounts pages blocks places task c → count_by (is_in c.victim) places ≤ get_or after.reserves task 0 → RunWell after pages blocks places task (with_buffer c None)
 run_emptied after {c} run lent = record {
   in_range = run.in_range;
-  full = run.full;
+  closed = run.closed;
   lent = lent;
   source = λ k holds. absurd (cc);
   home = λ k place holds lies here. absurd (cc);
@@ -76,7 +76,7 @@ run_copied {accounts} after {shape} {blocks} {places} {task} {c} {place} k run f
     let below : k.page < length places = within places k.page k.source lies in
     record {
       in_range = omega (arith, run.in_range, count_programmed blocks place.block k.bytes);
-      full = ap filled_of (other_block blocks place.block c.victim k.bytes (not_open run fit)) ∙ run.full;
+      closed = ap filled_of (other_block blocks place.block c.victim k.bytes (not_open run fit)) ∙ run.closed;
       lent = omega (arith, run.lent, moves c.victim k.page place places below, here_other c.victim place (not_open run fit), ap (here c.victim) lies, here_same c.victim k.source (sym (run.source k holds)), reserve);
       source = λ j has. absurd (cc);
       home = λ j q has there here. absurd (cc);
@@ -87,7 +87,7 @@ run_copied {accounts} after {shape} {blocks} {places} {task} {c} {place} k run f
 pub run_read : {accounts : Accounts} {pages : ℕ} {blocks : List Block} {places : List (Option Place)} {task : ℕ} {c : Collection} (page : ℕ) (source : Place) → RunWell accounts pages blocks places task c → source.block ≡ c.victim → place_of places page ≡ Some source → RunWell accounts pages blocks places task (with_buffer c (Some (copied_of blocks page source)))
 run_read {accounts} {pages} {blocks} {places} {task} {c} page source run here lies = record {
   in_range = run.in_range;
-  full = run.full;
+  closed = run.closed;
   lent = run.lent;
   source = λ k holds.
       let is : copied_of blocks page source ≡ k = cc in
@@ -108,12 +108,12 @@ run_going {accounts} {pages} {blocks} {places} {task} {c} block run below =
     let new : Block = record (block_at blocks block) { erasing = (block_at blocks block).erasing + 1 } in
     let same_pages : (k : ℕ) → (block_at (set blocks block new) k).pages ≡ (block_at blocks k).pages = (λ k.
     elim (cases_eq k block) [
-      | inl same ↦ ap (λ (b : ℕ). (block_at (set blocks block new) b).pages) same ∙ ap (λ (b : Block). b.pages) (get_or-set_same blocks block new empty_block below) ∙ ap (λ (b : ℕ). (block_at blocks b).pages) (sym same)
-      | inr other ↦ ap (λ (b : Block). b.pages) (get_or-set_other blocks block k new empty_block other)
+      | inl same ↦ ap (λ (b : ℕ). (block_at (set blocks block new) b).pages) same ∙ ap (λ (b : Block). b.pages) (get_or-set_same blocks block new free_block below) ∙ ap (λ (b : ℕ). (block_at blocks b).pages) (sym same)
+      | inr other ↦ ap (λ (b : Block). b.pages) (get_or-set_other blocks block k new free_block other)
     ]) in
     record {
       in_range = omega (arith, run.in_range, length-set blocks block new);
-      full = ap length (same_pages c.victim) ∙ run.full;
+      closed = ap length (same_pages c.victim) ∙ run.closed;
       lent = run.lent;
       source = run.source;
       home = run.home;
@@ -124,7 +124,7 @@ run_going {accounts} {pages} {blocks} {places} {task} {c} block run below =
 pub run_elsewhere : {accounts : Accounts} (after : Accounts) {pages : ℕ} {blocks : List Block} {places : List (Option Place)} {task : ℕ} {c : Collection} (block : ℕ) (new : Block) → RunWell accounts pages blocks places task c → c.victim ≢ block → get_or after.reserves task 0 ≡ get_or accounts.reserves task 0 → RunWell after pages (set blocks block new) places task c
 run_elsewhere {accounts} after {pages} {blocks} {places} {task} {c} block new run other reserve = record {
   in_range = omega (arith, run.in_range, length-set blocks block new);
-  full = ap filled_of (get_or-set_other blocks block c.victim new empty_block other) ∙ run.full;
+  closed = ap filled_of (get_or-set_other blocks block c.victim new free_block other) ∙ run.closed;
   lent = omega (arith, run.lent, reserve);
   source = run.source;
   home = run.home;
@@ -135,7 +135,7 @@ run_elsewhere {accounts} after {pages} {blocks} {places} {task} {c} block new ru
 pub run_still : {accounts : Accounts} (after : Accounts) {pages : ℕ} {blocks : List Block} {places : List (Option Place)} {task : ℕ} {c : Collection} → RunWell accounts pages blocks places task c → get_or after.reserves task 0 ≡ get_or accounts.reserves task 0 → RunWell after pages blocks places task c
 run_still after run reserve = record {
   in_range = run.in_range;
-  full = run.full;
+  closed = run.closed;
   lent = omega (arith, run.lent, reserve);
   source = run.source;
   home = run.home;

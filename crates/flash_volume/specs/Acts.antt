@@ -45,8 +45,8 @@ abbrev pub HasLeft : List (Option Place) → Collection → Type 0
 HasLeft places c = (copied : Copied) → c.buffer ≡ Some copied → place_of places copied.page ≡ Some copied.source → ⊥
 
 -- no page lies in the block
-abbrev pub IsEmpty : List (Option Place) → ℕ → Type 0
-IsEmpty places block = (page : ℕ) (place : Place) → place_of places page ≡ Some place → place.block ≢ block
+abbrev pub IsUnplaced : List (Option Place) → ℕ → Type 0
+IsUnplaced places block = (page : ℕ) (place : Place) → place_of places page ≡ Some place → place.block ≢ block
 
 -- of the pages that lie in the block this one lies first
 pub record IsFirst (places : List (Option Place)) (block page : ℕ) (source : Place) : Type 0 where
@@ -85,7 +85,7 @@ pub record Programs {N : Type 0} (blocks : N → List Block) (old : State N) (ta
 -- it does one slot of the erase of its victim
 pub record Erases {N : Type 0} (blocks : N → List Block) (old : State N) (c : Collection) (block : ℕ) (new : State N) : Type 0 where
   pub victim : block ≡ c.victim
-  pub empty : IsEmpty old.places block
+  pub unplaced : IsUnplaced old.places block
   pub cells : blocks new.device ≡ erased (blocks old.device) old.accounts.plan.shape.erase_slots block
   pub places : new.places ≡ old.places
   pub pages : new.pages ≡ old.pages

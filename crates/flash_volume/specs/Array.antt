@@ -7,7 +7,7 @@ use Rattle.slot_types.specs.Shapes.{IsShape}
 use Rattle.victim_pick.specs.Candidates.{Candidates, count_of, lowered}
 use Rattle.page_map.specs.Placing.{Placing}
 use Rattle.flash_die.specs.Flash.{Block, block_at, IsProgrammed}
-use Rattle.flash_volume.specs.Cells.{filled_of, fills_of, is_partly, partly_in}
+use Rattle.flash_volume.specs.Cells.{filled_of, fills_of, is_open_with, opened_in}
 
 -- an array as its callers see it: whether its device has failed, the device, where each page lies, and the closed blocks that may be collected with their counts of pages that lie there
 pub record ArrayState (N : Type 0) : Type 0 where
@@ -16,7 +16,7 @@ pub record ArrayState (N : Type 0) : Type 0 where
   pub placing : Placing
   pub candidates : Candidates
 
--- what is true of an array whose device has not failed, with its counts of programmed cells by block and the partly filled block that it remembers
+-- what is true of an array whose device has not failed, with its counts of programmed cells by block and the open block that it remembers
 pub record Stands (shape : Shape) (failures : ℕ) (blocks : List Block) (placing : Placing) (fills : List ℕ) (writing : Option ℕ) (candidates : Candidates) : Type 0 where
   pub limits : IsShape shape
   pub map_shape : placing.shape ≡ shape
@@ -25,7 +25,7 @@ pub record Stands (shape : Shape) (failures : ℕ) (blocks : List Block) (placin
   pub fills_are : fills ≡ fills_of blocks
   pub within : (block : ℕ) → slice_index fills block ≤ shape.pages
   pub one_open : (i j : ℕ) → 0 < slice_index fills i → slice_index fills i < shape.pages → 0 < slice_index fills j → slice_index fills j < shape.pages → i ≡ j
-  pub writing_is : position (is_partly shape.pages) fills ≡ writing
+  pub writing_is : position (is_open_with shape.pages) fills ≡ writing
   pub quiet : (block : ℕ) → slice_index fills block < shape.pages → (block_at blocks block).erasing ≡ 0
   pub placed : (page : ℕ) (place : Place) → place_of placing.places page ≡ Some place → IsProgrammed blocks place
   pub few_valid : (block : ℕ) → count_by (is_in block) placing.places ≤ filled_of (block_at blocks block)
@@ -36,13 +36,13 @@ pub record Stands (shape : Shape) (failures : ℕ) (blocks : List Block) (placin
 -- the same, as callers see it
 abbrev pub IsSoundArray : {N : Type 0} → (N → Shape) → (N → ℕ) → (N → List Block) → ArrayState N → Type 0
 IsSoundArray shape_of failures blocks array =
-    array.failed ≡ false → Stands (shape_of array.device) (failures array.device) (blocks array.device) array.placing (fills_of (blocks array.device)) (partly_in (shape_of array.device).pages (blocks array.device)) array.candidates
+    array.failed ≡ false → Stands (shape_of array.device) (failures array.device) (blocks array.device) array.placing (fills_of (blocks array.device)) (opened_in (shape_of array.device).pages (blocks array.device)) array.candidates
 
 -- a page that lay here leaves its block, which has a page less if it is a candidate
 abbrev pub left : Option Place → List (Option ℕ) → List (Option ℕ)
 left None counts = counts
 left (Some place) counts = slice_set counts place.block (lowered (count_of counts place.block))
 
--- a block that is full becomes a candidate
-abbrev pub closed_when_full : ℕ → ℕ → ℕ → ℕ → List (Option ℕ) → List (Option ℕ)
-closed_when_full pages block filled valid counts = if nat_lt filled pages then counts else slice_set counts block (Some valid)
+-- a block that is closed becomes a candidate
+abbrev pub closed_when_filled : ℕ → ℕ → ℕ → ℕ → List (Option ℕ) → List (Option ℕ)
+closed_when_filled pages block filled valid counts = if nat_lt filled pages then counts else slice_set counts block (Some valid)

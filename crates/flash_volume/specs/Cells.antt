@@ -11,25 +11,26 @@ filled_of block = length block.pages
 abbrev pub fills_of : List Block → List ℕ
 fills_of blocks = map filled_of blocks
 
-abbrev pub is_partly : ℕ → ℕ → Bool
-is_partly pages filled = nat_lt 0 filled && nat_lt filled pages
+-- a block of so many pages is open if so many of them are programmed
+abbrev pub is_open_with : ℕ → ℕ → Bool
+is_open_with pages filled = nat_lt 0 filled && nat_lt filled pages
 
-abbrev pub is_blank : ℕ → Bool
-is_blank filled = filled == 0
+abbrev pub is_wholly_free : ℕ → Bool
+is_wholly_free filled = filled == 0
 
 abbrev pub first_of : Option ℕ → Option ℕ → Option ℕ
 first_of None other = other
 first_of (Some block) other = Some block
 
--- the partly filled block
-abbrev pub partly_in : ℕ → List Block → Option ℕ
-partly_in pages blocks = position (is_partly pages) (fills_of blocks)
+-- the open block
+abbrev pub opened_in : ℕ → List Block → Option ℕ
+opened_in pages blocks = position (is_open_with pages) (fills_of blocks)
 
--- the block to which pages are programmed: the partly filled one, or else the first that is wholly free
+-- the block to which pages are programmed: the open one, or else the first that is wholly free
 abbrev pub open_in : ℕ → List Block → Option ℕ
-open_in pages blocks = first_of (partly_in pages blocks) (position is_blank (fills_of blocks))
+open_in pages blocks = first_of (opened_in pages blocks) (position is_wholly_free (fills_of blocks))
 
--- the block stays open until it is full
+-- the block stays open until its last cell is programmed
 abbrev pub left_open : ℕ → ℕ → ℕ → Option ℕ
 left_open pages block filled = if nat_lt filled pages then Some block else None
 

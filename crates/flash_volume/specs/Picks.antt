@@ -9,16 +9,16 @@ use Rattle.flash_volume.specs.Cells.{filled_of}
 use Rattle.flash_volume.specs.Running.{running_of}
 
 -- a closed block that no collection works on
-pub record IsClosed (pages : ℕ) (blocks : List Block) (running : List (Option Collection)) (block : ℕ) : Type 0 where
+pub record IsCandidate (pages : ℕ) (blocks : List Block) (running : List (Option Collection)) (block : ℕ) : Type 0 where
   pub in_range : block < length blocks
-  pub full : filled_of (block_at blocks block) ≡ pages
+  pub closed : filled_of (block_at blocks block) ≡ pages
   pub alone : (task : ℕ) (c : Collection) → running_of running task ≡ Some c → c.victim ≢ block
 
 -- of these the one in which the fewest pages lie, and of equal ones the first
 pub record IsVictim (pages : ℕ) (blocks : List Block) (places : List (Option Place)) (running : List (Option Collection)) (block : ℕ) : Type 0 where
-  pub closed : IsClosed pages blocks running block
-  pub fewest : (other : ℕ) → IsClosed pages blocks running other → count_by (is_in block) places ≤ count_by (is_in other) places
-  pub first : (other : ℕ) → IsClosed pages blocks running other → count_by (is_in other) places ≡ count_by (is_in block) places → block ≤ other
+  pub candidate : IsCandidate pages blocks running block
+  pub fewest : (other : ℕ) → IsCandidate pages blocks running other → count_by (is_in block) places ≤ count_by (is_in other) places
+  pub first : (other : ℕ) → IsCandidate pages blocks running other → count_by (is_in other) places ≡ count_by (is_in block) places → block ≤ other
 
 -- a collection works on the block
 pub record IsTaken (running : List (Option Collection)) (block : ℕ) : Type 0 where

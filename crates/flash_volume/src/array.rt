@@ -7,11 +7,11 @@ ghost use Rattle.slot_types.specs.Shapes.{IsShape};
 ghost use Rattle.victim_pick.specs.Candidates.{count_of, HasNone, IsLeast, without};
 ghost use Rattle.page_map.specs.Placing.{blank_map, bound};
 ghost use Rattle.flash_die.specs.Flash.{IsFresh, blank, block_at, programmed, erased};
-ghost use Rattle.flash_volume.specs.Cells.{filled_of, is_blank, open_in, left_open, next_cell, content_at, contents, free_cells};
+ghost use Rattle.flash_volume.specs.Cells.{filled_of, is_wholly_free, open_in, left_open, next_cell, content_at, contents, free_cells};
 ghost use Rattle.flash_volume.specs.Array.{IsSoundArray};
 ghost use Rattle.flash_volume.specs.Acts.{IsFirst};
 
-use crate::candidates::{close_when_full, leave};
+use crate::candidates::{close_when_filled, leave};
 use flash_die::Nand;
 use page_map::PageMap;
 use slot_types::{PageData, Place, Refusal};
@@ -30,7 +30,7 @@ pub(crate) struct PageArray<N: Nand> {
     map: PageMap,
     /// By block how many of its cells are programmed.
     fills: Vec<u32>,
-    /// The block that is partly filled. There is one at most.
+    /// The open block. There is one at most.
     writing: Option<u32>,
     /// The closed blocks that may be collected.
     victims: Victims,
@@ -145,19 +145,19 @@ impl<N: Nand> PageArray<N> {
                 self.map.bind(page, place);
                 leave(&mut self.victims, before);
                 let valid = self.map.valid(place.block);
-                close_when_full(&mut self.victims, place.block, filled, pages, valid);
+                close_when_filled(&mut self.victims, place.block, filled, pages, valid);
                 Ok(())
             }
         }
     }
 
-    /// Does one slot of the erase of a block that is full and in which no page lies, and answers
+    /// Does one slot of the erase of a block that is closed and in which no page lies, and answers
     /// whether it was the last.
     pub(crate) fn erase_slot(&mut self, block: u32) -> Result<bool, Refusal>
         requires alive { self.old.failed ≡ false }
         requires block { block < length (N.blocks self.old.device) }
-        requires full { filled_of (block_at (N.blocks self.old.device) block) ≡ (N.shape_of self.old.device).pages }
-        requires empty { (page : ℕ) → page < (N.shape_of self.old.device).pages → owner_of self.old.placing.places (record { block = block; page = page }) ≡ None }
+        requires closed { filled_of (block_at (N.blocks self.old.device) block) ≡ (N.shape_of self.old.device).pages }
+        requires unplaced { (page : ℕ) → page < (N.shape_of self.old.device).pages → owner_of self.old.placing.places (record { block = block; page = page }) ≡ None }
         requires taken { count_of self.old.candidates.counts block ≡ None }
         requires few_erases { (block_at (N.blocks self.old.device) block).erases < 4294967295 }
         ensures last { IfOk result (λ last. last ≡ ((block_at (N.blocks self.old.device) block).erasing + 1 == (N.shape_of self.old.device).erase_slots)) }
@@ -232,7 +232,7 @@ impl<N: Nand> PageArray<N> {
     {
         let block = match self.writing {
             Some(block) => block,
-            None => first_blank(&self.fills).unwrap_or(0) as u32,
+            None => first_wholly_free(&self.fills).unwrap_or(0) as u32,
         };
         Place {
             block,
@@ -241,15 +241,15 @@ impl<N: Nand> PageArray<N> {
     }
 }
 
-/// The block, unless it is full.
+/// The block, unless it is closed.
 fn left_open(block: u32, filled: u32, pages: u32) -> Option<u32>
     ensures { result ≡ left_open pages block filled }
 {
     if filled < pages { Some(block) } else { None }
 }
 
-fn first_blank(fills: &[u32]) -> Option<usize>
-    ensures found { result ≡ position is_blank fills.now }
+fn first_wholly_free(fills: &[u32]) -> Option<usize>
+    ensures found { result ≡ position is_wholly_free fills.now }
     ensures in_range { IfSome result (λ block. block < length fills.now) }
 {
     fills.iter().position(|filled| *filled == 0)

@@ -3,7 +3,7 @@
 ghost use Rattle.std.specs.Prelude.{◌≡◌, ◌<◌, ◌≤◌, ℕ, Some, None, length};
 ghost use Rattle.victim_pick.specs.Candidates.{count_of};
 ghost use Rattle.slot_types.specs.declared.pages.Place.{Place};
-ghost use Rattle.flash_volume.specs.Array.{left, closed_when_full};
+ghost use Rattle.flash_volume.specs.Array.{left, closed_when_filled};
 
 use slot_types::Place;
 use victim_pick::Victims;
@@ -20,8 +20,8 @@ pub(crate) fn leave(victims: &mut Victims, before: Option<Place>)
     }
 }
 
-/// A block that is full is closed: it becomes a candidate, with so many pages that lie in it.
-pub(crate) fn close_when_full(
+/// A block whose last cell is programmed is closed: it becomes a candidate, with so many pages that lie in it.
+pub(crate) fn close_when_filled(
     victims: &mut Victims,
     block: u32,
     filled: u32,
@@ -31,7 +31,7 @@ pub(crate) fn close_when_full(
     requires in_range { block < length victims.old.counts }
     requires open { count_of victims.old.counts block ≡ None }
     requires fits { valid ≤ victims.old.pages }
-    ensures { victims.new ≡ record victims.old { counts = closed_when_full pages block filled valid victims.old.counts } }
+    ensures { victims.new ≡ record victims.old { counts = closed_when_filled pages block filled valid victims.old.counts } }
 {
     if filled >= pages {
         victims.close(block, valid);

@@ -179,7 +179,7 @@ impl<N: Nand> Volume<N> {
         requires task { task < length self.old.accounts.plan.caps }
         requires runs { running_of self.old.running task ≡ Some collection }
         requires left { HasLeft self.old.places collection }
-        requires empty { (page : ℕ) → page < self.old.accounts.plan.shape.pages → owner_of self.old.places (record { block = collection.victim; page = page }) ≡ None }
+        requires unplaced { (page : ℕ) → page < self.old.accounts.plan.shape.pages → owner_of self.old.places (record { block = collection.victim; page = page }) ≡ None }
         requires few_erases { (block_at (N.blocks self.old.device) collection.victim).erases < 4294967295 }
         ensures did { IfOk result (λ did. Does N.blocks self.old task collection did self.new) }
         ensures places_stay { OnErr result (self.new.places ≡ self.old.places) }

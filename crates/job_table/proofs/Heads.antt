@@ -5,7 +5,7 @@ use Rattle.due_queue.specs.declared.keys.Key.{Key}
 use Rattle.due_queue.specs.declared.keys.WaitKey.{WaitKey}
 use Rattle.due_queue.specs.Queue.{IsRising, first_of}
 use Rattle.due_queue.specs.Keys.{is_due_before}
-use Rattle.job_table.specs.Jobs.{JobRecord, is_open}
+use Rattle.job_table.specs.Jobs.{JobRecord, is_pending}
 use Rattle.job_table.specs.Table.{Table, changed_at}
 use Rattle.job_table.specs.Order.{is_ready, due_key, goes_before, IsHead, NothingReady}
 use Rattle.job_table.specs.Queued.{IsAmong, IsStanding, AreQueued, AreLater, release_key}
@@ -17,17 +17,17 @@ use Rattle.job_table.proofs.Orders.{due_strict, due_irreflexive}
 pub ready_released : (clock : ℕ) (job : JobRecord) → is_ready clock job ≡ true → job.release ≤ clock
 ready_released clock job h = grind (arith, nat_tests)
 
-pub ready_open : (clock : ℕ) (job : JobRecord) → is_ready clock job ≡ true → is_open job.stage ≡ true
-ready_open clock job h = grind (arith, nat_tests)
+pub ready_pending : (clock : ℕ) (job : JobRecord) → is_ready clock job ≡ true → is_pending job.stage ≡ true
+ready_pending clock job h = grind (arith, nat_tests)
 
-pub ready_by : (clock : ℕ) (job : JobRecord) → job.release ≤ clock → is_open job.stage ≡ true → is_ready clock job ≡ true
+pub ready_by : (clock : ℕ) (job : JobRecord) → job.release ≤ clock → is_pending job.stage ≡ true → is_ready clock job ≡ true
 ready_by clock job h g = grind (arith, nat_tests)
 
 -- a ready job has its key among the released ones
 pub ready_among : (table : Table) (waiting : List WaitKey) (ready : List Key) → AreQueued table.jobs table.clock waiting ready → AreLater table.clock waiting
     → (n : ℕ) (job : JobRecord) → slice_get table.jobs n ≡ Some job → is_ready table.clock job ≡ true → IsAmong (due_key n job) ready
 ready_among table waiting ready q later n job at_n ready_n =
-    elim (q.each n job at_n (ready_open table.clock job ready_n)) [
+    elim (q.each n job at_n (ready_pending table.clock job ready_n)) [
       | inl h ↦
           absurd (let lt : table.clock < job.release = at_member (λ (w : WaitKey). table.clock < w.release) (release_key n job) waiting later h in
           let le = ready_released table.clock job ready_n in omega arith)
@@ -41,7 +41,7 @@ first_is_head table waiting k ks q later rising =
     record {
       head = first.job;
       is_at = first.is_at;
-      ready = ready_by table.clock first.job first.released first.open_is;
+      ready = ready_by table.clock first.job first.released first.pending_is;
       first = λ m other at_m ready_m.
           ap (λ l. is_due_before (due_key m other) l) (sym key_is)
           ∙ elim (ready_among table waiting (k ∷ ks) q later m other at_m ready_m) as (λ v. is_due_before (due_key m other) k ≡ false) [
@@ -80,7 +80,7 @@ head_is_first table waiting [] n q later rising head = absurd (ready_among table
 head_is_first table waiting (k ∷ ks) n q later rising head =
     let first : IsStanding table.jobs table.clock k = q.stands.0 in
     let key_is : k ≡ due_key k.number first.job = λ i. record { due = first.due_is i; number = k.number } in
-    let before : goes_before k.number first.job n head.head ≡ false = head.first k.number first.job first.is_at (ready_by table.clock first.job first.released first.open_is) in
+    let before : goes_before k.number first.job n head.head ≡ false = head.first k.number first.job first.is_at (ready_by table.clock first.job first.released first.pending_is) in
     record {
       first = k;
       rest = ks;
@@ -103,7 +103,7 @@ one_head table m n first second =
 -- a head stays the head where its work goes on
 pub head_goes_on : (table : Table) (n : ℕ) (change : JobRecord → JobRecord) → IsQuiet change → IsHead table n → IsHead (record table { jobs = changed_at table.jobs n change }) n
 head_goes_on table n change quiet head =
-    let ready_same : (job : JobRecord) → is_ready table.clock (change job) ≡ is_ready table.clock job = λ job. ap (λ r. nat_le r table.clock && is_open (change job).stage) (quiet.release_is job) ∙ ap (λ s. nat_le job.release table.clock && is_open s) (quiet.stage_is job) in
+    let ready_same : (job : JobRecord) → is_ready table.clock (change job) ≡ is_ready table.clock job = λ job. ap (λ r. nat_le r table.clock && is_pending (change job).stage) (quiet.release_is job) ∙ ap (λ s. nat_le job.release table.clock && is_pending s) (quiet.stage_is job) in
     let key_same : (m : ℕ) (job : JobRecord) → due_key m (change job) ≡ due_key m job = λ m job i. record { due = quiet.due_is job i; number = m } in
     record {
       head = change head.head;

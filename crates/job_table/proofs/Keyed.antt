@@ -1,4 +1,4 @@
--- The queues keep the keys of the open jobs.
+-- The queues keep the keys of the pending jobs.
 use Rattle.std.proofs.Common.{◌≡◌, ◌≢◌, ℕ, zero, suc, ◌<◌, ◌≤◌, true, false, refl, sym, ap, ◌∙◌, arith, List, [], ◌∷◌, ◌++◌, length, slice_get, Some, Contains, ◌⊎◌, inl, inr}
 use Rattle.std.specs.List.{AllByRecursion}
 use Rattle.std.proofs.lemmas.Option.{slice_get_within}
@@ -7,7 +7,7 @@ use Rattle.due_queue.specs.declared.keys.WaitKey.{WaitKey}
 use Rattle.due_queue.specs.Queue.{inserted, IsRising}
 use Rattle.due_queue.specs.Keys.{is_due_before, is_released_before}
 use Rattle.due_queue.proofs.Inserted.{every, every-inserted}
-use Rattle.job_table.specs.Jobs.{JobRecord, is_open}
+use Rattle.job_table.specs.Jobs.{JobRecord, is_pending}
 use Rattle.job_table.specs.Table.{changed_at}
 use Rattle.job_table.specs.Order.{due_key}
 use Rattle.job_table.specs.Queued.{IsWaiting, IsStanding, AreQueued, AreLater, release_key}
@@ -18,10 +18,10 @@ use Rattle.job_table.proofs.Orders.{later_release, not_before_same, not_due_befo
 -- a key stays in order where its job stands in another list
 
 pub moved_wait : (jobs other : List JobRecord) (k : WaitKey) (h : IsWaiting jobs k) → slice_get other k.number ≡ Some h.job → IsWaiting other k
-moved_wait jobs other k h is_at = record { job = h.job; is_at = is_at; open_is = h.open_is; release_is = h.release_is }
+moved_wait jobs other k h is_at = record { job = h.job; is_at = is_at; pending_is = h.pending_is; release_is = h.release_is }
 
 pub moved_stand : (jobs other : List JobRecord) (clock : ℕ) (k : Key) (h : IsStanding jobs clock k) → slice_get other k.number ≡ Some h.job → IsStanding other clock k
-moved_stand jobs other clock k h is_at = record { job = h.job; is_at = is_at; open_is = h.open_is; due_is = h.due_is; released = h.released }
+moved_stand jobs other clock k h is_at = record { job = h.job; is_at = is_at; pending_is = h.pending_is; due_is = h.due_is; released = h.released }
 
 -- Time passes
 
@@ -29,7 +29,7 @@ pub stand_on : (jobs : List JobRecord) (clock now : ℕ) (waiting : List WaitKey
 stand_on jobs clock now waiting ready le q = record {
   waits = q.waits;
   stands = every (IsStanding jobs clock) (IsStanding jobs now)
-      (λ k s. record { job = s.job; is_at = s.is_at; open_is = s.open_is; due_is = s.due_is; released = let h : s.job.release ≤ clock = s.released in omega arith })
+      (λ k s. record { job = s.job; is_at = s.is_at; pending_is = s.pending_is; due_is = s.due_is; released = let h : s.job.release ≤ clock = s.released in omega arith })
       ready q.stands;
   each = q.each;
   apart = q.apart;
@@ -68,10 +68,10 @@ release_one jobs now w ws ready due le due_is rising q =
     record {
       waits = q.waits.1;
       stands = every-inserted is_due_before (IsStanding jobs now) key ready
-          (record { job = here.job; is_at = here.is_at; open_is = here.open_is; due_is = same_due; released = let e = here.release_is in omega arith })
+          (record { job = here.job; is_at = here.is_at; pending_is = here.pending_is; due_is = same_due; released = let e = here.release_is in omega arith })
           q.stands;
-      each = λ n job at_n open_n.
-          elim (q.each n job at_n open_n) [
+      each = λ n job at_n pending_n.
+          elim (q.each n job at_n pending_n) [
             | inl (inl e) ↦
                 let number_is : w.number ≡ n = ap (λ (v : WaitKey). v.number) e in
                 let job_is : here.job ≡ job = same_at w.number n jobs here.job job number_is here.is_at at_n in
@@ -115,18 +115,18 @@ stands_on jobs job clock ready all =
 
 -- into the wait list
 pub enter_waiting : (jobs : List JobRecord) (job : JobRecord) (clock : ℕ) (waiting : List WaitKey) (ready : List Key)
-    → is_open job.stage ≡ true
+    → is_pending job.stage ≡ true
     → AreQueued jobs clock waiting ready
     → AreQueued (jobs ++ job ∷ []) clock (inserted is_released_before (release_key (length jobs) job) waiting) ready
-enter_waiting jobs job clock waiting ready open_job q =
+enter_waiting jobs job clock waiting ready pending_job q =
     let key : WaitKey = release_key (length jobs) job in
     record {
       waits = every-inserted is_released_before (IsWaiting (jobs ++ job ∷ [])) key waiting
-          (record { job = job; is_at = push_here jobs job; open_is = open_job; release_is = refl }) (waits_on jobs job waiting q.waits);
+          (record { job = job; is_at = push_here jobs job; pending_is = pending_job; release_is = refl }) (waits_on jobs job waiting q.waits);
       stands = stands_on jobs job clock ready q.stands;
-      each = λ n other at_n open_n.
+      each = λ n other at_n pending_n.
           elim (push_cases jobs job n other at_n) [
-            | inl h ↦ elim (q.each n other h open_n) [
+            | inl h ↦ elim (q.each n other h pending_n) [
               | inl g ↦ inl (inserted_keeps is_released_before key (release_key n other) waiting g)
               | inr g ↦ inr g
             ]
@@ -141,18 +141,18 @@ enter_waiting jobs job clock waiting ready open_job q =
 
 -- among the released ones
 pub enter_ready : (jobs : List JobRecord) (job : JobRecord) (clock : ℕ) (waiting : List WaitKey) (ready : List Key)
-    → is_open job.stage ≡ true → job.release ≤ clock
+    → is_pending job.stage ≡ true → job.release ≤ clock
     → AreQueued jobs clock waiting ready
     → AreQueued (jobs ++ job ∷ []) clock waiting (inserted is_due_before (due_key (length jobs) job) ready)
-enter_ready jobs job clock waiting ready open_job le q =
+enter_ready jobs job clock waiting ready pending_job le q =
     let key : Key = due_key (length jobs) job in
     record {
       waits = waits_on jobs job waiting q.waits;
       stands = every-inserted is_due_before (IsStanding (jobs ++ job ∷ []) clock) key ready
-          (record { job = job; is_at = push_here jobs job; open_is = open_job; due_is = refl; released = le }) (stands_on jobs job clock ready q.stands);
-      each = λ n other at_n open_n.
+          (record { job = job; is_at = push_here jobs job; pending_is = pending_job; due_is = refl; released = le }) (stands_on jobs job clock ready q.stands);
+      each = λ n other at_n pending_n.
           elim (push_cases jobs job n other at_n) [
-            | inl h ↦ elim (q.each n other h open_n) [
+            | inl h ↦ elim (q.each n other h pending_n) [
               | inl g ↦ inl g
               | inr g ↦ inr (inserted_keeps is_due_before key (due_key n other) ready g)
             ]
@@ -208,23 +208,23 @@ quiet_queues jobs n change clock waiting ready quiet q = record {
   waits = every (IsWaiting jobs) (IsWaiting (changed_at jobs n change))
       (λ k h. elim (changed_image jobs n change k.number h.job h.is_at) [
         | inl g ↦ moved_wait jobs (changed_at jobs n change) k h g.1
-        | inr g ↦ record { job = change h.job; is_at = g.1; open_is = ap is_open (quiet.stage_is h.job) ∙ h.open_is; release_is = h.release_is ∙ sym (quiet.release_is h.job) }
+        | inr g ↦ record { job = change h.job; is_at = g.1; pending_is = ap is_pending (quiet.stage_is h.job) ∙ h.pending_is; release_is = h.release_is ∙ sym (quiet.release_is h.job) }
       ]) waiting q.waits;
   stands = every (IsStanding jobs clock) (IsStanding (changed_at jobs n change) clock)
       (λ k h. elim (changed_image jobs n change k.number h.job h.is_at) [
         | inl g ↦ moved_stand jobs (changed_at jobs n change) clock k h g.1
-        | inr g ↦ record { job = change h.job; is_at = g.1; open_is = ap is_open (quiet.stage_is h.job) ∙ h.open_is; due_is = h.due_is ∙ sym (quiet.due_is h.job); released = rw (quiet.release_is h.job) h.released }
+        | inr g ↦ record { job = change h.job; is_at = g.1; pending_is = ap is_pending (quiet.stage_is h.job) ∙ h.pending_is; due_is = h.due_is ∙ sym (quiet.due_is h.job); released = rw (quiet.release_is h.job) h.released }
       ]) ready q.stands;
-  each = λ m other at_m open_m.
+  each = λ m other at_m pending_m.
       elim (changed_cases jobs n change m other at_m) [
-        | inl h ↦ q.each m other h.1 open_m
+        | inl h ↦ q.each m other h.1 pending_m
         | inr h ↦
             let job : JobRecord = h.1.0 in
             let is : change job ≡ other = h.1.2 in
-            let open_job : is_open job.stage ≡ true = ap is_open (sym (quiet.stage_is job) ∙ ap (λ j. j.stage) is) ∙ open_m in
+            let pending_job : is_pending job.stage ≡ true = ap is_pending (sym (quiet.stage_is job) ∙ ap (λ j. j.stage) is) ∙ pending_m in
             let release_same : release_key m job ≡ release_key m other = λ i. record { release = (sym (quiet.release_is job) ∙ ap (λ j. j.release) is) i; number = m } in
             let due_same : due_key m job ≡ due_key m other = λ i. record { due = (sym (quiet.due_is job) ∙ ap (λ j. j.due) is) i; number = m } in
-            rw (sym release_same, sym due_same) (q.each m job h.1.1 open_job)
+            rw (sym release_same, sym due_same) (q.each m job h.1.1 pending_job)
       ];
   apart = q.apart;
 }
@@ -233,7 +233,7 @@ quiet_queues jobs n change clock waiting ready quiet q = record {
 
 pub end_first : (jobs : List JobRecord) (n : ℕ) (change : JobRecord → JobRecord) (clock : ℕ) (waiting : List WaitKey) (k : Key) (ks : List Key)
     → k.number ≡ n
-    → ((job : JobRecord) → is_open (change job).stage ≡ false)
+    → ((job : JobRecord) → is_pending (change job).stage ≡ false)
     → IsRising is_due_before (k ∷ ks)
     → AreQueued jobs clock waiting (k ∷ ks)
     → AreQueued (changed_at jobs n change) clock waiting ks
@@ -252,14 +252,14 @@ end_first jobs n change clock waiting k ks number_is over rising q =
           (λ w other h. moved_wait jobs (changed_at jobs n change) w h (changed_elsewhere jobs n change w.number other ∙ h.is_at)) waiting wait_else q.waits;
       stands = both (λ (l : Key). l.number ≢ n) (IsStanding jobs clock) (IsStanding (changed_at jobs n change) clock)
           (λ l other h. moved_stand jobs (changed_at jobs n change) clock l h (changed_elsewhere jobs n change l.number other ∙ h.is_at)) ks stand_else q.stands.1;
-      each = λ m other at_m open_m.
+      each = λ m other at_m pending_m.
           elim (changed_cases jobs n change m other at_m) [
-            | inl h ↦ elim (q.each m other h.1 open_m) [
+            | inl h ↦ elim (q.each m other h.1 pending_m) [
               | inl g ↦ inl g
               | inr (inl e) ↦ absurd (h.0 (sym (ap (λ (l : Key). l.number) e) ∙ number_is))
               | inr (inr g) ↦ inr g
             ]
-            | inr h ↦ absurd (let e : is_open other.stage ≡ false = ap (λ j. is_open j.stage) (sym h.1.2) ∙ over h.1.0 in cc)
+            | inr h ↦ absurd (let e : is_pending other.stage ≡ false = ap (λ j. is_pending j.stage) (sym h.1.2) ∙ over h.1.0 in cc)
           ];
       apart = every (λ (w : WaitKey). AllByRecursion (λ (l : Key). w.number ≢ l.number) (k ∷ ks)) (λ (w : WaitKey). AllByRecursion (λ (l : Key). w.number ≢ l.number) ks) (λ w h. h.1) waiting q.apart;
     }

@@ -13,7 +13,7 @@ use Rattle.due_queue.specs.Keys.{is_due_before, is_released_before}
 use Rattle.due_queue.proofs.Inserted.{every-inserted, length-inserted}
 use Rattle.job_table.specs.declared.stages.Stage.{Stage}
 use Rattle.job_table.specs.declared.stages.Stage.TheVariants as stages
-use Rattle.job_table.specs.Jobs.{JobRecord, is_open, is_done, with_stage, carried, with_read}
+use Rattle.job_table.specs.Jobs.{JobRecord, is_pending, is_done, with_stage, carried, with_read}
 use Rattle.job_table.specs.Table.{Table, changed_at, is_collection_of, is_collecting}
 use Rattle.job_table.specs.Order.{due_key, IsHead}
 use Rattle.job_table.specs.Queued.{Lines, AreQueued, AreLater, release_key}
@@ -21,13 +21,13 @@ use Rattle.job_table.specs.Worst.{IsWorst, NothingDone, IsDoneAt}
 use Rattle.job_table.specs.Kept.{unmarked, IsRunning, IsSound}
 use Rattle.job_table.proofs.Changed.{length-changed_at, changed_here, one_if, count_by-changed_at, list_any-none, list_any-some, push_cases, same_at}
 use Rattle.job_table.proofs.Keyed.{IsQuiet, changed_cases, quiet_queues, end_first, enter_waiting, enter_ready}
-use Rattle.job_table.proofs.Heads.{BeginsWith, head_is_first, ready_open}
+use Rattle.job_table.proofs.Heads.{BeginsWith, head_is_first, ready_pending}
 use Rattle.job_table.proofs.Worsts.{undone_worst, pushed_worst}
 
-pub open_undone : (s : Stage) → is_open s ≡ true → is_done s ≡ false
-open_undone stages.Open h = refl
-open_undone (stages.Done completion given) h = absurd cc
-open_undone (stages.Waived given) h = refl
+pub pending_undone : (s : Stage) → is_pending s ≡ true → is_done s ≡ false
+pending_undone stages.Pending h = refl
+pending_undone (stages.Done completion given) h = absurd cc
+pending_undone (stages.Waived given) h = refl
 
 -- Marks
 
@@ -66,9 +66,9 @@ pub carried_quiet : IsQuiet carried
 carried_quiet = record { stage_is = λ job. refl; release_is = λ job. refl; due_is = λ job. refl; collects_is = λ job. refl; task_is = λ job. refl }
 
 pub quiet_sound : (jobs : List JobRecord) (n : ℕ) (change : JobRecord → JobRecord) (job : JobRecord) (clock : ℕ) (ended : Bool) (collecting : List Bool) (lines : Lines) (worst : Option ℕ)
-    → IsQuiet change → slice_get jobs n ≡ Some job → is_open job.stage ≡ true
+    → IsQuiet change → slice_get jobs n ≡ Some job → is_pending job.stage ≡ true
     → IsSound jobs clock ended collecting lines worst → IsSound (changed_at jobs n change) clock ended collecting lines worst
-quiet_sound jobs n change job clock ended collecting lines worst quiet at_n open_n sound =
+quiet_sound jobs n change job clock ended collecting lines worst quiet at_n pending_n sound =
     let len = length-changed_at jobs n change in
     let few = sound.few in
     record {
@@ -96,7 +96,7 @@ quiet_sound jobs n change job clock ended collecting lines worst quiet at_n open
       worst_is = undone_worst jobs n change worst
           (λ other at_other.
           let e : job ≡ other = same_at n n jobs job other refl at_n at_other in
-          let undone : is_done other.stage ≡ false = open_undone other.stage (ap (λ j. is_open j.stage) (sym e) ∙ open_n) in
+          let undone : is_done other.stage ≡ false = pending_undone other.stage (ap (λ j. is_pending j.stage) (sym e) ∙ pending_n) in
           (undone, ap is_done (quiet.stage_is other) ∙ undone))
           sound.worst_is;
     }
@@ -111,20 +111,20 @@ length-unmarked (Some job) collecting = by job.collects
     by true = length-set collecting job.task false
     by false = refl
 
--- the marks count the open collections, of which one is over
-over_marks : (jobs : List JobRecord) (n : ℕ) (s : Stage) (job : JobRecord) (collecting : List Bool) (task : ℕ) → slice_get jobs n ≡ Some job → is_open job.stage ≡ true → is_open s ≡ false
+-- the marks count the pending collections, of which one is over
+over_marks : (jobs : List JobRecord) (n : ℕ) (s : Stage) (job : JobRecord) (collecting : List Bool) (task : ℕ) → slice_get jobs n ≡ Some job → is_pending job.stage ≡ true → is_pending s ≡ false
     → task < length collecting → count_by (is_collection_of task) jobs ≡ (if get_or collecting task false then 1 else 0)
     → (collects : Bool) → job.collects ≡ collects
     → count_by (is_collection_of task) (changed_at jobs n (with_stage s)) ≡ (if get_or (if collects then set collecting job.task false else collecting) task false then 1 else 0)
-over_marks jobs n s job collecting task at_n open_n over lt was false is =
+over_marks jobs n s job collecting task at_n pending_n over lt was false is =
     let p = is_collection_of task in
-    let before : one_if p job ≡ 0 = ap (λ b. cond (b && (job.task == task) && is_open job.stage) 1 0) is in
-    let after : one_if p (with_stage s job) ≡ 0 = ap (λ b. cond (b && (job.task == task) && is_open s) 1 0) is in
+    let before : one_if p job ≡ 0 = ap (λ b. cond (b && (job.task == task) && is_pending job.stage) 1 0) is in
+    let after : one_if p (with_stage s job) ≡ 0 = ap (λ b. cond (b && (job.task == task) && is_pending s) 1 0) is in
     let count = count_by-changed_at p jobs n (with_stage s) job at_n in
     omega arith
-over_marks jobs n s job collecting task at_n open_n over lt was true is =
+over_marks jobs n s job collecting task at_n pending_n over lt was true is =
     let p = is_collection_of task in
-    let before : one_if p job ≡ one_of (job.task == task) = rw (is, open_n) (both_true (job.task == task)) in
+    let before : one_if p job ≡ one_of (job.task == task) = rw (is, pending_n) (both_true (job.task == task)) in
     let after : one_if p (with_stage s job) ≡ 0 = rw (is, over) (none_true (job.task == task)) in
     let count = count_by-changed_at p jobs n (with_stage s) job at_n in
     elim (cases_eq task job.task) [
@@ -140,7 +140,7 @@ over_marks jobs n s job collecting task at_n open_n over lt was true is =
     ]
 
 pub over_running : (table : Table) (n : ℕ) (s : Stage) (collecting : List Bool) (waiting : List WaitKey) (ready : List Key)
-    → IsHead table n → is_open s ≡ false → IsRising is_due_before ready
+    → IsHead table n → is_pending s ≡ false → IsRising is_due_before ready
     → IsRunning table.jobs table.clock collecting waiting ready
     → IsRunning (changed_at table.jobs n (with_stage s)) table.clock (unmarked (slice_get table.jobs n) collecting) waiting (rest_of ready)
 over_running table n s collecting waiting ready head over rising r =
@@ -164,12 +164,12 @@ over_running table n s collecting waiting ready head over rising r =
           ]);
       marks = λ task lt.
           let lt' : task < length collecting = rw marks_len at lt in
-          rw head.is_at (over_marks table.jobs n s head.head collecting task head.is_at (ready_open table.clock head.head head.ready) over lt' (r.marks task lt') head.head.collects refl);
+          rw head.is_at (over_marks table.jobs n s head.head collecting task head.is_at (ready_pending table.clock head.head head.ready) over lt' (r.marks task lt') head.head.collects refl);
     }
 
 -- everything but who is worst
 pub over_sound : (table : Table) (n : ℕ) (s : Stage) (ended : Bool) (collecting : List Bool) (lines lines' : Lines) (worst worst' : Option ℕ)
-    → ended ≡ false → IsHead table n → is_open s ≡ false → IsRising is_due_before lines.ready
+    → ended ≡ false → IsHead table n → is_pending s ≡ false → IsRising is_due_before lines.ready
     → lines'.waiting ≡ lines.waiting → lines'.ready ≡ rest_of lines.ready
     → IsSound table.jobs table.clock ended collecting lines worst
     → MatchOption worst' (NothingDone (changed_at table.jobs n (with_stage s))) (IsWorst (changed_at table.jobs n (with_stage s)))
@@ -184,7 +184,7 @@ over_sound table n s ended collecting lines lines' worst worst' runs head over r
 pub head_undone : (table : Table) (n : ℕ) → IsHead table n → (job : JobRecord) → slice_get table.jobs n ≡ Some job → is_done job.stage ≡ false
 head_undone table n head job at_n =
     let e : head.head ≡ job = same_at n n table.jobs head.head job refl head.is_at at_n in
-    open_undone job.stage (ap (λ j. is_open j.stage) (sym e) ∙ ready_open table.clock head.head head.ready)
+    pending_undone job.stage (ap (λ j. is_pending j.stage) (sym e) ∙ ready_pending table.clock head.head head.ready)
 
 -- the head that was done
 pub head_done : (table : Table) (n : ℕ) (s : Stage) → IsHead table n → is_done s ≡ true → IsDoneAt (changed_at table.jobs n (with_stage s)) n
@@ -206,12 +206,12 @@ pub record HasEntered (jobs : List JobRecord) (job : JobRecord) (clock : ℕ) (w
   pub few_wait : length waiting' ≤ suc (length waiting)
 
 pub has_entered : (jobs : List JobRecord) (job : JobRecord) (clock : ℕ) (waiting waiting' : List WaitKey) (ready ready' : List Key)
-    → is_open job.stage ≡ true
+    → is_pending job.stage ≡ true
     → waiting' ≡ (if nat_lt clock job.release then inserted is_released_before (release_key (length jobs) job) waiting else waiting)
     → ready' ≡ (if nat_lt clock job.release then ready else inserted is_due_before (due_key (length jobs) job) ready)
     → AreQueued jobs clock waiting ready → AreLater clock waiting
     → HasEntered jobs job clock waiting waiting' ready ready'
-has_entered jobs job clock waiting waiting' ready ready' open_job waiting_is ready_is q later = by (nat_lt clock job.release) refl waiting_is ready_is
+has_entered jobs job clock waiting waiting' ready ready' pending_job waiting_is ready_is q later = by (nat_lt clock job.release) refl waiting_is ready_is
   where
     by : (b : Bool) → nat_lt clock job.release ≡ b
         → waiting' ≡ (if b then inserted is_released_before (release_key (length jobs) job) waiting else waiting)
@@ -220,14 +220,14 @@ has_entered jobs job clock waiting waiting' ready ready' open_job waiting_is rea
     by true e f g =
         let lt : clock < job.release = grind (arith, nat_tests) in
         rw (f, g) (record {
-          queued = enter_waiting jobs job clock waiting ready open_job q;
+          queued = enter_waiting jobs job clock waiting ready pending_job q;
           later = every-inserted is_released_before (λ (w : WaitKey). clock < w.release) (release_key (length jobs) job) waiting lt later;
           few_wait = let len = length-inserted is_released_before (release_key (length jobs) job) waiting in omega arith;
         })
     by false e f g =
         let le : job.release ≤ clock = grind (arith, nat_tests) in
         rw (f, g) (record {
-          queued = enter_ready jobs job clock waiting ready open_job le q;
+          queued = enter_ready jobs job clock waiting ready pending_job le q;
           later = later;
           few_wait = omega arith;
         })
@@ -237,10 +237,10 @@ count_push p jobs job = sum_by_push (one_if p) jobs job
 
 -- a job that has not begun
 pub job_sound : (jobs : List JobRecord) (job : JobRecord) (clock : ℕ) (ended : Bool) (collecting : List Bool) (lines lines' : Lines) (worst : Option ℕ)
-    → length jobs < MAX_JOBS → job.stage ≡ stages.Open → job.collects ≡ false
+    → length jobs < MAX_JOBS → job.stage ≡ stages.Pending → job.collects ≡ false
     → (ended ≡ false → HasEntered jobs job clock lines.waiting lines'.waiting lines.ready lines'.ready)
     → IsSound jobs clock ended collecting lines worst → IsSound (jobs ++ job ∷ []) clock ended collecting lines' worst
-job_sound jobs job clock ended collecting lines lines' worst few open_is collects_not entered sound =
+job_sound jobs job clock ended collecting lines lines' worst few pending_is collects_not entered sound =
     let len = length-append jobs (job ∷ []) in
     record {
       few = omega arith;
@@ -255,21 +255,21 @@ job_sound jobs job clock ended collecting lines lines' worst few open_is collect
             ];
         marks = λ task lt.
             let p = is_collection_of task in
-            let none : one_if p job ≡ 0 = ap (λ b. cond (b && (job.task == task) && is_open job.stage) 1 0) collects_not in
+            let none : one_if p job ≡ 0 = ap (λ b. cond (b && (job.task == task) && is_pending job.stage) 1 0) collects_not in
             let count = count_push p jobs job in
             let was = r.marks task lt in
             omega arith;
       };
-      worst_is = pushed_worst jobs job worst (ap is_done open_is) sound.worst_is;
+      worst_is = pushed_worst jobs job worst (ap is_done pending_is) sound.worst_is;
     }
 
 -- a collection for a task that has none
 pub collection_sound : (jobs : List JobRecord) (job : JobRecord) (clock : ℕ) (ended : Bool) (collecting : List Bool) (lines lines' : Lines) (worst : Option ℕ)
-    → ended ≡ false → length jobs < MAX_JOBS → job.stage ≡ stages.Open → job.collects ≡ true
+    → ended ≡ false → length jobs < MAX_JOBS → job.stage ≡ stages.Pending → job.collects ≡ true
     → job.task < length collecting → is_collecting jobs job.task ≡ false
     → HasEntered jobs job clock lines.waiting lines'.waiting lines.ready lines'.ready
     → IsSound jobs clock ended collecting lines worst → IsSound (jobs ++ job ∷ []) clock ended (set collecting job.task true) lines' worst
-collection_sound jobs job clock ended collecting lines lines' worst runs few open_is collects_it in_range single h sound =
+collection_sound jobs job clock ended collecting lines lines' worst runs few pending_is collects_it in_range single h sound =
     let r = sound.running runs in
     let len = length-append jobs (job ∷ []) in
     let marks_len = length-set collecting job.task true in
@@ -287,7 +287,7 @@ collection_sound jobs job clock ended collecting lines lines' worst runs few ope
         marks = λ task lt.
             let p = is_collection_of task in
             let lt' : task < length collecting = rw marks_len at lt in
-            let one : one_if p job ≡ one_of (job.task == task) = rw (collects_it, open_is) (both_true (job.task == task)) in
+            let one : one_if p job ≡ one_of (job.task == task) = rw (collects_it, pending_is) (both_true (job.task == task)) in
             let count = count_push p jobs job in
             let was = r.marks task lt' in
             elim (cases_eq task job.task) [
@@ -303,5 +303,5 @@ collection_sound jobs job clock ended collecting lines lines' worst runs few ope
                   rw read (omega arith)
             ];
       };
-      worst_is = pushed_worst jobs job worst (ap is_done open_is) sound.worst_is;
+      worst_is = pushed_worst jobs job worst (ap is_done pending_is) sound.worst_is;
     }

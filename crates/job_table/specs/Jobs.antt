@@ -4,7 +4,7 @@ use Rattle.slot_types.specs.declared.events.Op.{Op}
 use Rattle.slot_types.specs.declared.events.Op.TheVariants.{Read, Write}
 use Rattle.slot_types.specs.declared.pages.PageData.{PageData}
 use Rattle.job_table.specs.declared.stages.Stage.{Stage}
-use Rattle.job_table.specs.declared.stages.Stage.TheVariants.{Open, Done, Waived}
+use Rattle.job_table.specs.declared.stages.Stage.TheVariants.{Pending, Done, Waived}
 
 -- what it was accepted with, how many slots it took so far, what its reads gave, and how it stands
 pub record JobRecord : Type 0 where
@@ -18,24 +18,24 @@ pub record JobRecord : Type 0 where
   pub stage : Stage
 
 -- neither done nor waived
-abbrev pub is_open : Stage → Bool
-is_open Open = true
-is_open (Done completion given) = false
-is_open (Waived given) = false
+abbrev pub is_pending : Stage → Bool
+is_pending Pending = true
+is_pending (Done completion given) = false
+is_pending (Waived given) = false
 
 abbrev pub is_done : Stage → Bool
-is_done Open = false
+is_done Pending = false
 is_done (Done completion given) = true
 is_done (Waived given) = false
 
 abbrev pub is_waived : Stage → Bool
-is_waived Open = false
+is_waived Pending = false
 is_waived (Done completion given) = false
 is_waived (Waived given) = true
 
 -- 1 + the slot in which it was done, or 0 if it isn't done
 abbrev pub completion_in : Stage → ℕ
-completion_in Open = 0
+completion_in Pending = 0
 completion_in (Done completion given) = completion
 completion_in (Waived given) = 0
 
@@ -63,12 +63,12 @@ pub record HasRoom (ops : List Op) (work len capacity : ℕ) : Type 0 where
 -- a job that has not begun
 abbrev pub new_job : ℕ → ℕ → ℕ → List Op → JobRecord
 new_job task release due ops =
-    record { collects = false; task = task; release = release; due = due; ops = ops; work = 0; reads = []; stage = Open }
+    record { collects = false; task = task; release = release; due = due; ops = ops; work = 0; reads = []; stage = Pending }
 
 -- a collection that has not begun
 abbrev pub new_collection : ℕ → ℕ → ℕ → JobRecord
 new_collection task release due =
-    record { collects = true; task = task; release = release; due = due; ops = []; work = 0; reads = []; stage = Open }
+    record { collects = true; task = task; release = release; due = due; ops = []; work = 0; reads = []; stage = Pending }
 
 -- it took one more slot
 abbrev pub carried : JobRecord → JobRecord

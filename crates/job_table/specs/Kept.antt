@@ -17,7 +17,7 @@ abbrev pub unmarked : Option JobRecord → List Bool → List Bool
 unmarked None marks = marks
 unmarked (Some job) marks = if job.collects then slice_set marks job.task false else marks
 
--- while the die runs, the keys are those of the open jobs, and a task is marked where it has an open collection, of
+-- while the die runs, the keys are those of the pending jobs, and a task is marked where it has a pending collection, of
 -- which it has one at most
 pub record IsRunning (jobs : List JobRecord) (clock : ℕ) (collecting : List Bool) (waiting : List WaitKey) (ready : List Key) : Type 0 where
   pub queued : AreQueued jobs clock waiting ready

@@ -2,12 +2,12 @@
 use Rattle.std.specs.Prelude.{◌≡◌, ℕ, ◌&&◌, nat_le, Bool, true, false, Some, slice_get}
 use Rattle.due_queue.specs.declared.keys.Key.{Key}
 use Rattle.due_queue.specs.Keys.{is_due_before}
-use Rattle.job_table.specs.Jobs.{JobRecord, is_open}
+use Rattle.job_table.specs.Jobs.{JobRecord, is_pending}
 use Rattle.job_table.specs.Table.{Table}
 
 -- released by this slot, and neither done nor waived
 abbrev pub is_ready : ℕ → JobRecord → Bool
-is_ready clock job = nat_le job.release clock && is_open job.stage
+is_ready clock job = nat_le job.release clock && is_pending job.stage
 
 -- the key of a job by its number: due, then number
 abbrev pub due_key : ℕ → JobRecord → Key

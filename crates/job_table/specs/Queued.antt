@@ -5,7 +5,7 @@ use Rattle.due_queue.specs.declared.keys.Key.{Key}
 use Rattle.due_queue.specs.declared.keys.WaitKey.{WaitKey}
 use Rattle.due_queue.specs.Queue.{IsRising}
 use Rattle.due_queue.specs.Keys.{is_due_before, is_released_before}
-use Rattle.job_table.specs.Jobs.{JobRecord, is_open}
+use Rattle.job_table.specs.Jobs.{JobRecord, is_pending}
 use Rattle.job_table.specs.Order.{due_key}
 
 -- the keys in the two queues, and for how many more jobs there is room
@@ -28,26 +28,26 @@ IsAmong key (k ∷ ks) = (k ≡ key) ⊎ IsAmong key ks
 abbrev pub release_key : ℕ → JobRecord → WaitKey
 release_key number job = record { release = job.release; number = number }
 
--- a key of an open job
+-- a key of a pending job
 pub record IsWaiting (jobs : List JobRecord) (key : WaitKey) : Type 0 where
   pub job : JobRecord
   pub is_at : slice_get jobs key.number ≡ Some job
-  pub open_is : is_open job.stage ≡ true
+  pub pending_is : is_pending job.stage ≡ true
   pub release_is : key.release ≡ job.release
 
--- a key of an open job that is released by this slot
+-- a key of a pending job that is released by this slot
 pub record IsStanding (jobs : List JobRecord) (clock : ℕ) (key : Key) : Type 0 where
   pub job : JobRecord
   pub is_at : slice_get jobs key.number ≡ Some job
-  pub open_is : is_open job.stage ≡ true
+  pub pending_is : is_pending job.stage ≡ true
   pub due_is : key.due ≡ job.due
   pub released : job.release ≤ clock
 
--- the keys are those of the open jobs, each in one of the queues
+-- the keys are those of the pending jobs, each in one of the queues
 pub record AreQueued (jobs : List JobRecord) (clock : ℕ) (waiting : List WaitKey) (ready : List Key) : Type 0 where
   pub waits : AllByRecursion (IsWaiting jobs) waiting
   pub stands : AllByRecursion (IsStanding jobs clock) ready
-  pub each : (n : ℕ) (job : JobRecord) → slice_get jobs n ≡ Some job → is_open job.stage ≡ true → IsAmong (release_key n job) waiting ⊎ IsAmong (due_key n job) ready
+  pub each : (n : ℕ) (job : JobRecord) → slice_get jobs n ≡ Some job → is_pending job.stage ≡ true → IsAmong (release_key n job) waiting ⊎ IsAmong (due_key n job) ready
   pub apart : AllByRecursion (λ (w : WaitKey). AllByRecursion (λ (k : Key). w.number ≢ k.number) ready) waiting
 
 -- those that wait are released after this slot

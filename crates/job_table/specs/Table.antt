@@ -1,7 +1,7 @@
 -- The jobs and collections of a die by number, and what happens to them.
 use Rattle.std.specs.Prelude.{ℕ, zero, suc, ◌&&◌, ◌==◌, Bool, false, List, [], ◌∷◌, ◌++◌, Option, Some, None, slice_get}
 use Rattle.std.specs.List.{list_any}
-use Rattle.job_table.specs.Jobs.{JobRecord, is_open, reads_next}
+use Rattle.job_table.specs.Jobs.{JobRecord, is_pending, reads_next}
 
 -- how many tasks there are, the slot up to which releases were looked at, whether the die has stopped, and the jobs and
 -- collections by number
@@ -45,7 +45,7 @@ reads_next_at jobs number = reads_next_of (slice_get jobs number)
 
 -- a collection for this task that is neither done nor waived
 abbrev pub is_collection_of : ℕ → JobRecord → Bool
-is_collection_of task job = job.collects && (job.task == task) && is_open job.stage
+is_collection_of task job = job.collects && (job.task == task) && is_pending job.stage
 
 -- the task has one
 abbrev pub is_collecting : List JobRecord → ℕ → Bool

@@ -15,25 +15,25 @@ abbrev pub waived_in : List JobRecord → List Waived → List JobRecord
 waived_in jobs [] = jobs
 waived_in jobs (w ∷ ws) = waived_in (after_waiver jobs w) ws
 
--- the job of this number is there, and open
-pub record IsOpenAt (jobs : List JobRecord) (number : ℕ) : Type 0 where
+-- the job of this number is there, and pending
+pub record IsPendingAt (jobs : List JobRecord) (number : ℕ) : Type 0 where
   pub job : JobRecord
   pub is_at : slice_get jobs number ≡ Some job
-  pub open_is : job.stage ≡ stages.Open
+  pub pending_is : job.stage ≡ stages.Pending
 
--- each of these was open when it was waived
-abbrev pub WereOpen : List JobRecord → List Waived → Type 0
-WereOpen jobs [] = Unit {0}
-WereOpen jobs (w ∷ ws) = IsOpenAt jobs w.number × WereOpen (after_waiver jobs w) ws
+-- each of these was pending when it was waived
+abbrev pub WerePending : List JobRecord → List Waived → Type 0
+WerePending jobs [] = Unit {0}
+WerePending jobs (w ∷ ws) = IsPendingAt jobs w.number × WerePending (after_waiver jobs w) ws
 
 -- the jobs with a waiver taken back
 abbrev pub without_waiver : List JobRecord → Waived → List JobRecord
-without_waiver jobs w = changed_at jobs w.number (with_stage stages.Open)
+without_waiver jobs w = changed_at jobs w.number (with_stage stages.Pending)
 
 -- the jobs with these waivers taken back
-abbrev pub reopened : List JobRecord → List Waived → List JobRecord
-reopened jobs [] = jobs
-reopened jobs (w ∷ ws) = reopened (without_waiver jobs w) ws
+abbrev pub without_waivers : List JobRecord → List Waived → List JobRecord
+without_waivers jobs [] = jobs
+without_waivers jobs (w ∷ ws) = without_waivers (without_waiver jobs w) ws
 
 abbrev pub is_waived_one : Option JobRecord → Bool
 is_waived_one None = false
@@ -45,4 +45,4 @@ AreWaived jobs waived = AllByRecursion (λ w. is_waived_one (slice_get jobs w.nu
 
 -- the die stops, and these waivers are taken back
 abbrev pub stopped : Table → List Waived → Table
-stopped table waived = record table { ended = true; jobs = reopened table.jobs waived }
+stopped table waived = record table { ended = true; jobs = without_waivers table.jobs waived }

@@ -3,7 +3,7 @@
 ghost use Rattle.std.specs.Prelude.{◌≡◌, ◌<◌, ◌∷◌, ◌++◌, [], true, length, slice_get, OnOk, IfOk, OnErr, IfErr};
 ghost use Rattle.job_table.specs.Jobs.{with_stage};
 ghost use Rattle.job_table.specs.Table.{changed_at};
-ghost use Rattle.job_table.specs.Waivers.{AreWaived, reopened};
+ghost use Rattle.job_table.specs.Waivers.{AreWaived, without_waivers};
 ghost use Rattle.job_table.specs.Kept.{AreOfTasks, unmarked};
 
 use crate::jobs::Job;
@@ -25,7 +25,7 @@ pub(crate) fn push_job(jobs: &mut Vec<Job>, job: Job) -> Result<u32, Refusal>
     }
 }
 
-/// A job is over. If it is a collection, its task has no open one any more.
+/// A job is over. If it is a collection, its task has no pending one any more.
 pub(crate) fn end_job(jobs: &mut Vec<Job>, collecting: &mut Vec<bool>, number: JobNo, stage: Stage)
     requires number { number < length jobs.old.items }
     requires tasks { AreOfTasks jobs.old.items (length collecting.old.items) }
@@ -36,7 +36,7 @@ pub(crate) fn end_job(jobs: &mut Vec<Job>, collecting: &mut Vec<bool>, number: J
     put_stage(jobs, number, stage);
 }
 
-/// The task of a collection has no open one any more.
+/// The task of a collection has no pending one any more.
 fn unmark(collecting: &mut Vec<bool>, job: &Job)
     requires { job.now.collects ≡ true → job.now.task < length collecting.old.items }
     ensures { collecting.new.items ≡ unmarked (Some job.now) collecting.old.items }
@@ -47,12 +47,12 @@ fn unmark(collecting: &mut Vec<bool>, job: &Job)
 }
 
 /// Takes waivers back.
-pub(crate) fn reopen(jobs: &mut Vec<Job>, waived: &[Waived])
+pub(crate) fn take_back(jobs: &mut Vec<Job>, waived: &[Waived])
     requires { AreWaived jobs.old.items waived.now }
-    ensures { jobs.new.items ≡ reopened jobs.old.items waived.now }
+    ensures { jobs.new.items ≡ without_waivers jobs.old.items waived.now }
 {
     for w in waived {
-        put_stage(jobs, w.number, Stage::Open);
+        put_stage(jobs, w.number, Stage::Pending);
     }
 }
 

@@ -3,11 +3,11 @@
 ghost use Rattle.std.specs.Prelude.{◌≡◌, ◌<◌, ◌≤◌, ◌+◌, ◌^◌, ◌==◌, List, true, false, length, slice_get, option_copied, OnOk, IfOk, OnErr, IfErr, IfSome, IfNone};
 ghost use Rattle.job_table.specs.Jobs.{JobRecord, new_job, new_collection, carried, with_read, with_stage};
 ghost use Rattle.job_table.specs.Table.{empty_table, with_job, with_change, work_at, reads_next_at, is_collecting};
-ghost use Rattle.job_table.specs.Waivers.{AreWaived, WereOpen, waived_in, stopped};
+ghost use Rattle.job_table.specs.Waivers.{AreWaived, WerePending, waived_in, stopped};
 ghost use Rattle.job_table.specs.Order.{IsHead, NothingReady};
 ghost use Rattle.job_table.specs.Worst.{IsWorst, NothingDone, lateness_at};
 
-use crate::changes::{end_job, push_job, reopen};
+use crate::changes::{end_job, push_job, take_back};
 use crate::jobs::Job;
 use crate::queues::Queues;
 use crate::stages::Stage;
@@ -24,7 +24,7 @@ use std::marker::Model;
 #[derive(Drop)]
 pub struct JobTable {
     jobs: Vec<Job>,
-    /// By task whether it has an open collection.
+    /// By task whether it has a pending collection.
     collecting: Vec<bool>,
     queues: Queues,
     /// The number of the worst job, if one is done.
@@ -150,7 +150,7 @@ impl JobTable {
         Ok(JobNo(number))
     }
 
-    /// Accepts a collection for a task that has no open one, under the next number. There are fewer than `MAX_JOBS`.
+    /// Accepts a collection for a task that has no pending one, under the next number. There are fewer than `MAX_JOBS`.
     /// Refused with `NoMemory`, the table stays as it was.
     pub fn add_collection(
         &mut self,
@@ -259,9 +259,9 @@ impl JobTable {
     pub fn stop(&mut self, waived: &[Waived])
         requires { AreWaived self.old.jobs waived.now }
         ensures stopped { self.new ≡ stopped self.old waived.now }
-        ensures as_before { (jobs : List JobRecord) → WereOpen jobs waived.now → self.old.jobs ≡ waived_in jobs waived.now → self.new.jobs ≡ jobs }
+        ensures as_before { (jobs : List JobRecord) → WerePending jobs waived.now → self.old.jobs ≡ waived_in jobs waived.now → self.new.jobs ≡ jobs }
     {
         self.ended = true;
-        reopen(&mut self.jobs, waived);
+        take_back(&mut self.jobs, waived);
     }
 }

@@ -1,7 +1,7 @@
 //! A job or a collection of a die.
 
 ghost use Rattle.std.specs.Prelude.{◌≡◌, ◌<◌, ◌+◌, ◌^◌, true, false, count_by, slice_get, IfOk};
-ghost use Rattle.job_table.specs.Jobs.{is_read, is_open, reads_next, new_job, new_collection, carried, with_read, with_stage, lateness_of, completion_in};
+ghost use Rattle.job_table.specs.Jobs.{is_read, is_pending, reads_next, new_job, new_collection, carried, with_read, with_stage, lateness_of, completion_in};
 
 use crate::stages::Stage;
 use slot_types::{Op, OpList, PageData, TaskNo};
@@ -53,7 +53,7 @@ impl Job {
             release,
             due,
             work: 0,
-            stage: Stage::Open,
+            stage: Stage::Pending,
             collects: false,
         })
     }
@@ -69,7 +69,7 @@ impl Job {
             release,
             due,
             work: 0,
-            stage: Stage::Open,
+            stage: Stage::Pending,
             collects: true,
         }
     }
@@ -138,10 +138,10 @@ impl Job {
     }
 
     /// Whether it is neither done nor waived.
-    pub fn is_open(&self) -> bool
-        ensures { result ≡ is_open self.now.stage }
+    pub fn is_pending(&self) -> bool
+        ensures { result ≡ is_pending self.now.stage }
     {
-        matches!(self.stage, Stage::Open)
+        matches!(self.stage, Stage::Pending)
     }
 
     /// It took one more slot, which wasn't a read of a job.

@@ -4,7 +4,7 @@
 #[derive(Clone, Copy, PartialEq, Eq, Debug)]
 pub enum Stage {
     /// It is neither done nor waived.
-    Open,
+    Pending,
     /// It is done: `completion` is 1 + its last slot, and `given` counts the pages that a collection gave its task. A
     /// job gives none.
     Done { completion: u32, given: u32 },

@@ -203,7 +203,7 @@ fn waivers_are_taken_back(rt: HostRuntime) -> Result<(), Fail> {
         })
     );
     take_back(&mut table, second);
-    assert_eq!(rt; stages(&table), [waived[0], Some(Stage::Open), None]);
+    assert_eq!(rt; stages(&table), [waived[0], Some(Stage::Pending), None]);
     assert_eq!(rt; table.ended(), true);
     Ok(())
 }
@@ -233,7 +233,7 @@ fn a_job_keeps_what_its_reads_gave(rt: HostRuntime) -> Result<(), Fail> {
         (job.task(), job.release(), job.due(), job.work()),
         (TaskNo(0), 0, 4, 2)
     );
-    assert_eq!(rt; (job.collects(), job.is_open()), (false, false));
+    assert_eq!(rt; (job.collects(), job.is_pending()), (false, false));
     assert_eq!(rt; [job.op(1), job.op(2)], [Some(Op::Read(3)), None]);
     assert_eq!(rt; job.reads(), [BYTES].as_slice());
     Ok(())

@@ -18,9 +18,9 @@ use Rattle.job_table.specs.declared.stages.Stage.TheVariants.{Waived as Gone}
 use Rattle.job_table.specs.Jobs.{JobRecord, with_stage}
 use Rattle.job_table.specs.Table.{Table, changed_at, with_change}
 use Rattle.job_table.specs.Order as table
-use Rattle.job_table.specs.Waivers.{after_waiver as gone_after, waived_in, IsOpenAt, WereOpen}
+use Rattle.job_table.specs.Waivers.{after_waiver as gone_after, waived_in, IsPendingAt, WerePending}
 use Rattle.job_table.proofs.Heads.{one_head}
-use Rattle.job_table.proofs.Waivers.{head_open, waived_push, WereOpen-push}
+use Rattle.job_table.proofs.Waivers.{head_pending, waived_push, WerePending-push}
 use Rattle.die_log.specs.Log.{Log, Job, jobs, job_at, acts, waived, is_waived, work}
 use Rattle.die_log.specs.Work.{is_done, ready, least, victim_of}
 use Rattle.die_log.specs.Accounts.{accounts, after_waiver, after_waivers}
@@ -34,7 +34,7 @@ use Rattle.slot_core.specs.Device.{FlashState, flash_of, page_in, page_held, IsR
 use Rattle.slot_core.specs.Slotted.{unwaived, GoesOn, IsWaivedFlash, IsWaivedTable, IsSlot, InSlot, RunsHead, OthersRun, HasTurn}
 use Rattle.slot_core.specs.Turns.{is_fresh, is_fresh_of, HasWaiverRoom, BeginsFresh, BeginsBy, BeginsAs}
 use Rattle.slot_core.proofs.Choosing.{waiver_of, waives}
-use Rattle.slot_core.proofs.Collections.{own_running, running_open, one_open, others_run, others_begun, runs_none}
+use Rattle.slot_core.proofs.Collections.{own_running, running_pending, one_pending, others_run, others_begun, runs_none}
 use Rattle.slot_core.proofs.Recording.{map_changed}
 use Rattle.slot_core.proofs.Turning.{IsHeadJob, head_job}
 use Rattle.slot_core.proofs.Victims.{victim_is}
@@ -60,7 +60,7 @@ begin_fits blocks_of log present ws t n v r s head at =
       λ fresh.
           let parts = and_parts found.0.collects (work found.0.number log == 0) (sym (fresh_is v.accounts.plan log ws t n found.0 r found.1 at) ∙ fresh) in
           ap (running_of v.running) (sym task_is)
-          ∙ runs_none v.accounts.plan log found.0 v.running found.1.both.1.true_accounts found.1.both.0.numbered found.1.own_at (found.1.open_if parts.0) (eqb-true (work found.0.number log) 0 parts.1) s.running,
+          ∙ runs_none v.accounts.plan log found.0 v.running found.1.both.1.true_accounts found.1.both.0.numbered found.1.own_at (found.1.pending_if parts.0) (eqb-true (work found.0.number log) 0 parts.1) s.running,
     )
 
 -- A waiver
@@ -136,7 +136,7 @@ table_waived plan log ws t n given j k h head = record {
   jobs_are = ap (λ (js : List JobRecord). changed_at js n (with_stage (Gone given))) k.jobs_are
       ∙ (map_changed (record_with plan log (waived log ++ ws)) (record_with plan log ((waived log ++ ws) ++ w ∷ [])) (jobs log) n (with_stage (Gone given)) others here
       ∙ ap (λ (l : List Waived). map (record_with plan log l) (jobs log)) (append_assoc (waived log) ws (w ∷ [])));
-  were_open = WereOpen-push (records plan log) ws w k.were_open (subst (λ (js : List JobRecord). IsOpenAt js n) k.were (head_open t n head));
+  were_pending = WerePending-push (records plan log) ws w k.were_pending (subst (λ (js : List JobRecord). IsPendingAt js n) k.were (head_pending t n head));
   were = ap (λ (js : List JobRecord). gone_after js w) k.were ∙ sym (waived_push (records plan log) ws w);
 }
   where
@@ -144,18 +144,18 @@ table_waived plan log ws t n given j k h head = record {
     w = record { number = n; given = given }
 
     none : waiver_among j.number (waived log ++ ws) ≡ None
-    none = unwaived_open (waiver_among j.number (waived log ++ ws)) refl
+    none = unwaived_pending (waiver_among j.number (waived log ++ ws)) refl
       where
-        not_open : (x : Waived) → waiver_among j.number (waived log ++ ws) ≡ Some x → ⊥
-        not_open x e =
-            let open_one = head_open t n head in
-            let same : open_one.job ≡ record_with plan log (waived log ++ ws) j = same_Some open_one.job (record_with plan log (waived log ++ ws) j) (sym open_one.is_at ∙ h.record_at) in
+        not_pending : (x : Waived) → waiver_among j.number (waived log ++ ws) ≡ Some x → ⊥
+        not_pending x e =
+            let pending_one = head_pending t n head in
+            let same : pending_one.job ≡ record_with plan log (waived log ++ ws) j = same_Some pending_one.job (record_with plan log (waived log ++ ws) j) (sym pending_one.is_at ∙ h.record_at) in
             let gone : (record_with plan log (waived log ++ ws) j).stage ≡ Gone x.given = rw e refl in
-            absurd (let clash = sym open_one.open_is ∙ (ap (λ (r : JobRecord). r.stage) same ∙ gone) in cc)
+            absurd (let clash = sym pending_one.pending_is ∙ (ap (λ (r : JobRecord). r.stage) same ∙ gone) in cc)
 
-        unwaived_open : (o : Option Waived) → waiver_among j.number (waived log ++ ws) ≡ o → o ≡ None
-        unwaived_open None e = refl
-        unwaived_open (Some x) e = absurd (not_open x e)
+        unwaived_pending : (o : Option Waived) → waiver_among j.number (waived log ++ ws) ≡ o → o ≡ None
+        unwaived_pending None e = refl
+        unwaived_pending (Some x) e = absurd (not_pending x e)
 
     others : (k : ℕ) (i : Job) → slice_get (jobs log) k ≡ Some i → (k ≡ n → ⊥) → record_with plan log (waived log ++ ws) i ≡ record_with plan log ((waived log ++ ws) ++ w ∷ []) i
     others k i at other =
@@ -226,8 +226,8 @@ begun_runs blocks_of log ws t n v j h r collects begun =
     let shown = h.both.0.collects.shown j h.stands running in
     let found = r.all j shown.0 shown.1 in
     let own = r.each j.task found.0 found.1 in
-    let it : own.0 ≡ j = one_open v.accounts.plan log own.0 j h.both.1.true_accounts (stands_at (jobs log) own.0 h.both.0.numbered own.1.runs.stands) h.own_at
-    (running_open v.accounts.plan log own.0 h.both.1.true_accounts own.1.runs.running) (h.open_if collects) own.1.task_is in (
+    let it : own.0 ≡ j = one_pending v.accounts.plan log own.0 j h.both.1.true_accounts (stands_at (jobs log) own.0 h.both.0.numbered own.1.runs.stands) h.own_at
+    (running_pending v.accounts.plan log own.0 h.both.1.true_accounts own.1.runs.running) (h.pending_if collects) own.1.task_is in (
       found.0,
       record {
         runs = found.1;
@@ -254,7 +254,7 @@ turn_unfresh blocks_of log present ws t n v j s head h unfresh = record {
   at = h.at;
   unwaivable = ap (λ (b : Bool). b && nat_le v.accounts.plan.alpha v.accounts.spare) unfresh;
   runs = λ collects. begun_runs blocks_of log ws t n v j h s.running collects (sym (ap (λ (b : Bool). b && (work j.number log == 0)) collects) ∙ unfresh);
-  others = others_run v.accounts.plan log j (flash_of blocks_of v) h.both.1.true_accounts h.both.0.numbered h.own_at h.open_if s.running;
+  others = others_run v.accounts.plan log j (flash_of blocks_of v) h.both.1.true_accounts h.both.0.numbered h.own_at h.pending_if s.running;
 }
 
 nil_by : (xs : List Act) → length xs ≡ 0 → xs ≡ []
@@ -284,7 +284,7 @@ turn_fresh blocks_of log present ws t n block v w j s head h fresh begins = reco
     },
   );
   others = others_begun v.accounts.plan log j (flash_of blocks_of v) (record (flash_of blocks_of v) { running = slice_set v.running j.task (Some taken) }) (Some taken) parts.0 refl
-      (others_run v.accounts.plan log j (flash_of blocks_of v) h.both.1.true_accounts h.both.0.numbered h.own_at h.open_if s.running);
+      (others_run v.accounts.plan log j (flash_of blocks_of v) h.both.1.true_accounts h.both.0.numbered h.own_at h.pending_if s.running);
 }
   where
     taken : Collection

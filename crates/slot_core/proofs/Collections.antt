@@ -15,7 +15,7 @@ use Rattle.die_log.specs.Log.{Log, Job, jobs, job_at, act_of, acts, is_waived, w
 use Rattle.die_log.specs.Flash.{ran_by}
 use Rattle.die_log.specs.Work.{is_done}
 use Rattle.die_log.specs.Answers.{is_running, buffer_after}
-use Rattle.die_log.specs.Held.{is_open, AreTrue}
+use Rattle.die_log.specs.Held.{is_pending, AreTrue}
 use Rattle.die_log.specs.Standing.{AreNumbered, Runs}
 use Rattle.die_log.proofs.Standing.Longer.{acts_stay, act_other, same_job, stands_at}
 use Rattle.die_log.proofs.Standing.Quiet.{runs_says, runs_later, runs_before}
@@ -43,32 +43,32 @@ none_running plan = record {
   all = λ j b r. absurd (omega (arith, r.stands.1));
 }
 
--- One open collection a task
+-- One pending collection a task
 
 no_work : (l : List Act) → l ≡ [] → 0 < length l → ⊥
 no_work l e h = omega (arith, h, ap (λ (x : List Act). length x) e)
 
--- what runs is open
-pub running_open : (plan : DiePlan) (past : Log) (j : Job) → AreTrue plan past → is_running plan past j ≡ true → is_open plan (λ n. acts n past) (is_waived past) j ≡ true
-running_open plan past j h is = by_waived (is_waived past j.number) refl
+-- what runs is pending
+pub running_pending : (plan : DiePlan) (past : Log) (j : Job) → AreTrue plan past → is_running plan past j ≡ true → is_pending plan (λ n. acts n past) (is_waived past) j ≡ true
+running_pending plan past j h is = by_waived (is_waived past j.number) refl
   where
-    by_waived : (b : Bool) → is_waived past j.number ≡ b → is_open plan (λ n. acts n past) (is_waived past) j ≡ true
+    by_waived : (b : Bool) → is_waived past j.number ≡ b → is_pending plan (λ n. acts n past) (is_waived past) j ≡ true
     by_waived true e = absurd (no_work (acts j.number past) (h.idle_waived j.number e) (runs_says plan j (acts j.number past) is).begun)
     by_waived false e =
         let runs = runs_says plan j (acts j.number past) is in
         and_from (j.collects && not (is_done plan past j)) (not (is_waived past j.number)) (and_from j.collects (not (is_done plan past j)) runs.collects (not_from_false (is_done plan past j) runs.undone)) (not_from_false (is_waived past j.number) e)
 
--- two open collections of one task are one
-pub one_open : (plan : DiePlan) (past : Log) (i j : Job) → AreTrue plan past → job_at past i.number ≡ Some i → job_at past j.number ≡ Some j
-    → is_open plan (λ n. acts n past) (is_waived past) i ≡ true → is_open plan (λ n. acts n past) (is_waived past) j ≡ true → i.task ≡ j.task → i ≡ j
-one_open plan past i j h at_i at_j open_i open_j same =
-    same_Some i j (sym (found i at_i open_i same) ∙ found j at_j open_j refl)
+-- two pending collections of one task are one
+pub one_pending : (plan : DiePlan) (past : Log) (i j : Job) → AreTrue plan past → job_at past i.number ≡ Some i → job_at past j.number ≡ Some j
+    → is_pending plan (λ n. acts n past) (is_waived past) i ≡ true → is_pending plan (λ n. acts n past) (is_waived past) j ≡ true → i.task ≡ j.task → i ≡ j
+one_pending plan past i j h at_i at_j pending_i pending_j same =
+    same_Some i j (sym (found i at_i pending_i same) ∙ found j at_j pending_j refl)
   where
     test : Job → Bool
-    test x = (x.task == j.task) && is_open plan (λ n. acts n past) (is_waived past) x
+    test x = (x.task == j.task) && is_pending plan (λ n. acts n past) (is_waived past) x
 
-    found : (x : Job) → job_at past x.number ≡ Some x → is_open plan (λ n. acts n past) (is_waived past) x ≡ true → x.task ≡ j.task → first_with test (jobs past) ≡ Some x
-    found x at is e = finds_it test (jobs past) x.number x (h.one_each j.task) at (and_from (x.task == j.task) (is_open plan (λ n. acts n past) (is_waived past) x) (eq-eqb x.task j.task e) is)
+    found : (x : Job) → job_at past x.number ≡ Some x → is_pending plan (λ n. acts n past) (is_waived past) x ≡ true → x.task ≡ j.task → first_with test (jobs past) ≡ Some x
+    found x at is e = finds_it test (jobs past) x.number x (h.one_each j.task) at (and_from (x.task == j.task) (is_pending plan (λ n. acts n past) (is_waived past) x) (eq-eqb x.task j.task e) is)
 
 -- Entries
 
@@ -155,12 +155,12 @@ running_acted plan e past j act f after ran same numbered stands others len rest
 -- Before the head acts
 
 -- of the collections that run, those that aren't the head's are of other tasks
-pub others_run : (plan : DiePlan) (past : Log) (j : Job) (f : FlashState) → AreTrue plan past → AreNumbered 0 (jobs past) → job_at past j.number ≡ Some j → (j.collects ≡ true → is_open plan (λ n. acts n past) (is_waived past) j ≡ true)
+pub others_run : (plan : DiePlan) (past : Log) (j : Job) (f : FlashState) → AreTrue plan past → AreNumbered 0 (jobs past) → job_at past j.number ≡ Some j → (j.collects ≡ true → is_pending plan (λ n. acts n past) (is_waived past) j ≡ true)
     → AreRunning plan past f.running → OthersRun plan past j f
-others_run plan past j f h numbered at open_j r = record {
+others_run plan past j f h numbered at pending_j r = record {
   len = r.len;
   each = λ task c apart at_task. r.each task c at_task;
-  all = λ i b apart runs. (λ collects same. apart (ap (λ (x : Job). x.number) (one_open plan past i j h (stands_at (jobs past) i numbered runs.stands) at (running_open plan past i h runs.running) (open_j collects) same)), r.all i b runs);
+  all = λ i b apart runs. (λ collects same. apart (ap (λ (x : Job). x.number) (one_pending plan past i j h (stands_at (jobs past) i numbered runs.stands) at (running_pending plan past i h runs.running) (pending_j collects) same)), r.all i b runs);
 }
 
 -- nor does a collection that takes its victim change them
@@ -173,14 +173,14 @@ others_begun plan past j f g o collects is others = record {
       (old.0, (old.1.0, ap (λ (l : List (Option Collection)). running_of l i.task) is ∙ (other_running f.running j.task i.task o (old.0 collects) ∙ old.1.1), old.1.2));
 }
 
--- a task whose open collection has not begun runs none
-pub runs_none : (plan : DiePlan) (past : Log) (j : Job) (running : List (Option Collection)) → AreTrue plan past → AreNumbered 0 (jobs past) → job_at past j.number ≡ Some j → is_open plan (λ n. acts n past) (is_waived past) j ≡ true
+-- a task whose pending collection has not begun runs none
+pub runs_none : (plan : DiePlan) (past : Log) (j : Job) (running : List (Option Collection)) → AreTrue plan past → AreNumbered 0 (jobs past) → job_at past j.number ≡ Some j → is_pending plan (λ n. acts n past) (is_waived past) j ≡ true
     → work j.number past ≡ 0 → AreRunning plan past running → running_of running j.task ≡ None
-runs_none plan past j running h numbered at open_j fresh r = by_found (running_of running j.task) refl
+runs_none plan past j running h numbered at pending_j fresh r = by_found (running_of running j.task) refl
   where
     by_found : (o : Option Collection) → running_of running j.task ≡ o → o ≡ None
     by_found None e = refl
     by_found (Some c) e =
         let i = r.each j.task c e in
-        let same = one_open plan past i.0 j h (stands_at (jobs past) i.0 numbered i.1.runs.stands) at (running_open plan past i.0 h i.1.runs.running) open_j i.1.task_is in
+        let same = one_pending plan past i.0 j h (stands_at (jobs past) i.0 numbered i.1.runs.stands) at (running_pending plan past i.0 h i.1.runs.running) pending_j i.1.task_is in
         absurd (omega (arith, (runs_says plan i.0 (acts i.0.number past) i.1.runs.running).begun, fresh, ap (λ (x : Job). work x.number past) same))

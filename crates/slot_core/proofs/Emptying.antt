@@ -12,7 +12,7 @@ use Rattle.slot_types.specs.declared.pages.Place.{Place}
 use Rattle.slot_types.specs.Places.{place_of, owner_of, is_at}
 use Rattle.flash_volume.specs.declared.collection.Collection.{Collection}
 use Rattle.flash_volume.specs.declared.collection.Copied.{Copied}
-use Rattle.flash_volume.specs.Acts.{HasDropped, IsEmpty, IsFirst}
+use Rattle.flash_volume.specs.Acts.{HasDropped, IsUnplaced, IsFirst}
 use Rattle.die_log.specs.Log.{Log, Job, acts, work}
 use Rattle.die_log.specs.Flash.{Cells, cells, block_at, block_of_page, valid_pages}
 use Rattle.die_log.specs.Answers.{is_block, is_placed_in, read_or_erase, collect_act, act_for, act_of_op, block_for, buffer_after}
@@ -48,15 +48,15 @@ block_says : (place : Place) (o : Option Place) → is_at place o ≡ true → (
 block_says place None is = absurd cc
 block_says place (Some q) is = (q, refl, grind (arith, nat_tests))
 
-nobody : (places : List (Option Place)) (b cell : ℕ) (o : Option ℕ) → IsEmpty places b → owner_of places (record { block = b; page = cell }) ≡ o → o ≡ None
-nobody places b cell None empty e = refl
-nobody places b cell (Some page) empty e =
+nobody : (places : List (Option Place)) (b cell : ℕ) (o : Option ℕ) → IsUnplaced places b → owner_of places (record { block = b; page = cell }) ≡ o → o ≡ None
+nobody places b cell None unplaced e = refl
+nobody places b cell (Some page) unplaced e =
     let at = block_says (record { block = b; page = cell }) (place_of places page) (position-Some (is_at (record { block = b; page = cell })) places page None e).1 in
-    absurd (empty page at.0 at.1 at.2)
+    absurd (unplaced page at.0 at.1 at.2)
 
-pub none_valid : (plan : DiePlan) (c : Cells) (b : ℕ) → IsEmpty c.places b → valid_pages plan c b ≡ []
-none_valid plan c b empty =
-    none_found (λ cell. owner_of c.places (record { block = b; page = cell })) 0 plan.shape.pages (λ cell. nobody c.places b cell (owner_of c.places (record { block = b; page = cell })) empty refl)
+pub none_valid : (plan : DiePlan) (c : Cells) (b : ℕ) → IsUnplaced c.places b → valid_pages plan c b ≡ []
+none_valid plan c b unplaced =
+    none_found (λ cell. owner_of c.places (record { block = b; page = cell })) 0 plan.shape.pages (λ cell. nobody c.places b cell (owner_of c.places (record { block = b; page = cell })) unplaced refl)
 
 -- The buffer
 
@@ -111,5 +111,5 @@ reads plan past j run page source sound collects victim holds dropped first =
     left plan past j run (page ∷ pages.0) collects victim holds dropped pages.1
 
 pub erases : (plan : DiePlan) (past : Log) (j : Job) (run : Collection) → j.collects ≡ true → block_for plan past j ≡ Some run.victim → page_in run ≡ page_held past j.number
-    → HasDropped (cells plan past).places run → IsEmpty (cells plan past).places run.victim → act_for plan past j ≡ Some (does.Erase run.victim)
-erases plan past j run collects victim holds dropped empty = left plan past j run [] collects victim holds dropped (none_valid plan (cells plan past) run.victim empty)
+    → HasDropped (cells plan past).places run → IsUnplaced (cells plan past).places run.victim → act_for plan past j ≡ Some (does.Erase run.victim)
+erases plan past j run collects victim holds dropped unplaced = left plan past j run [] collects victim holds dropped (none_valid plan (cells plan past) run.victim unplaced)

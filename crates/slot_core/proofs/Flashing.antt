@@ -19,7 +19,7 @@ use Rattle.plan_rules.specs.Accounts.{Accounts, admitted, hold_spent, reserve_sp
 use Rattle.flash_volume.specs.declared.collection.Collection.{Collection}
 use Rattle.flash_die.specs.Flash as device
 use Rattle.die_log.specs.Log.{Log, Job, jobs, job_at, act_of, acts}
-use Rattle.die_log.specs.Flash.{Block, Cells, block_at, contents, cells, programmed, programmed_in, open_block, written, cells_after, erased_once, ran_by, empty_block, blank_page, content}
+use Rattle.die_log.specs.Flash.{Block, Cells, block_at, contents, cells, programmed, programmed_in, open_block, written, cells_after, erased_once, ran_by, free_block, blank_page, content}
 use Rattle.die_log.specs.Work.{writes}
 use Rattle.die_log.specs.Accounts.{accounts, after_act, after_carried, after_waivers}
 use Rattle.die_log.specs.Answers.{IsExact, is_running}
@@ -33,16 +33,16 @@ use Rattle.slot_core.proofs.Collections.{none_running, running_quiet}
 
 -- A fresh die
 
-map_replicate : (n : ℕ) → map counts_of (replicate n device.empty_block) ≡ replicate n empty_block
+map_replicate : (n : ℕ) → map counts_of (replicate n device.free_block) ≡ replicate n free_block
 map_replicate zero = refl
-map_replicate (suc n) = ap (λ bs. empty_block ∷ bs) (map_replicate n)
+map_replicate (suc n) = ap (λ bs. free_block ∷ bs) (map_replicate n)
 
 abbrev pub fresh_state : DiePlan → FlashState
 fresh_state plan = record {
   tokens = opening plan;
   pages = replicate plan.logical device.blank;
   places = replicate plan.logical None;
-  blocks = replicate plan.shape.blocks device.empty_block;
+  blocks = replicate plan.shape.blocks device.free_block;
   running = replicate (length plan.caps) None;
 }
 
@@ -120,10 +120,10 @@ flash-copy_read plan past caller slot ws j page finished f running at h r =
     record { accounts_are = rw at h.accounts_are; pages_are = h.pages_are; places_are = h.places_are; blocks_are = h.blocks_are; running_are = r }
 
 -- a block of the device, as the log counts it
-pub counted : (blocks : List device.Block) (b : ℕ) → counts_of (device.block_at blocks b) ≡ slice_index_or (map counts_of blocks) b empty_block
+pub counted : (blocks : List device.Block) (b : ℕ) → counts_of (device.block_at blocks b) ≡ slice_index_or (map counts_of blocks) b free_block
 counted blocks b = sym (by_get blocks b)
   where
-    by_get : (bs : List device.Block) (k : ℕ) → get_or (map counts_of bs) k empty_block ≡ counts_of (slice_index_or bs k device.empty_block)
+    by_get : (bs : List device.Block) (k : ℕ) → get_or (map counts_of bs) k free_block ≡ counts_of (slice_index_or bs k device.free_block)
     by_get [] k = refl
     by_get (x ∷ bs) zero = refl
     by_get (x ∷ bs) (suc k) = by_get bs k
@@ -134,7 +134,7 @@ programmed_counts blocks b bytes c is =
     map-set counts_of blocks b _
     ∙ (ap (λ n. slice_set (map counts_of blocks) b (record { filled = n; erasing = (device.block_at blocks b).erasing; erases = (device.block_at blocks b).erases })) (length_push (device.block_at blocks b).pages bytes)
     ∙ (ap (λ (s : Block). slice_set (map counts_of blocks) b (record s { filled = s.filled + 1 })) (counted blocks b)
-    ∙ ap (λ (bs : List Block). slice_set bs b (record (slice_index_or bs b empty_block) { filled = (slice_index_or bs b empty_block).filled + 1 })) is))
+    ∙ ap (λ (bs : List Block). slice_set bs b (record (slice_index_or bs b free_block) { filled = (slice_index_or bs b free_block).filled + 1 })) is))
 
 -- a program of the open block of the log
 abbrev pub state_programmed : FlashState → Accounts → List PageData → ℕ → ℕ → PageData → List (Option Collection) → FlashState
@@ -150,7 +150,7 @@ place_is : (plan : DiePlan) (past : Log) (page b : ℕ) (f : FlashState) → map
     → slice_set f.places page (Some (record { block = b; page = length (device.block_at f.blocks b).pages })) ≡ slice_set f.places page (Some (record { block = b; page = (block_at (cells plan past) b).filled }))
 place_is plan past page b f is =
     ap (λ (n : ℕ). slice_set f.places page (Some (record { block = b; page = n })))
-    (ap (λ (s : Block). s.filled) (counted f.blocks b) ∙ ap (λ (bs : List Block). (slice_index_or bs b empty_block).filled) is)
+    (ap (λ (s : Block). s.filled) (counted f.blocks b) ∙ ap (λ (bs : List Block). (slice_index_or bs b free_block).filled) is)
 
 -- a write
 pub flash-write : (plan : DiePlan) (past : Log) (caller slot : ℕ) (ws : List Waived) (j : Job) (page : ℕ) (bytes : PageData) (finished : Option ℕ) (f : FlashState) (b : ℕ)
@@ -183,7 +183,7 @@ erased_counts slots blocks b plan c slots_are is =
     map-set counts_of blocks b _
     ∙ (ap (λ s. slice_set (map counts_of blocks) b s) (once (device.block_at blocks b) (device.block_at blocks b).erasing refl)
     ∙ (ap (λ (s : Block). slice_set (map counts_of blocks) b (erased_once plan s)) (counted blocks b)
-    ∙ ap (λ (bs : List Block). slice_set bs b (erased_once plan (slice_index_or bs b empty_block))) is))
+    ∙ ap (λ (bs : List Block). slice_set bs b (erased_once plan (slice_index_or bs b free_block))) is))
   where
     by_test : (t : Bool) (s : device.Block)
         → counts_of (cond t (record { pages = []; erasing = 0; erases = s.erases + 1 }) (record s { erasing = s.erasing + 1 })) ≡ cond t (record { filled = 0; erasing = 0; erases = s.erases + 1 }) (record (counts_of s) { erasing = s.erasing + 1 })

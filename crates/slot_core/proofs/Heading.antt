@@ -9,7 +9,7 @@ use Rattle.std.proofs.lemmas.List.Elements.{All-contains_itself, recursion_from_
 use Rattle.std.proofs.lemmas.Option.{slice_get-get_or, get_or_from_slice_get, slice_get_within, same_Some, none-some}
 use Rattle.slot_types.specs.declared.plans.DiePlan.{DiePlan}
 use Rattle.slot_types.specs.declared.replies.Waived.{Waived}
-use Rattle.job_table.specs.Jobs.{JobRecord, is_open}
+use Rattle.job_table.specs.Jobs.{JobRecord, is_pending}
 use Rattle.job_table.specs.Table.{Table}
 use Rattle.job_table.specs.Order as table
 use Rattle.die_log.specs.Log.{Log, Job, jobs, now, waived, is_waived, acts}
@@ -42,7 +42,7 @@ slice_get-mapped {X = X} {Y = Y} f xs n y at = by_found (slice_get xs n) refl
     by_found (Some x) e = (x, e, same_Some (f x) y (sym (slice_get-map f xs n x e) ∙ at))
     by_found None e = absurd (nothing_within xs n e (omega (arith, slice_get_within (map f xs) n y at, length-map xs f)))
 
--- Open and ready ones
+-- Pending and ready ones
 
 abbrev pub is_some_waiver : Option Waived → Bool
 is_some_waiver None = false
@@ -56,16 +56,16 @@ waiver_is n (w ∷ ws) = by_case (w.number == n) (waiver_is n ws)
     by_case true h = refl
     by_case false h = h
 
-open_by : (o : Option Waived) (done : Bool) (c g : ℕ) → is_open (stage_by o done c g) ≡ (not done && not (is_some_waiver o))
-open_by (Some w) true c g = refl
-open_by (Some w) false c g = refl
-open_by None true c g = refl
-open_by None false c g = refl
+pending_by : (o : Option Waived) (done : Bool) (c g : ℕ) → is_pending (stage_by o done c g) ≡ (not done && not (is_some_waiver o))
+pending_by (Some w) true c g = refl
+pending_by (Some w) false c g = refl
+pending_by None true c g = refl
+pending_by None false c g = refl
 
--- a record is open where the job is neither done nor among the waived
-pub open_is : (plan : DiePlan) (past : Log) (ws : List Waived) (j : Job) → is_open (record_with plan past ws j).stage ≡ (not (is_done plan past j) && not (is_among j.number ws))
-open_is plan past ws j =
-    open_by (waiver_among j.number ws) (is_done plan past j) (completion j.number past) (given plan j.number past)
+-- a record is pending where the job is neither done nor among the waived
+pub pending_is : (plan : DiePlan) (past : Log) (ws : List Waived) (j : Job) → is_pending (record_with plan past ws j).stage ≡ (not (is_done plan past j) && not (is_among j.number ws))
+pending_is plan past ws j =
+    pending_by (waiver_among j.number ws) (is_done plan past j) (completion j.number past) (given plan j.number past)
     ∙ ap (λ b. not (is_done plan past j) && not b) (waiver_is j.number ws)
 
 pub among_both : (n : ℕ) (xs ys : List Waived) → is_among n (xs ++ ys) ≡ (is_among n xs || is_among n ys)
@@ -94,7 +94,7 @@ tests_join false b c d = refl
 -- a record is ready where its job is ready and stays
 pub ready_is : (plan : DiePlan) (past : Log) (ws : List Waived) (j : Job) → table.is_ready (now past) (record_with plan past (waived past ++ ws) j) ≡ stays plan past ws j
 ready_is plan past ws j =
-    ap (λ b. nat_le j.release (now past) && b) (open_is plan past (waived past ++ ws) j ∙ ap (λ b. not (is_done plan past j) && not b) (among_both j.number (waived past) ws))
+    ap (λ b. nat_le j.release (now past) && b) (pending_is plan past (waived past ++ ws) j ∙ ap (λ b. not (is_done plan past j) && not b) (among_both j.number (waived past) ws))
     ∙ tests_join (nat_le j.release (now past)) (is_done plan past j) (is_waived past j.number) (is_among j.number ws)
 
 pub unwaived_is : (plan : DiePlan) (past : Log) (ws : List Waived) → unwaived ws (ready plan past) ≡ filter (stays plan past ws) (jobs past)

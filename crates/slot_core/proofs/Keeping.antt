@@ -35,7 +35,7 @@ use Rattle.slot_core.specs.Kept.{Keeps}
 use Rattle.slot_core.specs.Core.{with_entry}
 use Rattle.slot_core.specs.Calls.{RefusedBy}
 use Rattle.slot_core.proofs.Recording.{records-submit, records-collect}
-use Rattle.slot_core.proofs.Heading.{open_is}
+use Rattle.slot_core.proofs.Heading.{pending_is}
 use Rattle.slot_core.proofs.Flashing.{flash-submit, flash-collect, fresh_state, fresh_flash}
 
 -- Arrivals
@@ -138,7 +138,7 @@ pub collect_taken : (plan : DiePlan) (log : Log) (t : Table) (task release due n
     → answer plan log (events.Collect task release due) ≡ replies.Taken number
 collect_taken plan log t task release due number none jobs_are is = accepted_answer plan log (events.Collect task release due) none ∙ ap number_reply (sym (is ∙ jobs_counted plan log t jobs_are))
 
--- the task of a collection has an open one in the table where it has one in the log
+-- the task of a collection has a pending one in the table where it has one in the log
 pub collecting_is : (plan : DiePlan) (log : Log) (js : List JobRecord) (task : ℕ) → js ≡ records plan log → table_words.is_collecting js task ≡ is_collecting plan log task
 collecting_is plan log js task are = ap (λ (rs : List JobRecord). table_words.is_collecting rs task) are ∙ any_mapped (jobs log)
   where
@@ -148,13 +148,13 @@ collecting_is plan log js task are = ap (λ (rs : List JobRecord). table_words.i
     joined false b c d = refl
 
     one : (j : Job) → table_words.is_collection_of task (record_with plan log (waived log) j) ≡ (j.collects && (j.task == task) && not (is_done plan log j) && not (is_waived log j.number))
-    one j = ap (λ (b : Bool). (j.collects && (j.task == task)) && b) (open_is plan log (waived log) j) ∙ joined j.collects (j.task == task) (not (is_done plan log j)) (not (is_waived log j.number))
+    one j = ap (λ (b : Bool). (j.collects && (j.task == task)) && b) (pending_is plan log (waived log) j) ∙ joined j.collects (j.task == task) (not (is_done plan log j)) (not (is_waived log j.number))
 
     any_mapped : (xs : List Job) → list_any (table_words.is_collection_of task) (map (record_with plan log (waived log)) xs) ≡ list_any (λ j. j.collects && (j.task == task) && not (is_done plan log j) && not (is_waived log j.number)) xs
     any_mapped [] = refl
     any_mapped (x ∷ xs) = rw (one x) (ap (λ b. (x.collects && (x.task == task) && not (is_done plan log x) && not (is_waived log x.number)) || b) (any_mapped xs))
 
--- a task that may collect is there, and has no open collection
+-- a task that may collect is there, and has no pending collection
 pub record MayCollect (plan : DiePlan) (log : Log) (task : ℕ) : Type 0 where
   pub task_in : task < length plan.caps
   pub single : is_collecting plan log task ≡ false

@@ -4,7 +4,7 @@ use Rattle.std.specs.List.{position, position_or_len}
 use Rattle.std.proofs.lemmas.List.{length-map}
 use Rattle.slot_types.specs.declared.plans.DiePlan.{DiePlan}
 use Rattle.flash_die.specs.Flash as device
-use Rattle.flash_volume.specs.Cells.{open_in, filled_of, is_partly, is_blank}
+use Rattle.flash_volume.specs.Cells.{open_in, filled_of, is_open_with, is_wholly_free}
 use Rattle.die_log.specs.Flash as flash
 use Rattle.slot_core.specs.Device.{counts_of}
 
@@ -22,5 +22,5 @@ position_mapped p f xs = rw (first_mapped p f xs) (rw (length-map xs f) refl)
 -- a volume's open block is the log's
 pub opens_same : (plan : DiePlan) (c : flash.Cells) (blocks : List device.Block) → map counts_of blocks ≡ c.blocks → open_in plan.shape.pages blocks ≡ flash.open_block plan c
 opens_same plan c blocks is =
-    rw (position_mapped (is_partly plan.shape.pages) filled_of blocks) (rw (position_mapped is_blank filled_of blocks) (rw (← is)
-    (rw (position_mapped (flash.is_partly_filled plan) counts_of blocks) (rw (position_mapped (λ (s : flash.Block). s.filled == 0) counts_of blocks) refl))))
+    rw (position_mapped (is_open_with plan.shape.pages) filled_of blocks) (rw (position_mapped is_wholly_free filled_of blocks) (rw (← is)
+    (rw (position_mapped (flash.is_open plan) counts_of blocks) (rw (position_mapped (λ (s : flash.Block). s.filled == 0) counts_of blocks) refl))))

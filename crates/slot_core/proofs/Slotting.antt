@@ -27,11 +27,11 @@ use Rattle.flash_volume.specs.Cells.{open_in}
 use Rattle.flash_volume.specs.Running.{running_of}
 use Rattle.flash_volume.specs.State.{State}
 use Rattle.job_table.specs.declared.stages.Stage.{Stage}
-use Rattle.job_table.specs.declared.stages.Stage.TheVariants.{Open, Done, Waived as Gone}
-use Rattle.job_table.specs.Jobs.{JobRecord, is_open, is_read, is_some_read, reads_next, with_stage}
+use Rattle.job_table.specs.declared.stages.Stage.TheVariants.{Pending, Done, Waived as Gone}
+use Rattle.job_table.specs.Jobs.{JobRecord, is_pending, is_read, is_some_read, reads_next, with_stage}
 use Rattle.job_table.specs.Jobs as jobs_table
 use Rattle.job_table.specs.Table.{Table, changed_at, with_change, reads_next_at, reads_next_of}
-use Rattle.job_table.specs.Waivers.{WereOpen, waived_in, AreWaived, stopped}
+use Rattle.job_table.specs.Waivers.{WerePending, waived_in, AreWaived, stopped}
 use Rattle.job_table.proofs.Waivers.{AreWaived-waived_in}
 use Rattle.job_table.specs.Order as table
 use Rattle.late_cert.specs.Schedule.{Slots}
@@ -60,7 +60,7 @@ use Rattle.slot_core.specs.Turns.{is_read_act, after_read, finished, after_turn,
 use Rattle.slot_core.proofs.Choosing.{starts, begins, ends}
 use Rattle.slot_core.proofs.Collections.{running_acted}
 use Rattle.slot_core.proofs.Recording.{records-idle, records-act, acted_is, acted_record, acted_reply, stage_after, slot_of}
-use Rattle.slot_core.proofs.Heading.{is_some_waiver, waiver_is, among_both, nothing_least, table_at, open_is}
+use Rattle.slot_core.proofs.Heading.{is_some_waiver, waiver_is, among_both, nothing_least, table_at, pending_is}
 use Rattle.slot_core.proofs.Flashing.{slot_entry, slot_with, unwaived_flash, flash-idle, flash-read, flash-write, content_is}
 use Rattle.slot_core.proofs.Opened.{opens_same}
 use Rattle.slot_core.proofs.Serving.{hold_positive}
@@ -87,7 +87,7 @@ starts_with plan log present t slots f k few clock = record {
     clock_is = clock ∙ k.now_is;
     running = k.ended_is;
     jobs_are = rw (append-nil (waived log)) k.jobs_are;
-    were_open = tt;
+    were_pending = tt;
     were = k.jobs_are;
   };
   goes_on = subst (GoesOn plan log []) (sym (k.flash refl).accounts_are) (starts plan log);
@@ -232,7 +232,7 @@ took_turn blocks_of log present caller ws t n v w turn h d = by_kind h.job.colle
           at = job.own_at;
           collects = collects;
           undone = job.undone;
-          opened = job.open_if collects;
+          opened = job.pending_if collects;
           task = job.limits.task;
           flash = h.flash;
           run = c.1;
@@ -247,12 +247,12 @@ or_both : (a b : Bool) → a ≡ false → b ≡ false → (a || b) ≡ false
 or_both true b h k = absurd cc
 or_both false b h k = k
 
-stage_open : (s : Stage) → is_open s ≡ true → s ≡ Open
-stage_open Open h = refl
-stage_open (Done c g) h = absurd cc
-stage_open (Gone g) h = absurd cc
+stage_pending : (s : Stage) → is_pending s ≡ true → s ≡ Pending
+stage_pending Pending h = refl
+stage_pending (Done c g) h = absurd cc
+stage_pending (Gone g) h = absurd cc
 
-same_stage : (act : Act) (r : JobRecord) → r.stage ≡ Open → with_stage Open (after_read act (jobs_table.carried r)) ≡ after_read act (jobs_table.carried r)
+same_stage : (act : Act) (r : JobRecord) → r.stage ≡ Pending → with_stage Pending (after_read act (jobs_table.carried r)) ≡ after_read act (jobs_table.carried r)
 same_stage (does.Read page bytes) r h = rw h refl
 same_stage (does.Write page bytes) r h = rw h refl
 same_stage (does.CopyRead page) r h = rw h refl
@@ -293,8 +293,8 @@ turned_is blocks_of log present caller ws t n v w turn h k = by_last turn.last r
     none : waiver_among h.job.number (waived log ++ ws) ≡ None
     none = none_among (waiver_among h.job.number (waived log ++ ws)) (waiver_is h.job.number (waived log ++ ws) ∙ unwaived)
 
-    stage_is : (record_with v.accounts.plan log (waived log ++ ws) h.job).stage ≡ Open
-    stage_is = stage_open (record_with v.accounts.plan log (waived log ++ ws) h.job).stage (open_is v.accounts.plan log (waived log ++ ws) h.job ∙ rw job.undone (rw unwaived refl))
+    stage_is : (record_with v.accounts.plan log (waived log ++ ws) h.job).stage ≡ Pending
+    stage_is = stage_pending (record_with v.accounts.plan log (waived log ++ ws) h.job).stage (pending_is v.accounts.plan log (waived log ++ ws) h.job ∙ rw job.undone (rw unwaived refl))
 
     moved : JobRecord
     moved = after_read turn.act (jobs_table.carried (record_with v.accounts.plan log (waived log ++ ws) h.job))
@@ -402,11 +402,11 @@ turn_reads blocks_of log present ws t n v w r turn h at did = ap reads_next_of a
 
 -- the waivers of a slot are all waived
 pub all_waived : (plan : DiePlan) (log : Log) (present : ℕ) (ws : List Waived) (t : Table) (f : FlashState) (n : ℕ) → HasTurn plan log present ws t f n → AreWaived t.jobs ws
-all_waived plan log present ws t f n h = subst (λ (js : List JobRecord). AreWaived js ws) (sym h.table.were) (AreWaived-waived_in (records plan log) ws h.table.were_open)
+all_waived plan log present ws t f n h = subst (λ (js : List JobRecord). AreWaived js ws) (sym h.table.were) (AreWaived-waived_in (records plan log) ws h.table.were_pending)
 
 -- the die has stopped, and nothing else has changed
 pub fault_kept : {N : Type 0} (blocks_of : N → List device.Block) (log later : Log) (present : ℕ) (ws : List Waived) (t x : Table) (slots after : Slots) (n : ℕ) (v w : State N) → slots ≡ carried_numbers log
-    → HasTurn v.accounts.plan log present ws t (flash_of blocks_of v) n → x ≡ stopped t ws → ((js : List JobRecord) → WereOpen js ws → t.jobs ≡ waived_in js ws → x.jobs ≡ js)
+    → HasTurn v.accounts.plan log present ws t (flash_of blocks_of v) n → x ≡ stopped t ws → ((js : List JobRecord) → WerePending js ws → t.jobs ≡ waived_in js ws → x.jobs ≡ js)
     → w.accounts.plan ≡ v.accounts.plan → w.failed ≡ true → after ≡ slots → later ≡ log
     → Keeps w.accounts.plan later present x after w.failed (flash_of blocks_of w)
 fault_kept blocks_of log later present ws t x slots after n v w slots_are h stopped_is back plan_is failed_is after_is later_is =
@@ -417,7 +417,7 @@ fault_kept blocks_of log later present ws t x slots after n v w slots_are h stop
       tasks_are = ap (λ (u : Table). u.tasks) stopped_is ∙ h.table.tasks_are;
       clock_by = omega (arith, ap (λ (u : Table). u.clock) stopped_is, h.table.clock_is, h.slot.now_is);
       ended_is = ap (λ (u : Table). u.ended) stopped_is;
-      jobs_are = back (records v.accounts.plan log) h.table.were_open h.table.were;
+      jobs_are = back (records v.accounts.plan log) h.table.were_pending h.table.were;
       slots_are = slots_are;
       flash = λ alive. absurd cc;
     }))))

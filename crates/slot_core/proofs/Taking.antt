@@ -20,17 +20,17 @@ use Rattle.flash_volume.specs.declared.collection.Collection.{Collection}
 use Rattle.flash_volume.specs.declared.collection.Copied.{Copied}
 use Rattle.flash_volume.specs.declared.collection.Collected.{Collected}
 use Rattle.flash_volume.specs.declared.collection.Collected.TheVariants as acts_of
-use Rattle.flash_volume.specs.Acts.{HasDropped, IsEmpty, IsFirst, Reads, Programs, Goes, Finishes, Does}
+use Rattle.flash_volume.specs.Acts.{HasDropped, IsUnplaced, IsFirst, Reads, Programs, Goes, Finishes, Does}
 use Rattle.flash_volume.specs.Cells.{open_in, next_cell}
 use Rattle.flash_volume.specs.Running.{running_of, with_buffer, copied_of}
 use Rattle.flash_volume.specs.State.{State}
 use Rattle.die_log.specs.Log.{Log, Job, jobs, job_at, acts, is_waived}
 use Rattle.die_log.specs.Flash as flash
-use Rattle.die_log.specs.Flash.{Block, cells, block_at, empty_block, ran_by}
+use Rattle.die_log.specs.Flash.{Block, cells, block_at, free_block, ran_by}
 use Rattle.die_log.specs.Work.{are_all, is_done, is_erase, is_copy_program, victim_of, shown_by}
 use Rattle.die_log.specs.Accounts.{accounts, after_act, after_waiver, after_waivers}
 use Rattle.die_log.specs.Answers.{act_for, collect_act, is_running, buffer_after}
-use Rattle.die_log.specs.Held.{is_open, reserve_full}
+use Rattle.die_log.specs.Held.{is_pending, reserve_full}
 use Rattle.die_log.specs.Held as held
 use Rattle.die_log.specs.Legal.{written_since}
 use Rattle.die_log.specs.Sound.{MayDo}
@@ -69,7 +69,7 @@ pub record IsCollector {N : Type 0} (blocks_of : N → List device.Block) (log :
   pub at : job_at log j.number ≡ Some j
   pub collects : j.collects ≡ true
   pub undone : is_done v.accounts.plan log j ≡ false
-  pub opened : is_open v.accounts.plan (λ n. acts n log) (is_waived log) j ≡ true
+  pub opened : is_pending v.accounts.plan (λ n. acts n log) (is_waived log) j ≡ true
   pub task : j.task < length v.accounts.plan.caps
   pub flash : IsWaivedFlash v.accounts.plan log ws (flash_of blocks_of v)
   pub run : RunsHead v.accounts.plan log j (flash_of blocks_of v) c
@@ -106,7 +106,7 @@ is_begun blocks_of log ws j v c k = begun v.accounts.plan log j c.victim k.both.
 -- its block on the device is the log's
 block_is : {N : Type 0} (blocks_of : N → List device.Block) (log : Log) (ws : List Waived) (j : Job) (v : State N) (c : Collection) → IsCollector blocks_of log ws j v c → (b : ℕ)
     → counts_of (device.block_at (blocks_of v.device) b) ≡ block_at (cells v.accounts.plan log) b
-block_is blocks_of log ws j v c k b = counted (blocks_of v.device) b ∙ ap (λ (bs : List Block). slice_index_or bs b empty_block) k.flash.blocks_are
+block_is blocks_of log ws j v c k b = counted (blocks_of v.device) b ∙ ap (λ (bs : List Block). slice_index_or bs b free_block) k.flash.blocks_are
 
 -- its erase has had as many slots as it did
 erased_so_far : {N : Type 0} (blocks_of : N → List device.Block) (log : Log) (ws : List Waived) (j : Job) (v : State N) (c : Collection) → IsCollector blocks_of log ws j v c
@@ -243,11 +243,11 @@ erase_count blocks_of log ws j v c block k is =
     ∙ ap (λ (n : ℕ). n == v.accounts.plan.shape.erase_slots)
     (erases_push (acts j.number log) block ∙ ap (λ (n : ℕ). n + 1) (sym (erased_so_far blocks_of log ws j v c k) ∙ ap (λ (x : ℕ). (device.block_at (blocks_of v.device) x).erasing) (sym is)))
 
-erase_is : {N : Type 0} (blocks_of : N → List device.Block) (log : Log) (ws : List Waived) (j : Job) (v : State N) (c : Collection) (block : ℕ) → IsCollector blocks_of log ws j v c → block ≡ c.victim → HasDropped v.places c → IsEmpty v.places block
+erase_is : {N : Type 0} (blocks_of : N → List device.Block) (log : Log) (ws : List Waived) (j : Job) (v : State N) (c : Collection) (block : ℕ) → IsCollector blocks_of log ws j v c → block ≡ c.victim → HasDropped v.places c → IsUnplaced v.places block
     → act_for v.accounts.plan log j ≡ Some (does.Erase block)
-erase_is blocks_of log ws j v c block k is dropped empty =
+erase_is blocks_of log ws j v c block k is dropped unplaced =
     erases v.accounts.plan log j c k.collects k.run.victim k.run.holds (dropped_there blocks_of log ws j v c k dropped)
-    (subst (λ (ps : List (Option Place)). IsEmpty ps c.victim) k.flash.places_are (subst (IsEmpty v.places) is empty))
+    (subst (λ (ps : List (Option Place)). IsUnplaced ps c.victim) k.flash.places_are (subst (IsUnplaced v.places) is unplaced))
     ∙ ap (λ (b : ℕ). Some (does.Erase b)) (sym is)
 
 took_erase : {N : Type 0} (blocks_of : N → List device.Block) (log : Log) (caller : ℕ) (ws : List Waived) (j : Job) (v w : State N) (c : Collection) (block : ℕ) → IsCollector blocks_of log ws j v c → Goes blocks_of v j.task c block w
@@ -268,7 +268,7 @@ took_erase blocks_of log caller ws j v w c block k d = record {
     waived_by past = after_waivers past ws (accounts v.accounts.plan past)
 
     act_is : act_for v.accounts.plan log j ≡ Some (does.Erase block)
-    act_is = erase_is blocks_of log ws j v c block k d.erases.victim d.dropped d.erases.empty
+    act_is = erase_is blocks_of log ws j v c block k d.erases.victim d.dropped d.erases.unplaced
 
     last_is : are_all v.accounts.plan j (acts j.number log ++ does.Erase block ∷ []) ≡ false
     last_is = erase_count blocks_of log ws j v c block k d.erases.victim ∙ ne_eqb ((device.block_at (blocks_of v.device) block).erasing + 1) v.accounts.plan.shape.erase_slots d.going
@@ -285,7 +285,7 @@ copied_is blocks_of log ws j v c k =
 took_last : {N : Type 0} (blocks_of : N → List device.Block) (log : Log) (caller : ℕ) (ws : List Waived) (j : Job) (v w : State N) (c : Collection) (block gift : ℕ) → IsCollector blocks_of log ws j v c → Finishes blocks_of v j.task c block gift w
     → IsTaken blocks_of log caller ws j v w (turn_by (acts_of.Finished block gift))
 took_last blocks_of log caller ws j v w c block gift k d = record {
-  act_is = erase_is blocks_of log ws j v c block k d.erases.victim d.dropped d.erases.empty;
+  act_is = erase_is blocks_of log ws j v c block k d.erases.victim d.dropped d.erases.unplaced;
   last_is = last_is;
   given_is = λ h. rw k.collects (d.given ∙ ap (λ (a : Accounts). given_of a j.task) k.flash.accounts_are);
   flash = λ slot finished.

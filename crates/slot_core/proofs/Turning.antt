@@ -18,11 +18,11 @@ use Rattle.job_table.specs.Jobs.{JobRecord}
 use Rattle.job_table.specs.Table.{Table, work_at, work_of}
 use Rattle.job_table.specs.Order as table
 use Rattle.die_log.specs.Log.{Log, Job, Carried, jobs, job_at, carried, act_of, acts, waived, is_waived, work, now}
-use Rattle.die_log.specs.Flash.{Block, cells, block_at, empty_block, contents, free}
+use Rattle.die_log.specs.Flash.{Block, cells, block_at, free_block, contents, free}
 use Rattle.die_log.specs.Work.{is_done, is_ready, ready, least, is_write, owed}
 use Rattle.die_log.specs.Accounts.{accounts, after_waiver, after_waivers}
 use Rattle.die_log.specs.Answers.{page_of}
-use Rattle.die_log.specs.Held.{Agree, held_of, lent_to, is_open, IsTaken}
+use Rattle.die_log.specs.Held.{Agree, held_of, lent_to, is_pending, IsTaken}
 use Rattle.die_log.specs.Legal.{is_among}
 use Rattle.die_log.specs.Limits.{IsWithinLimits}
 use Rattle.die_log.proofs.Legal.Exact.{stands_well, StandsWell}
@@ -30,7 +30,7 @@ use Rattle.die_log.proofs.Legal.Runs.{operation_left}
 use Rattle.die_log.proofs.Limits.{keeps_limits}
 use Rattle.die_log.proofs.Standing.Kept.{waiting_undone}
 use Rattle.die_log.proofs.Standing.Longer.{number_at, contained}
-use Rattle.die_log.proofs.Tokens.Begins.{is_open_if}
+use Rattle.die_log.proofs.Tokens.Begins.{is_pending_if}
 use Rattle.die_log.proofs.Tokens.Sums.{all_at}
 use Rattle.slot_core.specs.Records.{record_with}
 use Rattle.slot_core.specs.Device.{FlashState, flash_of, counts_of}
@@ -54,7 +54,7 @@ pub record IsHeadJob (plan : DiePlan) (log : Log) (ws : List Waived) (t : Table)
   pub unwaived_now : is_among j.number ws ≡ false
   pub undone : is_done plan log j ≡ false
   pub limits : IsWithinLimits plan j
-  pub open_if : j.collects ≡ true → is_open plan (λ k. acts k log) (is_waived log) j ≡ true
+  pub pending_if : j.collects ≡ true → is_pending plan (λ k. acts k log) (is_waived log) j ≡ true
   pub least_is : least (unwaived ws (ready plan log)) ≡ Some j
 
 same_table : (t u : Table) → t.tasks ≡ u.tasks → t.clock ≡ u.clock → t.ended ≡ u.ended → t.jobs ≡ u.jobs → t ≡ u
@@ -77,7 +77,7 @@ head_job_by plan log present ws t n j s w h at record_is = record {
   unwaived_now = not_true (is_among j.number ws) parts.1;
   undone = waiting_undone plan log j parts.0;
   limits = (keeps_limits plan log s.exact).each j stands;
-  open_if = λ collects. is_open_if plan log j parts.0 collects;
+  pending_if = λ collects. is_pending_if plan log j parts.0 collects;
   least_is = head_least plan log ws (length plan.caps) n false j both.0.numbered at (subst (λ (u : Table). table.IsHead u n) (table_is plan log ws t w) h);
 }
   where
@@ -146,7 +146,7 @@ run_fits : {N : Type 0} (blocks_of : N → List device.Block) (log : Log) (prese
     → RunsHead v.accounts.plan log j (flash_of blocks_of v) c → RunFits blocks_of v (record_with v.accounts.plan log (waived log ++ ws) j)
 run_fits blocks_of log present ws j v c s flash run =
     let erases : (device.block_at (blocks_of v.device) c.victim).erases ≡ (block_at (cells v.accounts.plan log) c.victim).erases =
-    ap (λ (x : Block). x.erases) (counted (blocks_of v.device) c.victim ∙ ap (λ (bs : List Block). slice_index_or bs c.victim empty_block) flash.blocks_are) in
+    ap (λ (x : Block). x.erases) (counted (blocks_of v.device) c.victim ∙ ap (λ (bs : List Block). slice_index_or bs c.victim free_block) flash.blocks_are) in
     record { collection = c; runs = run.runs; few_erases = omega (arith, erases, (keeps_limits v.accounts.plan log s.exact).erases c.victim, s.few) }
 
 pub head_fits : {N : Type 0} (blocks_of : N → List device.Block) (log : Log) (present : ℕ) (ws : List Waived) (t : Table) (n : ℕ) (v : State N) (r : JobRecord) → HasTurn v.accounts.plan log present ws t (flash_of blocks_of v) n → slice_get t.jobs n ≡ Some r

@@ -12,9 +12,9 @@ use Rattle.flash_die.specs.Flash as device
 use Rattle.flash_volume.specs.declared.collection.Collection.{Collection}
 use Rattle.flash_volume.specs.Cells.{filled_of}
 use Rattle.flash_volume.specs.Running.{running_of}
-use Rattle.flash_volume.specs.Picks.{IsClosed, IsVictim}
+use Rattle.flash_volume.specs.Picks.{IsCandidate, IsVictim}
 use Rattle.die_log.specs.Log.{Log, Job, jobs}
-use Rattle.die_log.specs.Flash.{Block, Cells, cells, block_at, is_full, valid, empty_block}
+use Rattle.die_log.specs.Flash.{Block, Cells, cells, block_at, is_closed, valid, free_block}
 use Rattle.die_log.specs.Work.{victim_of}
 use Rattle.die_log.specs.Answers.{is_running, is_block, is_collected, candidates, victim}
 use Rattle.die_log.specs.Sound.{AreSound}
@@ -117,17 +117,17 @@ filter_has t a (suc n) v low high e = by_place (a == v) refl (λ above. filter_h
 -- Closed blocks
 
 abbrev is_candidate : DiePlan → Log → ℕ → Bool
-is_candidate plan past b = is_full plan (block_at (cells plan past) b) && not (is_collected plan past b)
+is_candidate plan past b = is_closed plan (block_at (cells plan past) b) && not (is_collected plan past b)
 
 filled_is : (plan : DiePlan) (past : Log) (blocks : List device.Block) (b : ℕ) → map counts_of blocks ≡ (cells plan past).blocks → filled_of (device.block_at blocks b) ≡ (block_at (cells plan past) b).filled
-filled_is plan past blocks b are = ap (λ (s : Block). s.filled) (counted blocks b ∙ ap (λ (bs : List Block). slice_index_or bs b empty_block) are)
+filled_is plan past blocks b are = ap (λ (s : Block). s.filled) (counted blocks b ∙ ap (λ (bs : List Block). slice_index_or bs b free_block) are)
 
 closed_is : (plan : DiePlan) (past : Log) (blocks : List device.Block) (running : List (Option Collection)) (b : ℕ) → AreSound plan (cells plan past) → map counts_of blocks ≡ (cells plan past).blocks → AreRunning plan past running
-    → b < plan.shape.blocks → is_candidate plan past b ≡ true → IsClosed plan.shape.pages blocks running b
+    → b < plan.shape.blocks → is_candidate plan past b ≡ true → IsCandidate plan.shape.pages blocks running b
 closed_is plan past blocks running b sound are r lt e =
-    let parts = and_parts (is_full plan (block_at (cells plan past) b)) (not (is_collected plan past b)) e in record {
+    let parts = and_parts (is_closed plan (block_at (cells plan past) b)) (not (is_collected plan past b)) e in record {
       in_range = omega (arith, lt, sound.blocks, length-map blocks counts_of, ap length are);
-      full = filled_is plan past blocks b are ∙ eqb-true _ _ parts.0;
+      closed = filled_is plan past blocks b are ∙ eqb-true _ _ parts.0;
       alone = λ task c at is.
           let i = r.each task c at in
           true≢false (sym (runs_collected plan past i.0 b (subst (λ (x : ℕ). Runs plan past i.0 x) is i.1.runs)) ∙ not-true (is_collected plan past b) parts.1);
@@ -143,9 +143,9 @@ collected_runs plan past running b r e =
     (f.0.task, c.0, c.1, c.2)
 
 candidate_is : (plan : DiePlan) (past : Log) (blocks : List device.Block) (running : List (Option Collection)) (b : ℕ) → map counts_of blocks ≡ (cells plan past).blocks → AreRunning plan past running
-    → IsClosed plan.shape.pages blocks running b → is_candidate plan past b ≡ true
+    → IsCandidate plan.shape.pages blocks running b → is_candidate plan past b ≡ true
 candidate_is plan past blocks running b are r closed =
-    and_from (is_full plan (block_at (cells plan past) b)) (not (is_collected plan past b)) (eq-eqb _ _ (sym (filled_is plan past blocks b are) ∙ closed.full))
+    and_from (is_closed plan (block_at (cells plan past) b)) (not (is_collected plan past b)) (eq-eqb _ _ (sym (filled_is plan past blocks b are) ∙ closed.closed))
     (not_from_false (is_collected plan past b) (false_from_ne_true (is_collected plan past b) (λ e. let t = collected_runs plan past running b r e in closed.alone t.0 t.1 t.2 t.3)))
 
 -- the volume's choice is the log's
@@ -154,7 +154,7 @@ pub victim_is : (plan : DiePlan) (past : Log) (blocks : List device.Block) (plac
 victim_is plan past blocks places running b sound are places_are r v =
     reduce_least (valid (cells plan past)) b (candidates plan past) (filter_rises (is_candidate plan past) 0 plan.shape.blocks)
     (filter_all (is_candidate plan past) (NotAfter (valid (cells plan past)) b) 0 plan.shape.blocks not_after)
-    (filter_has (is_candidate plan past) 0 plan.shape.blocks b (omega arith) (omega (arith, v.closed.in_range, sound.blocks, length-map blocks counts_of, ap length are)) (candidate_is plan past blocks running b are r v.closed))
+    (filter_has (is_candidate plan past) 0 plan.shape.blocks b (omega arith) (omega (arith, v.candidate.in_range, sound.blocks, length-map blocks counts_of, ap length are)) (candidate_is plan past blocks running b are r v.candidate))
   where
     count_is : (o : ℕ) → count_by (is_in o) places ≡ valid (cells plan past) o
     count_is o = ap (count_by (is_in o)) places_are

@@ -16,10 +16,10 @@ use Rattle.die_log.specs.Log.{Log, Job, jobs, acts, is_waived, now}
 use Rattle.die_log.specs.Work.{is_done, is_ready, ready, least}
 use Rattle.die_log.specs.Accounts.{accounts}
 use Rattle.die_log.specs.Answers.{IsExact, Choice, choice, choice_among, chosen, weighed, nobody, without, with_waiver, is_waivable}
-use Rattle.die_log.specs.Held.{is_open, open_of, IsTaken, AreTrue}
+use Rattle.die_log.specs.Held.{is_pending, pending_of, IsTaken, AreTrue}
 use Rattle.die_log.proofs.Choices.{OfSome, least_all}
 use Rattle.die_log.proofs.Legal.Exact.{stands_well}
-use Rattle.die_log.proofs.Tokens.Begins.{is_open_if}
+use Rattle.die_log.proofs.Tokens.Begins.{is_pending_if}
 use Rattle.die_log.proofs.Tokens.Sums.{some_pass}
 use Rattle.slot_core.specs.Slotted.{unwaived, behind, GoesOn}
 use Rattle.slot_core.proofs.Choosing.{waiver_of, waives}
@@ -135,9 +135,9 @@ tasks_below k p (x ∷ xs) all q e = by_test (p x) (λ h. tasks_below k p xs all
     by_test false again h = again h
 
 -- of the ready ones, those that collect pass
-count_open : (p t : Job → Bool) (js : List Job) → ((k : ℕ) (j : Job) → slice_get js k ≡ Some j → t j ≡ true → j.collects ≡ true → p j ≡ true) → count_by collects (filter t js) ≤ length (tasks_of p js)
-count_open p t [] h = omega arith
-count_open p t (x ∷ xs) h = by_tests (t x) (p x) refl refl (count_open p t xs (λ k j e. h (suc k) j e))
+count_pending : (p t : Job → Bool) (js : List Job) → ((k : ℕ) (j : Job) → slice_get js k ≡ Some j → t j ≡ true → j.collects ≡ true → p j ≡ true) → count_by collects (filter t js) ≤ length (tasks_of p js)
+count_pending p t [] h = omega arith
+count_pending p t (x ∷ xs) h = by_tests (t x) (p x) refl refl (count_pending p t xs (λ k j e. h (suc k) j e))
   where
     by_kind : (b : Bool) → x.collects ≡ b → t x ≡ true → p x ≡ false → b ≡ false
     by_kind false is ready fails = refl
@@ -166,9 +166,9 @@ few_waivers plan log bound exact =
     omega (
       arith,
       few_among plan log (length (ready plan log)) (accounts plan log) (ready plan log),
-      count_open (is_open plan (λ n. acts n log) (is_waived log)) (is_ready plan log) (jobs log) (λ k j e is_ready_now is. is_open_if plan log j is_ready_now is),
-      length-le_from_distinct_below (tasks_of (is_open plan (λ n. acts n log) (is_waived log)) (jobs log)) (length plan.caps) (distinct_tasks (is_open plan (λ n. acts n log) (is_waived log)) (jobs log) true_accounts.one_each)
-          (tasks_below (length plan.caps) (is_open plan (λ n. acts n log) (is_waived log)) (jobs log) (all_tasks plan (jobs log) true_accounts.taken)),
+      count_pending (is_pending plan (λ n. acts n log) (is_waived log)) (is_ready plan log) (jobs log) (λ k j e is_ready_now is. is_pending_if plan log j is_ready_now is),
+      length-le_from_distinct_below (tasks_of (is_pending plan (λ n. acts n log) (is_waived log)) (jobs log)) (length plan.caps) (distinct_tasks (is_pending plan (λ n. acts n log) (is_waived log)) (jobs log) true_accounts.one_each)
+          (tasks_below (length plan.caps) (is_pending plan (λ n. acts n log) (is_waived log)) (jobs log) (all_tasks plan (jobs log) true_accounts.taken)),
     )
   where
     true_accounts : AreTrue plan log

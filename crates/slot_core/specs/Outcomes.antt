@@ -50,7 +50,7 @@ worst_of plan log = option_map (worst_from log) (worst plan log)
 -- By a table's record of it
 
 abbrev pub outcome_as : Stage → ℕ → List PageData → Outcome
-outcome_as stages.Open due reads = outcomes.Waiting
+outcome_as stages.Pending due reads = outcomes.Waiting
 outcome_as (stages.Done completion given) due reads = outcomes.Done completion (slots.lateness_of completion due) given reads
 outcome_as (stages.Waived given) due reads = outcomes.Waived given
 

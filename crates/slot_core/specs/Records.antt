@@ -56,7 +56,7 @@ waiver_among number ws = find (λ w. w.number == number) ws
 abbrev pub stage_by : Option Waived → Bool → ℕ → ℕ → Stage
 stage_by (Some w) done completion given = stages.Waived w.given
 stage_by None true completion given = stages.Done completion given
-stage_by None false completion given = stages.Open
+stage_by None false completion given = stages.Pending
 
 -- a job that did these acts, with its completion and what it gave, where these collections were waived
 abbrev pub record_from : DiePlan → List Act → ℕ → ℕ → List Waived → Job → JobRecord

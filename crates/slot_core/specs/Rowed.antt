@@ -11,7 +11,7 @@ abbrev pub row_with : ℕ → JobRecord → Option ℕ → JobRow
 row_with number r completion = record { number = number; release = r.release; due = r.due; work = r.work; completion = completion }
 
 abbrev pub row_as : Stage → ℕ → JobRecord → Option JobRow
-row_as stages.Open number r = Some (row_with number r None)
+row_as stages.Pending number r = Some (row_with number r None)
 row_as (stages.Done completion given) number r = Some (row_with number r (Some completion))
 row_as (stages.Waived given) number r = None
 

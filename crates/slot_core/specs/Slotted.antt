@@ -10,7 +10,7 @@ use Rattle.flash_volume.specs.Running.{running_of}
 use Rattle.job_table.specs.Jobs.{JobRecord}
 use Rattle.job_table.specs.Table.{Table}
 use Rattle.job_table.specs.Order.{IsHead}
-use Rattle.job_table.specs.Waivers.{WereOpen, waived_in}
+use Rattle.job_table.specs.Waivers.{WerePending, waived_in}
 use Rattle.die_log.specs.Log.{Log, Job, jobs, job_at, waived, now, work}
 use Rattle.die_log.specs.Flash.{contents, cells}
 use Rattle.die_log.specs.Work.{ready}
@@ -52,7 +52,7 @@ pub record IsWaivedTable (plan : DiePlan) (log : Log) (ws : List Waived) (t : Ta
   pub clock_is : t.clock ≡ now log
   pub running : t.ended ≡ false
   pub jobs_are : t.jobs ≡ map (record_with plan log (waived log ++ ws)) (jobs log)
-  pub were_open : WereOpen (records plan log) ws
+  pub were_pending : WerePending (records plan log) ws
   pub were : t.jobs ≡ waived_in (records plan log) ws
 
 -- the slot is the log's next, and not the last

@@ -21,7 +21,7 @@ fn row_in(number: u32, job: &Job) -> Option<JobRow>
     ensures { result ≡ row_in number job.now }
 {
     let completion = match job.stage() {
-        Stage::Open => None,
+        Stage::Pending => None,
         Stage::Done { completion, .. } => Some(completion),
         Stage::Waived { .. } => return None,
     };

@@ -57,7 +57,7 @@ fn outcome_in(alloc: Global, job: &Job) -> Result<Outcome, Refusal>
     ensures refused { IfErr result (λ refusal. refusal ≡ Refusal.NoMemory) }
 {
     match job.stage() {
-        Stage::Open => Ok(Outcome::Waiting),
+        Stage::Pending => Ok(Outcome::Waiting),
         Stage::Waived { given } => Ok(Outcome::Waived { given }),
         Stage::Done { completion, given } => match Vec::from_slice(alloc, job.reads()) {
             Ok(items) => Ok(Outcome::Done {

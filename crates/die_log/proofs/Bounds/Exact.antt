@@ -34,7 +34,7 @@ use Rattle.die_log.proofs.Legal.Exact.{StandsWell, stands_well, well_served, cho
 use Rattle.die_log.proofs.Tokens.Waivers.{Waits}
 use Rattle.die_log.proofs.Tokens.Slots.{IsTurn}
 use Rattle.die_log.proofs.Tokens.Few.{MayShow, still_few}
-use Rattle.die_log.proofs.Bounds.Acts.{is_copy_read, pending, IsBounded, idle_bounded, other_bounded, own_read, own_copy, own_erase}
+use Rattle.die_log.proofs.Bounds.Acts.{is_copy_read, in_buffer, IsBounded, idle_bounded, other_bounded, own_read, own_copy, own_erase}
 
 -- each collection of a log
 abbrev AreBounded : DiePlan → Log → Type 0
@@ -83,7 +83,7 @@ record Moves (plan : DiePlan) (past : Log) (j : Job) (act : Act) : Type 0 where
   finds : FindsFree plan past act
 
 begun_fits : (plan : DiePlan) (past : Log) (j : Job) (b : ℕ) → j.collects ≡ true → is_done plan past j ≡ false → victim_of plan j.number past ≡ Some b
-    → IsBounded plan (cells plan past) j (acts j.number past) (victim_of plan j.number past) → count_by is_copy_read (acts j.number past) + valid (cells plan past) b ≤ reserve_full plan + pending (cells plan past) (acts j.number past) b
+    → IsBounded plan (cells plan past) j (acts j.number past) (victim_of plan j.number past) → count_by is_copy_read (acts j.number past) + valid (cells plan past) b ≤ reserve_full plan + in_buffer (cells plan past) (acts j.number past) b
 begun_fits plan past j b kind undone shown h =
     h.fits b (runs_from plan j (acts j.number past) (record { collects = kind; begun = victim_begun plan j.number b past (acts j.number past) refl shown; undone = undone })) shown
 
@@ -96,7 +96,7 @@ own_bounded plan past j (does.Write page bytes) b m k undone may few h = absurd 
 own_bounded plan past j (does.CopyRead page) b m k undone may few h =
     own_read plan (cells plan past) j (acts j.number past) (victim_of plan j.number past) b page h may (by_case k.shown)
   where
-    by_case : (victim_of plan j.number past ≡ Some b) ⊎ (acts j.number past ≡ []) → count_by is_copy_read (acts j.number past) + valid (cells plan past) b ≤ reserve_full plan + pending (cells plan past) (acts j.number past) b
+    by_case : (victim_of plan j.number past ≡ Some b) ⊎ (acts j.number past ≡ []) → count_by is_copy_read (acts j.number past) + valid (cells plan past) b ≤ reserve_full plan + in_buffer (cells plan past) (acts j.number past) b
     by_case (inl shown) = begun_fits plan past j b m.kind undone shown h
     by_case (inr none) = omega (arith, few, ap (λ (l : List Act). count_by is_copy_read l) none)
 own_bounded plan past j (does.CopyProgram page) b m k undone may few h =
@@ -105,9 +105,9 @@ own_bounded plan past j (does.CopyProgram page) b m k undone may few h =
     let o = opens plan (cells plan past) m.finds in
     let copies = (well_served plan past m.bound m.well).few_copies j page (stands_at (jobs past) j m.well.0.numbered m.waiting.0) m.waiting.1 m.does_it in
     subst (λ x. IsBounded plan (programmed_in page x (cells plan past)) j (acts j.number past ++ does.CopyProgram page ∷ []) (Some b)) (sym o.1)
-    (own_copy plan (cells plan past) j (acts j.number past) (victim_of plan j.number past) (λ p. written_since j.number p past) b page o.0 pages sound k.collecting.full o.1 h may copies (by_case k.shown))
+    (own_copy plan (cells plan past) j (acts j.number past) (victim_of plan j.number past) (λ p. written_since j.number p past) b page o.0 pages sound k.collecting.closed o.1 h may copies (by_case k.shown))
   where
-    by_case : (victim_of plan j.number past ≡ Some b) ⊎ (acts j.number past ≡ []) → count_by is_copy_read (acts j.number past) + valid (cells plan past) b ≤ reserve_full plan + pending (cells plan past) (acts j.number past) b
+    by_case : (victim_of plan j.number past ≡ Some b) ⊎ (acts j.number past ≡ []) → count_by is_copy_read (acts j.number past) + valid (cells plan past) b ≤ reserve_full plan + in_buffer (cells plan past) (acts j.number past) b
     by_case (inl shown) = begun_fits plan past j b m.kind undone shown h
     by_case (inr none) = absurd (none-some (does.CopyRead page) (sym (ap (λ (l : List Act). last_or None l) none) ∙ may.follows))
 own_bounded plan past j (does.Erase a) b m k undone may few h = own_erase plan (cells plan past) j (acts j.number past) (victim_of plan j.number past) j.number b a h may
@@ -123,7 +123,7 @@ others_bounded : (plan : DiePlan) (past : Log) (caller : ℕ) (ws : List Waived)
 others_bounded plan past caller ws j act i bound well stands apart h =
     unmoved plan (turn_entry plan past caller ws j act) past i (act_other j.number i.number act (λ e. apart (sym e)))
     (other_bounded plan (cells plan past) i (acts i.number past) (victim_of plan i.number past) j.number act (has_pages plan bound) well.0.collects.sound
-    (λ b runs shown. (well.0.collects.collecting i b (record { stands = stands; running = runs; victim = shown })).full) h)
+    (λ b runs shown. (well.0.collects.collecting i b (record { stands = stands; running = runs; victim = shown })).closed) h)
 
 head_bounded : (plan : DiePlan) (past : Log) (caller : ℕ) (ws : List Waived) (j : Job) (act : Act) → Moves plan past j act → IsTurn plan past ws j act → MayShow plan past ws j
     → IsBounded plan (cells plan past) j (acts j.number past) (victim_of plan j.number past)

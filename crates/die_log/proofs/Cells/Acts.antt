@@ -5,7 +5,7 @@ use Rattle.slot_types.specs.Places.{place_of}
 use Rattle.slot_types.specs.declared.plans.DiePlan.{DiePlan}
 use Rattle.slot_types.specs.declared.pages.Place.{Place}
 use Rattle.die_log.specs.Flash.{Cells, Block, block_at, block_of_page}
-use Rattle.die_log.specs.Sound.{IsPartly, IsFull, IsUnplaced, AreSound, IsProgram, IsEraseSlot}
+use Rattle.die_log.specs.Sound.{IsOpen, IsClosed, IsUnplaced, AreSound, IsProgram, IsEraseSlot}
 
 -- a page is placed in a block
 pub in_block : (c : Cells) (page b : ℕ) (q : Place) → place_of c.places page ≡ Some q → q.block ≡ b → block_of_page c page ≡ Some b
@@ -66,12 +66,12 @@ apart_more plan page b c s p o q r (inl h) (inr k) x y = absurd (above_old plan 
 apart_more plan page b c s p o q r (inr h) (inl k) x y = absurd (above_old plan c p b 0 q s h.1 (x ∙ k.1) (y ∙ k.2))
 apart_more plan page b c s p o q r (inr h) (inr k) x y = s.apart p o q r h.1 k.1 x y
 
-partly_is : (plan : DiePlan) (page b : ℕ) (c d : Cells) → IsProgram plan page b c d → (a : ℕ) → IsPartly plan d a → (a ≡ b) ⊎ (a ≡ b → ⊥) → a ≡ b
-partly_is plan page b c d w a h (inl e) = e
-partly_is plan page b c d w a h (inr other) = w.alone a (rw (w.others a other) at h)
+opened_is : (plan : DiePlan) (page b : ℕ) (c d : Cells) → IsProgram plan page b c d → (a : ℕ) → IsOpen plan d a → (a ≡ b) ⊎ (a ≡ b → ⊥) → a ≡ b
+opened_is plan page b c d w a h (inl e) = e
+opened_is plan page b c d w a h (inr other) = w.alone a (rw (w.others a other) at h)
 
 erasing_more : (plan : DiePlan) (page b : ℕ) (c d : Cells) → AreSound plan c → IsProgram plan page b c d → (a : ℕ) → 0 < (block_at d a).erasing → (a ≡ b) ⊎ (a ≡ b → ⊥)
-    → ((block_at d a).erasing < plan.shape.erase_slots) × IsFull plan d a × IsUnplaced d a
+    → ((block_at d a).erasing < plan.shape.erase_slots) × IsClosed plan d a × IsUnplaced d a
 erasing_more plan page b c d s w a h (inl e) =
     let here : 0 < (block_at d b).erasing = subst (λ (x : ℕ). 0 < (block_at d x).erasing) e h in
     absurd (omega (arith, w.erasing, open_idle plan c b s w.room))
@@ -88,7 +88,7 @@ program_sound plan page b c d s w = record {
   within = λ a. within_more plan page b c d s w a (cases_eq a b);
   placed = λ p q e. placed_more plan page b c d s w p q (w.moved p q e);
   apart = λ p o q r e f. apart_more plan page b c s p o q r (w.moved p q e) (w.moved o r f);
-  one_partly = λ x y h k. partly_is plan page b c d w x h (cases_eq x b) ∙ sym (partly_is plan page b c d w y k (cases_eq y b));
+  one_open = λ x y h k. opened_is plan page b c d w x h (cases_eq x b) ∙ sym (opened_is plan page b c d w y k (cases_eq y b));
   erasing = λ a h. erasing_more plan page b c d s w a h (cases_eq a b);
 }
 
@@ -115,21 +115,21 @@ erased_placed : (plan : DiePlan) (b : ℕ) (c d : Cells) → AreSound plan c →
 erased_placed plan b c d s none w p q e (inl is) = absurd (none p (in_block c p b q e is))
 erased_placed plan b c d s none w p q e (inr other) = rw (w.others q.block other) (s.placed p q e)
 
--- whoever is partly filled after an erase slot of a full block was so before
-erased_partly : (plan : DiePlan) (b : ℕ) (c d : Cells) → IsFull plan c b → IsEraseSlot plan b c d → (a : ℕ) → IsPartly plan d a → Slot plan b c d → (a ≡ b) ⊎ (a ≡ b → ⊥) → IsPartly plan c a
-erased_partly plan b c d full w a h (inl k) (inl e) = let here : IsPartly plan d b = subst (IsPartly plan d) e h in absurd (omega (arith, here.0, k.1))
-erased_partly plan b c d full w a h (inr k) (inl e) = let here : IsPartly plan d b = subst (IsPartly plan d) e h in absurd (omega (arith, here.1, k.1, full))
-erased_partly plan b c d full w a h k (inr other) = rw (w.others a other) at h
+-- whoever is open after an erase slot of a closed block was so before
+erased_open : (plan : DiePlan) (b : ℕ) (c d : Cells) → IsClosed plan c b → IsEraseSlot plan b c d → (a : ℕ) → IsOpen plan d a → Slot plan b c d → (a ≡ b) ⊎ (a ≡ b → ⊥) → IsOpen plan c a
+erased_open plan b c d closed w a h (inl k) (inl e) = let here : IsOpen plan d b = subst (IsOpen plan d) e h in absurd (omega (arith, here.0, k.1))
+erased_open plan b c d closed w a h (inr k) (inl e) = let here : IsOpen plan d b = subst (IsOpen plan d) e h in absurd (omega (arith, here.1, k.1, closed))
+erased_open plan b c d closed w a h k (inr other) = rw (w.others a other) at h
 
-erased_erasing : (plan : DiePlan) (b : ℕ) (c d : Cells) → AreSound plan c → IsFull plan c b → IsUnplaced c b → IsEraseSlot plan b c d → (a : ℕ) → 0 < (block_at d a).erasing
-    → Slot plan b c d → (block_at c b).erasing < plan.shape.erase_slots → (a ≡ b) ⊎ (a ≡ b → ⊥) → ((block_at d a).erasing < plan.shape.erase_slots) × IsFull plan d a × IsUnplaced d a
-erased_erasing plan b c d s full none w a h (inl k) lt (inl e) =
+erased_erasing : (plan : DiePlan) (b : ℕ) (c d : Cells) → AreSound plan c → IsClosed plan c b → IsUnplaced c b → IsEraseSlot plan b c d → (a : ℕ) → 0 < (block_at d a).erasing
+    → Slot plan b c d → (block_at c b).erasing < plan.shape.erase_slots → (a ≡ b) ⊎ (a ≡ b → ⊥) → ((block_at d a).erasing < plan.shape.erase_slots) × IsClosed plan d a × IsUnplaced d a
+erased_erasing plan b c d s closed none w a h (inl k) lt (inl e) =
     let here : 0 < (block_at d b).erasing = subst (λ (x : ℕ). 0 < (block_at d x).erasing) e h in
     absurd (omega (arith, k.2))
-erased_erasing plan b c d s full none w a h (inr k) lt (inl e) =
+erased_erasing plan b c d s closed none w a h (inr k) lt (inl e) =
     let less : (block_at d b).erasing < plan.shape.erase_slots = omega (arith, k.0, k.2) in
-    (rw e less, rw e (k.1 ∙ full), rw e (λ p x. none p (sym (erase_stays plan b c d w p) ∙ x)))
-erased_erasing plan b c d s full none w a h k lt (inr other) =
+    (rw e less, rw e (k.1 ∙ closed), rw e (λ p x. none p (sym (erase_stays plan b c d w p) ∙ x)))
+erased_erasing plan b c d s closed none w a h k lt (inr other) =
     let same : block_at d a ≡ block_at c a = w.others a other in
     let old = s.erasing a (subst (λ (x : Block). 0 < x.erasing) same h) in
     (rw same old.0, rw same old.1, λ p x. old.2 p (sym (erase_stays plan b c d w p) ∙ x))
@@ -142,14 +142,14 @@ erase_left plan c b more s = by_eq (cases_eq ((block_at c b).erasing) 0)
     by_eq (inl e) = omega arith
     by_eq (inr e) = (s.erasing b (omega arith)).0
 
--- a slot of the erase of a full block, in which no page is placed, keeps cells sound
-pub erase_sound : (plan : DiePlan) (b : ℕ) (c d : Cells) → 0 < plan.shape.erase_slots → AreSound plan c → IsFull plan c b → IsUnplaced c b → IsEraseSlot plan b c d → AreSound plan d
-erase_sound plan b c d more s full none w = record {
+-- a slot of the erase of a closed block, in which no page is placed, keeps cells sound
+pub erase_sound : (plan : DiePlan) (b : ℕ) (c d : Cells) → 0 < plan.shape.erase_slots → AreSound plan c → IsClosed plan c b → IsUnplaced c b → IsEraseSlot plan b c d → AreSound plan d
+erase_sound plan b c d more s closed none w = record {
   blocks = w.blocks ∙ s.blocks;
   places = ap length w.places ∙ s.places;
   within = λ a. erased_within plan b c d s w a w.slot (cases_eq a b);
   placed = λ p q e. erased_placed plan b c d s none w p q (sym (erase_places plan b c d w p) ∙ e) (cases_eq q.block b);
   apart = λ p o q r e f. s.apart p o q r (sym (erase_places plan b c d w p) ∙ e) (sym (erase_places plan b c d w o) ∙ f);
-  one_partly = λ x y h k. s.one_partly x y (erased_partly plan b c d full w x h w.slot (cases_eq x b)) (erased_partly plan b c d full w y k w.slot (cases_eq y b));
-  erasing = λ a h. erased_erasing plan b c d s full none w a h w.slot (erase_left plan c b more s) (cases_eq a b);
+  one_open = λ x y h k. s.one_open x y (erased_open plan b c d closed w x h w.slot (cases_eq x b)) (erased_open plan b c d closed w y k w.slot (cases_eq y b));
+  erasing = λ a h. erased_erasing plan b c d s closed none w a h w.slot (erase_left plan c b more s) (cases_eq a b);
 }

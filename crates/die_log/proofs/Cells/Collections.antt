@@ -13,7 +13,7 @@ use Rattle.die_log.specs.Flash.{Cells, Block, block_at, block_of_page, valid, va
 use Rattle.die_log.specs.Work.{is_erase}
 use Rattle.die_log.specs.Answers.{buffer_after, is_block, is_placed_in, read_or_erase, collect_act}
 use Rattle.die_log.specs.Legal.{is_write_of}
-use Rattle.die_log.specs.Sound.{IsFull, AreSound, IsProgram, IsEraseSlot, IsStep, IsCollecting, MayDo}
+use Rattle.die_log.specs.Sound.{IsClosed, AreSound, IsProgram, IsEraseSlot, IsStep, IsCollecting, MayDo}
 use Rattle.die_log.proofs.Cells.Acts.{program_stays, erase_stays, erase_left}
 use Rattle.die_log.proofs.Cells.Valid.{valid_is, unplaced_is, valid_placed}
 
@@ -23,7 +23,7 @@ use Rattle.die_log.proofs.Cells.Valid.{valid_is, unplaced_is, valid_placed}
 pub keeps_collecting : (plan : DiePlan) (c d : Cells) (own : List Act) (fresh newer : ℕ → Bool) (b : ℕ) → IsCollecting plan c own fresh b → block_at d b ≡ block_at c b
     → ((p : ℕ) → block_of_page d p ≡ Some b → (block_of_page c p ≡ Some b) × (newer p ≡ true → fresh p ≡ true)) → IsCollecting plan d own newer b
 keeps_collecting plan c d own fresh newer b k same stays = record {
-  full = ap (λ (s : Block). s.filled) same ∙ k.full;
+  closed = ap (λ (s : Block). s.filled) same ∙ k.closed;
   erases = ap (λ (s : Block). s.erasing) same ∙ k.erases;
   of_own = k.of_own;
   read = λ p h e. k.read p h (stays p e).0;
@@ -33,7 +33,7 @@ keeps_collecting plan c d own fresh newer b k same stays = record {
 -- the open block isn't the one that is collected
 apart_open : (plan : DiePlan) (c d : Cells) (own : List Act) (fresh : ℕ → Bool) (b o page : ℕ) → IsCollecting plan c own fresh b → IsProgram plan page o c d → b ≢ o
 apart_open plan c d own fresh b o page k w e =
-    let full : (block_at c o).filled ≡ plan.shape.pages = subst (λ (x : ℕ). IsFull plan c x) e k.full in
+    let closed : (block_at c o).filled ≡ plan.shape.pages = subst (λ (x : ℕ). IsClosed plan c x) e k.closed in
     omega (arith, w.room)
 
 not_written : (page p : ℕ) (before : Bool) → p ≢ page → (page == p || before) ≡ true → before ≡ true
@@ -74,10 +74,10 @@ push_case own act x differs h = by_case (Contains-push_cases own act x h)
     by_case (inl k) = k
     by_case (inr e) = absurd (differs e)
 
--- begun on a full block that isn't in erase
-pub begins_collecting : (plan : DiePlan) (c : Cells) (fresh : ℕ → Bool) (b : ℕ) → IsFull plan c b → (block_at c b).erasing ≡ 0 → IsCollecting plan c [] fresh b
-begins_collecting plan c fresh b full none = record {
-  full = full;
+-- begun on a closed block that isn't in erase
+pub begins_collecting : (plan : DiePlan) (c : Cells) (fresh : ℕ → Bool) (b : ℕ) → IsClosed plan c b → (block_at c b).erasing ≡ 0 → IsCollecting plan c [] fresh b
+begins_collecting plan c fresh b closed none = record {
+  closed = closed;
   erases = none;
   of_own = λ a h. absurd (omega (arith, h.1));
   read = λ p h e. absurd (omega (arith, h.1));
@@ -106,7 +106,7 @@ pub own_step : (plan : DiePlan) (act : Act) (c d : Cells) (own : List Act) (fres
 own_step plan (does.Read page bytes) c d own fresh newer b k may w differs never = absurd may
 own_step plan (does.Write page bytes) c d own fresh newer b k may w differs never = absurd may
 own_step plan (does.CopyRead page) c d own fresh newer b k may w differs never = record {
-  full = rw w k.full;
+  closed = rw w k.closed;
   erases = rw w (k.erases ∙ omega (arith, erases_push own (does.CopyRead page)));
   of_own = λ a h. k.of_own a (push_case own (does.CopyRead page) (does.Erase a) (λ e. absurd cc) h);
   read = λ p h e. by_case p (sym (ap (λ (x : Cells). block_of_page x p) w) ∙ e) (Contains-push_cases own (does.CopyRead page) (does.CopyRead p) h);
@@ -119,7 +119,7 @@ own_step plan (does.CopyRead page) c d own fresh newer b k may w differs never =
 own_step plan (does.CopyProgram page) c d own fresh newer b k may w differs never =
     let apart : b ≢ w.0 = apart_open plan c d own fresh b w.0 page k w.1 in
     let same : block_at d b ≡ block_at c b = w.1.others b apart in record {
-      full = ap (λ (s : Block). s.filled) same ∙ k.full;
+      closed = ap (λ (s : Block). s.filled) same ∙ k.closed;
       erases = ap (λ (s : Block). s.erasing) same ∙ (k.erases ∙ omega (arith, erases_push own (does.CopyProgram page)));
       of_own = λ a h. k.of_own a (push_case own (does.CopyProgram page) (does.Erase a) (λ e. absurd cc) h);
       read = λ p h e.
@@ -135,7 +135,7 @@ own_step plan (does.Erase a) c d own fresh newer b k may w differs never = subst
     at_own : IsEraseSlot plan b c d → count_by is_erase (own ++ does.Erase b ∷ []) ≢ plan.shape.erase_slots → IsCollecting plan d (own ++ does.Erase b ∷ []) newer b
     at_own v x =
         let h = not_erase_end plan b c d own v k.erases x in record {
-          full = h.0 ∙ k.full;
+          closed = h.0 ∙ k.closed;
           erases = omega (arith, h.1, k.erases, erases_push own (does.Erase b));
           of_own = λ e g. own_case e (Contains-push_cases own (does.Erase b) (does.Erase e) g);
           read = λ p g e. absurd (may.unplaced p (sym (erase_stays plan b c d v p) ∙ e));
@@ -170,7 +170,7 @@ read_or_erase_may plan c own fresh b [] more s k left e =
     let none : valid c b ≡ 0 = sym (valid_is plan c b s) ∙ ap length e in record {
       same = refl;
       left = omega (arith, k.erases, erase_left plan c b more s);
-      full = k.full;
+      closed = k.closed;
       valid_none = none;
       unplaced = unplaced_is plan c b none;
     }

@@ -12,8 +12,8 @@ use Rattle.slot_types.specs.declared.plans.DiePlan.{DiePlan}
 use Rattle.slot_types.specs.declared.acts.Act.{Act}
 use Rattle.slot_types.specs.declared.acts.Act.TheVariants as does
 use Rattle.slot_types.specs.declared.pages.Place.{Place}
-use Rattle.die_log.specs.Flash.{Cells, Block, empty_block, block_at, is_partly_filled, first_of, open_block, programmed_in, programmed, free_in, erased_once, cells_after, fresh_cells}
-use Rattle.die_log.specs.Sound.{IsPartly, IsFull, IsUnplaced, AreSound, IsProgram, IsEraseSlot, IsOpen, IsStep, HasRoom}
+use Rattle.die_log.specs.Flash.{Cells, Block, free_block, block_at, is_open, first_of, open_block, programmed_in, programmed, free_in, erased_once, cells_after, fresh_cells}
+use Rattle.die_log.specs.Sound.{IsOpen, IsClosed, IsUnplaced, AreSound, IsProgram, IsEraseSlot, TakesNext, IsStep, HasRoom}
 use Rattle.die_log.proofs.Cells.Acts.{program_sound, erase_sound}
 
 -- Places of lists
@@ -58,17 +58,17 @@ moved_to page b c p q e (inl is) (inr past) =
     absurd (none-some q (sym (get_or_past (slice_set c.places page new) p None (omega (arith, length-set c.places page new))) ∙ e))
 moved_to page b c p q e (inr other) h = inr (other, sym (get_or-set_other c.places page p _ None other) ∙ e)
 
--- a block that has room, and but for which none is partly filled, may be programmed
-pub program_is : (plan : DiePlan) (page b : ℕ) (c : Cells) → b < length c.blocks → (block_at c b).filled < plan.shape.pages → ((a : ℕ) → IsPartly plan c a → a ≡ b)
+-- a block that has room, and but for which none is open, may be programmed
+pub program_is : (plan : DiePlan) (page b : ℕ) (c : Cells) → b < length c.blocks → (block_at c b).filled < plan.shape.pages → ((a : ℕ) → IsOpen plan c a → a ≡ b)
     → IsProgram plan page b c (programmed_in page (Some b) c)
 program_is plan page b c lt room alone = record {
   blocks = length-set c.blocks b _;
   places = length-set c.places page _;
   room = room;
   alone = alone;
-  filled = ap (λ (s : Block). s.filled) (get_or-set_same c.blocks b _ empty_block lt);
-  erasing = ap (λ (s : Block). s.erasing) (get_or-set_same c.blocks b _ empty_block lt);
-  others = λ a other. get_or-set_other c.blocks b a _ empty_block other;
+  filled = ap (λ (s : Block). s.filled) (get_or-set_same c.blocks b _ free_block lt);
+  erasing = ap (λ (s : Block). s.erasing) (get_or-set_same c.blocks b _ free_block lt);
+  others = λ a other. get_or-set_other c.blocks b a _ free_block other;
   moved = λ p q e. moved_to page b c p q e (cases_eq p page) (cases_lt page (length c.places));
 }
 
@@ -76,36 +76,36 @@ program_is plan page b c lt room alone = record {
 
 pub within_blocks : (plan : DiePlan) (c : Cells) (a : ℕ) → 0 < (block_at c a).filled → (a < length c.blocks) ⊎ (length c.blocks ≤ a) → a < length c.blocks
 within_blocks plan c a h (inl lt) = lt
-within_blocks plan c a h (inr past) = let none : (block_at c a).filled ≡ 0 = ap (λ (s : Block). s.filled) (get_or_past c.blocks a empty_block past) in absurd (omega arith)
+within_blocks plan c a h (inr past) = let none : (block_at c a).filled ≡ 0 = ap (λ (s : Block). s.filled) (get_or_past c.blocks a free_block past) in absurd (omega arith)
 
-test_is : (plan : DiePlan) (s : Block) → 0 < s.filled → s.filled < plan.shape.pages → is_partly_filled plan s ≡ true
+test_is : (plan : DiePlan) (s : Block) → 0 < s.filled → s.filled < plan.shape.pages → is_open plan s ≡ true
 test_is plan s h k = grind (arith, nat_tests)
 
-test_says : (plan : DiePlan) (s : Block) → is_partly_filled plan s ≡ true → (0 < s.filled) × (s.filled < plan.shape.pages)
+test_says : (plan : DiePlan) (s : Block) → is_open plan s ≡ true → (0 < s.filled) × (s.filled < plan.shape.pages)
 test_says plan s h = let k = and_parts (nat_lt 0 s.filled) (nat_lt s.filled plan.shape.pages) h in (ltb-true 0 s.filled k.0, ltb-true s.filled plan.shape.pages k.1)
 
--- a partly filled block is found
-partly_found : (plan : DiePlan) (c : Cells) (a : ℕ) → IsPartly plan c a → position (is_partly_filled plan) c.blocks ≡ None → ⊥
-partly_found plan c a h e =
+-- an open block is found
+opened_found : (plan : DiePlan) (c : Cells) (a : ℕ) → IsOpen plan c a → position (is_open plan) c.blocks ≡ None → ⊥
+opened_found plan c a h e =
     let lt : a < length c.blocks = within_blocks plan c a h.0 (cases_lt a (length c.blocks)) in
-    let fails : is_partly_filled plan (get_or c.blocks a empty_block) ≡ false = no_position (is_partly_filled plan) c.blocks e a empty_block lt in
-    let passes : is_partly_filled plan (block_at c a) ≡ true = test_is plan (block_at c a) h.0 h.1 in
+    let fails : is_open plan (get_or c.blocks a free_block) ≡ false = no_position (is_open plan) c.blocks e a free_block lt in
+    let passes : is_open plan (block_at c a) ≡ true = test_is plan (block_at c a) h.0 h.1 in
     true≢false (sym passes ∙ fails)
 
-open_by : (plan : DiePlan) (c : Cells) (b : ℕ) (o f : Option ℕ) → 0 < plan.shape.pages → AreSound plan c → position (is_partly_filled plan) c.blocks ≡ o → position (λ s. s.filled == 0) c.blocks ≡ f
-    → first_of o f ≡ Some b → IsOpen plan c b
+open_by : (plan : DiePlan) (c : Cells) (b : ℕ) (o f : Option ℕ) → 0 < plan.shape.pages → AreSound plan c → position (is_open plan) c.blocks ≡ o → position (λ s. s.filled == 0) c.blocks ≡ f
+    → first_of o f ≡ Some b → TakesNext plan c b
 open_by plan c b (Some a) f more s e g h =
     let is : a ≡ b = same_Some a b h in
-    let k = position-Some (is_partly_filled plan) c.blocks b empty_block (e ∙ h) in
+    let k = position-Some (is_open plan) c.blocks b free_block (e ∙ h) in
     let says = test_says plan (block_at c b) k.1 in
-    record { stands = k.0; room = says.1; alone = λ x p. s.one_partly x b p says }
+    record { stands = k.0; room = says.1; alone = λ x p. s.one_open x b p says }
 open_by plan c b None f more s e g h =
-    let k = position-Some (λ (s : Block). s.filled == 0) c.blocks b empty_block (g ∙ h) in
+    let k = position-Some (λ (s : Block). s.filled == 0) c.blocks b free_block (g ∙ h) in
     let zero : (block_at c b).filled ≡ 0 = eqb-true (block_at c b).filled 0 k.1 in
-    record { stands = k.0; room = omega arith; alone = λ x p. absurd (partly_found plan c x p e) }
+    record { stands = k.0; room = omega arith; alone = λ x p. absurd (opened_found plan c x p e) }
 
-pub open_is : (plan : DiePlan) (c : Cells) (b : ℕ) → 0 < plan.shape.pages → AreSound plan c → open_block plan c ≡ Some b → IsOpen plan c b
-open_is plan c b more s h = open_by plan c b (position (is_partly_filled plan) c.blocks) (position (λ x. x.filled == 0) c.blocks) more s refl refl h
+pub open_is : (plan : DiePlan) (c : Cells) (b : ℕ) → 0 < plan.shape.pages → AreSound plan c → open_block plan c ≡ Some b → TakesNext plan c b
+open_is plan c b more s h = open_by plan c b (position (is_open plan) c.blocks) (position (λ x. x.filled == 0) c.blocks) more s refl refl h
 
 -- a free page shows an open block
 
@@ -125,13 +125,13 @@ has_room plan s h = by_test (s.erasing == 0) h
     by_test false k = absurd (omega arith)
 
 open_from : (plan : DiePlan) (c : Cells) (a : ℕ) → a < length c.blocks → (block_at c a).filled < plan.shape.pages → (o f : Option ℕ)
-    → position (is_partly_filled plan) c.blocks ≡ o → position (λ s. s.filled == 0) c.blocks ≡ f → (b : ℕ) × (first_of o f ≡ Some b)
+    → position (is_open plan) c.blocks ≡ o → position (λ s. s.filled == 0) c.blocks ≡ f → (b : ℕ) × (first_of o f ≡ Some b)
 open_from plan c a lt room (Some b) f e g = (b, refl)
 open_from plan c a lt room None (Some b) e g = (b, refl)
 open_from plan c a lt room None None e g =
-    let zero_test : ((get_or c.blocks a empty_block).filled == 0) ≡ false = no_position (λ (s : Block). s.filled == 0) c.blocks g a empty_block lt in
+    let zero_test : ((get_or c.blocks a free_block).filled == 0) ≡ false = no_position (λ (s : Block). s.filled == 0) c.blocks g a free_block lt in
     let filled : (block_at c a).filled ≡ 0 → ⊥ = λ z. eqb-false (block_at c a).filled 0 zero_test z in
-    absurd (partly_found plan c a (some_filled (block_at c a).filled filled, room) e)
+    absurd (opened_found plan c a (some_filled (block_at c a).filled filled, room) e)
   where
     some_filled : (n : ℕ) → (n ≡ 0 → ⊥) → 0 < n
     some_filled zero h = absurd (h refl)
@@ -141,8 +141,8 @@ open_from plan c a lt room None None e g =
 pub opens : (plan : DiePlan) (c : Cells) → 0 < sum_by (free_in plan) c.blocks → (b : ℕ) × (open_block plan c ≡ Some b)
 opens plan c h =
     let k = positive_at (free_in plan) c.blocks h in
-    let room : (block_at c k.0).filled < plan.shape.pages = has_room plan (block_at c k.0) (k.2 empty_block) in
-    open_from plan c k.0 k.1 room (position (is_partly_filled plan) c.blocks) (position (λ x. x.filled == 0) c.blocks) refl refl
+    let room : (block_at c k.0).filled < plan.shape.pages = has_room plan (block_at c k.0) (k.2 free_block) in
+    open_from plan c k.0 k.1 room (position (is_open plan) c.blocks) (position (λ x. x.filled == 0) c.blocks) refl refl
 
 -- Steps
 
@@ -150,8 +150,8 @@ pub erase_slot_is : (plan : DiePlan) (b : ℕ) (c : Cells) → b < length c.bloc
 erase_slot_is plan b c lt = record {
   blocks = length-set c.blocks b _;
   places = refl;
-  others = λ a other. get_or-set_other c.blocks b a _ empty_block other;
-  slot = subst (Slot (block_at c b)) (sym (get_or-set_same c.blocks b (erased_once plan (block_at c b)) empty_block lt)) (by_test (block_at c b) ((block_at c b).erasing + 1 == plan.shape.erase_slots) refl);
+  others = λ a other. get_or-set_other c.blocks b a _ free_block other;
+  slot = subst (Slot (block_at c b)) (sym (get_or-set_same c.blocks b (erased_once plan (block_at c b)) free_block lt)) (by_test (block_at c b) ((block_at c b).erasing + 1 == plan.shape.erase_slots) refl);
 }
   where
     Slot : Block → Block → Type 0
@@ -169,19 +169,19 @@ program_step plan page c more s free =
     let k = open_is plan c o.0 more s o.1 in
     (o.0, subst (λ (x : Option ℕ). IsProgram plan page o.0 c (programmed_in page x c)) (sym o.1) (program_is plan page o.0 c k.stands k.room k.alone))
 
--- a program needs a free page, and an erase slot a full block
-pub step_is : (plan : DiePlan) (n : ℕ) (act : Act) (c : Cells) → 0 < plan.shape.pages → AreSound plan c → HasRoom plan c act → ((b : ℕ) → act ≡ does.Erase b → IsFull plan c b)
+-- a program needs a free page, and an erase slot a closed block
+pub step_is : (plan : DiePlan) (n : ℕ) (act : Act) (c : Cells) → 0 < plan.shape.pages → AreSound plan c → HasRoom plan c act → ((b : ℕ) → act ≡ does.Erase b → IsClosed plan c b)
     → IsStep plan act c (cells_after plan (Some (n, act)) c)
-step_is plan n (does.Read page bytes) c more s room full = refl
-step_is plan n (does.Write page bytes) c more s room full = program_step plan page c more s room
-step_is plan n (does.CopyRead page) c more s room full = refl
-step_is plan n (does.CopyProgram page) c more s room full = program_step plan page c more s room
-step_is plan n (does.Erase b) c more s room full =
-    let is : (block_at c b).filled ≡ plan.shape.pages = full b refl in
+step_is plan n (does.Read page bytes) c more s room closed = refl
+step_is plan n (does.Write page bytes) c more s room closed = program_step plan page c more s room
+step_is plan n (does.CopyRead page) c more s room closed = refl
+step_is plan n (does.CopyProgram page) c more s room closed = program_step plan page c more s room
+step_is plan n (does.Erase b) c more s room closed =
+    let is : (block_at c b).filled ≡ plan.shape.pages = closed b refl in
     erase_slot_is plan b c (within_blocks plan c b (omega arith) (cases_lt b (length c.blocks)))
 
--- a step keeps cells sound, if an erase slot is of a full block in which no page is placed
-pub step_sound : (plan : DiePlan) (act : Act) (c d : Cells) → 0 < plan.shape.erase_slots → AreSound plan c → ((b : ℕ) → act ≡ does.Erase b → IsFull plan c b × IsUnplaced c b) → IsStep plan act c d → AreSound plan d
+-- a step keeps cells sound, if an erase slot is of a closed block in which no page is placed
+pub step_sound : (plan : DiePlan) (act : Act) (c d : Cells) → 0 < plan.shape.erase_slots → AreSound plan c → ((b : ℕ) → act ≡ does.Erase b → IsClosed plan c b × IsUnplaced c b) → IsStep plan act c d → AreSound plan d
 step_sound plan (does.Read page bytes) c d more s ok w = subst (AreSound plan) (sym w) s
 step_sound plan (does.Write page bytes) c d more s ok w = program_sound plan page w.0 c d s w.1
 step_sound plan (does.CopyRead page) c d more s ok w = subst (AreSound plan) (sym w) s
@@ -190,7 +190,7 @@ step_sound plan (does.Erase b) c d more s ok w = let h = ok b refl in erase_soun
 
 -- Fresh cells
 
-fresh_block : (n a : ℕ) → get_or (replicate n empty_block) a empty_block ≡ empty_block
+fresh_block : (n a : ℕ) → get_or (replicate n free_block) a free_block ≡ free_block
 fresh_block zero a = refl
 fresh_block (suc n) zero = refl
 fresh_block (suc n) (suc a) = fresh_block n a
@@ -205,12 +205,12 @@ fresh_place (suc n) (suc a) = fresh_place n a
 
 pub fresh_sound : (plan : DiePlan) → AreSound plan (fresh_cells plan)
 fresh_sound plan = record {
-  blocks = length-replicate plan.shape.blocks empty_block;
+  blocks = length-replicate plan.shape.blocks free_block;
   places = length-replicate plan.logical nowhere;
   within = λ b. omega (arith, filled b);
   placed = λ p q e. absurd (none-some q (sym (fresh_place plan.logical p) ∙ e));
   apart = λ p o q r e f x y. absurd (none-some q (sym (fresh_place plan.logical p) ∙ e));
-  one_partly = λ a b h k. absurd (omega (arith, filled a, h.0));
+  one_open = λ a b h k. absurd (omega (arith, filled a, h.0));
   erasing = λ b h. absurd (omega (arith, erasing b));
 }
   where

@@ -52,7 +52,7 @@ erase_may : (plan : DiePlan) (past : Log) (j : Job) (b block : ℕ) → Stands p
 erase_may plan past j b block s k may = record {
   own = may.same;
   left = may.left;
-  full = λ z. may.full;
+  closed = λ z. may.closed;
   unplaced = λ z. may.valid_none;
   alone = λ i stands other h. by_done i stands other h (is_done plan past i) refl;
 }

@@ -15,11 +15,11 @@ use Rattle.die_log.specs.Work.{is_erase, is_done, is_ready, victim_of}
 use Rattle.die_log.specs.Accounts.{accounts, after_waivers}
 use Rattle.die_log.specs.Answers.{IsExact, accepted, refusals, act_for, is_running, choice, is_waivable}
 use Rattle.die_log.specs.Legal.{IsLegal}
-use Rattle.die_log.specs.Sound.{IsFull}
+use Rattle.die_log.specs.Sound.{IsClosed}
 use Rattle.die_log.specs.Standing.{Stands}
 use Rattle.die_log.proofs.Standing.Finds.{FindsBy, FindsVictim}
 use Rattle.die_log.proofs.Tokens.Waivers.{Waits, IsChosen}
-use Rattle.die_log.specs.Held.{is_open, AreTrue}
+use Rattle.die_log.specs.Held.{is_pending, AreTrue}
 use Rattle.die_log.specs.Well.{FewCopies, IsWell}
 use Rattle.die_log.proofs.Legality.{entry, exact_induction}
 use Rattle.die_log.proofs.Standing.Longer.{number_at, contained, no_victim}
@@ -36,14 +36,14 @@ use Rattle.die_log.proofs.Tokens.Wells.{copies_fit, keeps_few}
 -- What stands serves the accounts
 
 erases_own : (plan : DiePlan) (past : Log) (j : Job) (b : ℕ) → 0 < plan.shape.erase_slots → Stands plan past → job_at past j.number ≡ Some j → is_ready plan past j ≡ true → act_for plan past j ≡ Some (does.Erase b)
-    → IsFull plan (cells plan past) b × ((block_at (cells plan past) b).erasing ≡ count_by is_erase (acts j.number past))
+    → IsClosed plan (cells plan past) b × ((block_at (cells plan past) b).erasing ≡ count_by is_erase (acts j.number past))
 erases_own plan past j b more s known ready e = by_kind j.collects refl
   where
-    by_kind : (t : Bool) → j.collects ≡ t → IsFull plan (cells plan past) b × ((block_at (cells plan past) b).erasing ≡ count_by is_erase (acts j.number past))
+    by_kind : (t : Bool) → j.collects ≡ t → IsClosed plan (cells plan past) b × ((block_at (cells plan past) b).erasing ≡ count_by is_erase (acts j.number past))
     by_kind false kind = absurd (job_erases_not (does.Erase b) (op_act plan past (slice_get j.ops (work j.number past)) (does.Erase b) (job_act plan past j (does.Erase b) kind e)) b refl)
     by_kind true kind =
         let m = collection_may plan past j (does.Erase b) more s.collects (contained (jobs past) j.number j known) kind (waiting_undone plan past j ready) e in (
-          subst (IsFull plan (cells plan past)) (sym m.2.same) m.2.full,
+          subst (IsClosed plan (cells plan past)) (sym m.2.same) m.2.closed,
           ap (λ (x : ℕ). (block_at (cells plan past) x).erasing) m.2.same ∙ m.1.collecting.erases,
         )
 
@@ -52,8 +52,8 @@ pub victim_begun : (plan : DiePlan) (n b : ℕ) (past : Log) (own : List Act) �
 victim_begun plan n b past [] e shows = absurd (none-some b (sym (no_victim plan n past e) ∙ shows))
 victim_begun plan n b past (x ∷ own) e shows = omega arith
 
-victim_full : (plan : DiePlan) (past : Log) (j : Job) (b : ℕ) → Stands plan past → job_at past j.number ≡ Some j → is_open plan (λ n. acts n past) (is_waived past) j ≡ true → victim_of plan j.number past ≡ Some b → IsFull plan (cells plan past) b
-victim_full plan past j b s known is shows =
+victim_closed : (plan : DiePlan) (past : Log) (j : Job) (b : ℕ) → Stands plan past → job_at past j.number ≡ Some j → is_pending plan (λ n. acts n past) (is_waived past) j ≡ true → victim_of plan j.number past ≡ Some b → IsClosed plan (cells plan past) b
+victim_closed plan past j b s known is shows =
     let parts = and_parts (j.collects && not (is_done plan past j)) (not (is_waived past j.number)) is in
     let kind = and_parts j.collects (not (is_done plan past j)) parts.0 in
     let running : is_running plan past j ≡ true = runs_from plan j (acts j.number past) (record {
@@ -61,7 +61,7 @@ victim_full plan past j b s known is shows =
       begun = victim_begun plan j.number b past (acts j.number past) refl shows;
       undone = not-true (is_done plan past j) kind.1;
     }) in
-    (s.collects.collecting j b (record { stands = contained (jobs past) j.number j known; running = running; victim = shows })).full
+    (s.collects.collecting j b (record { stands = contained (jobs past) j.number j known; running = running; victim = shows })).closed
 
 serves : (plan : DiePlan) (past : Log) → 0 < plan.shape.erase_slots → Stands plan past → FewCopies plan past → CellsServe plan past
 serves plan past more s few = record {
@@ -69,7 +69,7 @@ serves plan past more s few = record {
   sound = s.collects.sound;
   few_copies = λ j page. copies_fit plan past j page few;
   erases = λ j b known ready e. erases_own plan past j b more s known ready e;
-  victims_full = λ j b known is shows. victim_full plan past j b s known is shows;
+  victims_full = λ j b known is shows. victim_closed plan past j b s known is shows;
 }
 
 -- Logs

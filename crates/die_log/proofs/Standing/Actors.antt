@@ -13,11 +13,11 @@ use Rattle.slot_types.specs.declared.events.Op.{Op}
 use Rattle.slot_types.specs.declared.events.Op.TheVariants as asks
 use Rattle.slot_types.specs.declared.replies.Entry.{Entry}
 use Rattle.die_log.specs.Log.{Log, Job, Carried, jobs, act_of, acts, work}
-use Rattle.die_log.specs.Flash.{ran_by, Cells, cells, cells_after, block_at, is_full}
+use Rattle.die_log.specs.Flash.{ran_by, Cells, cells, cells_after, block_at, is_closed}
 use Rattle.die_log.specs.Work.{are_all, is_done, is_erase, victim_of, shown_by, block_shown}
 use Rattle.die_log.specs.Answers.{is_running, is_block, is_collected, candidates, victim, block_for, buffer_after, collect_act, act_of_op, act_for}
 use Rattle.die_log.specs.Legal.{written_since, written_by, FindsFree}
-use Rattle.die_log.specs.Sound.{IsFull, IsUnplaced, AreSound, IsCollecting, IsEraseSlot, IsStep, HasRoom, MayDo}
+use Rattle.die_log.specs.Sound.{IsClosed, IsUnplaced, AreSound, IsCollecting, IsEraseSlot, IsStep, HasRoom, MayDo}
 use Rattle.die_log.specs.Standing.{AreNumbered, Runs, Collects}
 use Rattle.die_log.proofs.Choices.{OfSome}
 use Rattle.die_log.proofs.Cells.Steps.{step_is, step_sound}
@@ -39,11 +39,11 @@ all_any : (xs : List ℕ) → AllByRecursion (λ (x : ℕ). Unit {0}) xs
 all_any [] = tt
 all_any (x ∷ xs) = (tt, all_any xs)
 
-victim_is : (plan : DiePlan) (past : Log) (b : ℕ) → victim plan past ≡ Some b → IsFull plan (cells plan past) b × (is_collected plan past b ≡ false)
+victim_is : (plan : DiePlan) (past : Log) (b : ℕ) → victim plan past ≡ Some b → IsClosed plan (cells plan past) b × (is_collected plan past b ≡ false)
 victim_is plan past b e =
-    let t : ℕ → Bool = λ x. is_full plan (block_at (cells plan past) x) && not (is_collected plan past x) in
+    let t : ℕ → Bool = λ x. is_closed plan (block_at (cells plan past) x) && not (is_collected plan past x) in
     let h = subst (OfSome (λ (x : ℕ). Unit {0} × (t x ≡ true))) e (best_all (λ (x : ℕ). Unit {0} × (t x ≡ true)) _ (candidates plan past) (kept_both (λ (x : ℕ). Unit {0}) t (range_with_len 0 plan.shape.blocks) (all_any _))) in
-    let k = and_parts (is_full plan (block_at (cells plan past) b)) (not (is_collected plan past b)) h.1 in
+    let k = and_parts (is_closed plan (block_at (cells plan past) b)) (not (is_collected plan past b)) h.1 in
     (eqb-true _ _ k.0, not-true (is_collected plan past b) k.1)
 
 block_is : (b : ℕ) (o : Option ℕ) → o ≡ Some b → is_block b o ≡ true
@@ -102,7 +102,7 @@ begun plan past j b k stands collects undone e = begun_by plan past j b k stands
 
 -- Collections
 
-pub may_erase : (plan : DiePlan) (c : Cells) (own : List Act) (fresh : ℕ → Bool) (b : ℕ) (act : Act) → MayDo plan c own fresh b act → (a : ℕ) → act ≡ does.Erase a → (a ≡ b) × IsFull plan c a × IsUnplaced c a
+pub may_erase : (plan : DiePlan) (c : Cells) (own : List Act) (fresh : ℕ → Bool) (b : ℕ) (act : Act) → MayDo plan c own fresh b act → (a : ℕ) → act ≡ does.Erase a → (a ≡ b) × IsClosed plan c a × IsUnplaced c a
 may_erase plan c own fresh b (does.Read page bytes) may a e = absurd may
 may_erase plan c own fresh b (does.Write page bytes) may a e = absurd may
 may_erase plan c own fresh b (does.CopyRead page) may a e = absurd cc
@@ -110,7 +110,7 @@ may_erase plan c own fresh b (does.CopyProgram page) may a e = absurd cc
 may_erase plan c own fresh b (does.Erase x) may a e =
     let is : x ≡ a = cc in
     let at : a ≡ b = sym is ∙ may.same in
-    (at, subst (IsFull plan c) (sym at) may.full, subst (IsUnplaced c) (sym at) may.unplaced)
+    (at, subst (IsClosed plan c) (sym at) may.closed, subst (IsUnplaced c) (sym at) may.unplaced)
 
 -- what isn't an erase slot needs a page that is placed in the block
 pub may_placed : (plan : DiePlan) (c : Cells) (own : List Act) (fresh : ℕ → Bool) (b : ℕ) (act : Act) → MayDo plan c own fresh b act → (act ≡ does.Erase b → ⊥) → IsUnplaced c b → ⊥
@@ -170,7 +170,7 @@ collection_actor plan e past j act b ran collects sound k may step = record {
     shows : victim_of plan j.number (e ∷ past) ≡ Some b
     shows = ap (shown_by plan past (victim_of plan j.number past)) acted_own ∙ act_shows plan past j b act k may
 
-    erased : (a : ℕ) → act ≡ does.Erase a → (a ≡ b) × IsFull plan (cells plan past) a × IsUnplaced (cells plan past) a
+    erased : (a : ℕ) → act ≡ does.Erase a → (a ≡ b) × IsClosed plan (cells plan past) a × IsUnplaced (cells plan past) a
     erased a is = may_erase plan (cells plan past) (acts j.number past) (λ p. written_since j.number p past) b act may a is
 
     own_written : (p : ℕ) (before : Bool) → written_by (Some (j.number, act)) j.number p before ≡ false
@@ -274,8 +274,8 @@ head_acted plan e past j act pages more ran same numbered stands undone is finds
     after : cells plan (e ∷ past) ≡ cells_after plan (Some (number, act)) (cells plan past)
     after = ap (λ (c : Carried). cells_after plan c (cells plan past)) ran
 
-    step : ((b : ℕ) → act ≡ does.Erase b → IsFull plan (cells plan past) b) → IsStep plan act (cells plan past) (cells plan (e ∷ past))
-    step full = subst (IsStep plan act (cells plan past)) (sym after) (step_is plan number act (cells plan past) pages k.sound (room_of plan past act finds) full)
+    step : ((b : ℕ) → act ≡ does.Erase b → IsClosed plan (cells plan past) b) → IsStep plan act (cells plan past) (cells plan (e ∷ past))
+    step closed = subst (IsStep plan act (cells plan past)) (sym after) (step_is plan number act (cells plan past) pages k.sound (room_of plan past act finds) closed)
 
     by_kind : (t : Bool) → j.collects ≡ t → Collects plan (e ∷ past)
     by_kind false kind =
@@ -284,7 +284,7 @@ head_acted plan e past j act pages more ran same numbered stands undone is finds
         acted plan e past j act ran same numbered stands k (step_sound plan act (cells plan past) (cells plan (e ∷ past)) more k.sound (λ b x. absurd (job_erases_not act h b x)) w) w (job_actor plan e past j act kind h)
     by_kind true kind =
         let m = collection_may plan past j act more k stands kind undone is in
-        let erased : (a : ℕ) → act ≡ does.Erase a → (a ≡ m.0) × IsFull plan (cells plan past) a × IsUnplaced (cells plan past) a =
+        let erased : (a : ℕ) → act ≡ does.Erase a → (a ≡ m.0) × IsClosed plan (cells plan past) a × IsUnplaced (cells plan past) a =
         λ a x. may_erase plan (cells plan past) (acts j.number past) (λ p. written_since j.number p past) m.0 act m.2 a x in
         let w : IsStep plan act (cells plan past) (cells plan (e ∷ past)) = step (λ a x. (erased a x).1) in
         acted plan e past j act ran same numbered stands k (step_sound plan act (cells plan past) (cells plan (e ∷ past)) more k.sound (λ a x. ((erased a x).1, (erased a x).2)) w) w

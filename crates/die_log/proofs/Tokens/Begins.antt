@@ -14,7 +14,7 @@ use Rattle.die_log.specs.Answers.{is_waivable, victim}
 use Rattle.die_log.specs.Legal.{AreWaivers}
 use Rattle.die_log.proofs.Tokens.Waivers.{Waits}
 use Rattle.die_log.proofs.Tokens.Given.{CellsServe}
-use Rattle.die_log.specs.Held.{is_open, IsTaken, AreTrue}
+use Rattle.die_log.specs.Held.{is_pending, IsTaken, AreTrue}
 use Rattle.die_log.proofs.Tokens.Sums.{all_at}
 use Rattle.die_log.proofs.Tokens.Reserves.{few_free}
 use Rattle.die_log.proofs.Tokens.Slots.{agree_waivers}
@@ -22,8 +22,8 @@ use Rattle.die_log.proofs.Tokens.Finding.{takable, victim_found}
 
 -- A collection that begins
 
-pub is_open_if : (plan : DiePlan) (past : Log) (j : Job) → is_ready plan past j ≡ true → j.collects ≡ true → is_open plan (λ n. acts n past) (is_waived past) j ≡ true
-is_open_if plan past j ready is =
+pub is_pending_if : (plan : DiePlan) (past : Log) (j : Job) → is_ready plan past j ≡ true → j.collects ≡ true → is_pending plan (λ n. acts n past) (is_waived past) j ≡ true
+is_pending_if plan past j ready is =
     let parts = and_parts (nat_le j.release (now past) && not (is_done plan past j)) (not (is_waived past j.number)) ready in
     let undone = (and_parts (nat_le j.release (now past)) (not (is_done plan past j)) parts.0).1 in
     and_from (j.collects && not (is_done plan past j)) (not (is_waived past j.number)) (and_from j.collects (not (is_done plan past j)) is undone) parts.1
@@ -41,5 +41,5 @@ pub fresh_finds : (plan : DiePlan) (past : Log) (ws : List Waived) (j : Job) →
 fresh_finds plan past ws j bound h c waivers waits unwaivable is fresh =
     let a : Accounts = after_waivers past ws (accounts plan past) in
     let few = few_free plan a _ _ (owed past) (free plan past) (agree_waivers plan past (waived past) (accounts plan past) ws _ _ (owed past) (free plan past) h.taken h.agree waivers) (too_few plan past a j unwaivable is fresh) in
-    let t = takable plan past j bound h c.sound waits.known (is_open_if plan past j waits.ready is) fresh few (λ i k e. (all_at (IsTaken plan) (jobs past) k i h.taken e).task) in
+    let t = takable plan past j bound h c.sound waits.known (is_pending_if plan past j waits.ready is) fresh few (λ i k e. (all_at (IsTaken plan) (jobs past) k i h.taken e).task) in
     victim_found plan past t.0 t.1

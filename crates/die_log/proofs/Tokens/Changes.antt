@@ -8,7 +8,7 @@ use Rattle.slot_types.specs.declared.acts.Act.{Act}
 use Rattle.slot_types.specs.declared.events.Op.{Op}
 use Rattle.die_log.specs.Log.{Job}
 use Rattle.die_log.specs.Work.{are_all, is_copy_program, is_write, writes}
-use Rattle.die_log.specs.Held.{at_task, left_of, held_of, is_open, lent_of, lent_to, open_of}
+use Rattle.die_log.specs.Held.{at_task, left_of, held_of, is_pending, lent_of, lent_to, pending_of}
 use Rattle.die_log.proofs.Tokens.Sums.{one_if, some_if, sum_at, le_at, held_at, lent_same, lent_at}
 
 -- Of all that waivers touch, no act was carried
@@ -68,18 +68,18 @@ left_collection own own' j e = omega (arith, left_none own j e, left_none own' j
 
 -- Lent
 
-abbrev open_in : DiePlan → Job → List Act → Bool → Bool
-open_in plan i own gone = i.collects && not (are_all plan i own) && not gone
+abbrev pending_in : DiePlan → Job → List Act → Bool → Bool
+pending_in plan i own gone = i.collects && not (are_all plan i own) && not gone
 
 abbrev lent_in : DiePlan → Job → List Act → Bool → ℕ
-lent_in plan i own gone = some_if (open_in plan i own gone) (count_by is_copy_program own)
+lent_in plan i own gone = some_if (pending_in plan i own gone) (count_by is_copy_program own)
 
 no_copies : (b : Bool) → some_if b 0 ≡ 0
 no_copies true = refl
 no_copies false = refl
 
 lent_waived : (plan : DiePlan) (i : Job) (own : List Act) (gone am : Bool) → (am ≡ true → own ≡ []) → lent_in plan i own gone ≡ lent_in plan i own (gone || am)
-lent_waived plan i own gone true idle = rw (idle refl) (no_copies (open_in plan i [] gone) ∙ sym (no_copies (open_in plan i [] (gone || true))))
+lent_waived plan i own gone true idle = rw (idle refl) (no_copies (pending_in plan i [] gone) ∙ sym (no_copies (pending_in plan i [] (gone || true))))
 lent_waived plan i own true false idle = refl
 lent_waived plan i own false false idle = refl
 
@@ -105,18 +105,18 @@ pub lent_less : (plan : DiePlan) (own own' : ℕ → List Act) (gone gone' am : 
 lent_less plan own own' gone gone' am js j act d numbered known w a more =
     lent_at plan own own' gone gone' js d j.number j known more (λ m i is apart. lent_other plan own own' gone gone' am i w (a.other i.number (apart_by js m j.number i numbered is apart)))
 
--- Open
+-- Pending
 
-still_open : (c d gone am : Bool) → (c && d && not (gone || am)) ≡ true → (c && d && not gone) ≡ true
-still_open true true true am h = absurd cc
-still_open true true false am h = refl
-still_open true false gone am h = absurd cc
-still_open false d gone am h = absurd cc
+still_pending : (c d gone am : Bool) → (c && d && not (gone || am)) ≡ true → (c && d && not gone) ≡ true
+still_pending true true true am h = absurd cc
+still_pending true true false am h = refl
+still_pending true false gone am h = absurd cc
+still_pending false d gone am h = absurd cc
 
-pub open_other : (plan : DiePlan) (own own' : ℕ → List Act) (gone gone' am : ℕ → Bool) (i : Job) → Waives own gone gone' am → own i.number ≡ own' i.number → is_open plan own' gone' i ≡ true → is_open plan own gone i ≡ true
-open_other plan own own' gone gone' am i w e is =
-    still_open i.collects (not (are_all plan i (own i.number))) (gone i.number) (am i.number) (
-    ap (λ (b : Bool). open_in plan i (own i.number) b) (sym (w.gone_is i.number)) ∙ (ap (λ (l : List Act). open_in plan i l (gone' i.number)) e ∙ is)
+pub pending_other : (plan : DiePlan) (own own' : ℕ → List Act) (gone gone' am : ℕ → Bool) (i : Job) → Waives own gone gone' am → own i.number ≡ own' i.number → is_pending plan own' gone' i ≡ true → is_pending plan own gone i ≡ true
+pending_other plan own own' gone gone' am i w e is =
+    still_pending i.collects (not (are_all plan i (own i.number))) (gone i.number) (am i.number) (
+    ap (λ (b : Bool). pending_in plan i (own i.number) b) (sym (w.gone_is i.number)) ∙ (ap (λ (l : List Act). pending_in plan i l (gone' i.number)) e ∙ is)
     )
 
 pub one_less : (e b c : Bool) → (c ≡ true → b ≡ true) → one_if (e && c) ≤ one_if (e && b)
@@ -124,29 +124,29 @@ one_less false b c h = omega arith
 one_less true b true h = rw (h refl) (omega arith)
 one_less true b false h = omega arith
 
-pub open_less : (plan : DiePlan) (own own' : ℕ → List Act) (gone gone' : ℕ → Bool) (js : List Job) → ((k : ℕ) (i : Job) → slice_get js k ≡ Some i → is_open plan own' gone' i ≡ true → is_open plan own gone i ≡ true)
-    → (t : ℕ) → open_of plan own' gone' js t ≤ open_of plan own gone js t
-open_less plan own own' gone gone' js h t =
-    le_at (λ i. one_if ((i.task == t) && is_open plan own' gone' i)) (λ i. one_if ((i.task == t) && is_open plan own gone i)) js (λ k i is. one_less (i.task == t) (is_open plan own gone i) (is_open plan own' gone' i) (h k i is))
+pub pending_less : (plan : DiePlan) (own own' : ℕ → List Act) (gone gone' : ℕ → Bool) (js : List Job) → ((k : ℕ) (i : Job) → slice_get js k ≡ Some i → is_pending plan own' gone' i ≡ true → is_pending plan own gone i ≡ true)
+    → (t : ℕ) → pending_of plan own' gone' js t ≤ pending_of plan own gone js t
+pending_less plan own own' gone gone' js h t =
+    le_at (λ i. one_if ((i.task == t) && is_pending plan own' gone' i)) (λ i. one_if ((i.task == t) && is_pending plan own gone i)) js (λ k i is. one_less (i.task == t) (is_pending plan own gone i) (is_pending plan own' gone' i) (h k i is))
 
 -- no collection opens in a slot
-pub open_idle : (plan : DiePlan) (own own' : ℕ → List Act) (gone gone' am : ℕ → Bool) (js : List Job) → Waives own gone gone' am → ((n : ℕ) → own n ≡ own' n) → (t : ℕ) → open_of plan own' gone' js t ≤ open_of plan own gone js t
-open_idle plan own own' gone gone' am js w same = open_less plan own own' gone gone' js (λ k i e. open_other plan own own' gone gone' am i w (same i.number))
+pub pending_idle : (plan : DiePlan) (own own' : ℕ → List Act) (gone gone' am : ℕ → Bool) (js : List Job) → Waives own gone gone' am → ((n : ℕ) → own n ≡ own' n) → (t : ℕ) → pending_of plan own' gone' js t ≤ pending_of plan own gone js t
+pending_idle plan own own' gone gone' am js w same = pending_less plan own own' gone gone' js (λ k i e. pending_other plan own own' gone gone' am i w (same i.number))
 
 collects_if : (c d g : Bool) → (c && d && g) ≡ true → c ≡ true
 collects_if true d g h = refl
 collects_if false d g h = absurd cc
 
-pub open_after : (plan : DiePlan) (own own' : ℕ → List Act) (gone gone' am : ℕ → Bool) (js : List Job) (j : Job) (act : Act) → IsNumbered js → slice_get js j.number ≡ Some j → Waives own gone gone' am → Acts own own' j.number act
-    → (j.collects ≡ true → is_open plan own gone j ≡ true) → (t : ℕ) → open_of plan own' gone' js t ≤ open_of plan own gone js t
-open_after plan own own' gone gone' am js j act numbered known w a was = open_less plan own own' gone gone' js one
+pub pending_after : (plan : DiePlan) (own own' : ℕ → List Act) (gone gone' am : ℕ → Bool) (js : List Job) (j : Job) (act : Act) → IsNumbered js → slice_get js j.number ≡ Some j → Waives own gone gone' am → Acts own own' j.number act
+    → (j.collects ≡ true → is_pending plan own gone j ≡ true) → (t : ℕ) → pending_of plan own' gone' js t ≤ pending_of plan own gone js t
+pending_after plan own own' gone gone' am js j act numbered known w a was = pending_less plan own own' gone gone' js one
   where
-    one : (k : ℕ) (i : Job) → slice_get js k ≡ Some i → is_open plan own' gone' i ≡ true → is_open plan own gone i ≡ true
+    one : (k : ℕ) (i : Job) → slice_get js k ≡ Some i → is_pending plan own' gone' i ≡ true → is_pending plan own gone i ≡ true
     one k i is h = elim (cases_eq i.number j.number) [
       | inl e ↦
           let here : slice_get js i.number ≡ Some j = rw e known in
           let there : slice_get js i.number ≡ Some i = ap (λ n. slice_get js n) (numbered k i is) ∙ is in
           let same : j ≡ i = same_Some j i (sym here ∙ there) in
-          ap (is_open plan own gone) (sym same) ∙ was (ap (λ (x : Job). x.collects) same ∙ collects_if i.collects (not (are_all plan i (own' i.number))) (not (gone' i.number)) h)
-      | inr apart ↦ open_other plan own own' gone gone' am i w (a.other i.number apart) h
+          ap (is_pending plan own gone) (sym same) ∙ was (ap (λ (x : Job). x.collects) same ∙ collects_if i.collects (not (are_all plan i (own' i.number))) (not (gone' i.number)) h)
+      | inr apart ↦ pending_other plan own own' gone gone' am i w (a.other i.number apart) h
     ]

@@ -20,16 +20,16 @@ use Rattle.die_log.specs.Held.{reserve_full}
 use Rattle.die_log.specs.Answers.{act_for, act_of_op, collect_act, read_or_erase, is_waivable, block_for, buffer_after, victim}
 use Rattle.die_log.specs.Legal.{is_among}
 use Rattle.die_log.specs.Well.{FewCopies}
-use Rattle.die_log.specs.Held.{is_open, copied_of}
+use Rattle.die_log.specs.Held.{is_pending, copied_of}
 use Rattle.die_log.proofs.Tokens.Sums.{one_if}
 use Rattle.die_log.proofs.Tokens.Doing.{IsOfCollection, buffer_of, act_kind}
 use Rattle.die_log.proofs.Cells.Steps.{opens}
 use Rattle.die_log.proofs.Standing.Longer.{act_own, no_victim, shown_other}
 use Rattle.die_log.proofs.Standing.Actors.{block_some}
-use Rattle.die_log.proofs.Tokens.Changes.{open_other}
-use Rattle.die_log.proofs.Tokens.Slots.{slot_waives, ran_acts, empty_if, IsTurn, was_open}
+use Rattle.die_log.proofs.Tokens.Changes.{pending_other}
+use Rattle.die_log.proofs.Tokens.Slots.{slot_waives, ran_acts, empty_if, IsTurn, was_pending}
 use Rattle.die_log.proofs.Tokens.Turns.{turn_log, turn_copy}
-use Rattle.die_log.proofs.Tokens.Begins.{fresh_finds, is_open_if}
+use Rattle.die_log.proofs.Tokens.Begins.{fresh_finds, is_pending_if}
 use Rattle.die_log.proofs.Tokens.Copying.{program_elsewhere, program_away, copy_is, IsPlacedAt, placed_at, some_valid}
 
 -- The act of a collection
@@ -71,7 +71,7 @@ pub few_now : (plan : DiePlan) (past : Log) (j : Job) (page : ℕ) → FewCopies
     → copied_of (λ n. acts n past) j < reserve_full plan
 few_now plan past j page few known ready is e =
     let k = copy_facts plan past j page is e in
-    omega (arith, few.few j k.block known (is_open_if plan past j ready is) k.victim_is, some_valid (cells plan past) page k.block k.placed)
+    omega (arith, few.few j k.block known (is_pending_if plan past j ready is) k.victim_is, some_valid (cells plan past) page k.block k.placed)
 
 -- A collection that begins shows its block
 
@@ -105,7 +105,7 @@ shown_first plan c b (page ∷ pages) e =
 
 -- A slot
 
--- what is known of a slot in which an open collection j does the act, besides its turn
+-- what is known of a slot in which a pending collection j does the act, besides its turn
 pub record MayShow (plan : DiePlan) (past : Log) (ws : List Waived) (j : Job) : Type 0 where
   pub bound : MeetsBound plan
   pub few_before : FewCopies plan past
@@ -128,7 +128,7 @@ still_few plan past ws j act b' h m is shows = elim (cases_lt 0 (work j.number p
       let c : Cells = cells plan past in
       let b = block_some plan c (buffer_of plan past j) (block_for plan past j) act (collect_of plan past j act is h.does_it) in
       let known : victim_of plan j.number past ≡ Some b.0 = sym (begun_block plan past j begun) ∙ b.1 in
-      let few = m.few_before.few j b.0 h.waits.known (was_open plan past ws j act h is) known in
+      let few = m.few_before.few j b.0 h.waits.known (was_pending plan past ws j act h is) known in
       subst (λ n. copied_of (λ n. acts n past) j + valid (cells plan past) n ≤ reserve_full plan) (begun_shows plan past j.number b.0 (Some act) b' known shows) few
   | inr none ↦
       let fresh : work j.number past ≡ 0 = omega (arith, none) in
@@ -159,20 +159,20 @@ few_own plan past caller slot ws finished j (does.CopyProgram page) b' h m is ki
     let c : Cells = cells plan past in
     let k = copy_facts plan past j page is h.does_it in
     let same : k.block ≡ b' = begun_shows plan past j.number k.block (Some (does.CopyProgram page)) b' k.victim_is shows in
-    let open_now = was_open plan past ws j (does.CopyProgram page) h is in
+    let pending_now = was_pending plan past ws j (does.CopyProgram page) h is in
     let o = opens plan c (turn_copy plan past caller slot ws finished j page m.bound h is).1 in
-    let away = program_away plan c page k.block o.0 k.placed.place (omega (arith, m.bound.shape.some_pages)) h.serve.sound (h.serve.victims_full j k.block h.waits.known open_now k.victim_is) o.1 k.placed.stands k.placed.inside in
+    let away = program_away plan c page k.block o.0 k.placed.place (omega (arith, m.bound.shape.some_pages)) h.serve.sound (h.serve.victims_full j k.block h.waits.known pending_now k.victim_is) o.1 k.placed.stands k.placed.inside in
     subst (λ n. copied_of (λ n. acts n (turn_log past caller slot ws finished j (does.CopyProgram page))) j + valid (cells plan (turn_log past caller slot ws finished j (does.CopyProgram page))) n ≤ reserve_full plan) same
-    (omega (arith, copies_more plan past caller slot ws finished j (does.CopyProgram page), m.few_before.few j k.block h.waits.known open_now k.victim_is, away))
+    (omega (arith, copies_more plan past caller slot ws finished j (does.CopyProgram page), m.few_before.few j k.block h.waits.known pending_now k.victim_is, away))
 
--- no act places a page in a full block
+-- no act places a page in a closed block
 pub valid_less : (plan : DiePlan) (past : Log) (caller slot : ℕ) (ws : List Waived) (finished : Option ℕ) (j : Job) (act : Act) (b : ℕ) → MeetsBound plan → IsTurn plan past ws j act → (block_at (cells plan past) b).filled ≡ plan.shape.pages
     → valid (cells plan (turn_log past caller slot ws finished j act)) b ≤ valid (cells plan past) b
-valid_less plan past caller slot ws finished j (does.Read page bytes) b bound h full = omega arith
-valid_less plan past caller slot ws finished j (does.Write page bytes) b bound h full = program_elsewhere plan (cells plan past) page b (omega (arith, bound.shape.some_pages)) h.serve.sound full
-valid_less plan past caller slot ws finished j (does.CopyRead page) b bound h full = omega arith
-valid_less plan past caller slot ws finished j (does.CopyProgram page) b bound h full = program_elsewhere plan (cells plan past) page b (omega (arith, bound.shape.some_pages)) h.serve.sound full
-valid_less plan past caller slot ws finished j (does.Erase block) b bound h full = omega arith
+valid_less plan past caller slot ws finished j (does.Read page bytes) b bound h closed = omega arith
+valid_less plan past caller slot ws finished j (does.Write page bytes) b bound h closed = program_elsewhere plan (cells plan past) page b (omega (arith, bound.shape.some_pages)) h.serve.sound closed
+valid_less plan past caller slot ws finished j (does.CopyRead page) b bound h closed = omega arith
+valid_less plan past caller slot ws finished j (does.CopyProgram page) b bound h closed = program_elsewhere plan (cells plan past) page b (omega (arith, bound.shape.some_pages)) h.serve.sound closed
+valid_less plan past caller slot ws finished j (does.Erase block) b bound h closed = omega arith
 
 own_kind : (plan : DiePlan) (past : Log) (j : Job) (act : Act) → j.collects ≡ true → act_for plan past j ≡ Some act → IsOfCollection act
 own_kind plan past j act is e = elim (act_kind plan past j act e) [
@@ -184,7 +184,7 @@ own_kind plan past j act is e = elim (act_kind plan past j act e) [
 pub few_turn : (plan : DiePlan) (past : Log) (caller slot : ℕ) (ws : List Waived) (finished : Option ℕ) (j : Job) (act : Act) → IsTurn plan past ws j act → MayShow plan past ws j → FewCopies plan (turn_log past caller slot ws finished j act)
 few_turn plan past caller slot ws finished j act h m = record { few = each }
   where
-    each : (i : Job) (b : ℕ) → job_at past i.number ≡ Some i → is_open plan (λ n. acts n (turn_log past caller slot ws finished j act)) (is_waived (turn_log past caller slot ws finished j act)) i ≡ true
+    each : (i : Job) (b : ℕ) → job_at past i.number ≡ Some i → is_pending plan (λ n. acts n (turn_log past caller slot ws finished j act)) (is_waived (turn_log past caller slot ws finished j act)) i ≡ true
         → victim_of plan i.number (turn_log past caller slot ws finished j act) ≡ Some b
         → copied_of (λ n. acts n (turn_log past caller slot ws finished j act)) i + valid (cells plan (turn_log past caller slot ws finished j act)) b ≤ reserve_full plan
     each i b known is shows =
@@ -199,7 +199,7 @@ few_turn plan past caller slot ws finished j act h m = record { few = each }
               subst (λ (x : Job). copied_of (λ n. acts n log) x + valid (cells plan log) b ≤ reserve_full plan) same (few_own plan past caller slot ws finished j act b h m of_j (own_kind plan past j act of_j h.does_it) shown)
           | inr apart ↦
               let w = slot_waives plan caller slot ws (Some (j.number, act)) finished past h.serve.numbered h.waivers in
-              let was = open_other plan (λ n. acts n past) (λ n. acts n log) (is_waived past) (is_waived log) (λ n. is_among n ws) i w (a.other i.number apart) is in
+              let was = pending_other plan (λ n. acts n past) (λ n. acts n log) (is_waived past) (is_waived log) (λ n. is_among n ws) i w (a.other i.number apart) is in
               let none : act_of i.number (Some (j.number, act)) ≡ None = cond-false (j.number == i.number) (Some act) None (ne_eqb j.number i.number (λ e. apart (sym e))) in
               let before : victim_of plan i.number past ≡ Some b = sym (shown_other plan past (victim_of plan i.number past) (act_of i.number (Some (j.number, act))) none) ∙ shows in
               let copied : copied_of (λ n. acts n past) i ≡ copied_of (λ n. acts n log) i = ap (λ (l : List Act). count_by is_copy_program l) (a.other i.number apart) in

@@ -11,12 +11,12 @@ use Rattle.plan_rules.specs.Bound.{MeetsBound, fmax_of}
 use Rattle.plan_rules.specs.Blocks.{is_of}
 use Rattle.plan_rules.proofs.Spread.{choice}
 use Rattle.die_log.specs.Log.{Log, Job, jobs, job_at, acts, is_waived, work}
-use Rattle.die_log.specs.Flash.{Block, Cells, cells, block_at, empty_block, free, free_in, is_full, is_partly_filled, valid}
+use Rattle.die_log.specs.Flash.{Block, Cells, cells, block_at, free_block, free, free_in, is_closed, is_open, valid}
 use Rattle.die_log.specs.Work.{is_done, victim_of}
 use Rattle.die_log.specs.Held.{reserve_full}
 use Rattle.die_log.specs.Answers.{is_running, is_block, is_collected, candidates, victim}
-use Rattle.die_log.specs.Sound.{AreSound, IsPartly}
-use Rattle.die_log.specs.Held.{is_open, AreTrue}
+use Rattle.die_log.specs.Sound.{AreSound, IsOpen}
+use Rattle.die_log.specs.Held.{is_pending, AreTrue}
 use Rattle.die_log.proofs.Tokens.Sums.{le_at, one_if}
 use Rattle.die_log.proofs.Tokens.Changes.{one_less}
 use Rattle.die_log.proofs.Cells.Steps.{no_position}
@@ -33,8 +33,8 @@ no_work : (l : List Act) → l ≡ [] → 0 < length l → ⊥
 no_work l e h = omega (arith, h, ap (λ (x : List Act). length x) e)
 
 -- what runs is open
-running_open : (plan : DiePlan) (past : Log) (j : Job) → AreTrue plan past → is_running plan past j ≡ true → is_open plan (λ n. acts n past) (is_waived past) j ≡ true
-running_open plan past j h is =
+running_pending : (plan : DiePlan) (past : Log) (j : Job) → AreTrue plan past → is_running plan past j ≡ true → is_pending plan (λ n. acts n past) (is_waived past) j ≡ true
+running_pending plan past j h is =
     let parts = and_parts (j.collects && nat_lt 0 (work j.number past)) (not (is_done plan past j)) is in
     let begun = and_parts j.collects (nat_lt 0 (work j.number past)) parts.0 in
     let there : 0 < work j.number past = ltb-true 0 (work j.number past) begun.1 in
@@ -46,8 +46,8 @@ few_run plan past task h =
     omega (
       arith,
       h.one_each task,
-      le_at (λ i. one_if (runs plan past task i)) (λ i. one_if ((i.task == task) && is_open plan (λ n. acts n past) (is_waived past) i)) (jobs past)
-          (λ k i e. one_less (i.task == task) (is_open plan (λ n. acts n past) (is_waived past) i) (is_running plan past i) (running_open plan past i h)),
+      le_at (λ i. one_if (runs plan past task i)) (λ i. one_if ((i.task == task) && is_pending plan (λ n. acts n past) (is_waived past) i)) (jobs past)
+          (λ k i e. one_less (i.task == task) (is_pending plan (λ n. acts n past) (is_waived past) i) (is_running plan past i) (running_pending plan past i h)),
     )
 
 abbrev block_in : DiePlan → Log → Option Job → Option ℕ
@@ -90,15 +90,15 @@ free_of plan past b h within none = false_from_ne_true (is_collected plan past b
         true≢false (sym (any_from (is_of b) (victims plan past) f.0.task (victim_by plan past f.0.task) (in_victims plan past f.0.task task_in) there) ∙ none)
 
 -- a collection that is open and has no act leaves its task without a running one
-none_runs : (plan : DiePlan) (past : Log) (j : Job) (o : Option Job) → AreTrue plan past → job_at past j.number ≡ Some j → is_open plan (λ n. acts n past) (is_waived past) j ≡ true → work j.number past ≡ 0
+none_runs : (plan : DiePlan) (past : Log) (j : Job) (o : Option Job) → AreTrue plan past → job_at past j.number ≡ Some j → is_pending plan (λ n. acts n past) (is_waived past) j ≡ true → work j.number past ≡ 0
     → first_with (runs plan past j.task) (jobs past) ≡ o → block_in plan past o ≡ None
 none_runs plan past j None h known is fresh e = refl
 none_runs plan past j (Some i) h known is fresh e =
     let f = is_found (runs plan past j.task) (jobs past) i e in
-    let test : Job → Bool = λ x. (x.task == j.task) && is_open plan (λ n. acts n past) (is_waived past) x in
+    let test : Job → Bool = λ x. (x.task == j.task) && is_pending plan (λ n. acts n past) (is_waived past) x in
     let both = and_parts (i.task == j.task) (is_running plan past i) f.passes in
-    let first_i : first_with test (jobs past) ≡ Some i = finds_it test (jobs past) f.place i (h.one_each j.task) f.stands (and_from (i.task == j.task) (is_open plan (λ n. acts n past) (is_waived past) i) both.0 (running_open plan past i h both.1)) in
-    let first_j : first_with test (jobs past) ≡ Some j = finds_it test (jobs past) j.number j (h.one_each j.task) known (and_from (j.task == j.task) (is_open plan (λ n. acts n past) (is_waived past) j) (eq-eqb j.task j.task refl) is) in
+    let first_i : first_with test (jobs past) ≡ Some i = finds_it test (jobs past) f.place i (h.one_each j.task) f.stands (and_from (i.task == j.task) (is_pending plan (λ n. acts n past) (is_waived past) i) both.0 (running_pending plan past i h both.1)) in
+    let first_j : first_with test (jobs past) ≡ Some j = finds_it test (jobs past) j.number j (h.one_each j.task) known (and_from (j.task == j.task) (is_pending plan (λ n. acts n past) (is_waived past) j) (eq-eqb j.task j.task refl) is) in
     let same : i ≡ j = same_Some i j (sym first_i ∙ first_j) in
     let parts = and_parts (i.collects && nat_lt 0 (work i.number past)) (not (is_done plan past i)) both.1 in
     let begun : 0 < work i.number past = ltb-true 0 (work i.number past) (and_parts i.collects (nat_lt 0 (work i.number past)) parts.0).1 in
@@ -110,45 +110,45 @@ abbrev free_at : DiePlan → Cells → ℕ → ℕ
 free_at plan c b = free_in plan (block_at c b)
 
 free_sum : (plan : DiePlan) (c : Cells) → length c.blocks ≡ plan.shape.blocks → sum_by (free_at plan c) (range_with_len 0 plan.shape.blocks) ≡ sum_by (free_in plan) c.blocks + 0
-free_sum plan c e = sum_places (free_in plan) (free_at plan c) empty_block 0 plan.shape.blocks c.blocks e (λ i. ap (free_at plan c) (omega arith))
+free_sum plan c e = sum_places (free_in plan) (free_at plan c) free_block 0 plan.shape.blocks c.blocks e (λ i. ap (free_at plan c) (omega arith))
 
--- the block that is partly filled, if there is one
-abbrev partly : DiePlan → Cells → Option ℕ
-partly plan c = position (is_partly_filled plan) c.blocks
+-- the block that is open, if there is one
+abbrev opened : DiePlan → Cells → Option ℕ
+opened plan c = position (is_open plan) c.blocks
 
-partly_of : (plan : DiePlan) (c : Cells) (b : ℕ) → is_partly_filled plan (block_at c b) ≡ true → IsPartly plan c b
-partly_of plan c b h =
+opened_of : (plan : DiePlan) (c : Cells) (b : ℕ) → is_open plan (block_at c b) ≡ true → IsOpen plan c b
+opened_of plan c b h =
     let parts = and_parts (nat_lt 0 (block_at c b).filled) (nat_lt (block_at c b).filled plan.shape.pages) h in
     (ltb-true 0 (block_at c b).filled parts.0, ltb-true (block_at c b).filled plan.shape.pages parts.1)
 
-writing_is : (plan : DiePlan) (c : Cells) (b : ℕ) (o : Option ℕ) → AreSound plan c → b < length c.blocks → is_partly_filled plan (block_at c b) ≡ true → partly plan c ≡ o → o ≡ Some b
+writing_is : (plan : DiePlan) (c : Cells) (b : ℕ) (o : Option ℕ) → AreSound plan c → b < length c.blocks → is_open plan (block_at c b) ≡ true → opened plan c ≡ o → o ≡ Some b
 writing_is plan c b None are h is e =
-    absurd (true≢false (sym is ∙ no_position (is_partly_filled plan) c.blocks e b empty_block h))
+    absurd (true≢false (sym is ∙ no_position (is_open plan) c.blocks e b free_block h))
 writing_is plan c b (Some d) are h is e =
-    let p = position-Some (is_partly_filled plan) c.blocks d empty_block e in
-    ap (λ (n : ℕ). Some n) (are.one_partly d b (partly_of plan c d p.1) (partly_of plan c b is))
+    let p = position-Some (is_open plan) c.blocks d free_block e in
+    ap (λ (n : ℕ). Some n) (are.one_open d b (opened_of plan c d p.1) (opened_of plan c b is))
 
--- a block that isn't partly filled has no page free, or all
-other_free : (plan : DiePlan) (s : Block) → is_partly_filled plan s ≡ false → (free_in plan s ≡ 0) ⊎ (plan.shape.pages ≤ free_in plan s)
+-- a block that isn't open has no page free, or all
+other_free : (plan : DiePlan) (s : Block) → is_open plan s ≡ false → (free_in plan s ≡ 0) ⊎ (plan.shape.pages ≤ free_in plan s)
 other_free plan s e = elim (cases_eq s.erasing 0) [
   | inl idle ↦ elim (cases_lt 0 s.filled) [
     | inl some ↦ elim (cases_lt s.filled plan.shape.pages) [
       | inl few ↦ absurd (true≢false (sym (and_from (nat_lt 0 s.filled) (nat_lt s.filled plan.shape.pages) (lt-ltb 0 s.filled some) (lt-ltb s.filled plan.shape.pages few)) ∙ e))
-      | inr full ↦ inl (omega (arith, full, free_idle plan s idle))
+      | inr closed ↦ inl (omega (arith, closed, free_idle plan s idle))
     ]
     | inr none ↦ inr (omega (arith, none, free_idle plan s idle))
   ]
   | inr busy ↦ inl (free_erasing plan s busy)
 ]
 
-one_open : (plan : DiePlan) (c : Cells) (b : ℕ) → AreSound plan c → b < plan.shape.blocks → (partly plan c ≡ Some b) ⊎ ((free_at plan c b ≡ 0) ⊎ (plan.shape.pages ≤ free_at plan c b))
-one_open plan c b are h = elim (cases_Bool (is_partly_filled plan (block_at c b))) [
-  | inl is ↦ inl (writing_is plan c b (partly plan c) are (omega (arith, h, are.blocks)) is refl)
+one_open : (plan : DiePlan) (c : Cells) (b : ℕ) → AreSound plan c → b < plan.shape.blocks → (opened plan c ≡ Some b) ⊎ ((free_at plan c b ≡ 0) ⊎ (plan.shape.pages ≤ free_at plan c b))
+one_open plan c b are h = elim (cases_Bool (is_open plan (block_at c b))) [
+  | inl is ↦ inl (writing_is plan c b (opened plan c) are (omega (arith, h, are.blocks)) is refl)
   | inr no_part ↦ inr (other_free plan (block_at c b) no_part)
 ]
 
-full_if : (plan : DiePlan) (c : Cells) (b : ℕ) → AreSound plan c → b < plan.shape.blocks → free_at plan c b ≡ 0 → is_full plan (block_at c b) ≡ true
-full_if plan c b are h e =
+closed_if : (plan : DiePlan) (c : Cells) (b : ℕ) → AreSound plan c → b < plan.shape.blocks → free_at plan c b ≡ 0 → is_closed plan (block_at c b) ≡ true
+closed_if plan c b are h e =
     let s : Block = block_at c b in
     eq-eqb s.filled plan.shape.pages (elim (cases_lt 0 s.erasing) [
       | inl busy ↦ (are.erasing b busy).1
@@ -158,18 +158,18 @@ full_if plan c b are h e =
 -- a closed block that nobody collects, with few placed pages, which a collection takes
 pub record IsTakable (plan : DiePlan) (past : Log) (b : ℕ) : Type 0 where
   pub in_range : b < plan.shape.blocks
-  pub full : is_full plan (block_at (cells plan past) b) ≡ true
+  pub closed : is_closed plan (block_at (cells plan past) b) ≡ true
   pub alone : is_collected plan past b ≡ false
   pub few_valid : valid (cells plan past) b ≤ reserve_full plan
 
 -- with few cells free, a collection that begins finds a block that it may take
 pub takable : (plan : DiePlan) (past : Log) (j : Job) → MeetsBound plan → AreTrue plan past → AreSound plan (cells plan past)
-    → job_at past j.number ≡ Some j → is_open plan (λ n. acts n past) (is_waived past) j ≡ true → work j.number past ≡ 0 → free plan past ≤ fmax_of plan → ((i : Job) (k : ℕ) → slice_get (jobs past) k ≡ Some i → i.task < length plan.caps)
+    → job_at past j.number ≡ Some j → is_pending plan (λ n. acts n past) (is_waived past) j ≡ true → work j.number past ≡ 0 → free plan past ≤ fmax_of plan → ((i : Job) (k : ℕ) → slice_get (jobs past) k ≡ Some i → i.task < length plan.caps)
     → (b : ℕ) × IsTakable plan past b
 takable plan past j bound h are known is fresh few within =
     let c : Cells = cells plan past in
     let inside : j.task < length plan.caps = within j j.number known in
-    let found = choice plan (free_at plan c) c.places (victims plan past) (partly plan c) bound (record {
+    let found = choice plan (free_at plan c) c.places (victims plan past) (opened plan c) bound (record {
       places_len = are.places;
       victims_len = length-map-range_with_len (victim_by plan past) 0 (length plan.caps);
       none_yet = (j.task, omega (arith, inside, length-map-range_with_len (victim_by plan past) 0 (length plan.caps)), victim_at plan past j.task inside ∙ none_runs plan past j (first_with (runs plan past j.task) (jobs past)) h known is fresh refl);
@@ -179,7 +179,7 @@ takable plan past j bound h are known is fresh few within =
       found.0,
       record {
         in_range = found.1.in_range;
-        full = full_if plan c found.0 are found.1.in_range found.1.closed;
+        closed = closed_if plan c found.0 are found.1.in_range found.1.closed;
         alone = free_of plan past found.0 h within found.1.alone;
         few_valid = found.1.few_valid;
       },
@@ -189,7 +189,7 @@ takable plan past j bound h are known is fresh few within =
 pub victim_found : (plan : DiePlan) (past : Log) (b : ℕ) → IsTakable plan past b → (v : ℕ) × (victim plan past ≡ Some v) × (valid (cells plan past) v ≤ reserve_full plan)
 victim_found plan past b t =
     let c : Cells = cells plan past in
-    let test : ℕ → Bool = λ d. is_full plan (block_at c d) && not (is_collected plan past d) in
-    let s = keeps_passing test (range_with_len 0 plan.shape.blocks) b b (range_at 0 plan.shape.blocks b t.in_range ∙ ap (λ (n : ℕ). Some n) (omega arith)) (and_from (is_full plan (block_at c b)) (not (is_collected plan past b)) t.full (not_from_false (is_collected plan past b) t.alone)) in
+    let test : ℕ → Bool = λ d. is_closed plan (block_at c d) && not (is_collected plan past d) in
+    let s = keeps_passing test (range_with_len 0 plan.shape.blocks) b b (range_at 0 plan.shape.blocks b t.in_range ∙ ap (λ (n : ℕ). Some n) (omega arith)) (and_from (is_closed plan (block_at c b)) (not (is_collected plan past b)) t.closed (not_from_false (is_collected plan past b) t.alone)) in
     let v = least_le (valid c) (candidates plan past) s.place b s.is in
     (v.0, v.1, omega (arith, v.2, t.few_valid))

@@ -5,7 +5,7 @@ use Rattle.std.proofs.lemmas.Bool.{cases_lt}
 use Rattle.std.proofs.lemmas.List.{length-replicate, get_or-replicate, get_or_past}
 use Rattle.slot_types.specs.declared.plans.DiePlan.{DiePlan}
 use Rattle.plan_rules.specs.Bound.{MeetsBound}
-use Rattle.die_log.specs.Flash.{free, free_in, empty_block}
+use Rattle.die_log.specs.Flash.{free, free_in, free_block}
 use Rattle.plan_rules.specs.Accounts.{opening}
 use Rattle.plan_rules.proofs.Totals.{room}
 use Rattle.die_log.specs.Held.{Agree, reserve_full}
@@ -21,7 +21,7 @@ none_at n i = elim (cases_lt i n) [
 ]
 
 all_free : (plan : DiePlan) → free plan [] ≡ plan.shape.blocks * plan.shape.pages
-all_free plan = sum_by-replicate (free_in plan) plan.shape.blocks empty_block ∙ ap (λ n. plan.shape.blocks * n) (omega arith)
+all_free plan = sum_by-replicate (free_in plan) plan.shape.blocks free_block ∙ ap (λ n. plan.shape.blocks * n) (omega arith)
 
 pub agree_opening : (plan : DiePlan) → MeetsBound plan → Agree plan (opening plan) (λ t. 0) (λ t. 0) 0 (free plan [])
 agree_opening plan bound =

@@ -8,26 +8,26 @@ use Rattle.plan_rules.specs.Accounts.{Accounts}
 use Rattle.die_log.specs.Accounts.{accounts}
 use Rattle.die_log.specs.Held.{reserve_full}
 use Rattle.die_log.specs.Held.{Agree}
-use Rattle.die_log.specs.Held.{at_task, is_open, copied_of, lent_of, open_of, AreTrue}
-use Rattle.die_log.proofs.Tokens.Sums.{sum_none, lent_alone, not_open}
+use Rattle.die_log.specs.Held.{at_task, is_pending, copied_of, lent_of, pending_of, AreTrue}
+use Rattle.die_log.proofs.Tokens.Sums.{sum_none, lent_alone, not_pending}
 use Rattle.die_log.proofs.Tokens.Amounts.{sum_le}
 use Rattle.plan_rules.proofs.Totals.{sums_le}
 
 -- while a collection of a task is neither done nor waived, its collector's reserve lacks what it copied
-pub reserve_lacks : (plan : DiePlan) (log : Log) (j : Job) → AreTrue plan log → job_at log j.number ≡ Some j → j.task < length plan.caps → is_open plan (λ n. acts n log) (is_waived log) j ≡ true
+pub reserve_lacks : (plan : DiePlan) (log : Log) (j : Job) → AreTrue plan log → job_at log j.number ≡ Some j → j.task < length plan.caps → is_pending plan (λ n. acts n log) (is_waived log) j ≡ true
     → get_or (accounts plan log).reserves j.task 0 + copied_of (λ n. acts n log) j ≡ reserve_full plan
 reserve_lacks plan log j h known within is =
     omega (arith, h.agree.reserves_are j.task within, lent_alone plan (λ n. acts n log) (is_waived log) (jobs log) j.number j (h.one_each j.task) known is)
 
 -- and without one it is full
-pub reserve_is_full : (plan : DiePlan) (log : Log) (task : ℕ) → AreTrue plan log → task < length plan.caps → open_of plan (λ n. acts n log) (is_waived log) (jobs log) task ≡ 0
+pub reserve_is_full : (plan : DiePlan) (log : Log) (task : ℕ) → AreTrue plan log → task < length plan.caps → pending_of plan (λ n. acts n log) (is_waived log) (jobs log) task ≡ 0
     → get_or (accounts plan log).reserves task 0 ≡ reserve_full plan
 reserve_is_full plan log task h within none =
     omega (
       arith,
       h.agree.reserves_are task within,
-      sum_none (λ i. (i.task == task) && is_open plan (λ n. acts n log) (is_waived log) i) (λ i. at_task i.task (lent_of plan (λ n. acts n log) (is_waived log) i) task) (jobs log) (omega (arith, none))
-          (λ i e. not_open (i.task == task) (is_open plan (λ n. acts n log) (is_waived log) i) (copied_of (λ n. acts n log) i) e),
+      sum_none (λ i. (i.task == task) && is_pending plan (λ n. acts n log) (is_waived log) i) (λ i. at_task i.task (lent_of plan (λ n. acts n log) (is_waived log) i) task) (jobs log) (omega (arith, none))
+          (λ i e. not_pending (i.task == task) (is_pending plan (λ n. acts n log) (is_waived log) i) (copied_of (λ n. acts n log) i) e),
     )
 
 -- while few pages are spare, few are free

@@ -22,10 +22,10 @@ use Rattle.die_log.proofs.Legality.{entry}
 use Rattle.die_log.specs.Held.{Agree}
 use Rattle.die_log.proofs.Tokens.Waivers.{Waits}
 use Rattle.die_log.proofs.Tokens.Given.{CellsServe}
-use Rattle.die_log.specs.Held.{left_of, held_of, is_open, lent_to, IsTaken, AreTrue}
+use Rattle.die_log.specs.Held.{left_of, held_of, is_pending, lent_to, IsTaken, AreTrue}
 use Rattle.die_log.proofs.Tokens.Sums.{all_at, held_same, sum_same}
 use Rattle.die_log.proofs.Tokens.Moves.{agree_same, agree_waived}
-use Rattle.die_log.proofs.Tokens.Changes.{Waives, Acts, lent_idle, open_idle, open_after}
+use Rattle.die_log.proofs.Tokens.Changes.{Waives, Acts, lent_idle, pending_idle, pending_after}
 
 -- Waivers
 
@@ -114,7 +114,7 @@ keeps_idle plan past caller slot ws finished h c are =
           (sum_same (left_of own) (left_of own') (jobs past) (λ k i e. ap (λ (l : List Act). writes (drop (length l) i.ops)) (same i.number)))
           refl;
       taken = h.taken;
-      one_each = λ t. omega (arith, h.one_each t, open_idle plan own own' (is_waived past) (is_waived log) (λ n. is_among n ws) (jobs past) w same t);
+      one_each = λ t. omega (arith, h.one_each t, pending_idle plan own own' (is_waived past) (is_waived log) (λ n. is_among n ws) (jobs past) w same t);
       idle_waived = λ n e. sym (same n) ∙ waived_empty (λ n. acts n past) (is_waived past) (is_waived log) (λ n. is_among n ws) w h.idle_waived n e;
     }
 
@@ -136,8 +136,8 @@ is_undone plan past ws j act h =
 is_unwaived : (plan : DiePlan) (past : Log) (ws : List Waived) (j : Job) (act : Act) → IsTurn plan past ws j act → not (is_waived past j.number) ≡ true
 is_unwaived plan past ws j act h = (and_parts (nat_le j.release (now past) && not (is_done plan past j)) (not (is_waived past j.number)) h.waits.ready).1
 
-pub was_open : (plan : DiePlan) (past : Log) (ws : List Waived) (j : Job) (act : Act) → IsTurn plan past ws j act → j.collects ≡ true → is_open plan (λ n. acts n past) (is_waived past) j ≡ true
-was_open plan past ws j act h is =
+pub was_pending : (plan : DiePlan) (past : Log) (ws : List Waived) (j : Job) (act : Act) → IsTurn plan past ws j act → j.collects ≡ true → is_pending plan (λ n. acts n past) (is_waived past) j ≡ true
+was_pending plan past ws j act h is =
     and_from (j.collects && not (is_done plan past j)) (not (is_waived past j.number)) (and_from j.collects (not (is_done plan past j)) is (is_undone plan past ws j act h)) (is_unwaived plan past ws j act h)
 
 -- the accounts before the act
@@ -160,7 +160,7 @@ from_act plan past caller slot ws finished j act h agree =
     record {
       agree = subst (λ o. Agree plan (after_act plan o (acts j.number past) act (after_waivers past ws (accounts plan past))) (held_of (λ n. acts n log) (jobs past)) (lent_to plan (λ n. acts n log) (is_waived log) (jobs past)) (owed log) (free plan log)) (sym h.waits.known) agree;
       taken = h.true_before.taken;
-      one_each = λ t. omega (arith, h.true_before.one_each t, open_after plan (λ n. acts n past) (λ n. acts n log) (is_waived past) (is_waived log) (λ n. is_among n ws) (jobs past) j act h.serve.numbered h.waits.known w a (was_open plan past ws j act h) t);
+      one_each = λ t. omega (arith, h.true_before.one_each t, pending_after plan (λ n. acts n past) (λ n. acts n log) (is_waived past) (is_waived log) (λ n. is_among n ws) (jobs past) j act h.serve.numbered h.waits.known w a (was_pending plan past ws j act h) t);
       idle_waived = λ n e. elim (cases_eq n j.number) [
         | inl is ↦ absurd (true≢false (sym e ∙ (ap (is_waived log) is ∙ h.waits.new)))
         | inr apart ↦ sym (a.other n apart) ∙ waived_empty (λ n. acts n past) (is_waived past) (is_waived log) (λ n. is_among n ws) w h.true_before.idle_waived n e

@@ -7,7 +7,7 @@ use Rattle.std.proofs.lemmas.List.Sums.{sum_by-cons}
 use Rattle.slot_types.specs.declared.plans.DiePlan.{DiePlan}
 use Rattle.slot_types.specs.declared.acts.Act.{Act}
 use Rattle.die_log.specs.Log.{Job}
-use Rattle.die_log.specs.Held.{at_task, left_of, held_of, is_open, copied_of, lent_of, lent_to, open_of}
+use Rattle.die_log.specs.Held.{at_task, left_of, held_of, is_pending, copied_of, lent_of, lent_to, pending_of}
 
 pub sum_same : {X : Type 0} (f g : X → ℕ) (xs : List X) → ((k : ℕ) (y : X) → slice_get xs k ≡ Some y → f y ≡ g y) → sum_by f xs ≡ sum_by g xs
 sum_same f g [] h = refl
@@ -101,17 +101,17 @@ lent_at plan own own' gone gone' js d k j e more same t =
     (ap (λ n. at_task j.task n t) more ∙ at_sum j.task (lent_of plan own' gone' j) d t)
     (λ m i is apart. ap (λ n. at_task i.task n t) (same m i is apart))
 
--- with at most one open collection a task, what the task is lent is what that one copied
-pub not_open : (e b : Bool) (n : ℕ) → (e && b) ≡ false → cond e (cond b n 0) 0 ≡ 0
-not_open true true n h = absurd cc
-not_open true false n h = refl
-not_open false b n h = refl
+-- with at most one pending collection a task, what the task is lent is what that one copied
+pub not_pending : (e b : Bool) (n : ℕ) → (e && b) ≡ false → cond e (cond b n 0) 0 ≡ 0
+not_pending true true n h = absurd cc
+not_pending true false n h = refl
+not_pending false b n h = refl
 
-pub lent_alone : (plan : DiePlan) (own : ℕ → List Act) (gone : ℕ → Bool) (js : List Job) (k : ℕ) (j : Job) → open_of plan own gone js j.task ≤ 1 → slice_get js k ≡ Some j → is_open plan own gone j ≡ true
+pub lent_alone : (plan : DiePlan) (own : ℕ → List Act) (gone : ℕ → Bool) (js : List Job) (k : ℕ) (j : Job) → pending_of plan own gone js j.task ≤ 1 → slice_get js k ≡ Some j → is_pending plan own gone j ≡ true
     → lent_to plan own gone js j.task ≡ copied_of own j
 lent_alone plan own gone js k j few e is =
     let itself : eqb j.task j.task ≡ true = eq-eqb j.task j.task refl in
-    sum_one (λ i. (i.task == j.task) && is_open plan own gone i) (λ i. at_task i.task (lent_of plan own gone i) j.task) js k j few e
-    (and_from (eqb j.task j.task) (is_open plan own gone j) itself is)
-    (λ i no. not_open (eqb i.task j.task) (is_open plan own gone i) (copied_of own i) no)
+    sum_one (λ i. (i.task == j.task) && is_pending plan own gone i) (λ i. at_task i.task (lent_of plan own gone i) j.task) js k j few e
+    (and_from (eqb j.task j.task) (is_pending plan own gone j) itself is)
+    (λ i no. not_pending (eqb i.task j.task) (is_pending plan own gone i) (copied_of own i) no)
     ∙ (ap (λ b. cond b (lent_of plan own gone j) 0) itself ∙ ap (λ b. cond b (copied_of own j) 0) is)

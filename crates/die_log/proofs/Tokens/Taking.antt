@@ -15,7 +15,7 @@ use Rattle.die_log.specs.Answers.{IsExact, accepted, refusals, balance}
 use Rattle.die_log.proofs.Legality.{entry}
 use Rattle.die_log.proofs.Known.{all_append}
 use Rattle.die_log.proofs.Collecting.{no_acts}
-use Rattle.die_log.specs.Held.{at_task, left_of, held_of, is_open, copied_of, lent_of, lent_to, open_of, IsTaken, AreTrue}
+use Rattle.die_log.specs.Held.{at_task, left_of, held_of, is_pending, copied_of, lent_of, lent_to, pending_of, IsTaken, AreTrue}
 use Rattle.die_log.proofs.Tokens.Sums.{one_if, some_if}
 use Rattle.die_log.proofs.Tokens.Moves.{agree_same, agree_admitted}
 
@@ -71,7 +71,7 @@ keeps_submit plan past caller task release due ops exact h refused =
           (omega (arith, sum_by_push (λ i. left_of own i) (jobs past) j, left))
           refl;
       taken = all_append (IsTaken plan) (jobs past) (j ∷ []) h.taken (record { task = within; none = λ e. absurd cc }, tt);
-      one_each = λ t. omega (arith, h.one_each t, sum_by_push (λ i. cond ((i.task == t) && is_open plan own (is_waived past) i) 1 0) (jobs past) j, never (eqb task t));
+      one_each = λ t. omega (arith, h.one_each t, sum_by_push (λ i. cond ((i.task == t) && is_pending plan own (is_waived past) i) 1 0) (jobs past) j, never (eqb task t));
       idle_waived = h.idle_waived;
     }
 
@@ -85,8 +85,8 @@ keeps_collect plan past caller task release due exact h refused =
     let within : task < length plan.caps = leb-false (length plan.caps) task refused.0 in
     let left : left_of own j ≡ 0 = ap (λ (l : List Act). writes (drop (length l) [])) (no_acts plan past exact) in
     let copied : copied_of own j ≡ 0 = ap (λ (l : List Act). count_by is_copy_program l) (no_acts plan past exact) in
-    let lent : lent_of plan own gone j ≡ 0 = lent_nothing (is_open plan own gone j) (copied_of own j) copied in
-    let idle : open_of plan own gone (jobs past) task ≡ 0 = none_counted _ (λ i. (i.task == task) && is_open plan own gone i) (jobs past) (λ i e. turned i.collects (i.task == task) (not (are_all plan i (own i.number))) (not (gone i.number)) e) refused.1.1.1.0 in
+    let lent : lent_of plan own gone j ≡ 0 = lent_nothing (is_pending plan own gone j) (copied_of own j) copied in
+    let idle : pending_of plan own gone (jobs past) task ≡ 0 = none_counted _ (λ i. (i.task == task) && is_pending plan own gone i) (jobs past) (λ i e. turned i.collects (i.task == task) (not (are_all plan i (own i.number))) (not (gone i.number)) e) refused.1.1.1.0 in
     record {
       agree = agree_same plan (accounts plan past) (held_of own (jobs past)) (lent_to plan own gone (jobs past)) (held_of own (jobs past ++ j ∷ [])) (lent_to plan own gone (jobs past ++ j ∷ [])) (owed past) (free plan past) _ (free plan past)
           h.agree
@@ -96,12 +96,12 @@ keeps_collect plan past caller task release due exact h refused =
           refl;
       taken = all_append (IsTaken plan) (jobs past) (j ∷ []) h.taken (record { task = within; none = λ e. refl }, tt);
       one_each = λ t. elim (cases_eq t task) [
-        | inl e ↦ rw e (omega (arith, idle, sum_by_push (λ i. cond ((i.task == task) && is_open plan own gone i) 1 0) (jobs past) j, at_most (eqb task task) (is_open plan own gone j)))
+        | inl e ↦ rw e (omega (arith, idle, sum_by_push (λ i. cond ((i.task == task) && is_pending plan own gone i) 1 0) (jobs past) j, at_most (eqb task task) (is_pending plan own gone j)))
         | inr apart ↦ omega (
           arith,
           h.one_each t,
-          sum_by_push (λ i. cond ((i.task == t) && is_open plan own gone i) 1 0) (jobs past) j,
-          ap (λ (b : Bool). one_if (b && is_open plan own gone j)) (ne_eqb task t (λ e. apart (sym e))),
+          sum_by_push (λ i. cond ((i.task == t) && is_pending plan own gone i) 1 0) (jobs past) j,
+          ap (λ (b : Bool). one_if (b && is_pending plan own gone j)) (ne_eqb task t (λ e. apart (sym e))),
         )
       ];
       idle_waived = h.idle_waived;

@@ -25,7 +25,7 @@ use Rattle.die_log.proofs.Tokens.Doing.{IsJobAct, IsCollectionAct}
 use Rattle.die_log.proofs.Cells.FreePages.{program_free, erase_free}
 use Rattle.die_log.proofs.Tokens.Taking.{at_none}
 use Rattle.die_log.proofs.Tokens.Changes.{held_after, owed_after, left_job, left_collection, lent_more, lent_less}
-use Rattle.die_log.proofs.Tokens.Slots.{slot_entry, slot_waives, ran_acts, IsTurn, is_undone, was_open, before_act, of_job, from_act}
+use Rattle.die_log.proofs.Tokens.Slots.{slot_entry, slot_waives, ran_acts, IsTurn, is_undone, was_pending, before_act, of_job, from_act}
 
 abbrev pub turn_log : Log → ℕ → ℕ → List Waived → Option ℕ → Job → Act → Log
 turn_log past caller slot ws finished j act = slot_entry caller slot ws (Some (j.number, act)) finished ∷ past
@@ -69,30 +69,30 @@ leaves_job plan past caller slot ws finished j act op h is e =
       );
     }
 
--- the turn of a collection: nothing is written for a job, and it is still open or not
-record LeavesCollection (plan : DiePlan) (past : Log) (log : Log) (j : Job) (act : Act) (closed : Bool) : Type 0 where
+-- the turn of a collection: nothing is written for a job, and it is still pending or not
+record LeavesCollection (plan : DiePlan) (past : Log) (log : Log) (j : Job) (act : Act) (is_over : Bool) : Type 0 where
   held : (t : ℕ) → held_of (λ n. acts n past) (jobs past) t ≡ held_of (λ n. acts n log) (jobs past) t
   owed_is : owed past ≡ sum_by (left_of (λ n. acts n log)) (jobs past)
   before : lent_of plan (λ n. acts n past) (is_waived past) j ≡ count_by is_copy_program (acts j.number past)
-  after : lent_of plan (λ n. acts n log) (is_waived log) j ≡ some_if (not closed) (count_by is_copy_program (acts j.number past) + one_if (is_copy_program act))
+  after : lent_of plan (λ n. acts n log) (is_waived log) j ≡ some_if (not is_over) (count_by is_copy_program (acts j.number past) + one_if (is_copy_program act))
 
 all_erased : (plan : DiePlan) (j : Job) (own : List Act) → j.collects ≡ true → are_all plan j own ≡ (count_by is_erase own == plan.shape.erase_slots)
 all_erased plan j own is = ap (λ (c : Bool). cond c (count_by is_erase own == plan.shape.erase_slots) (length own == length j.ops)) is
 
-lent_now : (plan : DiePlan) (own : List Act) (gone closed : Bool) (j : Job) → j.collects ≡ true → gone ≡ false → are_all plan j own ≡ closed
-    → some_if (j.collects && not (are_all plan j own) && not gone) (count_by is_copy_program own) ≡ some_if (not closed) (count_by is_copy_program own)
-lent_now plan own gone closed j is e all =
+lent_now : (plan : DiePlan) (own : List Act) (gone is_over : Bool) (j : Job) → j.collects ≡ true → gone ≡ false → are_all plan j own ≡ is_over
+    → some_if (j.collects && not (are_all plan j own) && not gone) (count_by is_copy_program own) ≡ some_if (not is_over) (count_by is_copy_program own)
+lent_now plan own gone is_over j is e all =
     ap (λ (c : Bool). some_if (c && not (are_all plan j own) && not gone) (count_by is_copy_program own)) is
     ∙ (ap (λ (g : Bool). some_if (not (are_all plan j own) && not g) (count_by is_copy_program own)) e
-    ∙ (ap (λ (b : Bool). some_if (not b && true) (count_by is_copy_program own)) all ∙ and_true closed (count_by is_copy_program own)))
+    ∙ (ap (λ (b : Bool). some_if (not b && true) (count_by is_copy_program own)) all ∙ and_true is_over (count_by is_copy_program own)))
   where
     and_true : (b : Bool) (n : ℕ) → some_if (not b && true) n ≡ some_if (not b) n
     and_true true n = refl
     and_true false n = refl
 
-leaves_collection : (plan : DiePlan) (past : Log) (caller slot : ℕ) (ws : List Waived) (finished : Option ℕ) (j : Job) (act : Act) (closed : Bool) → IsTurn plan past ws j act → j.collects ≡ true
-    → are_all plan j (acts j.number past ++ act ∷ []) ≡ closed → LeavesCollection plan past (turn_log past caller slot ws finished j act) j act closed
-leaves_collection plan past caller slot ws finished j act closed h is all =
+leaves_collection : (plan : DiePlan) (past : Log) (caller slot : ℕ) (ws : List Waived) (finished : Option ℕ) (j : Job) (act : Act) (is_over : Bool) → IsTurn plan past ws j act → j.collects ≡ true
+    → are_all plan j (acts j.number past ++ act ∷ []) ≡ is_over → LeavesCollection plan past (turn_log past caller slot ws finished j act) j act is_over
+leaves_collection plan past caller slot ws finished j act is_over h is all =
     let log : Log = turn_log past caller slot ws finished j act in
     let own : ℕ → List Act = λ n. acts n past in
     let own' : ℕ → List Act = λ n. acts n log in
@@ -103,16 +103,16 @@ leaves_collection plan past caller slot ws finished j act closed h is all =
     record {
       held = λ t. omega (arith, at_none j.task t, held_after own own' (jobs past) j act 0 h.serve.numbered h.waits.known a less t);
       owed_is = omega (arith, owed_after own own' (jobs past) j act 0 h.serve.numbered h.waits.known a less);
-      before = ap (λ b. some_if b (copied_of own j)) (was_open plan past ws j act h is);
-      after = lent_now plan (own' j.number) (is_waived log j.number) closed j is h.waits.new (ap (λ (l : List Act). are_all plan j l) a.more ∙ all) ∙ ap (λ n. some_if (not closed) n) copies;
+      before = ap (λ b. some_if b (copied_of own j)) (was_pending plan past ws j act h is);
+      after = lent_now plan (own' j.number) (is_waived log j.number) is_over j is h.waits.new (ap (λ (l : List Act). are_all plan j l) a.more ∙ all) ∙ ap (λ n. some_if (not is_over) n) copies;
     }
 
 erases_more : (own : List Act) (act : Act) → count_by is_erase (own ++ act ∷ []) ≡ count_by is_erase own + one_if (is_erase act)
 erases_more own act = sum_by_push (λ x. one_if (is_erase x)) own act
 
 -- a copy closes no collection
-stays_open : (plan : DiePlan) (past : Log) (ws : List Waived) (j : Job) (act : Act) → IsTurn plan past ws j act → j.collects ≡ true → is_erase act ≡ false → are_all plan j (acts j.number past ++ act ∷ []) ≡ false
-stays_open plan past ws j act h is copy =
+stays_pending : (plan : DiePlan) (past : Log) (ws : List Waived) (j : Job) (act : Act) → IsTurn plan past ws j act → j.collects ≡ true → is_erase act ≡ false → are_all plan j (acts j.number past ++ act ∷ []) ≡ false
+stays_pending plan past ws j act h is copy =
     let own : List Act = acts j.number past in
     let same : count_by is_erase (own ++ act ∷ []) ≡ count_by is_erase own = omega (arith, erases_more own act, ap one_if copy) in
     all_erased plan j (own ++ act ∷ []) is ∙ (ap (λ n. n == plan.shape.erase_slots) same ∙ (sym (all_erased plan j own is) ∙ not-true (are_all plan j own) (is_undone plan past ws j act h)))
@@ -161,7 +161,7 @@ turn_copy_read plan past caller slot ws finished j page h is =
     let log : Log = turn_log past caller slot ws finished j act in
     let own : ℕ → List Act = λ n. acts n past in
     let own' : ℕ → List Act = λ n. acts n log in
-    let l = leaves_collection plan past caller slot ws finished j act false h is (stays_open plan past ws j act h is refl) in
+    let l = leaves_collection plan past caller slot ws finished j act false h is (stays_pending plan past ws j act h is refl) in
     let w = slot_waives plan caller slot ws (Some (j.number, act)) finished past h.serve.numbered h.waivers in
     let a = ran_acts caller slot ws finished past j.number act in
     from_act plan past caller slot ws finished j act h (
@@ -178,12 +178,12 @@ turn_copy plan past caller slot ws finished j page bound h is =
     let log : Log = turn_log past caller slot ws finished j act in
     let own : ℕ → List Act = λ n. acts n past in
     let own' : ℕ → List Act = λ n. acts n log in
-    let l = leaves_collection plan past caller slot ws finished j act false h is (stays_open plan past ws j act h is refl) in
+    let l = leaves_collection plan past caller slot ws finished j act false h is (stays_pending plan past ws j act h is refl) in
     let w = slot_waives plan caller slot ws (Some (j.number, act)) finished past h.serve.numbered h.waivers in
     let a = ran_acts caller slot ws finished past j.number act in
     let before = before_act plan past ws j act h in
     let within : j.task < length plan.caps = (of_job plan past ws j act h).task in
-    let alone : lent_to plan own (is_waived past) (jobs past) j.task ≡ copied_of own j = lent_alone plan own (is_waived past) (jobs past) j.number j (h.true_before.one_each j.task) h.waits.known (was_open plan past ws j act h is) in
+    let alone : lent_to plan own (is_waived past) (jobs past) j.task ≡ copied_of own j = lent_alone plan own (is_waived past) (jobs past) j.number j (h.true_before.one_each j.task) h.waits.known (was_pending plan past ws j act h is) in
     let few : lent_to plan own (is_waived past) (jobs past) j.task < reserve_full plan = omega (arith, alone, h.serve.few_copies j page h.waits.known h.waits.ready h.does_it) in
     let some : 0 < free plan past = lent_fits plan _ _ _ (owed past) (free plan past) j.task before within few in (
       from_act plan past caller slot ws finished j act h (
@@ -198,12 +198,12 @@ turn_copy plan past caller slot ws finished j page bound h is =
     )
 
 -- the last slot of its erase comes with the closing act
-erase_closes : (plan : DiePlan) (past : Log) (ws : List Waived) (j : Job) (b : ℕ) (closed : Bool) → 0 < plan.shape.pages → IsTurn plan past ws j (does.Erase b) → j.collects ≡ true → are_all plan j (acts j.number past ++ does.Erase b ∷ []) ≡ closed
-    → sum_by (free_in plan) (set (cells plan past).blocks b (erased_once plan (block_at (cells plan past) b))) ≡ free plan past + some_if closed plan.shape.pages
-erase_closes plan past ws j b closed pages h is all =
+erase_closes : (plan : DiePlan) (past : Log) (ws : List Waived) (j : Job) (b : ℕ) (is_over : Bool) → 0 < plan.shape.pages → IsTurn plan past ws j (does.Erase b) → j.collects ≡ true → are_all plan j (acts j.number past ++ does.Erase b ∷ []) ≡ is_over
+    → sum_by (free_in plan) (set (cells plan past).blocks b (erased_once plan (block_at (cells plan past) b))) ≡ free plan past + some_if is_over plan.shape.pages
+erase_closes plan past ws j b is_over pages h is all =
     let own : List Act = acts j.number past in
     let more : count_by is_erase (own ++ does.Erase b ∷ []) ≡ count_by is_erase own + 1 = erases_more own (does.Erase b) in
-    let last : (count_by is_erase own + 1 == plan.shape.erase_slots) ≡ closed = ap (λ n. n == plan.shape.erase_slots) (sym more) ∙ (sym (all_erased plan j (own ++ does.Erase b ∷ []) is) ∙ all) in
+    let last : (count_by is_erase own + 1 == plan.shape.erase_slots) ≡ is_over = ap (λ n. n == plan.shape.erase_slots) (sym more) ∙ (sym (all_erased plan j (own ++ does.Erase b ∷ []) is) ∙ all) in
     let e = h.serve.erases j b h.waits.known h.waits.ready h.does_it in
     omega (
       arith,
@@ -213,12 +213,12 @@ erase_closes plan past ws j b closed pages h is all =
     )
 
 abbrev after_erase : DiePlan → Job → List Act → Accounts → Bool → Accounts
-after_erase plan j own a closed = cond closed (settled a j.task (count_by is_copy_program own)) a
+after_erase plan j own a is_over = cond is_over (settled a j.task (count_by is_copy_program own)) a
 
-erase_by : (plan : DiePlan) (past : Log) (caller slot : ℕ) (ws : List Waived) (finished : Option ℕ) (j : Job) (b : ℕ) (closed : Bool) → MeetsBound plan → IsTurn plan past ws j (does.Erase b) → j.collects ≡ true
-    → are_all plan j (acts j.number past ++ does.Erase b ∷ []) ≡ closed
+erase_by : (plan : DiePlan) (past : Log) (caller slot : ℕ) (ws : List Waived) (finished : Option ℕ) (j : Job) (b : ℕ) (is_over : Bool) → MeetsBound plan → IsTurn plan past ws j (does.Erase b) → j.collects ≡ true
+    → are_all plan j (acts j.number past ++ does.Erase b ∷ []) ≡ is_over
     → (let log : Log = turn_log past caller slot ws finished j (does.Erase b) in
-    Agree plan (after_erase plan j (acts j.number past) (after_waivers past ws (accounts plan past)) closed) (held_of (λ n. acts n log) (jobs past)) (lent_to plan (λ n. acts n log) (is_waived log) (jobs past)) (owed log) (free plan log))
+    Agree plan (after_erase plan j (acts j.number past) (after_waivers past ws (accounts plan past)) is_over) (held_of (λ n. acts n log) (jobs past)) (lent_to plan (λ n. acts n log) (is_waived log) (jobs past)) (owed log) (free plan log))
 erase_by plan past caller slot ws finished j b true bound h is all =
     let act : Act = does.Erase b in
     let log : Log = turn_log past caller slot ws finished j act in

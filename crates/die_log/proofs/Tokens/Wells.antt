@@ -21,11 +21,11 @@ use Rattle.die_log.proofs.Legality.{entry}
 use Rattle.die_log.proofs.Collecting.{no_acts}
 use Rattle.die_log.proofs.Tokens.Waivers.{Waits}
 use Rattle.die_log.proofs.Tokens.Given.{CellsServe}
-use Rattle.die_log.specs.Held.{is_open, copied_of, AreTrue}
+use Rattle.die_log.specs.Held.{is_pending, copied_of, AreTrue}
 use Rattle.die_log.specs.Well.{FewCopies}
 use Rattle.die_log.proofs.Tokens.Waivers.{choice_is}
 use Rattle.die_log.proofs.Tokens.Doing.{act_kind}
-use Rattle.die_log.proofs.Tokens.Changes.{open_other}
+use Rattle.die_log.proofs.Tokens.Changes.{pending_other}
 use Rattle.die_log.proofs.Tokens.Slots.{slot_entry, slot_waives, idle_acts}
 use Rattle.die_log.proofs.Tokens.Turns.{no_job_copy}
 use Rattle.die_log.proofs.Tokens.Whole.{all_known}
@@ -37,7 +37,7 @@ none_some None b e h = absurd cc
 none_some (Some d) b e h = absurd cc
 
 -- one more job
-few_taken : (plan : DiePlan) (past : Log) (new i : Job) (b : ℕ) → IsExact plan past → FewCopies plan past → slice_get (jobs past ++ new ∷ []) i.number ≡ Some i → is_open plan (λ n. acts n past) (is_waived past) i ≡ true
+few_taken : (plan : DiePlan) (past : Log) (new i : Job) (b : ℕ) → IsExact plan past → FewCopies plan past → slice_get (jobs past ++ new ∷ []) i.number ≡ Some i → is_pending plan (λ n. acts n past) (is_waived past) i ≡ true
     → shown_by plan past (victim_of plan i.number past) None ≡ Some b → copied_of (λ n. acts n past) i + valid (cells plan past) b ≤ reserve_full plan
 few_taken plan past new i b exact few e is shows =
     let shown : victim_of plan i.number past ≡ Some b = sym (shown_none plan past (victim_of plan i.number past)) ∙ shows in
@@ -51,14 +51,14 @@ few_taken plan past new i b exact few e is shows =
 few_idle : (plan : DiePlan) (past : Log) (caller slot : ℕ) (ws : List Waived) (finished : Option ℕ) → CellsServe plan past → AreWaivers plan past (waived past) (accounts plan past) ws → FewCopies plan past → FewCopies plan (slot_entry caller slot ws None finished ∷ past)
 few_idle plan past caller slot ws finished c are few = record { few = each }
   where
-    each : (i : Job) (b : ℕ) → job_at past i.number ≡ Some i → is_open plan (λ n. acts n (slot_entry caller slot ws None finished ∷ past)) (is_waived (slot_entry caller slot ws None finished ∷ past)) i ≡ true
+    each : (i : Job) (b : ℕ) → job_at past i.number ≡ Some i → is_pending plan (λ n. acts n (slot_entry caller slot ws None finished ∷ past)) (is_waived (slot_entry caller slot ws None finished ∷ past)) i ≡ true
         → victim_of plan i.number (slot_entry caller slot ws None finished ∷ past) ≡ Some b
         → copied_of (λ n. acts n (slot_entry caller slot ws None finished ∷ past)) i + valid (cells plan past) b ≤ reserve_full plan
     each i b known is shows =
         let log : Log = slot_entry caller slot ws None finished ∷ past in
         let same = idle_acts caller slot ws finished past i.number in
         let w = slot_waives plan caller slot ws None finished past c.numbered are in
-        let was = open_other plan (λ n. acts n past) (λ n. acts n log) (is_waived past) (is_waived log) (λ n. is_among n ws) i w same is in
+        let was = pending_other plan (λ n. acts n past) (λ n. acts n log) (is_waived past) (is_waived log) (λ n. is_among n ws) i w same is in
         let copied : copied_of (λ n. acts n past) i ≡ copied_of (λ n. acts n log) i = ap (λ (l : List Act). count_by is_copy_program l) same in
         omega (arith, copied, few.few i b known was (sym (shown_none plan past (victim_of plan i.number past)) ∙ shows))
 

@@ -1,7 +1,7 @@
 use Rattle.std.proofs.Common.{◌∙◌, arith, sym}
 use Rattle.flash_volume.proofs.Opening.{fits_next, next_fits, is_next, is_cell, unplaced, seen, some_open}
 use Rattle.flash_volume.proofs.Counting.{some_valid, left_open_block, left_len, few_open}
-use Rattle.flash_volume.proofs.Filling.{stands_written, contents_written, free_written, closes_full}
+use Rattle.flash_volume.proofs.Filling.{stands_written, contents_written, free_written, closes_filled}
 use Rattle.flash_volume.proofs.array.PageArray.write.Goals as goal
 
 pub program-requires-clause-next : goal.program-requires-clause-next
@@ -44,8 +44,8 @@ leave-requires g c =
     let fit = fits_next stands some is in
     λ place n lay counted. some_valid c.args.page n place stands (sym c.place-before.ensures.place ∙ lay) counted
 
-pub close_when_full-requires-clause-in_range : goal.close_when_full-requires-clause-in_range
-close_when_full-requires-clause-in_range g c =
+pub close_when_filled-requires-clause-in_range : goal.close_when_filled-requires-clause-in_range
+close_when_filled-requires-clause-in_range g c =
     let alive = rw (← c.self.view_is) at c.requires.alive in
     let some = rw (← c.self.view_is) at c.requires.free in
     let page = rw (← c.self.view_is) at c.requires.page in
@@ -54,8 +54,8 @@ close_when_full-requires-clause-in_range g c =
     let fit = fits_next stands some is in
     rw c.leave.ensures (omega (arith, left_len c.place-before.result c.self.inside.victims.counts, stands.candidates_len, fit.in_range, stands.count))
 
-pub close_when_full-requires-clause-open : goal.close_when_full-requires-clause-open
-close_when_full-requires-clause-open g c =
+pub close_when_filled-requires-clause-open : goal.close_when_filled-requires-clause-open
+close_when_filled-requires-clause-open g c =
     let alive = rw (← c.self.view_is) at c.requires.alive in
     let some = rw (← c.self.view_is) at c.requires.free in
     let page = rw (← c.self.view_is) at c.requires.page in
@@ -64,8 +64,8 @@ close_when_full-requires-clause-open g c =
     let fit = fits_next stands some is in
     rw c.leave.ensures (left_open_block c.place-before.result stands fit)
 
-pub close_when_full-requires-clause-fits : goal.close_when_full-requires-clause-fits
-close_when_full-requires-clause-fits g c =
+pub close_when_filled-requires-clause-fits : goal.close_when_filled-requires-clause-fits
+close_when_filled-requires-clause-fits g c =
     let alive = rw (← c.self.view_is) at c.requires.alive in
     let some = rw (← c.self.view_is) at c.requires.free in
     let page = rw (← c.self.view_is) at c.requires.page in
@@ -82,7 +82,7 @@ invariant_of-self-in-Ok g c = λ _.
     let stands = c.self.invariant alive in
     let is = rw (← c.self.view_is) at c.next_cell-place.ensures in
     let fit = fits_next stands some is in
-    rw (c.program.ensures.shape, c.in-Ok.ensures.well, c.in-Ok.ensures.blocks, c.left_open-still_open.ensures, c.close_when_full.ensures, c.leave.ensures, c.valid-valid.ensures, c.bind.ensures, c.place-before.ensures.place, c.shape-pages.ensures, c.program.ensures.shape) (stands_written c.args.page c.args.bytes stands fit page)
+    rw (c.program.ensures.shape, c.in-Ok.ensures.well, c.in-Ok.ensures.blocks, c.left_open-still_open.ensures, c.close_when_filled.ensures, c.leave.ensures, c.valid-valid.ensures, c.bind.ensures, c.place-before.ensures.place, c.shape-pages.ensures, c.program.ensures.shape) (stands_written c.args.page c.args.bytes stands fit page)
 
 pub returns-in-Ok-clause-sound : goal.returns-in-Ok-clause-sound
 returns-in-Ok-clause-sound g c = λ _.
@@ -92,7 +92,7 @@ returns-in-Ok-clause-sound g c = λ _.
     let stands = c.self.invariant alive in
     let is = rw (← c.self.view_is) at c.next_cell-place.ensures in
     let fit = fits_next stands some is in
-    rw (c.program.ensures.shape, c.in-Ok.ensures.well, c.in-Ok.ensures.blocks, c.close_when_full.ensures, c.leave.ensures, c.valid-valid.ensures, c.bind.ensures, c.place-before.ensures.place, c.shape-pages.ensures, c.program.ensures.shape) (seen (stands_written c.args.page c.args.bytes stands fit page))
+    rw (c.program.ensures.shape, c.in-Ok.ensures.well, c.in-Ok.ensures.blocks, c.close_when_filled.ensures, c.leave.ensures, c.valid-valid.ensures, c.bind.ensures, c.place-before.ensures.place, c.shape-pages.ensures, c.program.ensures.shape) (seen (stands_written c.args.page c.args.bytes stands fit page))
 
 pub returns-in-Ok-clause-contents : goal.returns-in-Ok-clause-contents
 returns-in-Ok-clause-contents g c =
@@ -122,7 +122,7 @@ returns-in-Ok-clause-closes g c =
     let stands = c.self.invariant alive in
     let is = rw (← c.self.view_is) at c.next_cell-place.ensures in
     let fit = fits_next stands some is in
-    rw (← c.self.view_is, c.in-Ok.ensures.blocks, c.close_when_full.ensures, c.leave.ensures, c.valid-valid.ensures, c.bind.ensures, c.place-before.ensures.place, c.shape-pages.ensures, c.program.ensures.shape, is) (closes_full c.args.page c.args.bytes stands (next_fits stands some))
+    rw (← c.self.view_is, c.in-Ok.ensures.blocks, c.close_when_filled.ensures, c.leave.ensures, c.valid-valid.ensures, c.bind.ensures, c.place-before.ensures.place, c.shape-pages.ensures, c.program.ensures.shape, is) (closes_filled c.args.page c.args.bytes stands (next_fits stands some))
 
 pub returns-in-Err-clause-finds : goal.returns-in-Err-clause-finds
 returns-in-Err-clause-finds g c = some_open (g.N.Nand.shape_of c.args.self.now.device).pages (g.N.Nand.blocks c.args.self.now.device) c.requires.free

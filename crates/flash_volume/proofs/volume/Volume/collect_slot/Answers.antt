@@ -15,8 +15,8 @@ first_page-requires g c =
     let run = sound.runs.each c.args.task c.unwrap-collection.result runs in
     omega (arith, run.in_range, sound.stands.count, ap (λ (s : Shape). s.blocks) sound.stands.map_shape)
 
-pub erase-requires-clause-empty : goal.erase-requires-clause-empty
-erase-requires-clause-empty g c =
+pub erase-requires-clause-unplaced : goal.erase-requires-clause-unplaced
+erase-requires-clause-unplaced g c =
     let alive = sym c.failed.ensures ∙ c.if-failed.false in
     let sound = c.self.invariant alive in
     let task = rw (← c.self.view_is) at c.requires.task in

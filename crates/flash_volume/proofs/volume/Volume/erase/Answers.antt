@@ -2,20 +2,20 @@ use Rattle.std.proofs.Common.{◌≡◌, ◌<◌, ◌+◌, ◌-◌, ◌∙◌, l
 use Rattle.std.proofs.lemmas.Bool.{eqb-false, eqb-true}
 use Rattle.plan_rules.specs.Accounts.{settled}
 use Rattle.flash_die.specs.Flash.{block_at}
-use Rattle.flash_volume.proofs.Erasing.{emptied, erased_last, erased_going}
+use Rattle.flash_volume.proofs.Erasing.{unplaced_of, erased_last, erased_going}
 use Rattle.flash_volume.proofs.Running.{dropped}
 use Rattle.flash_volume.proofs.Kept.{room, sound_going, sound_ended}
 use Rattle.flash_volume.proofs.volume.Volume.erase.Goals as goal
 
-pub erase_slot-requires-clause-empty : goal.erase_slot-requires-clause-empty
-erase_slot-requires-clause-empty g c =
+pub erase_slot-requires-clause-unplaced : goal.erase_slot-requires-clause-unplaced
+erase_slot-requires-clause-unplaced g c =
     let sound = c.self.invariant (rw (← c.self.view_is) at c.requires.alive) in
     let task = rw (← c.self.view_is) at c.requires.task in
     let runs = rw (← c.self.view_is) at c.requires.runs in
     let run = sound.runs.each c.args.task c.args.collection runs in
     let s = g.N.Nand.shape_of c.self.inside.array.device in
     let b = g.N.Nand.blocks c.self.inside.array.device in
-    let asked = rw (← c.self.view_is, ← sound.shape_is) at c.requires.empty in
+    let asked = rw (← c.self.view_is, ← sound.shape_is) at c.requires.unplaced in
     asked
 
 pub settle-given-requires-clause-room : goal.settle-given-requires-clause-room
@@ -34,7 +34,7 @@ invariant_of-self-in-Ok-true g c = λ again.
     let run = sound.runs.each c.args.task c.args.collection runs in
     let s = g.N.Nand.shape_of c.self.inside.array.device in
     let b = g.N.Nand.blocks c.self.inside.array.device in
-    let asked = rw (← c.self.view_is, ← sound.shape_is) at c.requires.empty in
+    let asked = rw (← c.self.view_is, ← sound.shape_is) at c.requires.unplaced in
     let is = erased_last b (g.N.Nand.blocks c.erase_slot.new.self.device) s.erase_slots c.args.collection.victim c.in-Ok-true.field-0 c.in-Ok-true.ensures.cells c.in-Ok-true.ensures.last c.in-Ok-true.field-0-test in
     let own = c.reserve-reserve.ensures.sound in
     let a = c.self.inside.ledger in
@@ -53,7 +53,7 @@ invariant_of-self-in-Ok-false g c = λ again.
     let run = sound.runs.each c.args.task c.args.collection runs in
     let s = g.N.Nand.shape_of c.self.inside.array.device in
     let b = g.N.Nand.blocks c.self.inside.array.device in
-    let asked = rw (← c.self.view_is, ← sound.shape_is) at c.requires.empty in
+    let asked = rw (← c.self.view_is, ← sound.shape_is) at c.requires.unplaced in
     let is = erased_going b (g.N.Nand.blocks c.erase_slot.new.self.device) s.erase_slots c.args.collection.victim c.in-Ok-false.field-0 c.in-Ok-false.ensures.cells c.in-Ok-false.ensures.last c.in-Ok-false.field-0-test in
     rw (c.task-in-Ok-false.view_is, c.erase_slot.ensures.placing, c.erase_slot.ensures.candidates) (sound_going c.args.task c.args.collection sound task runs (rw (c.erase_slot.ensures.placing, c.erase_slot.ensures.candidates) at (c.erase_slot.ensures.sound again)) c.erase_slot.ensures.shape is (c.in-Ok-false.ensures.goes_on (rw c.in-Ok-false.field-0-test refl)))
 
@@ -65,9 +65,9 @@ returns-in-Ok-true-clause-did g c =
     let run = sound.runs.each c.args.task c.args.collection runs in
     let s = g.N.Nand.shape_of c.self.inside.array.device in
     let b = g.N.Nand.blocks c.self.inside.array.device in
-    let asked = rw (← c.self.view_is, ← sound.shape_is) at c.requires.empty in
+    let asked = rw (← c.self.view_is, ← sound.shape_is) at c.requires.unplaced in
     let left = rw (← c.self.view_is) at c.requires.left in
-    let clear = emptied c.args.collection.victim sound.stands run.in_range run.full asked in
+    let clear = unplaced_of c.args.collection.victim sound.stands run.in_range run.closed asked in
     let own = c.reserve-reserve.ensures.sound in
     let a = c.self.inside.ledger in
     let copied = c.plan.result.now.shape.pages - c.plan-2.result.now.alpha - c.reserve-reserve.result in
@@ -77,7 +77,7 @@ returns-in-Ok-true-clause-did g c =
       dropped = dropped run left;
       erases = record {
         victim = refl;
-        empty = clear.none;
+        unplaced = clear.none;
         cells = rw (← sound.shape_is) c.in-Ok-true.ensures.cells;
         places = ap (λ m. m.places) c.erase_slot.ensures.placing;
         pages = c.in-Ok-true.ensures.contents;
@@ -98,15 +98,15 @@ returns-in-Ok-false-clause-did g c =
     let run = sound.runs.each c.args.task c.args.collection runs in
     let s = g.N.Nand.shape_of c.self.inside.array.device in
     let b = g.N.Nand.blocks c.self.inside.array.device in
-    let asked = rw (← c.self.view_is, ← sound.shape_is) at c.requires.empty in
+    let asked = rw (← c.self.view_is, ← sound.shape_is) at c.requires.unplaced in
     let left = rw (← c.self.view_is) at c.requires.left in
-    let clear = emptied c.args.collection.victim sound.stands run.in_range run.full asked in
+    let clear = unplaced_of c.args.collection.victim sound.stands run.in_range run.closed asked in
     rw (← c.self.view_is) (
     record {
       dropped = dropped run left;
       erases = record {
         victim = refl;
-        empty = clear.none;
+        unplaced = clear.none;
         cells = rw (← sound.shape_is) c.in-Ok-false.ensures.cells;
         places = ap (λ m. m.places) c.erase_slot.ensures.placing;
         pages = c.in-Ok-false.ensures.contents;

@@ -3,7 +3,7 @@ use Rattle.job_table.specs.Jobs.{carried}
 use Rattle.job_table.specs.Table.{Table}
 use Rattle.job_table.specs.Order.{IsHead}
 use Rattle.job_table.proofs.Changed.{written, viewed}
-use Rattle.job_table.proofs.Heads.{ready_open, head_goes_on}
+use Rattle.job_table.proofs.Heads.{ready_pending, head_goes_on}
 use Rattle.job_table.proofs.Tables.{carried_quiet, quiet_sound}
 use Rattle.job_table.proofs.job_table.JobTable.carry.Goals as goal
 
@@ -13,7 +13,7 @@ invariant_of-self c =
     let is_at = rw (sym c.number.view_is) at seen.is_at in
     rw (written c.self.inside.jobs.items c.number.inside.0 carried seen.head c.index_mut-job.result.now c.carry.new.self is_at c.index_mut-job.ensures.value c.carry.ensures)
     (quiet_sound c.self.inside.jobs.items c.number.inside.0 carried seen.head c.self.inside.clock c.self.inside.ended c.self.inside.collecting.items c.self.inside.queues c.self.inside.worst
-    carried_quiet is_at (ready_open c.self.inside.clock seen.head seen.ready) c.self.invariant)
+    carried_quiet is_at (ready_pending c.self.inside.clock seen.head seen.ready) c.self.invariant)
 
 pub returns-clause-carried : goal.returns-clause-carried
 returns-clause-carried c =
