@@ -32,10 +32,3 @@ pub use gate::{FreeGate, Gate};
 pub use refused::RefusedAt;
 pub use runs::run_slots;
 pub use store::Store;
-
-#[cfg(test)]
-mod held;
-#[cfg(test)]
-mod run_tests;
-#[cfg(test)]
-mod tests;

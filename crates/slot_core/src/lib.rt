@@ -16,6 +16,3 @@ mod turns;
 pub use die_core::DieCore;
 pub use outcomes::{JobHead, Outcome, Worst};
 pub use runs::Replies;
-
-#[cfg(test)]
-mod tests;

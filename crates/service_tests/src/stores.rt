@@ -2,7 +2,7 @@
 
 ghost use Rattle.std.specs.Prelude.{◌≡◌, [], ◌∷◌, map, IfOk, IfSome};
 
-use crate::{Die, DiePass, RefusedAt, Store, close};
+use die_service::{Die, DiePass, RefusedAt, Store, close};
 use flash_die::{FuseNand, MemoryNand, Nand};
 use late_cert::Certificate;
 use slot_core::{Outcome, Worst};

@@ -2,7 +2,7 @@
 
 ghost use Rattle.std.specs.Prelude.{◌≡◌};
 
-use crate::gate::Gate;
+use die_service::Gate;
 use flash_die::Nand;
 use slot_types::{PageData, Place, Refusal, Shape};
 use std::alloc::Global;

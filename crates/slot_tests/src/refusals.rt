@@ -1,8 +1,8 @@
 //! Jobs that a die refuses, and with which refusal.
 
-use crate::DieCore;
-use crate::tests::dies::{ONES, die, is_unknown, refuses, submit, submit_of};
+use crate::dies::{ONES, die, is_unknown, refuses, submit, submit_of};
 use flash_die::MemoryNand;
+use slot_core::DieCore;
 use slot_types::{Op, Refusal, TaskNo};
 use std::alloc::Global;
 use std::test::Fail;

@@ -1,6 +1,6 @@
 //! Jobs side by side: who gets the slots, how late each is, and the certificate of the worst one.
 
-use crate::tests::dies::{
+use crate::dies::{
     ONES, carries_all, die, is_built, is_certified, is_done, is_worst, submit, work,
 };
 use slot_types::{JobNo, Op, PageData};

@@ -1,9 +1,9 @@
 //! Random histories of a die with as many logical pages as its bound allows, on which a collection copies as a rule: each read gives the page's last finished write.
 
-use crate::DieCore;
-use crate::tests::collections::holds;
-use crate::tests::dies::{plan_of, submit_of};
+use crate::collections::holds;
+use crate::dies::{plan_of, submit_of};
 use flash_die::MemoryNand;
+use slot_core::DieCore;
 use slot_types::{Act, Op, PageData, Refusal, Shape, TaskNo};
 use std::alloc::Global;
 use std::test::Fail;

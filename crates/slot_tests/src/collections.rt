@@ -1,11 +1,9 @@
 //! Worked rows of collections, on a die of 4 blocks that a history has filled, and on one with pages to spare.
 
-use crate::tests::dies::{
-    die, is_certified, is_collected, is_done, is_worst, plan_of, refuses, submit,
-};
-use crate::{DieCore, Outcome};
+use crate::dies::{die, is_certified, is_collected, is_done, is_worst, plan_of, refuses, submit};
 use flash_die::{MemoryNand, Nand};
 use late_cert::{Verdict, check};
+use slot_core::{DieCore, Outcome};
 use slot_types::{Act, JobNo, Op, PageData, Refusal, Shape, TaskNo};
 use std::alloc::Global;
 use std::test::Fail;

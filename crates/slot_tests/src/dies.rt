@@ -1,8 +1,8 @@
 //! A die of 8 blocks, and its answers as plain numbers and bools: a comparison of those is quick to prove.
 
-use crate::{DieCore, Outcome};
 use flash_die::{FuseNand, MemoryNand, Nand};
 use late_cert::{Carried, Certificate, build};
+use slot_core::{DieCore, Outcome};
 use slot_types::{Caps, DiePlan, JobNo, Op, OpList, PageData, Refusal, Shape, TaskNo};
 use std::alloc::Global;
 

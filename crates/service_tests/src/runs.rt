@@ -5,8 +5,8 @@ ghost use Rattle.flash_die.specs.Flash.{IsFresh};
 ghost use Rattle.die_service.specs.Runs.{IsArrival, AllArrive};
 
 use crate::held::{HeldNand, HoldGate, Mark};
-use crate::tests::{ONES, SHAPE, both_passes, plan};
-use crate::{
+use crate::stores::{ONES, SHAPE, both_passes, plan};
+use die_service::{
     Arrival, DieEnd, DieEnds, DiePass, Feed, FreeGate, Gate, RefusedAt, RefusedEvent, Store, close,
     run_slots,
 };

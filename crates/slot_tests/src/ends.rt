@@ -1,11 +1,11 @@
 //! Idle slots, the end of the clock, and a device that fails.
 
-use crate::DieCore;
-use crate::tests::dies::{
+use crate::dies::{
     ONES, carries, die, fused_die, is_done, is_waiting, is_worst, refuses, slot_refuses, submit,
     submit_of,
 };
 use flash_die::MemoryNand;
+use slot_core::DieCore;
 use slot_types::{Event, Items, Op, PageData, Refusal, Reply, SlotReply};
 use std::alloc::Global;
 use std::test::Fail;

@@ -1,0 +1,9 @@
+//! A store at work: dies behind their locks, what threads see of them, and runs by workers.
+#![tactic(auto)]
+
+#[cfg(test)]
+mod held;
+#[cfg(test)]
+mod runs;
+#[cfg(test)]
+mod stores;
