@@ -1,7 +1,9 @@
 -- What a worker has asked of its die, event by event and slot by slot.
-use Rattle.std.proofs.Common.{◌≡◌, ℕ, ◌+◌, ◌-◌, ◌<◌, ◌≤◌, Bool, true, false, nat_le, List, [], ◌∷◌, ◌++◌, map, Option, Some, None, Result, Ok, Err, if◌then◌else◌, refl, ap, sym, ◌∙◌, subst, arith, append_assoc}
+use Rattle.std.proofs.Common.{◌≡◌, ℕ, suc, ◌+◌, ◌-◌, ◌<◌, ◌≤◌, Bool, true, false, nat_le, List, [], ◌∷◌, ◌++◌, map, take, drop, cond, Option, Some, None, Result, Ok, Err, if◌then◌else◌, refl, ap, sym, ◌∙◌, subst, arith, append_assoc}
 use Rattle.std.proofs.lemmas.Bool.{le-leb, leb-false}
 use Rattle.std.proofs.lemmas.List.{append-nil}
+use Rattle.std.specs.List.{prefix_len}
+use Rattle.std.proofs.lemmas.List.Sums.{take_while-cons}
 use Rattle.slot_types.specs.declared.limits.TheConstants.{MAX_SLOT}
 use Rattle.slot_types.specs.declared.plans.DiePlan.{DiePlan}
 use Rattle.slot_types.specs.declared.events.Event.{Event}
@@ -19,7 +21,7 @@ use Rattle.die_log.specs.Answers.{answer, answer_by, choice, slot_reply, reply_w
 use Rattle.die_service.specs.declared.feeds.Arrival.{Arrival}
 use Rattle.die_service.specs.declared.refused.RefusedAt.{RefusedAt}
 use Rattle.die_service.specs.Passes.{AddsEntry, AddsNone}
-use Rattle.die_service.specs.Runs.{Said, said, IsArrival, due_by, later_than, AreAsked, place_behind, noted, slots_in, slot_counted, stop_of, stop_or}
+use Rattle.die_service.specs.Runs.{Said, said, IsArrival, is_due, due_by, later_than, AreAsked, place_behind, noted, slots_in, slot_counted, stop_of, stop_or}
 use Rattle.die_service.specs.Stores.{DiePass}
 use Rattle.die_service.specs.Drives.{Course, Standing, Asks, IsFit, Comes, NoneDue, BringsOne, Brings, TakesSlot, IsStopped}
 use Rattle.die_service.proofs.Driving.{far_accepts, far_refuses, asks_joins, asks_none, slots_more, stop_more}
@@ -149,11 +151,14 @@ module _ (never : Bool) (p q : DiePass) (c : Course) (slots : ℕ) (stop : Optio
 
 -- The events that come by a slot
 
+one_less : (a : Arrival) (n : ℕ) (rest : List Arrival) → drop (1 + n) (a ∷ rest) ≡ drop n rest
+one_less a n rest = ap (λ k. drop k (a ∷ rest)) (let more : 1 + n ≡ suc n = omega arith in more)
+
 due_one : (clock : ℕ) (a : Arrival) (rest : List Arrival) → a.at ≤ clock → due_by clock (a ∷ rest) ≡ a ∷ due_by clock rest
-due_one clock a rest by = rw (le-leb a.at clock by) refl
+due_one clock a rest by = take_while-cons (is_due clock) a rest ∙ ap (λ (b : Bool). cond b (a ∷ due_by clock rest) []) (le-leb a.at clock by)
 
 later_one : (clock : ℕ) (a : Arrival) (rest : List Arrival) → a.at ≤ clock → later_than clock (a ∷ rest) ≡ later_than clock rest
-later_one clock a rest by = rw (le-leb a.at clock by) refl
+later_one clock a rest by = rw (le-leb a.at clock by) (one_less a (prefix_len (is_due clock) rest) rest)
 
 no_slot_of : (e : Event) (r : Result Reply RefusedAt) → IsArrival e → slot_counted e r 0 ≡ 0
 no_slot_of events.Slot r arrives = absurd arrives

@@ -1,5 +1,6 @@
 -- A run of slots on a die: what a pass asked of it in which order, what it was replied, and what came of it.
-use Rattle.std.specs.Prelude.{true, ◌≡◌, ℕ, zero, suc, ◌+◌, ◌≤◌, ◌⊎◌, nat_le, Bool, if◌then◌else◌, List, [], ◌∷◌, ◌++◌, length, map, filter, take, All, Option, Some, None, Result, Ok, Err, is_ok}
+use Rattle.std.specs.Prelude.{true, ◌≡◌, ℕ, zero, suc, ◌+◌, ◌≤◌, ◌⊎◌, nat_le, Bool, List, [], ◌∷◌, ◌++◌, length, map, filter, take, drop, All, Option, Some, None, Result, Ok, Err, is_ok}
+use Rattle.std.specs.List.{prefix_len, take_while}
 use Rattle.slot_types.specs.declared.plans.DiePlan.{DiePlan}
 use Rattle.slot_types.specs.declared.events.Event.{Event}
 use Rattle.slot_types.specs.declared.events.Event.TheVariants as events
@@ -35,15 +36,16 @@ IsArrival _ = Unit {0}
 abbrev pub AllArrive : List Arrival → Type 0
 AllArrive feed = All (λ arrival. IsArrival arrival.event) feed
 
+abbrev pub is_due : ℕ → Arrival → Bool
+is_due slot arrival = nat_le arrival.at slot
+
 -- the events in front of a feed that come by this slot
 abbrev pub due_by : ℕ → List Arrival → List Arrival
-due_by slot [] = []
-due_by slot (arrival ∷ feed) = if nat_le arrival.at slot then arrival ∷ due_by slot feed else []
+due_by slot feed = take_while (is_due slot) feed
 
 -- the events behind these
 abbrev pub later_than : ℕ → List Arrival → List Arrival
-later_than slot [] = []
-later_than slot (arrival ∷ feed) = if nat_le arrival.at slot then later_than slot feed else arrival ∷ feed
+later_than slot feed = drop (prefix_len (is_due slot) feed) feed
 
 -- these events were asked, in their order
 abbrev pub AreAsked : List Arrival → List Said → Type 0

@@ -1,8 +1,10 @@
 -- A die behind its lock that was asked for the events of its feed and for slots ran its rows and slots.
-use Rattle.std.proofs.Common.{◌≡◌, ℕ, zero, suc, ◌+◌, ◌≤◌, Bool, true, false, cond, List, [], ◌∷◌, ◌++◌, refl, ap, sym, ◌∙◌, subst, length, map, append_assoc, arith, inl, inr, Option, None, Some, Result, Ok, Err, All}
+use Rattle.std.proofs.Common.{◌≡◌, ℕ, zero, suc, ◌+◌, ◌≤◌, Bool, true, false, cond, List, [], ◌∷◌, ◌++◌, refl, ap, sym, ◌∙◌, subst, length, map, take, drop, append_assoc, arith, inl, inr, Option, None, Some, Result, Ok, Err, All}
 use Rattle.std.proofs.lemmas.Bool.{eq-eqb, ne_eqb, le-leb}
-use Rattle.std.proofs.lemmas.List.{append-nil}
-use Rattle.std.proofs.lemmas.List.Elements.{All-nil, All-cons, All-head, All-tail}
+use Rattle.std.specs.List.{prefix_len}
+use Rattle.std.proofs.lemmas.List.{append-nil, take-append-drop, take-map, drop-map}
+use Rattle.std.proofs.lemmas.List.Sums.{take_while-cons}
+use Rattle.std.proofs.lemmas.List.Elements.{All-nil, All-cons, All-head, All-tail, All-take, All-drop}
 use Rattle.slot_types.specs.declared.limits.TheConstants.{MAX_SLOT}
 use Rattle.slot_types.specs.declared.plans.DiePlan.{DiePlan}
 use Rattle.slot_types.specs.declared.events.Event.{Event}
@@ -33,54 +35,32 @@ use Rattle.task_script.proofs.Transcripts.{AreTold, said_log, said_accepted, sai
 
 -- The rows that come by a slot are the events that do
 
+as_many : (slot : ℕ) (items : List ScriptItem) → prefix_len (feed.is_due slot) (arrivals_of items) ≡ prefix_len (is_due slot) items
+as_many slot [] = refl
+as_many slot (item ∷ items) = ap (λ n. cond (is_due slot item) (1 + n) 0) (as_many slot items)
+
 due_same : (slot : ℕ) (items : List ScriptItem) → feed.due_by slot (arrivals_of items) ≡ arrivals_of (due_by slot items)
-due_same slot [] = refl
-due_same slot (item ∷ items) = by (is_due slot item) (due_same slot items)
-  where
-    by : (b : Bool) → feed.due_by slot (arrivals_of items) ≡ arrivals_of (due_by slot items)
-        → cond b (arrival_of item ∷ feed.due_by slot (arrivals_of items)) [] ≡ arrivals_of (cond b (item ∷ due_by slot items) [])
-    by true same = ap (λ (xs : List Arrival). arrival_of item ∷ xs) same
-    by false same = refl
+due_same slot items = ap (λ n. take n (arrivals_of items)) (as_many slot items) ∙ take-map arrival_of (prefix_len (is_due slot) items) items
 
 later_same : (slot : ℕ) (items : List ScriptItem) → feed.later_than slot (arrivals_of items) ≡ arrivals_of (later_than slot items)
-later_same slot [] = refl
-later_same slot (item ∷ items) = by (is_due slot item) (later_same slot items)
-  where
-    by : (b : Bool) → feed.later_than slot (arrivals_of items) ≡ arrivals_of (later_than slot items)
-        → cond b (feed.later_than slot (arrivals_of items)) (arrival_of item ∷ arrivals_of items) ≡ arrivals_of (cond b (later_than slot items) (item ∷ items))
-    by true same = same
-    by false same = refl
+later_same slot items = ap (λ n. drop n (arrivals_of items)) (as_many slot items) ∙ drop-map arrival_of (prefix_len (is_due slot) items) items
 
 due_and_later : (slot : ℕ) (items : List ScriptItem) → due_by slot items ++ later_than slot items ≡ items
-due_and_later slot [] = refl
-due_and_later slot (item ∷ items) = by (is_due slot item) (due_and_later slot items)
-  where
-    by : (b : Bool) → due_by slot items ++ later_than slot items ≡ items → cond b (item ∷ due_by slot items) [] ++ cond b (later_than slot items) (item ∷ items) ≡ item ∷ items
-    by true same = ap (λ (xs : List ScriptItem). item ∷ xs) same
-    by false same = refl
+due_and_later slot items = take-append-drop (prefix_len (is_due slot) items) items
 
 all_due : (slot : ℕ) (items : List ScriptItem) → All (λ item. item.at ≤ slot) items → due_by slot items ≡ items
 all_due slot [] h = refl
 all_due slot (item ∷ items) h =
-    ap (λ (b : Bool). cond b (item ∷ due_by slot items) []) (le-leb item.at slot (All-head (λ (i : ScriptItem). i.at ≤ slot) item items h))
+    take_while-cons (is_due slot) item items
+    ∙ ap (λ (b : Bool). cond b (item ∷ due_by slot items) []) (le-leb item.at slot (All-head (λ (i : ScriptItem). i.at ≤ slot) item items h))
     ∙ ap (λ (xs : List ScriptItem). item ∷ xs) (all_due slot items (All-tail (λ (i : ScriptItem). i.at ≤ slot) item items h))
 
 module _ (P : ScriptItem → Type 0) where
   due_all : (slot : ℕ) (items : List ScriptItem) → All P items → All P (due_by slot items)
-  due_all slot [] h = h
-  due_all slot (item ∷ items) h = by (is_due slot item) (due_all slot items (All-tail P item items h))
-    where
-      by : (b : Bool) → All P (due_by slot items) → All P (cond b (item ∷ due_by slot items) [])
-      by true rest = All-cons P item (due_by slot items) (All-head P item items h) rest
-      by false rest = All-nil P
+  due_all slot items h = All-take P (prefix_len (is_due slot) items) items h
 
   later_all : (slot : ℕ) (items : List ScriptItem) → All P items → All P (later_than slot items)
-  later_all slot [] h = h
-  later_all slot (item ∷ items) h = by (is_due slot item) (later_all slot items (All-tail P item items h))
-    where
-      by : (b : Bool) → All P (later_than slot items) → All P (cond b (later_than slot items) (item ∷ items))
-      by true rest = rest
-      by false rest = h
+  later_all slot items h = All-drop P (prefix_len (is_due slot) items) items h
 
 -- What became of the rows
 

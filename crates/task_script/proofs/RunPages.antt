@@ -1,8 +1,8 @@
 -- The jobs of a run are asked to write what its rows say.
 use Rattle.std.proofs.Common.{ℕ, zero, suc, ◌+◌, ◌<◌, length, arith, Bool, true, false, cond, List, [], ◌∷◌, Option, Some, None, sym, subst, map}
 use Rattle.std.specs.Prelude.{All}
-use Rattle.std.specs.List.{AllByRecursion}
-use Rattle.std.proofs.lemmas.List.Elements.{All-from_recursion, recursion_from_All}
+use Rattle.std.specs.List.{AllByRecursion, prefix_len}
+use Rattle.std.proofs.lemmas.List.Elements.{All-from_recursion, All-take, All-drop, recursion_from_All}
 use Rattle.plan_rules.specs.Bound.{MeetsBound}
 use Rattle.slot_types.specs.declared.plans.DiePlan.{DiePlan}
 use Rattle.slot_types.specs.declared.events.Event.{Event}
@@ -27,20 +27,10 @@ rows_asked [] h = tt
 rows_asked (item ∷ items) h = (h.0, rows_asked items h.1)
 
 due_asked : (slot : ℕ) (items : List ScriptItem) → AllByRecursion RowHasPages items → AllByRecursion RowHasPages (due_by slot items)
-due_asked slot [] h = tt
-due_asked slot (item ∷ items) h = by_due (is_due slot item) (due_asked slot items h.1)
-  where
-    by_due : (b : Bool) → AllByRecursion RowHasPages (due_by slot items) → AllByRecursion RowHasPages (cond b (item ∷ due_by slot items) [])
-    by_due true later = (h.0, later)
-    by_due false later = tt
+due_asked slot items h = recursion_from_All RowHasPages (due_by slot items) (All-take RowHasPages (prefix_len (is_due slot) items) items (All-from_recursion RowHasPages items h))
 
 later_asked : (slot : ℕ) (items : List ScriptItem) → AllByRecursion RowHasPages items → AllByRecursion RowHasPages (later_than slot items)
-later_asked slot [] h = tt
-later_asked slot (item ∷ items) h = by_due (is_due slot item) (later_asked slot items h.1)
-  where
-    by_due : (b : Bool) → AllByRecursion RowHasPages (later_than slot items) → AllByRecursion RowHasPages (cond b (later_than slot items) (item ∷ items))
-    by_due true later = later
-    by_due false later = h
+later_asked slot items h = recursion_from_All RowHasPages (later_than slot items) (All-drop RowHasPages (prefix_len (is_due slot) items) items (All-from_recursion RowHasPages items h))
 
 calls_asked : (slot left : ℕ) (items : List ScriptItem) → AllByRecursion RowHasPages items → AllByRecursion CallHasPages (calls_from slot left items)
 calls_asked slot zero items h = rows_asked items h

@@ -1,5 +1,6 @@
 -- What a die is asked in a run, and what comes of it.
-use Rattle.std.specs.Prelude.{◌≡◌, ℕ, zero, suc, ◌+◌, nat_le, Bool, if◌then◌else◌, List, [], ◌∷◌, ◌++◌, map, Option, Some, None}
+use Rattle.std.specs.Prelude.{◌≡◌, ℕ, zero, suc, ◌+◌, nat_le, Bool, List, [], ◌∷◌, ◌++◌, map, drop, Option, Some, None}
+use Rattle.std.specs.List.{prefix_len, take_while}
 use Rattle.slot_types.specs.declared.plans.DiePlan.{DiePlan}
 use Rattle.slot_types.specs.declared.events.Event.{Event}
 use Rattle.slot_types.specs.declared.events.Event.TheVariants as events
@@ -23,13 +24,11 @@ is_due slot item = nat_le item.at slot
 
 -- the rows in front that come by a slot
 abbrev pub due_by : ℕ → List ScriptItem → List ScriptItem
-due_by slot [] = []
-due_by slot (item ∷ items) = if is_due slot item then item ∷ due_by slot items else []
+due_by slot items = take_while (is_due slot) items
 
 -- the rows behind these
 abbrev pub later_than : ℕ → List ScriptItem → List ScriptItem
-later_than slot [] = []
-later_than slot (item ∷ items) = if is_due slot item then later_than slot items else item ∷ items
+later_than slot items = drop (prefix_len (is_due slot) items) items
 
 -- the calls of so many slots from a slot on: before each slot the rows that come by then, and after the last one those
 -- that are left
