@@ -1,11 +1,12 @@
 -- With which status the program ends.
 use Rattle.std.specs.Prelude.{ℕ, Result, Ok, Err}
 use Rattle.flash_commands.specs.declared.faults.Fault.{Fault}
-use Rattle.flash_commands.specs.declared.faults.Fault.TheVariants.{Refused, Words, Certificate}
+use Rattle.flash_commands.specs.declared.faults.Fault.TheVariants.{Refused, Words, NotText, Certificate}
 
 abbrev pub status_of : Fault → ℕ
 status_of (Refused refusal) = 1
 status_of (Words error) = 2
+status_of NotText = 2
 status_of Certificate = 3
 
 abbrev pub outcome_status : Result (Unit {0}) Fault → ℕ

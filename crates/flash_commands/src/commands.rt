@@ -123,7 +123,7 @@ fn range_error(mut program: clap::Command<'_>) -> Error
 {
     match program.error(
         ErrorKind::ValueValidation,
-        "slots are a number from 0 to 1048576, workers one from 1 to 16",
+        "--slots wants a whole number from 0 to 1048576, --workers one from 1 to 16",
     ) {
         Ok(error) => error,
         Err(error) => Error::from(error),

@@ -16,6 +16,9 @@ pub enum Fault {
     /// The words of the command line, as clap tells it.
     #[error("{0}")]
     Words(clap::Error),
+    /// A word of the command line that is no text.
+    #[error("error: a word of the command line isn't UTF-8")]
+    NotText,
     /// A certificate that doesn't hold.
     #[error("a certificate is refused")]
     Certificate,
@@ -40,20 +43,21 @@ impl Fault {
     {
         match self {
             Fault::Refused(_) => 1,
-            Fault::Words(_) => 2,
+            Fault::Words(_) | Fault::NotText => 2,
             Fault::Certificate => 3,
         }
     }
 }
 
-/// Tells a refusal in a line, and gives the status of what was done. A writer that fails is passed over.
+/// Tells a refusal, or a word that is no text, in a line, and gives the status of what was done. A writer that fails is
+/// passed over.
 pub fn end<W: Write>(err: &mut W, done: Result<(), Fault>) -> u8
     ensures { result ≡ outcome_status done }
 {
     let Err(fault) = done else {
         return 0;
     };
-    if let Fault::Refused(_) = &fault {
+    if let Fault::Refused(_) | Fault::NotText = &fault {
         let _ = writeln!(err, "{fault}");
     }
     fault.status()

@@ -16,7 +16,7 @@ fn slots<'a>(alloc: Global) -> Arg<'a>
         .long("slots")
         .value_name("N")
         .required(true)
-        .help("How many slots each die runs, from 0 to 1048576")
+        .help("How many slots each die runs, from 0 to 1048576 (required)")
 }
 
 /// How many workers run the dies.
@@ -94,7 +94,9 @@ fn name<'a>(alloc: Global) -> Command<'a>
     ensures { app_of result ≡ new_app (codes "flashrec") }
 {
     Command::new(alloc, "flashrec")
-        .about("A real-time flash store. Without a command, runs the script that is built in")
+        .about(
+            "A real-time flash store. Without words it runs a plan and a script that are built in",
+        )
         .after_help("Example: flashrec run plan.toml script.csv --slots 1000")
 }
 

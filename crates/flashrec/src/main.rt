@@ -39,22 +39,39 @@ fn act_on_files<R: Files + Threads + Wait + Sync, W: Write, E: Write>(
     }
 }
 
-/// Shows what clap answers in place of a command. Only a call for help is no fault.
-fn show(rt: &HostRuntime, error: clap::Error) -> io::Result<u8> {
-    error.print(rt)?;
-    if error.use_stderr() {
-        Ok(Fault::Words(error).status())
-    } else {
-        Ok(0)
+/// The words of the command line.
+fn words_of(rt: &HostRuntime, alloc: Global) -> Result<Vec<String>, Fault> {
+    match env::args(rt).and_then(|words| Ok(words.collect(alloc)?)) {
+        Ok(words) => Ok(words),
+        Err(error) if error.kind() == io::ErrorKind::OutOfMemory => {
+            Err(Fault::Refused(Refusal::NoMemory))
+        }
+        Err(_) => Err(Fault::NotText),
     }
 }
 
-fn main(rt: HostRuntime) -> io::Result<ExitCode> {
+/// Shows what clap answers in place of a command, and gives the status. Only a call for help is no fault of the words, but
+/// one of the output where it can't be written.
+fn show(rt: &HostRuntime, error: clap::Error) -> u8 {
+    let shown = error.print(rt);
+    if error.use_stderr() {
+        return Fault::Words(error).status();
+    }
+    match shown {
+        Ok(()) => 0,
+        Err(_) => end(&mut rt.stderr(), Err(Fault::Refused(Refusal::WriteFault))),
+    }
+}
+
+fn main(rt: HostRuntime) -> ExitCode {
     let alloc = rt.alloc();
-    let words: Vec<String> = env::args(&rt)?.collect(alloc)?;
-    let status = match read_words(alloc, words.as_slice()) {
-        Ok(command) => { act_on_files(&rt, alloc, command, &mut rt.stdout(), &mut rt.stderr()) }
-        Err(error) => show(&rt, error)?,
+    let (mut out, mut err) = (rt.stdout(), rt.stderr());
+    let status = match words_of(&rt, alloc) {
+        Ok(words) => match read_words(alloc, words.as_slice()) {
+            Ok(command) => act_on_files(&rt, alloc, command, &mut out, &mut err),
+            Err(error) => show(&rt, error),
+        },
+        Err(fault) => end(&mut err, Err(fault)),
     };
-    Ok(ExitCode::from(status))
+    ExitCode::from(status)
 }

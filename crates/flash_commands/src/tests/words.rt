@@ -123,7 +123,7 @@ Arguments:
   <SCRIPT>  The jobs and collections that the dies get, a CSV file
 
 Options:
-      --slots <N>    How many slots each die runs, from 0 to 1048576
+      --slots <N>    How many slots each die runs, from 0 to 1048576 (required)
       --workers <W>  How many workers run the dies, from 1 to 16 [default: 1]
   -h, --help         Print help
 
@@ -143,7 +143,7 @@ fn a_number_out_of_its_range_is_told(rt: HostRuntime) -> Result<(), Fail> {
     };
     let text = Fault::Words(error).to_string(alloc)?;
     assert!(rt;
-        text.starts_with("error: slots are a number from 0 to 1048576, workers one from 1 to 16\n")
+        text.starts_with("error: --slots wants a whole number from 0 to 1048576, --workers one from 1 to 16\n")
     );
     Ok(())
 }
