@@ -13,6 +13,3 @@ pub mod syntax;
 pub use acts::act;
 pub use commands::{Command, read_words};
 pub use faults::{Fault, end};
-
-#[cfg(test)]
-mod tests;

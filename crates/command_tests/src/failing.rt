@@ -2,9 +2,8 @@
 
 ghost use Rattle.flash_commands.specs.Commands.{FitsRun};
 
-use super::{AUDIT, PLAN, PLAN_COMMAND, REPORT};
-use crate::acts::act;
-use crate::commands::Command;
+use crate::printed::{AUDIT, PLAN, PLAN_COMMAND, REPORT};
+use flash_commands::{Command, act};
 use std::alloc::Global;
 use std::io;
 use std::io::{Read, Write};

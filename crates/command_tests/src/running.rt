@@ -2,10 +2,8 @@
 
 ghost use Rattle.std.specs.Prelude.{◌≤◌};
 
-use super::{PLAN, Printed, REPORT, acted};
-use crate::acts::act;
-use crate::built_in;
-use crate::commands::Command;
+use crate::printed::{PLAN, Printed, REPORT, acted};
+use flash_commands::{Command, act, built_in};
 use std::alloc::Global;
 use std::sync::Wait;
 use std::test::Fail;

@@ -1,21 +1,15 @@
-//! What no clause says: the texts that are printed, the order of files and faults of readers and writers.
-
-mod acting;
-mod failing;
-mod running;
-mod words;
+//! What a command printed of the tests' texts.
 
 ghost use Rattle.flash_commands.specs.Commands.{FitsRun};
 
-use crate::acts::act;
-use crate::commands::Command;
+use flash_commands::{Command, act};
 use std::alloc::Global;
 use std::io;
 use std::sync::Wait;
 use std::thread::Threads;
 
 /// The plan of one die that the tests use.
-const PLAN: &str = "version = 1
+pub(crate) const PLAN: &str = "version = 1
 dies = 1
 blocks = 8
 pages = 4
@@ -29,7 +23,7 @@ cap = 4
 ";
 
 /// The report of a run of two dies, whose worst jobs have the lateness 0 and -1.
-const REPORT: &str = "row,die,job,task,release,due,work,completion,lateness,given,items
+pub(crate) const REPORT: &str = "row,die,job,task,release,due,work,completion,lateness,given,items
 job,0,0,0,2,5,2,4,-1,,ffffffffffffffffffffffffffffffff ffffffffffffffffffffffffffffffff
 job,0,1,0,0,5,3,5,0,,ffffffffffffffffffffffffffffffff ffffffffffffffffffffffffffffffff ffffffffffffffffffffffffffffffff
 job,1,0,0,0,2,1,1,-1,,
@@ -41,14 +35,14 @@ cert,1,0,,0,2,,1,-1,,0
 
 /// What a command printed, and its status.
 #[derive(Drop)]
-struct Printed {
-    out: Vec<u8>,
-    err: Vec<u8>,
-    status: u8,
+pub(crate) struct Printed {
+    pub(crate) out: Vec<u8>,
+    pub(crate) err: Vec<u8>,
+    pub(crate) status: u8,
 }
 
 impl Printed {
-    fn is(&self, out: &str, err: &str, status: u8) -> bool {
+    pub(crate) fn is(&self, out: &str, err: &str, status: u8) -> bool {
         self.out.as_slice() == out.as_bytes()
             && self.err.as_slice() == err.as_bytes()
             && self.status == status
@@ -56,7 +50,7 @@ impl Printed {
 }
 
 /// What a command prints of a text.
-fn acted<R: Threads + Wait + Sync>(
+pub(crate) fn acted<R: Threads + Wait + Sync>(
     rt: &R,
     alloc: Global,
     command: Command<'_>,
@@ -69,8 +63,8 @@ fn acted<R: Threads + Wait + Sync>(
     Printed { out, err, status }
 }
 
-const PLAN_COMMAND: Command<'static> = Command::Plan { plan: "plan.toml" };
+pub(crate) const PLAN_COMMAND: Command<'static> = Command::Plan { plan: "plan.toml" };
 
-const AUDIT: Command<'static> = Command::Audit {
+pub(crate) const AUDIT: Command<'static> = Command::Audit {
     report: "report.csv",
 };

@@ -1,6 +1,6 @@
 //! What commands print.
 
-use super::{AUDIT, PLAN, PLAN_COMMAND, REPORT, acted};
+use crate::printed::{AUDIT, PLAN, PLAN_COMMAND, REPORT, acted};
 use std::test::Fail;
 
 #[test]

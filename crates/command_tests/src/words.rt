@@ -1,7 +1,6 @@
 //! The words of the command line, and what clap shows of them.
 
-use crate::commands::{Command, read_words};
-use crate::faults::Fault;
+use flash_commands::{Command, Fault, read_words};
 use std::alloc::{AllocError, Global};
 use std::test::Fail;
 
@@ -143,7 +142,9 @@ fn a_number_out_of_its_range_is_told(rt: HostRuntime) -> Result<(), Fail> {
     };
     let text = Fault::Words(error).to_string(alloc)?;
     assert!(rt;
-        text.starts_with("error: --slots wants a whole number from 0 to 1048576, --workers one from 1 to 16\n")
+        text.starts_with(
+            "error: --slots wants a whole number from 0 to 1048576, --workers one from 1 to 16\n"
+        )
     );
     Ok(())
 }
