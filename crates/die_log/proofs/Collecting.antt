@@ -13,7 +13,7 @@ use Rattle.die_log.specs.Answers.{IsExact}
 use Rattle.die_log.proofs.Legality.{entry}
 use Rattle.die_log.proofs.Known.{CarriedBelow, WaivedBelow, known}
 
-other_number : (m n : ℕ) → m < n → (m == n) ≡ false
+pub other_number : (m n : ℕ) → m < n → (m == n) ≡ false
 other_number m n h = grind (arith, nat_tests)
 
 no_act : (n : ℕ) (c : Carried) → CarriedBelow n c → act_of n c ≡ None

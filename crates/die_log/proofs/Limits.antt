@@ -1,6 +1,6 @@
 -- An exact log keeps to the limits of its die.
 use Rattle.std.proofs.Common.{◌≡◌, ℕ, zero, suc, ◌+◌, ◌<◌, ◌≤◌, ◌==◌, nat_le, Bool, true, false, cond, List, [], ◌∷◌, ◌++◌, length, Option, Some, None, option_map, is_some, find, get_or, set, replicate, refl, ap, inl, inr, arith}
-use Rattle.std.specs.List.{AllByRecursion}
+use Rattle.std.specs.List.{AllByRecursion, cons_option, filter_map}
 use Rattle.std.proofs.lemmas.Bool.{cases_eq, cases_lt, leb-false, ltb-false}
 use Rattle.std.proofs.lemmas.List.{length_push, get_or-set_same, get_or-set_other, set_past}
 use Rattle.std.proofs.lemmas.List.Elements.{All-contains, All-from_recursion}
@@ -12,12 +12,26 @@ use Rattle.slot_types.specs.declared.events.Event.{Event}
 use Rattle.slot_types.specs.declared.events.Event.TheVariants as events
 use Rattle.slot_types.specs.declared.replies.Reply.{Reply}
 use Rattle.slot_types.specs.declared.replies.Reply.TheVariants as replies
-use Rattle.die_log.specs.Log.{Log, Job, Carried, jobs, now, carried, with_slot}
+use Rattle.die_log.specs.Log.{Log, Job, Carried, jobs, now, carried, with_slot, act_of, work}
 use Rattle.die_log.specs.Flash.{Block, Cells, cells, cells_after, block_at, free_block, open_block, programmed_in, erased_once, ran_by}
 use Rattle.die_log.specs.Answers.{IsExact, accepted, refusals, page_of, bad_page, choice, slot_reply}
 use Rattle.die_log.specs.Limits.{IsWithinLimits, KeepsLimits}
 use Rattle.die_log.proofs.Legality.{entry, in_time, exact_induction}
 use Rattle.die_log.proofs.Known.{all_append}
+
+-- Work
+
+pub few_found : {X Y : Type 0} (f : X → Option Y) (xs : List X) → length (filter_map f xs) ≤ length xs
+few_found f [] = omega arith
+few_found {Y = Y} f (x ∷ xs) = by_head (f x) (few_found f xs)
+  where
+    by_head : (o : Option Y) → length (filter_map f xs) ≤ length xs → length (cons_option o (filter_map f xs)) ≤ length (x ∷ xs)
+    by_head None h = omega (arith, h)
+    by_head (Some y) h = omega (arith, h)
+
+-- what took slots took no more than there were
+pub few_work : (n : ℕ) (log : Log) → work n log ≤ now log
+few_work n log = few_found (λ c. act_of n c) (carried log)
 
 -- Jobs
 

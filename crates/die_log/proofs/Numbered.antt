@@ -13,7 +13,8 @@ slot_with : (plan : DiePlan) (past : Log) (ws : List Waived) (j : Job) (o : Opti
 slot_with plan past ws j None = refl
 slot_with plan past ws j (Some act) = refl
 
-slot_is : (plan : DiePlan) (past : Log) (ws : List Waived) (o : Option Job) → (slot_reply plan past ws o).slot ≡ now past
+-- the answer to a slot has the present one's number
+pub slot_is : (plan : DiePlan) (past : Log) (ws : List Waived) (o : Option Job) → (slot_reply plan past ws o).slot ≡ now past
 slot_is plan past ws None = refl
 slot_is plan past ws (Some j) = slot_with plan past ws j (act_for plan past j)
 

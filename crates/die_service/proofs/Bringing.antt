@@ -17,7 +17,8 @@ use Rattle.slot_types.specs.declared.acts.Act.{Act}
 use Rattle.slot_types.specs.declared.refusals.Refusal.TheVariants.{ClockEnd}
 use Rattle.slot_types.specs.declared.replies.Waived.{Waived}
 use Rattle.die_log.specs.Log.{Log, Job, now}
-use Rattle.die_log.specs.Answers.{answer, answer_by, choice, slot_reply, reply_with, act_for}
+use Rattle.die_log.specs.Answers.{answer, answer_by, choice, slot_reply}
+use Rattle.die_log.proofs.Numbered.{slot_is}
 use Rattle.die_service.specs.declared.feeds.Arrival.{Arrival}
 use Rattle.die_service.specs.declared.refused.RefusedAt.{RefusedAt}
 use Rattle.die_service.specs.Passes.{AddsEntry, AddsNone}
@@ -92,14 +93,6 @@ module _ (never : Bool) (clock : ℕ) (p q : DiePass) (c d : Course) (event : Ev
 
 -- One slot
 
-slot_by : (plan : DiePlan) (past : Log) (waived : List Waived) (j : Job) (act : Option Act) → (reply_with plan past waived j act).slot ≡ now past
-slot_by plan past waived j None = refl
-slot_by plan past waived j (Some act) = refl
-
-slot_number : (plan : DiePlan) (past : Log) (waived : List Waived) (o : Option Job) → (slot_reply plan past waived o).slot ≡ now past
-slot_number plan past waived None = refl
-slot_number plan past waived (Some j) = slot_by plan past waived j (act_for plan past j)
-
 pub slot_below : (plan : DiePlan) (past : Log) (reply : SlotReply) → answer plan past events.Slot ≡ replies.Slot reply → reply.slot < 1048576
 unfolding answer
 slot_below plan past reply is = by (nat_le MAX_SLOT (now past)) refl is
@@ -114,7 +107,7 @@ slot_below plan past reply is = by (nat_le MAX_SLOT (now past)) refl is
     by true e h = absurd (no_slot ClockEnd reply h)
     by false e h =
         let below = leb-false MAX_SLOT (now past) e in
-        let is_now : reply.slot ≡ now past = ap (λ r. r.slot) (sym (same_slot _ reply h)) ∙ slot_number plan past (choice plan past).waived (choice plan past).head in
+        let is_now : reply.slot ≡ now past = ap (λ r. r.slot) (sym (same_slot _ reply h)) ∙ slot_is plan past (choice plan past).waived (choice plan past).head in
         omega (arith, below, is_now)
 
 module _ (never : Bool) (p q : DiePass) (c : Course) (slots : ℕ) (stop : Option RefusedAt) where

@@ -25,6 +25,7 @@ use Rattle.die_log.specs.Answers.{IsExact}
 use Rattle.die_log.specs.Standing.{AreNumbered}
 use Rattle.die_log.proofs.Legality.{entry}
 use Rattle.die_log.proofs.Standing.Longer.{acts_stay, acts_grow, act_own, number_at}
+use Rattle.die_log.proofs.Collecting.{no_acts, other_number}
 use Rattle.die_log.proofs.Known.{known, AreKnown, CarriedBelow, WaivedBelow}
 use Rattle.slot_core.specs.Turns.{after_read}
 use Rattle.slot_core.specs.Records.{record_from, record_with, records, waiver_among, stage_by, gift_by, gift_of, given, reads_of, bytes_read}
@@ -35,24 +36,9 @@ map_push f (y ∷ xs) x = ap (λ ys. f y ∷ ys) (map_push f xs x)
 
 -- Numbers that were not given yet
 
-below_differs : (m n : ℕ) → m < n → (m == n) ≡ false
-below_differs m n h = grind (arith, nat_tests)
-
-no_act : (n : ℕ) (c : Carried) → CarriedBelow n c → act_of n c ≡ None
-no_act n None h = refl
-no_act n (Some (m, act)) h = rw (below_differs m n h) refl
-
-no_acts : (n : ℕ) (cs : List Carried) → AllByRecursion (CarriedBelow n) cs → filter_map (λ c. act_of n c) cs ≡ []
-no_acts n [] h = refl
-no_acts n (c ∷ cs) h = rw (no_act n c h.0) (no_acts n cs h.1)
-
 no_waiver : (n : ℕ) (ws : List Waived) → AllByRecursion (WaivedBelow n) ws → waiver_among n ws ≡ None
 no_waiver n [] h = refl
-no_waiver n (w ∷ ws) h = rw (below_differs w.number n h.0) (no_waiver n ws h.1)
-
--- the next number has no act
-pub fresh_acts : (plan : DiePlan) (past : Log) → IsExact plan past → acts (length (jobs past)) past ≡ []
-fresh_acts plan past x = no_acts (length (jobs past)) (carried past) (known plan past x).of_carried
+no_waiver n (w ∷ ws) h = rw (other_number w.number n h.0) (no_waiver n ws h.1)
 
 pub fresh_waiver : (plan : DiePlan) (past : Log) → IsExact plan past → waiver_among (length (jobs past)) (waived past) ≡ None
 fresh_waiver plan past x = no_waiver (length (jobs past)) (waived past) (known plan past x).of_waived
@@ -77,7 +63,7 @@ records-submit plan past caller task release due ops x some =
     ∙ ap (λ r. records plan past ++ r ∷ []) fresh
   where
     fresh : record_with plan past (waived past) (record { number = length (jobs past); collects = false; task = task; release = release; due = due; ops = ops }) ≡ new_job task release due ops
-    fresh = rw (fresh_acts plan past x) (rw (fresh_waiver plan past x) (rw (some_left ops some) refl))
+    fresh = rw (no_acts plan past x) (rw (fresh_waiver plan past x) (rw (some_left ops some) refl))
 
 -- and so is an accepted collection
 pub records-collect : (plan : DiePlan) (past : Log) (caller task release due : ℕ) → IsExact plan past → 0 < plan.shape.erase_slots
@@ -87,7 +73,7 @@ records-collect plan past caller task release due x some =
     ∙ ap (λ r. records plan past ++ r ∷ []) fresh
   where
     fresh : record_with plan past (waived past) (record { number = length (jobs past); collects = true; task = task; release = release; due = due; ops = [] }) ≡ new_collection task release due
-    fresh = rw (fresh_acts plan past x) (rw (fresh_waiver plan past x) (rw (some_slots plan.shape.erase_slots some) refl))
+    fresh = rw (no_acts plan past x) (rw (fresh_waiver plan past x) (rw (some_slots plan.shape.erase_slots some) refl))
 
 -- Slots
 

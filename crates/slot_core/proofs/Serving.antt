@@ -27,7 +27,7 @@ use Rattle.die_log.specs.Answers.{IsExact}
 use Rattle.die_log.specs.Legal.{IsLegal, IsLegalReply, IsLegalRun, IsNumbered, IsNextOperation, IsNextCollectAct, Does}
 use Rattle.die_log.proofs.Legality.{entry}
 use Rattle.die_log.proofs.Standing.Longer.{acts_stay, acts_grow}
-use Rattle.slot_core.proofs.Recording.{fresh_acts}
+use Rattle.die_log.proofs.Collecting.{no_acts}
 use Rattle.die_log.specs.Flash.{contents, written, ran_by}
 use Rattle.die_log.specs.Work.{is_write, writes}
 use Rattle.die_log.specs.Held.{Agree, held_of, left_of, at_task}
@@ -169,10 +169,10 @@ reads_counted plan [] x l = λ n j e. absurd (none-some j e)
 reads_counted plan (e ∷ past) x l = by_kind e.event e.reply l.1.numbered l.1.slot (reads_counted plan past x.0 l.0)
   where
     by_kind : (event : Event) (reply : Reply) → IsNumbered past event reply → IsLegalReply plan past reply → CountReads past → CountReads (entry e.caller event reply ∷ past)
-    by_kind (events.Submit task release due ops) (replies.Taken number) is legal h = taken_reads past _ is (fresh_acts plan past x.0) h
+    by_kind (events.Submit task release due ops) (replies.Taken number) is legal h = taken_reads past _ is (no_acts plan past x.0) h
     by_kind (events.Submit task release due ops) (replies.Slot s) is legal h = absurd is
     by_kind (events.Submit task release due ops) (replies.Refused r) is legal h = absurd is
-    by_kind (events.Collect task release due) (replies.Taken number) is legal h = taken_reads past _ is (fresh_acts plan past x.0) h
+    by_kind (events.Collect task release due) (replies.Taken number) is legal h = taken_reads past _ is (no_acts plan past x.0) h
     by_kind (events.Collect task release due) (replies.Slot s) is legal h = absurd is
     by_kind (events.Collect task release due) (replies.Refused r) is legal h = absurd is
     by_kind events.Slot (replies.Slot s) is legal h = ran_reads plan past e.caller s s.waived s.ran refl legal.1 h

@@ -27,7 +27,7 @@ use Rattle.die_log.specs.Legal.{is_among}
 use Rattle.die_log.specs.Limits.{IsWithinLimits}
 use Rattle.die_log.proofs.Legal.Exact.{stands_well, StandsWell}
 use Rattle.die_log.proofs.Legal.Runs.{operation_left}
-use Rattle.die_log.proofs.Limits.{keeps_limits}
+use Rattle.die_log.proofs.Limits.{few_found, keeps_limits}
 use Rattle.die_log.proofs.Standing.Kept.{waiting_undone}
 use Rattle.die_log.proofs.Standing.Longer.{number_at, contained}
 use Rattle.die_log.proofs.Tokens.Begins.{is_pending_if}
@@ -161,14 +161,6 @@ head_fits blocks_of log present ws t n v r h at = subst (HeadFits blocks_of v) (
     job = turn_job v.accounts.plan log present ws t (flash_of blocks_of v) n h
 
 -- Its slots so far are among the log's
-
-few_found : {X Y : Type 0} (f : X → Option Y) (xs : List X) → length (filter_map f xs) ≤ length xs
-few_found f [] = omega arith
-few_found {Y = Y} f (x ∷ xs) = by_head (f x) (few_found f xs)
-  where
-    by_head : (o : Option Y) → length (filter_map f xs) ≤ length xs → length (cons_option o (filter_map f xs)) ≤ length (x ∷ xs)
-    by_head None h = omega (arith, h)
-    by_head (Some y) h = omega (arith, h)
 
 pub work_fits : (plan : DiePlan) (log : Log) (present : ℕ) (ws : List Waived) (t : Table) (f : FlashState) (n : ℕ) → HasTurn plan log present ws t f n → work_at t.jobs n + 1 < 2 ^ 32
 work_fits plan log present ws t f n h =

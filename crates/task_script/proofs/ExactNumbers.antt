@@ -25,21 +25,8 @@ use Rattle.die_log.proofs.AccountsPlan.{accounts_plan, waivers_plan}
 use Rattle.die_log.proofs.Choices.{OfSome}
 use Rattle.die_log.proofs.Known.{all_append}
 use Rattle.die_log.proofs.Legal.Exact.{has_slots}
-use Rattle.die_log.proofs.Limits.{keeps_limits}
+use Rattle.die_log.proofs.Limits.{few_found, keeps_limits}
 use Rattle.slot_core.specs.Records.{bytes_read, gift_by, gift_of, given, given_by, reads_of, waiver_among}
-
--- Work
-
-few_found : {X Y : Type 0} (f : X → Option Y) (xs : List X) → length (filter_map f xs) ≤ length xs
-few_found f [] = omega arith
-few_found {Y = Y} f (x ∷ xs) = by_head (f x) (few_found f xs)
-  where
-    by_head : (o : Option Y) → length (filter_map f xs) ≤ length xs → length (cons_option o (filter_map f xs)) ≤ length (x ∷ xs)
-    by_head None h = omega (arith, h)
-    by_head (Some y) h = omega (arith, h)
-
-pub few_work : (n : ℕ) (log : Log) → work n log ≤ now log
-few_work n log = few_found (λ c. act_of n c) (carried log)
 
 -- Completions
 

@@ -16,7 +16,7 @@ use Rattle.die_log.specs.Answers.{IsExact}
 use Rattle.die_log.specs.Standing.{AreNumbered}
 use Rattle.die_log.proofs.Choices.{OfSome}
 use Rattle.die_log.proofs.Legal.Exact.{stands_well}
-use Rattle.die_log.proofs.Limits.{keeps_limits}
+use Rattle.die_log.proofs.Limits.{few_work, keeps_limits}
 use Rattle.slot_core.specs.declared.outcomes.JobHead.{JobHead}
 use Rattle.slot_core.specs.Outcomes.{outcome_by}
 use Rattle.slot_core.specs.Records.{given, reads_of, waiver_among}
@@ -30,7 +30,7 @@ use Rattle.task_script.specs.WellFormed.{AreDies, AreRows, IsDie, IsPage, IsRepo
 use Rattle.task_script.specs.declared.report_rows.DieRow.{DieRow}
 use Rattle.task_script.specs.declared.reports.DieReport.{DieReport}
 use Rattle.task_script.specs.declared.reports.ReportRow.{ReportRow}
-use Rattle.task_script.proofs.ExactNumbers.{completed_by_now, done_gives_few, done_worked, few_reads, few_work, waived_gives_few}
+use Rattle.task_script.proofs.ExactNumbers.{completed_by_now, done_gives_few, done_worked, few_reads, waived_gives_few}
 use Rattle.task_script.proofs.ExactPages.{collections_read_nothing, reads_are_pages}
 use Rattle.task_script.proofs.ExactWorst.{contained_all, has_cert, number_small}
 use Rattle.task_script.proofs.RowsBack.{HasNumbers}

@@ -18,6 +18,7 @@ use Rattle.slot_types.specs.declared.acts.Act.{Act}
 use Rattle.slot_types.specs.declared.replies.Waived.{Waived}
 use Rattle.die_log.specs.Log.{Log, Job, now}
 use Rattle.die_log.specs.Answers.{answer, answer_by, refusal_of, slot_reply, reply_with, act_for, choice, IsAccepted}
+use Rattle.die_log.proofs.Numbered.{slot_is}
 use Rattle.slot_core.specs.Core.{with_entry}
 use Rattle.die_service.specs.Passes.{IsTaken}
 use Rattle.die_service.proofs.Passing.{submit_taken, collect_taken}
@@ -243,22 +244,14 @@ pub record ComesTo (plan : DiePlan) (saids before : List Said) (ends : List RowE
   pub slots : now (said_log saids) ≡ time
   pub ended_is : ended ≡ ends_from place lines (refused_from place rest)
 
--- a slot's reply has its number
-number_with : (plan : DiePlan) (past : Log) (waived : List Waived) (j : Job) (o : Option Act) → (reply_with plan past waived j o).slot ≡ now past
-number_with plan past waived j None = refl
-number_with plan past waived j (Some act) = refl
-
-number_is : (plan : DiePlan) (past : Log) (waived : List Waived) (o : Option Job) → (slot_reply plan past waived o).slot ≡ now past
-number_is plan past waived None = refl
-number_is plan past waived (Some j) = number_with plan past waived j (act_for plan past j)
-
 same_slot : (s t : SlotReply) → replies.Slot s ≡ replies.Slot t → s ≡ t
 same_slot s t e = cc
 
+-- a slot's reply has its number
 numbered_by : (plan : DiePlan) (past : Log) (slot : SlotReply) (o : Option Refusal) → answer_by plan past events.Slot o ≡ replies.Slot slot → slot.slot ≡ now past
 numbered_by plan past slot None e =
     let c = choice plan past in
-    ap (λ (s : SlotReply). s.slot) (sym (same_slot (slot_reply plan past c.waived c.head) slot e)) ∙ number_is plan past c.waived c.head
+    ap (λ (s : SlotReply). s.slot) (sym (same_slot (slot_reply plan past c.waived c.head) slot e)) ∙ slot_is plan past c.waived c.head
 numbered_by plan past slot (Some refusal) e = absurd cc
 
 numbered : (plan : DiePlan) (past : Log) (slot : SlotReply) → answer plan past events.Slot ≡ replies.Slot slot → slot.slot ≡ now past
