@@ -211,6 +211,13 @@ next_fits {shape} {failures} {blocks} stands some = next_fits_by (open_in shape.
 pub fits_next : {shape : Shape} {failures : ℕ} {blocks : List Block} {placing : Placing} {fills : List ℕ} {writing : Option ℕ} {candidates : Candidates} {place : Place} → Stands shape failures blocks placing fills writing candidates → 0 < free_cells shape.pages blocks → place ≡ next_cell shape.pages blocks → Fits shape blocks place
 fits_next {shape} {failures} {blocks} stands some is = subst (λ (p : Place). Fits shape blocks p) (sym is) (next_fits stands some)
 
+-- an array that stands, a page of it, and the cell that is written next
+pub record Ready (shape : Shape) (failures : ℕ) (blocks : List Block) (placing : Placing) (fills : List ℕ) (writing : Option ℕ) (candidates : Candidates) (page : ℕ) (place : Place) : Type 0 where
+  pub stands : Stands shape failures blocks placing fills writing candidates
+  pub is : place ≡ next_cell shape.pages blocks
+  pub fit : Fits shape blocks place
+  pub in_list : page < length placing.places
+
 pub is_next : {shape : Shape} {failures : ℕ} {blocks : List Block} {placing : Placing} {fills : List ℕ} {writing : Option ℕ} {candidates : Candidates} {place : Place} → Stands shape failures blocks placing fills writing candidates → Fits shape blocks place → IsNext blocks shape.pages place
 is_next {shape} {failures} {blocks} {placing} {fills} {writing} {candidates} {place} stands fit = record {
   in_range = fit.in_range;

@@ -1,128 +1,82 @@
-use Rattle.std.proofs.Common.{◌∙◌, arith, sym}
-use Rattle.flash_volume.proofs.Opening.{fits_next, next_fits, is_next, is_cell, unplaced, seen, some_open}
+use Rattle.std.proofs.Common.{arith}
+use Rattle.flash_volume.proofs.Opening.{fits_next, is_next, is_cell, unplaced, seen, some_open, Ready}
 use Rattle.flash_volume.proofs.Counting.{some_valid, left_open_block, left_len, few_open}
 use Rattle.flash_volume.proofs.Filling.{stands_written, contents_written, free_written, closes_filled}
+use Rattle.flash_volume.proofs.array.PageArray.write.Given.{Over}
 use Rattle.flash_volume.proofs.array.PageArray.write.Goals as goal
+use Rattle.flash_volume.proofs.array.PageArray.write.Goals.{After-next_cell-place}
+
+-- the array stands, and the cell that was found is the next one
+ready : (g : Over) (c : After-next_cell-place g) → Ready (g.N.Nand.shape_of c.self.inside.device) (g.N.Nand.failures c.self.inside.device) (g.N.Nand.blocks c.self.inside.device) c.self.inside.map c.self.inside.fills.items c.self.inside.writing c.self.inside.victims c.args.page c.next_cell-place.result
+ready g c =
+    let stands = c.self.invariant (rw (← c.self.view_is) at c.requires.alive) in
+    let is = rw (← c.self.view_is) at c.next_cell-place.ensures in
+    record {
+      stands = stands;
+      is = is;
+      fit = fits_next stands (rw (← c.self.view_is) at c.requires.free) is;
+      in_list = rw (← c.self.view_is) at c.requires.page;
+    }
 
 pub program-requires-clause-next : goal.program-requires-clause-next
 program-requires-clause-next g c =
-    let alive = rw (← c.self.view_is) at c.requires.alive in
-    let some = rw (← c.self.view_is) at c.requires.free in
-    let page = rw (← c.self.view_is) at c.requires.page in
-    let stands = c.self.invariant alive in
-    let is = rw (← c.self.view_is) at c.next_cell-place.ensures in
-    let fit = fits_next stands some is in
-    is_next stands fit
+    let k = ready g (goal.at.program-requires-clause-next g c).After-next_cell-place in
+    is_next k.stands k.fit
 
 pub bind-requires-clause-place : goal.bind-requires-clause-place
 bind-requires-clause-place g c =
-    let alive = rw (← c.self.view_is) at c.requires.alive in
-    let some = rw (← c.self.view_is) at c.requires.free in
-    let page = rw (← c.self.view_is) at c.requires.page in
-    let stands = c.self.invariant alive in
-    let is = rw (← c.self.view_is) at c.next_cell-place.ensures in
-    let fit = fits_next stands some is in
-    is_cell stands fit
+    let k = ready g (goal.at.bind-requires-clause-place g c).After-next_cell-place in
+    is_cell k.stands k.fit
 
 pub bind-requires-clause-free : goal.bind-requires-clause-free
 bind-requires-clause-free g c =
-    let alive = rw (← c.self.view_is) at c.requires.alive in
-    let some = rw (← c.self.view_is) at c.requires.free in
-    let page = rw (← c.self.view_is) at c.requires.page in
-    let stands = c.self.invariant alive in
-    let is = rw (← c.self.view_is) at c.next_cell-place.ensures in
-    let fit = fits_next stands some is in
-    unplaced stands fit
+    let k = ready g (goal.at.bind-requires-clause-free g c).After-next_cell-place in
+    unplaced k.stands k.fit
 
 pub leave-requires : goal.leave-requires
 leave-requires g c =
-    let alive = rw (← c.self.view_is) at c.requires.alive in
-    let some = rw (← c.self.view_is) at c.requires.free in
-    let page = rw (← c.self.view_is) at c.requires.page in
-    let stands = c.self.invariant alive in
-    let is = rw (← c.self.view_is) at c.next_cell-place.ensures in
-    let fit = fits_next stands some is in
-    λ place n lay counted. some_valid c.args.page n place stands (sym c.place-before.ensures.place ∙ lay) counted
+    let k = ready g (goal.at.leave-requires g c).After-next_cell-place in
+    λ place n lay counted. some_valid c.args.page n place k.stands (rw c.place-before.ensures.place at lay) counted
 
 pub close_when_filled-requires-clause-in_range : goal.close_when_filled-requires-clause-in_range
 close_when_filled-requires-clause-in_range g c =
-    let alive = rw (← c.self.view_is) at c.requires.alive in
-    let some = rw (← c.self.view_is) at c.requires.free in
-    let page = rw (← c.self.view_is) at c.requires.page in
-    let stands = c.self.invariant alive in
-    let is = rw (← c.self.view_is) at c.next_cell-place.ensures in
-    let fit = fits_next stands some is in
-    rw c.leave.ensures (omega (arith, left_len c.place-before.result c.self.inside.victims.counts, stands.candidates_len, fit.in_range, stands.count))
+    let k = ready g (goal.at.close_when_filled-requires-clause-in_range g c).After-next_cell-place in
+    rw c.leave.ensures (omega (arith, left_len c.place-before.result c.self.inside.victims.counts, k.stands.candidates_len, k.fit.in_range, k.stands.count))
 
 pub close_when_filled-requires-clause-open : goal.close_when_filled-requires-clause-open
 close_when_filled-requires-clause-open g c =
-    let alive = rw (← c.self.view_is) at c.requires.alive in
-    let some = rw (← c.self.view_is) at c.requires.free in
-    let page = rw (← c.self.view_is) at c.requires.page in
-    let stands = c.self.invariant alive in
-    let is = rw (← c.self.view_is) at c.next_cell-place.ensures in
-    let fit = fits_next stands some is in
-    rw c.leave.ensures (left_open_block c.place-before.result stands fit)
+    let k = ready g (goal.at.close_when_filled-requires-clause-open g c).After-next_cell-place in
+    rw c.leave.ensures (left_open_block c.place-before.result k.stands k.fit)
 
 pub close_when_filled-requires-clause-fits : goal.close_when_filled-requires-clause-fits
 close_when_filled-requires-clause-fits g c =
-    let alive = rw (← c.self.view_is) at c.requires.alive in
-    let some = rw (← c.self.view_is) at c.requires.free in
-    let page = rw (← c.self.view_is) at c.requires.page in
-    let stands = c.self.invariant alive in
-    let is = rw (← c.self.view_is) at c.next_cell-place.ensures in
-    let fit = fits_next stands some is in
-    rw (c.leave.ensures, c.valid-valid.ensures, c.bind.ensures) (few_open c.args.page c.args.bytes stands fit page)
+    let k = ready g (goal.at.close_when_filled-requires-clause-fits g c).After-next_cell-place in
+    rw (c.leave.ensures, c.valid-valid.ensures, c.bind.ensures) (few_open c.args.page c.args.bytes k.stands k.fit k.in_list)
 
 pub invariant_of-self-in-Ok : goal.invariant_of-self-in-Ok
 invariant_of-self-in-Ok g c = λ _.
-    let alive = rw (← c.self.view_is) at c.requires.alive in
-    let some = rw (← c.self.view_is) at c.requires.free in
-    let page = rw (← c.self.view_is) at c.requires.page in
-    let stands = c.self.invariant alive in
-    let is = rw (← c.self.view_is) at c.next_cell-place.ensures in
-    let fit = fits_next stands some is in
-    rw (c.program.ensures.shape, c.in-Ok.ensures.well, c.in-Ok.ensures.blocks, c.left_open-still_open.ensures, c.close_when_filled.ensures, c.leave.ensures, c.valid-valid.ensures, c.bind.ensures, c.place-before.ensures.place, c.shape-pages.ensures, c.program.ensures.shape) (stands_written c.args.page c.args.bytes stands fit page)
+    let k = ready g (goal.at.invariant_of-self-in-Ok g c).After-next_cell-place in
+    rw (c.program.ensures.shape, c.in-Ok.ensures.well, c.in-Ok.ensures.blocks, c.left_open-still_open.ensures, c.close_when_filled.ensures, c.leave.ensures, c.valid-valid.ensures, c.bind.ensures, c.place-before.ensures.place, c.shape-pages.ensures, c.program.ensures.shape) (stands_written c.args.page c.args.bytes k.stands k.fit k.in_list)
 
 pub returns-in-Ok-clause-sound : goal.returns-in-Ok-clause-sound
 returns-in-Ok-clause-sound g c = λ _.
-    let alive = rw (← c.self.view_is) at c.requires.alive in
-    let some = rw (← c.self.view_is) at c.requires.free in
-    let page = rw (← c.self.view_is) at c.requires.page in
-    let stands = c.self.invariant alive in
-    let is = rw (← c.self.view_is) at c.next_cell-place.ensures in
-    let fit = fits_next stands some is in
-    rw (c.program.ensures.shape, c.in-Ok.ensures.well, c.in-Ok.ensures.blocks, c.close_when_filled.ensures, c.leave.ensures, c.valid-valid.ensures, c.bind.ensures, c.place-before.ensures.place, c.shape-pages.ensures, c.program.ensures.shape) (seen (stands_written c.args.page c.args.bytes stands fit page))
+    let k = ready g (goal.at.returns-in-Ok-clause-sound g c).After-next_cell-place in
+    rw (c.program.ensures.shape, c.in-Ok.ensures.well, c.in-Ok.ensures.blocks, c.close_when_filled.ensures, c.leave.ensures, c.valid-valid.ensures, c.bind.ensures, c.place-before.ensures.place, c.shape-pages.ensures, c.program.ensures.shape) (seen (stands_written c.args.page c.args.bytes k.stands k.fit k.in_list))
 
 pub returns-in-Ok-clause-contents : goal.returns-in-Ok-clause-contents
 returns-in-Ok-clause-contents g c =
-    let alive = rw (← c.self.view_is) at c.requires.alive in
-    let some = rw (← c.self.view_is) at c.requires.free in
-    let page = rw (← c.self.view_is) at c.requires.page in
-    let stands = c.self.invariant alive in
-    let is = rw (← c.self.view_is) at c.next_cell-place.ensures in
-    let fit = fits_next stands some is in
-    rw (c.in-Ok.ensures.blocks, c.bind.ensures, ← c.self.view_is) (contents_written c.args.page c.args.bytes stands fit page)
+    let k = ready g (goal.at.returns-in-Ok-clause-contents g c).After-next_cell-place in
+    rw (c.in-Ok.ensures.blocks, c.bind.ensures, ← c.self.view_is) (contents_written c.args.page c.args.bytes k.stands k.fit k.in_list)
 
 pub returns-in-Ok-clause-free : goal.returns-in-Ok-clause-free
 returns-in-Ok-clause-free g c =
-    let alive = rw (← c.self.view_is) at c.requires.alive in
-    let some = rw (← c.self.view_is) at c.requires.free in
-    let page = rw (← c.self.view_is) at c.requires.page in
-    let stands = c.self.invariant alive in
-    let is = rw (← c.self.view_is) at c.next_cell-place.ensures in
-    let fit = fits_next stands some is in
-    rw (c.in-Ok.ensures.blocks, ← c.self.view_is) (free_written c.args.bytes fit)
+    let k = ready g (goal.at.returns-in-Ok-clause-free g c).After-next_cell-place in
+    rw (c.in-Ok.ensures.blocks, ← c.self.view_is) (free_written c.args.bytes k.fit)
 
 pub returns-in-Ok-clause-closes : goal.returns-in-Ok-clause-closes
 returns-in-Ok-clause-closes g c =
-    let alive = rw (← c.self.view_is) at c.requires.alive in
-    let some = rw (← c.self.view_is) at c.requires.free in
-    let page = rw (← c.self.view_is) at c.requires.page in
-    let stands = c.self.invariant alive in
-    let is = rw (← c.self.view_is) at c.next_cell-place.ensures in
-    let fit = fits_next stands some is in
-    rw (← c.self.view_is, c.in-Ok.ensures.blocks, c.close_when_filled.ensures, c.leave.ensures, c.valid-valid.ensures, c.bind.ensures, c.place-before.ensures.place, c.shape-pages.ensures, c.program.ensures.shape, is) (closes_filled c.args.page c.args.bytes stands (next_fits stands some))
+    let k = ready g (goal.at.returns-in-Ok-clause-closes g c).After-next_cell-place in
+    rw (← c.self.view_is, c.in-Ok.ensures.blocks, c.close_when_filled.ensures, c.leave.ensures, c.valid-valid.ensures, c.bind.ensures, c.place-before.ensures.place, c.shape-pages.ensures, c.program.ensures.shape, k.is) (closes_filled c.args.page c.args.bytes k.stands (rw k.is at k.fit))
 
 pub returns-in-Err-clause-finds : goal.returns-in-Err-clause-finds
 returns-in-Err-clause-finds g c = some_open (g.N.Nand.shape_of c.args.self.now.device).pages (g.N.Nand.blocks c.args.self.now.device) c.requires.free
