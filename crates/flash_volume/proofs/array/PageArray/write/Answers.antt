@@ -59,9 +59,7 @@ invariant_of-self-in-Ok g c = λ _.
     rw (c.program.ensures.shape, c.in-Ok.ensures.well, c.in-Ok.ensures.blocks, c.left_open-still_open.ensures, c.close_when_filled.ensures, c.leave.ensures, c.valid-valid.ensures, c.bind.ensures, c.place-before.ensures.place, c.shape-pages.ensures, c.program.ensures.shape) (stands_written c.args.page c.args.bytes k.stands k.fit k.in_list)
 
 pub returns-in-Ok-clause-sound : goal.returns-in-Ok-clause-sound
-returns-in-Ok-clause-sound g c = λ _.
-    let k = ready g (goal.at.returns-in-Ok-clause-sound g c).After-next_cell-place in
-    rw (c.program.ensures.shape, c.in-Ok.ensures.well, c.in-Ok.ensures.blocks, c.close_when_filled.ensures, c.leave.ensures, c.valid-valid.ensures, c.bind.ensures, c.place-before.ensures.place, c.shape-pages.ensures, c.program.ensures.shape) (seen (stands_written c.args.page c.args.bytes k.stands k.fit k.in_list))
+returns-in-Ok-clause-sound g c = λ again. seen (invariant_of-self-in-Ok g c again)
 
 pub returns-in-Ok-clause-contents : goal.returns-in-Ok-clause-contents
 returns-in-Ok-clause-contents g c =
