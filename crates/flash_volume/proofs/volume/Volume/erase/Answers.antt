@@ -10,31 +10,19 @@ use Rattle.flash_volume.proofs.volume.Volume.erase.Goals as goal
 pub erase_slot-requires-clause-unplaced : goal.erase_slot-requires-clause-unplaced
 erase_slot-requires-clause-unplaced g c =
     let sound = c.self.invariant (rw (← c.self.view_is) at c.requires.alive) in
-    let task = rw (← c.self.view_is) at c.requires.task in
-    let runs = rw (← c.self.view_is) at c.requires.runs in
-    let run = sound.runs.each c.args.task c.args.collection runs in
-    let s = g.N.Nand.shape_of c.self.inside.array.device in
-    let b = g.N.Nand.blocks c.self.inside.array.device in
-    let asked = rw (← c.self.view_is, ← sound.shape_is) at c.requires.unplaced in
-    asked
+    rw (← c.self.view_is, ← sound.shape_is) at c.requires.unplaced
 
 pub settle-given-requires-clause-room : goal.settle-given-requires-clause-room
 settle-given-requires-clause-room g c =
-    let sound = c.self.invariant (rw (← c.self.view_is) at c.requires.alive) in
-    let task = rw (← c.self.view_is) at c.requires.task in
-    let runs = rw (← c.self.view_is) at c.requires.runs in
-    let run = sound.runs.each c.args.task c.args.collection runs in
-    room c.args.task c.args.collection sound runs
+    room c.args.task c.args.collection (c.self.invariant (rw (← c.self.view_is) at c.requires.alive)) (rw (← c.self.view_is) at c.requires.runs)
 
 pub invariant_of-self-in-Ok-true : goal.invariant_of-self-in-Ok-true
 invariant_of-self-in-Ok-true g c = λ again.
     let sound = c.self.invariant (rw (← c.self.view_is) at c.requires.alive) in
     let task = rw (← c.self.view_is) at c.requires.task in
     let runs = rw (← c.self.view_is) at c.requires.runs in
-    let run = sound.runs.each c.args.task c.args.collection runs in
     let s = g.N.Nand.shape_of c.self.inside.array.device in
     let b = g.N.Nand.blocks c.self.inside.array.device in
-    let asked = rw (← c.self.view_is, ← sound.shape_is) at c.requires.unplaced in
     let is = erased_last b (g.N.Nand.blocks c.erase_slot.new.self.device) s.erase_slots c.args.collection.victim c.in-Ok-true.field-0 c.in-Ok-true.ensures.cells c.in-Ok-true.ensures.last c.in-Ok-true.field-0-test in
     let own = c.reserve-reserve.ensures.sound in
     let a = c.self.inside.ledger in
@@ -50,31 +38,25 @@ invariant_of-self-in-Ok-false g c = λ again.
     let sound = c.self.invariant (rw (← c.self.view_is) at c.requires.alive) in
     let task = rw (← c.self.view_is) at c.requires.task in
     let runs = rw (← c.self.view_is) at c.requires.runs in
-    let run = sound.runs.each c.args.task c.args.collection runs in
     let s = g.N.Nand.shape_of c.self.inside.array.device in
     let b = g.N.Nand.blocks c.self.inside.array.device in
-    let asked = rw (← c.self.view_is, ← sound.shape_is) at c.requires.unplaced in
     let is = erased_going b (g.N.Nand.blocks c.erase_slot.new.self.device) s.erase_slots c.args.collection.victim c.in-Ok-false.field-0 c.in-Ok-false.ensures.cells c.in-Ok-false.ensures.last c.in-Ok-false.field-0-test in
     rw (c.task-in-Ok-false.view_is, c.erase_slot.ensures.placing, c.erase_slot.ensures.candidates) (sound_going c.args.task c.args.collection sound task runs (rw (c.erase_slot.ensures.placing, c.erase_slot.ensures.candidates) at (c.erase_slot.ensures.sound again)) c.erase_slot.ensures.shape is (c.in-Ok-false.ensures.goes_on (rw c.in-Ok-false.field-0-test refl)))
 
 pub returns-in-Ok-true-clause-did : goal.returns-in-Ok-true-clause-did
 returns-in-Ok-true-clause-did g c =
     let sound = c.self.invariant (rw (← c.self.view_is) at c.requires.alive) in
-    let task = rw (← c.self.view_is) at c.requires.task in
-    let runs = rw (← c.self.view_is) at c.requires.runs in
-    let run = sound.runs.each c.args.task c.args.collection runs in
+    let run = sound.runs.each c.args.task c.args.collection (rw (← c.self.view_is) at c.requires.runs) in
+    let clear = unplaced_of c.args.collection.victim sound.stands run.in_range run.closed (rw (← c.self.view_is, ← sound.shape_is) at c.requires.unplaced) in
     let s = g.N.Nand.shape_of c.self.inside.array.device in
     let b = g.N.Nand.blocks c.self.inside.array.device in
-    let asked = rw (← c.self.view_is, ← sound.shape_is) at c.requires.unplaced in
-    let left = rw (← c.self.view_is) at c.requires.left in
-    let clear = unplaced_of c.args.collection.victim sound.stands run.in_range run.closed asked in
     let own = c.reserve-reserve.ensures.sound in
     let a = c.self.inside.ledger in
     let copied = c.plan.result.now.shape.pages - c.plan-2.result.now.alpha - c.reserve-reserve.result in
     let copied_is : copied ≡ a.plan.shape.pages - a.plan.alpha - get_or a.reserves c.args.task 0 = rw (c.plan.ensures, c.plan-2.ensures, c.reserve-reserve.ensures.reserve) refl in
     rw (← c.self.view_is) (
     record {
-      dropped = dropped run left;
+      dropped = dropped run (rw (← c.self.view_is) at c.requires.left);
       erases = record {
         victim = refl;
         unplaced = clear.none;
@@ -93,17 +75,13 @@ returns-in-Ok-true-clause-did g c =
 pub returns-in-Ok-false-clause-did : goal.returns-in-Ok-false-clause-did
 returns-in-Ok-false-clause-did g c =
     let sound = c.self.invariant (rw (← c.self.view_is) at c.requires.alive) in
-    let task = rw (← c.self.view_is) at c.requires.task in
-    let runs = rw (← c.self.view_is) at c.requires.runs in
-    let run = sound.runs.each c.args.task c.args.collection runs in
+    let run = sound.runs.each c.args.task c.args.collection (rw (← c.self.view_is) at c.requires.runs) in
+    let clear = unplaced_of c.args.collection.victim sound.stands run.in_range run.closed (rw (← c.self.view_is, ← sound.shape_is) at c.requires.unplaced) in
     let s = g.N.Nand.shape_of c.self.inside.array.device in
     let b = g.N.Nand.blocks c.self.inside.array.device in
-    let asked = rw (← c.self.view_is, ← sound.shape_is) at c.requires.unplaced in
-    let left = rw (← c.self.view_is) at c.requires.left in
-    let clear = unplaced_of c.args.collection.victim sound.stands run.in_range run.closed asked in
     rw (← c.self.view_is) (
     record {
-      dropped = dropped run left;
+      dropped = dropped run (rw (← c.self.view_is) at c.requires.left);
       erases = record {
         victim = refl;
         unplaced = clear.none;

@@ -9,7 +9,6 @@ invariant_of-self-in-Ok g c = λ again.
     let sound = c.self.invariant (rw (← c.self.view_is) at c.requires.alive) in
     let task = rw (← c.self.view_is) at c.requires.task in
     let runs = rw (← c.self.view_is) at c.requires.runs in
-    let run = sound.runs.each c.args.task c.args.collection runs in
     let first = rw (← c.self.view_is) at c.requires.first in
     let bytes_are = c.in-Ok.ensures.page ∙ ap (content_at (g.N.Nand.blocks c.self.inside.array.device)) first.lies in
     rw (c.task.view_is, c.in-Ok.ensures.cells, c.in-Ok.ensures.well, c.read.ensures.shape, c.read.ensures.placing, c.read.ensures.candidates, bytes_are) (sound_read c.args.task c.args.page c.args.source c.args.collection sound task runs first.here first.lies)
@@ -17,16 +16,13 @@ invariant_of-self-in-Ok g c = λ again.
 pub returns-in-Ok-clause-did : goal.returns-in-Ok-clause-did
 returns-in-Ok-clause-did g c =
     let sound = c.self.invariant (rw (← c.self.view_is) at c.requires.alive) in
-    let task = rw (← c.self.view_is) at c.requires.task in
-    let runs = rw (← c.self.view_is) at c.requires.runs in
-    let run = sound.runs.each c.args.task c.args.collection runs in
+    let run = sound.runs.each c.args.task c.args.collection (rw (← c.self.view_is) at c.requires.runs) in
     let first = rw (← c.self.view_is) at c.requires.first in
     let bytes_are = c.in-Ok.ensures.page ∙ ap (content_at (g.N.Nand.blocks c.self.inside.array.device)) first.lies in
-    let left = rw (← c.self.view_is) at c.requires.left in
     rw (← c.self.view_is) (
     record {
       source = c.args.source;
-      dropped = dropped run left;
+      dropped = dropped run (rw (← c.self.view_is) at c.requires.left);
       first = first;
       cells = c.in-Ok.ensures.cells;
       places = ap (λ m. m.places) c.read.ensures.placing;
