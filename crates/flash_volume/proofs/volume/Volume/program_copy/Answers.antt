@@ -1,4 +1,4 @@
-use Rattle.std.proofs.Common.{◌<◌, ◌∙◌, get_or, refl, ap}
+use Rattle.std.proofs.Common.{◌<◌, get_or, refl, ap}
 use Rattle.page_map.proofs.Owners.{within}
 use Rattle.flash_volume.proofs.Opening.{next_fits}
 use Rattle.flash_volume.proofs.Filling.{same_contents}
@@ -51,10 +51,10 @@ returns-in-Ok-clause-did g c =
       lies = lies;
       finds = rw (← sound.shape_is) c.write.ensures.finds;
       cells = rw (← sound.shape_is) c.in-Ok.ensures.cells;
-      places = rw (← sound.shape_is) (ap (λ m. m.places) c.in-Ok.ensures.placing);
-      pages = c.in-Ok.ensures.contents ∙ same_contents b places k.page k.source k.bytes (within places k.page k.source lies) lies (run.bytes k c.requires.holds lies);
+      places = rw (c.in-Ok.ensures.placing, ← sound.shape_is);
+      pages = rw c.in-Ok.ensures.contents (same_contents b places k.page k.source k.bytes (within places k.page k.source lies) lies (run.bytes k c.requires.holds lies));
       accounts = c.spend_reserve.ensures.moved;
-      running = rw c.task.view_is refl;
+      running = rw c.task.view_is;
       well = c.in-Ok.ensures.failed;
     }
     )
