@@ -9,9 +9,9 @@ use Rattle.slot_types.specs.declared.plans.DiePlan.{DiePlan}
 use Rattle.slot_types.specs.declared.refusals.Refusal.{Refusal}
 use Rattle.slot_types.specs.declared.refusals.Cause.TheVariants.{TooLong}
 use Rattle.slot_types.specs.declared.refusals.Refusal.TheVariants.{NoMemory, PlanText}
-use Rattle.task_script.specs.PlanText.{plan_of}
-use Rattle.task_script.specs.Stores.{IsStore, RefusesPlan}
-use Rattle.task_script.specs.declared.plan_texts.PlanNumbers.{PlanNumbers}
+use Rattle.task_texts.specs.PlanText.{plan_of}
+use Rattle.task_texts.specs.Stores.{IsStore, RefusesPlan}
+use Rattle.task_texts.specs.declared.plan_texts.PlanNumbers.{PlanNumbers}
 use Rattle.flash_commands.specs.Acts.{IsStoreOf, RefusesFigures}
 
 -- The first bytes

@@ -4,12 +4,12 @@ use Rattle.std.specs.Io.KnownBytes.{Appends}
 use Rattle.slot_types.specs.declared.plans.DiePlan.{DiePlan}
 use Rattle.slot_types.specs.declared.refusals.Refusal.{Refusal}
 use Rattle.slot_types.specs.declared.refusals.Refusal.TheVariants.{WriteFault}
-use Rattle.task_script.specs.PlanText.{plan_of}
-use Rattle.task_script.specs.Readings.{IsOutside}
-use Rattle.task_script.specs.ReportOf.{report_of}
-use Rattle.task_script.specs.Stores.{IsStore, RefusesPlan}
-use Rattle.task_script.specs.declared.plan_texts.PlanNumbers.{PlanNumbers}
-use Rattle.task_script.specs.declared.reports.DieReport.{DieReport}
+use Rattle.task_texts.specs.PlanText.{plan_of}
+use Rattle.task_texts.specs.Readings.{IsOutside}
+use Rattle.task_texts.specs.ReportOf.{report_of}
+use Rattle.task_texts.specs.Stores.{IsStore, RefusesPlan}
+use Rattle.task_texts.specs.declared.plan_texts.PlanNumbers.{PlanNumbers}
+use Rattle.task_texts.specs.declared.reports.DieReport.{DieReport}
 use Rattle.flash_commands.specs.Audit.{audit_status, audit_text}
 use Rattle.flash_commands.specs.Figures.{plan_text}
 use Rattle.task_script.specs.TextRuns.{RefusesText, RunsText}

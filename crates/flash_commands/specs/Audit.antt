@@ -7,9 +7,9 @@ use Rattle.late_cert.specs.Schedule.{lateness_of}
 use Rattle.late_cert.specs.Verdict.{fault_number, is_holds, name_of}
 use Rattle.late_cert.specs.declared.certificates.Certificate.{Certificate}
 use Rattle.late_cert.specs.declared.verdicts.Verdict.{Verdict}
-use Rattle.task_script.specs.JobRows.{job_rows_of}
-use Rattle.task_script.specs.declared.reports.DieReport.{DieReport}
-use Rattle.task_script.specs.declared.reports.ReportRow.{ReportRow}
+use Rattle.task_texts.specs.JobRows.{job_rows_of}
+use Rattle.task_texts.specs.declared.reports.DieReport.{DieReport}
+use Rattle.task_texts.specs.declared.reports.ReportRow.{ReportRow}
 
 -- the verdict on a certificate, by the rows that its die has in the report
 abbrev pub verdict_on : List ReportRow → Certificate → Verdict

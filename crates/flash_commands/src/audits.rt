@@ -2,7 +2,7 @@
 
 ghost use Rattle.std.specs.Prelude.{◌≡◌, ◌++◌, ◌∷◌, [], codes, decimal, IfOk, IfErr, OnOk, Some, None};
 ghost use Rattle.std.specs.List.{list_any};
-ghost use Rattle.task_script.specs.Numbered.{AreNumbered, IsNumbered};
+ghost use Rattle.task_texts.specs.Numbered.{AreNumbered, IsNumbered};
 ghost use Rattle.flash_commands.specs.Audit.{audit_text, cert_line, die_line, is_refused, refuses, verdict_on, verdict_text, worst_text};
 
 use late_cert::{Certificate, Verdict, check, lateness};

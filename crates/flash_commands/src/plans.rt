@@ -1,7 +1,7 @@
 //! Plans that are read.
 
 ghost use Rattle.std.specs.Prelude.{◌≡◌, ◌≤◌, IfOk, IfErr, IfSome, length, take};
-ghost use Rattle.task_script.specs.Readings.{IsOutside};
+ghost use Rattle.task_texts.specs.Readings.{IsOutside};
 ghost use Rattle.flash_commands.specs.Acts.{IsStoreOf, RefusesFigures};
 ghost use Rattle.flash_commands.specs.Figures.{AllMeetBound};
 

@@ -6,11 +6,12 @@ use Rattle.std.proofs.lemmas.List.{append-nil, length-set, length-replicate, get
 use Rattle.std.proofs.lemmas.List.Elements.{All-get_or, All-nil, All-push, All-replicate, All-set, filter-append}
 use Rattle.std.proofs.Math.ListN.{set}
 use Rattle.slot_types.specs.declared.refusals.Refusal.{Refusal}
-use Rattle.task_script.specs.AskedPages.{RowHasPages, RowsHavePages}
-use Rattle.task_script.specs.Feeds.{Arrives, IsRowFor, AllArrive, feed_of, IsDealt, AreFeedsOf, RefusesScript, with_items, IsReadTo, HasDealt}
-use Rattle.task_script.specs.Readings.{IsOutside}
-use Rattle.task_script.specs.Script.{Script, Yields, script_of, with_front}
-use Rattle.task_script.specs.declared.items.ScriptItem.{ScriptItem}
+use Rattle.task_texts.specs.AskedPages.{RowHasPages, RowsHavePages}
+use Rattle.task_texts.specs.Arrivals.{Arrives, IsRowFor}
+use Rattle.task_texts.specs.Readings.{IsOutside}
+use Rattle.task_texts.specs.Script.{Script, Yields, script_of, with_front}
+use Rattle.task_texts.specs.declared.items.ScriptItem.{ScriptItem}
+use Rattle.task_script.specs.Feeds.{AllArrive, feed_of, IsDealt, AreFeedsOf, RefusesScript, with_items, IsReadTo, HasDealt}
 
 -- Feeds
 

@@ -29,8 +29,9 @@ use Rattle.die_log.proofs.Legal.Exact.{stands_well}
 use Rattle.die_log.proofs.Standing.Longer.{number_at, stands_at}
 use Rattle.die_log.proofs.Tokens.Whole.{all_known}
 use Rattle.slot_core.specs.Records.{reads_of}
-use Rattle.task_script.specs.AskedPages.{EntryHasPages, HasPages, WritesPage}
-use Rattle.task_script.specs.WellFormed.{IsPage}
+use Rattle.task_texts.specs.AskedPages.{WritesPage}
+use Rattle.task_texts.specs.WellFormed.{IsPage}
+use Rattle.task_script.specs.LogPages.{EntryHasPages, HasPages}
 
 -- Lists
 

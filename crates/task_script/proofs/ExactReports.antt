@@ -20,20 +20,20 @@ use Rattle.die_log.proofs.Limits.{few_work, keeps_limits}
 use Rattle.slot_core.specs.declared.outcomes.JobHead.{JobHead}
 use Rattle.slot_core.specs.Outcomes.{outcome_by}
 use Rattle.slot_core.specs.Records.{given, reads_of, waiver_among}
-use Rattle.task_script.specs.AskedPages.{HasPages}
+use Rattle.task_texts.specs.ReportRows.{has_outcome, is_done as is_done_row, is_late, is_placed, is_sound, is_timed}
+use Rattle.task_texts.specs.WellFormed.{AreDies, AreRows, IsDie, IsPage, IsReport, IsRow, on_die}
+use Rattle.task_texts.specs.declared.report_rows.DieRow.{DieRow}
+use Rattle.task_texts.specs.declared.reports.DieReport.{DieReport}
+use Rattle.task_texts.specs.declared.reports.ReportRow.{ReportRow}
+use Rattle.task_texts.proofs.RowsBack.{HasNumbers}
+use Rattle.task_script.specs.LogPages.{HasPages}
 use Rattle.task_script.specs.DieReports.{die_report_of, report_row_of, report_rows_of, row_as}
 use Rattle.task_script.specs.DieRuns.{DieRun}
 use Rattle.task_script.specs.ExactRuns.{AreExact}
-use Rattle.task_script.specs.ReportRows.{has_outcome, is_done as is_done_row, is_late, is_placed, is_sound, is_timed}
 use Rattle.task_script.specs.TextRuns.{reports_from}
-use Rattle.task_script.specs.WellFormed.{AreDies, AreRows, IsDie, IsPage, IsReport, IsRow, on_die}
-use Rattle.task_script.specs.declared.report_rows.DieRow.{DieRow}
-use Rattle.task_script.specs.declared.reports.DieReport.{DieReport}
-use Rattle.task_script.specs.declared.reports.ReportRow.{ReportRow}
 use Rattle.task_script.proofs.ExactNumbers.{completed_by_now, done_gives_few, done_worked, few_reads, waived_gives_few}
 use Rattle.task_script.proofs.ExactPages.{collections_read_nothing, reads_are_pages}
 use Rattle.task_script.proofs.ExactWorst.{contained_all, has_cert, number_small}
-use Rattle.task_script.proofs.RowsBack.{HasNumbers}
 
 -- Rows
 

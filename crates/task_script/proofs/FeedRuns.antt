@@ -1,5 +1,5 @@
 -- A die behind its lock that was asked for the events of its feed and for slots ran its rows and slots.
-use Rattle.std.proofs.Common.{◌≡◌, ℕ, zero, suc, ◌+◌, ◌≤◌, Bool, true, false, cond, List, [], ◌∷◌, ◌++◌, refl, ap, sym, ◌∙◌, subst, length, map, take, drop, append_assoc, arith, inl, inr, Option, None, Some, Result, Ok, Err, All}
+use Rattle.std.proofs.Common.{◌≡◌, ℕ, zero, suc, ◌+◌, ◌≤◌, Bool, cond, List, [], ◌∷◌, ◌++◌, refl, ap, sym, ◌∙◌, subst, length, map, take, drop, append_assoc, arith, inl, inr, Option, None, Some, Result, Ok, Err, All}
 use Rattle.std.proofs.lemmas.Bool.{eq-eqb, ne_eqb, le-leb}
 use Rattle.std.specs.List.{prefix_len}
 use Rattle.std.proofs.lemmas.List.{append-nil, take-append-drop, take-map, drop-map}
@@ -27,7 +27,7 @@ use Rattle.die_service.specs.declared.feeds.Arrival.{Arrival}
 use Rattle.die_service.specs.declared.refused.RefusedAt.{RefusedAt}
 use Rattle.die_service.specs.Runs as feed
 use Rattle.die_service.specs.Runs.{Said, said, IsArrival, AreAsked, InClockOrder, noted, place_behind, refused_from, stop_of}
-use Rattle.task_script.specs.declared.items.ScriptItem.{ScriptItem}
+use Rattle.task_texts.specs.declared.items.ScriptItem.{ScriptItem}
 use Rattle.task_script.specs.declared.run_counts.RowEnd.{RowEnd}
 use Rattle.task_script.specs.DieRuns.{Call, Row, Slot, DieRun, Accepts, Ends, Runs, run_at, end_of, is_due, due_by, later_than, calls_from}
 use Rattle.task_script.specs.RowEnds.{arrival_of, arrivals_of, lines_of, row_end, ends_from}

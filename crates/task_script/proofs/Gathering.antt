@@ -12,18 +12,18 @@ use Rattle.slot_types.specs.declared.refusals.Refusal.TheVariants.{NoMemory}
 use Rattle.slot_core.specs.Core.{Core}
 use Rattle.die_service.specs.declared.ends.DieEnd.{DieEnd}
 use Rattle.die_service.specs.declared.ends.RefusedEvent.{RefusedEvent}
-use Rattle.task_script.specs.AskedPages.{RowsHavePages}
+use Rattle.task_texts.specs.AskedPages.{RowsHavePages}
+use Rattle.task_texts.specs.ReportText.{report_text}
+use Rattle.task_texts.specs.declared.items.ScriptItem.{ScriptItem}
+use Rattle.task_texts.specs.declared.reports.DieReport.{DieReport}
 use Rattle.task_script.specs.DieReports.{die_report_of}
 use Rattle.task_script.specs.DieRuns.{DieRun, IsRun, run_at}
 use Rattle.task_script.specs.Feeds.{AllArrive, AreFeedsOf, feed_of}
-use Rattle.task_script.specs.ReportText.{report_text}
 use Rattle.task_script.specs.RunCounts.{count_of}
 use Rattle.task_script.specs.TextRuns.{AreRuns, HaveRun, RunsText, ends_of, feed_at, reports_from, with_rows}
 use Rattle.task_script.specs.RowEnds.{arrivals_of, lines_of, ends_from, row_end, taken_at}
 use Rattle.task_script.specs.StoreRuns.{RanFeeds, reports_of, all_ends}
 use Rattle.task_script.proofs.ClosedRuns.{die_plan, closed_run, closed_stop}
-use Rattle.task_script.specs.declared.items.ScriptItem.{ScriptItem}
-use Rattle.task_script.specs.declared.reports.DieReport.{DieReport}
 use Rattle.task_script.specs.declared.run_counts.RowEnd.{RowEnd}
 use Rattle.task_script.specs.declared.run_counts.RunCount.{RunCount}
 

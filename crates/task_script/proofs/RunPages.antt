@@ -1,5 +1,5 @@
 -- The jobs of a run are asked to write what its rows say.
-use Rattle.std.proofs.Common.{ℕ, zero, suc, ◌+◌, ◌<◌, length, arith, Bool, true, false, cond, List, [], ◌∷◌, Option, Some, None, sym, subst, map}
+use Rattle.std.proofs.Common.{ℕ, zero, suc, ◌+◌, ◌<◌, length, arith, List, [], ◌∷◌, Option, Some, None, sym, subst, map}
 use Rattle.std.specs.Prelude.{All}
 use Rattle.std.specs.List.{AllByRecursion, prefix_len}
 use Rattle.std.proofs.lemmas.List.Elements.{All-from_recursion, All-take, All-drop, recursion_from_All}
@@ -9,11 +9,12 @@ use Rattle.slot_types.specs.declared.events.Event.{Event}
 use Rattle.slot_types.specs.declared.refusals.Refusal.{Refusal}
 use Rattle.die_log.specs.Log.{Log}
 use Rattle.die_log.proofs.Known.{all_append}
-use Rattle.task_script.specs.AskedPages.{AsksPages, EntryHasPages, HasPages, RowHasPages, RowsHavePages}
+use Rattle.task_texts.specs.AskedPages.{AsksPages, RowHasPages, RowsHavePages}
+use Rattle.task_texts.specs.declared.items.ScriptItem.{ScriptItem}
+use Rattle.task_script.specs.LogPages.{EntryHasPages, HasPages}
 use Rattle.task_script.specs.DieRuns.{Call, Row, Slot, DieRun, Ends, IsRun, IsStep, Runs, calls_from, due_by, fresh_run, is_due, later_than}
 use Rattle.task_script.specs.ExactRuns.{AreExact}
 use Rattle.task_script.specs.TextRuns.{AreRuns}
-use Rattle.task_script.specs.declared.items.ScriptItem.{ScriptItem}
 use Rattle.task_script.proofs.ExactPages.{AreAsked}
 
 abbrev CallHasPages : Call → Type 0

@@ -3,7 +3,7 @@ use Rattle.std.specs.Prelude.{⊤, List, [], ◌∷◌}
 use Rattle.plan_rules.specs.Bound.{MeetsBound}
 use Rattle.slot_types.specs.declared.plans.DiePlan.{DiePlan}
 use Rattle.die_log.specs.Answers.{IsExact}
-use Rattle.task_script.specs.AskedPages.{HasPages}
+use Rattle.task_script.specs.LogPages.{HasPages}
 use Rattle.task_script.specs.DieRuns.{DieRun}
 
 -- by die, an exact log of a plan within its bound, whose jobs were asked to write pages

@@ -1,20 +1,13 @@
 -- The rows of a script, by die.
-use Rattle.std.specs.Prelude.{◌≡◌, ◌==◌, ◌⊎◌, ⊤, ℕ, ◌<◌, ◌≤◌, List, [], ◌++◌, All, filter, length, get_or, Option, Some, None, IfSome, Ok, Err}
-use Rattle.die_service.specs.Runs.{IsArrival}
+use Rattle.std.specs.Prelude.{◌≡◌, ◌==◌, ◌⊎◌, ⊤, ℕ, ◌<◌, List, [], ◌++◌, All, filter, length, get_or, Option, Some, None, IfSome, Ok, Err}
 use Rattle.slot_types.specs.declared.refusals.Refusal.{Refusal}
-use Rattle.task_script.specs.AskedPages.{RowsHavePages}
-use Rattle.task_script.specs.Readings.{IsOutside}
-use Rattle.task_script.specs.Script.{Script, script_of}
-use Rattle.task_script.specs.declared.items.ScriptItem.{ScriptItem}
+use Rattle.task_texts.specs.Arrivals.{Arrives}
+use Rattle.task_texts.specs.AskedPages.{RowsHavePages}
+use Rattle.task_texts.specs.Readings.{IsOutside}
+use Rattle.task_texts.specs.Script.{Script, script_of}
+use Rattle.task_texts.specs.declared.items.ScriptItem.{ScriptItem}
 
--- what a row asks: any event but a slot, by the end of so many slots
-abbrev pub Arrives : ℕ → ScriptItem → Type 0
-Arrives slots item = (item.at ≤ slots) × IsArrival item.event
-
--- a row for one of so many dies
-abbrev pub IsRowFor : ℕ → ℕ → ScriptItem → Type 0
-IsRowFor dies slots item = (item.die < dies) × Arrives slots item
-
+-- so do all of these rows: each asks for any event but a slot, by the end of so many slots
 abbrev pub AllArrive : ℕ → List ScriptItem → Type 0
 AllArrive slots items = All (Arrives slots) items
 

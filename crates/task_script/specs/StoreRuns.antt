@@ -7,10 +7,10 @@ use Rattle.die_service.specs.declared.ends.DieEnd.{DieEnd}
 use Rattle.die_service.specs.declared.feeds.Arrival.{Arrival}
 use Rattle.die_service.specs.Runs.{HasRun}
 use Rattle.die_service.specs.Stores.{DiePass, IsClosed}
+use Rattle.task_texts.specs.declared.reports.DieReport.{DieReport}
 use Rattle.task_script.specs.DieReports.{die_report_of}
 use Rattle.task_script.specs.RowEnds.{ends_from}
 use Rattle.task_script.specs.TextRuns.{with_rows}
-use Rattle.task_script.specs.declared.reports.DieReport.{DieReport}
 use Rattle.task_script.specs.declared.run_counts.RowEnd.{RowEnd}
 
 -- the first pass of a fresh die, whose device never fails, ran its feed, and the die was closed with it

@@ -4,14 +4,14 @@ use Rattle.std.specs.Io.KnownBytes.{Appends}
 use Rattle.slot_types.specs.declared.plans.DiePlan.{DiePlan}
 use Rattle.slot_types.specs.declared.refusals.Refusal.{Refusal}
 use Rattle.slot_types.specs.declared.refusals.Refusal.TheVariants.{WriteFault}
-use Rattle.task_script.specs.AskedPages.{RowsHavePages}
+use Rattle.task_texts.specs.AskedPages.{RowsHavePages}
+use Rattle.task_texts.specs.ReportText.{report_text}
+use Rattle.task_texts.specs.declared.items.ScriptItem.{ScriptItem}
+use Rattle.task_texts.specs.declared.reports.DieReport.{DieReport}
 use Rattle.task_script.specs.DieReports.{die_report_of}
 use Rattle.task_script.specs.DieRuns.{DieRun, IsRun}
 use Rattle.task_script.specs.Feeds.{AreItemsOf, RefusesScript, feed_of}
-use Rattle.task_script.specs.ReportText.{report_text}
 use Rattle.task_script.specs.RunCounts.{count_of}
-use Rattle.task_script.specs.declared.items.ScriptItem.{ScriptItem}
-use Rattle.task_script.specs.declared.reports.DieReport.{DieReport}
 use Rattle.task_script.specs.declared.run_counts.RowEnd.{RowEnd}
 use Rattle.task_script.specs.declared.run_counts.RunCount.{RunCount}
 

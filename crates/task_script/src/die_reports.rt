@@ -4,13 +4,13 @@ ghost use Rattle.std.specs.Prelude.{◌≡◌, IfOk, IfErr, Some, None};
 ghost use Rattle.die_log.specs.Rows.{rows};
 ghost use Rattle.task_script.specs.DieReports.{die_report_of, report_rows_of, row_as, kind_of, given_by, own_work, rows_behind};
 
-use crate::reports::{DieReport, ReportRow, ReportRows, RowKind};
 use die_log::exact_keeps_limits;
 use flash_die::Nand;
 use late_cert::JobRow;
 use slot_core::{DieCore, JobHead, Outcome};
 use slot_types::{JobNo, MAX_JOBS, Reads, Refusal};
 use std::alloc::Global;
+use task_texts::{DieReport, ReportRow, ReportRows, RowKind};
 
 /// What a row is about that wasn't waived.
 fn kind_of(collects: bool) -> RowKind

@@ -3,11 +3,10 @@
 ghost use Rattle.std.specs.Prelude.{◌≡◌, ◌∷◌, ◌++◌, [], length, replicate, IfOk, IfErr, OnOk};
 ghost use Rattle.task_script.specs.Feeds.{AreFeedsOf, RefusesScript};
 
-use crate::items::ScriptItem;
-use crate::scripts::ScriptReader;
 use slot_types::{Items, Refusal, StorePlan};
 use std::alloc::Global;
 use std::io::Read;
+use task_texts::{ScriptItem, ScriptReader};
 
 /// The rows of a die, in their order.
 pub type DieRows = Items<ScriptItem>;

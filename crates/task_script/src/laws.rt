@@ -1,25 +1,18 @@
-//! What holds of the texts themselves.
+//! What holds of the reports of exact logs, and of runs.
 
 ghost use Rattle.std.specs.Prelude.{◌≡◌, ◌≤◌, ℕ, List, Option, All, Ok, length};
 ghost use Rattle.plan_rules.specs.Bound.{MeetsBound};
 ghost use Rattle.slot_types.specs.declared.plans.DiePlan.{DiePlan};
+ghost use Rattle.task_texts.specs.ReportOf.{report_of};
+ghost use Rattle.task_texts.specs.ReportText.{report_text};
+ghost use Rattle.task_texts.specs.WellFormed.{IsReport};
 ghost use Rattle.task_script.specs.DieRuns.{DieRun};
 ghost use Rattle.task_script.specs.ExactRuns.{AreExact};
-ghost use Rattle.task_script.specs.ReportOf.{report_of};
-ghost use Rattle.task_script.specs.ReportText.{report_text};
 ghost use Rattle.task_script.specs.TextRuns.{RunsText, reports_from};
-ghost use Rattle.task_script.specs.WellFormed.{IsReport};
-ghost use Rattle.task_script.specs.declared.reports.DieReport.{DieReport};
 ghost use Rattle.task_script.specs.declared.run_counts.RunCount.{RunCount};
 
-/// The text of a report reads as the report: whatever is written of a report that meets the conditions of reading is
-/// read back the same.
-pub fn reports_come_back()
-    ensures { (report : List DieReport) → IsReport report → report_of (report_text report) ≡ Ok report }
-{}
-
-/// The report of the exact logs of at most eight dies meets those conditions, so it is read back from its text. The plan
-/// of each die meets its bound, and its jobs were asked to write pages of sixteen bytes.
+/// The report of the exact logs of at most eight dies meets the conditions of reading, so it is read back from its text.
+/// The plan of each die meets its bound, and its jobs were asked to write pages of sixteen bytes.
 pub fn exact_reports_come_back()
     ensures formed { (plans : List DiePlan) (runs : List DieRun) → length plans ≤ 8 → AreExact plans runs → IsReport (reports_from 0 plans runs) }
     ensures read { (plans : List DiePlan) (runs : List DieRun) → length plans ≤ 8 → AreExact plans runs → report_of (report_text (reports_from 0 plans runs)) ≡ Ok (reports_from 0 plans runs) }

@@ -10,8 +10,6 @@ ghost use Rattle.task_script.specs.TextRuns.{HaveRun, RefusesText, RunsText, wit
 use crate::die_reports::die_report;
 use crate::die_runs::{Lines, run_store, split_all};
 use crate::feeds::{DieRows, read_feeds};
-use crate::report_texts::write_report;
-use crate::reports::{DieReport, Report};
 use crate::run_counts::{RowEnd, RowEnds, RunCount, count};
 use die_service::{DieEnd, RefusedEvent};
 use flash_die::MemoryNand;
@@ -21,6 +19,7 @@ use std::alloc::Global;
 use std::io::{Read, Write};
 use std::sync::Wait;
 use std::thread::Threads;
+use task_texts::{DieReport, Report, write_report};
 
 /// Dies that carried out their slots: their report, and what became of their rows.
 #[derive(Drop)]

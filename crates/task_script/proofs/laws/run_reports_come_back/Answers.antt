@@ -1,5 +1,5 @@
 use Rattle.task_script.specs.Feeds.{feed_of}
-use Rattle.task_script.proofs.ReportsBack.{exact_back}
+use Rattle.task_script.proofs.ExactBack.{exact_back}
 use Rattle.task_script.proofs.RunPages.{runs_are_exact}
 use Rattle.task_script.proofs.laws.run_reports_come_back.Goals as goal
 

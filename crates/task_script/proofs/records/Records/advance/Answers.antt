@@ -1,5 +1,0 @@
-use Rattle.task_script.proofs.RecordLaws.{hand-lost}
-use Rattle.task_script.proofs.records.Records.advance.Goals as goal
-
-pub returns-clause-next : goal.returns-clause-next
-returns-clause-next g c = hand-lost _ _ _ _ _ _ c.requires.found c.in_ok-self.ensures.takes

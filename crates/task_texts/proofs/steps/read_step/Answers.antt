@@ -1,0 +1,11 @@
+use Rattle.std.proofs.Common.{rules}
+use Rattle.task_texts.proofs.StepLaws.{step-one, step-more}
+use Rattle.task_texts.proofs.steps.read_step.Goals as goal
+
+pub returns-then-line-eq1-clause-step : goal.returns-then-line-eq1-clause-step
+returns-then-line-eq1-clause-step g c =
+    step-one c.args.slots c.args.lasts.now c.args.line _ _ c.read_first.result (search rules) c.read_first.ensures.step
+
+pub returns-else-line-eq1-clause-step : goal.returns-else-line-eq1-clause-step
+returns-else-line-eq1-clause-step g c =
+    step-more c.args.slots c.args.lasts.now c.args.line _ _ c.read_item.result (search rules) c.requires.counted c.read_item.ensures.step

@@ -1,0 +1,11 @@
+use Rattle.std.proofs.Common.{◌≡◌, ℕ, ◌<◌, map}
+use Rattle.std.specs.List.{range_with_len}
+use Rattle.plan_rules.specs.Bound.{MeetsBound}
+use Rattle.task_texts.specs.Stores.{die_of}
+use Rattle.task_texts.proofs.stores.bound_dies.Given as goal
+
+abbrev pub invariant-loop-die : goal.invariant-loop-die
+invariant-loop-die l = record {
+  made : l.store ≡ map (die_of l.plan) (range_with_len 0 l.die);
+  bound : (d : ℕ) → d < l.die → MeetsBound (die_of l.plan d);
+}

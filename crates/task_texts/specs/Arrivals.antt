@@ -1,0 +1,18 @@
+-- What the rows of a script ask.
+use Rattle.std.specs.Prelude.{ℕ, ◌<◌, ◌≤◌}
+use Rattle.slot_types.specs.declared.events.Event.{Event}
+use Rattle.slot_types.specs.declared.events.Event.TheVariants as events
+use Rattle.task_texts.specs.declared.items.ScriptItem.{ScriptItem}
+
+-- any event but a slot
+abbrev pub IsArrival : Event → Type 0
+IsArrival events.Slot = ⊥
+IsArrival _ = Unit {0}
+
+-- what a row asks: any event but a slot, by the end of so many slots
+abbrev pub Arrives : ℕ → ScriptItem → Type 0
+Arrives slots item = (item.at ≤ slots) × IsArrival item.event
+
+-- a row for one of so many dies
+abbrev pub IsRowFor : ℕ → ℕ → ScriptItem → Type 0
+IsRowFor dies slots item = (item.die < dies) × Arrives slots item

@@ -1,0 +1,13 @@
+-- What a bounded reader has left.
+use Rattle.std.specs.Prelude.{ℕ, List, [], ◌∷◌, Option, Some, None, if◌then◌else◌}
+use Rattle.std.specs.Io.KnownBytes.{prepend_known}
+use Rattle.task_texts.specs.declared.bounded.Bounded.{Bounded}
+
+-- the byte that was read past the bound, which is not given
+abbrev pub kept_bytes : Option ℕ → List ℕ
+kept_bytes None = []
+kept_bytes (Some b) = b ∷ []
+
+-- the bytes that a bounded reader has left, where they are known
+abbrev pub bounded_remaining : {R : Type 0} → (R → Option (List ℕ)) → Bounded R → Option (List ℕ)
+bounded_remaining rem b = if b.ended then Some [] else prepend_known (kept_bytes b.past) (rem b.inner)

@@ -1,0 +1,81 @@
+-- The numbers of a plan's text, or the first fault of the text.
+use Rattle.std.specs.Prelude.{ℕ, nat_lt, ◌==◌, ◌&&◌, is_some, Bool, true, List, [], ◌∷◌, ◌++◌, length, codes, Option, Some, None, option_and_then, Result, Ok, if◌then◌else◌}
+use Rattle.std.specs.Str.{is_utf8}
+use Rattle.toml.specs.Data.{Items, no_items, item, Members, get_member, as_array, as_table}
+use Rattle.toml.specs.Parse.{parse_document}
+use Rattle.slot_types.specs.declared.refusals.Cause.TheVariants as cause
+use Rattle.slot_types.specs.declared.refusals.Refusal.{Refusal}
+use Rattle.task_texts.specs.Readings.{◌>>=◌}
+use Rattle.task_texts.specs.Tables.{checked_keys, fault, has_only, has_task_keys, has_top_keys, is_task_key, is_top_key, number_at, or_fault}
+use Rattle.task_texts.specs.declared.plan_texts.PlanNumbers.{PlanNumbers}
+use Rattle.task_texts.specs.declared.plan_texts.TaskNumbers.{TaskNumbers}
+use Rattle.task_texts.specs.declared.plan_texts.TopNumbers.{TopNumbers}
+
+-- the numbers of the top table
+unfoldable pub top_of : Members → Result TopNumbers Refusal
+top_of ms = do
+  keys ← checked_keys (has_only is_top_key ms) (has_top_keys ms)
+  version ← number_at ms (codes "version")
+  dies ← number_at ms (codes "dies")
+  blocks ← number_at ms (codes "blocks")
+  pages ← number_at ms (codes "pages")
+  erase_slots ← number_at ms (codes "erase_slots")
+  logical ← number_at ms (codes "logical")
+  alpha ← number_at ms (codes "alpha")
+  Ok (record { version = version; dies = dies; blocks = blocks; pages = pages; erase_slots = erase_slots; logical = logical; alpha = alpha })
+
+-- the numbers of a task
+unfoldable pub task_of : Members → Result TaskNumbers Refusal
+task_of ms = do
+  keys ← checked_keys (has_only is_task_key ms) (has_task_keys ms)
+  die ← number_at ms (codes "die")
+  cap ← number_at ms (codes "cap")
+  Ok (record { die = die; cap = cap })
+
+abbrev pub task_in : Option Members → Result TaskNumbers Refusal
+task_in None = fault cause.WrongKind
+task_in (Some ms) = task_of ms
+
+-- the numbers of the tasks, in their order
+unfoldable pub tasks_of : Items → Result (List TaskNumbers) Refusal
+tasks_of no_items = Ok []
+tasks_of (item d ds) = do
+  t ← task_in (as_table d)
+  ts ← tasks_of ds
+  Ok (t ∷ ts)
+
+-- whether all items are tables
+unfoldable pub are_tables : Items → Bool
+are_tables no_items = true
+are_tables (item d ds) = is_some (as_table d) && are_tables ds
+
+-- an array of tables
+abbrev pub tables_or : Option Items → Result Items Refusal
+tables_or None = fault cause.WrongKind
+tables_or (Some ds) = if are_tables ds then Ok ds else fault cause.WrongKind
+
+-- the numbers of these, where the version is known
+abbrev pub versioned : Bool → TopNumbers → Result (List TaskNumbers) Refusal → Result PlanNumbers Refusal
+versioned known top read = if known then (read >>= (λ tasks. Ok (record { top = top; tasks = tasks }))) else fault cause.BadVersion
+
+-- the numbers of a plan's table: the top table is judged first, then the version, then each task
+unfoldable pub numbers_of : Members → Result PlanNumbers Refusal
+numbers_of ms = do
+  top ← top_of ms
+  tables ← tables_or (option_and_then as_array (get_member (codes "task") ms))
+  versioned (top.version == 1) top (tasks_of tables)
+
+-- the table of a text
+abbrev pub table_of : List ℕ → Result Members Refusal
+table_of text =
+    if nat_lt 1048576 (length text) then fault cause.TooLong
+    else if is_utf8 text then or_fault cause.NotToml (parse_document text)
+    else fault cause.NotToml
+
+-- the numbers of a plan's text, or its first fault
+abbrev pub plan_of : List ℕ → Result PlanNumbers Refusal
+plan_of text = table_of text >>= numbers_of
+
+-- these, and then those that are read
+abbrev pub with_front : List TaskNumbers → Result (List TaskNumbers) Refusal → Result (List TaskNumbers) Refusal
+with_front front read = read >>= (λ more. Ok (front ++ more))

@@ -1,0 +1,31 @@
+//! Plans, scripts and reports as texts: their readers and writers.
+#![tactic(auto)]
+
+mod bounded;
+mod gathered;
+mod items;
+mod laws;
+mod numbers;
+mod ops;
+mod plan_texts;
+mod records;
+mod report_certs;
+mod report_reading;
+mod report_rows;
+mod report_texts;
+mod reports;
+mod rows;
+mod scripts;
+mod steps;
+mod stores;
+mod tables;
+mod words;
+
+pub use items::ScriptItem;
+pub use laws::reports_come_back;
+pub use numbers::number;
+pub use report_reading::read_report;
+pub use report_texts::write_report;
+pub use reports::{DieReport, Report, ReportRow, ReportRows, RowKind};
+pub use scripts::ScriptReader;
+pub use stores::read_plan;

@@ -1,0 +1,82 @@
+//! Reports: what became of the jobs and collections of each die.
+
+ghost use Rattle.std.specs.Prelude.{◌≡◌, IfOk, IfErr};
+ghost use Rattle.late_cert.specs.Rows.{RowsRise};
+ghost use Rattle.task_texts.specs.JobRows.{job_rows_of};
+ghost use Rattle.task_texts.specs.Numbered.{IsNumbered};
+
+use late_cert::{Certificate, JobRow, JobRows};
+use slot_types::{Items, JobNo, Reads, Refusal, TaskNo};
+use std::alloc::Global;
+
+/// What a row of a report is about.
+#[derive(Clone, Copy, PartialEq, Eq, Debug, Drop)]
+pub enum RowKind {
+    /// A job.
+    Job,
+    /// A collection that was not waived.
+    Collect,
+    /// A collection that was waived.
+    Waived,
+}
+
+/// What became of a job or of a collection. Slots are counted from 0.
+#[derive(Clone, PartialEq, Eq, Debug, Drop)]
+pub struct ReportRow {
+    pub row: RowKind,
+    /// The number of the job or collection on its die.
+    pub job: JobNo,
+    pub task: TaskNo,
+    pub release: u32,
+    pub due: u32,
+    /// How many slots carried it.
+    pub work: u32,
+    /// One more than the last slot that carried it, once it is done.
+    pub completion: Option<u32>,
+    /// How many slots the completion comes after the due, negative where it comes before.
+    pub lateness: Option<i64>,
+    /// The pages that a done or a waived collection gave its task.
+    pub given: Option<u32>,
+    /// What the reads of a done job gave, in their order.
+    pub reads: Reads,
+}
+
+/// The rows of a die, by number.
+pub type ReportRows = Items<ReportRow>;
+
+/// What became of a die's jobs and collections, and the certificate of its worst lateness.
+#[derive(Clone, PartialEq, Eq, Debug, Drop)]
+pub struct DieReport {
+    pub die: u32,
+    pub rows: ReportRows,
+    /// The certificate of the worst job, where something is done.
+    pub cert: Option<Certificate>,
+}
+
+/// The dies that have rows, by number.
+pub type Report = Items<DieReport>;
+
+impl DieReport {
+    /// The rows that a certificate is checked against: those of jobs and collections, without the waived ones, in
+    /// their order. They rise by number where the die's rows are numbered from 0, as those of a report that was read
+    /// are. The only refusal is NoMemory.
+    pub fn job_rows(&self, alloc: Global) -> Result<JobRows, Refusal>
+        ensures rows { IfOk result (λ rows. rows ≡ job_rows_of self.now.rows) }
+        ensures rise { IsNumbered self.now.rows → IfOk result RowsRise }
+        ensures refused { IfErr result (λ refusal. refusal ≡ Refusal.NoMemory) }
+    {
+        let mut rows = JobRows::new(alloc);
+        for row in self.rows.as_slice() {
+            if row.row != RowKind::Waived {
+                rows.push(JobRow {
+                    number: row.job,
+                    release: row.release,
+                    due: row.due,
+                    work: row.work,
+                    completion: row.completion,
+                })?;
+            }
+        }
+        Ok(rows)
+    }
+}

@@ -1,0 +1,93 @@
+//! The records of a text, by csv's defaults.
+
+ghost use Rattle.std.specs.Prelude.{◌≡◌, IfOk, IfErr, option_map};
+ghost use Rattle.csv.specs.Records.{fields_of, field_at};
+ghost use Rattle.task_texts.specs.Header.{has_text, is_report_header, is_script_header};
+ghost use Rattle.task_texts.specs.Items.{field_or};
+ghost use Rattle.task_texts.specs.Plain.{IsPlain};
+ghost use Rattle.task_texts.specs.Readings.{IsOutside};
+ghost use Rattle.task_texts.specs.Rows.{TakesRow, rows_left, rows_of};
+
+use csv::{ByteRecord, ErrorKind, Reader, ReaderBuilder};
+use slot_types::Refusal;
+use std::alloc::Global;
+use std::io::Read;
+
+/// A reader of all records, of any length, the first among them.
+pub fn rows_in<R: Read>(alloc: Global, reader: R) -> Reader<R>
+    ensures plain { IsPlain result }
+    ensures rows { rows_left R.remaining result ≡ option_map rows_of (R.remaining reader) }
+{
+    ReaderBuilder::new()
+        .has_headers(false)
+        .flexible(true)
+        .from_reader(alloc, reader)
+}
+
+/// Takes the next record, if there is one.
+pub fn take_row<R: Read>(rows: &mut Reader<R>, row: &mut ByteRecord) -> Result<bool, Refusal>
+    requires { IsPlain rows.old }
+    ensures takes { IfOk result (λ found. TakesRow (rows_left R.remaining rows.old) (rows_left R.remaining rows.new) found (fields_of row.new)) }
+    ensures plain { IfOk result (λ found. IsPlain rows.new) }
+    ensures outside { IfErr result (λ e. IsOutside e) }
+{
+    match rows.read_byte_record(row) {
+        Ok(found) => Ok(found),
+        Err(e) => match e.kind() {
+            ErrorKind::OutOfMemory => Err(Refusal::NoMemory),
+            _ => Err(Refusal::ReadFault),
+        },
+    }
+}
+
+/// A field of a record; nothing where there is none.
+pub fn field_in(row: &ByteRecord, place: usize) -> &[u8]
+    ensures { result.now ≡ field_or (fields_of row.now) place }
+{
+    match row.get(place) {
+        Some(field) => field,
+        None => b"".as_slice(),
+    }
+}
+
+/// Whether a field of a record is this text.
+pub fn is_named(row: &ByteRecord, place: usize, name: &str) -> bool
+    ensures { result ≡ has_text (field_at (fields_of row.now) place) name.now }
+{
+    match row.get(place) {
+        Some(field) => field == name.as_bytes(),
+        None => false,
+    }
+}
+
+/// Whether a record is the header of a script.
+pub fn heads_script(row: &ByteRecord) -> bool
+    ensures { result ≡ is_script_header (fields_of row.now) }
+{
+    row.len() == 7
+        && is_named(row, 0, "at")
+        && is_named(row, 1, "die")
+        && is_named(row, 2, "task")
+        && is_named(row, 3, "kind")
+        && is_named(row, 4, "release")
+        && is_named(row, 5, "due")
+        && is_named(row, 6, "ops")
+}
+
+/// Whether a record is the header of a report.
+pub fn heads_report(row: &ByteRecord) -> bool
+    ensures { result ≡ is_report_header (fields_of row.now) }
+{
+    row.len() == 11
+        && is_named(row, 0, "row")
+        && is_named(row, 1, "die")
+        && is_named(row, 2, "job")
+        && is_named(row, 3, "task")
+        && is_named(row, 4, "release")
+        && is_named(row, 5, "due")
+        && is_named(row, 6, "work")
+        && is_named(row, 7, "completion")
+        && is_named(row, 8, "lateness")
+        && is_named(row, 9, "given")
+        && is_named(row, 10, "items")
+}

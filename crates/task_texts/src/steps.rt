@@ -1,0 +1,98 @@
+//! The steps of a reader of scripts.
+
+ghost use Rattle.std.specs.Prelude.{◌≡◌, ◌<◌, ◌+◌, ◌≤◌, length, max, IfOk, IfSome};
+ghost use Rattle.task_texts.specs.AskedPages.{RowHasPages};
+ghost use Rattle.task_texts.specs.Arrivals.{Arrives};
+ghost use Rattle.task_texts.specs.Plain.{IsPlain};
+ghost use Rattle.task_texts.specs.Rows.{rows_left};
+ghost use Rattle.task_texts.specs.Script.{StepOf, after_item, items_from, script_at, script_from};
+
+use crate::items::{ScriptItem, item};
+use crate::rows::{heads_script, take_row};
+use csv::{ByteRecord, Reader};
+use slot_types::{Cause, Refusal};
+use std::alloc::Global;
+use std::io::Read;
+
+/// The greatest number of a record.
+const MAX_LINE: u32 = 1_000_001;
+
+/// The item of the next record, which has this number.
+#[tactic(auto, unfolding(crate::specs::Script::items_from))]
+fn read_item<R: Read>(
+    alloc: Global,
+    rows: &mut Reader<R>,
+    row: &mut ByteRecord,
+    slots: u32,
+    lasts: &[u32],
+    line: u32,
+) -> Result<Option<ScriptItem>, Refusal>
+    requires { IsPlain rows.old }
+    ensures step { StepOf (items_from slots lasts.now line) (λ x. items_from slots (after_item lasts.now x) (line + 1)) (rows_left R.remaining rows.old) (rows_left R.remaining rows.new) result }
+    ensures plain { IfOk result (λ _. IsPlain rows.new) }
+    ensures line { IfOk result (λ o. IfSome o (λ _. line ≤ 1000001)) }
+    ensures die { IfOk result (λ o. IfSome o (λ x. x.die < length lasts.now)) }
+    ensures arrives { IfOk result (λ o. IfSome o (Arrives slots)) }
+    ensures pages { IfOk result (λ o. IfSome o RowHasPages) }
+{
+    if !take_row(rows, row)? {
+        return Ok(None);
+    }
+    if line > MAX_LINE {
+        return Err(Refusal::ScriptRow {
+            line,
+            cause: Cause::TooManyRows,
+        });
+    }
+    let item = item(alloc, row, slots, lasts, line)?;
+    Ok(Some(item))
+}
+
+/// The item of the second record, where the first is the header.
+fn read_first<R: Read>(
+    alloc: Global,
+    rows: &mut Reader<R>,
+    row: &mut ByteRecord,
+    slots: u32,
+    lasts: &[u32],
+) -> Result<Option<ScriptItem>, Refusal>
+    requires { IsPlain rows.old }
+    ensures step { StepOf (script_from slots lasts.now) (λ x. items_from slots (after_item lasts.now x) 3) (rows_left R.remaining rows.old) (rows_left R.remaining rows.new) result }
+    ensures plain { IfOk result (λ _. IsPlain rows.new) }
+    ensures die { IfOk result (λ o. IfSome o (λ x. x.die < length lasts.now)) }
+    ensures arrives { IfOk result (λ o. IfSome o (Arrives slots)) }
+    ensures pages { IfOk result (λ o. IfSome o RowHasPages) }
+{
+    if !take_row(rows, row)? || !heads_script(row) {
+        return Err(Refusal::ScriptRow {
+            line: 1,
+            cause: Cause::Header,
+        });
+    }
+    read_item(alloc, rows, row, slots, lasts, 2)
+}
+
+/// The next item, where the next record has this number.
+pub fn read_step<R: Read>(
+    alloc: Global,
+    rows: &mut Reader<R>,
+    row: &mut ByteRecord,
+    slots: u32,
+    lasts: &[u32],
+    line: u32,
+) -> Result<Option<ScriptItem>, Refusal>
+    requires plain { IsPlain rows.old }
+    requires counted { 0 < line }
+    ensures step { StepOf (script_at slots lasts.now line) (λ x. items_from slots (after_item lasts.now x) (max line 2 + 1)) (rows_left R.remaining rows.old) (rows_left R.remaining rows.new) result }
+    ensures plain { IfOk result (λ _. IsPlain rows.new) }
+    ensures line { IfOk result (λ o. IfSome o (λ _. line ≤ 1000001)) }
+    ensures die { IfOk result (λ o. IfSome o (λ x. x.die < length lasts.now)) }
+    ensures arrives { IfOk result (λ o. IfSome o (Arrives slots)) }
+    ensures pages { IfOk result (λ o. IfSome o RowHasPages) }
+{
+    if line == 1 {
+        read_first(alloc, rows, row, slots, lasts)
+    } else {
+        read_item(alloc, rows, row, slots, lasts, line)
+    }
+}
