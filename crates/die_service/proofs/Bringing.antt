@@ -22,7 +22,8 @@ use Rattle.die_log.proofs.Numbered.{slot_is}
 use Rattle.die_service.specs.declared.feeds.Arrival.{Arrival}
 use Rattle.die_service.specs.declared.refused.RefusedAt.{RefusedAt}
 use Rattle.die_service.specs.Passes.{AddsEntry, AddsNone}
-use Rattle.die_service.specs.Runs.{Said, said, IsArrival, is_due, due_by, later_than, AreAsked, place_behind, noted, slots_in, slot_counted, stop_of, stop_or}
+use Rattle.slot_types.specs.Arrivals.{IsArrival}
+use Rattle.die_service.specs.Runs.{Said, said, is_due, due_by, later_than, AreAsked, place_behind, noted, slots_in, slot_counted, stop_of, stop_or}
 use Rattle.die_service.specs.Stores.{DiePass}
 use Rattle.die_service.specs.Drives.{Course, Standing, Asks, IsFit, Comes, NoneDue, BringsOne, Brings, TakesSlot, IsStopped}
 use Rattle.die_service.proofs.Driving.{far_accepts, far_refuses, asks_joins, asks_none, slots_more, stop_more}

@@ -14,7 +14,8 @@ use Rattle.die_service.specs.declared.feeds.Arrival.{Arrival}
 use Rattle.die_service.specs.declared.refused.RefusedAt.{RefusedAt}
 use Rattle.die_service.specs.Passes.{DieView}
 use Rattle.die_service.specs.Replies.{HasExactLog}
-use Rattle.die_service.specs.Runs.{Said, said, IsArrival, due_by, later_than, AreAsked, accepted_by, slots_in, place_behind, refused_from, stop_of, IsReasoned, HasRun}
+use Rattle.slot_types.specs.Arrivals.{IsArrival}
+use Rattle.die_service.specs.Runs.{Said, said, due_by, later_than, AreAsked, accepted_by, slots_in, place_behind, refused_from, stop_of, IsReasoned, HasRun}
 use Rattle.die_service.specs.Stores.{DiePass}
 
 -- The events of a feed that are still to come, how many came, and those of them that were refused

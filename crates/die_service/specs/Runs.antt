@@ -4,6 +4,7 @@ use Rattle.std.specs.List.{prefix_len, take_while}
 use Rattle.slot_types.specs.declared.plans.DiePlan.{DiePlan}
 use Rattle.slot_types.specs.declared.events.Event.{Event}
 use Rattle.slot_types.specs.declared.events.Event.TheVariants as events
+use Rattle.slot_types.specs.Arrivals.{IsArrival}
 use Rattle.slot_types.specs.declared.replies.Reply.{Reply}
 use Rattle.slot_types.specs.declared.replies.Reply.TheVariants as replies
 use Rattle.slot_types.specs.declared.replies.SlotReply.{SlotReply}
@@ -27,11 +28,6 @@ pub record Said : Type 0 where
 
 abbrev pub said : Event → Result Reply RefusedAt → Said
 said event reply = record { event = event; reply = reply }
-
--- any event but a slot
-abbrev pub IsArrival : Event → Type 0
-IsArrival events.Slot = ⊥
-IsArrival _ = Unit {0}
 
 abbrev pub AllArrive : List Arrival → Type 0
 AllArrive feed = All (λ arrival. IsArrival arrival.event) feed

@@ -24,7 +24,7 @@ pub(crate) struct Course {
 impl Model for Course {
     ghost use Rattle.std.specs.Prelude.{◌+◌, ◌≤◌, length, vec_capacity};
     ghost use Rattle.std.specs.List.{AllByRecursion};
-    ghost use Rattle.die_service.specs.Runs.{IsArrival};
+    ghost use Rattle.slot_types.specs.Arrivals.{IsArrival};
     ghost use Rattle.die_service.specs.Drives as drives;
 
     ghost Value = { drives.Course };

@@ -2,7 +2,8 @@
 
 ghost use Rattle.std.specs.Prelude.{◌≡◌, ◌∷◌, [], ◌≤◌, map, All, IfOk};
 ghost use Rattle.flash_die.specs.Flash.{IsFresh};
-ghost use Rattle.die_service.specs.Runs.{IsArrival, AllArrive};
+ghost use Rattle.slot_types.specs.Arrivals.{IsArrival};
+ghost use Rattle.die_service.specs.Runs.{AllArrive};
 
 use crate::held::{HeldNand, HoldGate, Mark};
 use crate::stores::{ONES, SHAPE, both_passes, plan};

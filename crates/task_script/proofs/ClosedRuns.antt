@@ -19,7 +19,8 @@ use Rattle.die_service.specs.declared.feeds.Arrival.{Arrival}
 use Rattle.die_service.specs.declared.refused.RefusedAt.{RefusedAt}
 use Rattle.die_service.specs.Logs.{Call, log_of, calls_of}
 use Rattle.die_service.specs.Replies.{MayRefuse}
-use Rattle.die_service.specs.Runs.{Said, IsArrival, accepted_by}
+use Rattle.slot_types.specs.Arrivals.{IsArrival}
+use Rattle.die_service.specs.Runs.{Said, accepted_by}
 use Rattle.task_texts.specs.declared.items.ScriptItem.{ScriptItem}
 use Rattle.task_texts.specs.Arrivals.{Arrives}
 use Rattle.task_script.specs.DieRuns.{IsRun, Runs, run_at}
@@ -28,7 +29,6 @@ use Rattle.task_script.specs.RowEnds.{arrivals_of, lines_of, ends_from}
 use Rattle.task_script.specs.StoreRuns.{RanFeed}
 use Rattle.task_script.proofs.Transcripts.{AreTold, said_log, told_accepted, own_of_log, front_own}
 use Rattle.task_script.proofs.FeedRuns.{slots_run, slots_stop}
-use Rattle.task_script.proofs.RowArrivals.{row_arrives}
 
 by_log : (plan : DiePlan) (past : Log) (event : Event) (refusal : Refusal) → MayRefuse true plan past event refusal → RefusedBy plan past event refusal
 by_log plan past event refusal (inl h) = h
@@ -79,7 +79,7 @@ module _ {N : Type 0} (slots : ℕ) (plan : DiePlan) (items : List ScriptItem) (
   in_time = All-weaker (Arrives slots) (λ item. item.at ≤ 0 + slots) (λ item h. omega (arith, h.0)) items arrive
 
   no_slot : All (λ item. IsArrival item.event) items
-  no_slot = All-weaker (Arrives slots) (λ item. IsArrival item.event) (λ item h. row_arrives item.event h.1) items arrive
+  no_slot = All-weaker (Arrives slots) (λ item. IsArrival item.event) (λ item h. h.1) items arrive
 
   pub closed_run : end.stop ≡ None → IsRun plan slots items (run_at die.log (ends_from 0 (lines_of items) end.refused))
   closed_run none =

@@ -26,7 +26,8 @@ use Rattle.die_service.specs.declared.ends.RefusedEvent.{RefusedEvent}
 use Rattle.die_service.specs.declared.feeds.Arrival.{Arrival}
 use Rattle.die_service.specs.declared.refused.RefusedAt.{RefusedAt}
 use Rattle.die_service.specs.Runs as feed
-use Rattle.die_service.specs.Runs.{Said, said, IsArrival, AreAsked, InClockOrder, noted, place_behind, refused_from, stop_of}
+use Rattle.slot_types.specs.Arrivals.{IsArrival}
+use Rattle.die_service.specs.Runs.{Said, said, AreAsked, InClockOrder, noted, place_behind, refused_from, stop_of}
 use Rattle.task_texts.specs.declared.items.ScriptItem.{ScriptItem}
 use Rattle.task_script.specs.declared.run_counts.RowEnd.{RowEnd}
 use Rattle.task_script.specs.DieRuns.{Call, Row, Slot, DieRun, Accepts, Ends, Runs, run_at, end_of, is_due, due_by, later_than, calls_from}

@@ -1,4 +1,3 @@
-pub mod RowArrivals
 pub mod DieRows
 pub mod Calling
 pub mod Dealing

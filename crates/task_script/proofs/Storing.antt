@@ -14,7 +14,8 @@ use Rattle.slot_core.specs.Core.{Core}
 use Rattle.die_service.specs.declared.ends.DieEnd.{DieEnd}
 use Rattle.die_service.specs.declared.feeds.Arrival.{Arrival}
 use Rattle.die_service.specs.Passes.{DieView}
-use Rattle.die_service.specs.Runs.{HaveRun, IsArrival}
+use Rattle.slot_types.specs.Arrivals.{IsArrival}
+use Rattle.die_service.specs.Runs.{HaveRun}
 use Rattle.die_service.specs.Runs as feed
 use Rattle.die_service.specs.Stores.{DiePass, Fit, IsShaped, IsServed, IsClosed}
 use Rattle.task_texts.specs.declared.items.ScriptItem.{ScriptItem}
@@ -22,7 +23,6 @@ use Rattle.task_texts.specs.Arrivals.{Arrives}
 use Rattle.task_script.specs.Feeds.{AllArrive}
 use Rattle.task_script.specs.RowEnds.{arrival_of, arrivals_of}
 use Rattle.task_script.specs.StoreRuns.{RanFeeds}
-use Rattle.task_script.proofs.RowArrivals.{row_arrives}
 
 -- Making a store
 
@@ -99,7 +99,7 @@ all_sole slots (plan ∷ plans) (feed ∷ feeds) (p ∷ ps) (end ∷ ends) [] fi
 -- Its rows
 
 rows_arrive : (slots : ℕ) (items : List ScriptItem) → All (Arrives slots) items → All (λ (a : Arrival). IsArrival a.event) (arrivals_of items)
-rows_arrive slots items h = All-map (λ (a : Arrival). IsArrival a.event) arrival_of items (All-weaker (Arrives slots) (λ item. IsArrival item.event) (λ item arrives. row_arrives item.event arrives.1) items h)
+rows_arrive slots items h = All-map (λ (a : Arrival). IsArrival a.event) arrival_of items (All-weaker (Arrives slots) (λ item. IsArrival item.event) (λ item arrives. arrives.1) items h)
 
 pub feeds_arrive : (slots : ℕ) (rows : List (List ScriptItem)) (feeds : List (List Arrival)) → feeds ≡ map arrivals_of rows → All (AllArrive slots) rows → All feed.AllArrive feeds
 feeds_arrive slots rows feeds are h = All-same feed.AllArrive feeds (map arrivals_of rows) are (All-map feed.AllArrive arrivals_of rows (All-weaker (AllArrive slots) (λ items. feed.AllArrive (arrivals_of items)) (rows_arrive slots) rows h))

@@ -1,13 +1,7 @@
 -- What the rows of a script ask.
 use Rattle.std.specs.Prelude.{ℕ, ◌<◌, ◌≤◌}
-use Rattle.slot_types.specs.declared.events.Event.{Event}
-use Rattle.slot_types.specs.declared.events.Event.TheVariants as events
+use Rattle.slot_types.specs.Arrivals.{IsArrival}
 use Rattle.task_texts.specs.declared.items.ScriptItem.{ScriptItem}
-
--- any event but a slot
-abbrev pub IsArrival : Event → Type 0
-IsArrival events.Slot = ⊥
-IsArrival _ = Unit {0}
 
 -- what a row asks: any event but a slot, by the end of so many slots
 abbrev pub Arrives : ℕ → ScriptItem → Type 0

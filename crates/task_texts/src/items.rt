@@ -3,7 +3,8 @@
 ghost use Rattle.std.specs.Prelude.{◌≡◌, ◌<◌, length, IfOk};
 ghost use Rattle.csv.specs.Records.{fields_of};
 ghost use Rattle.task_texts.specs.AskedPages.{AsksPages, RowHasPages};
-ghost use Rattle.task_texts.specs.Arrivals.{Arrives, IsArrival};
+ghost use Rattle.slot_types.specs.Arrivals.{IsArrival};
+ghost use Rattle.task_texts.specs.Arrivals.{Arrives};
 ghost use Rattle.task_texts.specs.Items.{collects_at, event_of, item_of, number_at};
 ghost use Rattle.task_texts.specs.Readings.{Gives};
 
