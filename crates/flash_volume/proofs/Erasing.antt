@@ -1,5 +1,5 @@
 -- What an erase slot does to an array of pages.
-use Rattle.std.proofs.Common.{◌≡◌, ◌≢◌, ℕ, ◌+◌, ◌<◌, Bool, true, false, cond, suc, List, [], length, get_or, set, Option, Some, None, refl, sym, ap, ◌∙◌, arith, inl, inr, ◌∷◌, count_by}
+use Rattle.std.proofs.Common.{◌≡◌, ◌≢◌, ℕ, ◌+◌, ◌<◌, ◌≤◌, Bool, true, false, cond, suc, List, [], length, get_or, set, Option, Some, None, refl, sym, ap, ◌∙◌, arith, inl, inr, ◌∷◌, count_by}
 use Rattle.std.specs.Prelude.{◌==◌, if◌then◌else◌, position}
 use Rattle.std.proofs.lemmas.Bool.{cases_eq}
 use Rattle.std.proofs.lemmas.List.{get_or-set_same, get_or-set_other, length-set, length-map, get_or-map, map-set, set-get_or, ext_get_or}
@@ -64,11 +64,30 @@ none_valid block [] none = refl
 none_valid block (None ∷ os) none = none_valid block os (λ p q lies. none (suc p) q lies)
 none_valid block (Some r ∷ os) none = omega (arith, sum_by-cons (λ (o : Option Place). cond (is_in block o) 1 0) (Some r) os, here_other block r (λ same. none 0 r refl (sym same)), none_valid block os (λ p q lies. none (suc p) q lies))
 
+-- what holds of the pages and the candidates whatever becomes of such a block, which is no candidate
+record RestStands (shape : Shape) (blocks : List Block) (placing : Placing) (candidates : Candidates) : Type 0 where
+  placed : (p : ℕ) (q : Place) → place_of placing.places p ≡ Some q → IsProgrammed blocks q
+  few_valid : (k : ℕ) → count_by (is_in k) placing.places ≤ filled_of (block_at blocks k)
+  counted : (k n : ℕ) → count_of candidates.counts k ≡ Some n → (filled_of (block_at blocks k) ≡ shape.pages) × (n ≡ count_by (is_in k) placing.places)
+
+rest_stands : {shape : Shape} {failures : ℕ} {blocks : List Block} {placing : Placing} {fills : List ℕ} {writing : Option ℕ} {candidates : Candidates} {block : ℕ} (new : Block) → Stands shape failures blocks placing fills writing candidates → IsEmptied shape blocks placing.places block → count_of candidates.counts block ≡ None → RestStands shape (set blocks block new) placing candidates
+rest_stands {shape} {failures} {blocks} {placing} {fills} {writing} {candidates} {block} new stands clear taken = record {
+  placed = λ p q lies. elsewhere blocks block new q (clear.none p q lies) (stands.placed p q lies);
+  few_valid = λ k. elim (cases_eq k block) [
+    | inl same ↦ omega (arith, ap (λ (b : ℕ). count_by (is_in b) placing.places) same, none_valid block placing.places clear.none)
+    | inr other ↦ omega (arith, ap filled_of (get_or-set_other blocks block k new free_block other), stands.few_valid k)
+  ];
+  counted = λ k n is.
+      let other : k ≢ block = λ same. (let both : count_of candidates.counts k ≡ None = ap (λ (b : ℕ). count_of candidates.counts b) same ∙ taken in cc) in
+      (ap filled_of (get_or-set_other blocks block k new free_block other) ∙ (stands.counted k n is).0, (stands.counted k n is).1);
+}
+
 -- one slot more, and not the last
 pub stands_going : {shape : Shape} {failures : ℕ} {blocks : List Block} {placing : Placing} {fills : List ℕ} {writing : Option ℕ} {candidates : Candidates} {block : ℕ} → Stands shape failures blocks placing fills writing candidates → IsEmptied shape blocks placing.places block → count_of candidates.counts block ≡ None → Stands shape failures (set blocks block (record (block_at blocks block) { erasing = (block_at blocks block).erasing + 1 })) placing fills writing candidates
 stands_going {shape} {failures} {blocks} {placing} {fills} {writing} {candidates} {block} stands clear taken =
     let new : Block = record (block_at blocks block) { erasing = (block_at blocks block).erasing + 1 } in
     let closed : get_or fills block 0 ≡ shape.pages = ap (λ (l : List ℕ). get_or l block 0) stands.fills_are ∙ fill_is blocks block ∙ clear.closed in
+    let rest = rest_stands new stands clear taken in
     record {
       limits = stands.limits;
       map_shape = stands.map_shape;
@@ -82,16 +101,11 @@ stands_going {shape} {failures} {blocks} {placing} {fills} {writing} {candidates
         | inl same ↦ absurd (omega (arith, few, closed, ap (λ (j : ℕ). get_or fills j 0) same))
         | inr other ↦ ap (λ (b : Block). b.erasing) (get_or-set_other blocks block k new free_block other) ∙ stands.quiet k few
       ];
-      placed = λ p q lies. elsewhere blocks block new q (clear.none p q lies) (stands.placed p q lies);
-      few_valid = λ k. elim (cases_eq k block) [
-        | inl same ↦ omega (arith, ap (λ (b : ℕ). count_by (is_in b) placing.places) same, none_valid block placing.places clear.none)
-        | inr other ↦ omega (arith, ap filled_of (get_or-set_other blocks block k new free_block other), stands.few_valid k)
-      ];
+      placed = rest.placed;
+      few_valid = rest.few_valid;
       candidates_len = stands.candidates_len;
       candidates_pages = stands.candidates_pages;
-      counted = λ k n is.
-          let other : k ≢ block = λ same. (let both : count_of candidates.counts k ≡ None = ap (λ (b : ℕ). count_of candidates.counts b) same ∙ taken in cc) in
-          (ap filled_of (get_or-set_other blocks block k new free_block other) ∙ (stands.counted k n is).0, (stands.counted k n is).1);
+      counted = rest.counted;
     }
 
 -- a block that is freed is not open, and was not
@@ -111,6 +125,7 @@ pub stands_freed : {shape : Shape} {failures : ℕ} {blocks : List Block} {placi
 stands_freed {shape} {failures} {blocks} {placing} {fills} {writing} {candidates} {block} erases stands clear taken =
     let new : Block = record { pages = []; erasing = 0; erases = erases } in
     let closed : get_or fills block 0 ≡ shape.pages = ap (λ (l : List ℕ). get_or l block 0) stands.fills_are ∙ fill_is blocks block ∙ clear.closed in
+    let rest = rest_stands new stands clear taken in
     let in_fills : block < length fills = omega (arith, clear.in_range, ap length stands.fills_are, length-map blocks filled_of) in
     let zero_is : get_or (set fills block 0) block 0 ≡ 0 = get_or-set_same fills block 0 0 in_fills in
     let only : (k : ℕ) → 0 < get_or (set fills block 0) k 0 → k ≢ block = λ k some same. omega (arith, some, zero_is, ap (λ (j : ℕ). get_or (set fills block 0) j 0) same) in
@@ -134,16 +149,11 @@ stands_freed {shape} {failures} {blocks} {placing} {fills} {writing} {candidates
         | inl same ↦ rw same (ap (λ (b : Block). b.erasing) (get_or-set_same blocks block new free_block clear.in_range))
         | inr other ↦ ap (λ (b : Block). b.erasing) (get_or-set_other blocks block k new free_block other) ∙ stands.quiet k (omega (arith, few, get_or-set_other fills block k 0 0 other))
       ];
-      placed = λ p q lies. elsewhere blocks block new q (clear.none p q lies) (stands.placed p q lies);
-      few_valid = λ k. elim (cases_eq k block) [
-        | inl same ↦ omega (arith, ap (λ (b : ℕ). count_by (is_in b) placing.places) same, none_valid block placing.places clear.none)
-        | inr other ↦ omega (arith, ap filled_of (get_or-set_other blocks block k new free_block other), stands.few_valid k)
-      ];
+      placed = rest.placed;
+      few_valid = rest.few_valid;
       candidates_len = stands.candidates_len;
       candidates_pages = stands.candidates_pages;
-      counted = λ k n is.
-          let other : k ≢ block = λ same. (let both : count_of candidates.counts k ≡ None = ap (λ (b : ℕ). count_of candidates.counts b) same ∙ taken in cc) in
-          (ap filled_of (get_or-set_other blocks block k new free_block other) ∙ (stands.counted k n is).0, (stands.counted k n is).1);
+      counted = rest.counted;
     }
 
 -- a block's worth of cells more is free
