@@ -265,6 +265,61 @@ same_refused a b e = cc
 stopped_not : (refused : RefusedAt) → ◌≡◌ {A = Option RefusedAt} (Some refused) None → ⊥
 stopped_not refused e = absurd cc
 
+-- The rows that come by a slot, and what was said behind them
+
+record Fed (plan : DiePlan) (saids : List Said) (clock : ℕ) (items : List ScriptItem) (before fed behind rest : List Said) : Type 0 where
+  asked : AreAsked (arrivals_of (due_by clock items)) fed
+  arrive : All (λ item. IsArrival item.event) (due_by clock items)
+  at : saids ≡ before ++ (fed ++ behind)
+  next : saids ≡ (before ++ fed) ++ behind
+  stays : now (said_log (before ++ fed)) ≡ clock
+  stops : stop_of rest ≡ stop_of behind
+
+rows_fed : (plan : DiePlan) (saids : List Said) → AreTold plan saids → (clock : ℕ) (items : List ScriptItem) (before fed behind rest : List Said)
+    → saids ≡ before ++ rest → rest ≡ fed ++ behind → AreAsked (feed.due_by clock (arrivals_of items)) fed → now (said_log before) ≡ clock → All (λ item. IsArrival item.event) items
+    → Fed plan saids clock items before fed behind rest
+rows_fed plan saids told clock items before fed behind rest is split asked at_now arrive =
+    let these : AreAsked (arrivals_of (due_by clock items)) fed = subst (λ (xs : List Arrival). AreAsked xs fed) (due_same clock items) asked in
+    let arrive_now = due_all (λ item. IsArrival item.event) clock items arrive in
+    let all_is : saids ≡ before ++ (fed ++ behind) = is ∙ ap (λ (xs : List Said). before ++ xs) split in
+    record {
+      asked = these;
+      arrive = arrive_now;
+      at = all_is;
+      next = all_is ∙ sym (append_assoc before fed behind);
+      stays = rows_stay plan saids told (due_by clock items) fed before behind all_is these arrive_now ∙ at_now;
+      stops = ap stop_of split ∙ stop_behind (due_by clock items) fed behind these arrive_now;
+    }
+
+-- A slot that was carried out behind them, and what was said behind the slot
+
+abbrev carried : SlotReply → Said
+carried slot = said events.Slot (Ok (replies.Slot slot))
+
+record Carried (plan : DiePlan) (saids : List Said) (left clock : ℕ) (items : List ScriptItem) (before more : List Said) (slot : SlotReply) : Type 0 where
+  answered : (answer plan (said_log before) events.Slot ≡ replies.Slot slot) × IsAccepted (replies.Slot slot)
+  next : saids ≡ (before ++ carried slot ∷ []) ++ more
+  ordered : InClockOrder left (clock + 1) (arrivals_of (later_than clock items)) more
+  counted : now (said_log (before ++ carried slot ∷ [])) ≡ clock + 1
+  due : All (λ item. item.at ≤ clock + 1 + left) (later_than clock items)
+  arrive : All (λ item. IsArrival item.event) (later_than clock items)
+
+slot_carried : (plan : DiePlan) (saids : List Said) → AreTold plan saids → (left clock : ℕ) (items : List ScriptItem) (before more : List Said) (slot : SlotReply)
+    → saids ≡ before ++ carried slot ∷ more → now (said_log before) ≡ clock → InClockOrder left (slot.slot + 1) (feed.later_than clock (arrivals_of items)) more
+    → All (λ item. item.at ≤ clock + suc left) items → All (λ item. IsArrival item.event) items
+    → Carried plan saids left clock items before more slot
+slot_carried plan saids told left clock items before more slot is at_now ordered due arrive =
+    let answered = told.accepted before more events.Slot (replies.Slot slot) is in
+    let number : slot.slot ≡ clock = numbered plan (said_log before) slot answered.0 ∙ at_now in
+    record {
+      answered = answered;
+      next = is ∙ sym (append_assoc before (carried slot ∷ []) more);
+      ordered = subst (λ (x : ℕ × List Arrival). InClockOrder left x.0 x.1 more) (λ i. (number i + 1, later_same clock items i)) ordered;
+      counted = ap now (said_accepted before events.Slot (replies.Slot slot)) ∙ (slot_counted (said_log before) _ slot refl ∙ ap (λ (n : ℕ). n + 1) at_now);
+      due = subst (λ (n : ℕ). All (λ item. item.at ≤ n) (later_than clock items)) (omega arith) (later_all (λ item. item.at ≤ clock + suc left) clock items due);
+      arrive = later_all (λ item. IsArrival item.event) clock items arrive;
+    }
+
 pub slots_run : (plan : DiePlan) (saids : List Said) → AreTold plan saids → (left clock : ℕ) (items : List ScriptItem) (before rest : List Said) (ends : List RowEnd) (place : ℕ)
     → saids ≡ before ++ rest → InClockOrder left clock (arrivals_of items) rest → now (said_log before) ≡ clock → stop_of rest ≡ None
     → All (λ item. item.at ≤ clock + left) items → All (λ item. IsArrival item.event) items
@@ -281,41 +336,29 @@ slots_run plan saids told zero clock items before rest ends place is ordered at_
           ∙ λ i. ends_from place (lines_of (append-nil items i)) (refused_from place (append-nil rest i)));
     }
 slots_run plan saids told (suc left) clock items before rest ends place is (fed, behind, split, asked, inr (refused, last)) at_now none_stopped due arrive =
-    let these : AreAsked (arrivals_of (due_by clock items)) fed = subst (λ (xs : List Arrival). AreAsked xs fed) (due_same clock items) asked in
-    absurd (stopped_not refused (sym (ap stop_of (split ∙ ap (λ (xs : List Said). fed ++ xs) last)
-    ∙ stop_behind (due_by clock items) fed (said events.Slot (Err refused) ∷ []) these (due_all (λ item. IsArrival item.event) clock items arrive)) ∙ none_stopped))
+    let f = rows_fed plan saids told clock items before fed behind rest is split asked at_now arrive in
+    absurd (stopped_not refused (sym (f.stops ∙ ap stop_of last) ∙ none_stopped))
 slots_run plan saids told (suc left) clock items before rest ends place is (fed, behind, split, asked, inl (slot, more, first, ordered)) at_now none_stopped due arrive =
     let now_due = due_by clock items in
     let later = later_than clock items in
-    let A : ScriptItem → Type 0 = λ item. IsArrival item.event in
-    let these : AreAsked (arrivals_of now_due) fed = subst (λ (xs : List Arrival). AreAsked xs fed) (due_same clock items) asked in
-    let arrive_now = due_all A clock items arrive in
-    let tail : List Said = said events.Slot (Ok (replies.Slot slot)) ∷ more in
+    let tail = carried slot ∷ more in
     let rest_is : rest ≡ fed ++ tail = split ∙ ap (λ (xs : List Said). fed ++ xs) first in
-    let all_is : saids ≡ before ++ (fed ++ tail) = is ∙ ap (λ (xs : List Said). before ++ xs) rest_is in
-    let at_slot : saids ≡ (before ++ fed) ++ tail = all_is ∙ sym (append_assoc before fed tail) in
-    let behind_slot : saids ≡ ((before ++ fed) ++ said events.Slot (Ok (replies.Slot slot)) ∷ []) ++ more = at_slot ∙ sym (append_assoc (before ++ fed) (said events.Slot (Ok (replies.Slot slot)) ∷ []) more) in
-    let answered = told.accepted (before ++ fed) more events.Slot (replies.Slot slot) at_slot in
-    let here : now (said_log (before ++ fed)) ≡ clock = rows_stay plan saids told now_due fed before tail all_is these arrive_now ∙ at_now in
-    let number : slot.slot ≡ clock = numbered plan (said_log (before ++ fed)) slot answered.0 ∙ here in
-    let on = slots_run plan saids told left (clock + 1) later ((before ++ fed) ++ said events.Slot (Ok (replies.Slot slot)) ∷ []) more (ends ++ ends_said now_due fed) (place + length now_due) behind_slot
-    (subst (λ (x : ℕ × List Arrival). InClockOrder left x.0 x.1 more) (λ i. (number i + 1, later_same clock items i)) ordered)
-    (ap now (said_accepted (before ++ fed) events.Slot (replies.Slot slot)) ∙ (slot_counted (said_log (before ++ fed)) _ slot refl ∙ ap (λ (n : ℕ). n + 1) here))
-    (sym (stop_behind now_due fed tail these arrive_now) ∙ (ap stop_of (sym rest_is) ∙ none_stopped))
-    (subst (λ (n : ℕ). All (λ item. item.at ≤ n) later) (omega arith) (later_all (λ item. item.at ≤ clock + suc left) clock items due))
-    (later_all A clock items arrive) in
+    let f = rows_fed plan saids told clock items before fed tail rest is rest_is asked at_now arrive in
+    let c = slot_carried plan saids told left clock items (before ++ fed) more slot f.next f.stays ordered due arrive in
+    let on = slots_run plan saids told left (clock + 1) later ((before ++ fed) ++ carried slot ∷ []) more (ends ++ ends_said now_due fed) (place + length now_due)
+        c.next c.ordered c.counted (sym f.stops ∙ none_stopped) c.due c.arrive in
     record {
       ended = ends_said now_due fed ++ on.ended;
       ran = ran_more plan (run_at (said_log before) ends) (run_at (said_log (before ++ fed)) (ends ++ ends_said now_due fed)) (run_at (said_log saids) (ends ++ (ends_said now_due fed ++ on.ended)))
-          (map Row now_due) (Slot ∷ calls_from (clock + 1) left later) (rows_run plan saids told now_due fed before tail ends all_is these) (
-            run_at (said_log ((before ++ fed) ++ said events.Slot (Ok (replies.Slot slot)) ∷ [])) (ends ++ ends_said now_due fed),
-            (accepts_at plan (before ++ fed) events.Slot (replies.Slot slot) answered, refl),
-            subst (λ (es : List RowEnd). Runs plan (run_at (said_log ((before ++ fed) ++ said events.Slot (Ok (replies.Slot slot)) ∷ [])) (ends ++ ends_said now_due fed)) (calls_from (clock + 1) left later) (run_at (said_log saids) es))
+          (map Row now_due) (Slot ∷ calls_from (clock + 1) left later) (rows_run plan saids told now_due fed before tail ends f.at f.asked) (
+            run_at (said_log ((before ++ fed) ++ carried slot ∷ [])) (ends ++ ends_said now_due fed),
+            (accepts_at plan (before ++ fed) events.Slot (replies.Slot slot) c.answered, refl),
+            subst (λ (es : List RowEnd). Runs plan (run_at (said_log ((before ++ fed) ++ carried slot ∷ [])) (ends ++ ends_said now_due fed)) (calls_from (clock + 1) left later) (run_at (said_log saids) es))
                 (append_assoc ends (ends_said now_due fed) on.ended) on.ran,
           );
       slots = on.slots ∙ omega arith;
       ended_is = ap (λ (es : List RowEnd). ends_said now_due fed ++ es) on.ended_is
-          ∙ (sym (ends_split now_due later fed tail place these arrive_now) ∙ λ i. ends_from place (lines_of (due_and_later clock items i)) (refused_from place (sym rest_is i)));
+          ∙ (sym (ends_split now_due later fed tail place f.asked f.arrive) ∙ λ i. ends_from place (lines_of (due_and_later clock items i)) (refused_from place (sym rest_is i)));
     }
 
 -- A slot that is refused
@@ -329,34 +372,12 @@ slots_stop plan saids told zero clock items before rest stop is ordered at_now s
     let none : stop_of rest ≡ None = ap stop_of (sym (append-nil rest)) ∙ stop_behind items rest [] asked arrive in
     absurd (stopped_not stop (sym stopped ∙ none))
 slots_stop plan saids told (suc left) clock items before rest stop is (fed, behind, split, asked, inr (refused, last)) at_now stopped few due arrive =
-    let A : ScriptItem → Type 0 = λ item. IsArrival item.event in
-    let these : AreAsked (arrivals_of (due_by clock items)) fed = subst (λ (xs : List Arrival). AreAsked xs fed) (due_same clock items) asked in
-    let arrive_now = due_all A clock items arrive in
-    let tail : List Said = said events.Slot (Err refused) ∷ [] in
-    let rest_is : rest ≡ fed ++ tail = split ∙ ap (λ (xs : List Said). fed ++ xs) last in
-    let all_is : saids ≡ before ++ (fed ++ tail) = is ∙ ap (λ (xs : List Said). before ++ xs) rest_is in
-    let same : Some refused ≡ Some stop = sym (ap stop_of rest_is ∙ stop_behind (due_by clock items) fed tail these arrive_now) ∙ stopped in
-    let here : now (said_log (before ++ fed)) ≡ clock = rows_stay plan saids told (due_by clock items) fed before tail all_is these arrive_now ∙ at_now in
-    ap (λ (r : RefusedAt). r.refusal) (sym (same_refused refused stop same))
-    ∙ slot_refused plan (said_log (before ++ fed)) refused.refusal (omega (arith, here, few)) (told.refused (before ++ fed) [] events.Slot refused (all_is ∙ sym (append_assoc before fed tail)))
+    let tail = said events.Slot (Err refused) ∷ [] in
+    let f = rows_fed plan saids told clock items before fed tail rest is (split ∙ ap (λ (xs : List Said). fed ++ xs) last) asked at_now arrive in
+    ap (λ (r : RefusedAt). r.refusal) (sym (same_refused refused stop (sym f.stops ∙ stopped)))
+    ∙ slot_refused plan (said_log (before ++ fed)) refused.refusal (omega (arith, f.stays, few)) (told.refused (before ++ fed) [] events.Slot refused f.next)
 slots_stop plan saids told (suc left) clock items before rest stop is (fed, behind, split, asked, inl (slot, more, first, ordered)) at_now stopped few due arrive =
-    let now_due = due_by clock items in
-    let later = later_than clock items in
-    let A : ScriptItem → Type 0 = λ item. IsArrival item.event in
-    let these : AreAsked (arrivals_of now_due) fed = subst (λ (xs : List Arrival). AreAsked xs fed) (due_same clock items) asked in
-    let arrive_now = due_all A clock items arrive in
-    let tail : List Said = said events.Slot (Ok (replies.Slot slot)) ∷ more in
-    let rest_is : rest ≡ fed ++ tail = split ∙ ap (λ (xs : List Said). fed ++ xs) first in
-    let all_is : saids ≡ before ++ (fed ++ tail) = is ∙ ap (λ (xs : List Said). before ++ xs) rest_is in
-    let at_slot : saids ≡ (before ++ fed) ++ tail = all_is ∙ sym (append_assoc before fed tail) in
-    let answered = told.accepted (before ++ fed) more events.Slot (replies.Slot slot) at_slot in
-    let here : now (said_log (before ++ fed)) ≡ clock = rows_stay plan saids told now_due fed before tail all_is these arrive_now ∙ at_now in
-    let number : slot.slot ≡ clock = numbered plan (said_log (before ++ fed)) slot answered.0 ∙ here in
-    slots_stop plan saids told left (clock + 1) later ((before ++ fed) ++ said events.Slot (Ok (replies.Slot slot)) ∷ []) more stop
-    (at_slot ∙ sym (append_assoc (before ++ fed) (said events.Slot (Ok (replies.Slot slot)) ∷ []) more))
-    (subst (λ (x : ℕ × List Arrival). InClockOrder left x.0 x.1 more) (λ i. (number i + 1, later_same clock items i)) ordered)
-    (ap now (said_accepted (before ++ fed) events.Slot (replies.Slot slot)) ∙ (slot_counted (said_log (before ++ fed)) _ slot refl ∙ ap (λ (n : ℕ). n + 1) here))
-    (sym (stop_behind now_due fed tail these arrive_now) ∙ (ap stop_of (sym rest_is) ∙ stopped))
-    (omega (arith, few))
-    (subst (λ (n : ℕ). All (λ item. item.at ≤ n) later) (omega arith) (later_all (λ item. item.at ≤ clock + suc left) clock items due))
-    (later_all A clock items arrive)
+    let f = rows_fed plan saids told clock items before fed (carried slot ∷ more) rest is (split ∙ ap (λ (xs : List Said). fed ++ xs) first) asked at_now arrive in
+    let c = slot_carried plan saids told left clock items (before ++ fed) more slot f.next f.stays ordered due arrive in
+    slots_stop plan saids told left (clock + 1) (later_than clock items) ((before ++ fed) ++ carried slot ∷ []) more stop
+    c.next c.ordered c.counted (sym f.stops ∙ stopped) (omega (arith, few)) c.due c.arrive
