@@ -1,5 +1,5 @@
 -- What a worker has asked of its die, event by event and slot by slot.
-use Rattle.std.proofs.Common.{◌≡◌, ℕ, suc, ◌+◌, ◌-◌, ◌<◌, ◌≤◌, Bool, true, false, nat_le, List, [], ◌∷◌, ◌++◌, map, take, drop, cond, Option, Some, None, Result, Ok, Err, if◌then◌else◌, refl, ap, sym, ◌∙◌, subst, arith, append_assoc}
+use Rattle.std.proofs.Common.{◌≡◌, ℕ, suc, ◌+◌, ◌-◌, ◌<◌, ◌≤◌, Bool, true, false, nat_le, List, [], ◌∷◌, ◌++◌, map, drop, cond, Option, Some, None, Result, Ok, Err, if◌then◌else◌, refl, ap, sym, ◌∙◌, subst, arith, append_assoc}
 use Rattle.std.proofs.lemmas.Bool.{le-leb, leb-false}
 use Rattle.std.proofs.lemmas.List.{append-nil}
 use Rattle.std.specs.List.{prefix_len}
@@ -13,11 +13,9 @@ use Rattle.slot_types.specs.declared.replies.Reply.{Reply}
 use Rattle.slot_types.specs.declared.replies.Reply.TheVariants as replies
 use Rattle.slot_types.specs.declared.replies.SlotReply.{SlotReply}
 use Rattle.turn_lock.specs.Views.{IsSamePass}
-use Rattle.slot_types.specs.declared.acts.Act.{Act}
 use Rattle.slot_types.specs.declared.refusals.Refusal.TheVariants.{ClockEnd}
-use Rattle.slot_types.specs.declared.replies.Waived.{Waived}
-use Rattle.die_log.specs.Log.{Log, Job, now}
-use Rattle.die_log.specs.Answers.{answer, answer_by, choice, slot_reply}
+use Rattle.die_log.specs.Log.{Log, now}
+use Rattle.die_log.specs.Answers.{answer, answer_by, choice}
 use Rattle.die_log.proofs.Numbered.{slot_is}
 use Rattle.die_service.specs.declared.feeds.Arrival.{Arrival}
 use Rattle.die_service.specs.declared.refused.RefusedAt.{RefusedAt}

@@ -1,7 +1,7 @@
 -- What comes before the head's act: collections are waived, or one takes its victim.
-use Rattle.std.proofs.Common.{◌≡◌, ◌≢◌, ℕ, zero, suc, ◌+◌, ◌<◌, ◌≤◌, ◌==◌, ◌||◌, ◌&&◌, not, nat_le, Bool, true, false, cond, List, [], ◌∷◌, ◌++◌, Option, Some, None, refl, ap, sym, ◌∙◌, subst, length, map, slice_get, slice_set, append_assoc, arith}
+use Rattle.std.proofs.Common.{◌≡◌, ℕ, ◌+◌, ◌<◌, ◌≤◌, ◌==◌, ◌&&◌, nat_le, Bool, true, false, cond, List, [], ◌∷◌, ◌++◌, Option, Some, None, refl, ap, sym, ◌∙◌, subst, length, map, slice_get, slice_set, append_assoc, arith}
 use Rattle.std.specs.List.{last_or}
-use Rattle.std.proofs.lemmas.Bool.{true≢false, and_parts, and_from, not_from_false, eqb-true, eq-eqb, ne_eqb, ltb-true, lt-ltb, leb-false}
+use Rattle.std.proofs.lemmas.Bool.{true≢false, and_parts, and_from, eqb-true, eq-eqb, ne_eqb}
 use Rattle.std.proofs.lemmas.Bool.Decides.{nat_tests}
 use Rattle.std.proofs.lemmas.Option.{same_Some, none-some}
 use Rattle.slot_types.specs.declared.plans.DiePlan.{DiePlan}
@@ -18,21 +18,19 @@ use Rattle.job_table.specs.declared.stages.Stage.TheVariants.{Waived as Gone}
 use Rattle.job_table.specs.Jobs.{JobRecord, with_stage}
 use Rattle.job_table.specs.Table.{Table, changed_at, with_change}
 use Rattle.job_table.specs.Order as table
-use Rattle.job_table.specs.Waivers.{after_waiver as gone_after, waived_in, IsPendingAt, WerePending}
+use Rattle.job_table.specs.Waivers.{after_waiver as gone_after, IsPendingAt}
 use Rattle.job_table.proofs.Heads.{one_head}
 use Rattle.job_table.proofs.Waivers.{head_pending, waived_push, WerePending-push}
-use Rattle.die_log.specs.Log.{Log, Job, jobs, job_at, acts, waived, is_waived, work}
-use Rattle.die_log.specs.Work.{is_done, ready, least, victim_of}
+use Rattle.die_log.specs.Log.{Log, Job, jobs, job_at, acts, waived, work}
+use Rattle.die_log.specs.Work.{victim_of}
 use Rattle.die_log.specs.Accounts.{accounts, after_waiver, after_waivers}
-use Rattle.die_log.specs.Answers.{is_running, is_waivable, block_for, buffer_after, victim}
-use Rattle.die_log.specs.Legal.{is_among}
-use Rattle.die_log.specs.Standing.{Runs}
+use Rattle.die_log.specs.Answers.{is_running, is_waivable, buffer_after, victim}
 use Rattle.die_log.proofs.Standing.Longer.{number_at, stands_at}
 use Rattle.die_log.proofs.Standing.Actors.{runs_from}
 use Rattle.slot_core.specs.Records.{record_with, records, waiver_among}
-use Rattle.slot_core.specs.Device.{FlashState, flash_of, page_in, page_held, IsRun, AreRunning}
-use Rattle.slot_core.specs.Slotted.{unwaived, GoesOn, IsWaivedFlash, IsWaivedTable, IsSlot, InSlot, RunsHead, OthersRun, HasTurn}
-use Rattle.slot_core.specs.Turns.{is_fresh, is_fresh_of, HasWaiverRoom, BeginsFresh, BeginsBy, BeginsAs}
+use Rattle.slot_core.specs.Device.{FlashState, flash_of, page_held, AreRunning}
+use Rattle.slot_core.specs.Slotted.{GoesOn, IsWaivedTable, InSlot, RunsHead, HasTurn}
+use Rattle.slot_core.specs.Turns.{is_fresh, is_fresh_of, HasWaiverRoom, BeginsBy, BeginsAs}
 use Rattle.slot_core.proofs.Choosing.{waiver_of, waives}
 use Rattle.slot_core.proofs.Collections.{own_running, running_pending, one_pending, others_run, others_begun, runs_none}
 use Rattle.slot_core.proofs.Recording.{map_changed}

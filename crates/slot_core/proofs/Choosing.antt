@@ -1,6 +1,5 @@
 -- A slot's choice, made step by step: while the head is waived, the choice goes on among the rest.
-use Rattle.std.proofs.Common.{◌≡◌, ℕ, zero, suc, ◌+◌, ◌<◌, ◌≤◌, ◌==◌, ◌||◌, ◌&&◌, not, Bool, true, false, cond, List, [], ◌∷◌, ◌++◌, Option, Some, None, refl, ap, sym, ◌∙◌, subst, length, filter, arith, append_assoc}
-use Rattle.std.specs.List.{list_any}
+use Rattle.std.proofs.Common.{◌≡◌, ℕ, zero, suc, ◌<◌, ◌≤◌, ◌==◌, ◌||◌, ◌&&◌, not, Bool, true, false, cond, List, [], ◌∷◌, ◌++◌, Option, Some, None, refl, ap, sym, ◌∙◌, subst, length, filter, arith, append_assoc}
 use Rattle.slot_types.specs.declared.plans.DiePlan.{DiePlan}
 use Rattle.slot_types.specs.declared.replies.Waived.{Waived}
 use Rattle.plan_rules.specs.Accounts.{Accounts, given_of}
@@ -8,7 +7,7 @@ use Rattle.plan_rules.specs.Accounts as moves
 use Rattle.die_log.specs.Log.{Log, Job}
 use Rattle.die_log.specs.Work.{ready, least}
 use Rattle.die_log.specs.Accounts.{accounts}
-use Rattle.die_log.specs.Answers.{Choice, choice, choice_among, chosen, weighed, nobody, without, with_waiver, is_waivable}
+use Rattle.die_log.specs.Answers.{Choice, choice, choice_among, chosen, weighed, without, with_waiver, is_waivable}
 use Rattle.die_log.specs.Legal.{is_among}
 use Rattle.slot_core.specs.Slotted.{unwaived, behind, GoesOn}
 use Rattle.die_log.proofs.Choices.{OfSome}

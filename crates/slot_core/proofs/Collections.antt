@@ -1,5 +1,5 @@
 -- What one more entry of a log does to the collections that its volume runs.
-use Rattle.std.proofs.Common.{◌≡◌, ◌≢◌, ◌⊎◌, ℕ, ◌+◌, ◌<◌, ◌==◌, ◌&&◌, not, nat_lt, Bool, true, false, List, [], ◌∷◌, ◌++◌, Option, Some, None, refl, ap, sym, ◌∙◌, subst, inl, inr, zero, suc, length, length-set, slice_get, slice_set, replicate, arith}
+use Rattle.std.proofs.Common.{◌≡◌, ◌≢◌, ◌⊎◌, ℕ, ◌<◌, ◌==◌, ◌&&◌, not, Bool, true, false, List, [], ◌∷◌, Option, Some, None, refl, ap, sym, ◌∙◌, subst, inl, inr, zero, suc, length, length-set, slice_set, replicate, arith}
 use Rattle.std.specs.Prelude.{Contains}
 use Rattle.std.specs.List.{last_or}
 use Rattle.std.proofs.lemmas.Bool.{true≢false, cases_eq, and_from, not_from_false, eq-eqb}
@@ -7,7 +7,6 @@ use Rattle.std.proofs.lemmas.List.{get_or-set_same, get_or-set_other, length-rep
 use Rattle.std.proofs.lemmas.Option.{same_Some, none-some}
 use Rattle.slot_types.specs.declared.plans.DiePlan.{DiePlan}
 use Rattle.slot_types.specs.declared.acts.Act.{Act}
-use Rattle.slot_types.specs.declared.acts.Act.TheVariants as does
 use Rattle.slot_types.specs.declared.replies.Entry.{Entry}
 use Rattle.flash_volume.specs.declared.collection.Collection.{Collection}
 use Rattle.flash_volume.specs.Running.{running_of}
@@ -20,7 +19,7 @@ use Rattle.die_log.specs.Standing.{AreNumbered, Runs}
 use Rattle.die_log.proofs.Standing.Longer.{acts_stay, act_other, same_job, stands_at}
 use Rattle.die_log.proofs.Standing.Quiet.{runs_says, runs_later, runs_before}
 use Rattle.die_log.proofs.Tokens.Found.{first_with, finds_it}
-use Rattle.slot_core.specs.Device.{FlashState, page_in, page_held, IsRun, AreRunning}
+use Rattle.slot_core.specs.Device.{FlashState, IsRun, AreRunning}
 use Rattle.slot_core.specs.Slotted.{OthersRun}
 
 -- The list by task

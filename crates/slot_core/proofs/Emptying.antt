@@ -1,21 +1,19 @@
 -- A collection's act on a volume is the one that the log gives it.
-use Rattle.std.proofs.Common.{◌≡◌, ◌≢◌, ℕ, zero, suc, ◌+◌, ◌<◌, ◌≤◌, ◌==◌, Bool, true, false, cond, List, [], ◌∷◌, Option, Some, None, refl, ap, sym, ◌∙◌, subst, option_map, unwrap_or, arith}
-use Rattle.std.specs.List.{filter_map, cons_option, range_with_len, last_or}
+use Rattle.std.proofs.Common.{◌≡◌, ℕ, zero, suc, ◌+◌, ◌<◌, Bool, true, false, cond, List, [], ◌∷◌, Option, Some, None, refl, ap, sym, ◌∙◌, option_map, unwrap_or, arith}
+use Rattle.std.specs.List.{filter_map, cons_option, range_with_len}
 use Rattle.std.proofs.lemmas.Bool.{ne_eqb, eq-eqb}
 use Rattle.std.proofs.lemmas.Bool.Decides.{nat_tests}
 use Rattle.std.proofs.lemmas.List.Quantifiers.{position-Some}
-use Rattle.std.proofs.lemmas.Option.{same_Some, none-some}
 use Rattle.slot_types.specs.declared.plans.DiePlan.{DiePlan}
-use Rattle.slot_types.specs.declared.acts.Act.{Act}
 use Rattle.slot_types.specs.declared.acts.Act.TheVariants as does
 use Rattle.slot_types.specs.declared.pages.Place.{Place}
 use Rattle.slot_types.specs.Places.{place_of, owner_of, is_at}
 use Rattle.flash_volume.specs.declared.collection.Collection.{Collection}
 use Rattle.flash_volume.specs.declared.collection.Copied.{Copied}
 use Rattle.flash_volume.specs.Acts.{HasDropped, IsUnplaced, IsFirst}
-use Rattle.die_log.specs.Log.{Log, Job, acts, work}
-use Rattle.die_log.specs.Flash.{Cells, cells, block_at, block_of_page, valid_pages}
-use Rattle.die_log.specs.Answers.{is_block, is_placed_in, read_or_erase, collect_act, act_for, act_of_op, block_for, buffer_after}
+use Rattle.die_log.specs.Log.{Log, Job}
+use Rattle.die_log.specs.Flash.{Cells, cells, valid_pages}
+use Rattle.die_log.specs.Answers.{is_block, is_placed_in, read_or_erase, collect_act, act_for, block_for}
 use Rattle.die_log.specs.Sound.{AreSound}
 use Rattle.slot_core.specs.Device.{page_in, page_held}
 

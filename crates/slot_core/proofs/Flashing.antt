@@ -1,8 +1,7 @@
 -- What one more entry of a log does to the flash of its die.
-use Rattle.std.proofs.Common.{◌≡◌, ◌⊎◌, inl, inr, ℕ, zero, suc, ◌+◌, ◌<◌, ◌≤◌, ◌==◌, ◌&&◌, nat_lt, Bool, true, false, cond, List, [], ◌∷◌, ◌++◌, Option, Some, None, refl, ap, sym, ◌∙◌, subst, length, map, slice_get, slice_set, slice_index_or, unwrap_or, get_or, replicate, arith}
+use Rattle.std.proofs.Common.{◌≡◌, ◌⊎◌, inl, inr, ℕ, zero, suc, ◌+◌, ◌==◌, Bool, true, false, cond, List, [], ◌∷◌, ◌++◌, Option, Some, None, refl, ap, sym, ◌∙◌, subst, length, map, slice_set, slice_index_or, get_or, replicate, arith}
 use Rattle.std.specs.Prelude.{Contains}
-use Rattle.std.specs.List.{position}
-use Rattle.std.proofs.lemmas.List.{map-set, length_push, get_or-map, length-map}
+use Rattle.std.proofs.lemmas.List.{map-set, length_push}
 use Rattle.std.proofs.lemmas.List.Elements.{Contains-append_left, Contains-push_cases}
 use Rattle.slot_types.specs.declared.plans.DiePlan.{DiePlan}
 use Rattle.slot_types.specs.declared.acts.Act.{Act}
@@ -10,18 +9,16 @@ use Rattle.slot_types.specs.declared.acts.Act.TheVariants as does
 use Rattle.slot_types.specs.declared.events.Op.{Op}
 use Rattle.slot_types.specs.declared.events.Event.TheVariants as events
 use Rattle.slot_types.specs.declared.replies.Reply.TheVariants as replies
-use Rattle.slot_types.specs.declared.replies.SlotReply.{SlotReply}
 use Rattle.slot_types.specs.declared.replies.Waived.{Waived}
 use Rattle.slot_types.specs.declared.pages.PageData.{PageData}
-use Rattle.slot_types.specs.declared.pages.Place.{Place}
 use Rattle.slot_types.specs.declared.replies.Entry.{Entry}
 use Rattle.plan_rules.specs.Accounts.{Accounts, admitted, hold_spent, reserve_spent, opening}
 use Rattle.flash_volume.specs.declared.collection.Collection.{Collection}
 use Rattle.flash_die.specs.Flash as device
 use Rattle.die_log.specs.Log.{Log, Job, jobs, job_at, act_of, acts}
-use Rattle.die_log.specs.Flash.{Block, Cells, block_at, contents, cells, programmed, programmed_in, open_block, written, cells_after, erased_once, ran_by, free_block, blank_page, content}
+use Rattle.die_log.specs.Flash.{Block, Cells, block_at, contents, cells, open_block, erased_once, ran_by, free_block, content}
 use Rattle.die_log.specs.Work.{writes}
-use Rattle.die_log.specs.Accounts.{accounts, after_act, after_carried, after_waivers}
+use Rattle.die_log.specs.Accounts.{accounts, after_act, after_waivers}
 use Rattle.die_log.specs.Answers.{IsExact, is_running}
 use Rattle.die_log.proofs.Collecting.{no_acts}
 use Rattle.die_log.proofs.Standing.Longer.{acts_stay}

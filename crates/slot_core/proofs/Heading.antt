@@ -1,8 +1,8 @@
 -- The head of a table is the least of those that are ready in its log.
-use Rattle.std.proofs.Common.{◌≡◌, ℕ, zero, suc, ◌+◌, ◌<◌, ◌≤◌, ◌==◌, ◌||◌, ◌&&◌, not, nat_lt, nat_le, Bool, true, false, cond, List, [], ◌∷◌, ◌++◌, Option, Some, None, refl, ap, sym, ◌∙◌, subst, length, map, filter, find, get_or, slice_get, arith}
+use Rattle.std.proofs.Common.{◌≡◌, ℕ, zero, suc, ◌<◌, ◌==◌, ◌||◌, ◌&&◌, not, nat_le, Bool, true, false, cond, List, [], ◌∷◌, ◌++◌, Option, Some, None, refl, ap, sym, ◌∙◌, subst, length, map, filter, slice_get, arith}
 use Rattle.std.specs.Prelude.{Contains}
-use Rattle.std.specs.List.{list_any, AllByRecursion}
-use Rattle.std.proofs.lemmas.Bool.{true≢false, and_parts, and_from}
+use Rattle.std.specs.List.{AllByRecursion}
+use Rattle.std.proofs.lemmas.Bool.{true≢false}
 use Rattle.std.proofs.lemmas.Bool.Decides.{nat_tests}
 use Rattle.std.proofs.lemmas.List.{length-map, get_or-map}
 use Rattle.std.proofs.lemmas.List.Elements.{All-contains_itself, recursion_from_All}
@@ -12,8 +12,8 @@ use Rattle.slot_types.specs.declared.replies.Waived.{Waived}
 use Rattle.job_table.specs.Jobs.{JobRecord, is_pending}
 use Rattle.job_table.specs.Table.{Table}
 use Rattle.job_table.specs.Order as table
-use Rattle.die_log.specs.Log.{Log, Job, jobs, now, waived, is_waived, acts}
-use Rattle.die_log.specs.Work.{is_ready, ready, is_done, are_all, goes_first, least, completion}
+use Rattle.die_log.specs.Log.{Log, Job, jobs, now, waived, is_waived}
+use Rattle.die_log.specs.Work.{is_ready, ready, is_done, goes_first, least, completion}
 use Rattle.die_log.specs.Legal.{is_among}
 use Rattle.die_log.specs.Standing.{AreNumbered}
 use Rattle.die_log.proofs.Choices.{OfSome, least_all}

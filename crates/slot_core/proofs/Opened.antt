@@ -1,5 +1,5 @@
 -- The block to which a volume programs next is the log's.
-use Rattle.std.proofs.Common.{◌≡◌, ℕ, ◌+◌, ◌==◌, ◌&&◌, not, nat_lt, Bool, true, false, cond, List, [], ◌∷◌, Option, refl, ap, length, map, if◌then◌else◌}
+use Rattle.std.proofs.Common.{◌≡◌, ◌+◌, ◌==◌, not, Bool, true, false, cond, List, [], ◌∷◌, refl, ap, map}
 use Rattle.std.specs.List.{position, position_or_len}
 use Rattle.std.proofs.lemmas.List.{length-map}
 use Rattle.slot_types.specs.declared.plans.DiePlan.{DiePlan}

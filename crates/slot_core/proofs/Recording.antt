@@ -1,8 +1,8 @@
 -- What one more entry of a log does to the records of its jobs and collections.
-use Rattle.std.proofs.Common.{◌≡◌, ◌≢◌, ℕ, zero, suc, ◌+◌, ◌<◌, ◌≤◌, ◌==◌, nat_lt, Bool, true, false, cond, List, [], ◌∷◌, ◌++◌, Option, Some, None, refl, ap, sym, ◌∙◌, subst, length, length-set, map, find, slice_get, if◌then◌else◌, append-nil, arith}
-use Rattle.std.specs.List.{filter_map, cons_option, AllByRecursion}
+use Rattle.std.proofs.Common.{◌≡◌, ℕ, zero, suc, ◌+◌, ◌<◌, ◌==◌, Bool, true, false, cond, List, [], ◌∷◌, ◌++◌, Some, None, refl, ap, sym, ◌∙◌, subst, length, map, slice_get, if◌then◌else◌, append-nil, arith}
+use Rattle.std.specs.List.{cons_option, AllByRecursion}
 use Rattle.std.proofs.lemmas.Bool.Decides.{nat_tests}
-use Rattle.std.proofs.lemmas.Bool.{ne_eqb, eq-eqb, cases_eq}
+use Rattle.std.proofs.lemmas.Bool.{ne_eqb, eq-eqb}
 use Rattle.std.proofs.lemmas.List.{length_push}
 use Rattle.std.proofs.lemmas.List.Elements.{filter_map-append}
 use Rattle.std.proofs.lemmas.Option.{same_Some}
@@ -19,14 +19,14 @@ use Rattle.job_table.specs.declared.stages.Stage.{Stage}
 use Rattle.job_table.specs.Jobs.{JobRecord, new_job, new_collection, with_read, with_stage}
 use Rattle.job_table.specs.Jobs as jobs_table
 use Rattle.job_table.specs.Table.{changed_at}
-use Rattle.die_log.specs.Log.{Log, Job, Carried, jobs, job_at, carried, waived, act_of, acts, now}
+use Rattle.die_log.specs.Log.{Log, Job, jobs, job_at, waived, act_of, acts, now}
 use Rattle.die_log.specs.Work.{are_all, completion, ended_by}
 use Rattle.die_log.specs.Answers.{IsExact}
 use Rattle.die_log.specs.Standing.{AreNumbered}
 use Rattle.die_log.proofs.Legality.{entry}
 use Rattle.die_log.proofs.Standing.Longer.{acts_stay, acts_grow, act_own, number_at}
 use Rattle.die_log.proofs.Collecting.{no_acts, other_number}
-use Rattle.die_log.proofs.Known.{known, AreKnown, CarriedBelow, WaivedBelow}
+use Rattle.die_log.proofs.Known.{known, WaivedBelow}
 use Rattle.slot_core.specs.Turns.{after_read}
 use Rattle.slot_core.specs.Records.{record_from, record_with, records, waiver_among, stage_by, gift_by, gift_of, given, reads_of, bytes_read}
 

@@ -1,9 +1,9 @@
 -- What the head of a slot finds: an operation left, a page of the die, a token for a write, room for what a read gives.
-use Rattle.std.proofs.Common.{◌≡◌, ℕ, zero, suc, ◌+◌, ◌-◌, ◌<◌, ◌≤◌, ◌==◌, Bool, true, false, cond, List, [], ◌∷◌, ◌++◌, Option, Some, None, refl, ap, sym, ◌∙◌, subst, length, length-set, replicate, take, drop, slice_get, slice_index, length-append, add-one, inl, inr, ◌⊎◌, if◌then◌else◌, arith}
-use Rattle.std.specs.Prelude.{Contains, count_by, MatchOption, MatchBool}
-use Rattle.std.specs.List.{sum_by, cons_option, AllByRecursion}
+use Rattle.std.proofs.Common.{◌≡◌, ℕ, zero, suc, ◌+◌, ◌<◌, ◌≤◌, ◌==◌, Bool, true, false, cond, List, [], ◌∷◌, ◌++◌, Option, Some, None, refl, ap, sym, ◌∙◌, subst, length, length-set, take, drop, slice_get, slice_index, length-append, add-one, inl, inr, ◌⊎◌, arith}
+use Rattle.std.specs.Prelude.{count_by, MatchOption, MatchBool}
+use Rattle.std.specs.List.{sum_by, cons_option}
 use Rattle.std.proofs.lemmas.Bool.{eqb-true}
-use Rattle.std.proofs.lemmas.Option.{same_Some, none-some, slice_get_within, get_or_from_slice_get}
+use Rattle.std.proofs.lemmas.Option.{same_Some, none-some}
 use Rattle.std.proofs.lemmas.List.{length-replicate, length_push}
 use Rattle.std.proofs.lemmas.List.Elements.{filter_map-append}
 use Rattle.std.proofs.lemmas.List.Sums.{sum_by-cons}

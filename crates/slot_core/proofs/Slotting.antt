@@ -1,10 +1,9 @@
 -- A slot keeps what the fields of a die say of its log.
-use Rattle.std.proofs.Common.{◌≡◌, ℕ, zero, suc, ◌+◌, ◌<◌, ◌≤◌, ◌==◌, ◌&&◌, ◌||◌, ◌^◌, not, nat_le, nat_lt, Bool, true, false, cond, List, [], ◌∷◌, ◌++◌, Option, Some, None, option_map, refl, ap, sym, ◌∙◌, subst, length, map, reverse, slice_get, slice_set, slice_index, slice_index_or, unwrap_or, if◌then◌else◌, append-nil, sum, arith}
-use Rattle.std.specs.Prelude.{Contains}
+use Rattle.std.proofs.Common.{◌≡◌, ℕ, zero, suc, ◌+◌, ◌<◌, ◌≤◌, ◌==◌, ◌&&◌, ◌||◌, not, nat_le, Bool, true, false, List, [], ◌∷◌, ◌++◌, Option, Some, None, option_map, refl, ap, sym, ◌∙◌, subst, length, map, reverse, slice_get, slice_index_or, if◌then◌else◌, append-nil, arith}
 use Rattle.std.proofs.lemmas.Bool.{and_parts, not-true, true≢false}
 use Rattle.std.proofs.lemmas.Bool.Decides.{nat_tests}
 use Rattle.std.proofs.lemmas.List.{length_push, reverse-append}
-use Rattle.std.proofs.lemmas.Option.{same_Some, none-some}
+use Rattle.std.proofs.lemmas.Option.{same_Some}
 use Rattle.slot_types.specs.declared.plans.DiePlan.{DiePlan}
 use Rattle.slot_types.specs.declared.limits.TheConstants.{MAX_SLOT}
 use Rattle.slot_types.specs.declared.acts.Act.{Act}
@@ -18,13 +17,10 @@ use Rattle.slot_types.specs.declared.replies.Reply.TheVariants as replies
 use Rattle.slot_types.specs.declared.replies.Entry.{Entry}
 use Rattle.slot_types.specs.declared.replies.SlotReply.{SlotReply}
 use Rattle.slot_types.specs.declared.replies.Waived.{Waived}
-use Rattle.plan_rules.specs.Accounts.{Accounts, given_of}
 use Rattle.flash_die.specs.Flash as device
-use Rattle.flash_volume.specs.declared.collection.Collection.{Collection}
 use Rattle.flash_volume.specs.declared.collection.Collected.{Collected}
 use Rattle.flash_volume.specs.declared.collection.Collected.TheVariants as acts_of
 use Rattle.flash_volume.specs.Cells.{open_in}
-use Rattle.flash_volume.specs.Running.{running_of}
 use Rattle.flash_volume.specs.State.{State}
 use Rattle.job_table.specs.declared.stages.Stage.{Stage}
 use Rattle.job_table.specs.declared.stages.Stage.TheVariants.{Pending, Done, Waived as Gone}
@@ -38,9 +34,9 @@ use Rattle.late_cert.specs.Schedule.{Slots}
 use Rattle.die_log.specs.Log.{Log, Job, Carried, jobs, job_at, carried, acts, waived, is_waived, now, work}
 use Rattle.die_log.specs.Flash as flash
 use Rattle.die_log.specs.Flash.{cells, contents, free}
-use Rattle.die_log.specs.Work.{is_ready, is_done, are_all, is_write, owed}
-use Rattle.die_log.specs.Accounts.{accounts, after_waivers}
-use Rattle.die_log.specs.Answers.{answer, accepted, IsAccepted, refusal_of, Choice, choice, slot_reply, reply_with, act_for, act_of_op, is_waivable}
+use Rattle.die_log.specs.Work.{is_done, are_all, is_write, owed}
+use Rattle.die_log.specs.Accounts.{accounts}
+use Rattle.die_log.specs.Answers.{answer, accepted, IsAccepted, refusal_of, Choice, choice, slot_reply, reply_with, act_for, act_of_op}
 use Rattle.die_log.specs.Held.{held_of, lent_to, IsTaken as IsOfPlan}
 use Rattle.die_log.specs.Legal.{is_among}
 use Rattle.die_log.specs.Rows.{carried_numbers}
@@ -51,16 +47,16 @@ use Rattle.die_log.proofs.Tokens.Sums.{all_at}
 use Rattle.die_log.proofs.Tokens.Turns.{owed_fits}
 use Rattle.slot_core.specs.Core.{with_entry}
 use Rattle.slot_core.specs.Kept.{Keeps}
-use Rattle.slot_core.specs.Records.{record_with, records, waiver_among, gift_of}
-use Rattle.slot_core.specs.Device.{FlashState, flash_of, counts_of, AreRunning, IsFlashOf}
-use Rattle.slot_core.specs.Slotted.{GoesOn, IsWaivedFlash, IsSlot, InSlot, OthersRun, HasTurn}
+use Rattle.slot_core.specs.Records.{record_with, records, waiver_among}
+use Rattle.slot_core.specs.Device.{FlashState, flash_of, AreRunning, IsFlashOf}
+use Rattle.slot_core.specs.Slotted.{GoesOn, IsWaivedFlash, IsSlot, InSlot, HasTurn}
 use Rattle.slot_core.specs.Acting.{act_by, operated}
 use Rattle.slot_core.specs.declared.turn.Turn.{Turn}
-use Rattle.slot_core.specs.Turns.{is_read_act, after_read, finished, after_turn, turn_by, DidOp, DidCollect, DidBy, DidTurn}
+use Rattle.slot_core.specs.Turns.{is_read_act, after_read, finished, after_turn, turn_by, DidOp, DidBy, DidTurn}
 use Rattle.slot_core.proofs.Choosing.{starts, begins, ends}
 use Rattle.slot_core.proofs.Collections.{running_acted}
-use Rattle.slot_core.proofs.Recording.{records-idle, records-act, acted_is, acted_record, acted_reply, stage_after, slot_of}
-use Rattle.slot_core.proofs.Heading.{is_some_waiver, waiver_is, among_both, nothing_least, table_at, pending_is}
+use Rattle.slot_core.proofs.Recording.{records-idle, records-act, acted_is, acted_record, acted_reply, slot_of}
+use Rattle.slot_core.proofs.Heading.{is_some_waiver, waiver_is, among_both, nothing_least, pending_is}
 use Rattle.slot_core.proofs.Flashing.{slot_entry, slot_with, unwaived_flash, flash-idle, flash-read, flash-write, content_is}
 use Rattle.slot_core.proofs.Opened.{opens_same}
 use Rattle.slot_core.proofs.Serving.{hold_positive}

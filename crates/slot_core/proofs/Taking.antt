@@ -1,5 +1,5 @@
 -- What a slot of a collection leaves is what the log says.
-use Rattle.std.proofs.Common.{◌≡◌, ◌≢◌, ◌⊎◌, inl, inr, ℕ, zero, suc, ◌+◌, ◌-◌, ◌<◌, ◌≤◌, ◌==◌, ◌&&◌, not, nat_lt, Bool, true, false, cond, List, [], ◌∷◌, ◌++◌, Option, Some, None, refl, ap, sym, ◌∙◌, subst, length, length-set, map, slice_get, slice_index, slice_set, slice_index_or, unwrap_or, if◌then◌else◌, arith}
+use Rattle.std.proofs.Common.{◌≡◌, inl, inr, ℕ, ◌+◌, ◌-◌, ◌<◌, ◌==◌, ◌&&◌, not, nat_lt, Bool, true, false, cond, List, [], ◌∷◌, ◌++◌, Option, Some, None, refl, ap, sym, ◌∙◌, subst, length, length-set, slice_index, slice_set, slice_index_or, unwrap_or, if◌then◌else◌, arith}
 use Rattle.std.specs.Prelude.{Contains, count_by, IsSome}
 use Rattle.std.specs.List.{last_or}
 use Rattle.std.proofs.lemmas.Bool.{ne_eqb, eq-eqb}
@@ -9,15 +9,12 @@ use Rattle.slot_types.specs.declared.plans.DiePlan.{DiePlan}
 use Rattle.slot_types.specs.declared.acts.Act.{Act}
 use Rattle.slot_types.specs.declared.acts.Act.TheVariants as does
 use Rattle.slot_types.specs.declared.pages.Place.{Place}
-use Rattle.slot_types.specs.declared.replies.Entry.{Entry}
-use Rattle.slot_types.specs.declared.replies.SlotReply.{SlotReply}
 use Rattle.slot_types.specs.declared.replies.Waived.{Waived}
 use Rattle.slot_types.specs.Places.{place_of}
 use Rattle.plan_rules.specs.Bound.{MeetsBound}
 use Rattle.plan_rules.specs.Accounts.{Accounts, given_of, reserve_spent, settled}
 use Rattle.flash_die.specs.Flash as device
 use Rattle.flash_volume.specs.declared.collection.Collection.{Collection}
-use Rattle.flash_volume.specs.declared.collection.Copied.{Copied}
 use Rattle.flash_volume.specs.declared.collection.Collected.{Collected}
 use Rattle.flash_volume.specs.declared.collection.Collected.TheVariants as acts_of
 use Rattle.flash_volume.specs.Acts.{HasDropped, IsUnplaced, IsFirst, Reads, Programs, Goes, Finishes, Does}
@@ -25,16 +22,13 @@ use Rattle.flash_volume.specs.Cells.{open_in, next_cell}
 use Rattle.flash_volume.specs.Running.{running_of, with_buffer, copied_of}
 use Rattle.flash_volume.specs.State.{State}
 use Rattle.die_log.specs.Log.{Log, Job, jobs, job_at, acts, is_waived}
-use Rattle.die_log.specs.Flash as flash
-use Rattle.die_log.specs.Flash.{Block, cells, block_at, free_block, ran_by}
+use Rattle.die_log.specs.Flash.{Block, cells, block_at, free_block}
 use Rattle.die_log.specs.Work.{are_all, is_done, is_erase, is_copy_program, victim_of, shown_by}
-use Rattle.die_log.specs.Accounts.{accounts, after_act, after_waiver, after_waivers}
-use Rattle.die_log.specs.Answers.{act_for, collect_act, is_running, buffer_after}
-use Rattle.die_log.specs.Held.{is_pending, reserve_full}
-use Rattle.die_log.specs.Held as held
+use Rattle.die_log.specs.Accounts.{accounts, after_waiver, after_waivers}
+use Rattle.die_log.specs.Answers.{act_for, collect_act, buffer_after}
+use Rattle.die_log.specs.Held.{is_pending}
 use Rattle.die_log.specs.Legal.{written_since}
 use Rattle.die_log.specs.Sound.{MayDo}
-use Rattle.die_log.specs.Standing.{Runs}
 use Rattle.die_log.proofs.Cells.Collections.{last_push, next_may}
 use Rattle.die_log.proofs.Legal.Exact.{StandsWell, has_slots}
 use Rattle.die_log.proofs.Standing.Longer.{act_own, acts_grow}
@@ -42,7 +36,7 @@ use Rattle.die_log.proofs.Standing.Quiet.{runs_with}
 use Rattle.die_log.proofs.Standing.Actors.{IsBegun, begun, act_shows, all_is, erases_push, runs_from}
 use Rattle.die_log.proofs.Tokens.Reserves.{reserve_lacks}
 use Rattle.slot_core.specs.declared.turn.Turn.{Turn}
-use Rattle.slot_core.specs.Device.{FlashState, flash_of, counts_of, page_in, page_held, IsRun, AreRunning, IsFlashOf}
+use Rattle.slot_core.specs.Device.{FlashState, flash_of, counts_of, page_in, AreRunning, IsFlashOf}
 use Rattle.slot_core.specs.Slotted.{IsWaivedFlash, RunsHead, OthersRun}
 use Rattle.slot_core.specs.Turns.{turn_by}
 use Rattle.slot_core.proofs.Collections.{own_running, other_running, OwnRun, running_acted}

@@ -1,14 +1,10 @@
 -- The head of a slot: what it is in the log, and what it finds on the volume.
-use Rattle.std.proofs.Common.{◌≡◌, ℕ, zero, suc, ◌+◌, ◌<◌, ◌≤◌, ◌==◌, ◌&&◌, ◌^◌, not, nat_le, nat_lt, Bool, true, false, cond, List, [], ◌∷◌, ◌++◌, Option, Some, None, refl, ap, sym, ◌∙◌, subst, length, map, slice_get, slice_index, slice_index_or, arith}
+use Rattle.std.proofs.Common.{◌≡◌, ℕ, zero, suc, ◌+◌, ◌<◌, ◌^◌, not, Bool, true, false, List, [], ◌∷◌, ◌++◌, Option, Some, None, refl, ap, sym, ◌∙◌, subst, length, slice_get, slice_index, slice_index_or, arith}
 use Rattle.std.specs.Prelude.{Contains}
-use Rattle.std.specs.List.{filter_map, cons_option}
-use Rattle.std.proofs.lemmas.Bool.{and_parts, and_from, true≢false, eqb-true, not_from_false}
-use Rattle.std.proofs.lemmas.Option.{same_Some, none-some, slice_get_within, slice_get-get_or, get_or_from_slice_get}
+use Rattle.std.proofs.lemmas.Bool.{and_parts, true≢false}
+use Rattle.std.proofs.lemmas.Option.{same_Some, slice_get_within, get_or_from_slice_get}
 use Rattle.slot_types.specs.declared.plans.DiePlan.{DiePlan}
-use Rattle.slot_types.specs.declared.limits.TheConstants.{MAX_SLOT}
-use Rattle.slot_types.specs.declared.acts.Act.{Act}
 use Rattle.slot_types.specs.declared.events.Op.{Op}
-use Rattle.slot_types.specs.declared.events.Op.TheVariants as asks
 use Rattle.slot_types.specs.declared.replies.Waived.{Waived}
 use Rattle.plan_rules.specs.Accounts.{Accounts}
 use Rattle.flash_die.specs.Flash as device
@@ -18,11 +14,10 @@ use Rattle.job_table.specs.Jobs.{JobRecord}
 use Rattle.job_table.specs.Table.{Table, work_at, work_of}
 use Rattle.job_table.specs.Order as table
 use Rattle.die_log.specs.Log.{Log, Job, Carried, jobs, job_at, carried, act_of, acts, waived, is_waived, work, now}
-use Rattle.die_log.specs.Flash.{Block, cells, block_at, free_block, contents, free}
-use Rattle.die_log.specs.Work.{is_done, is_ready, ready, least, is_write, owed}
+use Rattle.die_log.specs.Flash.{Block, cells, block_at, free_block, free}
+use Rattle.die_log.specs.Work.{is_done, is_ready, ready, least, owed}
 use Rattle.die_log.specs.Accounts.{accounts, after_waiver, after_waivers}
-use Rattle.die_log.specs.Answers.{page_of}
-use Rattle.die_log.specs.Held.{Agree, held_of, lent_to, is_pending, IsTaken}
+use Rattle.die_log.specs.Held.{lent_to, is_pending}
 use Rattle.die_log.specs.Legal.{is_among}
 use Rattle.die_log.specs.Limits.{IsWithinLimits}
 use Rattle.die_log.proofs.Legal.Exact.{stands_well, StandsWell}
@@ -31,9 +26,8 @@ use Rattle.die_log.proofs.Limits.{few_found, keeps_limits}
 use Rattle.die_log.proofs.Standing.Kept.{waiting_undone}
 use Rattle.die_log.proofs.Standing.Longer.{number_at, contained}
 use Rattle.die_log.proofs.Tokens.Begins.{is_pending_if}
-use Rattle.die_log.proofs.Tokens.Sums.{all_at}
 use Rattle.slot_core.specs.Records.{record_with}
-use Rattle.slot_core.specs.Device.{FlashState, flash_of, counts_of}
+use Rattle.slot_core.specs.Device.{FlashState, flash_of}
 use Rattle.slot_core.specs.Slotted.{unwaived, IsWaivedFlash, IsWaivedTable, IsSlot, RunsHead, HasTurn}
 use Rattle.slot_core.specs.Turns.{OpFits, RunFits, HeadFits}
 use Rattle.slot_core.proofs.Flashing.{counted}

@@ -1,7 +1,6 @@
 -- The victim that a volume takes is the log's.
-use Rattle.std.proofs.Common.{◌≡◌, ◌≢◌, ◌⊎◌, inl, inr, ℕ, zero, suc, ◌+◌, ◌<◌, ◌≤◌, ◌==◌, ◌&&◌, not, nat_lt, Bool, true, false, cond, List, [], ◌∷◌, Option, Some, None, refl, ap, sym, ◌∙◌, subst, length, map, filter, fold, count_by, slice_get, slice_index_or, if◌then◌else◌, arith}
-use Rattle.std.specs.Prelude.{Contains}
-use Rattle.std.specs.List.{AllByRecursion, range_with_len, reduce, list_any}
+use Rattle.std.proofs.Common.{◌≡◌, ◌⊎◌, inl, inr, ℕ, zero, suc, ◌+◌, ◌<◌, ◌≤◌, ◌==◌, ◌&&◌, not, nat_lt, Bool, true, false, cond, List, [], ◌∷◌, Option, Some, refl, ap, sym, ◌∙◌, subst, length, map, filter, fold, count_by, slice_index_or, if◌then◌else◌, arith}
+use Rattle.std.specs.List.{AllByRecursion, range_with_len, reduce}
 use Rattle.std.proofs.lemmas.Bool.{true≢false, and_parts, and_from, not-true, not_from_false, false_from_ne_true, eqb-true, eq-eqb}
 use Rattle.std.proofs.lemmas.Bool.Decides.{nat_tests}
 use Rattle.std.proofs.lemmas.List.{length-map}
@@ -13,8 +12,8 @@ use Rattle.flash_volume.specs.declared.collection.Collection.{Collection}
 use Rattle.flash_volume.specs.Cells.{filled_of}
 use Rattle.flash_volume.specs.Running.{running_of}
 use Rattle.flash_volume.specs.Picks.{IsCandidate, IsVictim}
-use Rattle.die_log.specs.Log.{Log, Job, jobs}
-use Rattle.die_log.specs.Flash.{Block, Cells, cells, block_at, is_closed, valid, free_block}
+use Rattle.die_log.specs.Log.{Log, jobs}
+use Rattle.die_log.specs.Flash.{Block, cells, block_at, is_closed, valid, free_block}
 use Rattle.die_log.specs.Work.{victim_of}
 use Rattle.die_log.specs.Answers.{is_running, is_block, is_collected, candidates, victim}
 use Rattle.die_log.specs.Sound.{AreSound}
@@ -23,7 +22,7 @@ use Rattle.die_log.proofs.Cells.Collections.{is_block_says}
 use Rattle.die_log.proofs.Standing.Actors.{runs_collected}
 use Rattle.die_log.proofs.Standing.Longer.{contained}
 use Rattle.die_log.proofs.Tokens.Found.{any_found}
-use Rattle.slot_core.specs.Device.{counts_of, IsRun, AreRunning}
+use Rattle.slot_core.specs.Device.{counts_of, AreRunning}
 use Rattle.slot_core.proofs.Flashing.{counted}
 
 -- The least of a rising list

@@ -1,9 +1,7 @@
 -- A slot's waivers: at most one a task, and each leaves what holds within the slot.
-use Rattle.std.proofs.Common.{◌≡◌, ◌≢◌, ◌⊎◌, inl, inr, ℕ, zero, suc, ◌+◌, ◌<◌, ◌≤◌, ◌==◌, ◌||◌, ◌&&◌, not, nat_le, Bool, true, false, cond, List, [], ◌∷◌, ◌++◌, Option, Some, None, refl, ap, sym, ◌∙◌, subst, length, map, filter, find, count_by, eqb, slice_get, append_assoc, length-append, arith}
-use Rattle.std.specs.Prelude.{Contains}
+use Rattle.std.proofs.Common.{◌≡◌, ℕ, zero, suc, ◌+◌, ◌<◌, ◌≤◌, ◌==◌, ◌||◌, ◌&&◌, not, nat_le, Bool, true, false, cond, List, [], ◌∷◌, ◌++◌, Option, Some, None, refl, ap, sym, ◌∙◌, subst, length, map, filter, count_by, eqb, slice_get, length-append, arith}
 use Rattle.std.specs.List.{list_any, AllByRecursion, IsDistinct}
-use Rattle.std.proofs.lemmas.Bool.{true≢false, and_parts, and_from, eq-eqb, eqb-true, ne_eqb, not-true, cases_eq}
-use Rattle.std.proofs.lemmas.Bool.Decides.{nat_tests}
+use Rattle.std.proofs.lemmas.Bool.{true≢false, and_parts, and_from, eq-eqb, eqb-true}
 use Rattle.std.proofs.lemmas.List.Sums.{sum_by-cons}
 use Rattle.std.proofs.lemmas.Map.Steps.{length-le_from_distinct_below}
 use Rattle.std.proofs.lemmas.Option.{same_Some, none-some}
@@ -12,16 +10,15 @@ use Rattle.slot_types.specs.declared.replies.Waived.{Waived}
 use Rattle.plan_rules.specs.Bound.{MeetsBound}
 use Rattle.plan_rules.specs.Accounts.{Accounts}
 use Rattle.plan_rules.specs.Accounts as moves
-use Rattle.die_log.specs.Log.{Log, Job, jobs, acts, is_waived, now}
-use Rattle.die_log.specs.Work.{is_done, is_ready, ready, least}
+use Rattle.die_log.specs.Log.{Log, Job, jobs, acts, is_waived}
+use Rattle.die_log.specs.Work.{is_ready, ready, least}
 use Rattle.die_log.specs.Accounts.{accounts}
-use Rattle.die_log.specs.Answers.{IsExact, Choice, choice, choice_among, chosen, weighed, nobody, without, with_waiver, is_waivable}
-use Rattle.die_log.specs.Held.{is_pending, pending_of, IsTaken, AreTrue}
+use Rattle.die_log.specs.Answers.{IsExact, Choice, choice, choice_among, chosen, weighed, without, is_waivable}
+use Rattle.die_log.specs.Held.{is_pending, IsTaken, AreTrue}
 use Rattle.die_log.proofs.Choices.{OfSome, least_all}
 use Rattle.die_log.proofs.Legal.Exact.{stands_well}
 use Rattle.die_log.proofs.Tokens.Begins.{is_pending_if}
-use Rattle.die_log.proofs.Tokens.Sums.{some_pass}
-use Rattle.slot_core.specs.Slotted.{unwaived, behind, GoesOn}
+use Rattle.slot_core.specs.Slotted.{unwaived, GoesOn}
 use Rattle.slot_core.proofs.Choosing.{waiver_of, waives}
 
 -- As many waivers as collections

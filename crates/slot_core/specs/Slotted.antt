@@ -1,5 +1,5 @@
 -- What holds within a slot, after some collections were waived and before the head acts.
-use Rattle.std.specs.Prelude.{◌≡◌, ◌≢◌, ℕ, ◌≤◌, ◌<◌, ◌==◌, ◌&&◌, not, Bool, true, false, List, ◌++◌, length, map, filter, Option, Some, None, slice_get}
+use Rattle.std.specs.Prelude.{◌≡◌, ◌≢◌, ℕ, ◌≤◌, ◌<◌, not, true, false, List, ◌++◌, length, map, filter, Some}
 use Rattle.slot_types.specs.declared.plans.DiePlan.{DiePlan}
 use Rattle.slot_types.specs.declared.limits.TheConstants.{MAX_SLOT}
 use Rattle.slot_types.specs.declared.replies.Waived.{Waived}
@@ -7,11 +7,10 @@ use Rattle.plan_rules.specs.Bound.{MeetsBound}
 use Rattle.plan_rules.specs.Accounts.{Accounts}
 use Rattle.flash_volume.specs.declared.collection.Collection.{Collection}
 use Rattle.flash_volume.specs.Running.{running_of}
-use Rattle.job_table.specs.Jobs.{JobRecord}
 use Rattle.job_table.specs.Table.{Table}
 use Rattle.job_table.specs.Order.{IsHead}
 use Rattle.job_table.specs.Waivers.{WerePending, waived_in}
-use Rattle.die_log.specs.Log.{Log, Job, jobs, job_at, waived, now, work}
+use Rattle.die_log.specs.Log.{Log, Job, jobs, job_at, waived, now}
 use Rattle.die_log.specs.Flash.{contents, cells}
 use Rattle.die_log.specs.Work.{ready}
 use Rattle.die_log.specs.Accounts.{accounts, after_waivers}

@@ -14,10 +14,8 @@ use Rattle.slot_types.specs.declared.refusals.Refusal.TheVariants as because
 use Rattle.slot_types.specs.declared.replies.Reply.{Reply}
 use Rattle.slot_types.specs.declared.replies.Reply.TheVariants as replies
 use Rattle.slot_types.specs.declared.replies.SlotReply.{SlotReply}
-use Rattle.slot_types.specs.declared.acts.Act.{Act}
-use Rattle.slot_types.specs.declared.replies.Waived.{Waived}
-use Rattle.die_log.specs.Log.{Log, Job, now}
-use Rattle.die_log.specs.Answers.{answer, answer_by, refusal_of, slot_reply, reply_with, act_for, choice, IsAccepted}
+use Rattle.die_log.specs.Log.{Log, now}
+use Rattle.die_log.specs.Answers.{answer, answer_by, refusal_of, slot_reply, choice, IsAccepted}
 use Rattle.die_log.proofs.Numbered.{slot_is}
 use Rattle.slot_core.specs.Core.{with_entry}
 use Rattle.die_service.specs.Passes.{IsTaken}

@@ -1,4 +1,4 @@
-use Rattle.std.proofs.Common.{◌≡◌, ℕ, List, sym, ap, ◌∙◌, subst, reverse, None, Some, if◌then◌else◌}
+use Rattle.std.proofs.Common.{List, sym, ap, ◌∙◌, subst, reverse}
 use Rattle.slot_types.specs.declared.events.Event.TheVariants.{Slot}
 use Rattle.slot_types.specs.declared.replies.Reply.TheVariants as replies
 use Rattle.slot_types.specs.declared.plans.DiePlan.{DiePlan}

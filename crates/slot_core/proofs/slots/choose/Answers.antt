@@ -1,4 +1,4 @@
-use Rattle.std.proofs.Common.{◌≡◌, ℕ, ◌<◌, ◌≤◌, List, [], ◌∷◌, ◌++◌, refl, sym, ap, ◌∙◌, subst, length, vec_capacity, arith}
+use Rattle.std.proofs.Common.{ℕ, List, [], ◌∷◌, ◌++◌, refl, sym, ap, ◌∙◌, subst, length, vec_capacity, arith}
 use Rattle.slot_types.specs.declared.replies.Waived.{Waived}
 use Rattle.slot_core.specs.Turns.{HasWaiverRoom}
 use Rattle.slot_core.proofs.Beginning.{begin_leaves, looks_idle, looks_fit, looks_turn, looks_waived, looks_room, looks_roomy}

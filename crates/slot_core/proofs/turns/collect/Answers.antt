@@ -1,4 +1,3 @@
-use Rattle.std.proofs.Common.{◌∙◌}
 use Rattle.slot_core.proofs.Taking.{did_leaves}
 use Rattle.slot_core.proofs.turns.collect.Goals as goal
 

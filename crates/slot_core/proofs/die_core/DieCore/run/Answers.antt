@@ -1,4 +1,4 @@
-use Rattle.std.proofs.Common.{◌≡◌, ◌∙◌, ◌+◌, ◌∷◌, [], ◌++◌, length, ap, sym, length-append}
+use Rattle.std.proofs.Common.{◌∙◌, ◌+◌, ◌∷◌, [], ap, sym, length-append}
 use Rattle.slot_core.proofs.Running.{goes_on}
 use Rattle.slot_core.proofs.die_core.DieCore.run.Goals as goal
 

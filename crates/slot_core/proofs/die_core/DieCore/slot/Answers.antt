@@ -1,4 +1,4 @@
-use Rattle.std.proofs.Common.{◌≡◌, inl, inr}
+use Rattle.std.proofs.Common.{inl, inr}
 use Rattle.slot_core.proofs.Slotting.{slot_refused, slot_accepts}
 use Rattle.slot_core.proofs.die_core.DieCore.slot.Goals as goal
 

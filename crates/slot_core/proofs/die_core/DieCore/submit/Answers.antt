@@ -1,11 +1,9 @@
-use Rattle.std.proofs.Common.{◌≡◌, ◌≤◌, ℕ, refl, sym, ◌∙◌, ap, subst, inl, inr, reverse, ◌∷◌, [], None}
+use Rattle.std.proofs.Common.{◌≡◌, sym, ◌∙◌, ap, inl, inr, reverse, None}
 use Rattle.std.proofs.lemmas.List.{reverse-append}
 use Rattle.slot_types.specs.declared.events.Event.TheVariants.{Submit}
-use Rattle.plan_rules.specs.Accounts.{admitted}
 use Rattle.die_log.specs.Work.{writes}
 use Rattle.die_log.specs.Answers.{refusal_of}
 use Rattle.die_log.proofs.Legality.{refused_answer}
-use Rattle.flash_volume.specs.State.{State}
 use Rattle.slot_core.specs.Core.{Core}
 use Rattle.slot_core.proofs.Keeping.{submit_kept, submit_accepts, submit_taken, tokens_suffice, admit_made}
 use Rattle.slot_core.proofs.die_core.DieCore.submit.Goals as goal
