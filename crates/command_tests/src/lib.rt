@@ -5,6 +5,8 @@
 #[cfg(test)]
 mod acting;
 #[cfg(test)]
+mod command_line;
+#[cfg(test)]
 mod failing;
 #[cfg(test)]
 mod printed;

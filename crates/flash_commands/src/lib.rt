@@ -4,6 +4,7 @@
 pub mod acts;
 pub mod audits;
 pub mod built_in;
+pub mod command_line;
 pub mod commands;
 pub mod faults;
 pub mod figures;
@@ -11,5 +12,6 @@ pub mod plans;
 pub mod syntax;
 
 pub use acts::act;
+pub use command_line::{show, words_of};
 pub use commands::{Command, read_words};
 pub use faults::{Fault, end};
