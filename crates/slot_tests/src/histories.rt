@@ -1,10 +1,11 @@
 //! Random histories of a die with as many logical pages as its bound allows, on which a collection copies as a rule: each read gives the page's last finished write.
 
-use crate::collections::holds;
-use crate::dies::{plan_of, submit_of};
-use flash_die::MemoryNand;
+use crate::asked::submit;
+use crate::certified::holds;
+use crate::dies::{device_of, plan_of};
+use flash_die::{MemoryNand, Nand};
 use slot_core::DieCore;
-use slot_types::{Act, Op, PageData, Refusal, Shape, TaskNo};
+use slot_types::{Act, Op, PageData, Refusal, TaskNo};
 use std::alloc::Global;
 use std::test::Fail;
 
@@ -14,12 +15,6 @@ const CONTENTS: [PageData; 4] = [
     PageData([3; 16]),
     PageData([4; 16]),
 ];
-
-const SHAPE: Shape = Shape {
-    blocks: 8,
-    pages: 4,
-    erase_slots: 3,
-};
 
 /// How many logical pages the die has: as many as its plan's bound allows.
 const PAGES: usize = 17;
@@ -47,7 +42,7 @@ fn arrive(die: &mut DieCore<MemoryNand>, alloc: Global, dice: u32, now: u32) -> 
     let page = dice / 65536 % 17;
     let bytes = CONTENTS[(dice / 2097152 % 4) as usize];
     match dice / 16777216 % 8 {
-        0..=3 => submit_of(
+        0..=3 => submit(
             die,
             alloc,
             0,
@@ -56,7 +51,7 @@ fn arrive(die: &mut DieCore<MemoryNand>, alloc: Global, dice: u32, now: u32) -> 
             &[Op::Write(page, bytes)],
         )
         .is_ok(),
-        4 => submit_of(die, alloc, 0, now, now.wrapping_add(8), &[Op::Read(page)]).is_ok(),
+        4 => submit(die, alloc, 0, now, now.wrapping_add(8), &[Op::Read(page)]).is_ok(),
         _ => die
             .collect(alloc, 0, TaskNo(0), now, now.wrapping_add(16))
             .is_ok(),
@@ -85,8 +80,9 @@ fn note(played: &mut Played, pages: &mut [PageData; PAGES], act: Act) {
 
 /// Plays a history from this seed, an arrival and a slot at a time.
 fn play(alloc: Global, seed: u32) -> Result<Played, Refusal> {
-    let nand = MemoryNand::new(alloc, SHAPE)?;
-    let mut die = DieCore::new(alloc, plan_of(alloc, SHAPE, 17)?, nand)?;
+    let device = device_of(alloc, 8)?;
+    let plan = plan_of(alloc, device.shape(), 17)?;
+    let mut die = DieCore::new(alloc, plan, device)?;
     let mut pages = [PageData([0xFF; 16]); PAGES];
     let mut played = Played {
         agrees: true,

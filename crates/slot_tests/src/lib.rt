@@ -2,14 +2,30 @@
 #![tactic(auto)]
 
 #[cfg(test)]
+mod asked;
+#[cfg(test)]
+mod certified;
+#[cfg(test)]
 mod collections;
 #[cfg(test)]
 mod dies;
 #[cfg(test)]
 mod ends;
 #[cfg(test)]
+mod facts;
+#[cfg(test)]
 mod histories;
+#[cfg(test)]
+mod idle;
 #[cfg(test)]
 mod jobs;
 #[cfg(test)]
+mod outcomes;
+#[cfg(test)]
+mod pages;
+#[cfg(test)]
 mod refusals;
+#[cfg(test)]
+mod slotted;
+#[cfg(test)]
+mod steps;

@@ -1,101 +1,62 @@
 //! Jobs that a die refuses, and with which refusal.
 
-use crate::dies::{ONES, die, is_unknown, refuses, submit, submit_of};
-use flash_die::MemoryNand;
-use slot_core::DieCore;
-use slot_types::{Op, Refusal, TaskNo};
-use std::alloc::Global;
+use crate::dies::plays_wide;
+use crate::facts::Fact::{Entries, Now, Unknown};
+use crate::pages::{ONES, READ};
+use crate::steps::Step;
+use crate::steps::Step::{Is, NoCollect, Passes, Refused, Submit, Submits};
+use slot_types::{Op, Refusal};
 use std::test::Fail;
+
+const WRITE: Op = Op::Write(0, ONES);
+
+const BEYOND: Op = Op::Read(12);
+
+/// Task 0 has four tokens.
+const FIVE_WRITES: &[Step] = &[
+    Refused(0, 0, 9, &[WRITE; 5], Refusal::NoTokens { have: 4, need: 5 }),
+    Submit(0, 9, &[WRITE; 4], 0),
+    Refused(0, 0, 9, &[WRITE], Refusal::NoTokens { have: 0, need: 1 }),
+    Is(Entries(1)),
+];
 
 #[test]
 fn a_fifth_write_finds_no_token(rt: HostRuntime) -> Result<(), Fail> {
-    let alloc = rt.alloc();
-    let mut die = die(alloc)?;
-    let writes = [Op::Write(0, ONES); 5];
-    let fifth = Refusal::NoTokens { have: 4, need: 5 };
-    let one_more = Refusal::NoTokens { have: 0, need: 1 };
-    let five = refuses(&mut die, alloc, 0, 0, 9, &writes, fifth);
-    let four = submit(&mut die, alloc, 0, 9, &writes[..4]);
-    let one = refuses(&mut die, alloc, 0, 0, 9, &writes[..1], one_more);
-    assert!(rt; five & (four == 0) & one & (die.len() == 1));
-    Ok(())
+    Ok(plays_wide(&rt, rt.alloc(), FIVE_WRITES)?)
 }
 
-/// A die behind five idle slots.
-fn die_at_five(alloc: Global) -> Result<DieCore<MemoryNand>, Refusal> {
-    let mut die = die(alloc)?;
-    for _ in 0..5 {
-        die.slot(alloc, 0)?;
-    }
-    Ok(die)
-}
-
-// A job with the refusal that it gets: its task, release, due and operations.
-type Refused<'a> = (u32, u32, u32, &'a [Op], Refusal);
-
-// Whether each of these jobs gets its refusal.
-fn refuses_each(die: &mut DieCore<MemoryNand>, alloc: Global, jobs: &[Refused]) -> bool {
-    let mut all = true;
-    for (task, release, due, ops, refusal) in jobs {
-        all &= refuses(die, alloc, *task, *release, *due, *ops, *refusal);
-    }
-    all
-}
+/// Jobs with one fault or two, in slot 5.
+const FAULTS: &[Step] = &[
+    Passes(5),
+    Refused(0, 4, 9, &[READ], Refusal::ReleasePast { now: 5 }),
+    Refused(0, 5, 5, &[READ], Refusal::BadDue),
+    Refused(0, 5, 1048577, &[READ], Refusal::BadDue),
+    Refused(0, 5, 9, &[BEYOND], Refusal::BadPage { page: 12 }),
+    Refused(0, 5, 9, &[], Refusal::EmptyJob),
+    Refused(0, 5, 9, &[READ; 65], Refusal::TooManyOps),
+    Refused(1, 5, 9, &[], Refusal::UnknownTask),
+    Refused(0, 4, 9, &[BEYOND], Refusal::BadPage { page: 12 }),
+    Refused(0, 5, 5, &[WRITE; 5], Refusal::BadDue),
+    Is(Unknown(0)),
+    Submit(5, 9, &[READ; 64], 0),
+    Is(Entries(6)),
+    Is(Now(5)),
+];
 
 #[test]
 fn the_first_refusal_is_answered(rt: HostRuntime) -> Result<(), Fail> {
-    let alloc = rt.alloc();
-    let mut die = die_at_five(alloc)?;
-    let reads = [Op::Read(0); 65];
-    let beyond = [Op::Read(12)];
-    let writes = [Op::Write(0, ONES); 5];
-    let refused = refuses_each(
-        &mut die,
-        alloc,
-        &[
-            (0, 4, 9, &reads[..1], Refusal::ReleasePast { now: 5 }),
-            (0, 5, 5, &reads[..1], Refusal::BadDue),
-            (0, 5, 1048577, &reads[..1], Refusal::BadDue),
-            (0, 5, 9, &beyond, Refusal::BadPage { page: 12 }),
-            (0, 5, 9, &[], Refusal::EmptyJob),
-            (0, 5, 9, &reads, Refusal::TooManyOps),
-            (1, 5, 9, &[], Refusal::UnknownTask),
-            (0, 4, 9, &beyond, Refusal::BadPage { page: 12 }),
-            (0, 5, 5, &writes, Refusal::BadDue),
-        ],
-    );
-    let unknown = is_unknown(&die, alloc, 0);
-    let taken = submit(&mut die, alloc, 5, 9, &reads[..64]);
-    assert!(rt; refused & unknown & (taken == 0) & (die.len() == 6) & (die.now() == 5));
-    Ok(())
+    Ok(plays_wide(&rt, rt.alloc(), FAULTS)?)
 }
 
-/// A die with as many jobs as it can have.
-fn full_die(alloc: Global) -> Result<DieCore<MemoryNand>, Refusal> {
-    let mut die = die(alloc)?;
-    for _ in 0..65536 {
-        submit_of(&mut die, alloc, 0, 0, 1048576, &[Op::Read(0)])?;
-    }
-    Ok(die)
-}
+/// A die has 65,536 jobs at most.
+const ONE_MORE: &[Step] = &[
+    Submits(65536, 0, 1048576, &[READ]),
+    Refused(0, 0, 1048576, &[READ], Refusal::JobsFull),
+    NoCollect(0, 1048576, Refusal::JobsFull),
+    Is(Entries(65536)),
+];
 
 #[test]
 fn no_job_is_accepted_behind_65536(rt: HostRuntime) -> Result<(), Fail> {
-    let alloc = rt.alloc();
-    let mut die = full_die(alloc)?;
-    let full = refuses(
-        &mut die,
-        alloc,
-        0,
-        0,
-        1048576,
-        &[Op::Read(0)],
-        Refusal::JobsFull,
-    );
-    let collect = matches!(
-        die.collect(alloc, 0, TaskNo(0), 0, 1048576),
-        Err(Refusal::JobsFull)
-    );
-    assert!(rt; full & collect & (die.len() == 65536));
-    Ok(())
+    Ok(plays_wide(&rt, rt.alloc(), ONE_MORE)?)
 }
