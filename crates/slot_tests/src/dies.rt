@@ -1,8 +1,6 @@
 //! Dies with one task of four tokens, on which tables are played.
 
-ghost use Rattle.std.specs.Prelude.{◌≡◌, IfOk};
 ghost use Rattle.flash_die.specs.Flash.{IsFresh};
-ghost use Rattle.flash_die.specs.Memory.{fresh_memory};
 
 use crate::steps::{Step, first_wrong};
 use flash_die::{FuseNand, MemoryNand, Nand};
@@ -11,8 +9,20 @@ use slot_types::{Caps, DiePlan, Refusal, Shape};
 use std::alloc::Global;
 use std::process::Abort;
 
+const TIGHT: Shape = Shape {
+    blocks: 4,
+    pages: 4,
+    erase_slots: 3,
+};
+
+const WIDE: Shape = Shape {
+    blocks: 8,
+    pages: 4,
+    erase_slots: 3,
+};
+
 /// A plan with so many logical pages.
-pub(crate) fn plan_of(alloc: Global, shape: Shape, logical: u32) -> Result<DiePlan, Refusal> {
+fn plan_of(alloc: Global, shape: Shape, logical: u32) -> Result<DiePlan, Refusal> {
     let mut caps = Caps::new(alloc);
     caps.push(4)?;
     Ok(DiePlan {
@@ -23,20 +33,8 @@ pub(crate) fn plan_of(alloc: Global, shape: Shape, logical: u32) -> Result<DiePl
     })
 }
 
-/// A fresh device in memory, with so many blocks.
-pub(crate) fn device_of(alloc: Global, blocks: u32) -> Result<MemoryNand, Refusal>
-    ensures fresh { IfOk result (λ device. device ≡ fresh_memory (record { blocks = blocks; pages = 4; erase_slots = 3 })) }
-{
-    let shape = Shape {
-        blocks,
-        pages: 4,
-        erase_slots: 3,
-    };
-    MemoryNand::new(alloc, shape)
-}
-
 /// Plays a table on a new die behind a history: at the first step that goes otherwise the test fails, and tells its place.
-pub(crate) fn plays<N: Nand>(
+fn plays<N: Nand>(
     rt: &impl Abort,
     alloc: Global,
     device: N,
@@ -63,7 +61,12 @@ pub(crate) fn plays<N: Nand>(
 
 /// Plays a table on a new die with pages to spare: 8 blocks, and 12 logical pages.
 pub(crate) fn plays_wide(rt: &impl Abort, alloc: Global, steps: &[Step]) -> Result<(), Refusal> {
-    plays(rt, alloc, device_of(alloc, 8)?, 12, &[], steps)
+    plays(rt, alloc, MemoryNand::new(alloc, WIDE)?, 12, &[], steps)
+}
+
+/// Plays a table on a new die of 8 blocks, with as many logical pages as its plan's bound allows: 17.
+pub(crate) fn plays_dense(rt: &impl Abort, alloc: Global, steps: &[Step]) -> Result<(), Refusal> {
+    plays(rt, alloc, MemoryNand::new(alloc, WIDE)?, 17, &[], steps)
 }
 
 /// Plays a table on a wide die whose device fails behind so many calls.
@@ -73,16 +76,16 @@ pub(crate) fn plays_fused(
     calls: u64,
     steps: &[Step],
 ) -> Result<(), Refusal> {
-    let device = FuseNand::new(device_of(alloc, 8)?, calls);
+    let device = FuseNand::new(MemoryNand::new(alloc, WIDE)?, calls);
     plays(rt, alloc, device, 12, &[], steps)
 }
 
-/// Plays a table on a die of 4 blocks and 5 logical pages, of which 2 blocks can be collected, behind a history.
+/// Plays a table behind a history, on a new die of 4 blocks and 5 logical pages, of which 2 blocks can be collected.
 pub(crate) fn plays_tight(
     rt: &impl Abort,
     alloc: Global,
     history: &[Step],
     steps: &[Step],
 ) -> Result<(), Refusal> {
-    plays(rt, alloc, device_of(alloc, 4)?, 5, history, steps)
+    plays(rt, alloc, MemoryNand::new(alloc, TIGHT)?, 5, history, steps)
 }

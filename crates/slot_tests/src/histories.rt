@@ -1,9 +1,11 @@
 //! Random histories of a die with as many logical pages as its bound allows, on which a collection copies as a rule: each read gives the page's last finished write.
 
 use crate::asked::submit;
-use crate::certified::holds;
-use crate::dies::{device_of, plan_of};
-use flash_die::{MemoryNand, Nand};
+use crate::dies::plays_dense;
+use crate::facts::Fact::Holds;
+use crate::steps::Step;
+use crate::steps::Step::{History, Is};
+use flash_die::Nand;
 use slot_core::DieCore;
 use slot_types::{Act, Op, PageData, Refusal, TaskNo};
 use std::alloc::Global;
@@ -38,7 +40,7 @@ fn next(dice: u32) -> u32 {
 }
 
 /// One arrival, which may be refused: a write, a read or a collection.
-fn arrive(die: &mut DieCore<MemoryNand>, alloc: Global, dice: u32, now: u32) -> bool {
+fn arrive<N: Nand>(die: &mut DieCore<N>, alloc: Global, dice: u32, now: u32) -> bool {
     let page = dice / 65536 % 17;
     let bytes = CONTENTS[(dice / 2097152 % 4) as usize];
     match dice / 16777216 % 8 {
@@ -79,10 +81,7 @@ fn note(played: &mut Played, pages: &mut [PageData; PAGES], act: Act) {
 }
 
 /// Plays a history from this seed, an arrival and a slot at a time.
-fn play(alloc: Global, seed: u32) -> Result<Played, Refusal> {
-    let device = device_of(alloc, 8)?;
-    let plan = plan_of(alloc, device.shape(), 17)?;
-    let mut die = DieCore::new(alloc, plan, device)?;
+fn play<N: Nand>(die: &mut DieCore<N>, alloc: Global, seed: u32) -> Result<Played, Refusal> {
     let mut pages = [PageData([0xFF; 16]); PAGES];
     let mut played = Played {
         agrees: true,
@@ -93,35 +92,40 @@ fn play(alloc: Global, seed: u32) -> Result<Played, Refusal> {
     let mut dice = seed;
     for now in 0..SLOTS {
         dice = next(dice);
-        let _ = arrive(&mut die, alloc, dice, now);
+        let _ = arrive(die, alloc, dice, now);
         match die.slot(alloc, 0)?.ran {
             Some((_, act)) => note(&mut played, &mut pages, act),
             None => {}
         }
     }
-    played.agrees &= holds(&die, alloc);
     Ok(played)
 }
 
 /// Whether a history agrees, and copied more than one page for each two collections.
-fn agrees(alloc: Global, seed: u32) -> Result<bool, Refusal> {
-    let played = play(alloc, seed)?;
-    let collections = played.erases / 3;
-    Ok(
-        played.agrees
-            & (played.writes > 300)
-            & (collections > 100)
-            & (played.copies > collections / 2),
-    )
+pub(crate) fn agrees<N: Nand>(die: &mut DieCore<N>, alloc: Global, seed: u32) -> bool {
+    match play(die, alloc, seed) {
+        Ok(played) => {
+            let collections = played.erases / 3;
+            played.agrees
+                & (played.writes > 300)
+                & (collections > 100)
+                & (played.copies > collections / 2)
+        }
+        Err(_) => false,
+    }
 }
+
+const SEEDS: [&[Step]; 4] = [
+    &[History(7), Is(Holds)],
+    &[History(1974), Is(Holds)],
+    &[History(1973), Is(Holds)],
+    &[History(20040801), Is(Holds)],
+];
 
 #[test]
 fn random_histories_read_what_was_written(rt: HostRuntime) -> Result<(), Fail> {
-    let alloc = rt.alloc();
-    let mut all = true;
-    for seed in [7, 1974, 1973, 20040801] {
-        all &= agrees(alloc, seed)?;
+    for steps in SEEDS {
+        plays_dense(&rt, rt.alloc(), steps)?;
     }
-    assert!(rt; all);
     Ok(())
 }

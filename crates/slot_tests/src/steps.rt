@@ -2,6 +2,7 @@
 
 use crate::asked::{are_accepted, collects, collects_not, is_accepted, is_refused};
 use crate::facts::{Fact, stands};
+use crate::histories::agrees;
 use crate::idle::{idles, passes, runs};
 use crate::slotted::{carries_each, does_each, refuses_slot, waives};
 use flash_die::Nand;
@@ -35,6 +36,8 @@ pub(crate) enum Step<'a> {
     Waives(u32, u32),
     /// The present slot gets this refusal.
     NoSlot(Refusal),
+    /// In the random history of this seed each read gives what was written last, and enough is copied.
+    History(u32),
     /// This stands of the die.
     Is(Fact<'a>),
 }
@@ -62,6 +65,7 @@ fn goes<N: Nand>(die: &mut DieCore<N>, alloc: Global, step: &Step) -> bool {
         Step::Acts(number, acts) => does_each(die, alloc, *number, *acts),
         Step::Waives(number, given) => waives(die, alloc, *number, *given),
         Step::NoSlot(refusal) => refuses_slot(die, alloc, *refusal),
+        Step::History(seed) => agrees(die, alloc, *seed),
         Step::Is(fact) => stands(die, alloc, fact),
     }
 }
