@@ -56,6 +56,7 @@ const HISTORY: &[Step] = &[
     Waives(9, 2),
 ];
 
+/// Page 2 is copied out of block 1, and the block is erased.
 const COPIES_AND_ERASES: &[Step] = &[
     Submit(17, 19, &[W4, W4], 10),
     Carries(&[10, 10]),
@@ -78,6 +79,7 @@ const READ_TWOS: Act = Act::Read {
     bytes: TWOS,
 };
 
+/// A read with a sooner due comes after the first slot of the erase.
 const A_READ_BETWEEN_ERASES: &[Step] = &[
     Submit(17, 19, &[W4, W4], 10),
     Carries(&[10, 10]),
@@ -111,6 +113,7 @@ const READ_OTHERS: Act = Act::Read {
     bytes: OTHERS,
 };
 
+/// Page 2 is written between its copy read and its copy program.
 const A_WRITE_BEFORE_THE_COPY: &[Step] = &[
     Submit(17, 19, &[W4], 10),
     Acts(10, &[WRITE_FOURS]),
@@ -130,6 +133,7 @@ fn a_rewritten_page_is_not_copied(rt: HostRuntime) -> Result<(), Fail> {
     Ok(plays_tight(&rt, rt.alloc(), HISTORY, A_WRITE_BEFORE_THE_COPY)?)
 }
 
+/// A new die has pages to spare.
 const PAGES_TO_SPARE: &[Step] = &[
     Collect(0, 5, 0),
     NoCollect(0, 5, Refusal::CollectorBusy),

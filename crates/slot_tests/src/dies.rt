@@ -33,7 +33,12 @@ fn plan_of(alloc: Global, shape: Shape, logical: u32) -> Result<DiePlan, Refusal
     })
 }
 
-/// Plays a table on a new die behind a history: at the first step that goes otherwise the test fails, and tells its place.
+/// Fails the test where a step of the table went otherwise than it says, and tells its place.
+fn went_right(rt: &impl Abort, table: &str, wrong: Option<usize>) {
+    assert_eq!(rt; wrong, None, "the first wrong step of the {table}");
+}
+
+/// Plays a table on a new die, behind a history.
 fn plays<N: Nand>(
     rt: &impl Abort,
     alloc: Global,
@@ -46,16 +51,8 @@ fn plays<N: Nand>(
 {
     let plan = plan_of(alloc, device.shape(), logical)?;
     let mut die = DieCore::new(alloc, plan, device)?;
-    assert_eq!(rt;
-        first_wrong(&mut die, alloc, history),
-        None,
-        "the step of the history"
-    );
-    assert_eq!(rt;
-        first_wrong(&mut die, alloc, steps),
-        None,
-        "the step of the table"
-    );
+    went_right(rt, "history", first_wrong(&mut die, alloc, history));
+    went_right(rt, "table", first_wrong(&mut die, alloc, steps));
     Ok(())
 }
 

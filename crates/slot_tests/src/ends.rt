@@ -8,9 +8,10 @@ use crate::steps::Step::{Carries, Idles, Is, NoSlot, Passes, Refused, Runs, Subm
 use slot_types::{Op, Refusal};
 use std::test::Fail;
 
-/// What a run answers is what the slots answer one by one.
+/// Three slots without a job, in a run.
 const IDLE_RUN: &[Step] = &[Runs(3), Is(NothingDone), Is(Now(3))];
 
+/// The same slots, one by one.
 const IDLE_SLOTS: &[Step] = &[Idles(0), Idles(1), Idles(2), Is(NothingDone), Is(Now(3))];
 
 #[test]

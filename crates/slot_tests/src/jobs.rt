@@ -8,6 +8,7 @@ use crate::steps::Step::{Carries, Is, Submit};
 use slot_types::Op;
 use std::test::Fail;
 
+/// A write of page 3, and then a read of it.
 const A_READ_BEHIND_A_WRITE: &[Step] = &[
     Submit(0, 2, &[Op::Write(3, ONES)], 0),
     Carries(&[0]),
@@ -24,6 +25,7 @@ fn a_read_sees_the_write_before_it(rt: HostRuntime) -> Result<(), Fail> {
     Ok(plays_wide(&rt, rt.alloc(), A_READ_BEHIND_A_WRITE)?)
 }
 
+/// Page 7 was never written.
 const A_READ_OF_A_NEW_PAGE: &[Step] = &[
     Submit(0, 1, &[Op::Read(7)], 0),
     Carries(&[0]),
@@ -35,6 +37,7 @@ fn a_page_never_written_reads_blank(rt: HostRuntime) -> Result<(), Fail> {
     Ok(plays_wide(&rt, rt.alloc(), A_READ_OF_A_NEW_PAGE)?)
 }
 
+/// Three reads due by 10, and from slot 1 on a read due by 3.
 const A_SOONER_DUE: &[Step] = &[
     Submit(0, 10, &[READ; 3], 0),
     Submit(1, 3, &[READ], 1),
@@ -49,6 +52,7 @@ fn a_later_job_with_an_earlier_due_preempts(rt: HostRuntime) -> Result<(), Fail>
     Ok(plays_wide(&rt, rt.alloc(), A_SOONER_DUE)?)
 }
 
+/// Two jobs due by 5: number 1 is released before number 0, which goes first once it is released.
 const EQUAL_DUES: &[Step] = &[
     Submit(2, 5, &[READ; 2], 0),
     Submit(0, 5, &[READ; 3], 1),
@@ -68,6 +72,7 @@ fn equal_dues_go_by_number(rt: HostRuntime) -> Result<(), Fail> {
     Ok(plays_wide(&rt, rt.alloc(), EQUAL_DUES)?)
 }
 
+/// Three slots of work that are released at once and due by 2.
 const ONE_DUE: &[Step] = &[
     Submit(0, 2, &[READ; 2], 0),
     Submit(0, 2, &[READ], 1),
