@@ -2,8 +2,14 @@
 #![tactic(auto)]
 
 #[cfg(test)]
+mod feeds;
+#[cfg(test)]
 mod held;
 #[cfg(test)]
+mod made;
+#[cfg(test)]
 mod runs;
+#[cfg(test)]
+mod steps;
 #[cfg(test)]
 mod stores;

@@ -2,99 +2,22 @@
 
 ghost use Rattle.std.specs.Prelude.{◌≡◌, ◌∷◌, [], ◌≤◌, map, All, IfOk};
 ghost use Rattle.flash_die.specs.Flash.{IsFresh};
-ghost use Rattle.slot_types.specs.Arrivals.{IsArrival};
 ghost use Rattle.die_service.specs.Runs.{AllArrive};
 
+use crate::feeds::{bad_and_good, both, one_write, two_writes, write_and_read};
 use crate::held::{HeldNand, HoldGate, Mark};
-use crate::stores::{ONES, SHAPE, both_passes, plan};
+use crate::made::{both_passes, faulty_dies, memory, store_of, two_dies};
 use die_service::{
-    Arrival, DieEnd, DieEnds, DiePass, Feed, FreeGate, Gate, RefusedAt, RefusedEvent, Store, close,
+    DieEnd, DieEnds, DiePass, Feed, FreeGate, Gate, RefusedAt, RefusedEvent, Store, close,
     run_slots,
 };
-use flash_die::{FuseNand, MemoryNand, Nand};
+use flash_die::{MemoryNand, Nand};
 use slot_core::{DieCore, Outcome};
-use slot_types::{Event, JobNo, Op, OpList, Refusal, TaskNo};
+use slot_types::{JobNo, Refusal};
 use std::alloc::Global;
 use std::sync::{Arc, Wait};
 use std::test::Fail;
 use std::thread::Threads;
-
-// A store with these devices.
-fn store_of<N: Nand>(
-    alloc: Global,
-    first: N,
-    second: N,
-) -> Result<(Store<N>, Vec<DiePass<N>>), Refusal>
-    requires first { IsFresh (N.shape_of first) (N.blocks first) (N.failures first) }
-    requires second { IsFresh (N.shape_of second) (N.blocks second) (N.failures second) }
-    ensures { IfOk result (λ made. map (λ pass. pass.lock) made.1.items ≡ made.0) }
-{
-    let mut nands = Vec::with_capacity(alloc, 2)?;
-    nands.push_reserved(first);
-    nands.push_reserved(second);
-    Store::new(alloc, plan(alloc, 2)?, nands)
-}
-
-// A store with two devices in memory.
-fn two_dies(alloc: Global) -> Result<(Store<MemoryNand>, Vec<DiePass<MemoryNand>>), Refusal>
-    ensures { IfOk result (λ made. map (λ pass. pass.lock) made.1.items ≡ made.0) }
-{
-    store_of(
-        alloc,
-        MemoryNand::new(alloc, SHAPE)?,
-        MemoryNand::new(alloc, SHAPE)?,
-    )
-}
-
-// A job of one operation of task 0, released at the slot before which it comes.
-fn job(alloc: Global, at: u32, due: u32, op: Op) -> Result<Arrival, Refusal>
-    ensures { IfOk result (λ arrival. IsArrival arrival.event) }
-{
-    let ops = OpList::from_vec(Vec::from_slice(alloc, &[op])?);
-    Ok(Arrival {
-        at,
-        event: Event::Submit {
-            task: TaskNo(0),
-            release: at,
-            due,
-            ops,
-        },
-    })
-}
-
-// A feed of two events.
-fn pair(alloc: Global, first: Arrival, second: Arrival) -> Result<Feed, Refusal>
-    requires first { IsArrival first.event }
-    requires second { IsArrival second.event }
-    ensures { IfOk result AllArrive }
-{
-    let mut events = Vec::with_capacity(alloc, 2)?;
-    events.push_reserved(first);
-    events.push_reserved(second);
-    Ok(Feed::from_vec(events))
-}
-
-// A feed of one event.
-fn only(alloc: Global, first: Arrival) -> Result<Feed, Refusal>
-    requires { IsArrival first.event }
-    ensures { IfOk result AllArrive }
-{
-    let mut events = Vec::with_capacity(alloc, 1)?;
-    events.push_reserved(first);
-    Ok(Feed::from_vec(events))
-}
-
-// The feeds of two dies.
-fn both(alloc: Global, first: Feed, second: Feed) -> Result<Vec<Feed>, Refusal>
-    requires first { AllArrive first }
-    requires second { AllArrive second }
-    ensures { IfOk result (λ feeds. All AllArrive feeds.items) }
-{
-    let mut feeds = Vec::with_capacity(alloc, 2)?;
-    feeds.push_reserved(first);
-    feeds.push_reserved(second);
-    Ok(feeds)
-}
 
 // Runs a store with a feed for each die.
 fn run<N: Nand + Send, G: Gate + Sync, R: Threads + Wait + Sync>(
@@ -130,43 +53,30 @@ fn is_end(
     }
 }
 
+// From which slot on job 0 may run.
+fn release_of_first(core: &DieCore<MemoryNand>) -> Option<u32> {
+    match core.job(JobNo(0)) {
+        Ok(head) => Some(head.release),
+        Err(_) => None,
+    }
+}
+
+// Whether job 0 waits.
+fn first_waits(alloc: Global, core: &DieCore<MemoryNand>) -> bool {
+    core.outcome(alloc, JobNo(0)) == Ok(Outcome::Waiting)
+}
+
 // Whether a die has three entries, two of them slots, and job 0 waits from slot 2 on.
 fn waits_from_two(alloc: Global, core: Option<&DieCore<MemoryNand>>) -> bool {
     match core {
         Some(core) => {
-            let released = match core.job(JobNo(0)) {
-                Ok(head) => head.release == 2,
-                Err(_) => false,
-            };
             core.len() == 3
                 && core.now() == 2
-                && released
-                && core.outcome(alloc, JobNo(0)) == Ok(Outcome::Waiting)
+                && release_of_first(core) == Some(2)
+                && first_waits(alloc, core)
         }
         None => false,
     }
-}
-
-// A write and a read of page 3, a slot apart.
-fn write_and_read(alloc: Global) -> Result<Feed, Refusal>
-    ensures { IfOk result AllArrive }
-{
-    pair(
-        alloc,
-        job(alloc, 0, 2, Op::Write(3, ONES))?,
-        job(alloc, 1, 3, Op::Read(3))?,
-    )
-}
-
-// A read of a page that the die doesn't have, and two slots later one of a page that it has.
-fn bad_and_good(alloc: Global) -> Result<Feed, Refusal>
-    ensures { IfOk result AllArrive }
-{
-    pair(
-        alloc,
-        job(alloc, 0, 2, Op::Read(12))?,
-        job(alloc, 2, 3, Op::Read(0))?,
-    )
 }
 
 // Runs two dies with feeds of their own, and says whether each ended as it has to.
@@ -197,6 +107,21 @@ fn each_die_runs_its_feed(rt: HostRuntime) -> Result<(), Fail> {
     Ok(())
 }
 
+// Runs two dies by two workers, each with a write and a read, and says whether each carried out both slots.
+fn run_both<N: Nand + Send, G: Gate + Sync, R: Threads + Wait + Sync>(
+    rt: &R,
+    alloc: Global,
+    store: &Store<N>,
+    passes: &mut Vec<DiePass<N>>,
+    gate: &G,
+) -> Result<bool, Refusal>
+    requires { map (λ pass. pass.lock) passes.old.items ≡ store.now }
+{
+    let feeds = both(alloc, write_and_read(alloc)?, write_and_read(alloc)?)?;
+    let ends = run(rt, store, passes, feeds, 2, 2, gate)?;
+    Ok(is_end(ends.get(0), 2, &[], None) && is_end(ends.get(1), 2, &[], None))
+}
+
 // Runs two dies, the first of which waits at its gate for the second.
 fn run_held<R: Threads + Wait + Sync>(
     rt: &R,
@@ -204,9 +129,7 @@ fn run_held<R: Threads + Wait + Sync>(
     gate: &HoldGate,
 ) -> Result<bool, Refusal> {
     let (store, mut passes) = two_dies(alloc)?;
-    let feeds = both(alloc, write_and_read(alloc)?, write_and_read(alloc)?)?;
-    let ends = run(rt, &store, &mut passes, feeds, 2, 2, gate)?;
-    Ok(is_end(ends.get(0), 2, &[], None) && is_end(ends.get(1), 2, &[], None))
+    run_both(rt, alloc, &store, &mut passes, gate)
 }
 
 #[test]
@@ -217,18 +140,41 @@ fn dies_run_at_once(rt: HostRuntime) -> Result<(), Fail> {
     Ok(())
 }
 
+// A device that waits with its reads for the mark, or sets it with each.
+fn held(
+    alloc: Global,
+    waits: bool,
+    mark: &Arc<Mark, Global>,
+) -> Result<HeldNand<MemoryNand>, Refusal>
+    ensures { IfOk result (λ nand. IsFresh (⟦<HeldNand<MemoryNand> as Nand>⟧.shape_of nand) (⟦<HeldNand<MemoryNand> as Nand>⟧.blocks nand) (⟦<HeldNand<MemoryNand> as Nand>⟧.failures nand)) }
+{
+    Ok(HeldNand::new(memory(alloc)?, waits, Arc::try_clone(mark)?))
+}
+
+// A store of two dies, the device of the first of which waits for that of the second.
+fn held_dies(
+    alloc: Global,
+    mark: &Arc<Mark, Global>,
+) -> Result<
+    (
+        Store<HeldNand<MemoryNand>>,
+        Vec<DiePass<HeldNand<MemoryNand>>>,
+    ),
+    Refusal,
+>
+    ensures { IfOk result (λ made. map (λ pass. pass.lock) made.1.items ≡ made.0) }
+{
+    store_of(alloc, held(alloc, true, mark)?, held(alloc, false, mark)?)
+}
+
 // Runs two dies, the device of the first of which waits in the die's turn for that of the second.
 fn run_apart<R: Threads + Wait + Sync>(
     rt: &R,
     alloc: Global,
     mark: &Arc<Mark, Global>,
 ) -> Result<bool, Refusal> {
-    let first = HeldNand::new(MemoryNand::new(alloc, SHAPE)?, true, Arc::try_clone(mark)?);
-    let second = HeldNand::new(MemoryNand::new(alloc, SHAPE)?, false, Arc::try_clone(mark)?);
-    let (store, mut passes) = store_of(alloc, first, second)?;
-    let feeds = both(alloc, write_and_read(alloc)?, write_and_read(alloc)?)?;
-    let ends = run(rt, &store, &mut passes, feeds, 2, 2, &FreeGate)?;
-    Ok(is_end(ends.get(0), 2, &[], None) && is_end(ends.get(1), 2, &[], None))
+    let (store, mut passes) = held_dies(alloc, mark)?;
+    run_both(rt, alloc, &store, &mut passes, &FreeGate)
 }
 
 #[test]
@@ -241,19 +187,8 @@ fn turns_are_apart(rt: HostRuntime) -> Result<(), Fail> {
 
 // Runs two dies, the device of the first of which fails from its second call on.
 fn run_faulty<R: Threads + Wait + Sync>(rt: &R, alloc: Global) -> Result<bool, Refusal> {
-    let first = FuseNand::new(MemoryNand::new(alloc, SHAPE)?, 1);
-    let second = FuseNand::new(MemoryNand::new(alloc, SHAPE)?, 1000);
-    let (store, mut passes) = store_of(alloc, first, second)?;
-    let writes = pair(
-        alloc,
-        job(alloc, 0, 5, Op::Write(3, ONES))?,
-        job(alloc, 0, 6, Op::Write(4, ONES))?,
-    )?;
-    let feeds = both(
-        alloc,
-        writes,
-        only(alloc, job(alloc, 0, 5, Op::Write(0, ONES))?)?,
-    )?;
+    let (store, mut passes) = faulty_dies(alloc)?;
+    let feeds = both(alloc, two_writes(alloc)?, one_write(alloc)?)?;
     let ends = run(rt, &store, &mut passes, feeds, 3, 2, &FreeGate)?;
     let fault = RefusedAt {
         entries: 3,

@@ -1,168 +1,60 @@
 //! Worked rows: dies of 8 blocks behind their turns.
 
-ghost use Rattle.std.specs.Prelude.{◌≡◌, [], ◌∷◌, map, IfOk, IfSome};
+ghost use Rattle.std.specs.Prelude.{◌≡◌, [], ◌∷◌, map, IfOk, IfErr};
 
-use die_service::{Die, DiePass, RefusedAt, Store, close};
-use flash_die::{FuseNand, MemoryNand, Nand};
-use late_cert::Certificate;
-use slot_core::{Outcome, Worst};
-use slot_types::{Caps, DiePlan, JobNo, Op, OpList, PageData, Refusal, Shape, StorePlan, TaskNo};
+use crate::made::{ONES, TWOS, both_passes, faulty_dies, one_die, only_pass};
+use crate::steps::{Step, Told, carry, play, submit};
+use die_service::{Die, DiePass, RefusedAt, StillOpen, Store, close};
+use flash_die::Nand;
+use slot_core::DieCore;
+use slot_types::{Op, Refusal};
 use std::alloc::Global;
 use std::sync::Wait;
 use std::test::Fail;
 
-pub(crate) const SHAPE: Shape = Shape {
-    blocks: 8,
-    pages: 4,
-    erase_slots: 3,
-};
-
-pub(crate) const ONES: PageData = PageData([0x11; 16]);
-
-const TWOS: PageData = PageData([0x22; 16]);
-
-// The plan of a store of so many dies, each of which serves one task.
-pub(crate) fn plan(alloc: Global, dies: u32) -> Result<StorePlan, Refusal> {
-    let mut plan = StorePlan::new(alloc);
-    for _ in 0..dies {
-        let mut caps = Caps::new(alloc);
-        caps.push(4)?;
-        plan.push(DiePlan {
-            shape: SHAPE,
-            logical: 12,
-            alpha: 2,
-            caps,
-        })?;
-    }
-    Ok(plan)
-}
-
-// A store of one die.
-fn one_die(alloc: Global) -> Result<(Store<MemoryNand>, Vec<DiePass<MemoryNand>>), Refusal>
-    ensures { IfOk result (λ made. map (λ pass. pass.lock) made.1.items ≡ made.0) }
-{
-    let nand = MemoryNand::new(alloc, SHAPE)?;
-    let mut nands = Vec::with_capacity(alloc, 1)?;
-    nands.push_reserved(nand);
-    Store::new(alloc, plan(alloc, 1)?, nands)
-}
-
-// A store of two dies, the device of the first of which fails from its second call on.
-fn two_dies(
-    alloc: Global,
-) -> Result<
-    (
-        Store<FuseNand<MemoryNand>>,
-        Vec<DiePass<FuseNand<MemoryNand>>>,
-    ),
-    Refusal,
->
-    ensures { IfOk result (λ made. map (λ pass. pass.lock) made.1.items ≡ made.0) }
-{
-    let first = FuseNand::new(MemoryNand::new(alloc, SHAPE)?, 1);
-    let second = FuseNand::new(MemoryNand::new(alloc, SHAPE)?, 1000);
-    let mut nands = Vec::with_capacity(alloc, 2)?;
-    nands.push_reserved(first);
-    nands.push_reserved(second);
-    Store::new(alloc, plan(alloc, 2)?, nands)
-}
-
-// The pass of a store of one die.
-fn only_pass<N: Nand>(store: &Store<N>, passes: Vec<DiePass<N>>) -> Option<DiePass<N>>
-    requires { map (λ pass. pass.lock) passes.items ≡ store.now }
-    ensures { IfSome result (λ pass. store.now ≡ pass.lock ∷ []) }
-{
-    let mut passes = passes;
-    let pass = passes.pop()?;
-    if passes.is_empty() { Some(pass) } else { None }
-}
-
-// The passes of a store of two dies.
-pub(crate) fn both_passes<N: Nand>(
-    store: &Store<N>,
-    passes: Vec<DiePass<N>>,
-) -> Option<(DiePass<N>, DiePass<N>)>
-    requires { map (λ pass. pass.lock) passes.items ≡ store.now }
-    ensures { IfSome result (λ both. store.now ≡ both.0.lock ∷ both.1.lock ∷ []) }
-{
-    let mut passes = passes;
-    let second = passes.pop()?;
-    let first = passes.pop()?;
-    if passes.is_empty() {
-        Some((first, second))
-    } else {
-        None
-    }
-}
-
-// The number of a job of one operation of task 0.
-fn submit<N: Nand, R: Wait>(
+// Closes a store of one die.
+fn close_one<N: Nand, R: Wait>(
     rt: &R,
     alloc: Global,
-    die: &Die<N>,
-    pass: &mut DiePass<N>,
-    release: u32,
-    due: u32,
-    op: Op,
-) -> Result<u32, Refusal>
-    requires { pass.old.lock ≡ die.now }
-    ensures { pass.new.lock ≡ pass.old.lock }
+    store: Store<N>,
+    pass: DiePass<N>,
+) -> Result<Result<Vec<DieCore<N>>, StillOpen<N>>, Refusal>
+    requires { store ≡ pass.lock ∷ [] }
+    ensures { IfOk result (λ closed. IfErr closed (λ kept. map (λ pass. pass.lock) kept.passes.items ≡ kept.store)) }
 {
-    let ops = OpList::from_vec(Vec::from_slice(alloc, &[op])?);
-    match die.submit(rt, pass, TaskNo(0), release, due, ops) {
-        Ok(number) => Ok(number.0),
-        Err(refused) => Err(refused.refusal),
-    }
+    let mut passes = Vec::with_capacity(alloc, 1)?;
+    passes.push_reserved(pass);
+    Ok(close(rt, store, passes))
 }
 
-// The number that is done with the present slot.
-fn carry<N: Nand, R: Wait>(
-    rt: &R,
-    die: &Die<N>,
-    pass: &mut DiePass<N>,
-) -> Result<Option<u32>, RefusedAt>
-    requires { pass.old.lock ≡ die.now }
-    ensures { pass.new.lock ≡ pass.old.lock }
-{
-    match die.slot(rt, pass)?.finished {
-        Some(number) => Ok(Some(number.0)),
-        None => Ok(None),
-    }
+// How many dies there are, how many entries the first has, and its present slot.
+fn counts<N: Nand>(dies: &[DieCore<N>]) -> Option<(usize, u64, u32)> {
+    let first = dies.first()?;
+    Some((dies.len(), first.len(), first.now()))
 }
 
-// What the first read of a done job gave.
-fn first_read(outcome: &Outcome) -> Option<PageData> {
-    match outcome {
-        Outcome::Done { reads, .. } => reads.get(0).copied(),
-        _ => None,
-    }
+// How many dies and passes a refused close hands back, and the number of the first pass.
+fn kept_counts<N: Nand>(kept: &StillOpen<N>) -> Option<(u32, usize, u32)> {
+    let first = kept.passes.first()?;
+    Some((kept.store.dies(), kept.passes.len(), first.number()))
 }
 
-// When a job was done, and how late.
-fn done_at(outcome: &Outcome) -> Option<(u32, i64)> {
-    match outcome {
-        Outcome::Done {
-            completion,
-            lateness,
-            ..
-        } => Some((*completion, *lateness)),
-        _ => None,
-    }
-}
+// What the first pass of a die does before another takes it in.
+const WRITE: [Step; 2] = [
+    Step::Submit(0, 5, Op::Write(3, TWOS), Ok(0)),
+    Step::Slot(Ok(Some(0))),
+];
 
-// Whether a certificate is of job 0 alone, from slot 0, done in slot 0 and due by 5.
-fn is_of_the_write(found: &Option<Certificate>) -> bool {
-    match found {
-        Some(certificate) => {
-            certificate.job == JobNo(0)
-                && certificate.start == 0
-                && certificate.due == 5
-                && certificate.completion == 1
-                && certificate.jobs.as_slice() == [JobNo(0)].as_slice()
-        }
-        None => false,
-    }
-}
+// What the second pass does, which has taken the first one in.
+const READ_ON: [Step; 7] = [
+    Step::Look(2),
+    Step::Submit(1, 6, Op::Read(3), Ok(1)),
+    Step::Slot(Ok(Some(1))),
+    Step::Outcome(1, Told::Read(TWOS)),
+    Step::Certificate(0, 0, 5, 1),
+    Step::Now(2),
+    Step::Out(0),
+];
 
 #[test]
 fn a_joined_pass_goes_on_behind_both(rt: HostRuntime) -> Result<(), Fail> {
@@ -173,26 +65,13 @@ fn a_joined_pass_goes_on_behind_both(rt: HostRuntime) -> Result<(), Fail> {
     };
     let die = store.die(0)?;
     let mut one = die.split_pass(&rt, &mut zero)?;
-    assert_eq!(rt;
-        submit(&rt, alloc, die, &mut zero, 0, 5, Op::Write(3, TWOS)),
-        Ok(0)
-    );
-    assert_eq!(rt; carry(&rt, die, &mut zero), Ok(Some(0)));
+    assert_eq!(rt; play(&rt, alloc, die, &mut zero, &WRITE), None);
     die.join_pass(&mut one, zero);
-    assert_eq!(rt; die.look(&mut one), 2);
-    assert_eq!(rt; submit(&rt, alloc, die, &mut one, 1, 6, Op::Read(3)), Ok(1));
-    assert_eq!(rt; carry(&rt, die, &mut one), Ok(Some(1)));
-    assert!(rt; first_read(&die.outcome(&rt, &mut one, JobNo(1))?) == Some(TWOS));
-    assert!(rt; is_of_the_write(&die.certificate(&rt, &mut one)?));
-    assert_eq!(rt; die.now(&rt, &mut one), 2);
-    assert_eq!(rt; die.out(&rt, &mut one), 0);
-    let mut passes = Vec::with_capacity(alloc, 1)?;
-    passes.push_reserved(one);
-    let Ok(dies) = close(&rt, store, passes) else {
+    assert_eq!(rt; play(&rt, alloc, die, &mut one, &READ_ON), None);
+    let Ok(dies) = close_one(&rt, alloc, store, one)? else {
         panic!(rt; "a pass is out")
     };
-    assert_eq!(rt; dies.len(), 1);
-    assert!(rt; dies[0].len() == 4 && dies[0].now() == 2);
+    assert_eq!(rt; counts(dies.as_slice()), Some((1, 4, 2)));
     Ok(())
 }
 
@@ -204,85 +83,82 @@ fn a_store_stays_open_while_a_pass_is_out(rt: HostRuntime) -> Result<(), Fail> {
         panic!(rt; "another number of passes")
     };
     let one = store.die(0)?.split_pass(&rt, &mut zero)?;
-    let mut passes = Vec::with_capacity(alloc, 1)?;
-    passes.push_reserved(one);
-    let Err(kept) = close(&rt, store, passes) else {
+    let Err(kept) = close_one(&rt, alloc, store, one)? else {
         panic!(rt; "closed with a pass out")
     };
     assert_eq!(rt; kept.refusal, Refusal::PassesOut { out: 1 });
-    assert!(rt; kept.store.dies() == 1 && kept.passes.len() == 1 && kept.passes[0].number() == 1);
+    assert_eq!(rt; kept_counts(&kept), Some((1, 1, 1)));
     Ok(())
 }
 
-// Writes two pages of a die whose device fails at the second, and says whether the die answered so, and stopped.
-fn stops_at_the_second_write<N: Nand, R: Wait>(
-    rt: &R,
-    alloc: Global,
-    die: &Die<N>,
-    pass: &mut DiePass<N>,
-) -> Result<bool, Refusal>
-    requires { pass.old.lock ≡ die.now }
-    ensures { pass.new.lock ≡ pass.old.lock }
-{
-    let first = submit(rt, alloc, die, pass, 0, 5, Op::Write(3, ONES))?;
-    let second = submit(rt, alloc, die, pass, 0, 6, Op::Write(4, ONES))?;
-    let carried = carry(rt, die, pass) == Ok(Some(0));
-    let fault = RefusedAt {
-        entries: 3,
-        refusal: Refusal::DeviceFault,
-    };
-    let failed = carry(rt, die, pass) == Err(fault);
-    let refused = submit(rt, alloc, die, pass, 1, 6, Op::Read(3)) == Err(Refusal::DieStopped);
-    let stopped = RefusedAt {
-        entries: 3,
-        refusal: Refusal::DieStopped,
-    };
-    Ok(
-        first == 0
-            && second == 1
-            && carried
-            && failed
-            && refused
-            && carry(rt, die, pass) == Err(stopped),
-    )
-}
+// The refusals of the die whose device fails, which has three entries then.
+const FAULT: RefusedAt = RefusedAt {
+    entries: 3,
+    refusal: Refusal::DeviceFault,
+};
 
-// Says whether job 0 is done and the worst, and job 1 waits.
-fn tells_of_the_first_write<N: Nand, R: Wait>(
-    rt: &R,
-    die: &Die<N>,
-    pass: &mut DiePass<N>,
-) -> Result<bool, Refusal>
-    requires { pass.old.lock ≡ die.now }
-    ensures { pass.new.lock ≡ pass.old.lock }
-{
-    let done = done_at(&die.outcome(rt, pass, JobNo(0))?) == Some((1, -4));
-    let waits = die.outcome(rt, pass, JobNo(1))? == Outcome::Waiting;
-    let worst = Worst {
-        job: JobNo(0),
-        lateness: -4,
-    };
-    Ok(done && waits && die.worst(rt, pass) == Some(worst))
-}
+const STOPPED: RefusedAt = RefusedAt {
+    entries: 3,
+    refusal: Refusal::DieStopped,
+};
+
+// What a die does whose device fails at the second write: it stops, and tells of the first.
+const STOP: [Step; 9] = [
+    Step::Submit(0, 5, Op::Write(3, ONES), Ok(0)),
+    Step::Submit(0, 6, Op::Write(4, ONES), Ok(1)),
+    Step::Slot(Ok(Some(0))),
+    Step::Slot(Err(FAULT)),
+    Step::Submit(1, 6, Op::Read(3), Err(Refusal::DieStopped)),
+    Step::Slot(Err(STOPPED)),
+    Step::Outcome(0, Told::Done(1, -4)),
+    Step::Outcome(1, Told::Waits),
+    Step::Worst(0, -4),
+];
+
+// What the other die does.
+const GO_ON: [Step; 2] = [
+    Step::Submit(0, 5, Op::Write(0, ONES), Ok(0)),
+    Step::Slot(Ok(Some(0))),
+];
 
 #[test]
 fn a_fault_stops_one_die_alone(rt: HostRuntime) -> Result<(), Fail> {
     let alloc = rt.alloc();
-    let (store, passes) = two_dies(alloc)?;
+    let (store, passes) = faulty_dies(alloc)?;
     let Some((mut zero, mut one)) = both_passes(&store, passes) else {
         panic!(rt; "another number of passes")
     };
-    let die = store.die(0)?;
-    assert!(rt; stops_at_the_second_write(&rt, alloc, die, &mut zero)?);
-    assert!(rt; tells_of_the_first_write(&rt, die, &mut zero)?);
-    let other = store.die(1)?;
-    assert_eq!(rt;
-        submit(&rt, alloc, other, &mut one, 0, 5, Op::Write(0, ONES)),
-        Ok(0)
-    );
-    assert_eq!(rt; carry(&rt, other, &mut one), Ok(Some(0)));
+    assert_eq!(rt; play(&rt, alloc, store.die(0)?, &mut zero, &STOP), None);
+    assert_eq!(rt; play(&rt, alloc, store.die(1)?, &mut one, &GO_ON), None);
     assert!(rt; store.die(2).is_err());
     Ok(())
+}
+
+// How many entries a call made: none where memory was refused. Nothing, if it was refused for another reason.
+fn made_entries(refusal: Option<Refusal>) -> Option<u64> {
+    match refusal {
+        None => Some(1),
+        Some(Refusal::NoMemory) => Some(0),
+        Some(_) => None,
+    }
+}
+
+// Submits a read and carries out a slot, and answers how many entries both made.
+fn read_and_slot<N: Nand, R: Wait>(
+    rt: &R,
+    alloc: Global,
+    die: &Die<N>,
+    pass: &mut DiePass<N>,
+) -> Option<u64>
+    requires { pass.old.lock ≡ die.now }
+    ensures { pass.new.lock ≡ pass.old.lock }
+{
+    let read = submit(rt, alloc, die, pass, 99, 199, Op::Read(0)).err();
+    let slot = match carry(rt, die, pass) {
+        Ok(_) => None,
+        Err(refused) => Some(refused.refusal),
+    };
+    Some(made_entries(read)?.saturating_add(made_entries(slot)?))
 }
 
 // Submits reads and carries out slots, and says whether each refusal was for want of memory and made no entry.
@@ -296,19 +172,16 @@ fn grows_or_stays<N: Nand, R: Wait>(
     ensures { pass.new.lock ≡ pass.old.lock }
 {
     let mut entries = 0u64;
-    let mut right = true;
     for _ in 0..8u32 {
-        match submit(rt, alloc, die, pass, 99, 199, Op::Read(0)) {
-            Ok(_) => entries = entries.saturating_add(1),
-            Err(refusal) => right = right && refusal == Refusal::NoMemory,
+        let Some(made) = read_and_slot(rt, alloc, die, pass) else {
+            return false;
+        };
+        entries = entries.saturating_add(made);
+        if die.look(pass) != entries {
+            return false;
         }
-        match carry(rt, die, pass) {
-            Ok(_) => entries = entries.saturating_add(1),
-            Err(refused) => right = right && refused.refusal == Refusal::NoMemory,
-        }
-        right = right && die.look(pass) == entries;
     }
-    right && entries >= 15
+    entries >= 15
 }
 
 // Run it with each allocation made to fail in turn: a refused growth is told, and leaves the store as it was.
@@ -326,15 +199,12 @@ fn a_refused_growth_changes_nothing(rt: HostRuntime) {
         panic!(rt; "no die")
     };
     assert!(rt; grows_or_stays(&rt, alloc, die, &mut pass));
-    let Ok(mut passes) = Vec::with_capacity(alloc, 1) else {
-        return;
-    };
-    passes.push_reserved(pass);
-    match close(&rt, store, passes) {
-        Ok(dies) => assert_eq!(rt; dies.len(), 1),
-        Err(kept) => {
+    match close_one(&rt, alloc, store, pass) {
+        Ok(Ok(dies)) => assert_eq!(rt; dies.len(), 1),
+        Ok(Err(kept)) => {
             assert_eq!(rt; kept.refusal, Refusal::NoMemory);
             assert!(rt; close(&rt, kept.store, kept.passes).is_ok());
         }
+        Err(_) => {}
     }
 }

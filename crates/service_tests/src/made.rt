@@ -1,0 +1,141 @@
+//! Fresh devices, and the stores that are made of them: dies of 8 blocks, each of which serves one task.
+
+ghost use Rattle.std.specs.Prelude.{◌≡◌, [], ◌∷◌, map, IfOk, IfSome};
+ghost use Rattle.flash_die.specs.Flash.{IsFresh};
+
+use die_service::{DiePass, Store};
+use flash_die::{FuseNand, MemoryNand, Nand};
+use slot_types::{Caps, DiePlan, PageData, Refusal, Shape, StorePlan};
+use std::alloc::Global;
+
+const SHAPE: Shape = Shape {
+    blocks: 8,
+    pages: 4,
+    erase_slots: 3,
+};
+
+pub(crate) const ONES: PageData = PageData([0x11; 16]);
+
+pub(crate) const TWOS: PageData = PageData([0x22; 16]);
+
+// The plan of a die that serves one task.
+fn die_plan(alloc: Global) -> Result<DiePlan, Refusal> {
+    let mut caps = Caps::new(alloc);
+    caps.push(4)?;
+    Ok(DiePlan {
+        shape: SHAPE,
+        logical: 12,
+        alpha: 2,
+        caps,
+    })
+}
+
+// The plan of a store of so many dies.
+fn plan(alloc: Global, dies: u32) -> Result<StorePlan, Refusal> {
+    let mut plan = StorePlan::new(alloc);
+    for _ in 0..dies {
+        plan.push(die_plan(alloc)?)?;
+    }
+    Ok(plan)
+}
+
+/// A device in memory.
+pub(crate) fn memory(alloc: Global) -> Result<MemoryNand, Refusal>
+    ensures { IfOk result (λ nand. IsFresh (⟦<MemoryNand as Nand>⟧.shape_of nand) (⟦<MemoryNand as Nand>⟧.blocks nand) (⟦<MemoryNand as Nand>⟧.failures nand)) }
+{
+    MemoryNand::new(alloc, SHAPE)
+}
+
+// A device in memory that fails after so many calls.
+fn fused(alloc: Global, calls: u64) -> Result<FuseNand<MemoryNand>, Refusal>
+    ensures { IfOk result (λ nand. IsFresh (⟦<FuseNand<MemoryNand> as Nand>⟧.shape_of nand) (⟦<FuseNand<MemoryNand> as Nand>⟧.blocks nand) (⟦<FuseNand<MemoryNand> as Nand>⟧.failures nand)) }
+{
+    Ok(FuseNand::new(memory(alloc)?, calls))
+}
+
+/// A store with these devices.
+pub(crate) fn store_of<N: Nand>(
+    alloc: Global,
+    first: N,
+    second: N,
+) -> Result<(Store<N>, Vec<DiePass<N>>), Refusal>
+    requires first { IsFresh (N.shape_of first) (N.blocks first) (N.failures first) }
+    requires second { IsFresh (N.shape_of second) (N.blocks second) (N.failures second) }
+    ensures { IfOk result (λ made. map (λ pass. pass.lock) made.1.items ≡ made.0) }
+{
+    let mut nands = Vec::with_capacity(alloc, 2)?;
+    nands.push_reserved(first);
+    nands.push_reserved(second);
+    Store::new(alloc, plan(alloc, 2)?, nands)
+}
+
+/// A store of two dies, the device of the first of which fails from its second call on.
+pub(crate) fn faulty_dies(
+    alloc: Global,
+) -> Result<
+    (
+        Store<FuseNand<MemoryNand>>,
+        Vec<DiePass<FuseNand<MemoryNand>>>,
+    ),
+    Refusal,
+>
+    ensures { IfOk result (λ made. map (λ pass. pass.lock) made.1.items ≡ made.0) }
+{
+    store_of(alloc, fused(alloc, 1)?, fused(alloc, 1000)?)
+}
+
+/// A store of two dies with devices in memory.
+pub(crate) fn two_dies(
+    alloc: Global,
+) -> Result<(Store<MemoryNand>, Vec<DiePass<MemoryNand>>), Refusal>
+    ensures { IfOk result (λ made. map (λ pass. pass.lock) made.1.items ≡ made.0) }
+{
+    store_of(alloc, memory(alloc)?, memory(alloc)?)
+}
+
+// A store of one die with this device.
+fn store_with<N: Nand>(alloc: Global, nand: N) -> Result<(Store<N>, Vec<DiePass<N>>), Refusal>
+    requires { IsFresh (N.shape_of nand) (N.blocks nand) (N.failures nand) }
+    ensures { IfOk result (λ made. map (λ pass. pass.lock) made.1.items ≡ made.0) }
+{
+    let mut nands = Vec::with_capacity(alloc, 1)?;
+    nands.push_reserved(nand);
+    Store::new(alloc, plan(alloc, 1)?, nands)
+}
+
+/// A store of one die with a device in memory.
+pub(crate) fn one_die(
+    alloc: Global,
+) -> Result<(Store<MemoryNand>, Vec<DiePass<MemoryNand>>), Refusal>
+    ensures { IfOk result (λ made. map (λ pass. pass.lock) made.1.items ≡ made.0) }
+{
+    store_with(alloc, memory(alloc)?)
+}
+
+/// The pass of a store of one die.
+pub(crate) fn only_pass<N: Nand>(store: &Store<N>, passes: Vec<DiePass<N>>) -> Option<DiePass<N>>
+    requires { map (λ pass. pass.lock) passes.items ≡ store.now }
+    ensures { IfSome result (λ pass. store.now ≡ pass.lock ∷ []) }
+{
+    let mut passes = passes;
+    let pass = passes.pop()?;
+    if passes.is_empty() { Some(pass) } else { None }
+}
+
+/// The passes of a store of two dies.
+pub(crate) fn both_passes<N: Nand>(
+    store: &Store<N>,
+    passes: Vec<DiePass<N>>,
+) -> Option<(DiePass<N>, DiePass<N>)>
+    requires { map (λ pass. pass.lock) passes.items ≡ store.now }
+    ensures { IfSome result (λ both. store.now ≡ both.0.lock ∷ both.1.lock ∷ []) }
+{
+    let mut passes = passes;
+    let second = passes.pop()?;
+    let first = passes.pop()?;
+    if passes.is_empty() {
+        Some((first, second))
+    } else {
+        None
+    }
+}
