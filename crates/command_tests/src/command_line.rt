@@ -34,29 +34,36 @@ impl Env for CommandLine<'_> {
     }
 }
 
-/// Standard output that takes nothing, and standard error that takes all.
+/// Standard output that takes nothing once it is closed, and standard error that takes all.
 #[derive(Drop)]
-struct ClosedOutput;
-
-fn closed() -> io::Error {
-    io::Error::from(io::ErrorKind::BrokenPipe)
+struct Output {
+    is_closed: bool,
 }
 
-impl Print for ClosedOutput {
+impl Output {
+    fn take(&self) -> io::Result<()> {
+        if self.is_closed {
+            return Err(io::Error::from(io::ErrorKind::BrokenPipe));
+        }
+        Ok(())
+    }
+}
+
+impl Print for Output {
     fn print<D: Display + Drop>(&self, _value: D) -> io::Result<()> {
-        Err(closed())
+        self.take()
     }
 
     fn println<D: Display + Drop>(&self, _value: D) -> io::Result<()> {
-        Err(closed())
+        self.take()
     }
 
     fn write_all(&self, _bytes: &[u8]) -> io::Result<()> {
-        Err(closed())
+        self.take()
     }
 }
 
-impl Eprint for ClosedOutput {
+impl Eprint for Output {
     fn eprint<D: Display + Drop>(&self, _value: D) -> io::Result<()> {
         Ok(())
     }
@@ -105,8 +112,8 @@ fn a_word_that_is_no_text_ends_with_two(rt: HostRuntime) {
     }
 }
 
-/// The status and what stands on standard error where these words are shown on closed output, if they are no command.
-fn shown_closed(alloc: Global, line: &[&[u8]]) -> Option<(Vec<u8>, u8)> {
+/// The status and what the program writes to standard error itself, where these words are no command and that is shown.
+fn shown(alloc: Global, line: &[&[u8]], is_closed: bool) -> Option<(Vec<u8>, u8)> {
     let Ok(words) = words_of(&CommandLine { words: line }, alloc) else {
         return None;
     };
@@ -114,28 +121,33 @@ fn shown_closed(alloc: Global, line: &[&[u8]]) -> Option<(Vec<u8>, u8)> {
         Ok(_) => None,
         Err(error) => {
             let mut err = Vec::new(alloc);
-            let status = show(&ClosedOutput, &mut err, error);
+            let status = show(&Output { is_closed }, &mut err, error);
             Some((err, status))
         }
     }
 }
 
-#[test]
-fn help_that_cannot_be_written_is_a_write_fault(rt: HostRuntime) {
-    for word in [b"--help".as_slice(), b"-h", b"help"] {
-        let Some((err, status)) = shown_closed(rt.alloc(), &[b"flashrec", word]) else {
-            panic!(rt; "help is a command")
-        };
-        assert_eq!(rt; status, 1);
-        assert!(rt; err.as_slice() == b"error 22 WriteFault\n".as_slice());
+/// Whether these words are no command, and end with this status and this line.
+fn ends_with(alloc: Global, line: &[&[u8]], is_closed: bool, status: u8, told: &str) -> bool {
+    match shown(alloc, line, is_closed) {
+        Some((err, ended)) => ended == status && err.as_slice() == told.as_bytes(),
+        None => false,
     }
 }
 
 #[test]
-fn wrong_words_end_with_two_on_closed_output(rt: HostRuntime) {
-    let Some((err, status)) = shown_closed(rt.alloc(), &[b"flashrec", b"walk"]) else {
-        panic!(rt; "the words are accepted")
-    };
-    assert_eq!(rt; status, 2);
-    assert!(rt; err.is_empty());
+fn help_ends_with_zero_where_it_can_be_written(rt: HostRuntime) {
+    for word in [b"--help".as_slice(), b"-h", b"help"] {
+        let line = [b"flashrec".as_slice(), word];
+        assert!(rt; ends_with(rt.alloc(), &line, false, 0, ""));
+        assert!(rt; ends_with(rt.alloc(), &line, true, 1, "error 22 WriteFault\n"));
+    }
+}
+
+#[test]
+fn wrong_words_end_with_two_on_any_output(rt: HostRuntime) {
+    let line = [b"flashrec".as_slice(), b"walk"];
+    for is_closed in [false, true] {
+        assert!(rt; ends_with(rt.alloc(), &line, is_closed, 2, ""));
+    }
 }
