@@ -1,8 +1,9 @@
-//! Tables at work.
+//! Tables at work. A test is a table of steps, which one small function plays: so no test holds a job table.
 
 ghost use Rattle.std.specs.Prelude.{◌≡◌, slice_get, option_map};
 
 use crate::job_table::JobTable;
+use crate::jobs::Job;
 use crate::stages::Stage;
 use slot_types::{JobNo, MAX_JOBS, Op, OpList, PageData, Refusal, TaskNo, Waived};
 use std::alloc::Global;
@@ -14,28 +15,14 @@ fn add_ops(
     table: &mut JobTable,
     release: u32,
     due: u32,
-    ops: OpList,
-) -> Result<Option<JobNo>, Refusal> {
+    ops: &[Op],
+) -> Result<Option<u32>, Refusal> {
     if table.ended() || table.len() >= MAX_JOBS {
         return Ok(None);
     }
+    let ops = OpList::from_vec(Vec::from_slice(alloc, ops)?);
     let number = table.add_job(alloc, TaskNo(0), release, due, ops)?;
-    Ok(Some(number))
-}
-
-/// A job with so many reads.
-fn add_reads(
-    alloc: Global,
-    table: &mut JobTable,
-    release: u32,
-    due: u32,
-    count: u32,
-) -> Result<Option<JobNo>, Refusal> {
-    let mut ops = OpList::new(alloc);
-    for page in 0..count {
-        ops.push(Op::Read(page))?;
-    }
-    add_ops(alloc, table, release, due, ops)
+    Ok(Some(number.0))
 }
 
 /// What each read gives.
@@ -64,59 +51,20 @@ fn run_slot(table: &mut JobTable, now: u32) -> Option<JobNo> {
     Some(number)
 }
 
-/// A table with these jobs of reads, each by its release, its due and how many reads it has.
-fn with_reads(alloc: Global, jobs: &[(u32, u32, u32)]) -> Result<JobTable, Refusal> {
-    let mut table = JobTable::new(alloc, 1)?;
-    for (release, due, count) in jobs {
-        add_reads(alloc, &mut table, *release, *due, *count)?;
+/// Whether the slots from this one on carry these numbers, 99 for none.
+fn carries(table: &mut JobTable, from: u32, numbers: &[u32]) -> bool {
+    let mut now = from;
+    for wanted in numbers {
+        let number = match run_slot(table, now) {
+            Some(number) => number.0,
+            None => 99,
+        };
+        if number != *wanted {
+            return false;
+        }
+        now = now.saturating_add(1);
     }
-    Ok(table)
-}
-
-/// A number as it is, and 99 for none.
-fn number_of(head: Option<JobNo>) -> u32 {
-    match head {
-        Some(number) => number.0,
-        None => 99,
-    }
-}
-
-/// The numbers of those that the slots 0 to 3 carry.
-fn first_heads(table: &mut JobTable) -> [u32; 4] {
-    [
-        number_of(run_slot(table, 0)),
-        number_of(run_slot(table, 1)),
-        number_of(run_slot(table, 2)),
-        number_of(run_slot(table, 3)),
-    ]
-}
-
-#[test]
-fn a_later_job_with_an_earlier_due_preempts(rt: HostRuntime) -> Result<(), Fail> {
-    let mut table = with_reads(rt.alloc(), &[(0, 10, 3), (1, 3, 1)])?;
-    assert_eq!(rt; first_heads(&mut table), [0, 1, 0, 0]);
-    assert_eq!(rt; table.worst(), Some((JobNo(1), -1)));
-    Ok(())
-}
-
-#[test]
-fn equal_dues_go_by_number(rt: HostRuntime) -> Result<(), Fail> {
-    // Job 0 waits for its release.
-    let mut table = with_reads(rt.alloc(), &[(2, 5, 2), (0, 5, 3)])?;
-    assert_eq!(rt; first_heads(&mut table), [1, 1, 0, 0]);
-    assert_eq!(rt; table.worst(), Some((JobNo(0), -1)));
-    assert_eq!(rt; number_of(run_slot(&mut table, 4)), 1);
-    assert_eq!(rt; table.worst(), Some((JobNo(1), 0)));
-    Ok(())
-}
-
-#[test]
-fn of_equally_late_jobs_the_first_done_is_worst(rt: HostRuntime) -> Result<(), Fail> {
-    // Job 1 is done at 3, for 2, and job 2 at 4, for 3.
-    let mut table = with_reads(rt.alloc(), &[(0, 2, 2), (0, 2, 1), (0, 3, 1)])?;
-    assert_eq!(rt; first_heads(&mut table), [0, 0, 1, 2]);
-    assert_eq!(rt; table.worst(), Some((JobNo(1), 1)));
-    Ok(())
+    true
 }
 
 /// Accepts a collection, where the table takes one.
@@ -124,7 +72,7 @@ fn add_collection(
     alloc: Global,
     table: &mut JobTable,
     task: TaskNo,
-) -> Result<Option<JobNo>, Refusal> {
+) -> Result<Option<u32>, Refusal> {
     if table.ended() || table.len() >= MAX_JOBS || task.0 as usize >= table.tasks() {
         return Ok(None);
     }
@@ -132,27 +80,31 @@ fn add_collection(
         return Ok(None);
     }
     let number = table.add_collection(alloc, task, 0, 9)?;
-    Ok(Some(number))
+    Ok(Some(number.0))
 }
 
-/// Waives the head of the slot, if it has one.
-fn waive_head(table: &mut JobTable, now: u32, given: u32) -> Option<Waived> {
+/// Waives the head of the slot, and whether there was one and it was this one.
+fn waives(table: &mut JobTable, now: u32, wanted: u32, given: u32) -> bool {
     if table.ended() || now < table.clock() {
-        return None;
+        return false;
     }
-    let number = table.head(now)?;
-    table.waive(number, given);
-    Some(Waived { number, given })
+    match table.head(now) {
+        Some(number) => {
+            table.waive(number, given);
+            number.0 == wanted
+        }
+        None => false,
+    }
 }
 
 /// Stops the die, and takes a waiver back if there is one.
-fn take_back(table: &mut JobTable, waived: Option<Waived>) {
-    let Some(waived) = waived else {
-        return;
-    };
-    if let Some(Stage::Waived { .. }) = stage_of(table, waived.number) {
-        table.stop(&[waived]);
+fn takes_back(table: &mut JobTable, number: u32, given: u32) -> bool {
+    let number = JobNo(number);
+    if let Some(Stage::Waived { .. }) = stage_of(table, number) {
+        table.stop(&[Waived { number, given }]);
+        return true;
     }
+    false
 }
 
 /// How a job stands.
@@ -174,67 +126,168 @@ fn stages(table: &JobTable) -> [Option<Stage>; 3] {
     ]
 }
 
-/// A table of two tasks with a collection for each, and what the three calls answered.
-fn with_collections(alloc: Global) -> Result<(JobTable, [Option<JobNo>; 3]), Refusal> {
-    let mut table = JobTable::new(alloc, 2)?;
-    let first = add_collection(alloc, &mut table, TaskNo(1))?;
-    let again = add_collection(alloc, &mut table, TaskNo(1))?;
-    let second = add_collection(alloc, &mut table, TaskNo(0))?;
-    Ok((table, [first, again, second]))
+/// Of a job: its task, its release, its due and its slots so far.
+type Row = (u32, u32, u32, u32);
+
+fn row_of(job: &Job) -> Row {
+    (job.task().0, job.release(), job.due(), job.work())
+}
+
+/// What is asked of a table, and what comes of it.
+enum Step<'a> {
+    /// A job with this release, this due and these operations is accepted under this number.
+    Accepts(u32, u32, &'a [Op], u32),
+    /// A collection for this task is accepted under this number, or none is.
+    Collects(u32, Option<u32>),
+    /// The slots from this one on carry these numbers, 99 for none.
+    Carries(u32, &'a [u32]),
+    /// The head of this slot is this one, and is waived with so many pages given.
+    Waives(u32, u32, u32),
+    /// The die stops, and the waiver of this one, with so many pages given, is taken back.
+    TakesBack(u32, u32),
+    /// The first three jobs stand so.
+    Stand([Option<Stage>; 3]),
+    /// The worst job is this one, with this lateness.
+    Worst(u32, i64),
+    /// The slot last asked for, whether there is no job, and whether the die has stopped.
+    Is(u32, bool, bool),
+    /// Job 0 has this row, collects or not, and is pending or not.
+    Row(Row, bool, bool),
+    /// Job 0 has these operations at places 1 and 2.
+    Ops([Option<Op>; 2]),
+    /// The reads of job 0 gave these pages.
+    Gave(&'a [PageData]),
+}
+
+/// Whether a step that only looks at job 0 is as it says.
+fn is_so(job: &Job, step: &Step) -> bool {
+    match step {
+        Step::Row(row, collects, is_pending) => {
+            (row_of(job) == *row)
+                & (job.collects() == *collects)
+                & (job.is_pending() == *is_pending)
+        }
+        Step::Ops(ops) => [job.op(1), job.op(2)] == *ops,
+        Step::Gave(reads) => job.reads() == *reads,
+        _ => false,
+    }
+}
+
+/// Whether a step goes as it says.
+fn goes(table: &mut JobTable, alloc: Global, step: &Step) -> bool {
+    match step {
+        Step::Accepts(release, due, ops, number) => {
+            add_ops(alloc, table, *release, *due, *ops) == Ok(Some(*number))
+        }
+        Step::Collects(task, number) => {
+            add_collection(alloc, table, TaskNo(*task)) == Ok(*number)
+        }
+        Step::Carries(from, numbers) => carries(table, *from, *numbers),
+        Step::Waives(now, number, given) => waives(table, *now, *number, *given),
+        Step::TakesBack(number, given) => takes_back(table, *number, *given),
+        Step::Stand(wanted) => stages(table) == *wanted,
+        Step::Worst(number, lateness) => table.worst() == Some((JobNo(*number), *lateness)),
+        Step::Is(clock, is_empty, ended) => {
+            (table.clock() == *clock) & (table.is_empty() == *is_empty) & (table.ended() == *ended)
+        }
+        _ => match table.job(JobNo(0)) {
+            Some(job) => is_so(job, step),
+            None => false,
+        },
+    }
+}
+
+/// The place, from 0, of the first step that goes otherwise than it says, on a new table of so many tasks.
+fn first_wrong(alloc: Global, tasks: u32, steps: &[Step]) -> Result<Option<usize>, Refusal> {
+    let mut table = JobTable::new(alloc, tasks)?;
+    Ok(play(&mut table, alloc, steps))
+}
+
+fn play(table: &mut JobTable, alloc: Global, steps: &[Step]) -> Option<usize> {
+    for (place, step) in steps.iter().enumerate() {
+        if !goes(table, alloc, step) {
+            return Some(place);
+        }
+    }
+    None
+}
+
+const R0: Op = Op::Read(0);
+
+const R1: Op = Op::Read(1);
+
+const R2: Op = Op::Read(2);
+
+#[test]
+fn a_later_job_with_an_earlier_due_preempts(rt: HostRuntime) -> Result<(), Fail> {
+    const STEPS: &[Step] = &[
+        Step::Accepts(0, 10, &[R0, R1, R2], 0),
+        Step::Accepts(1, 3, &[R0], 1),
+        Step::Carries(0, &[0, 1, 0, 0]),
+        Step::Worst(1, -1),
+    ];
+    assert_eq!(rt; first_wrong(rt.alloc(), 1, STEPS)?, None);
+    Ok(())
+}
+
+#[test]
+fn equal_dues_go_by_number(rt: HostRuntime) -> Result<(), Fail> {
+    const STEPS: &[Step] = &[
+        // Job 0 waits for its release.
+        Step::Accepts(2, 5, &[R0, R1], 0),
+        Step::Accepts(0, 5, &[R0, R1, R2], 1),
+        Step::Carries(0, &[1, 1, 0, 0]),
+        Step::Worst(0, -1),
+        Step::Carries(4, &[1]),
+        Step::Worst(1, 0),
+    ];
+    assert_eq!(rt; first_wrong(rt.alloc(), 1, STEPS)?, None);
+    Ok(())
+}
+
+#[test]
+fn of_equally_late_jobs_the_first_done_is_worst(rt: HostRuntime) -> Result<(), Fail> {
+    const STEPS: &[Step] = &[
+        Step::Accepts(0, 2, &[R0, R1], 0),
+        Step::Accepts(0, 2, &[R0], 1),
+        Step::Accepts(0, 3, &[R0], 2),
+        // Job 1 is done at 3, for 2, and job 2 at 4, for 3.
+        Step::Carries(0, &[0, 0, 1, 2]),
+        Step::Worst(1, 1),
+    ];
+    assert_eq!(rt; first_wrong(rt.alloc(), 1, STEPS)?, None);
+    Ok(())
 }
 
 #[test]
 fn waivers_are_taken_back(rt: HostRuntime) -> Result<(), Fail> {
-    let (mut table, numbers) = with_collections(rt.alloc())?;
-    assert_eq!(rt; numbers, [Some(JobNo(0)), None, Some(JobNo(1))]);
-    let first = waive_head(&mut table, 3, 2);
-    let second = waive_head(&mut table, 3, 1);
-    let waived = [
-        Some(Stage::Waived { given: 2 }),
-        Some(Stage::Waived { given: 1 }),
-        None,
+    const TWO: Option<Stage> = Some(Stage::Waived { given: 2 });
+    const ONE: Option<Stage> = Some(Stage::Waived { given: 1 });
+    const STEPS: &[Step] = &[
+        Step::Collects(1, Some(0)),
+        Step::Collects(1, None),
+        Step::Collects(0, Some(1)),
+        Step::Waives(3, 0, 2),
+        Step::Waives(3, 1, 1),
+        Step::Stand([TWO, ONE, None]),
+        Step::TakesBack(1, 1),
+        Step::Stand([TWO, Some(Stage::Pending), None]),
+        Step::Is(3, false, true),
     ];
-    assert_eq!(rt; stages(&table), waived);
-    assert_eq!(rt;
-        first,
-        Some(Waived {
-            number: JobNo(0),
-            given: 2
-        })
-    );
-    take_back(&mut table, second);
-    assert_eq!(rt; stages(&table), [waived[0], Some(Stage::Pending), None]);
-    assert_eq!(rt; table.ended(), true);
+    assert_eq!(rt; first_wrong(rt.alloc(), 2, STEPS)?, None);
     Ok(())
-}
-
-/// A table with a job that writes page 3 and then reads it.
-fn with_write_and_read(alloc: Global) -> Result<JobTable, Refusal> {
-    let mut ops = OpList::new(alloc);
-    ops.push(Op::Write(3, BYTES))?;
-    ops.push(Op::Read(3))?;
-    let mut table = JobTable::new(alloc, 1)?;
-    add_ops(alloc, &mut table, 0, 4, ops)?;
-    Ok(table)
 }
 
 #[test]
 fn a_job_keeps_what_its_reads_gave(rt: HostRuntime) -> Result<(), Fail> {
-    let mut table = with_write_and_read(rt.alloc())?;
-    let heads = [
-        number_of(run_slot(&mut table, 0)),
-        number_of(run_slot(&mut table, 1)),
-        number_of(run_slot(&mut table, 2)),
+    const STEPS: &[Step] = &[
+        Step::Accepts(0, 4, &[Op::Write(3, BYTES), Op::Read(3)], 0),
+        Step::Carries(0, &[0, 0, 99]),
+        Step::Is(2, false, false),
+        Step::Row((0, 0, 4, 2), false, false),
+        Step::Ops([Some(Op::Read(3)), None]),
+        Step::Gave(&[BYTES]),
     ];
-    assert_eq!(rt; heads, [0, 0, 99]);
-    assert_eq!(rt; (table.clock(), table.is_empty()), (2, false));
-    let job = table.job(JobNo(0)).ok_or("no job")?;
-    assert_eq!(rt;
-        (job.task(), job.release(), job.due(), job.work()),
-        (TaskNo(0), 0, 4, 2)
-    );
-    assert_eq!(rt; (job.collects(), job.is_pending()), (false, false));
-    assert_eq!(rt; [job.op(1), job.op(2)], [Some(Op::Read(3)), None]);
-    assert_eq!(rt; job.reads(), [BYTES].as_slice());
+    assert_eq!(rt; first_wrong(rt.alloc(), 1, STEPS)?, None);
     Ok(())
 }
