@@ -1,6 +1,9 @@
-//! Volumes of small dies: what is written is read, a device fails, a block is collected.
+//! Volumes of small dies: what is written is read, a device fails, a block is collected. No test holds a volume.
 
-ghost use Rattle.std.specs.Prelude.{◌≡◌, ◌∷◌, [], IfOk};
+ghost use Rattle.std.specs.Prelude.{◌≡◌, ◌∷◌, [], None, length, IfOk};
+ghost use Rattle.flash_die.specs.Flash.{IsFresh};
+ghost use Rattle.flash_volume.specs.Running.{running_of};
+ghost use Rattle.flash_volume.specs.State.{fresh_volume};
 
 use crate::{Began, Volume};
 use flash_die::{FuseNand, MemoryNand, Nand};
@@ -13,58 +16,79 @@ const TASK: TaskNo = TaskNo(0);
 
 const ONES: PageData = PageData([0x11; 16]);
 
-/// Eight blocks of four pages, which are erased in three slots. The task may own four pages.
-fn roomy(alloc: Global) -> Result<DiePlan, Refusal>
-    ensures { IfOk result (λ plan. plan ≡ record {
-      shape = record { blocks = 8; pages = 4; erase_slots = 3 };
-      logical = 12;
-      alpha = 2;
-      caps = 4 ∷ [];
-    }) }
+/// Eight blocks of four pages, which are erased in three slots.
+const SHAPE: Shape = Shape {
+    blocks: 8,
+    pages: 4,
+    erase_slots: 3,
+};
+
+/// A new volume on this device. The task may own four pages.
+fn roomy<N: Nand>(alloc: Global, device: N) -> Result<Volume<N>, Refusal>
+    requires { IsFresh (N.shape_of device) (N.blocks device) (N.failures device) }
+    ensures { IfOk result (λ volume. volume ≡ fresh_volume (record { shape = N.shape_of device; logical = 12; alpha = 2; caps = 4 ∷ [] }) device) }
 {
     let mut caps = Caps::new(alloc);
     caps.push(4)?;
-    Ok(DiePlan {
-        shape: Shape {
-            blocks: 8,
-            pages: 4,
-            erase_slots: 3,
-        },
+    let plan = DiePlan {
+        shape: device.shape(),
         logical: 12,
         alpha: 2,
         caps,
-    })
+    };
+    bound(&plan)?;
+    Volume::new(alloc, plan, device)
+}
+
+/// Two pages; how a collection begins; the free pages before and after, the balance, logical pages and blocks; whether it failed.
+type Seen = ([PageData; 2], Began, [u32; 5], bool);
+
+/// Writes page 3, reads it and page 4, and begins a collection.
+fn seen<N: Nand>(volume: &mut Volume<N>) -> Result<Seen, Refusal>
+    requires caps { volume.old.accounts.plan.caps ≡ 4 ∷ [] }
+    requires holds { volume.old.accounts.holds ≡ 0 ∷ [] }
+    requires pages { length volume.old.pages ≡ 12 }
+    requires idle { running_of volume.old.running 0 ≡ None }
+{
+    volume.admit(TASK, 1)?;
+    volume.write(TASK, 3, ONES)?;
+    let pages = [volume.read(3)?, volume.read(4)?];
+    let free = volume.free();
+    let began = volume.begin(TASK)?;
+    let counts = [
+        free,
+        volume.free(),
+        volume.balance(TASK),
+        volume.plan().logical,
+        volume.device().shape().blocks,
+    ];
+    Ok((pages, began, counts, volume.failed()))
+}
+
+fn seen_of_new(alloc: Global) -> Result<Seen, Refusal> {
+    let mut volume = roomy(alloc, MemoryNand::new(alloc, SHAPE)?)?;
+    seen(&mut volume)
 }
 
 #[test]
 fn a_write_is_read_back_and_a_collection_with_spare_pages_is_waived(
     rt: HostRuntime,
 ) -> Result<(), Fail> {
-    let plan = roomy(rt.alloc())?;
-    bound(&plan)?;
-    let device = MemoryNand::new(rt.alloc(), plan.shape)?;
-    let mut volume = Volume::new(rt.alloc(), plan, device)?;
-    volume.admit(TASK, 1)?;
-    volume.write(TASK, 3, ONES)?;
-    assert_eq!(rt; volume.read(3), Ok(ONES));
-    assert_eq!(rt; volume.read(4), Ok(PageData::BLANK));
-    assert_eq!(rt; volume.free(), 31);
-    assert_eq!(rt; volume.begin(TASK), Ok(Began::Waived { given: 1 }));
-    assert_eq!(rt; volume.free(), 31);
-    assert_eq!(rt; volume.balance(TASK), 4);
-    assert_eq!(rt; volume.plan().logical, 12);
-    assert_eq!(rt; volume.device().shape().blocks, 8);
-    assert!(rt; !volume.failed());
+    let (pages, began, counts, failed) = seen_of_new(rt.alloc())?;
+    assert_eq!(rt; pages, [ONES, PageData::BLANK]);
+    assert_eq!(rt; began, Began::Waived { given: 1 });
+    assert_eq!(rt; counts, [31, 31, 4, 12, 8]);
+    assert!(rt; !failed);
     Ok(())
 }
 
 /// Writes two pages, reads both and writes the first again, each by one call of the device. Answers
-/// how many of these succeeded before the device failed, and with what later calls are refused.
-fn successes(alloc: Global, calls: u64) -> Result<(u32, bool), Refusal> {
-    let plan = roomy(alloc)?;
-    bound(&plan)?;
-    let device = FuseNand::new(MemoryNand::new(alloc, plan.shape)?, calls);
-    let mut volume = Volume::new(alloc, plan, device)?;
+/// how many of these succeeded before the device failed, and whether later calls get `DieStopped`.
+fn successes<N: Nand>(volume: &mut Volume<N>) -> Result<(u32, bool), Refusal>
+    requires caps { volume.old.accounts.plan.caps ≡ 4 ∷ [] }
+    requires holds { volume.old.accounts.holds ≡ 0 ∷ [] }
+    requires pages { length volume.old.pages ≡ 12 }
+{
     volume.admit(TASK, 3)?;
     let passed = if volume.write(TASK, 0, ONES).is_err() {
         0
@@ -83,12 +107,18 @@ fn successes(alloc: Global, calls: u64) -> Result<(u32, bool), Refusal> {
     Ok((passed, stopped))
 }
 
+/// The same of a new volume whose device fails behind so many calls.
+fn fused(alloc: Global, calls: u64) -> Result<(u32, bool), Refusal> {
+    let device = FuseNand::new(MemoryNand::new(alloc, SHAPE)?, calls);
+    let mut volume = roomy(alloc, device)?;
+    successes(&mut volume)
+}
+
 #[test]
 fn a_volume_stops_with_the_first_call_that_fails(rt: HostRuntime) -> Result<(), Fail> {
     for (calls, passed) in [(0, 0), (1, 1), (2, 2), (3, 3), (4, 4), (5, 5), (1000, 5)] {
-        let (succeeded, stopped) = successes(rt.alloc(), calls)?;
-        assert_eq!(rt; succeeded, passed, "with {calls}");
-        assert_eq!(rt; stopped, passed < 5, "with {calls}");
+        let answer = fused(rt.alloc(), calls)?;
+        assert_eq!(rt; answer, (passed, passed < 5), "with {calls}");
     }
     Ok(())
 }
