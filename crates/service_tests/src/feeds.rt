@@ -1,100 +1,56 @@
-//! Jobs, and the feeds that are made of them.
+//! Jobs as rows of a table, and the feeds that are made of them.
 
 ghost use Rattle.std.specs.Prelude.{All, IfOk};
 ghost use Rattle.slot_types.specs.Arrivals.{IsArrival};
 ghost use Rattle.die_service.specs.Runs.{AllArrive};
 
-use crate::made::ONES;
 use die_service::{Arrival, Feed};
 use slot_types::{Event, Op, OpList, Refusal, TaskNo};
 use std::alloc::Global;
 
-// A job of one operation of task 0, released at the slot before which it comes.
-fn job(alloc: Global, at: u32, due: u32, op: Op) -> Result<Arrival, Refusal>
+/// A job of one operation of task 0: its release, which is also the slot before which it comes, its due and its operation.
+#[derive(Clone, Copy)]
+pub(crate) struct Job(pub(crate) u32, pub(crate) u32, pub(crate) Op);
+
+// The arrival of a job.
+fn arrival(alloc: Global, job: Job) -> Result<Arrival, Refusal>
     ensures { IfOk result (λ arrival. IsArrival arrival.event) }
 {
+    let Job(release, due, op) = job;
     let ops = OpList::from_vec(Vec::from_slice(alloc, &[op])?);
     Ok(Arrival {
-        at,
+        at: release,
         event: Event::Submit {
             task: TaskNo(0),
-            release: at,
+            release,
             due,
             ops,
         },
     })
 }
 
-// A feed of two events.
-fn pair(alloc: Global, first: Arrival, second: Arrival) -> Result<Feed, Refusal>
-    requires first { IsArrival first.event }
-    requires second { IsArrival second.event }
+// The feed of one job or two.
+fn feed(alloc: Global, jobs: &[Job]) -> Result<Feed, Refusal>
     ensures { IfOk result AllArrive }
 {
     let mut events = Vec::with_capacity(alloc, 2)?;
-    events.push_reserved(first);
-    events.push_reserved(second);
-    Ok(Feed::from_vec(events))
-}
-
-// A feed of one event.
-fn only(alloc: Global, first: Arrival) -> Result<Feed, Refusal>
-    requires { IsArrival first.event }
-    ensures { IfOk result AllArrive }
-{
-    let mut events = Vec::with_capacity(alloc, 1)?;
-    events.push_reserved(first);
+    match jobs {
+        [only] => events.push_reserved(arrival(alloc, *only)?),
+        [first, second] => {
+            events.push_reserved(arrival(alloc, *first)?);
+            events.push_reserved(arrival(alloc, *second)?);
+        }
+        _ => return Err(Refusal::TooManyOps),
+    }
     Ok(Feed::from_vec(events))
 }
 
 /// The feeds of two dies.
-pub(crate) fn both(alloc: Global, first: Feed, second: Feed) -> Result<Vec<Feed>, Refusal>
-    requires first { AllArrive first }
-    requires second { AllArrive second }
+pub(crate) fn both(alloc: Global, first: &[Job], second: &[Job]) -> Result<Vec<Feed>, Refusal>
     ensures { IfOk result (λ feeds. All AllArrive feeds.items) }
 {
     let mut feeds = Vec::with_capacity(alloc, 2)?;
-    feeds.push_reserved(first);
-    feeds.push_reserved(second);
+    feeds.push_reserved(feed(alloc, first)?);
+    feeds.push_reserved(feed(alloc, second)?);
     Ok(feeds)
-}
-
-/// A write and a read of page 3, a slot apart.
-pub(crate) fn write_and_read(alloc: Global) -> Result<Feed, Refusal>
-    ensures { IfOk result AllArrive }
-{
-    pair(
-        alloc,
-        job(alloc, 0, 2, Op::Write(3, ONES))?,
-        job(alloc, 1, 3, Op::Read(3))?,
-    )
-}
-
-/// A read of a page that the die doesn't have, and two slots later one of a page that it has.
-pub(crate) fn bad_and_good(alloc: Global) -> Result<Feed, Refusal>
-    ensures { IfOk result AllArrive }
-{
-    pair(
-        alloc,
-        job(alloc, 0, 2, Op::Read(12))?,
-        job(alloc, 2, 3, Op::Read(0))?,
-    )
-}
-
-/// Two writes at once, of which a die whose device fails at the second carries out the first.
-pub(crate) fn two_writes(alloc: Global) -> Result<Feed, Refusal>
-    ensures { IfOk result AllArrive }
-{
-    pair(
-        alloc,
-        job(alloc, 0, 5, Op::Write(3, ONES))?,
-        job(alloc, 0, 6, Op::Write(4, ONES))?,
-    )
-}
-
-/// A write.
-pub(crate) fn one_write(alloc: Global) -> Result<Feed, Refusal>
-    ensures { IfOk result AllArrive }
-{
-    only(alloc, job(alloc, 0, 5, Op::Write(0, ONES))?)
 }

@@ -2,13 +2,19 @@
 #![tactic(auto)]
 
 #[cfg(test)]
+mod courses;
+#[cfg(test)]
 mod feeds;
 #[cfg(test)]
 mod held;
 #[cfg(test)]
 mod made;
 #[cfg(test)]
+mod played;
+#[cfg(test)]
 mod runs;
+#[cfg(test)]
+mod scarce;
 #[cfg(test)]
 mod steps;
 #[cfg(test)]

@@ -1,6 +1,6 @@
 //! Fresh devices, and the stores that are made of them: dies of 8 blocks, each of which serves one task.
 
-ghost use Rattle.std.specs.Prelude.{◌≡◌, [], ◌∷◌, map, IfOk, IfSome};
+ghost use Rattle.std.specs.Prelude.{◌≡◌, map, IfOk};
 ghost use Rattle.flash_die.specs.Flash.{IsFresh};
 
 use die_service::{DiePass, Store};
@@ -110,32 +110,4 @@ pub(crate) fn one_die(
     ensures { IfOk result (λ made. map (λ pass. pass.lock) made.1.items ≡ made.0) }
 {
     store_with(alloc, memory(alloc)?)
-}
-
-/// The pass of a store of one die.
-pub(crate) fn only_pass<N: Nand>(store: &Store<N>, passes: Vec<DiePass<N>>) -> Option<DiePass<N>>
-    requires { map (λ pass. pass.lock) passes.items ≡ store.now }
-    ensures { IfSome result (λ pass. store.now ≡ pass.lock ∷ []) }
-{
-    let mut passes = passes;
-    let pass = passes.pop()?;
-    if passes.is_empty() { Some(pass) } else { None }
-}
-
-/// The passes of a store of two dies.
-pub(crate) fn both_passes<N: Nand>(
-    store: &Store<N>,
-    passes: Vec<DiePass<N>>,
-) -> Option<(DiePass<N>, DiePass<N>)>
-    requires { map (λ pass. pass.lock) passes.items ≡ store.now }
-    ensures { IfSome result (λ both. store.now ≡ both.0.lock ∷ both.1.lock ∷ []) }
-{
-    let mut passes = passes;
-    let second = passes.pop()?;
-    let first = passes.pop()?;
-    if passes.is_empty() {
-        Some((first, second))
-    } else {
-        None
-    }
 }

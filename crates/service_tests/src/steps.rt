@@ -2,12 +2,14 @@
 
 ghost use Rattle.std.specs.Prelude.{◌≡◌};
 
+use crate::scarce::grows_or_stays;
 use die_service::{Die, DiePass, RefusedAt};
 use flash_die::Nand;
 use late_cert::Certificate;
 use slot_core::{Outcome, Worst};
 use slot_types::{JobNo, Op, OpList, PageData, Refusal, TaskNo};
 use std::alloc::Global;
+use std::mem;
 use std::sync::Wait;
 
 /// What became of a job, as far as a step tells it.
@@ -35,6 +37,13 @@ pub(crate) enum Step {
     Look(u64),
     Now(u32),
     Out(u32),
+    /// A second pass is split off. This one submits such a job, which gets this number, and carries it out. It is joined
+    /// into the second one then, which takes its place.
+    HandOver(u32, u32, Op, u32),
+    /// A second pass is split off and takes the place of this one, which is let go.
+    LetGo,
+    /// Reads are submitted and slots carried out, and where memory is refused, that is told and makes no entry.
+    Grows,
 }
 
 /// The number of a job of one operation of task 0.
@@ -149,6 +158,44 @@ fn certifies<N: Nand, R: Wait>(
     }
 }
 
+// Whether a second pass is split off, which takes this one's place, and has joined it once this one did a job.
+fn hands_over<N: Nand, R: Wait>(
+    rt: &R,
+    alloc: Global,
+    die: &Die<N>,
+    pass: &mut DiePass<N>,
+    release: u32,
+    due: u32,
+    op: Op,
+    number: u32,
+) -> bool
+    requires { pass.old.lock ≡ die.now }
+    ensures { pass.new.lock ≡ pass.old.lock }
+{
+    let Ok(mut other) = die.split_pass(rt, pass) else {
+        return false;
+    };
+    let taken = submit(rt, alloc, die, pass, release, due, op) == Ok(number);
+    let done = carry(rt, die, pass) == Ok(Some(number));
+    mem::swap(pass, &mut other);
+    die.join_pass(pass, other);
+    taken & done
+}
+
+// Whether a second pass is split off, which takes this one's place.
+fn lets_go<N: Nand, R: Wait>(rt: &R, die: &Die<N>, pass: &mut DiePass<N>) -> bool
+    requires { pass.old.lock ≡ die.now }
+    ensures { pass.new.lock ≡ pass.old.lock }
+{
+    match die.split_pass(rt, pass) {
+        Ok(other) => {
+            *pass = other;
+            true
+        }
+        Err(_) => false,
+    }
+}
+
 // Whether the die answers a step as it has to.
 fn goes<N: Nand, R: Wait>(
     rt: &R,
@@ -173,6 +220,11 @@ fn goes<N: Nand, R: Wait>(
         Step::Look(entries) => die.look(pass) == entries,
         Step::Now(slot) => die.now(rt, pass) == slot,
         Step::Out(passes) => die.out(rt, pass) == passes,
+        Step::HandOver(release, due, op, number) => {
+            hands_over(rt, alloc, die, pass, release, due, op, number)
+        }
+        Step::LetGo => lets_go(rt, die, pass),
+        Step::Grows => grows_or_stays(rt, alloc, die, pass),
     }
 }
 
