@@ -344,7 +344,7 @@ slots_run plan saids told (suc left) clock items before rest ends place is (fed,
     let f = rows_fed plan saids told clock items before fed tail rest is rest_is asked at_now arrive in
     let c = slot_carried plan saids told left clock items (before ++ fed) more slot f.next f.stays ordered due arrive in
     let on = slots_run plan saids told left (clock + 1) later ((before ++ fed) ++ carried slot ∷ []) more (ends ++ ends_said now_due fed) (place + length now_due)
-        c.next c.ordered c.counted (sym f.stops ∙ none_stopped) c.due c.arrive in
+    c.next c.ordered c.counted (sym f.stops ∙ none_stopped) c.due c.arrive in
     record {
       ended = ends_said now_due fed ++ on.ended;
       ran = ran_more plan (run_at (said_log before) ends) (run_at (said_log (before ++ fed)) (ends ++ ends_said now_due fed)) (run_at (said_log saids) (ends ++ (ends_said now_due fed ++ on.ended)))
