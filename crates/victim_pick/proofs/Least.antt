@@ -1,19 +1,63 @@
--- A search that has come to the end has seen every candidate.
-use Rattle.std.proofs.Common.{◌≡◌, ℕ, ◌<◌, ◌≤◌, List, Option, Some, None, length, ⊎_elim}
+-- A walk over the counts finds the least.
+use Rattle.std.proofs.Common.{◌≡◌, ℕ, ◌≤◌, List, length, get_or, Option, Some, None, refl, subst, arith, inl, inr}
 use Rattle.std.proofs.lemmas.Bool.{cases_lt}
-use Rattle.std.proofs.lemmas.List.{get_or_past}
-use Rattle.victim_pick.specs.Candidates.{count_of, IsLeast}
-use Rattle.victim_pick.specs.Search.{Leads}
+use Rattle.victim_pick.specs.Candidates.{count_of, HasNone, IsLeast}
+use Rattle.victim_pick.specs.Search.{AreEmpty, IsFirstFrom}
+use Rattle.victim_pick.specs.Lists.{AreLists, IsFirstOf}
 
--- past the last block nothing is counted
-counted_below : (counts : List (Option ℕ)) (block valid : ℕ) → count_of counts block ≡ Some valid → block < length counts
-counted_below counts block valid is =
-    ⊎_elim (λ (below : block < length counts). below) (λ (past : length counts ≤ block). absurd (let none = get_or_past counts block None past in cc)) (cases_lt block (length counts))
+-- an empty list has no candidate
+none_with : (counts : List (Option ℕ)) (count : ℕ) (first : Option ℕ) → first ≡ None → IsFirstOf counts count first → (block : ℕ) → count_of counts block ≡ Some count → ⊥
+none_with counts count None none is = is
+none_with counts count (Some first) none is = λ block counted. absurd (cc)
 
-pub IsLeast-from_search : (counts : List (Option ℕ)) (block valid : ℕ) → Leads counts (length counts) block valid → IsLeast counts block
-IsLeast-from_search counts block valid leads = record {
-  valid = valid;
-  counted = leads.counted;
-  fewest = λ other fewer is. leads.fewest other fewer (counted_below counts other fewer is) is;
-  first = λ other is. leads.first other (counted_below counts other valid is) is;
+-- what isn't counted by any number isn't counted
+uncounted : (o : Option ℕ) → ((count : ℕ) → o ≡ Some count → ⊥) → o ≡ None
+uncounted None none = refl
+uncounted (Some count) none = absurd (none count refl)
+
+-- a walk to the end has seen that there is no candidate
+pub has_none : (pages : ℕ) (counts firsts : List (Option ℕ)) (words : ℕ) (bits : List ℕ) (least : ℕ) → AreLists pages counts firsts words bits least → AreEmpty firsts least (length firsts) → HasNone counts
+has_none pages counts firsts words bits least are empty =
+    λ block. uncounted (count_of counts block) (λ count is.
+    let fits : count ≤ pages = are.fit block count is in
+    none_with counts count (get_or firsts count None) (empty count (are.least_is block count is) (omega (arith, fits, are.firsts_len))) (are.firsts_are count fits) block is)
+
+-- no candidate has a count below the one that the walk found
+pub none_before : (pages : ℕ) (counts firsts : List (Option ℕ)) (words : ℕ) (bits : List ℕ) (least count block : ℕ) → AreLists pages counts firsts words bits least → IsFirstFrom firsts least count block → (other fewer : ℕ) → count_of counts other ≡ Some fewer → count ≤ fewer
+none_before pages counts firsts words bits least count block are found other fewer is =
+    elim (cases_lt fewer count) [
+      | inr from_on ↦ from_on
+      | inl before ↦ absurd (none_with counts fewer (get_or firsts fewer None) (found.empty fewer (are.least_is other fewer is) before) (are.firsts_are fewer (are.fit other fewer is)) other is)
+    ]
+
+first_is : (counts : List (Option ℕ)) (count block : ℕ) (first : Option ℕ) → first ≡ Some block → IsFirstOf counts count first → IsFirstOf counts count (Some block)
+first_is counts count block first is = subst (λ (f : Option ℕ). IsFirstOf counts count f) is
+
+-- what the walk found is the first block of its count
+pub found_first : (pages : ℕ) (counts firsts : List (Option ℕ)) (words : ℕ) (bits : List ℕ) (least count block : ℕ) → AreLists pages counts firsts words bits least → IsFirstFrom firsts least count block → IsFirstOf counts count (Some block)
+found_first pages counts firsts words bits least count block are found =
+    first_is counts count block (get_or firsts count None) found.first (are.firsts_are count (omega (arith, found.below, are.firsts_len)))
+
+pub least_found : (pages : ℕ) (counts firsts : List (Option ℕ)) (words : ℕ) (bits : List ℕ) (least count block : ℕ) → AreLists pages counts firsts words bits least → IsFirstFrom firsts least count block → IsLeast counts block
+least_found pages counts firsts words bits least count block are found =
+    let first : IsFirstOf counts count (Some block) = found_first pages counts firsts words bits least count block are found in
+    record {
+      valid = count;
+      counted = first.0;
+      fewest = none_before pages counts firsts words bits least count block are found;
+      first = first.1;
+    }
+
+-- the walk may begin at what it found
+pub least_raised : (pages : ℕ) (counts firsts : List (Option ℕ)) (words : ℕ) (bits : List ℕ) (least count block : ℕ) → AreLists pages counts firsts words bits least → IsFirstFrom firsts least count block → AreLists pages counts firsts words bits count
+least_raised pages counts firsts words bits least count block are found = record {
+  few_blocks = are.few_blocks;
+  few_pages = are.few_pages;
+  words_are = are.words_are;
+  bits_len = are.bits_len;
+  firsts_len = are.firsts_len;
+  fit = are.fit;
+  sets = are.sets;
+  firsts_are = are.firsts_are;
+  least_is = none_before pages counts firsts words bits least count block are found;
 }

@@ -1,1 +1,4 @@
+pub mod Words
+pub mod Changes
+pub mod Fresh
 pub mod Least

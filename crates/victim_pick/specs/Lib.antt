@@ -1,2 +1,4 @@
 pub mod Candidates
 pub mod Search
+pub mod Sets
+pub mod Lists

@@ -1,15 +1,13 @@
--- How far a search for the least count has come.
-use Rattle.std.specs.Prelude.{◌≡◌, ℕ, ◌<◌, ◌≤◌, List, Option, Some, None}
-use Rattle.victim_pick.specs.Candidates.{count_of}
+-- The walk over the counts.
+use Rattle.std.specs.Prelude.{◌≡◌, ℕ, ◌<◌, ◌≤◌, List, length, Option, Some, None, slice_index_or}
 
--- of the blocks below n this is the first with the smallest count
-pub record Leads (counts : List (Option ℕ)) (n block valid : ℕ) : Type 0 where
-  pub below : block < n
-  pub counted : count_of counts block ≡ Some valid
-  pub fewest : (other fewer : ℕ) → other < n → count_of counts other ≡ Some fewer → valid ≤ fewer
-  pub first : (other : ℕ) → other < n → count_of counts other ≡ Some valid → block ≤ other
+-- no list of the counts from one up to another has a block
+abbrev pub AreEmpty : List (Option ℕ) → ℕ → ℕ → Type 0
+AreEmpty firsts from to = (count : ℕ) → from ≤ count → count < to → slice_index_or firsts count None ≡ None
 
--- the least of the blocks below n
-abbrev pub IsLeastBelow : List (Option ℕ) → ℕ → Option (ℕ × ℕ) → Type 0
-IsLeastBelow counts n None = (block : ℕ) → block < n → count_of counts block ≡ None
-IsLeastBelow counts n (Some best) = Leads counts n best.0 best.1
+-- the first count, from another on, whose list has a block, and the first block of that list
+pub record IsFirstFrom (firsts : List (Option ℕ)) (from count block : ℕ) : Type 0 where
+  pub from_on : from ≤ count
+  pub below : count < length firsts
+  pub first : slice_index_or firsts count None ≡ Some block
+  pub empty : AreEmpty firsts from count
