@@ -15,6 +15,44 @@ fn a_plan_shows_its_figures(rt: HostRuntime) -> Result<(), Fail> {
     Ok(())
 }
 
+/// A plan with times: of 20 slots its task may ask for 2 * 2, and its collections for 7 * 1.
+const TIMED: &str = "version = 2
+dies = 1
+blocks = 4
+pages = 4
+erase_slots = 3
+logical = 2
+alpha = 2
+common = 20
+
+[[task]]
+die = 0
+cap = 6
+period = 10
+collect_period = 20
+work = 2
+writes = 1
+";
+
+#[test]
+fn a_plan_with_times_shows_its_load(rt: HostRuntime) -> Result<(), Fail> {
+    let alloc = rt.alloc();
+    let figures = "fmax 9 closed 1 live 3 logical 2 accepted\n";
+    let lines = format!(in alloc; "die 0 {figures}die 0 load 11 of 20\n")?;
+    assert!(rt; acted(&rt, alloc, PLAN_COMMAND, TIMED.as_bytes()).is(lines.as_str(), "", 0));
+    let two = TIMED.replace(alloc, "dies = 1", "dies = 2")?;
+    let task = "die = 1\ncap = 6\nperiod = 20\ncollect_period = 20\nwork = 3\nwrites = 1\n";
+    let two = format!(in alloc; "{two}\n[[task]]\n{task}")?;
+    let lines = format!(in alloc; "{lines}die 1 {figures}die 1 load 10 of 20\n")?;
+    assert!(rt; acted(&rt, alloc, PLAN_COMMAND, two.as_bytes()).is(lines.as_str(), "", 0));
+    for (old, new) in [("work = 2", "work = 7"), ("cap = 6", "cap = 5")] {
+        let plan = TIMED.replace(alloc, old, new)?;
+        let line = "error 3 BadPlan\n";
+        assert!(rt; acted(&rt, alloc, PLAN_COMMAND, plan.as_bytes()).is("", line, 1));
+    }
+    Ok(())
+}
+
 #[test]
 fn certificates_are_judged(rt: HostRuntime) -> Result<(), Fail> {
     let alloc = rt.alloc();

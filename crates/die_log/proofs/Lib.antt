@@ -14,5 +14,8 @@ pub mod Legal
 pub mod Tokens
 pub mod Least
 pub mod Bounds
+pub mod Promises
+pub mod Planned
+pub mod Supply
 mod Worked
 mod Wrong

@@ -14,7 +14,8 @@ use Rattle.slot_types.specs.declared.replies.Reply.{Reply}
 use Rattle.slot_types.specs.declared.replies.Reply.TheVariants as replies
 use Rattle.die_log.specs.Log.{Log, Job, Carried, jobs, now, carried, with_slot, act_of, work}
 use Rattle.die_log.specs.Flash.{Block, Cells, cells, cells_after, block_at, free_block, open_block, programmed_in, erased_once, ran_by}
-use Rattle.die_log.specs.Answers.{IsExact, accepted, refusals, page_of, bad_page, choice, slot_reply}
+use Rattle.slot_types.specs.Operations.{page_of}
+use Rattle.die_log.specs.Answers.{IsExact, accepted, refusals, bad_page, choice, slot_reply}
 use Rattle.die_log.specs.Limits.{IsWithinLimits, KeepsLimits}
 use Rattle.die_log.proofs.Legality.{entry, in_time, exact_induction}
 use Rattle.die_log.proofs.Known.{all_append}

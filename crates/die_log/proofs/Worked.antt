@@ -14,3 +14,4 @@ mod EraseSuspended
 pub mod RewrittenPage
 mod Certificates
 mod LegalCollection
+mod PlannedWork

@@ -7,3 +7,10 @@ mod PageReadTwice
 mod WaivedWithoutSpare
 mod ErasedWithAPage
 mod IdleWhileJobWaits
+mod LateReleaseAccepted
+mod WrongNumberTaken
+mod StaleBytesRead
+mod MoreOwedThanFree
+mod WaiverGivesWrong
+mod WrongWaivers
+mod ActsOutOfTurn

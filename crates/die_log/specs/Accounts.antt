@@ -11,7 +11,8 @@ use Rattle.slot_types.specs.declared.replies.Waived.{Waived}
 use Rattle.plan_rules.specs.Accounts.{Accounts, opening, admitted, hold_spent, reserve_spent, settled}
 use Rattle.plan_rules.specs.Accounts as moves
 use Rattle.die_log.specs.Log.{Log, Job, Carried, job_at, acts}
-use Rattle.die_log.specs.Work.{are_all, is_copy_program, writes}
+use Rattle.slot_types.specs.Operations.{writes}
+use Rattle.die_log.specs.Work.{are_all, is_copy_program}
 
 -- an act of a job or collection that had these acts before
 abbrev pub after_act : DiePlan → Option Job → List Act → Act → Accounts → Accounts

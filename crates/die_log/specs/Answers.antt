@@ -17,16 +17,13 @@ use Rattle.slot_types.specs.declared.refusals.Refusal.{Refusal}
 use Rattle.slot_types.specs.declared.refusals.Refusal.TheVariants as because
 use Rattle.die_log.specs.Log.{Log, Job, jobs, now, acts, work}
 use Rattle.die_log.specs.Flash.{Cells, cells, content, block_at, is_closed, valid, valid_pages, block_of_page}
-use Rattle.die_log.specs.Work.{are_all, is_done, ready, least, is_collecting, victim_of, writes}
+use Rattle.slot_types.specs.Operations.{page_of, writes}
+use Rattle.die_log.specs.Work.{are_all, is_done, ready, least, is_collecting, victim_of}
 use Rattle.plan_rules.specs.Accounts.{Accounts, given_of}
 use Rattle.plan_rules.specs.Accounts as moves
 use Rattle.die_log.specs.Accounts.{accounts}
 
 -- Refusals
-
-abbrev pub page_of : Op → ℕ
-page_of (asks.Read page) = page
-page_of (asks.Write page bytes) = page
 
 -- the first page of these operations that the die doesn't have
 abbrev pub bad_page : DiePlan → List Op → Option ℕ

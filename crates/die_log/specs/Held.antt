@@ -6,7 +6,8 @@ use Rattle.slot_types.specs.declared.acts.Act.{Act}
 use Rattle.plan_rules.specs.Accounts.{Accounts}
 use Rattle.die_log.specs.Log.{Log, Job, jobs, acts, is_waived}
 use Rattle.die_log.specs.Flash.{free}
-use Rattle.die_log.specs.Work.{are_all, is_copy_program, writes, owed}
+use Rattle.slot_types.specs.Operations.{writes}
+use Rattle.die_log.specs.Work.{are_all, is_copy_program, owed}
 use Rattle.die_log.specs.Accounts.{accounts}
 
 -- so much at this task, and nothing at others

@@ -5,7 +5,7 @@ use Rattle.slot_types.specs.declared.limits.TheConstants.{MAX_SLOT, MAX_JOBS, MA
 use Rattle.slot_types.specs.declared.events.Op.{Op}
 use Rattle.die_log.specs.Log.{Log, Job, jobs, now}
 use Rattle.die_log.specs.Flash.{cells, block_at}
-use Rattle.die_log.specs.Answers.{page_of}
+use Rattle.slot_types.specs.Operations.{page_of}
 
 -- a job or collection of a task of the plan, with time between its release and its due, and with operations on pages of
 -- the die; a job has one at least

@@ -4,8 +4,7 @@ use Rattle.std.specs.List.{list_any, reduce}
 use Rattle.slot_types.specs.declared.plans.DiePlan.{DiePlan}
 use Rattle.slot_types.specs.declared.acts.Act.{Act}
 use Rattle.slot_types.specs.declared.acts.Act.TheVariants as does
-use Rattle.slot_types.specs.declared.events.Op.{Op}
-use Rattle.slot_types.specs.declared.events.Op.TheVariants as asks
+use Rattle.slot_types.specs.Operations.{writes}
 use Rattle.late_cert.specs.Schedule as slots
 use Rattle.die_log.specs.Log.{Log, Job, jobs, now, is_waived, acts, act_of, work}
 use Rattle.die_log.specs.Flash.{ran_by, Cells, cells, block_of_page}
@@ -104,13 +103,6 @@ victim_of plan number [] = None
 victim_of plan number (e ∷ past) = shown_by plan past (victim_of plan number past) (act_of number (ran_by e.reply))
 
 -- Owed
-
-abbrev pub is_write : Op → Bool
-is_write (asks.Read page) = false
-is_write (asks.Write page bytes) = true
-
-abbrev pub writes : List Op → ℕ
-writes ops = count_by is_write ops
 
 -- the writes of accepted jobs that are not yet carried
 abbrev pub owed : Log → ℕ

@@ -1,18 +1,27 @@
 //! What holds of every exact log. Each law is a function that does nothing.
 
-ghost use Rattle.std.specs.Prelude.{◌≡◌, ◌++◌, ◌↔◌, ◌+◌, ◌-◌, ◌*◌, ◌≤◌, Some, None, true, Contains, IsFalse, count_by};
+ghost use Rattle.std.specs.Prelude.{◌≡◌, ◌++◌, ◌↔◌, ◌∷◌, ◌+◌, ◌-◌, ◌*◌, ◌<◌, ◌≤◌, Some, None, true, ℕ, List, [], length, map, Contains, IsFalse, count_by};
 ghost use Rattle.slot_types.specs.declared.plans.DiePlan.{DiePlan};
+ghost use Rattle.slot_types.specs.declared.events.Event.{Event};
+ghost use Rattle.slot_types.specs.declared.plans.Times.{Times};
 ghost use Rattle.plan_rules.specs.Bound.{MeetsBound};
+ghost use Rattle.plan_rules.specs.Times.{Passes};
+ghost use Rattle.plan_rules.specs.Keeping.{KeepsPlan};
 ghost use Rattle.late_cert.specs.declared.certificates.Certificate.{Certificate};
-ghost use Rattle.late_cert.specs.Stretch.{CarriesLeastKeys, IsLeastLate};
+ghost use Rattle.late_cert.specs.Schedule.{IsLeastLate};
+ghost use Rattle.late_cert.specs.Stretch.{CarriesLeastKeys};
 ghost use Rattle.die_log.specs.Log.{Log, Job, calls, jobs, acts, work};
 ghost use Rattle.die_log.specs.Work.{is_done, is_copy_program, worst, IsWorst};
-ghost use Rattle.die_log.specs.Answers.{IsExact};
+ghost use Rattle.die_log.specs.Answers.{refusal_of, run, IsExact};
 ghost use Rattle.die_log.specs.Legal.{IsLegal};
 ghost use Rattle.die_log.specs.Limits.{KeepsLimits};
 ghost use Rattle.die_log.specs.Standing.{Stands};
 ghost use Rattle.die_log.specs.Well.{IsWell};
+ghost use Rattle.die_log.specs.Held.{held_of};
+ghost use Rattle.die_log.specs.Planned.{told, AreEntered, IsInTime, AreAccepted};
+ghost use Rattle.die_log.specs.Supply.{hold_of};
 ghost use Rattle.die_log.specs.Rows.{rows, carried_numbers, certificate, IsCertified};
+ghost use Rattle.die_log.specs.Promised.{KeepsPromises};
 
 /// Two exact logs of one plan with the same calls are one log.
 pub fn same_calls()
@@ -75,4 +84,38 @@ pub fn exact_is_certified()
 pub fn collections_are_bounded()
     ensures copies { (plan : DiePlan) → MeetsBound plan → (log : Log) → IsExact plan log → (j : Job) → Contains (jobs log) j → j.collects ≡ true → count_by is_copy_program (acts j.number log) ≤ plan.shape.pages - plan.alpha }
     ensures slots { (plan : DiePlan) → MeetsBound plan → (log : Log) → IsExact plan log → (j : Job) → Contains (jobs log) j → j.collects ≡ true → work j.number log ≤ 2 * (plan.shape.pages - plan.alpha) + plan.shape.erase_slots }
+{}
+
+/// An exact log of a plan within its bound keeps all that is promised of a log, and so did it at each earlier moment.
+pub fn exact_keeps_promises()
+    ensures log { (plan : DiePlan) → MeetsBound plan → (log : Log) → IsExact plan log → KeepsPromises plan log }
+    ensures moments { (plan : DiePlan) → MeetsBound plan → (later moment : Log) → IsExact plan (later ++ moment) → KeepsPromises plan moment }
+{}
+
+/// What an exact log of a plan within its bound holds for a task is what the task's accepted jobs still owe: those of
+/// their writes that were not carried out yet.
+pub fn holds_are_owed()
+    ensures { (plan : DiePlan) → MeetsBound plan → (log : Log) → IsExact plan log →
+        (task : ℕ) → task < length plan.caps → hold_of plan log task ≡ held_of (λ n. acts n log) (jobs log) task }
+{}
+
+/// Nothing is late that was planned. Let a plan meet its bound and pass the test of its times, and let events
+/// keep to it. At each moment of an exact log that they leave, whichever jobs and collections were refused, all
+/// that is due by then is done or was waived, and nothing is done late. So it is after a run of these events.
+pub fn planned_work_is_in_time()
+    ensures moments { (plan : DiePlan) (times : Times) → MeetsBound plan → Passes plan times →
+        (all : List Event) → KeepsPlan plan times all →
+        (later moment : Log) → IsExact plan (later ++ moment) → AreEntered all [] (later ++ moment) → IsInTime plan moment }
+    ensures runs { (plan : DiePlan) (times : Times) → MeetsBound plan → Passes plan times →
+        (calls : List (ℕ × Event)) → KeepsPlan plan times (map (λ call. call.1) calls) → IsInTime plan (run plan [] calls) }
+{}
+
+/// Of events that keep a passing plan none is refused: no job for want of tokens, and no collection because
+/// the task's collector is busy. So it is of each event behind those before it, and of a run of them all.
+pub fn planned_work_is_accepted()
+    ensures next { (plan : DiePlan) (times : Times) → MeetsBound plan → Passes plan times →
+        (past : Log) (event : Event) (rest : List Event) → IsExact plan past →
+        KeepsPlan plan times (told past ++ event ∷ rest) → refusal_of plan past event ≡ None }
+    ensures run { (plan : DiePlan) (times : Times) → MeetsBound plan → Passes plan times →
+        (calls : List (ℕ × Event)) → KeepsPlan plan times (map (λ call. call.1) calls) → AreAccepted plan [] calls }
 {}

@@ -12,7 +12,11 @@
 //! - `Answers`: what a call is answered, by the refusals in their order and by the rules that choose the head of
 //!   a slot, waivers, victims and acts. A log is *exact* where each entry has this answer and none is a refusal;
 //! - `Legal`: what an outsider may ask of a log, said without any rule that chooses;
-//! - `Rows`: a log as the rows and slots that certificates of lateness are about.
+//! - `Rows`: a log as the rows and slots that certificates of lateness are about;
+//! - `Certified`: what is said of a certificate of a log;
+//! - `Promised`: all that is promised of a log, in one record;
+//! - `Planned`: the logs that events leave, and what a plan with times promises of them;
+//! - `Supply`: what the balance of a task lacks at most, where the events keep such a plan.
 //!
 //! `Limits`, `Sound`, `Standing`, `Held` and `Well` say what else stands behind every exact log. The definitions
 //! run: `proofs/Worked` has small logs whose answers, cells, accounts and lateness are computed, `proofs/Wrong`
@@ -25,6 +29,7 @@ mod laws;
 
 pub use laws::{
     collections_are_bounded, exact_carries_least_keys, exact_is_certified, exact_is_least_late,
-    exact_is_legal, exact_keeps_limits, exact_stands, moments_are_exact, same_calls,
+    exact_is_legal, exact_keeps_limits, exact_keeps_promises, exact_stands, holds_are_owed,
+    moments_are_exact, planned_work_is_accepted, planned_work_is_in_time, same_calls,
     worst_is_worst,
 };

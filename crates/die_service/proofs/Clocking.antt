@@ -6,6 +6,8 @@ use Rattle.die_service.specs.declared.feeds.Arrival.{Arrival}
 use Rattle.die_service.specs.declared.refused.RefusedAt.{RefusedAt}
 use Rattle.die_service.specs.Runs.{Said, said, slots_in, stop_of, refused_from, InClockOrder}
 use Rattle.die_service.specs.Drives.{Course, Standing, Asks, IsFirst, Brings, TakesSlot, IsStopped, Drives}
+use Rattle.turn_lock.specs.Views.{IsLive}
+use Rattle.die_service.proofs.Joining.{live_after}
 use Rattle.die_service.proofs.Driving.{asks_joins, slots_more, stop_more}
 
 -- So many slots were carried out; whatever the slots that are left come to, all come to
@@ -107,8 +109,8 @@ module _ (never : Bool) (slots : ℕ) where
         whole = λ none. count ∙ sym all;
       }
 
-  pub drives : (s t : Standing) → IsFirst s → IsOver never slots s t → Drives never slots s t
-  drives s t first o =
+  pub drives : (s t : Standing) → IsLive s.pass.view → IsFirst s → IsOver never slots s t → Drives never slots s t
+  drives s t live first o =
       let place : s.course.place ≡ 0 = ap (λ x. x.course.place) first in
       let none : s.course.refused ≡ [] = ap (λ x. x.course.refused) first in
       let noted : t.course.refused ≡ refused_from 0 o.saids = o.asks.refused ∙ (ap (λ l. l ++ refused_from s.course.place o.saids) none ∙ ap (λ n. refused_from n o.saids) place) in (
@@ -122,6 +124,9 @@ module _ (never : Bool) (slots : ℕ) where
           exact = o.asks.far.exact;
           own = o.asks.far.own;
           refused = o.asks.far.refused;
+          joined = o.asks.far.joined live.0;
+          live = live_after s.pass.view t.pass.view live o.asks.far.live o.asks.same.1 o.asks.same.2 o.asks.far.later;
+          later = o.asks.far.later;
           sole = o.asks.far.sole;
           end_is = rw (o.slots_are, o.stop, noted) refl;
           whole = λ running. o.slots_are ∙ o.whole (sym o.stop ∙ running);

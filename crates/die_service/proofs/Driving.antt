@@ -1,11 +1,11 @@
 -- What a pass knows once calls were made, and what was noted of them.
-use Rattle.std.proofs.Common.{◌≡◌, ℕ, ◌+◌, ◌≤◌, ◌⊎◌, inl, inr, Bool, List, [], ◌∷◌, ◌++◌, length, take, Some, None, Result, Ok, Err, refl, ap, sym, ◌∙◌, subst, arith, append_assoc, length-append}
+use Rattle.std.proofs.Common.{◌≡◌, ℕ, ◌+◌, ◌<◌, ◌≤◌, ◌⊎◌, inl, inr, Bool, List, [], ◌∷◌, ◌++◌, length, take, Some, None, Result, Ok, Err, refl, ap, sym, ◌∙◌, subst, arith, append_assoc, length-append}
 use Rattle.std.proofs.lemmas.List.{append-nil, take-append-le, take_all}
 use Rattle.slot_types.specs.declared.plans.DiePlan.{DiePlan}
 use Rattle.slot_types.specs.declared.events.Event.{Event}
 use Rattle.slot_types.specs.declared.events.Event.TheVariants as events
 use Rattle.slot_types.specs.declared.replies.Reply.{Reply}
-use Rattle.turn_lock.specs.Log.{StartsWith, entry, calls_by}
+use Rattle.turn_lock.specs.Log.{times, StartsWith, entry, calls_by}
 use Rattle.die_service.specs.declared.ends.RefusedEvent.{RefusedEvent}
 use Rattle.die_service.specs.declared.refused.RefusedAt.{RefusedAt}
 use Rattle.die_service.specs.Logs.{Call, log_of}
@@ -15,6 +15,7 @@ use Rattle.die_service.specs.Runs.{Said, said, accepted_by, slots_in, slot_count
 use Rattle.die_service.specs.Stores.{DiePass}
 use Rattle.die_service.specs.Drives.{Course, place_after, Far, Asks, IsFit}
 use Rattle.die_service.proofs.LastPasses.{same_plan}
+use Rattle.die_service.proofs.Joining.{still_live, made_later, grown_joined, added_joined}
 
 -- Places in lists
 
@@ -132,11 +133,15 @@ module _ (never : Bool) (plan : DiePlan) where
     own = own_more v.number _ _ _ xs more (subst (λ (n : ℕ). calls_by n (take refused.entries x.seen) ≡ calls_by n w.seen ++ accepted_by n more) same r.own) own;
   }
 
-  pub far_joins : (v w x : DieView) (xs ys : List Said) → w.number ≡ v.number → Far never plan v xs w → Far never plan w ys x → Far never plan v (xs ++ ys) x
-  far_joins v w x xs ys same f g = record {
+  pub far_joins : (v w x : DieView) (xs ys : List Said) → w.number ≡ v.number → w.joined ≡ v.joined → Far never plan v xs w → Far never plan w ys x → Far never plan v (xs ++ ys) x
+  far_joins v w x xs ys same joined f g = record {
     about_is = f.about_is;
     starts = (f.starts.0 ++ g.starts.0, g.starts.1 ∙ (ap (λ l. l ++ g.starts.0) f.starts.1 ∙ append_assoc v.seen f.starts.0 g.starts.0));
     exact = g.exact;
+    joined = λ live p mine other.
+        g.joined (f.live ∙ live) p (subst (λ (l : List ℕ). 0 < times p l) (sym joined) mine) (λ e. other (e ∙ same)) ∙ f.joined live p mine other;
+    live = g.live ∙ f.live;
+    later = omega (arith, f.later, g.later);
     sole = λ h. g.sole (f.sole h);
     own = own_more v.number _ _ _ xs ys (subst (λ (n : ℕ). calls_by n x.seen ≡ calls_by n w.seen ++ accepted_by n ys) same g.own) f.own;
     refused = λ before after event refused is. by before after event refused (splits xs ys before after (said event (Err refused)) is);
@@ -156,6 +161,9 @@ far_looks never v w g own = record {
   about_is = g.about_is;
   starts = (g.more, ap (λ u. u.seen) g.view_is);
   exact = g.fit;
+  joined = λ live p mine other. grown_joined v p live mine other w g;
+  live = still_live v w g;
+  later = made_later v w g;
   sole = λ h. ap (λ u. u.sole) g.view_is ∙ g.stays_sole h;
   own = own ∙ sym (append-nil (calls_by v.number v.seen));
   refused = λ before after event refused is. absurd (no_more before after (said event (Err refused)) is);
@@ -175,6 +183,9 @@ far_accepts never v w event reply a = record {
     ap (λ u. u.seen) a.view_is ∙ (ap (λ u. u.seen ++ entry v.number event (Ok reply) ∷ []) a.grown.view_is ∙ append_assoc v.seen a.grown.more (entry v.number event (Ok reply) ∷ [])),
   );
   exact = a.exact;
+  joined = λ live p mine other. added_joined v p live mine other event reply w a;
+  live = ap (λ u. u.live) a.view_is ∙ still_live v a.before a.grown;
+  later = subst (λ (n : ℕ). v.made ≤ n) (sym (ap (λ u. u.made) a.view_is)) (made_later v a.before a.grown);
   sole = λ h. ap (λ u. u.sole) a.view_is ∙ (ap (λ u. u.sole) a.grown.view_is ∙ a.grown.stays_sole h);
   own = a.own;
   refused = λ before after other refused is. absurd (no_error event other reply refused (alone (said event (Ok reply)) (said other (Err refused)) before after is).1);
@@ -185,6 +196,9 @@ far_refuses never v w event refused a = record {
   about_is = a.grown.about_is;
   starts = (a.grown.more, ap (λ u. u.seen) a.grown.view_is);
   exact = a.grown.fit;
+  joined = λ live p mine other. grown_joined v p live mine other w a.grown;
+  live = still_live v w a.grown;
+  later = made_later v w a.grown;
   sole = λ h. ap (λ u. u.sole) a.grown.view_is ∙ a.grown.stays_sole h;
   own = a.own ∙ sym (append-nil (calls_by v.number v.seen));
   refused = λ before after other by is. reason before other by (alone (said event (Err refused)) (said other (Err by)) before after is);
@@ -215,7 +229,7 @@ asks_joins never p q r c d e xs ys a b =
     let plan_is : b.plan ≡ a.plan = same_plan b.plan a.plan (sym b.far.about_is ∙ (a.same.3 ∙ a.far.about_is)) in record {
       same = (b.same.0 ∙ a.same.0, b.same.1 ∙ a.same.1, b.same.2 ∙ a.same.2, b.same.3 ∙ a.same.3);
       plan = a.plan;
-      far = far_joins never a.plan p.view q.view r.view xs ys a.same.1 a.far (subst (λ (plan : DiePlan). Far never plan q.view ys r.view) plan_is b.far);
+      far = far_joins never a.plan p.view q.view r.view xs ys a.same.1 a.same.2 a.far (subst (λ (plan : DiePlan). Far never plan q.view ys r.view) plan_is b.far);
       place = b.place ∙ (ap (λ n. place_after n ys) a.place ∙ sym (place_more c.place xs ys));
       refused = b.refused ∙ (ap (λ l. l ++ refused_from d.place ys) a.refused ∙ (append_assoc c.refused (refused_from c.place xs) (refused_from d.place ys)
           ∙ ap (λ l. c.refused ++ l) (ap (λ n. refused_from c.place xs ++ refused_from n ys) a.place ∙ sym (refused_more c.place xs ys))));
@@ -229,6 +243,9 @@ asks_none never p c fit = record {
     about_is = fit.1.0;
     starts = ([], sym (append-nil p.view.seen));
     exact = fit.1.1;
+    joined = λ live p mine other. refl;
+    live = refl;
+    later = omega arith;
     sole = λ h. h;
     own = sym (append-nil (calls_by p.view.number p.view.seen));
     refused = λ before after event refused is. absurd (no_more before after (said event (Err refused)) is);

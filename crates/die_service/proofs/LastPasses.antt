@@ -1,12 +1,10 @@
 -- Closing the dies of a store.
-use Rattle.std.proofs.Common.{◌≡◌, ◌≤◌, ◌+◌, ℕ, suc, inl, inr, true, List, [], ◌∷◌, ◌++◌, length, map, take, drop, Some, refl, ap, sym, subst, ◌∙◌, arith}
+use Rattle.std.proofs.Common.{◌≡◌, ◌≤◌, ◌+◌, ℕ, suc, inl, inr, Bool, true, false, List, [], ◌∷◌, ◌++◌, length, map, take, drop, Some, refl, ap, sym, subst, ◌∙◌, arith}
 use Rattle.std.proofs.lemmas.List.{append-nil}
 use Rattle.std.specs.List.{AllByRecursion, AllZip}
 use Rattle.slot_types.specs.declared.plans.DiePlan.{DiePlan}
 use Rattle.slot_core.specs.Core.{Core}
 use Rattle.turn_lock.specs.Log.{AllBy}
-use Rattle.die_log.specs.Log.{Log}
-use Rattle.die_log.specs.Answers.{IsExact}
 use Rattle.die_service.specs.Logs.{log_of, calls_of}
 use Rattle.die_service.specs.Passes.{DieView}
 use Rattle.die_service.specs.Stores.{DiePass, IsTold, AreTold, HasLogOf, IsClosed}
@@ -60,13 +58,11 @@ written n xs ys same is = rw (is, same, drop_all xs, append-nil ys, sym same) (t
 pub same_plan : (a b : DiePlan) → Some a ≡ Some b → a ≡ b
 same_plan a b e = cc
 
-module _ {N : Type 0} where
-  closed_after : (p q : DiePass) (die : Core N) → IsTold p 0 q → HasLogOf q die → IsClosed p die
+module _ {N : Type 0} (never : Bool) where
+  closed_after : (p q : DiePass) (die : Core N) → IsTold p 0 q → HasLogOf never q die → IsClosed p die
   closed_after p q die told has = record {
     log_is = sym (log_of_calls die.log) ∙ ap log_of (has.calls_are ∙ told.1.3 refl);
-    exact = subst (λ (x : DiePlan × Log). IsExact x.0 x.1) (λ i. (plan_is i, seen_is i)) told.1.0.fit;
-    legal = has.legal;
-    least_late = has.least_late;
+    promised = has.promised;
     about_is = about_is;
     all_joined = (q.view.made, later, sym told.1.1 ∙ ap (λ (l : List ℕ). 1 + length l) told.0.2);
     by_own = subst (λ (x : ℕ × List ℕ). AllBy (x.0 ∷ x.1) (calls_of die.log)) (λ i. (told.0.1 i, told.0.2 i)) has.by_own;
@@ -75,16 +71,10 @@ module _ {N : Type 0} where
       about_is : p.view.about ≡ Some die.plan
       about_is = sym told.0.3 ∙ has.about_is
 
-      plan_is : told.1.0.topic ≡ die.plan
-      plan_is = same_plan told.1.0.topic die.plan (sym told.1.0.about_is ∙ about_is)
-
-      seen_is : log_of q.view.seen ≡ die.log
-      seen_is = ap log_of (sym has.calls_are) ∙ log_of_calls die.log
-
       later : p.view.made ≤ q.view.made
       later = subst (λ (n : ℕ). p.view.made ≤ n) (sym (ap (λ (v : DieView). v.made) told.1.0.view_is)) told.1.0.later
 
-  pub closed_each : (ps qs : List DiePass) (dies : List (Core N)) → AreTold ps 0 qs → AllZip HasLogOf qs dies → AllZip IsClosed ps dies
+  pub closed_each : (ps qs : List DiePass) (dies : List (Core N)) → AreTold ps 0 qs → AllZip (HasLogOf never) qs dies → AllZip IsClosed ps dies
   closed_each [] [] [] told has = tt
   closed_each [] [] (die ∷ dies) told has = has
   closed_each [] (q ∷ qs) dies told has = absurd told
@@ -93,11 +83,18 @@ module _ {N : Type 0} where
   closed_each (p ∷ ps) (q ∷ qs) (die ∷ dies) (inl told) has = (closed_after p q die told.0 has.0, closed_each ps qs dies told.1 has.1)
   closed_each (p ∷ ps) (q ∷ qs) (die ∷ dies) (inr told) has = absurd (omega (arith, told.0))
 
-  pub one_closed : (qs : List DiePass) (dies : List (Core N)) (q : DiePass) (die : Core N) → AllZip HasLogOf qs dies → HasLogOf q die → AllZip HasLogOf (qs ++ q ∷ []) (dies ++ die ∷ [])
+  pub one_closed : (qs : List DiePass) (dies : List (Core N)) (q : DiePass) (die : Core N) → AllZip (HasLogOf never) qs dies → HasLogOf never q die → AllZip (HasLogOf never) (qs ++ q ∷ []) (dies ++ die ∷ [])
   one_closed [] [] q die has last = (last, tt)
   one_closed [] (d ∷ dies) q die has last = absurd has
   one_closed (p ∷ qs) [] q die has last = absurd has
   one_closed (p ∷ qs) (d ∷ dies) q die has last = (has.0, one_closed qs dies q die has.1 last)
+
+  -- where no device fails, no die is stopped
+  pub none_stopped : (qs : List DiePass) (dies : List (Core N)) → never ≡ true → AllZip (HasLogOf never) qs dies → AllByRecursion (λ (die : Core N). die.stopped ≡ false) dies
+  none_stopped [] [] well has = tt
+  none_stopped [] (d ∷ dies) well has = absurd has
+  none_stopped (q ∷ qs) [] well has = absurd has
+  none_stopped (q ∷ qs) (d ∷ dies) well has = (has.0.runs well, none_stopped qs dies well has.1)
 
 pub next_own : {A : Type 0} {B : Type 0} (f : A → B) (all rest : List A) (dies later : List B) (p : A) (die : B) → map f all ≡ dies → all ≡ p ∷ rest → dies ≡ die ∷ later → map f rest ≡ later
 next_own f all rest dies later p die own at is = tail (f p) die (map f rest) later (sym (ap (map f) at) ∙ (own ∙ is))

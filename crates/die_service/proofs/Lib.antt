@@ -1,8 +1,10 @@
 pub mod Lists
 pub mod Replying
+pub mod Promising
 pub mod Passing
 pub mod Making
 pub mod LastPasses
+pub mod Joining
 pub mod Driving
 pub mod Bringing
 pub mod Clocking

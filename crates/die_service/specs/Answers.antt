@@ -8,7 +8,7 @@ use Rattle.die_log.specs.Log.{Log, job_at, now}
 use Rattle.die_log.specs.Rows.{certificate}
 use Rattle.slot_core.specs.declared.outcomes.Outcome.{Outcome}
 use Rattle.slot_core.specs.Outcomes.{outcome_at, worst_of}
-use Rattle.slot_core.specs.Certified.{NothingDone, IsOfWorst, HoldsOver, BindsAll}
+use Rattle.die_log.specs.Certified.{NothingDone, IsOfWorst, HoldsOver, BindsAll}
 use Rattle.die_service.specs.declared.queries.Query.{Query}
 use Rattle.die_service.specs.declared.queries.Query.TheVariants as asks
 use Rattle.die_service.specs.declared.queries.Answer.{Answer}

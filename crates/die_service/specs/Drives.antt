@@ -1,12 +1,12 @@
 -- How far a worker is with a die, and what it has asked of it on the way.
-use Rattle.std.specs.Prelude.{◌≡◌, ℕ, ◌+◌, ◌≤◌, Bool, true, List, [], ◌∷◌, ◌++◌, Option, Some, None, Result, Ok, Err}
+use Rattle.std.specs.Prelude.{◌≡◌, ◌≢◌, ℕ, ◌+◌, ◌<◌, ◌≤◌, Bool, true, List, [], ◌∷◌, ◌++◌, Option, Some, None, Result, Ok, Err}
 use Rattle.slot_types.specs.declared.plans.DiePlan.{DiePlan}
 use Rattle.slot_types.specs.declared.events.Event.{Event}
 use Rattle.slot_types.specs.declared.events.Event.TheVariants as events
 use Rattle.slot_types.specs.declared.replies.Reply.{Reply}
 use Rattle.slot_types.specs.declared.replies.Reply.TheVariants as replies
 use Rattle.slot_types.specs.declared.replies.SlotReply.{SlotReply}
-use Rattle.turn_lock.specs.Log.{StartsWith, calls_by}
+use Rattle.turn_lock.specs.Log.{times, StartsWith, calls_by}
 use Rattle.turn_lock.specs.Views.{IsSamePass}
 use Rattle.die_service.specs.declared.ends.DieEnd.{DieEnd}
 use Rattle.die_service.specs.declared.ends.RefusedEvent.{RefusedEvent}
@@ -70,6 +70,9 @@ pub record Far (never_fails : Bool) (plan : DiePlan) (v : DieView) (saids : List
   pub own : calls_by v.number w.seen ≡ calls_by v.number v.seen ++ accepted_by v.number saids
   pub refused : (before after : List Said) (event : Event) (refused : RefusedAt) → saids ≡ before ++ said event (Err refused) ∷ after
       → IsReasoned never_fails plan v before event refused w
+  pub joined : v.live ≡ true → (p : ℕ) → 0 < times p v.joined → p ≢ v.number → calls_by p w.seen ≡ calls_by p v.seen
+  pub live : w.live ≡ v.live
+  pub later : v.made ≤ w.made
   pub sole : v.sole ≡ true → w.sole ≡ true
 
 -- these were asked, and those of a feed that were refused are noted

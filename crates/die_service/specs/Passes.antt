@@ -1,5 +1,5 @@
 -- What a call of a die does to the pass that makes it: `v` is what the pass knew before, `w` what it knows after.
-use Rattle.std.specs.Prelude.{◌≡◌, Bool, [], ◌∷◌, ◌++◌, length, Result, Ok}
+use Rattle.std.specs.Prelude.{◌≡◌, Bool, [], ◌∷◌, ◌++◌, length, Some, Result, Ok}
 use Rattle.slot_types.specs.declared.plans.DiePlan.{DiePlan}
 use Rattle.slot_types.specs.declared.events.Event.{Event}
 use Rattle.slot_types.specs.declared.replies.Reply.{Reply}
@@ -9,6 +9,7 @@ use Rattle.turn_lock.specs.Log.{entry, calls_by}
 use Rattle.turn_lock.specs.Passes.{Grown}
 use Rattle.die_log.specs.Log.{Log}
 use Rattle.die_log.specs.Answers.{answer}
+use Rattle.die_log.specs.Promised.{KeepsPromises}
 use Rattle.die_service.specs.declared.refused.RefusedAt.{RefusedAt}
 use Rattle.die_service.specs.Logs.{log_of}
 use Rattle.die_service.specs.Replies.{HasExactLog, MayRefuse}
@@ -40,6 +41,13 @@ pub record AddsNone (never_fails : Bool) (v : DieView) (event : Event) (refused 
 -- this is true of the plan and of the log that the pass has then seen
 abbrev pub Sees : DieView → DieView → (DiePlan → Log → Type 0) → Type 0
 Sees v w IsTrueOf = (g : HasGrown v w) × IsTrueOf g.topic (log_of w.seen)
+
+-- what the pass has seen is an exact log of its die's plan, and keeps all that is promised of a log
+pub record SeesPromised (v : DieView) : Type 0 where
+  pub plan : DiePlan
+  pub about_is : v.about ≡ Some plan
+  pub exact : HasExactLog plan v.seen
+  pub promised : KeepsPromises plan (log_of v.seen)
 
 -- the reply that takes a job or collection
 abbrev pub IsTaken : Reply → Type 0

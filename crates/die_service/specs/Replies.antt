@@ -6,15 +6,17 @@ use Rattle.slot_types.specs.declared.events.Event.TheVariants.{Slot}
 use Rattle.slot_types.specs.declared.refusals.Refusal.{Refusal}
 use Rattle.slot_types.specs.declared.refusals.Refusal.TheVariants.{DeviceFault, DieStopped}
 use Rattle.slot_types.specs.declared.replies.Reply.{Reply}
+use Rattle.plan_rules.specs.Bound.{MeetsBound}
 use Rattle.die_log.specs.Log.{Log}
 use Rattle.die_log.specs.Answers.{answer, IsAccepted, IsExact}
 use Rattle.slot_core.specs.Calls.{RefusedBy}
 use Rattle.die_service.specs.declared.refused.RefusedAt.{RefusedAt}
 use Rattle.die_service.specs.Logs.{Call, log_of}
 
--- each call was answered as a die of this plan answers it behind the calls before it
-abbrev pub HasExactLog : DiePlan → List Call → Type 0
-HasExactLog plan calls = IsExact plan (log_of calls)
+-- the plan meets its bound, and each call was answered as a die of this plan answers it behind the calls before it
+pub record HasExactLog (plan : DiePlan) (calls : List Call) : Type 0 where
+  pub bound : MeetsBound plan
+  pub exact : IsExact plan (log_of calls)
 
 -- A die at this log may refuse the event so: the log refuses it; or the log accepts it, and memory is refused; or the
 -- log accepts it, it is a slot, and the device fails; or the device failed before. A device that never fails does neither.

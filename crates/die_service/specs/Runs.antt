@@ -1,5 +1,5 @@
 -- A run of slots on a die: what a pass asked of it in which order, what it was replied, and what came of it.
-use Rattle.std.specs.Prelude.{true, ◌≡◌, ℕ, zero, suc, ◌+◌, ◌≤◌, ◌⊎◌, nat_le, Bool, List, [], ◌∷◌, ◌++◌, length, map, filter, take, drop, All, Option, Some, None, Result, Ok, Err, is_ok}
+use Rattle.std.specs.Prelude.{true, ◌≡◌, ◌≢◌, ℕ, zero, suc, ◌+◌, ◌<◌, ◌≤◌, ◌⊎◌, nat_le, Bool, List, [], ◌∷◌, ◌++◌, length, map, filter, take, drop, All, Option, Some, None, Result, Ok, Err, is_ok}
 use Rattle.std.specs.List.{prefix_len, take_while}
 use Rattle.slot_types.specs.declared.plans.DiePlan.{DiePlan}
 use Rattle.slot_types.specs.declared.events.Event.{Event}
@@ -8,8 +8,8 @@ use Rattle.slot_types.specs.Arrivals.{IsArrival}
 use Rattle.slot_types.specs.declared.replies.Reply.{Reply}
 use Rattle.slot_types.specs.declared.replies.Reply.TheVariants as replies
 use Rattle.slot_types.specs.declared.replies.SlotReply.{SlotReply}
-use Rattle.turn_lock.specs.Log.{StartsWith, entry, calls_by}
-use Rattle.turn_lock.specs.Views.{IsSamePass}
+use Rattle.turn_lock.specs.Log.{times, StartsWith, entry, calls_by}
+use Rattle.turn_lock.specs.Views.{IsLive, IsSamePass}
 use Rattle.die_service.specs.declared.ends.DieEnd.{DieEnd}
 use Rattle.die_service.specs.declared.ends.RefusedEvent.{RefusedEvent}
 use Rattle.die_service.specs.declared.feeds.Arrival.{Arrival}
@@ -108,8 +108,9 @@ pub record IsReasoned (never_fails : Bool) (plan : DiePlan) (v : DieView) (befor
   pub own : calls_by v.number (take refused.entries w.seen) ≡ calls_by v.number v.seen ++ accepted_by v.number before
 
 -- A pass that knew `v` ran so many slots with this feed, and knows `w`: it has seen an exact log, its own entries are
--- those that it had and then the accepted calls in the order of the clock, and each refused call has its reason. Where no
--- other pass was left, none is.
+-- those that it had and then the accepted calls in the order of the clock, those of each number that was joined into it
+-- are those that it had, and each refused call has its reason. It is live, and knows of no fewer passes made than before;
+-- where no other pass was left, none is.
 pub record HasRun (never_fails : Bool) (slots : ℕ) (feed : List Arrival) (v : DieView) (end : DieEnd) (w : DieView) : Type 0 where
   pub saids : List Said
   pub plan : DiePlan
@@ -120,6 +121,9 @@ pub record HasRun (never_fails : Bool) (slots : ℕ) (feed : List Arrival) (v : 
   pub own : calls_by v.number w.seen ≡ calls_by v.number v.seen ++ accepted_by v.number saids
   pub refused : (before after : List Said) (event : Event) (refused : RefusedAt) → saids ≡ before ++ said event (Err refused) ∷ after
       → IsReasoned never_fails plan v before event refused w
+  pub joined : (p : ℕ) → 0 < times p v.joined → p ≢ v.number → calls_by p w.seen ≡ calls_by p v.seen
+  pub live : IsLive w
+  pub later : v.made ≤ w.made
   pub sole : v.sole ≡ true → w.sole ≡ true
   pub end_is : end ≡ end_of saids
   pub whole : end.stop ≡ None → end.slots ≡ slots

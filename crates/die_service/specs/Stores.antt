@@ -1,5 +1,5 @@
 -- What a store is made of, and what becomes of its passes where it closes.
-use Rattle.std.specs.Prelude.{◌≡◌, ℕ, ◌+◌, ◌<◌, ◌≤◌, ◌⊎◌, List, [], ◌∷◌, length, All, Some, Result}
+use Rattle.std.specs.Prelude.{◌≡◌, ℕ, ◌+◌, ◌<◌, ◌≤◌, ◌⊎◌, Bool, true, false, List, [], ◌∷◌, length, All, Some, Result}
 use Rattle.slot_types.specs.Shapes.{IsShape}
 use Rattle.slot_types.specs.declared.plans.DiePlan.{DiePlan}
 use Rattle.slot_types.specs.declared.plans.Shape.{Shape}
@@ -11,11 +11,8 @@ use Rattle.plan_rules.specs.Bound.{MeetsBound}
 use Rattle.turn_lock.specs.Views.{Known, IsSamePass}
 use Rattle.turn_lock.specs.Log.{AllBy}
 use Rattle.turn_lock.specs.Passes.{IsOut}
-use Rattle.die_log.specs.Answers.{IsExact}
 use Rattle.slot_core.specs.Core.{Core}
-use Rattle.late_cert.specs.Stretch.{IsLeastLate}
-use Rattle.die_log.specs.Legal.{IsLegal}
-use Rattle.die_log.specs.Rows.{rows, carried_numbers}
+use Rattle.die_log.specs.Promised.{KeepsPromises}
 use Rattle.die_service.specs.declared.refused.RefusedAt.{RefusedAt}
 use Rattle.die_service.specs.Logs.{log_of, calls_of}
 use Rattle.die_service.specs.Replies.{HasExactLog}
@@ -59,22 +56,20 @@ StayOpen ps refusal qs = ((out : ℕ) × (0 < out) × (refusal ≡ PassesOut out
 abbrev pub AllJoined : DiePass → Type 0
 AllJoined pass = (made : ℕ) × (pass.view.made ≤ made) × (made ≡ 1 + length pass.view.joined)
 
--- A die that was closed with this pass: no other pass of it was left, and its log is just what the pass had seen. The log
--- is exact, hence legal, and the greatest lateness in it is least.
+-- A die that was closed with this pass: no other pass of it was left, and its log is just what the pass had seen. All that
+-- is promised of a log is kept: it is exact, hence legal, and at every moment of it the greatest lateness so far is least.
 pub record IsClosed {N : Type 0} (pass : DiePass) (die : Core N) : Type 0 where
   pub log_is : die.log ≡ log_of pass.view.seen
-  pub exact : IsExact die.plan die.log
-  pub legal : IsLegal die.plan die.log
-  pub least_late : IsLeastLate (rows die.plan die.log) (carried_numbers die.log)
+  pub promised : KeepsPromises die.plan die.log
   pub about_is : pass.view.about ≡ Some die.plan
   pub all_joined : AllJoined pass
   pub by_own : AllBy (pass.view.number ∷ pass.view.joined) (calls_of die.log)
 
--- a die whose log is just what the pass has seen, which was its only one
-pub record HasLogOf {N : Type 0} (pass : DiePass) (die : Core N) : Type 0 where
+-- a die whose log is just what the pass has seen, which was its only one; it isn't stopped where its device never fails
+pub record HasLogOf {N : Type 0} (never_fails : Bool) (pass : DiePass) (die : Core N) : Type 0 where
   pub calls_are : calls_of die.log ≡ pass.view.seen
-  pub legal : IsLegal die.plan die.log
-  pub least_late : IsLeastLate (rows die.plan die.log) (carried_numbers die.log)
+  pub promised : KeepsPromises die.plan die.log
+  pub runs : never_fails ≡ true → die.stopped ≡ false
   pub about_is : pass.view.about ≡ Some die.plan
   pub all_joined : AllJoined pass
   pub by_own : AllBy (pass.view.number ∷ pass.view.joined) (calls_of die.log)

@@ -1,6 +1,6 @@
 //! A die as the book behind its turn.
 
-ghost use Rattle.std.specs.Prelude.{◌≡◌, false, IfOk, IfErr, OnErr};
+ghost use Rattle.std.specs.Prelude.{◌≡◌, true, false, IfOk, IfErr, OnErr};
 ghost use Rattle.std.specs.Box.{box_value};
 ghost use Rattle.die_log.specs.Answers.{answer, IsAccepted};
 ghost use Rattle.slot_core.specs.Core.{with_entry};
@@ -47,7 +47,8 @@ impl<N: Nand> DieBook<N> {
 
     /// The die.
     pub(crate) fn into_core(self) -> DieCore<N>
-        ensures { result ≡ self }
+        ensures die { result ≡ self }
+        ensures runs { N.never_fails ≡ true → result.stopped ≡ false }
     {
         Box::into_inner(self.core)
     }
@@ -132,7 +133,7 @@ impl<N: Nand> Book for DieBook<N> {
     }
 
     fn len(&self) -> u64 {
-        // It says that the log is exact.
+        // It says that the plan meets its bound, and that the log is exact.
         self.core.promises();
         self.core.len()
     }

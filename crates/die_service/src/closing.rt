@@ -1,6 +1,6 @@
 //! Closing a store.
 
-ghost use Rattle.std.specs.Prelude.{◌≡◌, ◌≤◌, true, [], map, length, All, IfOk, IfErr, vec_capacity};
+ghost use Rattle.std.specs.Prelude.{◌≡◌, ◌≤◌, true, false, [], map, length, All, IfOk, IfErr, vec_capacity};
 ghost use Rattle.std.specs.List.{AllZip};
 ghost use Rattle.die_service.specs.Stores.{AreTold, StayOpen, HasLogOf, IsClosed};
 
@@ -49,7 +49,7 @@ fn close_each<N: Nand, R: Wait>(
     requires sole { All (λ pass. pass.view.sole ≡ true) passes.items }
     requires none { cores.items ≡ [] }
     requires room { length passes.items ≤ vec_capacity cores }
-    ensures { AllZip HasLogOf passes.items result.items }
+    ensures { AllZip (HasLogOf N.never_fails) passes.items result.items }
 {
     let mut cores = cores;
     let mut dies = dies.into_iter();
@@ -61,7 +61,7 @@ fn close_each<N: Nand, R: Wait>(
             unreachable!()
         };
         let core = book.into_core();
-        // It says what stands of the die's log.
+        // It says what is promised of the die's log.
         core.promises();
         cores.push_reserved(core);
     }
@@ -70,7 +70,7 @@ fn close_each<N: Nand, R: Wait>(
 
 /// Ends a store, and gives its dies back in order, whose logs are what their passes had seen: each call in a log is by
 /// the die's pass or by one that was joined into it. It takes one pass of each die, in order. May wait for the turn of each
-/// die.
+/// die. All that is promised of a log is kept by each, and a die whose device never fails isn't stopped.
 ///
 /// `PassesOut` with what `out` answers on the first die where it isn't 0; else `NoMemory` where memory is refused. No die
 /// is closed then, and the store and all passes are handed back.
@@ -84,6 +84,7 @@ pub fn close<N: Nand, R: Wait>(
 ) -> Result<Vec<DieCore<N>>, StillOpen<N>>
     requires own { map (λ pass. pass.lock) passes.items ≡ store }
     ensures closed { IfOk result (λ dies. AllZip IsClosed passes.items dies.items) }
+    ensures runs { IfOk result (λ dies. N.never_fails ≡ true → All (λ die. die.stopped ≡ false) dies.items) }
     ensures refused { IfErr result (λ kept. StayOpen passes.items kept.refusal kept.passes.items) }
     ensures back { IfErr result (λ kept. kept.store ≡ store) }
     ensures own { IfErr result (λ kept. map (λ pass. pass.lock) kept.passes.items ≡ kept.store) }

@@ -5,7 +5,7 @@ ghost use Rattle.die_log.specs.Log.{now};
 ghost use Rattle.die_log.specs.Answers.{IsAccepted};
 ghost use Rattle.slot_core.specs.Outcomes.{worst_of};
 ghost use Rattle.turn_lock.specs.Log.{calls_by};
-ghost use Rattle.turn_lock.specs.Views.{IsSamePass};
+ghost use Rattle.turn_lock.specs.Views.{IsLive, IsSamePass};
 ghost use Rattle.turn_lock.specs.Passes.{Parts, IsFull, Joined, IsOut};
 ghost use Rattle.die_service.specs.Replies.{HasExactLog};
 ghost use Rattle.die_service.specs.Answers.{TellsOutcome, TellsCertificate};
@@ -236,6 +236,7 @@ impl<N: Nand> Die<N> {
         ensures same { IsSamePass pass.old pass.new }
         ensures own { IfOk result (λ made. made.lock ≡ pass.old.lock) }
         ensures parts { IfOk result (λ made. Parts HasExactLog pass.old.view pass.new.view made.view) }
+        ensures live { IfOk result (λ made. IsLive pass.new.view × IsLive made.view) }
         ensures refused { IfErr result (λ refusal. refusal ≡ Refusal.PassesFull) }
         ensures full { IfErr result (λ _. IsFull HasExactLog pass.old.view pass.new.view) }
     {

@@ -130,6 +130,8 @@ impl<'a, N: Nand> Driver<'a, N> {
         requires { IsFirst self.old }
         ensures { Drives N.never_fails slots self.old self.new }
     {
+        // It says that the pass is live.
+        let _ = self.pass.number();
         self.look();
         let mut clock = 0;
         for _done in 0..slots {

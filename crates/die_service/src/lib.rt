@@ -2,7 +2,8 @@
 //!
 //! A [`Store`] has its [`Die`]s, and a caller uses one with a [`DiePass`] of that die. The clauses speak of what a pass
 //! has seen of its die, the accepted calls from the first: they are an exact log of the die's plan, they begin the
-//! list of calls that the die has, and of the pass's own calls they are all.
+//! list of calls that the die has, and of the pass's own calls they are all. All that is promised of a die's log is promised
+//! of what each pass has seen ([`promises`]).
 //!
 //! [`run_slots`] runs the dies of a store by workers, each die with a pass and a [`Feed`] of events that come by its clock,
 //! and says what was asked of each in which order, and what came of it. A [`Gate`] is called around each slot.
@@ -19,6 +20,7 @@ mod drivers;
 pub mod ends;
 pub mod feeds;
 pub mod gate;
+pub mod promised;
 pub mod queries;
 pub mod refused;
 pub mod runs;
@@ -29,6 +31,7 @@ pub use die::{Die, DiePass};
 pub use ends::{DieEnd, DieEnds, RefusedEvent, RefusedList};
 pub use feeds::{Arrival, Feed};
 pub use gate::{FreeGate, Gate};
+pub use promised::{promises, seen_keeps_promises};
 pub use refused::RefusedAt;
 pub use runs::run_slots;
 pub use store::Store;

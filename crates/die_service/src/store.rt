@@ -4,7 +4,7 @@ ghost use Rattle.std.specs.Prelude.{◌≡◌, ◌↔◌, ◌≤◌, ◌⊎◌, 
 ghost use Rattle.slot_types.specs.Shapes.{IsShape};
 ghost use Rattle.plan_rules.specs.Bound.{MeetsBound};
 ghost use Rattle.flash_die.specs.Flash.{IsFresh};
-ghost use Rattle.turn_lock.specs.Views.{first_view};
+ghost use Rattle.turn_lock.specs.Views.{first_view, IsLive};
 ghost use Rattle.die_service.specs.Stores.{Fit, IsShaped, IsServed};
 
 use crate::book::DieBook;
@@ -144,6 +144,7 @@ impl<N: Nand> Store<N> {
         requires fresh { All (λ nand. IsFresh (N.shape_of nand) (N.blocks nand) (N.failures nand)) nands.items }
         ensures own { IfOk result (λ made. map (λ pass. pass.lock) made.1.items ≡ made.0) }
         ensures first { IfOk result (λ made. map (λ pass. pass.view) made.1.items ≡ map first_view plan) }
+        ensures live { IfOk result (λ made. All (λ pass. IsLive pass.view) made.1.items) }
         ensures bad_shape { (result ≡ Err Refusal.BadShape) ↔ ¬ IsShaped plan (map N.shape_of nands.items) }
         ensures bad_plan { (result ≡ Err Refusal.BadPlan) ↔ (IsShaped plan (map N.shape_of nands.items) × ¬ IsServed plan (vec_len nands)) }
         ensures refused { IfErr result (λ refusal. (refusal ≡ Refusal.BadShape) ⊎ (refusal ≡ Refusal.BadPlan) ⊎ (refusal ≡ Refusal.NoMemory)) }

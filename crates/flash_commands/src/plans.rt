@@ -3,7 +3,7 @@
 ghost use Rattle.std.specs.Prelude.{◌≡◌, ◌≤◌, IfOk, IfErr, IfSome, length, take};
 ghost use Rattle.task_texts.specs.Readings.{IsOutside};
 ghost use Rattle.flash_commands.specs.Acts.{IsStoreOf, RefusesFigures};
-ghost use Rattle.flash_commands.specs.Figures.{AllMeetBound};
+ghost use Rattle.flash_commands.specs.Figures.{AllMeetBound, AllPass};
 
 use slot_types::{Refusal, StorePlan};
 use std::alloc::Global;
@@ -32,6 +32,7 @@ pub fn store_in<R: Read + Drop>(alloc: Global, reader: R) -> Result<StorePlan, R
     ensures some { IfOk result (λ store. 1 ≤ length store) }
     ensures few { IfOk result (λ store. length store ≤ 8) }
     ensures bound { IfOk result AllMeetBound }
+    ensures passes { IfOk result AllPass }
     ensures refused { IfErr result (RefusesFigures (R.remaining reader)) }
 {
     let text = plan_bytes(alloc, reader)?;

@@ -113,3 +113,17 @@ blocks_programmed shape cells filled erasing erases place bytes is fit =
     let G : List PageData → Block = λ l. record { pages = l; erasing = get_or erasing k 0; erases = get_or erases k 0 } in
     ap (λ (n : ℕ). F n (drop (k * pages) (set cells (b * pages + place.page) bytes))) (get_or-set_other filled b k (place.page + 1) 0 other)
     ∙ ap G (apart pages cells (get_or filled k 0) k b place.page bytes (is.within k) fit.room other))
+
+pub memory_programmed : (shape : Shape) (cells : List PageData) (filled erasing erases : List ℕ) (place : Place) (bytes : PageData) → IsMemory shape cells filled erasing erases → Fits shape cells filled erasing place → IsMemory shape (set cells (place.block * shape.pages + place.page) bytes) (set filled place.block (place.page + 1)) erasing erases
+memory_programmed shape cells filled erasing erases place bytes is fit = record {
+  limits = is.limits;
+  filled_len = length-set filled place.block (place.page + 1) ∙ is.filled_len;
+  erasing_len = is.erasing_len;
+  erases_len = is.erases_len;
+  cells_len = length-set cells (place.block * shape.pages + place.page) bytes ∙ is.cells_len;
+  within = λ block. elim (cases_eq block place.block) [
+    | inl same ↦ omega (arith, ap (λ (b : ℕ). get_or (set filled place.block (place.page + 1)) b 0) same, get_or-set_same filled place.block (place.page + 1) 0 fit.block, fit.room)
+    | inr other ↦ omega (arith, get_or-set_other filled place.block block (place.page + 1) 0 other, is.within block)
+  ];
+  few_slots = is.few_slots;
+}

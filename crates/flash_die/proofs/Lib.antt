@@ -1,3 +1,4 @@
 pub mod Cut
 pub mod Erase
+pub mod Laid
 pub mod Fresh

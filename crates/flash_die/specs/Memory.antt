@@ -1,10 +1,10 @@
 -- A device in memory: one list of cells, and by block three counts.
-use Rattle.std.specs.Prelude.{◌≡◌, ℕ, ◌*◌, ◌<◌, ◌≤◌, List, length, take, drop, map, slice_index}
+use Rattle.std.specs.Prelude.{◌≡◌, ℕ, ◌*◌, ◌-◌, ◌<◌, ◌≤◌, List, ◌++◌, length, replicate, take, drop, map, slice_index}
 use Rattle.std.specs.List.{range_with_len}
 use Rattle.slot_types.specs.declared.pages.PageData.{PageData}
 use Rattle.slot_types.specs.declared.plans.Shape.{Shape}
 use Rattle.slot_types.specs.Shapes.{IsShape}
-use Rattle.flash_die.specs.Flash.{Block, fresh_blocks}
+use Rattle.flash_die.specs.Flash.{Block, blank, fresh_blocks}
 
 -- a device as its callers see it
 pub record Memory : Type 0 where
@@ -21,6 +21,10 @@ block_of pages cells filled erasing erases block = record {
   erasing = slice_index erasing block;
   erases = slice_index erases block;
 }
+
+-- the cells up to so many, of which those that are not laid down yet are free
+abbrev pub laid : ℕ → List PageData → List PageData
+laid count cells = cells ++ replicate (count - length cells) blank
 
 abbrev pub blocks_of : ℕ → List PageData → List ℕ → List ℕ → List ℕ → List Block
 blocks_of pages cells filled erasing erases = map (block_of pages cells filled erasing erases) (range_with_len 0 (length filled))

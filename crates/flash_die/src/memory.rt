@@ -1,8 +1,9 @@
 //! A device in memory.
 
-ghost use Rattle.std.specs.Prelude.{◌≡◌, ◌↔◌, IsTrue, IfOk, IfErr};
+ghost use Rattle.std.specs.Prelude.{◌≡◌, ◌≤◌, ◌↔◌, IsTrue, IfOk, IfErr, slice_index_or, vec_capacity};
 ghost use Rattle.slot_types.specs.Shapes.{IsShape};
-ghost use Rattle.flash_die.specs.Memory.{fresh_memory};
+ghost use Rattle.flash_die.specs.Flash.{blank};
+ghost use Rattle.flash_die.specs.Memory.{fresh_memory, laid};
 
 use crate::nand::Nand;
 use slot_types::{
@@ -12,10 +13,14 @@ use std::alloc::Global;
 use std::marker::Model;
 
 /// A device in memory, which never fails. Contracts see its shape and its blocks.
+///
+/// `new` reserves the memory of all cells, and a cell is laid down as it is first programmed, or one behind it: what is never
+/// used is never touched. Each call takes constant time, but for the programs that lay down cells: together they lay down each
+/// cell once, and one cell each where blocks are first filled in rising order.
 #[derive(Drop)]
 pub struct MemoryNand {
     shape: Shape,
-    /// The cells of one block after the other.
+    /// The cells of one block after the other, as far as they are laid down. There is room for all.
     cells: Vec<PageData>,
     /// By block how many of its cells are programmed.
     filled: Vec<u32>,
@@ -52,7 +57,7 @@ impl MemoryNand {
         let pages = shape.pages as usize;
         Ok(MemoryNand {
             shape,
-            cells: vec![in alloc; PageData::BLANK; blocks * pages]?,
+            cells: Vec::with_capacity(alloc, blocks * pages)?,
             filled: vec![in alloc; 0; blocks]?,
             erasing: vec![in alloc; 0; blocks]?,
             erases: vec![in alloc; 0; blocks]?,
@@ -79,11 +84,12 @@ impl Nand for MemoryNand {
 
     fn read(&mut self, place: Place) -> Result<PageData, Refusal> {
         let at = place.block * self.shape.pages + place.page;
-        Ok(self.cells[at as usize])
+        Ok(read_cell(&self.cells, at as usize))
     }
 
     fn program(&mut self, place: Place, bytes: PageData) -> Result<(), Refusal> {
         let at = place.block * self.shape.pages + place.page;
+        lay_down(&mut self.cells, at as usize + 1);
         self.cells[at as usize] = bytes;
         self.filled[place.block as usize] = place.page + 1;
         Ok(())
@@ -100,6 +106,31 @@ impl Nand for MemoryNand {
         self.erasing[index] = 0;
         self.erases[index] += 1;
         Ok(true)
+    }
+}
+
+/// What a cell holds. One that isn't laid down is free.
+fn read_cell(cells: &[PageData], at: usize) -> PageData
+    ensures { result ≡ slice_index_or cells.now at blank }
+{
+    match cells.get(at) {
+        Some(bytes) => *bytes,
+        None => PageData::BLANK,
+    }
+}
+
+/// Lays down free cells up to so many, for which there is room.
+fn lay_down(cells: &mut Vec<PageData>, count: usize)
+    requires room { count ≤ vec_capacity cells.old }
+    ensures cells { cells.new.items ≡ laid count cells.old.items }
+    ensures room { vec_capacity cells.old ≤ vec_capacity cells.new }
+{
+    if cells.len() < count {
+        match cells.resize(count, PageData::BLANK) {
+            Ok(()) => {}
+            // In reserved room this takes no memory.
+            Err(_) => unreachable!(),
+        }
     }
 }
 

@@ -59,6 +59,7 @@ pub record IsFirst (places : List (Option Place)) (block page : ℕ) (source : P
 pub record Reads {N : Type 0} (blocks : N → List Block) (old : State N) (task : ℕ) (c : Collection) (page : ℕ) (new : State N) : Type 0 where
   pub source : Place
   pub dropped : HasDropped old.places c
+  pub left : HasLeft old.places c
   pub first : IsFirst old.places c.victim page source
   pub cells : blocks new.device ≡ blocks old.device
   pub places : new.places ≡ old.places
@@ -94,6 +95,7 @@ pub record Erases {N : Type 0} (blocks : N → List Block) (old : State N) (c : 
 -- which is not the last
 pub record Goes {N : Type 0} (blocks : N → List Block) (old : State N) (task : ℕ) (c : Collection) (block : ℕ) (new : State N) : Type 0 where
   pub dropped : HasDropped old.places c
+  pub left : HasLeft old.places c
   pub erases : Erases blocks old c block new
   pub going : (block_at (blocks old.device) block).erasing + 1 ≢ old.accounts.plan.shape.erase_slots
   pub accounts : new.accounts ≡ old.accounts
@@ -102,6 +104,7 @@ pub record Goes {N : Type 0} (blocks : N → List Block) (old : State N) (task :
 -- which is the last, and settles: what was copied is what its reserve lacks
 pub record Finishes {N : Type 0} (blocks : N → List Block) (old : State N) (task : ℕ) (c : Collection) (block gift : ℕ) (new : State N) : Type 0 where
   pub dropped : HasDropped old.places c
+  pub left : HasLeft old.places c
   pub erases : Erases blocks old c block new
   pub last : (block_at (blocks old.device) block).erasing + 1 ≡ old.accounts.plan.shape.erase_slots
   pub given : gift ≡ given_of old.accounts task

@@ -1,6 +1,6 @@
 //! An array of pages on a flash device.
 
-ghost use Rattle.std.specs.Prelude.{◌≡◌, ◌≢◌, ◌==◌, ◌+◌, ◌<◌, ◌≤◌, ◌↔◌, ◌^◌, ℕ, true, false, Some, None, List, length, replicate, count_by, slice_set, is_err, is_some, IsOk, IsSome, IfOk, IfErr, IfSome, IfNone, OnOk, OnErr, position};
+ghost use Rattle.std.specs.Prelude.{◌≡◌, ◌≢◌, ◌==◌, ◌+◌, ◌<◌, ◌≤◌, ◌↔◌, ◌^◌, ℕ, true, false, Some, None, List, length, replicate, count_by, slice_set, is_err, is_ok, is_some, IsOk, IsSome, IfOk, IfErr, IfSome, IfNone, OnOk, OnErr, position};
 ghost use Rattle.slot_types.specs.declared.pages.Place.{Place};
 ghost use Rattle.slot_types.specs.Places.{is_in, place_of, owner_of};
 ghost use Rattle.slot_types.specs.Shapes.{IsShape};
@@ -88,6 +88,7 @@ impl<N: Nand> PageArray<N> {
         requires page { page < length self.old.placing.places }
         ensures page { IfOk result (λ bytes. bytes ≡ content_at (N.blocks self.old.device) (place_of self.old.placing.places page)) }
         ensures unwritten { place_of self.old.placing.places page ≡ None → (result ≡ Ok blank) × (self.new ≡ self.old) }
+        ensures once { (place : Place) → place_of self.old.placing.places page ≡ Some place → N.ends self.old.device (is_ok result) self.new.device }
         ensures cells { OnOk result (N.blocks self.new.device ≡ N.blocks self.old.device) }
         ensures placing { self.new.placing ≡ self.old.placing }
         ensures candidates { self.new.candidates ≡ self.old.candidates }
@@ -113,6 +114,7 @@ impl<N: Nand> PageArray<N> {
         requires alive { self.old.failed ≡ false }
         requires page { page < length self.old.placing.places }
         requires free { 0 < free_cells (N.shape_of self.old.device).pages (N.blocks self.old.device) }
+        ensures once { N.ends self.old.device (is_ok result) self.new.device }
         ensures finds { IsSome (open_in (N.shape_of self.old.device).pages (N.blocks self.old.device)) }
         ensures cells { OnOk result (N.blocks self.new.device ≡ programmed (N.blocks self.old.device) (next_cell (N.shape_of self.old.device).pages (N.blocks self.old.device)).block bytes) }
         ensures placing { OnOk result (self.new.placing ≡ bound self.old.placing page (next_cell (N.shape_of self.old.device).pages (N.blocks self.old.device))) }
@@ -160,6 +162,7 @@ impl<N: Nand> PageArray<N> {
         requires unplaced { (page : ℕ) → page < (N.shape_of self.old.device).pages → owner_of self.old.placing.places (record { block = block; page = page }) ≡ None }
         requires taken { count_of self.old.candidates.counts block ≡ None }
         requires few_erases { (block_at (N.blocks self.old.device) block).erases < 4294967295 }
+        ensures once { N.ends self.old.device (is_ok result) self.new.device }
         ensures last { IfOk result (λ last. last ≡ ((block_at (N.blocks self.old.device) block).erasing + 1 == (N.shape_of self.old.device).erase_slots)) }
         ensures cells { OnOk result (N.blocks self.new.device ≡ erased (N.blocks self.old.device) (N.shape_of self.old.device).erase_slots block) }
         ensures placing { self.new.placing ≡ self.old.placing }

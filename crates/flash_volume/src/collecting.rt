@@ -1,6 +1,6 @@
 //! Collections: a block is chosen, its pages are copied elsewhere, and it is erased.
 
-ghost use Rattle.std.specs.Prelude.{◌≡◌, ◌≢◌, ◌+◌, ◌<◌, ◌↔◌, ◌⊎◌, ℕ, true, false, Some, None, length, is_err, IsOk, IsSome, IfOk, IfErr, IfSome, IfNone, OnOk, OnErr};
+ghost use Rattle.std.specs.Prelude.{◌≡◌, ◌≢◌, ◌+◌, ◌<◌, ◌↔◌, ◌⊎◌, ℕ, true, false, Some, None, length, is_err, is_ok, IsOk, IsSome, IfOk, IfErr, IfSome, IfNone, OnOk, OnErr};
 ghost use Rattle.slot_types.specs.Places.{place_of, owner_of};
 ghost use Rattle.flash_die.specs.Flash.{block_at};
 ghost use Rattle.flash_volume.specs.declared.collection.Collection.{Collection};
@@ -46,7 +46,7 @@ impl<N: Nand> Volume<N> {
         }
     }
 
-    /// Does one slot of the collection that the task runs.
+    /// Does one slot of the collection that the task runs, by one call of the device.
     ///
     /// It programs the page in its buffer, if that still lies where it was read; or else reads the
     /// first page that lies in its victim; or else does one slot of the victim's erase. After the
@@ -58,6 +58,7 @@ impl<N: Nand> Volume<N> {
         requires task { task < length self.old.accounts.plan.caps }
         requires runs { IsSome (running_of self.old.running task) }
         requires few_erases { (c : Collection) → running_of self.old.running task ≡ Some c → (block_at (N.blocks self.old.device) c.victim).erases < 4294967295 }
+        ensures once { self.old.failed ≡ false → N.ends self.old.device (is_ok result) self.new.device }
         ensures did { (c : Collection) → running_of self.old.running task ≡ Some c → IfOk result (λ did. Does N.blocks self.old task c did self.new) }
         ensures places_stay { OnErr result (self.new.places ≡ self.old.places) }
         ensures accounts_stay { OnErr result (self.new.accounts ≡ self.old.accounts) }
@@ -111,6 +112,7 @@ impl<N: Nand> Volume<N> {
         requires runs { running_of self.old.running task ≡ Some collection }
         requires holds { collection.buffer ≡ Some copied }
         requires lies { place_of self.old.places copied.page ≡ Some copied.source }
+        ensures once { N.ends self.old.device (is_ok result) self.new.device }
         ensures did { OnOk result (Programs N.blocks self.old task collection copied.page self.new) }
         ensures places_stay { OnErr result (self.new.places ≡ self.old.places) }
         ensures accounts_stay { OnErr result (self.new.accounts ≡ self.old.accounts) }
@@ -147,6 +149,7 @@ impl<N: Nand> Volume<N> {
         requires runs { running_of self.old.running task ≡ Some collection }
         requires left { HasLeft self.old.places collection }
         requires first { IsFirst self.old.places collection.victim page source }
+        ensures once { N.ends self.old.device (is_ok result) self.new.device }
         ensures did { OnOk result (Reads N.blocks self.old task collection page self.new) }
         ensures places_stay { OnErr result (self.new.places ≡ self.old.places) }
         ensures accounts_stay { OnErr result (self.new.accounts ≡ self.old.accounts) }
@@ -181,6 +184,7 @@ impl<N: Nand> Volume<N> {
         requires left { HasLeft self.old.places collection }
         requires unplaced { (page : ℕ) → page < self.old.accounts.plan.shape.pages → owner_of self.old.places (record { block = collection.victim; page = page }) ≡ None }
         requires few_erases { (block_at (N.blocks self.old.device) collection.victim).erases < 4294967295 }
+        ensures once { N.ends self.old.device (is_ok result) self.new.device }
         ensures did { IfOk result (λ did. Does N.blocks self.old task collection did self.new) }
         ensures places_stay { OnErr result (self.new.places ≡ self.old.places) }
         ensures accounts_stay { OnErr result (self.new.accounts ≡ self.old.accounts) }

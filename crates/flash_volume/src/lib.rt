@@ -11,4 +11,10 @@ pub use collection::{Began, Collected, Collection, Copied};
 pub use volume::Volume;
 
 #[cfg(test)]
+mod histories;
+#[cfg(test)]
+mod recorder;
+#[cfg(test)]
+mod steps;
+#[cfg(test)]
 mod tests;

@@ -1,6 +1,6 @@
 //! A volume: an array of pages on a flash device, and the accounts of its free pages.
 
-ghost use Rattle.std.specs.Prelude.{◌≡◌, ◌+◌, ◌-◌, ◌<◌, ◌≤◌, ◌↔◌, ◌⊎◌, ℕ, true, false, Some, None, length, slice_index, slice_index_or, slice_set, IsOk, IsSome, IfOk, IfErr, OnOk, OnErr};
+ghost use Rattle.std.specs.Prelude.{◌≡◌, ◌+◌, ◌-◌, ◌<◌, ◌≤◌, ◌↔◌, ◌⊎◌, ℕ, true, false, Some, None, length, slice_index, slice_index_or, slice_set, is_ok, IsOk, IsSome, IfOk, IfErr, OnOk, OnErr};
 ghost use Rattle.slot_types.specs.declared.pages.Place.{Place};
 ghost use Rattle.slot_types.specs.Places.{place_of};
 ghost use Rattle.plan_rules.specs.Bound.{MeetsBound};
@@ -128,13 +128,14 @@ impl<N: Nand> Volume<N> {
         self.ledger.admit(task, writes)
     }
 
-    /// What a page holds. A page that was never written is blank, and calls no device.
+    /// What a page holds. A page that was never written is blank, and calls no device; any other is read by one call of it.
     ///
     /// `DieStopped` exactly where the volume has failed already, which changes nothing, or else
     /// `DeviceFault` exactly where the device's call failed: the volume has failed then.
     pub fn read(&mut self, page: u32) -> Result<PageData, Refusal>
         requires { page < length self.old.pages }
         ensures page { IfOk result (λ bytes. bytes ≡ slice_index_or self.old.pages page blank) }
+        ensures once { self.old.failed ≡ false → (place : Place) → place_of self.old.places page ≡ Some place → N.ends self.old.device (is_ok result) self.new.device }
         ensures unwritten { place_of self.old.places page ≡ None → self.new ≡ self.old }
         ensures cells { OnOk result (N.blocks self.new.device ≡ N.blocks self.old.device) }
         ensures places { self.new.places ≡ self.old.places }
@@ -155,7 +156,7 @@ impl<N: Nand> Volume<N> {
         self.array.read(page)
     }
 
-    /// Writes a page, with one of the pages that the task holds. A free cell is always found.
+    /// Writes a page by one call of the device, with one of the pages that the task holds. A free cell is always found.
     ///
     /// `DieStopped` exactly where the volume has failed already, which changes nothing, or else
     /// `DeviceFault` exactly where the device's call failed: the volume has failed then.
@@ -163,6 +164,7 @@ impl<N: Nand> Volume<N> {
         requires task { task < length self.old.accounts.plan.caps }
         requires page { page < length self.old.pages }
         requires held { 0 < slice_index self.old.accounts.holds task }
+        ensures once { self.old.failed ≡ false → N.ends self.old.device (is_ok result) self.new.device }
         ensures finds { self.old.failed ≡ false → IsSome (open_in self.old.accounts.plan.shape.pages (N.blocks self.old.device)) }
         ensures cells { OnOk result (N.blocks self.new.device ≡ programmed (N.blocks self.old.device) (next_cell self.old.accounts.plan.shape.pages (N.blocks self.old.device)).block bytes) }
         ensures places { OnOk result (self.new.places ≡ slice_set self.old.places page (Some (next_cell self.old.accounts.plan.shape.pages (N.blocks self.old.device)))) }

@@ -1,6 +1,6 @@
 //! A job or a collection of a die.
 
-ghost use Rattle.std.specs.Prelude.{◌≡◌, ◌<◌, ◌+◌, ◌^◌, true, false, count_by, slice_get, IfOk};
+ghost use Rattle.std.specs.Prelude.{◌≡◌, ◌<◌, ◌+◌, ◌^◌, true, false, count_by, length, slice_get, take, IfOk};
 ghost use Rattle.job_table.specs.Jobs.{is_read, is_pending, reads_next, new_job, new_collection, carried, with_read, with_stage, lateness_of, completion_in};
 
 use crate::stages::Stage;
@@ -116,9 +116,11 @@ impl Job {
         self.ops.get(place as usize).copied()
     }
 
-    /// How many slots it took so far.
+    /// How many slots it took so far. Its reads gave their bytes in as many of them as there are reads among the
+    /// operations before that place.
     pub fn work(&self) -> u32
-        ensures { result ≡ self.now.work }
+        ensures work { result ≡ self.now.work }
+        ensures reads { length self.now.reads ≡ count_by is_read (take self.now.work self.now.ops) }
     {
         self.work
     }

@@ -5,10 +5,10 @@ use Rattle.std.proofs.lemmas.List.Kept.{AllPairs-from_increasing}
 use Rattle.std.proofs.lemmas.List.Sums.{sum_by-cons}
 use Rattle.std.proofs.lemmas.Option.{same_Some, none-some}
 use Rattle.late_cert.specs.declared.rows.JobRow.{JobRow}
-use Rattle.late_cert.specs.Schedule.{Slots, slot_at, is_named, work_in, end_by, completion_in}
+use Rattle.late_cert.specs.Schedule.{Slots, slot_at, is_named, work_in, end_by, completion_in, done_slot, IsLeastLate}
 use Rattle.late_cert.specs.Rows.{is_done, release_of, due_of, work_of, completion_of}
 use Rattle.late_cert.specs.Bound.{is_listed, IsCertificate}
-use Rattle.late_cert.specs.Stretch.{is_within, IsStretch, CarriesLeastKeys, start_of, jobs_of, done_slot, IsLeastLate}
+use Rattle.late_cert.specs.Stretch.{is_within, IsStretch, CarriesLeastKeys, start_of, jobs_of}
 use Rattle.late_cert.proofs.Counting.{slot-below-end, slot-at-end, count-le-end, is_one_of, some-named, count-jobs, sum-same}
 use Rattle.late_cert.proofs.Binds.{listed-at, binds}
 use Rattle.late_cert.proofs.Keys.{KeyAtMost, within-true, true-within, key-trans, key-same, key-refl, done-known, named-some}

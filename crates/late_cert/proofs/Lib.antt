@@ -1,10 +1,12 @@
 pub mod Counting
 pub mod Binds
+pub mod Runs
 pub mod RowSearch
 pub mod Faults
 pub mod Marks
 pub mod Keys
 pub mod Window
+pub mod Walking
 pub mod Least
 pub mod OneStretch
 pub mod Moments

@@ -10,65 +10,6 @@ use Rattle.late_cert.specs.Stretch.{is_carried}
 use Rattle.late_cert.specs.Build.{AreMarks}
 use Rattle.late_cert.proofs.RowSearch.{rows-rise-lt, map-length, map-get}
 
--- one slot more
-pub carried-more : (c : Slots) (s n k : ℕ) (o : Option ℕ) → slot_at c n ≡ o → s ≤ n
-    → is_carried c s (n + 1) k ≡ (is_named k o || is_carried c s n k)
-carried-more c s n k o e h = rw (add-one, le-leb s n h, e) refl
-
-pub row-absent : (rows : List JobRow) (n : ℕ) → row_of rows n ≡ None → (i : ℕ) (d : JobRow) → i < length rows → eqb n (get_or rows i d).number ≡ false
-row-absent [] n h i d l = absurd (omega arith)
-row-absent (row ∷ rows) n h zero d l =
-    ne_eqb n row.number (λ e. none-some row (sym (rw (eq-eqb row.number n (sym e)) at h)))
-row-absent (row ∷ rows) n h (suc i) d l =
-    elim (cases_Bool (eqb row.number n)) [
-      | inl same ↦ absurd (none-some row (sym (rw same at h)))
-      | inr other ↦ row-absent rows n (rw other at h) i d (omega arith)
-    ]
-
-pub marks-none : (rows : List JobRow) (c : Slots) (s n : ℕ) (marks : List Bool) → AreMarks rows c s n marks → s ≤ n
-    → slot_at c n ≡ None → AreMarks rows c s (n + 1) marks
-marks-none rows c s n marks m h e = record {
-  as_many = m.as_many;
-  each = λ i d l. m.each i d l ∙ sym (carried-more c s n (get_or rows i d).number None e h);
-}
-
-pub marks-missing : (rows : List JobRow) (c : Slots) (s n k : ℕ) (marks : List Bool) → AreMarks rows c s n marks → s ≤ n
-    → slot_at c n ≡ Some k → row_of rows k ≡ None → AreMarks rows c s (n + 1) marks
-marks-missing rows c s n k marks m h e absent = record {
-  as_many = m.as_many;
-  each = λ i d l.
-      let no_name : is_named (get_or rows i d).number (Some k) ≡ false =
-      ne_eqb (get_or rows i d).number k (λ q. true≢false (sym (eq-eqb k (get_or rows i d).number (sym q)) ∙ row-absent rows k absent i d l)) in
-      m.each i d l ∙ sym (carried-more c s n (get_or rows i d).number (Some k) e h ∙ rw no_name refl);
-}
-
-pub marks-place : (rows : List JobRow) → RowsRise rows → (c : Slots) (s n k p : ℕ) (marks : List Bool) → AreMarks rows c s n marks → s ≤ n
-    → slot_at c n ≡ Some k → p < length rows → IsNamedAt rows p k → AreMarks rows c s (n + 1) (set marks p true)
-marks-place rows r c s n k p marks m h e in_rows named = record {
-  as_many = length-set marks p true ∙ m.as_many;
-  each = λ i d l.
-      let more = carried-more c s n (get_or rows i d).number (Some k) e h in
-      elim (cases_order i p) [
-        | inl same ↦
-            let at : get_or (set marks p true) i false ≡ true =
-            (rw same (get_or-set_same marks p true false (let q : length marks ≡ length rows = m.as_many in omega arith))) in
-            let name : (get_or rows i d).number ≡ k = rw same (named d) in
-            at ∙ sym (more ∙ rw (eq-eqb (get_or rows i d).number k name) refl)
-        | inr (inl lt) ↦
-            let ne : i ≢ p = omega arith in
-            let below : (get_or rows i d).number < (get_or rows p d).number = rows-rise-lt rows r i p d lt in_rows in
-            let name : (get_or rows p d).number ≡ k = named d in
-            get_or-set_other marks p i true false ne ∙ m.each i d l
-            ∙ sym (more ∙ rw (ne_eqb (get_or rows i d).number k (λ q. absurd (omega arith))) refl)
-        | inr (inr gt) ↦
-            let ne : i ≢ p = omega arith in
-            let below : (get_or rows p d).number < (get_or rows i d).number = rows-rise-lt rows r p i d gt l in
-            let name : (get_or rows p d).number ≡ k = named d in
-            get_or-set_other marks p i true false ne ∙ m.each i d l
-            ∙ sym (more ∙ rw (ne_eqb (get_or rows i d).number k (λ q. absurd (omega arith))) refl)
-      ];
-}
-
 pub carried-none : (c : Slots) (s n k : ℕ) → n ≤ s → is_carried c s n k ≡ false
 carried-none c s zero k h = refl
 carried-none c s (suc n) k h = rw (lt-leb s n (omega arith)) (carried-none c s n k (omega arith))

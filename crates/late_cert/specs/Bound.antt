@@ -2,7 +2,7 @@
 use Rattle.std.specs.Prelude.{◌≡◌, ℕ, ◌+◌, ◌<◌, ◌≤◌, Bool, true, false, ◌==◌, ◌||◌, List, [], ◌∷◌, length, Some, sum_by, ◌≤ℤ◌}
 use Rattle.std.specs.List.Sorted.{IsStrictlyIncreasing}
 use Rattle.late_cert.specs.declared.rows.JobRow.{JobRow}
-use Rattle.late_cert.specs.Schedule.{Slots, slot_at, work_in, completion_in, lateness_of}
+use Rattle.late_cert.specs.Schedule.{Slots, completion_in, lateness_of, Serves}
 use Rattle.late_cert.specs.Rows.{is_done, release_of, due_of, work_of}
 
 -- the number stands in the list
@@ -23,11 +23,6 @@ pub record IsCertificate (rows : List JobRow) (start due completion : ℕ) (jobs
   pub rising : IsStrictlyIncreasing jobs
   pub each : (j : ℕ) → is_listed jobs j ≡ true → IsInStretch rows start due j
   pub sum : sum_by (work_of rows) jobs + start ≡ completion
-
--- the schedule gives each of the jobs its work, and no slot below its release
-pub record Serves (rows : List JobRow) (jobs : ℕ → Bool) (f : Slots) : Type 0 where
-  pub works : (j : ℕ) → jobs j ≡ true → work_in f j ≡ work_of rows j
-  pub released : (j t : ℕ) → jobs j ≡ true → slot_at f t ≡ Some j → release_of rows j ≤ t
 
 -- every schedule that serves the jobs completes one of them with this lateness or a greater one
 abbrev pub BindsEverySchedule : List JobRow → ℕ → ℕ → List ℕ → Type 0

@@ -1,6 +1,7 @@
 pub mod Carried
-pub mod Schedule
 pub mod Rows
+pub mod Schedule
+pub mod Runs
 pub mod Bound
 pub mod Stretch
 pub mod Verdict

@@ -2,9 +2,9 @@
 use Rattle.std.specs.Prelude.{◌≡◌, ℕ, zero, suc, ◌<◌, ◌≤◌, Bool, true, false, if◌then◌else◌, ◌==◌, nat_lt, nat_le, ◌&&◌, ◌||◌, ◌↔◌, List, length, map, Option, Some, None, filter, ◌≤ℤ◌}
 use Rattle.std.specs.List.Sorted.{IsStrictlyIncreasing}
 use Rattle.late_cert.specs.declared.rows.JobRow.{JobRow}
-use Rattle.late_cert.specs.Schedule.{Slots, slot_at, is_named, work_in, completion_in, lateness_of}
+use Rattle.late_cert.specs.Schedule.{Slots, slot_at, is_named, work_in, completion_in}
 use Rattle.late_cert.specs.Rows.{RowsRise, is_known, is_done, release_of, due_of, work_of, completion_of}
-use Rattle.late_cert.specs.Bound.{is_listed, Serves}
+use Rattle.late_cert.specs.Bound.{is_listed}
 
 -- the key (due, number) is not above the other; the smaller key goes first
 abbrev pub key_at_most : ℕ → ℕ → ℕ → ℕ → Bool
@@ -51,17 +51,3 @@ is_carried carried start (suc n) k = (nat_le start n && is_named k (slot_at carr
 -- the numbers carried there, rising where the rows do
 abbrev pub jobs_of : List JobRow → Slots → ℕ → ℕ → List ℕ
 jobs_of rows carried start n = filter (is_carried carried start n) (map (λ (row : JobRow). row.number) rows)
-
--- a slot without what it carries, where that is not done
-abbrev pub done_slot : List JobRow → Option ℕ → Option ℕ
-done_slot rows None = None
-done_slot rows (Some j) = if is_done rows j then Some j else None
-
--- what was carried, cut to the done jobs, serves them, and no schedule that serves them has a smaller greatest
--- lateness: for each done job it completes one at least as late
-pub record IsLeastLate (rows : List JobRow) (carried : Slots) : Type 0 where
-  pub serves : Serves rows (is_done rows) (map (done_slot rows) carried)
-  pub completes : (j : ℕ) → is_done rows j ≡ true → completion_in (map (done_slot rows) carried) j ≡ completion_of rows j
-  pub least : (f : Slots) → Serves rows (is_done rows) f → (j : ℕ) → is_done rows j ≡ true
-      → (k : ℕ) × (is_done rows k ≡ true)
-      × (lateness_of (completion_of rows j) (due_of rows j) ≤ℤ lateness_of (completion_in f k) (due_of rows k))

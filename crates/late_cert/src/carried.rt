@@ -1,26 +1,42 @@
-//! What the slots carried. Contracts see it as a list by slot, and how many more slots it has room for.
+//! What the slots carried, kept in runs. Contracts see it as a list by slot, and how many more slots it has room for.
 
-ghost use Rattle.std.specs.Prelude.{◌≡◌, ◌+◌, ◌<◌, ◌≤◌, ◌∷◌, ◌++◌, ◌==◌, [], length, OnOk, OnErr, IfErr, slice_get};
+ghost use Rattle.std.specs.Prelude.{◌≡◌, ◌+◌, ◌<◌, ◌≤◌, ◌∷◌, ◌++◌, ◌==◌, [], length, replicate, OnOk, OnErr, IfErr, slice_get, vec_len, vec_capacity};
+ghost use Rattle.late_cert.specs.Runs.{slots_of};
 
 use slot_types::{JobNo, Refusal};
 use std::alloc::Global;
 use std::marker::Model;
 
+/// Slots one after the other that carried the same: the job or collection that had them, or nothing.
+#[derive(Clone, Copy, PartialEq, Eq, Debug, Drop)]
+pub(crate) struct Run {
+    pub(crate) number: Option<JobNo>,
+    pub(crate) length: u32,
+}
+
 /// By slot from 0 the job or collection that had it, or nothing where the slot was idle.
 ///
-/// A slot takes memory only where no room was reserved for it.
+/// Slots one after the other that carried the same take memory once. A slot takes memory only where no room was reserved
+/// for it.
 #[derive(Debug, Drop)]
 pub struct Carried {
-    slots: Vec<Option<JobNo>>,
+    runs: Vec<Run>,
+    /// How many slots the runs have.
+    len: usize,
+    /// How many more slots there is room for, whatever they carry.
+    room: usize,
 }
 
 impl Model for Carried {
-    ghost use Rattle.std.specs.Prelude.{◌-◌, vec_len, vec_capacity};
     ghost use Rattle.late_cert.specs.Carried.{CarriedSlots};
+    ghost use Rattle.std.specs.Prelude.{vec_len, vec_capacity};
+    ghost use Rattle.late_cert.specs.Runs.{slots_of, AreCounted};
 
     ghost Value = { CarriedSlots };
 
-    ghost view = { λ carried. record { slots = carried.slots.items; room = vec_capacity carried.slots - vec_len carried.slots } };
+    ghost view = { λ carried. record { slots = slots_of carried.runs.items; room = carried.room } };
+
+    ghost invariant = { λ carried. AreCounted carried.runs.items carried.len carried.room (vec_len carried.runs) (vec_capacity carried.runs) };
 }
 
 impl Carried {
@@ -29,7 +45,9 @@ impl Carried {
         ensures { result.slots ≡ [] }
     {
         Carried {
-            slots: Vec::new(alloc),
+            runs: Vec::new(alloc),
+            len: 0,
+            room: 0,
         }
     }
 
@@ -39,8 +57,17 @@ impl Carried {
         ensures refused { IfErr result (λ refusal. refusal ≡ Refusal.NoMemory) }
         ensures slots { self.new.slots ≡ self.old.slots }
     {
-        match self.slots.reserve(count) {
-            Ok(()) => Ok(()),
+        if count <= self.room {
+            return Ok(());
+        }
+        if count > usize::MAX - self.len {
+            return Err(Refusal::NoMemory);
+        }
+        match self.runs.reserve(count) {
+            Ok(()) => {
+                self.room = count;
+                Ok(())
+            }
             Err(_) => Err(Refusal::NoMemory),
         }
     }
@@ -51,7 +78,9 @@ impl Carried {
         ensures slots { self.new.slots ≡ self.old.slots ++ number ∷ [] }
         ensures room { self.new.room + 1 ≡ self.old.room }
     {
-        self.slots.push_reserved(number);
+        add_run(&mut self.runs, number, 1);
+        self.len += 1;
+        self.room -= 1;
     }
 
     /// Adds what the next slot carried. Without memory for it (`NoMemory`) all slots stay as they were.
@@ -60,30 +89,89 @@ impl Carried {
         ensures refused { IfErr result (λ refusal. refusal ≡ Refusal.NoMemory) }
         ensures err { OnErr result (self.new.slots ≡ self.old.slots) }
     {
-        match self.slots.push(number) {
-            Ok(()) => Ok(()),
-            Err(_) => Err(Refusal::NoMemory),
+        self.push_run(number, 1)
+    }
+
+    /// Adds that each of the next `length` slots carried the same. Without memory for it (`NoMemory`) all slots stay as
+    /// they were. Where the slot before carried the same too, they become one run.
+    pub fn push_run(&mut self, number: Option<JobNo>, length: u32) -> Result<(), Refusal>
+        ensures ok { OnOk result (self.new.slots ≡ self.old.slots ++ replicate length number) }
+        ensures refused { IfErr result (λ refusal. refusal ≡ Refusal.NoMemory) }
+        ensures err { OnErr result (self.new.slots ≡ self.old.slots) }
+    {
+        if length == 0 {
+            return Ok(());
         }
+        // So many slots, and those that there is room for, can't be counted.
+        if length as usize > usize::MAX - self.len - self.room {
+            return Err(Refusal::NoMemory);
+        }
+        // The room that was reserved stays.
+        if self.runs.reserve(self.room + 1).is_err() {
+            return Err(Refusal::NoMemory);
+        }
+        add_run(&mut self.runs, number, length);
+        self.len += length as usize;
+        Ok(())
     }
 
     /// How many slots there are.
     pub fn len(&self) -> usize
         ensures { result ≡ length self.now.slots }
     {
-        self.slots.len()
+        self.len
     }
 
     /// Whether there is no slot.
     pub fn is_empty(&self) -> bool
         ensures { result ≡ (length self.now.slots == 0) }
     {
-        self.slots.is_empty()
+        self.len == 0
     }
 
-    /// What a slot carried, if there is such a slot.
+    /// What a slot carried, if there is such a slot. It walks over the runs before it.
     pub fn get(&self, slot: usize) -> Option<Option<JobNo>>
         ensures { result ≡ slice_get self.now.slots slot }
     {
-        self.slots.get(slot).copied()
+        slot_in(self.runs.as_slice(), slot)
     }
+
+    /// The runs, in order.
+    pub(crate) fn runs(&self) -> &[Run]
+        ensures { slots_of result.now ≡ self.now.slots }
+    {
+        self.runs.as_slice()
+    }
+}
+
+// Adds a run in room that was made: to the last run, where that carried the same and can be as long, else as its own.
+fn add_run(runs: &mut Vec<Run>, number: Option<JobNo>, length: u32)
+    requires { vec_len runs.old < vec_capacity runs.old }
+    ensures slots { slots_of runs.new.items ≡ slots_of runs.old.items ++ replicate length number }
+    ensures len { vec_len runs.new ≤ vec_len runs.old + 1 }
+    ensures capacity { vec_capacity runs.new ≡ vec_capacity runs.old }
+{
+    let count = runs.len();
+    if count > 0 && runs[count - 1].number == number {
+        if let Some(longer) = runs[count - 1].length.checked_add(length) {
+            runs[count - 1].length = longer;
+            return;
+        }
+    }
+    runs.push_reserved(Run { number, length });
+}
+
+// What a slot carried, if the runs reach it.
+fn slot_in(runs: &[Run], slot: usize) -> Option<Option<JobNo>>
+    ensures { result ≡ slice_get (slots_of runs.now) slot }
+{
+    let mut left = slot;
+    for run in runs {
+        let length = run.length as usize;
+        if left < length {
+            return Some(run.number);
+        }
+        left -= length;
+    }
+    None
 }

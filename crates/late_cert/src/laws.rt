@@ -4,10 +4,10 @@
 
 ghost use Rattle.std.specs.Prelude.{◌≡◌, ℕ, ◌<◌, ◌≤◌, List, [], ◌∷◌, ◌++◌, Option, Some, IsSome, true};
 ghost use Rattle.late_cert.specs.declared.rows.JobRow.{JobRow};
-ghost use Rattle.late_cert.specs.Schedule.{Slots, slot_at};
+ghost use Rattle.late_cert.specs.Schedule.{Slots, slot_at, IsLeastLate};
 ghost use Rattle.late_cert.specs.Rows.{is_done, release_of, due_of, completion_of};
 ghost use Rattle.late_cert.specs.Bound.{IsCertificate, BindsEverySchedule};
-ghost use Rattle.late_cert.specs.Stretch.{IsStretch, CarriesLeastKeys, IsLeastLate};
+ghost use Rattle.late_cert.specs.Stretch.{IsStretch, CarriesLeastKeys};
 ghost use Rattle.late_cert.specs.Build.{certificate_of};
 ghost use Rattle.late_cert.specs.Moments.{AcceptsJob, WaivesJob, CarriesSlot};
 

@@ -32,3 +32,5 @@ pub use verdicts::Verdict;
 
 #[cfg(test)]
 mod tests;
+#[cfg(test)]
+mod twins;

@@ -1,9 +1,8 @@
 //! The certificate of a done job, by the stretch of slots before its completion.
 
-ghost use Rattle.std.specs.Prelude.{◌≡◌, ◌≤◌, IfOk, IfErr, IfSome, IfNone};
+ghost use Rattle.std.specs.Prelude.{◌≡◌, ◌<◌, length, true, false, IfOk, IfErr, IfSome, IfNone};
 ghost use Rattle.late_cert.specs.declared.certificates.Certificate.{Certificate};
-ghost use Rattle.late_cert.specs.Schedule.{slot_at};
-ghost use Rattle.late_cert.specs.Rows.{RowsRise, due_of};
+ghost use Rattle.late_cert.specs.Rows.{RowsRise, IsNamedAt, due_of};
 ghost use Rattle.late_cert.specs.Stretch.{is_within, start_of, jobs_of};
 ghost use Rattle.late_cert.specs.Build.{stretch_if_done, certificate_of, IsOwn, AreMarks};
 
@@ -62,75 +61,89 @@ fn stretch(
     let Some(completion) = row.completion else {
         return Ok(None);
     };
-    let start = stretch_start(rows, carried, job, row.due, completion);
-    let marks = marks(alloc, rows, carried, start, completion)?;
-    let jobs = marked(alloc, rows, marks.as_slice(), carried, start, completion)?;
+    let walk = walk_back(alloc, rows, carried, job, row.due, completion)?;
+    let jobs = marked(
+        alloc,
+        rows,
+        walk.marks.as_slice(),
+        carried,
+        walk.start,
+        completion,
+    )?;
     Ok(Some(Certificate {
         job,
-        start,
+        start: walk.start,
         due: row.due,
         completion,
         jobs,
     }))
 }
 
-// Where the stretch of the job starts that ends at its completion.
-fn stretch_start(rows: &[JobRow], carried: &Carried, job: JobNo, due: u32, completion: u32) -> u32
-    requires rise { RowsRise rows.now }
-    requires due { due ≡ due_of rows.now job }
-    ensures start { result ≡ start_of rows.now carried.now.slots job completion }
-    ensures ordered { result ≤ completion }
-{
-    let mut start = completion;
-    while start > 0 && is_in_stretch(rows, job, due, carried_at(carried, start as usize - 1)) {
-        start -= 1;
-    }
-    start
+// Where a stretch starts, and for each row whether one of its slots carries it. The rows rise, so the marked numbers do,
+// with no sort.
+#[derive(Drop)]
+struct Walk {
+    start: u32,
+    marks: Vec<bool>,
 }
 
-// Whether a slot carries a key that is not above that of the job.
-fn is_in_stretch(rows: &[JobRow], job: JobNo, due: u32, slot: Option<JobNo>) -> bool
-    requires rise { RowsRise rows.now }
-    requires due { due ≡ due_of rows.now job }
-    ensures { result ≡ is_within rows.now job slot }
-{
-    let Some(number) = slot else {
-        return false;
-    };
-    let Some(row) = find(rows, number) else {
-        return false;
-    };
-    row.due < due || (row.due == due && number <= job)
-}
-
-// What a slot carried; nothing past the last one.
-fn carried_at(carried: &Carried, slot: usize) -> Option<JobNo>
-    ensures { result ≡ slot_at carried.now.slots slot }
-{
-    carried.get(slot).flatten()
-}
-
-// For each row whether one of the slots carries it. The rows rise, so the marked numbers do, with no sort.
-fn marks(
+// Walks back over the runs of slots before the completion for as long as they carry keys that aren't above that of the
+// job, and looks once at a row for each of them.
+fn walk_back(
     alloc: Global,
     rows: &[JobRow],
     carried: &Carried,
-    start: u32,
+    job: JobNo,
+    due: u32,
     completion: u32,
-) -> Result<Vec<bool>, AllocError>
+) -> Result<Walk, AllocError>
     requires rise { RowsRise rows.now }
-    requires ordered { start ≤ completion }
-    ensures { IfOk result (λ marks. AreMarks rows.now carried.now.slots start completion marks.items) }
+    requires due { due ≡ due_of rows.now job }
+    ensures start { IfOk result (λ walk. walk.start ≡ start_of rows.now carried.now.slots job completion) }
+    ensures marks { IfOk result (λ walk. AreMarks rows.now carried.now.slots walk.start completion walk.marks.items) }
 {
     let mut marks = vec![in alloc; false; rows.len()]?;
-    for slot in start..completion {
-        if let Some(number) = carried_at(carried, slot as usize) {
-            if let Some(i) = place(rows, number) {
-                marks[i] = true;
-            }
-        }
+    let mut start = completion;
+    let mut end = carried.len();
+    // No slot is known to have carried what was done later.
+    if end < completion as usize {
+        return Ok(Walk { start, marks });
     }
-    Ok(marks)
+    let runs = carried.runs();
+    let mut i = runs.len();
+    while i > 0 {
+        let run = runs[i - 1];
+        let begin = end - run.length as usize;
+        if begin < start as usize {
+            let Some(place) = place_within(rows, job, due, run.number) else {
+                return Ok(Walk { start, marks });
+            };
+            marks[place] = true;
+            start = begin as u32;
+        }
+        end = begin;
+        i -= 1;
+    }
+    Ok(Walk { start, marks })
+}
+
+// The place of the row of what a slot carries, where its key is not above that of the job.
+fn place_within(rows: &[JobRow], job: JobNo, due: u32, slot: Option<JobNo>) -> Option<usize>
+    requires rise { RowsRise rows.now }
+    requires due { due ≡ due_of rows.now job }
+    ensures inside { IfSome result (λ i. i < length rows.now) }
+    ensures within { IfSome result (λ i. is_within rows.now job slot ≡ true) }
+    ensures named { IfSome result (λ i. IfSome slot (λ number. IsNamedAt rows.now i number)) }
+    ensures outside { IfNone result (is_within rows.now job slot ≡ false) }
+{
+    let number = slot?;
+    let place = place(rows, number)?;
+    let row = rows[place];
+    if row.due < due || (row.due == due && number <= job) {
+        Some(place)
+    } else {
+        None
+    }
 }
 
 // The numbers of the marked rows.

@@ -174,5 +174,8 @@ fn what_slots_carried_is_read_back(rt: HostRuntime) -> Result<(), Fail> {
     carried.reserve(1)?;
     carried.push_reserved(Some(JobNo(4)));
     assert!(rt; carried.get(2) == Some(Some(JobNo(4))));
+    carried.push_run(Some(JobNo(4)), 2)?;
+    assert_eq!(rt; carried.len(), 5);
+    assert!(rt; carried.get(4) == Some(Some(JobNo(4))));
     Ok(())
 }

@@ -1,7 +1,7 @@
 //! What the moves of the accounts come to.
 
-ghost use Rattle.std.specs.Prelude.{◌≡◌, ◌+◌, ◌<◌, ℕ, length, min, slice_index};
-ghost use Rattle.plan_rules.specs.Accounts.{Accounts, AreSound, owned_of, settled, waived};
+ghost use Rattle.std.specs.Prelude.{◌≡◌, ◌≢◌, ◌+◌, ◌<◌, ◌≤◌, ℕ, length, min, slice_index};
+ghost use Rattle.plan_rules.specs.Accounts.{Accounts, AreSound, owned_of, admitted, hold_spent, reserve_spent, settled, waived};
 
 /// With each collection that is settled or waived, what its task owns (balance and hold) grows
 /// to the task's cap, or by exactly `alpha` pages. It computes nothing; its contract is the law.
@@ -14,4 +14,24 @@ pub fn grows_to_cap()
         AreSound accounts → task < length accounts.plan.caps →
         owned_of (waived accounts task) task
         ≡ min (slice_index accounts.plan.caps task) (owned_of accounts task + accounts.plan.alpha) }
+{}
+
+/// What a task owns is lowered by its writes alone, each of which takes one page of it. A job that is accepted moves pages
+/// from its task's balance to its hold, a copy takes the reserve, and a collection that is settled or waived leaves what
+/// other tasks own. It computes nothing; its contract is the law.
+pub fn writes_alone_lower_owned()
+    ensures hold_spent { (accounts : Accounts) (task : ℕ) →
+        AreSound accounts → task < length accounts.plan.caps → 0 < slice_index accounts.holds task →
+        owned_of (hold_spent accounts task) task + 1 ≡ owned_of accounts task }
+    ensures hold_spent_others { (accounts : Accounts) (task other : ℕ) → other ≢ task →
+        owned_of (hold_spent accounts task) other ≡ owned_of accounts other }
+    ensures admitted { (accounts : Accounts) (task writes other : ℕ) →
+        AreSound accounts → task < length accounts.plan.caps → writes ≤ slice_index accounts.balances task →
+        owned_of (admitted accounts task writes) other ≡ owned_of accounts other }
+    ensures reserve_spent { (accounts : Accounts) (task other : ℕ) →
+        owned_of (reserve_spent accounts task) other ≡ owned_of accounts other }
+    ensures settled_others { (accounts : Accounts) (task copied other : ℕ) → other ≢ task →
+        owned_of (settled accounts task copied) other ≡ owned_of accounts other }
+    ensures waived_others { (accounts : Accounts) (task other : ℕ) → other ≢ task →
+        owned_of (waived accounts task) other ≡ owned_of accounts other }
 {}

@@ -5,7 +5,7 @@ pub mod accounts;
 pub mod laws;
 
 pub use accounts::Ledger;
-pub use laws::grows_to_cap;
+pub use laws::{grows_to_cap, writes_alone_lower_owned};
 
 #[cfg(test)]
 mod tests;

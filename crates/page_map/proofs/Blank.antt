@@ -6,7 +6,6 @@ use Rattle.std.proofs.lemmas.List.{get_or-replicate, length-replicate, get_or_pa
 use Rattle.slot_types.specs.declared.pages.Place.{Place}
 use Rattle.slot_types.specs.declared.plans.Shape.{Shape}
 use Rattle.slot_types.specs.Places.{is_in, place_of}
-use Rattle.slot_types.specs.Shapes.{IsShape}
 use Rattle.page_map.specs.Placing.{cell_index}
 use Rattle.page_map.specs.Tables.{AreTables}
 use Rattle.page_map.proofs.Owners.{no_owner}
@@ -26,9 +25,8 @@ none_here : (logical block : ℕ) → count_by (is_in block) (nowhere logical) �
 none_here zero block = refl
 none_here (suc logical) block = omega (arith, none_here logical block)
 
-pub tables_blank : (shape : Shape) (logical : ℕ) → IsShape shape → logical < 2 ^ 32 → AreTables shape (replicate logical None) (replicate (shape.blocks * shape.pages) None) (replicate shape.blocks 0)
-tables_blank shape logical is few = record {
-  limits = is;
+pub tables_blank : (shape : Shape) (logical : ℕ) → logical < 2 ^ 32 → AreTables shape (replicate logical None) (replicate (shape.blocks * shape.pages) None) (replicate shape.blocks 0)
+tables_blank shape logical few = record {
   few = rw (length-replicate {A = Option Place} logical None) few;
   apart = record { apart = λ i j place at_i at_j. let none : place_of (nowhere logical) i ≡ None = lies_nowhere logical i in absurd (cc) };
   within = λ page place lies. let none : place_of (nowhere logical) page ≡ None = lies_nowhere logical page in absurd (cc);

@@ -103,7 +103,6 @@ tables_without shape places owners valid page count old are below lay count_is =
     let in_owners : cell_index shape old < length owners = omega (arith, in_table shape old cell, are.owners_len) in
     let in_valid : old.block < length valid = omega (arith, cell.block, are.valid_len) in
     record {
-      limits = are.limits;
       few = rw (length-set places page None) are.few;
       apart = apart_without places page are.apart below;
       within = λ i place lies. are.within i place (stays_without places page i place below lies).1;
@@ -188,7 +187,6 @@ tables_with shape places owners valid page count place are below cell free nowhe
     let in_valid : place.block < length valid = omega (arith, cell.block, are.valid_len) in
     let are_apart : AreApart new = apart_with places page place are.apart below free in
     record {
-      limits = are.limits;
       few = rw (length-set places page (Some place)) are.few;
       apart = are_apart;
       within = λ i q lies. elim (cases_eq i page) [

@@ -1,3 +1,12 @@
 pub mod Pigeon
 pub mod Spread
 pub mod Totals
+pub mod Worked
+pub mod Demands
+pub mod Windows
+pub mod Arriving
+pub mod Zips
+pub mod Walking
+pub mod Pacing
+pub mod Moments
+pub mod Owned

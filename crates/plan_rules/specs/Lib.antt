@@ -1,3 +1,6 @@
 pub mod Bound
 pub mod Accounts
 pub mod Blocks
+pub mod Times
+pub mod Keeping
+pub mod Walks

@@ -3,10 +3,10 @@
 ghost use Rattle.std.specs.Prelude.{◌≡◌, ◌≤◌, map, All};
 ghost use Rattle.die_service.specs.Runs.{AllArrive};
 
-use crate::feeds::{Job, both};
+use crate::feeds::{Job, both, three};
 use crate::made::ONES;
 use die_service::{
-    DieEnd, DieEnds, DiePass, Feed, Gate, RefusedAt, RefusedEvent, Store, run_slots,
+    DieEnd, DieEnds, DiePass, Feed, FreeGate, Gate, RefusedAt, RefusedEvent, Store, run_slots,
 };
 use flash_die::Nand;
 use slot_types::{Op, Refusal};
@@ -78,4 +78,30 @@ pub(crate) fn run_courses<N: Nand + Send, G: Gate + Sync, R: Threads + Wait + Sy
     let feeds = both(alloc, courses[0].0, courses[1].0)?;
     let ends = run(rt, store, passes, feeds, slots, workers, gate)?;
     Ok(are_ends(ends.as_slice(), courses))
+}
+
+// Whether three dies' runs ended as their courses say.
+fn are_three(ends: &[DieEnd], courses: &[Course; 3]) -> bool {
+    match ends {
+        [zero, one, two] => {
+            is_end(zero, &courses[0]) && is_end(one, &courses[1]) && is_end(two, &courses[2])
+        }
+        _ => false,
+    }
+}
+
+/// Runs three dies with their courses, and says whether each ended as it has to.
+pub(crate) fn run_three<N: Nand + Send, R: Threads + Wait + Sync>(
+    rt: &R,
+    alloc: Global,
+    store: &Store<N>,
+    passes: &mut Vec<DiePass<N>>,
+    courses: &[Course; 3],
+    slots: u32,
+) -> Result<bool, Refusal>
+    requires own { map (λ pass. pass.lock) passes.old.items ≡ store.now }
+{
+    let feeds = three(alloc, courses[0].0, courses[1].0, courses[2].0)?;
+    let ends = run(rt, store, passes, feeds, slots, 2, &FreeGate)?;
+    Ok(are_three(ends.as_slice(), courses))
 }

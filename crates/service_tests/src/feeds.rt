@@ -45,6 +45,22 @@ fn feed(alloc: Global, jobs: &[Job]) -> Result<Feed, Refusal>
     Ok(Feed::from_vec(events))
 }
 
+/// The feeds of three dies.
+pub(crate) fn three(
+    alloc: Global,
+    first: &[Job],
+    second: &[Job],
+    third: &[Job],
+) -> Result<Vec<Feed>, Refusal>
+    ensures { IfOk result (λ feeds. All AllArrive feeds.items) }
+{
+    let mut feeds = Vec::with_capacity(alloc, 3)?;
+    feeds.push_reserved(feed(alloc, first)?);
+    feeds.push_reserved(feed(alloc, second)?);
+    feeds.push_reserved(feed(alloc, third)?);
+    Ok(feeds)
+}
+
 /// The feeds of two dies.
 pub(crate) fn both(alloc: Global, first: &[Job], second: &[Job]) -> Result<Vec<Feed>, Refusal>
     ensures { IfOk result (λ feeds. All AllArrive feeds.items) }

@@ -4,6 +4,8 @@
 #[cfg(test)]
 mod courses;
 #[cfg(test)]
+mod dealt;
+#[cfg(test)]
 mod feeds;
 #[cfg(test)]
 mod held;

@@ -27,6 +27,7 @@ fn die_plan(alloc: Global) -> Result<DiePlan, Refusal> {
         logical: 12,
         alpha: 2,
         caps,
+        times: None,
     })
 }
 
@@ -82,6 +83,26 @@ pub(crate) fn faulty_dies(
     ensures { IfOk result (λ made. map (λ pass. pass.lock) made.1.items ≡ made.0) }
 {
     store_of(alloc, fused(alloc, 1)?, fused(alloc, 1000)?)
+}
+
+/// A store of three dies, the devices of which fail after so many calls.
+pub(crate) fn fused_dies(
+    alloc: Global,
+    calls: [u64; 3],
+) -> Result<
+    (
+        Store<FuseNand<MemoryNand>>,
+        Vec<DiePass<FuseNand<MemoryNand>>>,
+    ),
+    Refusal,
+>
+    ensures { IfOk result (λ made. map (λ pass. pass.lock) made.1.items ≡ made.0) }
+{
+    let mut nands = Vec::with_capacity(alloc, 3)?;
+    nands.push_reserved(fused(alloc, calls[0])?);
+    nands.push_reserved(fused(alloc, calls[1])?);
+    nands.push_reserved(fused(alloc, calls[2])?);
+    Store::new(alloc, plan(alloc, 3)?, nands)
 }
 
 /// A store of two dies with devices in memory.

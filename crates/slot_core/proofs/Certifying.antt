@@ -8,16 +8,14 @@ use Rattle.late_cert.specs.declared.rows.JobRow.{JobRow}
 use Rattle.late_cert.specs.declared.certificates.Certificate.{Certificate}
 use Rattle.late_cert.specs.Schedule.{Slots}
 use Rattle.late_cert.specs.Build.{certificate_of}
-use Rattle.late_cert.proofs.Binds.{binds}
-use Rattle.late_cert.proofs.Faults.{certificate-verdict}
 use Rattle.die_log.specs.Log.{Log, Job}
 use Rattle.die_log.specs.Work.{worst}
 use Rattle.die_log.specs.Answers.{IsExact}
-use Rattle.die_log.specs.Rows.{rows, carried_numbers, certificate, certificate_for, IsCertified}
-use Rattle.die_log.proofs.Least.Certificates.{worst_certified, none_is}
+use Rattle.die_log.specs.Rows.{rows, carried_numbers, certificate, certificate_for}
+use Rattle.die_log.proofs.Promises.{keeps_promises}
 use Rattle.slot_core.specs.declared.outcomes.Worst.{Worst}
 use Rattle.slot_core.specs.Outcomes.{worst_from, worst_of}
-use Rattle.slot_core.specs.Certified.{NothingDone, IsOfWorst, HoldsOver, BindsAll}
+use Rattle.die_log.specs.Certified.{NothingDone, IsOfWorst, HoldsOver, BindsAll}
 
 worst_named : (plan : DiePlan) (log : Log) (w : Worst) (o : Option Job) → Some w ≡ option_map (worst_from log) o → certificate_for plan log o ≡ certificate_of (rows plan log) (carried_numbers log) w.job
 worst_named plan log w None e = absurd (none-some w (sym e))
@@ -39,30 +37,21 @@ no_certificate plan log e = none_by plan log (worst plan log) e
 
 -- What is said of it
 
-of_worst : (plan : DiePlan) (log : Log) (c : Certificate) → MeetsBound plan → IsExact plan log → Some c ≡ certificate plan log → IsOfWorst plan log c
-of_worst plan log c bound exact is = by_worst (worst plan log) refl
-  where
-    by_worst : (o : Option Job) → worst plan log ≡ o → IsOfWorst plan log c
-    by_worst None e = absurd (none-some c (sym (is ∙ ap (certificate_for plan log) e)))
-    by_worst (Some j) e =
-        let d = worst_certified plan log j bound exact e in
-        (j, e, subst (IsCertified plan log j) (same_Some d.0 c (sym d.1 ∙ sym is)) d.2)
-
 pub none_said : (plan : DiePlan) (log : Log) (built : Option Certificate) → MeetsBound plan → IsExact plan log → built ≡ certificate plan log → (built ≡ None) ↔ NothingDone plan log
 none_said plan log built bound exact is =
-    subst (λ (o : Option Certificate). (o ≡ None) ↔ NothingDone plan log) (sym is) (none_is plan log bound exact)
+    subst (λ (o : Option Certificate). (o ≡ None) ↔ NothingDone plan log) (sym is) (keeps_promises plan bound log exact).uncertified
 
 pub worst_said : (plan : DiePlan) (log : Log) (built : Option Certificate) → MeetsBound plan → IsExact plan log → built ≡ certificate plan log → IfSome built (IsOfWorst plan log)
 worst_said plan log None bound exact is = tt
-worst_said plan log (Some c) bound exact is = of_worst plan log c bound exact is
+worst_said plan log (Some c) bound exact is = ((keeps_promises plan bound log exact).certified c (sym is)).0
 
 pub holds_said : (plan : DiePlan) (log : Log) (built : Option Certificate) → MeetsBound plan → IsExact plan log → built ≡ certificate plan log → IfSome built (HoldsOver plan log)
 holds_said plan log None bound exact is = tt
-holds_said plan log (Some c) bound exact is = certificate-verdict (rows plan log) c.start c.due c.completion c.jobs (of_worst plan log c bound exact is).2.own.holds
+holds_said plan log (Some c) bound exact is = ((keeps_promises plan bound log exact).certified c (sym is)).1
 
 pub binds_said : (plan : DiePlan) (log : Log) (built : Option Certificate) → MeetsBound plan → IsExact plan log → built ≡ certificate plan log → IfSome built (BindsAll plan log)
 binds_said plan log None bound exact is = tt
-binds_said plan log (Some c) bound exact is = binds (rows plan log) c.start c.due c.completion c.jobs (of_worst plan log c bound exact is).2.own.holds
+binds_said plan log (Some c) bound exact is = ((keeps_promises plan bound log exact).certified c (sym is)).2
 
 -- what is known of an answer
 pub ok_where : {A E : Type 0} (r : Result A E) (P Q : A → Type 0) → IfOk r P → ((a : A) → P a → Q a) → IfOk r Q

@@ -17,7 +17,7 @@ use Rattle.flash_volume.specs.declared.collection.Collection.{Collection}
 use Rattle.flash_die.specs.Flash as device
 use Rattle.die_log.specs.Log.{Log, Job, jobs, job_at, act_of, acts}
 use Rattle.die_log.specs.Flash.{Block, Cells, block_at, contents, cells, open_block, erased_once, ran_by, free_block, content}
-use Rattle.die_log.specs.Work.{writes}
+use Rattle.slot_types.specs.Operations.{writes}
 use Rattle.die_log.specs.Accounts.{accounts, after_act, after_waivers}
 use Rattle.die_log.specs.Answers.{IsExact, is_running}
 use Rattle.die_log.proofs.Collecting.{no_acts}

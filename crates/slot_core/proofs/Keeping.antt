@@ -1,9 +1,9 @@
 -- Arrivals keep what the fields of a die say of its log, and a fresh die has them so.
-use Rattle.std.proofs.Common.{◌≡◌, ℕ, zero, suc, ◌<◌, ◌≤◌, ◌==◌, ◌||◌, Bool, true, false, List, [], ◌∷◌, ◌++◌, None, refl, ap, sym, ◌∙◌, subst, length, map, reverse, slice_index, nat_lt, nat_le, ◌&&◌, not, inl, inr, ◌⊎◌, arith}
-use Rattle.std.proofs.lemmas.List.{length-map, reverse-append}
+use Rattle.std.proofs.Common.{◌≡◌, ℕ, zero, suc, ◌<◌, ◌≤◌, ◌==◌, ◌||◌, Bool, true, false, List, [], ◌∷◌, ◌++◌, None, refl, ap, sym, ◌∙◌, subst, length, map, slice_index, nat_lt, nat_le, ◌&&◌, not, inl, inr, ◌⊎◌, arith}
+use Rattle.std.proofs.lemmas.List.{length-map}
 use Rattle.std.proofs.lemmas.Bool.Decides.{nat_tests}
 use Rattle.std.specs.List.{list_any}
-use Rattle.std.specs.Prelude.{Result, Ok, Err, IfOk, IfErr, OnOk, OnErr, IsOk, ◌↔◌}
+use Rattle.std.specs.Prelude.{Result, Ok, Err, IfOk, IfErr, OnOk, IsOk, ◌↔◌}
 use Rattle.std.specs.Result.{IsErrAnd}
 use Rattle.slot_types.specs.declared.plans.DiePlan.{DiePlan}
 use Rattle.slot_types.specs.declared.plans.Shape.{Shape}
@@ -12,19 +12,18 @@ use Rattle.slot_types.specs.declared.refusals.Refusal.TheVariants.{BadShape, Bad
 use Rattle.slot_types.specs.declared.limits.TheConstants.{MAX_JOBS}
 use Rattle.slot_types.specs.declared.events.Op.{Op}
 use Rattle.slot_types.specs.declared.events.Event.TheVariants as events
-use Rattle.slot_types.specs.declared.replies.Entry.{Entry}
 use Rattle.slot_types.specs.declared.replies.Reply.{Reply}
 use Rattle.slot_types.specs.declared.replies.Reply.TheVariants as replies
 use Rattle.plan_rules.specs.Bound.{MeetsBound}
 use Rattle.plan_rules.specs.Accounts.{Accounts, admitted}
 use Rattle.flash_die.specs.Flash as device
 use Rattle.flash_volume.specs.State.{State, fresh_volume}
-use Rattle.late_cert.specs.Schedule.{Slots}
 use Rattle.job_table.specs.Jobs.{JobRecord, new_job, new_collection}
 use Rattle.job_table.specs.Table.{Table, empty_table, with_job}
 use Rattle.job_table.specs.Table as table_words
 use Rattle.die_log.specs.Log.{Log, Job, jobs, waived, is_waived}
-use Rattle.die_log.specs.Work.{is_done, is_collecting, writes}
+use Rattle.slot_types.specs.Operations.{writes}
+use Rattle.die_log.specs.Work.{is_done, is_collecting}
 use Rattle.die_log.specs.Accounts.{accounts}
 use Rattle.die_log.specs.Answers.{IsAccepted, answer, refusal_of, refusals}
 use Rattle.die_log.proofs.Legality.{entry, accepted_answer, none_stands}
@@ -47,10 +46,10 @@ some_ops (suc n) h = omega arith
 abbrev number_reply : ℕ → Reply
 number_reply n = replies.Taken n
 
-pub keeps_submit : (plan : DiePlan) (log : Log) (present : ℕ) (t : Table) (slots : Slots) (f : FlashState) (caller task release due : ℕ) (ops : List Op)
-    → Keeps plan log present t slots false f → refusal_of plan log (events.Submit task release due ops) ≡ None
-    → Keeps plan (entry caller (events.Submit task release due ops) (replies.Taken (length (jobs log))) ∷ log) present (with_job t (new_job task release due ops)) slots false (record f { tokens = admitted f.tokens task (writes ops) })
-keeps_submit plan log present t slots f caller task release due ops k none = record {
+pub keeps_submit : (plan : DiePlan) (log : Log) (present : ℕ) (t : Table) (f : FlashState) (caller task release due : ℕ) (ops : List Op)
+    → Keeps plan log present t false f → refusal_of plan log (events.Submit task release due ops) ≡ None
+    → Keeps plan (entry caller (events.Submit task release due ops) (replies.Taken (length (jobs log))) ∷ log) present (with_job t (new_job task release due ops)) false (record f { tokens = admitted f.tokens task (writes ops) })
+keeps_submit plan log present t f caller task release due ops k none = record {
   exact = (k.exact, sym (accepted_answer plan log (events.Submit task release due ops) none), tt);
   bound = k.bound;
   now_is = k.now_is;
@@ -58,17 +57,16 @@ keeps_submit plan log present t slots f caller task release due ops k none = rec
   clock_by = k.clock_by;
   ended_is = k.ended_is;
   jobs_are = ap (λ js. js ++ new_job task release due ops ∷ []) k.jobs_are ∙ sym (records-submit plan log caller task release due ops k.exact some);
-  slots_are = k.slots_are;
   flash = λ alive. flash-submit plan log caller task release due ops f k.exact (k.flash alive);
 }
   where
     some : 0 < length ops
     some = some_ops (length ops) ((none_stands (refusals plan log (events.Submit task release due ops)) none).1.0)
 
-pub keeps_collect : (plan : DiePlan) (log : Log) (present : ℕ) (t : Table) (slots : Slots) (f : FlashState) (caller task release due : ℕ)
-    → Keeps plan log present t slots false f → refusal_of plan log (events.Collect task release due) ≡ None
-    → Keeps plan (entry caller (events.Collect task release due) (replies.Taken (length (jobs log))) ∷ log) present (with_job t (new_collection task release due)) slots false f
-keeps_collect plan log present t slots f caller task release due k none = record {
+pub keeps_collect : (plan : DiePlan) (log : Log) (present : ℕ) (t : Table) (f : FlashState) (caller task release due : ℕ)
+    → Keeps plan log present t false f → refusal_of plan log (events.Collect task release due) ≡ None
+    → Keeps plan (entry caller (events.Collect task release due) (replies.Taken (length (jobs log))) ∷ log) present (with_job t (new_collection task release due)) false f
+keeps_collect plan log present t f caller task release due k none = record {
   exact = (k.exact, sym (accepted_answer plan log (events.Collect task release due) none), tt);
   bound = k.bound;
   now_is = k.now_is;
@@ -76,17 +74,16 @@ keeps_collect plan log present t slots f caller task release due k none = record
   clock_by = k.clock_by;
   ended_is = k.ended_is;
   jobs_are = ap (λ js. js ++ new_collection task release due ∷ []) k.jobs_are ∙ sym (records-collect plan log caller task release due k.exact (has_slots plan k.bound));
-  slots_are = k.slots_are;
   flash = λ alive. flash-collect plan log caller task release due f k.exact (k.flash alive);
 }
 
 -- At the start, and with a call's values as they come
 
-pub keeps_start : {N : Type 0} (blocks_of : N → List device.Block) (plan : DiePlan) (nand : N) (log : Log) (t : Table) (slots : Slots) (v : State N)
-    → MeetsBound plan → blocks_of nand ≡ device.fresh_blocks plan.shape → log ≡ [] → t ≡ empty_table (length plan.caps) → slots ≡ [] → v ≡ fresh_volume plan nand
-    → Keeps v.accounts.plan log 0 t slots v.failed (flash_of blocks_of v)
-keeps_start blocks_of plan nand log t slots v bound fresh none table_is none_carried volume_is =
-    rw volume_is (rw none (rw table_is (rw none_carried (record {
+pub keeps_start : {N : Type 0} (blocks_of : N → List device.Block) (plan : DiePlan) (nand : N) (log : Log) (t : Table) (v : State N)
+    → MeetsBound plan → blocks_of nand ≡ device.fresh_blocks plan.shape → log ≡ [] → t ≡ empty_table (length plan.caps) → v ≡ fresh_volume plan nand
+    → Keeps v.accounts.plan log 0 t v.failed (flash_of blocks_of v)
+keeps_start blocks_of plan nand log t v bound fresh none table_is volume_is =
+    rw volume_is (rw none (rw table_is (record {
       exact = tt;
       bound = bound;
       now_is = refl;
@@ -94,9 +91,8 @@ keeps_start blocks_of plan nand log t slots v bound fresh none table_is none_car
       clock_by = omega arith;
       ended_is = refl;
       jobs_are = refl;
-      slots_are = refl;
       flash = λ alive. subst (λ (bs : List device.Block). IsFlashOf plan [] (record (fresh_state plan) { blocks = bs })) (sym fresh) (fresh_flash plan);
-    }))))
+    })))
 
 balance_enough : (have need : ℕ) → nat_lt have need ≡ false → need ≤ have
 balance_enough have need h = grind (arith, nat_tests)
@@ -110,23 +106,23 @@ tokens_suffice plan log task release due ops tokens is none =
 pub jobs_counted : (plan : DiePlan) (log : Log) (t : Table) → t.jobs ≡ records plan log → length t.jobs ≡ length (jobs log)
 jobs_counted plan log t is = ap length is ∙ length-map (jobs log) (record_with plan log (waived log))
 
-pub submit_kept : {N : Type 0} (blocks_of : N → List device.Block) (log later : Log) (present caller number task release due : ℕ) (ops : List Op) (t u : Table) (slots : Slots) (v w : State N)
-    → Keeps v.accounts.plan log present t slots v.failed (flash_of blocks_of v) → v.failed ≡ false
+pub submit_kept : {N : Type 0} (blocks_of : N → List device.Block) (log later : Log) (present caller number task release due : ℕ) (ops : List Op) (t u : Table) (v w : State N)
+    → Keeps v.accounts.plan log present t v.failed (flash_of blocks_of v) → v.failed ≡ false
     → refusal_of v.accounts.plan log (events.Submit task release due ops) ≡ None → number ≡ length t.jobs → u ≡ with_job t (new_job task release due ops)
     → w ≡ record v { accounts = admitted v.accounts task (writes ops) } → later ≡ with_entry caller (events.Submit task release due ops) (replies.Taken number) log
-    → Keeps w.accounts.plan later present u slots w.failed (flash_of blocks_of w)
-submit_kept blocks_of log later present caller number task release due ops t u slots v w k alive none number_is table_is volume_is log_is =
+    → Keeps w.accounts.plan later present u w.failed (flash_of blocks_of w)
+submit_kept blocks_of log later present caller number task release due ops t u v w k alive none number_is table_is volume_is log_is =
     rw volume_is (rw table_is (rw log_is (rw alive (rw (number_is ∙ jobs_counted v.accounts.plan log t k.jobs_are)
-    (keeps_submit v.accounts.plan log present t slots (flash_of blocks_of v) caller task release due ops (subst (λ (b : Bool). Keeps v.accounts.plan log present t slots b (flash_of blocks_of v)) alive k) none)))))
+    (keeps_submit v.accounts.plan log present t (flash_of blocks_of v) caller task release due ops (subst (λ (b : Bool). Keeps v.accounts.plan log present t b (flash_of blocks_of v)) alive k) none)))))
 
-pub collect_kept : {N : Type 0} (blocks_of : N → List device.Block) (log later : Log) (present caller number task release due : ℕ) (t u : Table) (slots : Slots) (v : State N)
-    → Keeps v.accounts.plan log present t slots v.failed (flash_of blocks_of v) → v.failed ≡ false
+pub collect_kept : {N : Type 0} (blocks_of : N → List device.Block) (log later : Log) (present caller number task release due : ℕ) (t u : Table) (v : State N)
+    → Keeps v.accounts.plan log present t v.failed (flash_of blocks_of v) → v.failed ≡ false
     → refusal_of v.accounts.plan log (events.Collect task release due) ≡ None → number ≡ length t.jobs → u ≡ with_job t (new_collection task release due)
     → later ≡ with_entry caller (events.Collect task release due) (replies.Taken number) log
-    → Keeps v.accounts.plan later present u slots v.failed (flash_of blocks_of v)
-collect_kept blocks_of log later present caller number task release due t u slots v k alive none number_is table_is log_is =
+    → Keeps v.accounts.plan later present u v.failed (flash_of blocks_of v)
+collect_kept blocks_of log later present caller number task release due t u v k alive none number_is table_is log_is =
     rw table_is (rw log_is (rw alive (rw (number_is ∙ jobs_counted v.accounts.plan log t k.jobs_are)
-    (keeps_collect v.accounts.plan log present t slots (flash_of blocks_of v) caller task release due (subst (λ (b : Bool). Keeps v.accounts.plan log present t slots b (flash_of blocks_of v)) alive k) none))))
+    (keeps_collect v.accounts.plan log present t (flash_of blocks_of v) caller task release due (subst (λ (b : Bool). Keeps v.accounts.plan log present t b (flash_of blocks_of v)) alive k) none))))
 
 pub submit_accepts : (plan : DiePlan) (log : Log) (task release due : ℕ) (ops : List Op) → refusal_of plan log (events.Submit task release due ops) ≡ None → IsAccepted (answer plan log (events.Submit task release due ops))
 submit_accepts plan log task release due ops none = subst IsAccepted (sym (accepted_answer plan log (events.Submit task release due ops) none)) tt
@@ -203,22 +199,13 @@ admit_made v w task count ops r is enough made accepted =
 
 -- What a collection's entry leaves, as it comes
 
-if_ok : {A E : Type 0} (r : Result A E) (P Q : A → Type 0) → IfOk r P → ((x : A) → P x → Q x) → IfOk r Q
+pub if_ok : {A E : Type 0} (r : Result A E) (P Q : A → Type 0) → IfOk r P → ((x : A) → P x → Q x) → IfOk r Q
 if_ok (Ok x) P Q h f = f x h
 if_ok (Err e) P Q h f = tt
 
 if_err : {A E : Type 0} (r : Result A E) (P Q : E → Type 0) → IfErr r P → ((e : E) → P e → Q e) → IfErr r Q
 if_err (Ok x) P Q h f = tt
 if_err (Err e) P Q h f = f e h
-
-pub collect_entered : {N : Type 0} (blocks_of : N → List device.Block) (before after : List Entry) (present caller task release due : ℕ) (t u : Table) (slots : Slots) (v : State N) (r : Result ℕ Refusal)
-    → Keeps v.accounts.plan (reverse before) present t slots v.failed (flash_of blocks_of v) → v.failed ≡ false → refusal_of v.accounts.plan (reverse before) (events.Collect task release due) ≡ None
-    → OnOk r (u ≡ with_job t (new_collection task release due)) → IfOk r (λ number. number ≡ length t.jobs) → IfOk r (λ number. after ≡ before ++ entry caller (events.Collect task release due) (replies.Taken number) ∷ [])
-    → OnErr r (u ≡ t) → OnErr r (after ≡ before)
-    → Keeps v.accounts.plan (reverse after) present u slots v.failed (flash_of blocks_of v)
-collect_entered blocks_of before after present caller task release due t u slots v (Ok number) k alive none table_is number_is logged table_stays log_stays =
-    collect_kept blocks_of (reverse before) (reverse after) present caller number task release due t u slots v k alive none number_is table_is (ap reverse logged ∙ reverse-append before _)
-collect_entered blocks_of before after present caller task release due t u slots v (Err refusal) k alive none table_is number_is logged table_stays log_stays = rw table_stays (rw log_stays k)
 
 pub collect_answered : (plan : DiePlan) (log : Log) (t : Table) (task release due : ℕ) (r : Result ℕ Refusal) → refusal_of plan log (events.Collect task release due) ≡ None → t.jobs ≡ records plan log → IfOk r (λ number. number ≡ length t.jobs)
     → IfOk r (λ number. answer plan log (events.Collect task release due) ≡ replies.Taken number)

@@ -9,11 +9,16 @@ pub mod Victims
 pub mod Taking
 pub mod Waiving
 pub mod Keeping
+pub mod Telling
 pub mod Serving
 pub mod Turning
 pub mod Beginning
 pub mod Slotting
+pub mod Noting
 pub mod Running
+pub mod Adding
 pub mod Worsts
 pub mod Rowing
 pub mod Certifying
+pub mod Planning
+pub mod Accepting

@@ -29,7 +29,7 @@ use Rattle.die_log.proofs.Legality.{entry}
 use Rattle.die_log.proofs.Standing.Longer.{acts_stay, acts_grow}
 use Rattle.die_log.proofs.Collecting.{no_acts}
 use Rattle.die_log.specs.Flash.{contents, written, ran_by}
-use Rattle.die_log.specs.Work.{is_write, writes}
+use Rattle.slot_types.specs.Operations.{is_write, writes}
 use Rattle.die_log.specs.Held.{Agree, held_of, left_of, at_task}
 use Rattle.die_log.proofs.Tokens.Amounts.{at_itself}
 use Rattle.slot_core.specs.Records.{reads_of, bytes_read}

@@ -1,8 +1,8 @@
 -- A slot keeps what the fields of a die say of its log.
-use Rattle.std.proofs.Common.{◌≡◌, ℕ, zero, suc, ◌+◌, ◌<◌, ◌≤◌, ◌==◌, ◌&&◌, ◌||◌, not, nat_le, Bool, true, false, List, [], ◌∷◌, ◌++◌, Option, Some, None, option_map, refl, ap, sym, ◌∙◌, subst, length, map, reverse, slice_get, slice_index_or, if◌then◌else◌, append-nil, arith}
+use Rattle.std.proofs.Common.{◌≡◌, ℕ, zero, suc, ◌+◌, ◌<◌, ◌≤◌, ◌==◌, ◌&&◌, ◌||◌, not, nat_le, Bool, true, false, List, [], ◌∷◌, ◌++◌, Option, Some, None, option_map, refl, ap, sym, ◌∙◌, subst, length, map, slice_get, slice_index_or, if◌then◌else◌, append-nil, arith}
 use Rattle.std.proofs.lemmas.Bool.{and_parts, not-true, true≢false}
 use Rattle.std.proofs.lemmas.Bool.Decides.{nat_tests}
-use Rattle.std.proofs.lemmas.List.{length_push, reverse-append}
+use Rattle.std.proofs.lemmas.List.{length_push}
 use Rattle.std.proofs.lemmas.Option.{same_Some}
 use Rattle.slot_types.specs.declared.plans.DiePlan.{DiePlan}
 use Rattle.slot_types.specs.declared.limits.TheConstants.{MAX_SLOT}
@@ -14,7 +14,6 @@ use Rattle.slot_types.specs.declared.events.Op.{Op}
 use Rattle.slot_types.specs.declared.events.Op.TheVariants as asks
 use Rattle.slot_types.specs.declared.events.Event.TheVariants as events
 use Rattle.slot_types.specs.declared.replies.Reply.TheVariants as replies
-use Rattle.slot_types.specs.declared.replies.Entry.{Entry}
 use Rattle.slot_types.specs.declared.replies.SlotReply.{SlotReply}
 use Rattle.slot_types.specs.declared.replies.Waived.{Waived}
 use Rattle.flash_die.specs.Flash as device
@@ -34,7 +33,8 @@ use Rattle.late_cert.specs.Schedule.{Slots}
 use Rattle.die_log.specs.Log.{Log, Job, Carried, jobs, job_at, carried, acts, waived, is_waived, now, work}
 use Rattle.die_log.specs.Flash as flash
 use Rattle.die_log.specs.Flash.{cells, contents, free}
-use Rattle.die_log.specs.Work.{is_done, are_all, is_write, owed}
+use Rattle.slot_types.specs.Operations.{is_write}
+use Rattle.die_log.specs.Work.{is_done, are_all, owed}
 use Rattle.die_log.specs.Accounts.{accounts}
 use Rattle.die_log.specs.Answers.{answer, accepted, IsAccepted, refusal_of, Choice, choice, slot_reply, reply_with, act_for, act_of_op}
 use Rattle.die_log.specs.Held.{held_of, lent_to, IsTaken as IsOfPlan}
@@ -55,7 +55,7 @@ use Rattle.slot_core.specs.declared.turn.Turn.{Turn}
 use Rattle.slot_core.specs.Turns.{is_read_act, after_read, finished, after_turn, turn_by, DidOp, DidBy, DidTurn}
 use Rattle.slot_core.proofs.Choosing.{starts, begins, ends}
 use Rattle.slot_core.proofs.Collections.{running_acted}
-use Rattle.slot_core.proofs.Recording.{records-idle, records-act, acted_is, acted_record, acted_reply, slot_of}
+use Rattle.slot_core.proofs.Recording.{records-idle, records-act, acted_is, acted_record, acted_reply}
 use Rattle.slot_core.proofs.Heading.{is_some_waiver, waiver_is, among_both, nothing_least, pending_is}
 use Rattle.slot_core.proofs.Flashing.{slot_entry, slot_with, unwaived_flash, flash-idle, flash-read, flash-write, content_is}
 use Rattle.slot_core.proofs.Opened.{opens_same}
@@ -75,8 +75,8 @@ unrefused plan log present s = rw (past_clock MAX_SLOT (now log) s.few) refl
 
 -- The slot begins
 
-starts_with : (plan : DiePlan) (log : Log) (present : ℕ) (t : Table) (slots : Slots) (f : FlashState) → Keeps plan log present t slots false f → present < MAX_SLOT → t.clock ≡ present → InSlot plan log present [] t f
-starts_with plan log present t slots f k few clock = record {
+starts_with : (plan : DiePlan) (log : Log) (present : ℕ) (t : Table) (f : FlashState) → Keeps plan log present t false f → present < MAX_SLOT → t.clock ≡ present → InSlot plan log present [] t f
+starts_with plan log present t f k few clock = record {
   slot = record { exact = k.exact; bound = k.bound; now_is = k.now_is; few = subst (λ (n : ℕ). n < MAX_SLOT) k.now_is few };
   table = record {
     tasks_are = k.tasks_are;
@@ -91,38 +91,20 @@ starts_with plan log present t slots f k few clock = record {
   running = (k.flash refl).running_are;
 }
 
-pub slot_starts : {N : Type 0} (blocks_of : N → List device.Block) (log : Log) (present : ℕ) (t : Table) (slots : Slots) (v : State N) → Keeps v.accounts.plan log present t slots v.failed (flash_of blocks_of v) → v.failed ≡ false → present < MAX_SLOT
+pub slot_starts : {N : Type 0} (blocks_of : N → List device.Block) (log : Log) (present : ℕ) (t : Table) (v : State N) → Keeps v.accounts.plan log present t v.failed (flash_of blocks_of v) → v.failed ≡ false → present < MAX_SLOT
     → t.clock ≡ present → InSlot v.accounts.plan log present [] t (flash_of blocks_of v)
-slot_starts blocks_of log present t slots v k alive few clock =
-    starts_with v.accounts.plan log present t slots (flash_of blocks_of v) (subst (λ (b : Bool). Keeps v.accounts.plan log present t slots b (flash_of blocks_of v)) alive k) few clock
-
--- a table asked for its head
-pub clock_kept : (plan : DiePlan) (log : Log) (present : ℕ) (t u : Table) (slots : Slots) (failed : Bool) (f : FlashState) → Keeps plan log present t slots failed f → u ≡ record t { clock = present } → Keeps plan log present u slots failed f
-clock_kept plan log present t u slots failed f k is = rw is (record {
-  exact = k.exact;
-  bound = k.bound;
-  now_is = k.now_is;
-  tasks_are = k.tasks_are;
-  clock_by = omega arith;
-  ended_is = k.ended_is;
-  jobs_are = k.jobs_are;
-  slots_are = k.slots_are;
-  flash = k.flash;
-})
-
-numbers_more : (c : Carried) (cs : List Carried) → map (λ (x : Carried). option_map (λ ran. ran.0) x) (cs ++ c ∷ []) ≡ map (λ (x : Carried). option_map (λ ran. ran.0) x) cs ++ option_map (λ ran. ran.0) c ∷ []
-numbers_more c [] = refl
-numbers_more c (x ∷ cs) = ap (λ ys. option_map (λ ran. ran.0) x ∷ ys) (numbers_more c cs)
+slot_starts blocks_of log present t v k alive few clock =
+    starts_with v.accounts.plan log present t (flash_of blocks_of v) (subst (λ (b : Bool). Keeps v.accounts.plan log present t b (flash_of blocks_of v)) alive k) few clock
 
 -- Without a head
 
 abbrev pub idle_reply : ℕ → List Waived → SlotReply
 idle_reply slot ws = record { slot = slot; waived = ws; ran = None; finished = None }
 
-pub slot_idles : (plan : DiePlan) (log : Log) (present : ℕ) (ws : List Waived) (t : Table) (slots : Slots) (f : FlashState) (caller : ℕ) → slots ≡ carried_numbers log → InSlot plan log present ws t f → table.NothingReady t
-    → Keeps plan (entry caller events.Slot (replies.Slot (idle_reply present ws)) ∷ log) (present + 1) t (slots ++ None ∷ []) false f × (accepted plan log events.Slot ≡ replies.Slot (idle_reply present ws))
-slot_idles plan log present ws t slots f caller slots_are s nothing =
-    (subst (λ (n : ℕ). Keeps plan (entry caller events.Slot (replies.Slot (idle_reply n ws)) ∷ log) (present + 1) t (slots ++ None ∷ []) false f) (sym s.slot.now_is) kept, rw s.slot.now_is replied)
+pub slot_idles : (plan : DiePlan) (log : Log) (present : ℕ) (ws : List Waived) (t : Table) (f : FlashState) (caller : ℕ) → InSlot plan log present ws t f → table.NothingReady t
+    → Keeps plan (entry caller events.Slot (replies.Slot (idle_reply present ws)) ∷ log) (present + 1) t false f × (accepted plan log events.Slot ≡ replies.Slot (idle_reply present ws))
+slot_idles plan log present ws t f caller s nothing =
+    (subst (λ (n : ℕ). Keeps plan (entry caller events.Slot (replies.Slot (idle_reply n ws)) ∷ log) (present + 1) t false f) (sym s.slot.now_is) kept, rw s.slot.now_is replied)
   where
     chosen : choice plan log ≡ record { waived = ws; head = None }
     chosen = ends plan log ws f.tokens s.goes_on (nothing_least plan log ws (length plan.caps) false (subst table.NothingReady (table_is plan log ws t s.table) nothing))
@@ -130,7 +112,7 @@ slot_idles plan log present ws t slots f caller slots_are s nothing =
     replied : accepted plan log events.Slot ≡ replies.Slot (idle_reply (now log) ws)
     replied = ap (λ (c : Choice). replies.Slot (slot_reply plan log c.waived c.head)) chosen
 
-    kept : Keeps plan (entry caller events.Slot (replies.Slot (idle_reply (now log) ws)) ∷ log) (present + 1) t (slots ++ None ∷ []) false f
+    kept : Keeps plan (entry caller events.Slot (replies.Slot (idle_reply (now log) ws)) ∷ log) (present + 1) t false f
     kept = record {
       exact = (s.slot.exact, sym (accepted_answer plan log events.Slot (unrefused plan log present s.slot) ∙ replied), tt);
       bound = s.slot.bound;
@@ -139,16 +121,15 @@ slot_idles plan log present ws t slots f caller slots_are s nothing =
       clock_by = omega (arith, s.table.clock_is, s.slot.now_is);
       ended_is = s.table.running;
       jobs_are = s.table.jobs_are ∙ sym (records-idle plan log caller ws);
-      slots_are = ap (λ ns. ns ++ None ∷ []) slots_are ∙ sym (numbers_more None (carried log));
       flash = λ alive. flash-idle plan log caller (now log) ws f s.flash s.running;
     }
 
-pub idle_kept : {N : Type 0} (blocks_of : N → List device.Block) (log later : Log) (present caller : ℕ) (ws : List Waived) (t : Table) (slots after : Slots) (v : State N) (reply : SlotReply) → slots ≡ carried_numbers log
-    → InSlot v.accounts.plan log present ws t (flash_of blocks_of v) → table.NothingReady t → v.failed ≡ false → after ≡ slots ++ None ∷ [] → reply ≡ idle_reply present ws → later ≡ with_entry caller events.Slot (replies.Slot reply) log
-    → Keeps v.accounts.plan later (present + 1) t after v.failed (flash_of blocks_of v) × (answer v.accounts.plan log events.Slot ≡ replies.Slot reply)
-idle_kept blocks_of log later present caller ws t slots after v reply slots_are s nothing alive after_is reply_is later_is =
-    let done = slot_idles v.accounts.plan log present ws t slots (flash_of blocks_of v) caller slots_are s nothing in (
-      rw later_is (rw reply_is (rw after_is (rw alive done.0))),
+pub idle_kept : {N : Type 0} (blocks_of : N → List device.Block) (log later : Log) (present caller : ℕ) (ws : List Waived) (t : Table) (v : State N) (reply : SlotReply)
+    → InSlot v.accounts.plan log present ws t (flash_of blocks_of v) → table.NothingReady t → v.failed ≡ false → reply ≡ idle_reply present ws → later ≡ with_entry caller events.Slot (replies.Slot reply) log
+    → Keeps v.accounts.plan later (present + 1) t v.failed (flash_of blocks_of v) × (answer v.accounts.plan log events.Slot ≡ replies.Slot reply)
+idle_kept blocks_of log later present caller ws t v reply s nothing alive reply_is later_is =
+    let done = slot_idles v.accounts.plan log present ws t (flash_of blocks_of v) caller s nothing in (
+      rw later_is (rw reply_is (rw alive done.0)),
       accepted_answer v.accounts.plan log events.Slot (unrefused v.accounts.plan log present s.slot) ∙ (done.1 ∙ ap replies.Slot (sym reply_is)),
     )
 
@@ -261,10 +242,10 @@ changed_twice (x ∷ xs) zero f g = refl
 changed_twice (x ∷ xs) (suc n) f g = ap (λ ys. x ∷ ys) (changed_twice xs n f g)
 
 -- what the turn does to the head's record
-abbrev turned : Turn → ℕ → JobRecord → JobRecord
+abbrev pub turned : Turn → ℕ → JobRecord → JobRecord
 turned turn completion r = if turn.last then with_stage (Done completion turn.given) (after_read turn.act (jobs_table.carried r)) else after_read turn.act (jobs_table.carried r)
 
-turn_change : (t : Table) (n : ℕ) (turn : Turn) (completion : ℕ) → after_turn t n turn completion ≡ with_change t n (turned turn completion)
+pub turn_change : (t : Table) (n : ℕ) (turn : Turn) (completion : ℕ) → after_turn t n turn completion ≡ with_change t n (turned turn completion)
 turn_change t n turn completion = by_last turn.last
   where
     by_last : (b : Bool) → finished b n completion turn.given (with_change t n (λ job. after_read turn.act (jobs_table.carried job)))
@@ -306,11 +287,11 @@ turned_is blocks_of log present caller ws t n v w turn h k = by_last turn.last r
 abbrev pub turn_reply : ℕ → List Waived → ℕ → Turn → SlotReply
 turn_reply slot ws n turn = record { slot = slot; waived = ws; ran = Some (n, turn.act); finished = if turn.last then Some n else None }
 
-slot_acts : {N : Type 0} (blocks_of : N → List device.Block) (log : Log) (present caller : ℕ) (ws : List Waived) (t : Table) (slots : Slots) (n : ℕ) (v w : State N) (turn : Turn) → slots ≡ carried_numbers log
+slot_acts : {N : Type 0} (blocks_of : N → List device.Block) (log : Log) (present caller : ℕ) (ws : List Waived) (t : Table) (n : ℕ) (v w : State N) (turn : Turn)
     → (h : HasTurn v.accounts.plan log present ws t (flash_of blocks_of v) n) → IsTaken blocks_of log caller ws h.job v w turn
-    → Keeps v.accounts.plan (with_entry caller events.Slot (replies.Slot (turn_reply (now log) ws h.job.number turn)) log) (present + 1) (with_change t h.job.number (turned turn (present + 1))) (slots ++ Some h.job.number ∷ []) false (flash_of blocks_of w)
+    → Keeps v.accounts.plan (with_entry caller events.Slot (replies.Slot (turn_reply (now log) ws h.job.number turn)) log) (present + 1) (with_change t h.job.number (turned turn (present + 1))) false (flash_of blocks_of w)
     × (accepted v.accounts.plan log events.Slot ≡ replies.Slot (turn_reply (now log) ws h.job.number turn))
-slot_acts blocks_of log present caller ws t slots n v w turn slots_are h k = (kept, replied)
+slot_acts blocks_of log present caller ws t n v w turn h k = (kept, replied)
   where
     plan : DiePlan
     plan = v.accounts.plan
@@ -327,7 +308,7 @@ slot_acts blocks_of log present caller ws t slots n v w turn slots_are h k = (ke
         ∙ (ap (λ (o : Option Act). replies.Slot (reply_with v.accounts.plan log ws h.job o)) k.act_is
         ∙ ap (λ (b : Bool). replies.Slot (acted_reply log ws h.job.number turn.act b)) k.last_is)
 
-    kept : Keeps v.accounts.plan (with_entry caller events.Slot (replies.Slot (turn_reply (now log) ws h.job.number turn)) log) (present + 1) (with_change t h.job.number (turned turn (present + 1))) (slots ++ Some h.job.number ∷ []) false (flash_of blocks_of w)
+    kept : Keeps v.accounts.plan (with_entry caller events.Slot (replies.Slot (turn_reply (now log) ws h.job.number turn)) log) (present + 1) (with_change t h.job.number (turned turn (present + 1))) false (flash_of blocks_of w)
     kept = record {
       exact = (h.slot.exact, sym (accepted_answer v.accounts.plan log events.Slot (unrefused v.accounts.plan log present h.slot) ∙ replied), tt);
       bound = h.slot.bound;
@@ -337,19 +318,18 @@ slot_acts blocks_of log present caller ws t slots n v w turn slots_are h k = (ke
       ended_is = h.table.running;
       jobs_are = ap (λ (js : List JobRecord). changed_at js h.job.number (turned turn (present + 1))) h.table.jobs_are
           ∙ records-act v.accounts.plan log caller ws h.job turn.act turn.last (turned turn (present + 1)) job.both.0.numbered job.own_at (turned_is blocks_of log present caller ws t n v w turn h k);
-      slots_are = ap (λ ns. ns ++ Some h.job.number ∷ []) slots_are ∙ sym (numbers_more (Some (h.job.number, turn.act)) (carried log));
       flash = λ alive. k.flash (now log) (if turn.last then Some h.job.number else None);
     }
 
-pub turn_kept : {N : Type 0} (blocks_of : N → List device.Block) (log later : Log) (present caller : ℕ) (ws : List Waived) (t x : Table) (slots after : Slots) (n : ℕ) (v w : State N) (r : JobRecord) (turn : Turn) (reply : SlotReply) → slots ≡ carried_numbers log
+pub turn_kept : {N : Type 0} (blocks_of : N → List device.Block) (log later : Log) (present caller : ℕ) (ws : List Waived) (t x : Table) (n : ℕ) (v w : State N) (r : JobRecord) (turn : Turn) (reply : SlotReply)
     → HasTurn v.accounts.plan log present ws t (flash_of blocks_of v) n → slice_get t.jobs n ≡ Some r → DidTurn blocks_of v r turn w → w.accounts.plan ≡ v.accounts.plan → w.failed ≡ false
-    → x ≡ after_turn t n turn (present + 1) → after ≡ slots ++ Some n ∷ [] → reply ≡ turn_reply present ws n turn → later ≡ with_entry caller events.Slot (replies.Slot reply) log
-    → Keeps w.accounts.plan later (present + 1) x after w.failed (flash_of blocks_of w) × (answer v.accounts.plan log events.Slot ≡ replies.Slot reply)
-turn_kept blocks_of log later present caller ws t x slots after n v w r turn reply slots_are h at did plan_is well table_after after_is reply_is later_is = (
-  subst (λ (p : DiePlan). Keeps p later (present + 1) x after w.failed (flash_of blocks_of w)) (sym plan_is)
-      (rw later_is (rw reply_is (rw after_is (rw well (rw (table_after ∙ turn_change t n turn (present + 1))
-      (subst (λ (m : ℕ). Keeps v.accounts.plan (with_entry caller events.Slot (replies.Slot (turn_reply m ws n turn)) log) (present + 1) (with_change t n (turned turn (present + 1))) (slots ++ Some n ∷ []) false (flash_of blocks_of w)) (sym h.slot.now_is)
-      (subst (λ (m : ℕ). Keeps v.accounts.plan (with_entry caller events.Slot (replies.Slot (turn_reply (now log) ws m turn)) log) (present + 1) (with_change t m (turned turn (present + 1))) (slots ++ Some m ∷ []) false (flash_of blocks_of w)) job.number_is done.0))))))),
+    → x ≡ after_turn t n turn (present + 1) → reply ≡ turn_reply present ws n turn → later ≡ with_entry caller events.Slot (replies.Slot reply) log
+    → Keeps w.accounts.plan later (present + 1) x w.failed (flash_of blocks_of w) × (answer v.accounts.plan log events.Slot ≡ replies.Slot reply)
+turn_kept blocks_of log later present caller ws t x n v w r turn reply h at did plan_is well table_after reply_is later_is = (
+  subst (λ (p : DiePlan). Keeps p later (present + 1) x w.failed (flash_of blocks_of w)) (sym plan_is)
+      (rw later_is (rw reply_is (rw well (rw (table_after ∙ turn_change t n turn (present + 1))
+      (subst (λ (m : ℕ). Keeps v.accounts.plan (with_entry caller events.Slot (replies.Slot (turn_reply m ws n turn)) log) (present + 1) (with_change t n (turned turn (present + 1))) false (flash_of blocks_of w)) (sym h.slot.now_is)
+      (subst (λ (m : ℕ). Keeps v.accounts.plan (with_entry caller events.Slot (replies.Slot (turn_reply (now log) ws m turn)) log) (present + 1) (with_change t m (turned turn (present + 1))) false (flash_of blocks_of w)) job.number_is done.0)))))),
   accepted_answer v.accounts.plan log events.Slot (unrefused v.accounts.plan log present h.slot)
       ∙ (done.1 ∙ (ap (λ (m : ℕ). replies.Slot (turn_reply (now log) ws m turn)) job.number_is ∙ (ap (λ (m : ℕ). replies.Slot (turn_reply m ws n turn)) (sym h.slot.now_is) ∙ ap replies.Slot (sym reply_is)))),
 )
@@ -360,9 +340,9 @@ turn_kept blocks_of log later present caller ws t x slots after n v w r turn rep
     record_is : r ≡ record_with v.accounts.plan log (waived log ++ ws) h.job
     record_is = same_Some r (record_with v.accounts.plan log (waived log ++ ws) h.job) (sym at ∙ job.record_at)
 
-    done : Keeps v.accounts.plan (with_entry caller events.Slot (replies.Slot (turn_reply (now log) ws h.job.number turn)) log) (present + 1) (with_change t h.job.number (turned turn (present + 1))) (slots ++ Some h.job.number ∷ []) false (flash_of blocks_of w)
+    done : Keeps v.accounts.plan (with_entry caller events.Slot (replies.Slot (turn_reply (now log) ws h.job.number turn)) log) (present + 1) (with_change t h.job.number (turned turn (present + 1))) false (flash_of blocks_of w)
         × (accepted v.accounts.plan log events.Slot ≡ replies.Slot (turn_reply (now log) ws h.job.number turn))
-    done = slot_acts blocks_of log present caller ws t slots n v w turn slots_are h (took_turn blocks_of log present caller ws t n v w turn h (subst (λ (x : JobRecord). DidTurn blocks_of v x turn w) record_is did))
+    done = slot_acts blocks_of log present caller ws t n v w turn h (took_turn blocks_of log present caller ws t n v w turn h (subst (λ (x : JobRecord). DidTurn blocks_of v x turn w) record_is did))
 
 -- a turn carries a read where the next operation is one
 pub turn_reads : {N : Type 0} (blocks_of : N → List device.Block) (log : Log) (present : ℕ) (ws : List Waived) (t : Table) (n : ℕ) (v w : State N) (r : JobRecord) (turn : Turn) → HasTurn v.accounts.plan log present ws t (flash_of blocks_of v) n → slice_get t.jobs n ≡ Some r
@@ -400,24 +380,6 @@ turn_reads blocks_of log present ws t n v w r turn h at did = ap reads_next_of a
 pub all_waived : (plan : DiePlan) (log : Log) (present : ℕ) (ws : List Waived) (t : Table) (f : FlashState) (n : ℕ) → HasTurn plan log present ws t f n → AreWaived t.jobs ws
 all_waived plan log present ws t f n h = subst (λ (js : List JobRecord). AreWaived js ws) (sym h.table.were) (AreWaived-waived_in (records plan log) ws h.table.were_pending)
 
--- the die has stopped, and nothing else has changed
-pub fault_kept : {N : Type 0} (blocks_of : N → List device.Block) (log later : Log) (present : ℕ) (ws : List Waived) (t x : Table) (slots after : Slots) (n : ℕ) (v w : State N) → slots ≡ carried_numbers log
-    → HasTurn v.accounts.plan log present ws t (flash_of blocks_of v) n → x ≡ stopped t ws → ((js : List JobRecord) → WerePending js ws → t.jobs ≡ waived_in js ws → x.jobs ≡ js)
-    → w.accounts.plan ≡ v.accounts.plan → w.failed ≡ true → after ≡ slots → later ≡ log
-    → Keeps w.accounts.plan later present x after w.failed (flash_of blocks_of w)
-fault_kept blocks_of log later present ws t x slots after n v w slots_are h stopped_is back plan_is failed_is after_is later_is =
-    subst (λ (p : DiePlan). Keeps p later present x after w.failed (flash_of blocks_of w)) (sym plan_is) (rw later_is (rw after_is (rw failed_is (record {
-      exact = h.slot.exact;
-      bound = h.slot.bound;
-      now_is = h.slot.now_is;
-      tasks_are = ap (λ (u : Table). u.tasks) stopped_is ∙ h.table.tasks_are;
-      clock_by = omega (arith, ap (λ (u : Table). u.clock) stopped_is, h.table.clock_is, h.slot.now_is);
-      ended_is = ap (λ (u : Table). u.ended) stopped_is;
-      jobs_are = back (records v.accounts.plan log) h.table.were_pending h.table.were;
-      slots_are = slots_are;
-      flash = λ alive. absurd cc;
-    }))))
-
 -- What a slot is refused with
 
 at_clock : (m n : ℕ) → m ≤ n → nat_le m n ≡ true
@@ -428,8 +390,3 @@ slot_refused plan log present is past = refused_answer plan log events.Slot Cloc
 
 pub slot_accepts : (plan : DiePlan) (log : Log) (present : ℕ) → present ≡ now log → present < MAX_SLOT → IsAccepted (answer plan log events.Slot)
 slot_accepts plan log present is few = subst IsAccepted (sym (accepted_answer plan log events.Slot (slot_unrefused plan log present is few))) tt
-
--- What was noted
-
-pub logged_is : (before after : List Entry) (log : Log) (caller : ℕ) (reply : SlotReply) → after ≡ before ++ slot_of caller reply ∷ [] → reverse before ≡ log → reverse after ≡ with_entry caller events.Slot (replies.Slot reply) log
-logged_is before after log caller reply is behind = ap reverse is ∙ (reverse-append before (slot_of caller reply ∷ []) ∙ ap (λ (past : Log). slot_of caller reply ∷ past) behind)

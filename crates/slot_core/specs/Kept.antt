@@ -3,15 +3,13 @@ use Rattle.std.specs.Prelude.{◌≡◌, ℕ, ◌≤◌, Bool, false, length}
 use Rattle.slot_types.specs.declared.plans.DiePlan.{DiePlan}
 use Rattle.plan_rules.specs.Bound.{MeetsBound}
 use Rattle.job_table.specs.Table.{Table}
-use Rattle.late_cert.specs.Schedule.{Slots}
 use Rattle.die_log.specs.Log.{Log, now}
 use Rattle.die_log.specs.Answers.{IsExact}
-use Rattle.die_log.specs.Rows.{carried_numbers}
 use Rattle.slot_core.specs.Records.{records}
 use Rattle.slot_core.specs.Device.{FlashState, IsFlashOf}
 
--- the log is exact, the table and the slots are read off it, and so is the flash until a fault
-pub record Keeps (plan : DiePlan) (log : Log) (present : ℕ) (table : Table) (slots : Slots) (failed : Bool) (f : FlashState) : Type 0 where
+-- the log is exact, the table is read off it, and so is the flash until a fault
+pub record Keeps (plan : DiePlan) (log : Log) (present : ℕ) (table : Table) (failed : Bool) (f : FlashState) : Type 0 where
   pub exact : IsExact plan log
   pub bound : MeetsBound plan
   pub now_is : present ≡ now log
@@ -19,5 +17,4 @@ pub record Keeps (plan : DiePlan) (log : Log) (present : ℕ) (table : Table) (s
   pub clock_by : table.clock ≤ present
   pub ended_is : table.ended ≡ failed
   pub jobs_are : table.jobs ≡ records plan log
-  pub slots_are : slots ≡ carried_numbers log
   pub flash : failed ≡ false → IsFlashOf plan log f

@@ -2,6 +2,7 @@ pub mod Core
 pub mod Records
 pub mod Device
 pub mod Kept
+pub mod Told
 pub mod Slotted
 pub mod Acting
 pub mod Calls
@@ -9,4 +10,4 @@ pub mod Runs
 pub mod Turns
 pub mod Outcomes
 pub mod Rowed
-pub mod Certified
+pub mod Planned

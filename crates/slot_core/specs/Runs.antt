@@ -67,3 +67,14 @@ IsRun plan before [] [] after = after ≡ before
 IsRun plan before (event ∷ events) (reply ∷ replies) after =
     (between : Moment) × IsStep plan event reply before between × IsRun plan between events replies after
 IsRun plan before _ _ after = ⊥
+
+-- The calls that a run adds
+
+abbrev pub with_call : Event → Reply → List (ℕ × Event) → List (ℕ × Event)
+with_call event (Refused refusal) earlier = earlier
+with_call event reply earlier = (0, event) ∷ earlier
+
+-- the calls of a log, the newest first, with those of these events that weren't refused, by caller 0
+abbrev pub with_accepted : List Event → List Reply → List (ℕ × Event) → List (ℕ × Event)
+with_accepted (event ∷ events) (reply ∷ replies) earlier = with_accepted events replies (with_call event reply earlier)
+with_accepted _ _ earlier = earlier

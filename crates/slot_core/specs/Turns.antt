@@ -3,6 +3,8 @@ use Rattle.std.specs.Prelude.{◌≡◌, ℕ, ◌+◌, ◌<◌, ◌≤◌, ◌==
 use Rattle.slot_types.specs.declared.acts.Act.{Act}
 use Rattle.slot_types.specs.declared.acts.Act.TheVariants as does
 use Rattle.slot_types.specs.declared.events.Op.{Op}
+use Rattle.event_log.specs.declared.deeds.Deed.{Deed}
+use Rattle.event_log.specs.declared.deeds.Deed.TheVariants as deeds
 use Rattle.flash_die.specs.Flash.{Block, block_at}
 use Rattle.flash_volume.specs.declared.collection.Collection.{Collection}
 use Rattle.flash_volume.specs.declared.collection.Collected.{Collected}
@@ -14,8 +16,7 @@ use Rattle.job_table.specs.declared.stages.Stage.TheVariants.{Done}
 use Rattle.job_table.specs.Jobs.{JobRecord, carried, with_read, with_stage}
 use Rattle.job_table.specs.Order.{IsHead}
 use Rattle.job_table.specs.Table.{Table, with_change}
-use Rattle.die_log.specs.Work.{is_write}
-use Rattle.die_log.specs.Answers.{page_of}
+use Rattle.slot_types.specs.Operations.{is_write, page_of}
 use Rattle.slot_core.specs.declared.turn.Turn.{Turn}
 use Rattle.slot_core.specs.Device.{flash_of}
 use Rattle.slot_core.specs.Acting.{act_by, operated}
@@ -115,3 +116,16 @@ finished false number completion given table = table
 -- the table after a turn of this number
 abbrev pub after_turn : Table → ℕ → Turn → ℕ → Table
 after_turn table number turn completion = finished turn.last number completion turn.given (with_change table number (λ job. after_read turn.act (carried job)))
+
+-- The log
+
+-- what is noted of an act of this number, at this place among its operations
+abbrev pub deed_by : ℕ → ℕ → Bool → Act → Deed
+deed_by number place true (does.Read page bytes) = deeds.LastOperation number place
+deed_by number place false (does.Read page bytes) = deeds.Operation number place
+deed_by number place true (does.Write page bytes) = deeds.LastOperation number place
+deed_by number place false (does.Write page bytes) = deeds.Operation number place
+deed_by number place last (does.CopyRead page) = deeds.CopyRead number page
+deed_by number place last (does.CopyProgram page) = deeds.CopyProgram number page
+deed_by number place true (does.Erase block) = deeds.LastEraseSlot number block
+deed_by number place false (does.Erase block) = deeds.EraseSlot number block

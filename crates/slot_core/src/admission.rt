@@ -1,7 +1,6 @@
 //! Jobs and collections that arrive at a die.
 
-ghost use Rattle.std.specs.Prelude.{◌≡◌, ◌∷◌, ◌++◌, ◌<◌, ◌↔◌, true, false, length, IfOk, IfErr, OnOk, OnErr};
-ghost use Rattle.std.specs.Prelude.{vec_len, vec_capacity, reverse};
+ghost use Rattle.std.specs.Prelude.{◌≡◌, ◌∷◌, ◌+◌, ◌^◌, ◌<◌, ◌↔◌, true, false, length, IfOk, IfErr, OnOk, OnErr};
 ghost use Rattle.std.specs.Prelude.{[]};
 ghost use Rattle.job_table.specs.Jobs.{new_job, new_collection};
 ghost use Rattle.job_table.specs.Table.{with_job, is_collecting};
@@ -12,41 +11,26 @@ ghost use Rattle.slot_core.specs.Calls.{RefusedBy};
 
 use crate::die_core::DieCore;
 use crate::operations::{bad_page, count_writes};
+use event_log::{Deed, EventLog};
 use flash_die::Nand;
 use job_table::JobTable;
-use slot_types::{
-    Entry, Event, JobNo, MAX_JOBS, MAX_OPS, MAX_SLOT, OpList, Refusal, Reply, TaskNo,
-};
+use slot_types::{Event, JobNo, MAX_JOBS, MAX_OPS, MAX_SLOT, OpList, Refusal, Reply, TaskNo};
 use std::alloc::Global;
 
-/// Makes room for one more entry.
-pub(crate) fn reserve_entry(entries: &mut Vec<Entry>) -> Result<(), Refusal>
-    ensures items { entries.new.items ≡ entries.old.items }
-    ensures ok { OnOk result (vec_len entries.new < vec_capacity entries.new) }
+/// Makes room for one more event.
+fn reserve_event(events: &mut EventLog) -> Result<(), Refusal>
+    ensures events { events.new.notes ≡ events.old.notes }
+    ensures ok { OnOk result (0 < events.new.room) }
     ensures refused { IfErr result (λ refusal. refusal ≡ Refusal.NoMemory) }
 {
-    match entries.reserve(1) {
-        Ok(()) => Ok(()),
-        Err(_) => Err(Refusal::NoMemory),
-    }
-}
-
-/// A copy of operations.
-fn copy_of(alloc: Global, ops: &OpList) -> Result<OpList, Refusal>
-    ensures ok { IfOk result (λ copy. copy ≡ ops.now) }
-    ensures refused { IfErr result (λ refusal. refusal ≡ Refusal.NoMemory) }
-{
-    match Vec::from_slice(alloc, ops.as_slice()) {
-        Ok(items) => Ok(OpList::from_vec(items)),
-        Err(_) => Err(Refusal::NoMemory),
-    }
+    events.reserve(1, 0)
 }
 
 /// Enters an accepted job into the table and the log, or finds no memory and changes neither.
 fn enter_job(
     alloc: Global,
     table: &mut JobTable,
-    entries: &mut Vec<Entry>,
+    events: &mut EventLog,
     caller: u32,
     task: TaskNo,
     release: u32,
@@ -55,26 +39,17 @@ fn enter_job(
 ) -> Result<JobNo, Refusal>
     requires running { table.old.ended ≡ false }
     requires few { length table.old.jobs < MAX_JOBS }
+    requires few_events { length events.old.notes + 1 < 2 ^ 32 }
     ensures table { OnOk result (table.new ≡ with_job table.old (new_job task release due ops)) }
     ensures number { IfOk result (λ number. number ≡ length table.old.jobs) }
-    ensures logged { IfOk result (λ number. entries.new.items ≡ entries.old.items ++ record { caller = caller; event = Event.Submit task release due ops; reply = Reply.Taken number } ∷ []) }
+    ensures logged { IfOk result (λ number. events.new.notes ≡ record { caller = caller; deed = Deed.Submit number; waived = [] } ∷ events.old.notes) }
     ensures refused { IfErr result (λ refusal. refusal ≡ Refusal.NoMemory) }
     ensures table_stays { OnErr result (table.new ≡ table.old) }
-    ensures log_stays { OnErr result (entries.new.items ≡ entries.old.items) }
+    ensures log_stays { OnErr result (events.new.notes ≡ events.old.notes) }
 {
-    let logged = copy_of(alloc, &ops)?;
-    reserve_entry(entries)?;
+    reserve_event(events)?;
     let number = table.add_job(alloc, task, release, due, ops)?;
-    entries.push_reserved(Entry {
-        caller,
-        event: Event::Submit {
-            task,
-            release,
-            due,
-            ops: logged,
-        },
-        reply: Reply::Taken(number),
-    });
+    events.push_reserved(caller, Deed::Submit { number }, &[]);
     Ok(number)
 }
 
@@ -82,7 +57,7 @@ fn enter_job(
 fn enter_collection(
     alloc: Global,
     table: &mut JobTable,
-    entries: &mut Vec<Entry>,
+    events: &mut EventLog,
     caller: u32,
     task: TaskNo,
     release: u32,
@@ -90,22 +65,19 @@ fn enter_collection(
 ) -> Result<JobNo, Refusal>
     requires running { table.old.ended ≡ false }
     requires few { length table.old.jobs < MAX_JOBS }
+    requires few_events { length events.old.notes + 1 < 2 ^ 32 }
     requires task { task < table.old.tasks }
     requires single { is_collecting table.old.jobs task ≡ false }
     ensures table { OnOk result (table.new ≡ with_job table.old (new_collection task release due)) }
     ensures number { IfOk result (λ number. number ≡ length table.old.jobs) }
-    ensures logged { IfOk result (λ number. entries.new.items ≡ entries.old.items ++ record { caller = caller; event = Event.Collect task release due; reply = Reply.Taken number } ∷ []) }
+    ensures logged { IfOk result (λ number. events.new.notes ≡ record { caller = caller; deed = Deed.Collect number; waived = [] } ∷ events.old.notes) }
     ensures refused { IfErr result (λ refusal. refusal ≡ Refusal.NoMemory) }
     ensures table_stays { OnErr result (table.new ≡ table.old) }
-    ensures log_stays { OnErr result (entries.new.items ≡ entries.old.items) }
+    ensures log_stays { OnErr result (events.new.notes ≡ events.old.notes) }
 {
-    reserve_entry(entries)?;
+    reserve_event(events)?;
     let number = table.add_collection(alloc, task, release, due)?;
-    entries.push_reserved(Entry {
-        caller,
-        event: Event::Collect { task, release, due },
-        reply: Reply::Taken(number),
-    });
+    events.push_reserved(caller, Deed::Collect { number }, &[]);
     Ok(number)
 }
 
@@ -179,7 +151,7 @@ impl<N: Nand> DieCore<N> {
         match enter_job(
             alloc,
             &mut self.table,
-            &mut self.entries,
+            &mut self.events,
             caller,
             task,
             release,
@@ -257,7 +229,7 @@ impl<N: Nand> DieCore<N> {
         enter_collection(
             alloc,
             &mut self.table,
-            &mut self.entries,
+            &mut self.events,
             caller,
             task,
             release,

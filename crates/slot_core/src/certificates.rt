@@ -2,12 +2,10 @@
 
 ghost use Rattle.std.specs.Prelude.{◌≡◌, ◌↔◌, None, IfOk, IfErr, IfSome};
 ghost use Rattle.late_cert.specs.Rows.{RowsRise};
-ghost use Rattle.late_cert.specs.Stretch.{CarriesLeastKeys, IsLeastLate};
-ghost use Rattle.die_log.specs.Answers.{IsExact};
-ghost use Rattle.die_log.specs.Legal.{IsLegal};
-ghost use Rattle.die_log.specs.Rows.{rows, carried_numbers, certificate};
+ghost use Rattle.die_log.specs.Rows.{rows, certificate};
+ghost use Rattle.die_log.specs.Certified.{NothingDone, IsOfWorst, HoldsOver, BindsAll};
+ghost use Rattle.die_log.specs.Promised.{KeepsPromises};
 ghost use Rattle.slot_core.specs.Rowed.{row_in, rows_in};
-ghost use Rattle.slot_core.specs.Certified.{NothingDone, IsOfWorst, HoldsOver, BindsAll};
 
 use crate::die_core::DieCore;
 use flash_die::Nand;
@@ -77,21 +75,21 @@ impl<N: Nand> DieCore<N> {
     {
         match self.worst() {
             None => Ok(None),
-            Some(worst) => match self.rows(alloc) {
-                Err(refusal) => Err(refusal),
-                Ok(rows) => build(alloc, &rows, &self.carried, worst.job),
-            },
+            Some(worst) => {
+                let rows = self.rows(alloc)?;
+                let carried = self.events.carried(alloc)?;
+                build(alloc, &rows, &carried, worst.job)
+            }
         }
     }
 
-    /// What stands of every die, whatever was done with it; the call does nothing. Its log is the exact answer to the
-    /// accepted calls, and legal. Each slot carried the least key of those that waited. And the greatest lateness so far
-    /// is least: no schedule that respects releases, and gives what is done as many slots as it took, has a smaller one.
+    /// All that is promised of a die's log, whatever was done with the die; the call does nothing. The plan meets its
+    /// bound, and the log is the exact answer to the accepted calls, hence legal. At every moment each slot so far carried
+    /// the least key of those that waited, and the greatest lateness so far is least: no schedule that respects releases,
+    /// and gives what is done as many slots as it took, has a smaller one. Collections keep to their slots, and the worst
+    /// job has its certificate.
     pub fn promises(&self)
-        ensures exact { IsExact self.now.plan self.now.log }
-        ensures legal { IsLegal self.now.plan self.now.log }
-        ensures least_keys { CarriesLeastKeys (rows self.now.plan self.now.log) (carried_numbers self.now.log) }
-        ensures least_late { IsLeastLate (rows self.now.plan self.now.log) (carried_numbers self.now.log) }
+        ensures { KeepsPromises self.now.plan self.now.log }
     {
         // What a die keeps is known where one of its fields is used.
         let _ = &self.volume;

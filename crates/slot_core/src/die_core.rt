@@ -4,14 +4,15 @@ ghost use Rattle.std.specs.Prelude.{◌≡◌, ◌↔◌, ◌<◌, ◌⊎◌, []
 ghost use Rattle.slot_types.specs.Shapes.{IsShape};
 ghost use Rattle.plan_rules.specs.Bound.{MeetsBound};
 ghost use Rattle.flash_die.specs.Flash.{IsFresh};
+ghost use Rattle.event_log.specs.Alike.{records};
 ghost use Rattle.die_log.specs.Log.{now};
 
+use event_log::EventLog;
 use flash_die::Nand;
 use flash_volume::Volume;
 use job_table::JobTable;
-use late_cert::Carried;
 use plan_rules::bound;
-use slot_types::{DiePlan, Entry, Refusal};
+use slot_types::{DiePlan, Refusal};
 use std::alloc::Global;
 use std::marker::Model;
 
@@ -22,22 +23,20 @@ use std::marker::Model;
 pub struct DieCore<N: Nand> {
     pub(crate) volume: Volume<N>,
     pub(crate) table: JobTable,
-    pub(crate) carried: Carried,
-    pub(crate) entries: Vec<Entry>,
+    pub(crate) events: EventLog,
     pub(crate) present: u32,
 }
 
 impl<N: Nand> Model for DieCore<N> {
-    ghost use Rattle.std.specs.Prelude.{reverse};
     ghost use Rattle.slot_core.specs.Core.{Core};
-    ghost use Rattle.slot_core.specs.Kept.{Keeps};
+    ghost use Rattle.slot_core.specs.Told.{log_of, Holds};
     ghost use Rattle.slot_core.specs.Device.{flash_of};
 
     ghost Value = { Core N };
 
-    ghost view = { λ c. record { plan = c.volume.accounts.plan; device = c.volume.device; stopped = c.volume.failed; log = reverse c.entries.items } };
+    ghost view = { λ c. record { plan = c.volume.accounts.plan; device = c.volume.device; stopped = c.volume.failed; log = log_of c.table c.events.notes } };
 
-    ghost invariant = { λ c. Keeps c.volume.accounts.plan (reverse c.entries.items) c.present c.table c.carried.slots c.volume.failed (flash_of N.blocks c.volume) };
+    ghost invariant = { λ c. Holds c.volume.accounts.plan c.present c.table c.events.notes c.volume.failed (flash_of N.blocks c.volume) };
 }
 
 impl<N: Nand> DieCore<N> {
@@ -61,8 +60,7 @@ impl<N: Nand> DieCore<N> {
         Ok(DieCore {
             volume,
             table,
-            carried: Carried::new(alloc),
-            entries: Vec::new(alloc),
+            events: EventLog::new(alloc),
             present: 0,
         })
     }
@@ -85,7 +83,14 @@ impl<N: Nand> DieCore<N> {
     pub fn len(&self) -> u64
         ensures { result ≡ length self.now.log }
     {
-        self.entries.len() as u64
+        self.events.len() as u64
+    }
+
+    /// How many records the log takes: how many maximal stretches of alike entries it has, one by itself being one.
+    pub fn records(&self) -> u64
+        ensures { result ≡ records self.now.log }
+    {
+        self.events.stretches() as u64
     }
 
     /// Whether the device has failed, which stops the die.

@@ -1,14 +1,14 @@
 //! What is noted of a slot: in the table, and in the log.
 
-ghost use Rattle.std.specs.Prelude.{◌≡◌, ◌+◌, ◌<◌, ◌∷◌, ◌++◌, ◌^◌, [], if◌then◌else◌, None, Some, true, false, vec_len, vec_capacity};
+ghost use Rattle.std.specs.Prelude.{◌≡◌, ◌+◌, ◌<◌, ◌≤◌, ◌∷◌, ◌++◌, ◌^◌, [], if◌then◌else◌, None, Some, true, false, length};
 ghost use Rattle.job_table.specs.Order.{IsHead};
 ghost use Rattle.job_table.specs.Table.{work_at, reads_next_at};
-ghost use Rattle.slot_core.specs.Turns.{is_read_act, after_turn};
+ghost use Rattle.slot_core.specs.Turns.{is_read_act, after_turn, deed_by};
 
 use crate::turn::Turn;
+use event_log::{Deed, EventLog};
 use job_table::JobTable;
-use late_cert::Carried;
-use slot_types::{Act, Entry, Event, JobNo, Reply, SlotReply, Waived, WaivedList};
+use slot_types::{Act, JobNo, SlotReply, Waived, WaivedList};
 
 /// Notes a turn of the head in the table.
 pub(crate) fn note_turn(table: &mut JobTable, number: JobNo, turn: Turn, completion: u32)
@@ -58,23 +58,26 @@ pub(crate) fn turn_reply(slot: u32, waived: Vec<Waived>, number: JobNo, turn: Tu
     }
 }
 
-/// Notes a slot and whom it carried in the log, in room that was made.
-pub(crate) fn note_slot(
-    carried: &mut Carried,
-    entries: &mut Vec<Entry>,
-    caller: u32,
-    number: Option<JobNo>,
-    reply: SlotReply,
-)
-    requires entry { vec_len entries.old < vec_capacity entries.old }
-    requires slot { 0 < carried.old.room }
-    ensures logged { entries.new.items ≡ entries.old.items ++ record { caller = caller; event = Event.Slot; reply = Reply.Slot reply } ∷ [] }
-    ensures carried { carried.new.slots ≡ carried.old.slots ++ number ∷ [] }
+/// What a turn of this number's was, which did its operation at this place if it is a job.
+pub(crate) fn deed_of(number: JobNo, place: u32, turn: Turn) -> Deed
+    ensures { result ≡ deed_by number place turn.last turn.act }
 {
-    carried.push_reserved(number);
-    entries.push_reserved(Entry {
-        caller,
-        event: Event::Slot,
-        reply: Reply::Slot(reply),
-    });
+    match turn.act {
+        Act::Read { .. } | Act::Write { .. } => {
+            if turn.last {
+                Deed::LastOperation { number, place }
+            } else {
+                Deed::Operation { number, place }
+            }
+        }
+        Act::CopyRead { page } => Deed::CopyRead { number, page },
+        Act::CopyProgram { page } => Deed::CopyProgram { number, page },
+        Act::Erase { block } => {
+            if turn.last {
+                Deed::LastEraseSlot { number, block }
+            } else {
+                Deed::EraseSlot { number, block }
+            }
+        }
+    }
 }

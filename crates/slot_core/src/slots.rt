@@ -1,25 +1,28 @@
 //! The slots of a die.
 
-ghost use Rattle.std.specs.Prelude.{◌≡◌, ◌+◌, ◌<◌, ◌≤◌, ◌⊎◌, ◌↔◌, [], true, false, length, reverse, slice_get, vec_len, vec_capacity, IsOk, IfOk, IfErr, IfSome, IfNone, OnOk, OnErr};
+ghost use Rattle.std.specs.Prelude.{◌≡◌, ◌+◌, ◌<◌, ◌≤◌, ◌⊎◌, ◌↔◌, [], true, false, length, slice_get, take, count_by, vec_capacity, IsOk, IfOk, IfErr, IfSome, IfNone, OnOk, OnErr};
+ghost use Rattle.event_log.specs.Growth.{AllFit};
 ghost use Rattle.job_table.specs.Order.{NothingReady};
+ghost use Rattle.job_table.specs.Jobs.{JobRecord, is_read};
+ghost use Rattle.job_table.specs.Table.{work_at};
 ghost use Rattle.die_log.specs.Log.{Log};
 ghost use Rattle.die_log.specs.Answers.{answer, IsAccepted};
 ghost use Rattle.slot_core.specs.Core.{with_entry};
 ghost use Rattle.slot_core.specs.Calls.{RefusedBy};
 ghost use Rattle.slot_core.specs.Device.{flash_of};
 ghost use Rattle.slot_core.specs.Kept.{Keeps};
+ghost use Rattle.slot_core.specs.Told.{log_of};
 ghost use Rattle.slot_core.specs.Slotted.{InSlot, HasTurn};
 ghost use Rattle.slot_core.specs.Turns.{is_fresh_of, HasWaiverRoom};
 
-use crate::admission::reserve_entry;
 use crate::die_core::DieCore;
-use crate::notes::{idle_reply, note_slot, note_turn, turn_reply};
+use crate::notes::{deed_of, idle_reply, note_turn, turn_reply};
 use crate::turns::{begin, take_turn};
+use event_log::{Deed, EventLog};
 use flash_die::Nand;
 use flash_volume::Volume;
 use job_table::JobTable;
-use late_cert::Carried;
-use slot_types::{Entry, Event, JobNo, MAX_SLOT, Refusal, Reply, SlotReply, Waived};
+use slot_types::{Event, JobNo, MAX_SLOT, Refusal, Reply, SlotReply, Waived};
 use std::alloc::Global;
 
 /// How many waivers this slot may have: one a task where the head is a collection that has not begun, else none.
@@ -54,19 +57,16 @@ fn is_fresh(table: &JobTable, number: JobNo) -> bool
 fn choose<N: Nand>(
     volume: &mut Volume<N>,
     table: &mut JobTable,
-    logged: &mut Vec<Waived>,
     told: &mut Vec<Waived>,
     present: u32,
 ) -> Option<JobNo>
     ghost log: { Log }
     requires alive { volume.old.failed ≡ false }
     requires within { InSlot volume.old.accounts.plan log present told.old.items table.old (flash_of N.blocks volume.old) }
-    requires same { logged.old.items ≡ told.old.items }
-    requires logged_room { HasWaiverRoom (vec_capacity logged.old) table.old }
     requires told_room { HasWaiverRoom (vec_capacity told.old) table.old }
     ensures turn { IfSome result (HasTurn volume.new.accounts.plan log present told.new.items table.new (flash_of N.blocks volume.new)) }
     ensures idle { IfNone result (InSlot volume.new.accounts.plan log present told.new.items table.new (flash_of N.blocks volume.new) × NothingReady table.new) }
-    ensures same { logged.new.items ≡ told.new.items }
+    ensures capacity { vec_capacity told.new ≡ vec_capacity told.old }
     ensures plan { volume.new.accounts.plan ≡ volume.old.accounts.plan }
     ensures alive { volume.new.failed ≡ false }
     ensures device { volume.new.device ≡ volume.old.device }
@@ -83,7 +83,6 @@ fn choose<N: Nand>(
             None => return Some(number),
             Some(given) => {
                 table.waive(number, given);
-                logged.push_reserved(Waived { number, given });
                 told.push_reserved(Waived { number, given });
             }
         }
@@ -94,41 +93,40 @@ fn choose<N: Nand>(
 fn carry_out<N: Nand>(
     volume: &mut Volume<N>,
     table: &mut JobTable,
-    carried: &mut Carried,
-    entries: &mut Vec<Entry>,
+    events: &mut EventLog,
     caller: u32,
     present: u32,
-    mut logged: Vec<Waived>,
     mut told: Vec<Waived>,
 ) -> Result<SlotReply, Refusal>
     ghost log: { Log }
     requires alive { volume.old.failed ≡ false }
-    requires log { reverse entries.old.items ≡ log }
+    requires log { log_of table.old events.old.notes ≡ log }
+    requires fits { AllFit table.old.jobs events.old.notes }
     requires few { present < MAX_SLOT }
     requires clock { table.old.clock ≡ present }
-    requires entry { vec_len entries.old < vec_capacity entries.old }
-    requires slot { 0 < carried.old.room }
-    requires logged_none { logged.items ≡ [] }
+    requires entry { 0 < events.old.room }
+    requires waivers { vec_capacity told ≤ events.old.waiver_room }
     requires told_none { told.items ≡ [] }
-    requires logged_room { HasWaiverRoom (vec_capacity logged) table.old }
     requires told_room { HasWaiverRoom (vec_capacity told) table.old }
-    requires kept { Keeps volume.old.accounts.plan log present table.old carried.old.slots volume.old.failed (flash_of N.blocks volume.old) }
-    ensures kept { OnOk result (Keeps volume.new.accounts.plan (reverse entries.new.items) (present + 1) table.new carried.new.slots volume.new.failed (flash_of N.blocks volume.new)) }
+    requires kept { Keeps volume.old.accounts.plan log present table.old volume.old.failed (flash_of N.blocks volume.old) }
+    ensures kept { OnOk result (Keeps volume.new.accounts.plan (log_of table.new events.new.notes) (present + 1) table.new volume.new.failed (flash_of N.blocks volume.new)) }
     ensures answered { IfOk result (λ reply. answer volume.old.accounts.plan log Event.Slot ≡ Reply.Slot reply) }
-    ensures logged { IfOk result (λ reply. reverse entries.new.items ≡ with_entry caller Event.Slot (Reply.Slot reply) log) }
+    ensures logged { IfOk result (λ reply. log_of table.new events.new.notes ≡ with_entry caller Event.Slot (Reply.Slot reply) log) }
     ensures well { OnOk result (volume.new.failed ≡ false) }
     ensures plan { volume.new.accounts.plan ≡ volume.old.accounts.plan }
     ensures fault { IfErr result (λ refusal. refusal ≡ Refusal.DeviceFault) }
     ensures failed { OnErr result (volume.new.failed ≡ true) }
-    ensures log_stays { OnErr result (entries.new.items ≡ entries.old.items) }
-    ensures still_kept { OnErr result (Keeps volume.new.accounts.plan (reverse entries.new.items) present table.new carried.new.slots volume.new.failed (flash_of N.blocks volume.new)) }
+    ensures log_stays { OnErr result (log_of table.new events.new.notes ≡ log_of table.old events.old.notes) }
+    ensures fit { AllFit table.new.jobs events.new.notes }
+    ensures still_kept { OnErr result (Keeps volume.new.accounts.plan (log_of table.new events.new.notes) present table.new volume.new.failed (flash_of N.blocks volume.new)) }
     ensures failures { (result ≡ Err Refusal.DeviceFault) ↔ (N.failures volume.new.device ≡ N.failures volume.old.device + 1) }
     ensures never { N.never_fails ≡ true → IsOk result }
 {
-    let Some(number) = choose(volume, table, &mut logged, &mut told, present) else {
-        note_slot(carried, entries, caller, None, idle_reply(present, logged));
+    let Some(number) = choose(volume, table, &mut told, present) else {
+        events.push_reserved(caller, Deed::Idle, told.as_slice());
         return Ok(idle_reply(present, told));
     };
+    let place = work_of(table, number);
     let turn = match table.job(number) {
         Some(job) => take_turn(volume, job),
         None => unreachable!(),
@@ -140,15 +138,21 @@ fn carry_out<N: Nand>(
         }
         Ok(turn) => {
             note_turn(table, number, turn, present + 1);
-            note_slot(
-                carried,
-                entries,
-                caller,
-                Some(number),
-                turn_reply(present, logged, number, turn),
-            );
+            let deed = deed_of(number, place, turn);
+            events.push_reserved(caller, deed, told.as_slice());
             Ok(turn_reply(present, told, number, turn))
         }
+    }
+}
+
+/// How many slots the job of this number took so far, which is the place of its next operation.
+fn work_of(table: &JobTable, number: JobNo) -> u32
+    ensures work { result ≡ work_at table.now.jobs number }
+    ensures reads { (job : JobRecord) → slice_get table.now.jobs number ≡ Some job → length job.reads ≡ count_by is_read (take job.work job.ops) }
+{
+    match table.job(number) {
+        Some(job) => job.work(),
+        None => 0,
     }
 }
 
@@ -162,19 +166,6 @@ fn waiver_list(alloc: Global, room: usize) -> Result<Vec<Waived>, Refusal>
         Ok(list) => Ok(list),
         Err(_) => Err(Refusal::NoMemory),
     }
-}
-
-/// Makes room in the log and beside it for one more slot.
-fn reserve_slot(carried: &mut Carried, entries: &mut Vec<Entry>) -> Result<(), Refusal>
-    ensures entry { OnOk result (vec_len entries.new < vec_capacity entries.new) }
-    ensures slot { OnOk result (0 < carried.new.room) }
-    ensures refused { IfErr result (λ refusal. refusal ≡ Refusal.NoMemory) }
-    ensures items { entries.new.items ≡ entries.old.items }
-    ensures slots { carried.new.slots ≡ carried.old.slots }
-{
-    reserve_entry(entries)?;
-    carried.reserve(1)?;
-    Ok(())
 }
 
 impl<N: Nand> DieCore<N> {
@@ -204,15 +195,11 @@ impl<N: Nand> DieCore<N> {
         if self.present >= MAX_SLOT {
             return Err(Refusal::ClockEnd);
         }
-        match reserve_slot(&mut self.carried, &mut self.entries) {
+        let room = waiver_room(&mut self.table, self.present);
+        match self.events.reserve(1, room) {
             Ok(()) => {}
             Err(refusal) => return Err(refusal),
         }
-        let room = waiver_room(&mut self.table, self.present);
-        let logged = match waiver_list(alloc, room) {
-            Ok(list) => list,
-            Err(refusal) => return Err(refusal),
-        };
         let told = match waiver_list(alloc, room) {
             Ok(list) => list,
             Err(refusal) => return Err(refusal),
@@ -220,11 +207,9 @@ impl<N: Nand> DieCore<N> {
         match carry_out(
             &mut self.volume,
             &mut self.table,
-            &mut self.carried,
-            &mut self.entries,
+            &mut self.events,
             caller,
             self.present,
-            logged,
             told,
         ) {
             Err(refusal) => Err(refusal),

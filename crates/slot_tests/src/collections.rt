@@ -1,7 +1,7 @@
 //! Worked rows of collections, on a die of 4 blocks that a history has filled, and on one with pages to spare.
 
 use crate::dies::{plays_tight, plays_wide};
-use crate::facts::Fact::{Certified, Collected, Done, Holds, Waived, Worst};
+use crate::facts::Fact::{Certified, Collected, Done, Entries, Holds, Records, Waived, Worst};
 use crate::steps::Step;
 use crate::steps::Step::{Acts, Carries, Collect, Is, NoCollect, Refused, Submit, Waives};
 use slot_types::{Act, Op, PageData, Refusal};
@@ -56,15 +56,20 @@ const HISTORY: &[Step] = &[
     Waives(9, 2),
 ];
 
-/// Page 2 is copied out of block 1, and the block is erased.
+/// Page 2 is copied out of block 1, and the block is erased. Its first two erase slots are one record.
 const COPIES_AND_ERASES: &[Step] = &[
     Submit(17, 19, &[W4, W4], 10),
     Carries(&[10, 10]),
     Is(Worst(2, 0)),
     Is(Certified((2, 5, 7, 7), &[2])),
+    Is(Holds),
+    Is(Entries(30)),
+    Is(Records(30)),
     Collect(19, 40, 11),
     Acts(11, &[COPY_READ, COPY_PROGRAM, ERASE, ERASE, ERASE]),
     Is(Collected(11, 24, -16, 2)),
+    Is(Entries(36)),
+    Is(Records(35)),
     Refused(0, 24, 25, &[W4; 5], TWO_TOKENS),
     Is(Holds),
 ];
@@ -126,6 +131,7 @@ const A_WRITE_BEFORE_THE_COPY: &[Step] = &[
     Refused(0, 23, 24, &[W4; 5], TWO_TOKENS),
     Submit(23, 24, &[Op::Read(2)], 13),
     Acts(13, &[READ_OTHERS]),
+    Is(Holds),
 ];
 
 #[test]

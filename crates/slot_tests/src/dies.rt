@@ -30,6 +30,7 @@ fn plan_of(alloc: Global, shape: Shape, logical: u32) -> Result<DiePlan, Refusal
         logical,
         alpha: 2,
         caps,
+        times: None,
     })
 }
 

@@ -33,6 +33,8 @@ pub(crate) enum Fact<'a> {
     Work(u32),
     /// The log has so many entries.
     Entries(u64),
+    /// The log takes so many records.
+    Records(u64),
     /// The present slot is this one.
     Now(u32),
 }
@@ -82,6 +84,7 @@ pub(crate) fn stands<N: Nand>(die: &DieCore<N>, alloc: Global, fact: &Fact) -> b
         Fact::Holds => holds(die, alloc),
         Fact::Work(work) => is_work(die, alloc, *work),
         Fact::Entries(count) => die.len() == *count,
+        Fact::Records(count) => die.records() == *count,
         Fact::Now(slot) => die.now() == *slot,
     }
 }

@@ -1,7 +1,7 @@
 //! Jobs side by side: who gets the slots, how late each is, and the certificate of the worst one.
 
 use crate::dies::plays_wide;
-use crate::facts::Fact::{Built, Certified, Done, Work, Worst};
+use crate::facts::Fact::{Built, Certified, Done, Holds, Work, Worst};
 use crate::pages::{BLANK, ONES, READ};
 use crate::steps::Step;
 use crate::steps::Step::{Carries, Is, Submit};
@@ -18,6 +18,7 @@ const A_READ_BEHIND_A_WRITE: &[Step] = &[
     Is(Done(1, 2, -1, &[ONES])),
     Is(Worst(0, -1)),
     Is(Certified((0, 0, 2, 1), &[0])),
+    Is(Holds),
 ];
 
 #[test]
@@ -30,6 +31,7 @@ const A_READ_OF_A_NEW_PAGE: &[Step] = &[
     Submit(0, 1, &[Op::Read(7)], 0),
     Carries(&[0]),
     Is(Done(0, 1, 0, &[BLANK])),
+    Is(Holds),
 ];
 
 #[test]
@@ -45,6 +47,7 @@ const A_SOONER_DUE: &[Step] = &[
     Is(Done(0, 4, -6, &[BLANK; 3])),
     Is(Done(1, 2, -1, &[BLANK])),
     Is(Certified((1, 1, 3, 2), &[1])),
+    Is(Holds),
 ];
 
 #[test]
@@ -60,10 +63,12 @@ const EQUAL_DUES: &[Step] = &[
     Is(Worst(0, -1)),
     Is(Certified((0, 2, 5, 4), &[0])),
     Is(Built(&[1, 1, 0, 0], (0, 2, 5, 4), &[0])),
+    Is(Holds),
     Carries(&[1]),
     Is(Worst(1, 0)),
     Is(Certified((1, 0, 5, 5), &[0, 1])),
     Is(Built(&[1, 1, 0, 0, 1], (1, 0, 5, 5), &[0, 1])),
+    Is(Holds),
     Is(Work(5)),
 ];
 
@@ -81,6 +86,7 @@ const ONE_DUE: &[Step] = &[
     Is(Done(1, 3, 1, &[BLANK])),
     Is(Worst(1, 1)),
     Is(Certified((1, 0, 2, 3), &[0, 1])),
+    Is(Holds),
     Is(Work(3)),
 ];
 

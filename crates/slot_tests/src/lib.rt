@@ -24,6 +24,8 @@ mod outcomes;
 #[cfg(test)]
 mod pages;
 #[cfg(test)]
+mod planned;
+#[cfg(test)]
 mod refusals;
 #[cfg(test)]
 mod slotted;

@@ -80,7 +80,8 @@ impl<T> Items<T> {
 }
 
 impl<T: Drop> Items<T> {
-    /// Adds an item at the end. Without memory for it the list stays as it was, and the item is let go.
+    /// Adds an item at the end. Without memory for it the list stays as it was, and the item is let go: the answer is then
+    /// std's `AllocError`, its only fault, of which `?` makes `NoMemory` where a [`Refusal`](crate::Refusal) is answered.
     pub fn push(&mut self, item: T) -> Result<(), AllocError>
         ensures ok { OnOk result (self.new ≡ self.old ++ item ∷ []) }
         ensures err { OnErr result (self.new ≡ self.old) }

@@ -20,7 +20,7 @@ pub use limits::{
 };
 pub use numbers::{JobNo, TaskNo};
 pub use pages::{PageData, Place};
-pub use plans::{Caps, DiePlan, Shape, StorePlan};
+pub use plans::{Caps, DiePlan, Shape, StorePlan, TaskTimes, Times, TimesList};
 pub use refusals::{Cause, Refusal};
 pub use replies::{Entry, Reads, Reply, SlotReply, Waived, WaivedList};
 

@@ -16,6 +16,30 @@ pub struct Shape {
 /// By task the most free pages that it may own tokens for.
 pub type Caps = Items<u32>;
 
+/// What a task asks for. All times are in slots.
+#[derive(Clone, Copy, PartialEq, Eq, Debug, Drop)]
+pub struct TaskTimes {
+    /// A job of the task comes at most once in so many slots, and has as long to be done.
+    pub period: u32,
+    /// A collection comes at each multiple of this, and has as long to be done.
+    pub collect_period: u32,
+    /// The most operations of a job.
+    pub work: u32,
+    /// The most writes among these.
+    pub writes: u32,
+}
+
+/// By task what it asks for.
+pub type TimesList = Items<TaskTimes>;
+
+/// What the tasks of a die ask for.
+#[derive(Clone, PartialEq, Eq, Debug, Drop)]
+pub struct Times {
+    /// A number of slots that is a multiple of all periods. The load is counted for so many.
+    pub common: u32,
+    pub tasks: TimesList,
+}
+
 /// What a die is to hold, and for which tasks.
 #[derive(Clone, PartialEq, Eq, Debug, Drop)]
 pub struct DiePlan {
@@ -25,7 +49,9 @@ pub struct DiePlan {
     /// The most pages that a collection gives its task.
     pub alpha: u32,
     pub caps: Caps,
+    /// When the tasks ask, and for how much; none where the plan doesn't say.
+    pub times: Option<Times>,
 }
 
-/// The plans of a store's dies, by die: all alike but for the caps.
+/// The plans of a store's dies, by die: all alike but for the caps and the times.
 pub type StorePlan = Items<DiePlan>;

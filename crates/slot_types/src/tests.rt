@@ -61,6 +61,7 @@ fn plans_are_copied_whole(rt: HostRuntime) -> Result<(), Fail> {
         logical: 12,
         alpha: 2,
         caps,
+        times: None,
     };
     assert!(rt; plan.clone()? == plan);
     Ok(())

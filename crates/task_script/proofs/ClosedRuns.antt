@@ -64,7 +64,7 @@ module _ {N : Type 0} (slots : ℕ) (plan : DiePlan) (arrivals : List Arrival) (
   told : AreTold plan saids
   told = record {
     accepted = λ before after event reply is. told_accepted plan saids before after event reply
-        (subst (λ (x : DiePlan × Log). IsExact x.0 x.1) (λ i. (plan_is i, log_of (seen_is i))) r.ran.exact) is;
+        (subst (λ (x : DiePlan × Log). IsExact x.0 x.1) (λ i. (plan_is i, log_of (seen_is i))) r.ran.exact.exact) is;
     refused = λ before after event refused is.
         let why = r.ran.refused before after event refused is in
         let these : take refused.entries r.last.view.seen ≡ accepted_by 0 before = sym (front_own 0 refused.entries r.last.view.seen all_mine)
@@ -91,7 +91,7 @@ module _ {N : Type 0} (slots : ℕ) (plan : DiePlan) (items : List ScriptItem) (
       record {
         ran = subst (λ run. Runs plan (run_at [] []) (script.calls_of slots items) run) same comes.ran;
         all_slots = ap now log ∙ (comes.slots ∙ omega arith);
-        exact = subst (λ p. IsExact p die.log) (die_plan slots plan (arrivals_of items) end die r) r.closed.exact;
+        exact = subst (λ p. IsExact p die.log) (die_plan slots plan (arrivals_of items) end die r) r.closed.promised.exact;
       }
 
   pub closed_stop : slots ≤ MAX_SLOT → IfSome end.stop (λ stop. stop.refusal ≡ NoMemory)

@@ -135,7 +135,7 @@ stops_for_memory slots (plan ∷ plans) (items ∷ rows) [] dies few arrive ran 
 stops_for_memory slots (plan ∷ plans) (items ∷ rows) (end ∷ ends) [] few arrive ran = absurd ran
 
 -- the same runs, with the rows of each die by another name
-same_feeds : (slots : ℕ) (one two : ℕ → List ScriptItem) (die : ℕ) (plans : List DiePlan) (runs : List DieRun) → ((d : ℕ) → d < die + length plans → one d ≡ two d)
+pub same_feeds : (slots : ℕ) (one two : ℕ → List ScriptItem) (die : ℕ) (plans : List DiePlan) (runs : List DieRun) → ((d : ℕ) → d < die + length plans → one d ≡ two d)
     → AreRuns slots one die plans runs → AreRuns slots two die plans runs
 same_feeds slots one two die [] [] same are = tt
 same_feeds slots one two die [] (r ∷ runs) same are = absurd are
@@ -145,7 +145,7 @@ same_feeds slots one two die (p ∷ plans) (r ∷ runs) same are = (
   same_feeds slots one two (die + 1) plans runs (λ d below. same d (omega (arith, below))) are.1,
 )
 
-pub runs_text : (text : Option (List ℕ)) (plans : List DiePlan) (slots : ℕ) (feeds : List (List ScriptItem)) (report : List DieReport) (ends : List RowEnd) (count : RunCount) (old new : Option (List ℕ))
+unfoldable pub runs_text : (text : Option (List ℕ)) (plans : List DiePlan) (slots : ℕ) (feeds : List (List ScriptItem)) (report : List DieReport) (ends : List RowEnd) (count : RunCount) (old new : Option (List ℕ))
     → AreFeedsOf text (length plans) slots feeds → HaveRun slots feeds plans report ends → count ≡ count_of ends → Appends old new (report_text report) → RunsText text plans slots count old new
 runs_text text plans slots feeds report ends count old new fed h counted written = record {
   items = fed.0;

@@ -10,5 +10,7 @@ pub mod ExactPages
 pub mod ExactNumbers
 pub mod ExactWorst
 pub mod ExactReports
+pub mod EachCall
 pub mod RunPages
+pub mod AsPlanned
 pub mod ExactBack

@@ -1,43 +1,24 @@
 -- The jobs of a run are asked to write what its rows say.
-use Rattle.std.proofs.Common.{ℕ, zero, suc, ◌+◌, ◌<◌, length, arith, List, [], ◌∷◌, Option, Some, None, sym, subst, map}
+use Rattle.std.proofs.Common.{ℕ, ◌+◌, ◌<◌, length, arith, List, [], ◌∷◌, Option, Some, None, sym, subst}
 use Rattle.std.specs.Prelude.{All}
-use Rattle.std.specs.List.{AllByRecursion, prefix_len}
-use Rattle.std.proofs.lemmas.List.Elements.{All-from_recursion, All-take, All-drop, recursion_from_All}
+use Rattle.std.specs.List.{AllByRecursion}
+use Rattle.std.proofs.lemmas.List.Elements.{All-from_recursion, recursion_from_All}
 use Rattle.plan_rules.specs.Bound.{MeetsBound}
 use Rattle.slot_types.specs.declared.plans.DiePlan.{DiePlan}
 use Rattle.slot_types.specs.declared.events.Event.{Event}
 use Rattle.slot_types.specs.declared.refusals.Refusal.{Refusal}
 use Rattle.die_log.specs.Log.{Log}
-use Rattle.die_log.proofs.Known.{all_append}
 use Rattle.task_texts.specs.AskedPages.{AsksPages, RowHasPages, RowsHavePages}
 use Rattle.task_texts.specs.declared.items.ScriptItem.{ScriptItem}
 use Rattle.task_script.specs.LogPages.{EntryHasPages, HasPages}
-use Rattle.task_script.specs.DieRuns.{Call, Row, Slot, DieRun, Ends, IsRun, IsStep, Runs, calls_from, due_by, fresh_run, is_due, later_than}
+use Rattle.task_script.specs.DieRuns.{Call, Row, Slot, DieRun, Ends, IsRun, IsStep, Runs, fresh_run}
 use Rattle.task_script.specs.ExactRuns.{AreExact}
 use Rattle.task_script.specs.TextRuns.{AreRuns}
+use Rattle.task_script.proofs.EachCall.{IsCallOf, each_call}
 use Rattle.task_script.proofs.ExactPages.{AreAsked}
 
 abbrev CallHasPages : Call → Type 0
-CallHasPages (Row item) = RowHasPages item
-CallHasPages Slot = Unit {0}
-
--- Calls
-
-rows_asked : (items : List ScriptItem) → AllByRecursion RowHasPages items → AllByRecursion CallHasPages (map Row items)
-rows_asked [] h = tt
-rows_asked (item ∷ items) h = (h.0, rows_asked items h.1)
-
-due_asked : (slot : ℕ) (items : List ScriptItem) → AllByRecursion RowHasPages items → AllByRecursion RowHasPages (due_by slot items)
-due_asked slot items h = recursion_from_All RowHasPages (due_by slot items) (All-take RowHasPages (prefix_len (is_due slot) items) items (All-from_recursion RowHasPages items h))
-
-later_asked : (slot : ℕ) (items : List ScriptItem) → AllByRecursion RowHasPages items → AllByRecursion RowHasPages (later_than slot items)
-later_asked slot items h = recursion_from_All RowHasPages (later_than slot items) (All-drop RowHasPages (prefix_len (is_due slot) items) items (All-from_recursion RowHasPages items h))
-
-calls_asked : (slot left : ℕ) (items : List ScriptItem) → AllByRecursion RowHasPages items → AllByRecursion CallHasPages (calls_from slot left items)
-calls_asked slot zero items h = rows_asked items h
-calls_asked slot (suc left) items h =
-    all_append CallHasPages (map Row (due_by slot items)) (Slot ∷ calls_from (slot + 1) left (later_than slot items)) (rows_asked (due_by slot items) (due_asked slot items h))
-    (tt, calls_asked (slot + 1) left (later_than slot items) (later_asked slot items h))
+CallHasPages = IsCallOf RowHasPages
 
 -- Runs
 
@@ -55,7 +36,7 @@ run_asked plan before after (call ∷ calls) h pages asked = run_asked plan h.0 
 
 die_asked : (plan : DiePlan) (slots : ℕ) (items : List ScriptItem) (run : DieRun) → RowsHavePages items → IsRun plan slots items run → HasPages run.log
 die_asked plan slots items run pages h =
-    All-from_recursion EntryHasPages run.log (run_asked plan fresh_run run _ h.ran (calls_asked 0 slots items (recursion_from_All RowHasPages items pages)) tt)
+    All-from_recursion EntryHasPages run.log (run_asked plan fresh_run run _ h.ran (each_call RowHasPages 0 slots items (recursion_from_All RowHasPages items pages)) tt)
 
 runs_exact : (slots : ℕ) (feed : ℕ → List ScriptItem) (die : ℕ) (plans : List DiePlan) (runs : List DieRun) → ((d : ℕ) → d < die + length plans → RowsHavePages (feed d)) → AllByRecursion MeetsBound plans → AreRuns slots feed die plans runs → AreExact plans runs
 runs_exact slots feed die [] [] pages bound h = tt

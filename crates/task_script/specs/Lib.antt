@@ -5,6 +5,7 @@ pub mod RunCounts
 pub mod DieRuns
 pub mod LogPages
 pub mod TextRuns
+pub mod PlannedRuns
 pub mod StoreRuns
 pub mod ExactRuns
 pub use Rattle.task_texts.specs.Number

@@ -12,7 +12,7 @@ use crate::feeds::DieRows;
 use die_service::{Arrival, DieEnds, DiePass, Feed, FreeGate, Store, close, run_slots};
 use flash_die::MemoryNand;
 use slot_core::DieCore;
-use slot_types::{Caps, DiePlan, Items, Refusal, StorePlan};
+use slot_types::{Caps, DiePlan, Items, Refusal, StorePlan, Times, TimesList};
 use std::alloc::Global;
 use std::sync::Wait;
 use std::thread::Threads;
@@ -60,17 +60,36 @@ pub fn split_all(alloc: Global, rows: Vec<DieRows>) -> Result<(Vec<Feed>, Vec<Li
     Ok((feeds, lines))
 }
 
-/// A copy of a plan.
+/// A copy of the times of a plan.
+fn times_copy(alloc: Global, times: &Times) -> Result<Times, Refusal>
+    ensures ok { IfOk result (λ copy. copy ≡ times.now) }
+    ensures refused { IfErr result (λ refusal. refusal ≡ Refusal.NoMemory) }
+{
+    match Vec::from_slice(alloc, times.tasks.as_slice()) {
+        Ok(tasks) => Ok(Times {
+            common: times.common,
+            tasks: TimesList::from_vec(tasks),
+        }),
+        Err(_) => Err(Refusal::NoMemory),
+    }
+}
+
+/// A copy of a plan, with its times if it has any.
 fn plan_copy(alloc: Global, plan: &DiePlan) -> Result<DiePlan, Refusal>
     ensures ok { IfOk result (λ copy. copy ≡ plan.now) }
     ensures refused { IfErr result (λ refusal. refusal ≡ Refusal.NoMemory) }
 {
+    let times = match &plan.times {
+        Some(times) => Some(times_copy(alloc, times)?),
+        None => None,
+    };
     match Vec::from_slice(alloc, plan.caps.as_slice()) {
         Ok(caps) => Ok(DiePlan {
             shape: plan.shape,
             logical: plan.logical,
             alpha: plan.alpha,
             caps: Caps::from_vec(caps),
+            times,
         }),
         Err(_) => Err(Refusal::NoMemory),
     }

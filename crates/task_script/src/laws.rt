@@ -6,8 +6,11 @@ ghost use Rattle.slot_types.specs.declared.plans.DiePlan.{DiePlan};
 ghost use Rattle.task_texts.specs.ReportOf.{report_of};
 ghost use Rattle.task_texts.specs.ReportText.{report_text};
 ghost use Rattle.task_texts.specs.WellFormed.{IsReport};
-ghost use Rattle.task_script.specs.DieRuns.{DieRun};
+ghost use Rattle.task_texts.specs.declared.items.ScriptItem.{ScriptItem};
+ghost use Rattle.task_script.specs.DieRuns.{DieRun, IsRun};
 ghost use Rattle.task_script.specs.ExactRuns.{AreExact};
+ghost use Rattle.task_script.specs.Feeds.{AllArrive};
+ghost use Rattle.task_script.specs.PlannedRuns.{GoesAsPlanned, KeepsItsPlan};
 ghost use Rattle.task_script.specs.TextRuns.{RunsText, reports_from};
 ghost use Rattle.task_script.specs.declared.run_counts.RunCount.{RunCount};
 
@@ -22,4 +25,12 @@ pub fn exact_reports_come_back()
 pub fn run_reports_come_back()
     ensures { (text : Option (List ℕ)) (plans : List DiePlan) (slots : ℕ) (count : RunCount) (old new : Option (List ℕ)) → length plans ≤ 8 → All MeetsBound plans →
         (ran : RunsText text plans slots count old new) → report_of (report_text (reports_from 0 plans ran.runs)) ≡ Ok (reports_from 0 plans ran.runs) }
+{}
+
+/// Where the rows of a die keep its plan, with times that pass their test, its run goes as planned: all that is due by the
+/// end is done or was waived, no row of its report has a lateness above 0, and no row is refused but for want of memory,
+/// or behind one that was.
+pub fn planned_runs_go_as_planned()
+    ensures { (plan : DiePlan) (slots : ℕ) (items : List ScriptItem) (run : DieRun) → MeetsBound plan →
+        AllArrive slots items → KeepsItsPlan plan slots items → IsRun plan slots items run → GoesAsPlanned plan run }
 {}

@@ -9,7 +9,7 @@ mod run_counts;
 mod text_runs;
 
 pub use die_reports::die_report;
-pub use laws::{exact_reports_come_back, run_reports_come_back};
+pub use laws::{exact_reports_come_back, planned_runs_go_as_planned, run_reports_come_back};
 pub use run_counts::RunCount;
 pub use task_texts::{
     DieReport, Report, ReportRow, ReportRows, RowKind, ScriptItem, ScriptReader, number, read_plan,

@@ -3,6 +3,7 @@
 ghost use Rattle.std.specs.Prelude.{◌≡◌, ◌≤◌, ◌++◌, [], None, All, length, map, IfOk, IfErr, IfSome, OnOk};
 ghost use Rattle.plan_rules.specs.Bound.{MeetsBound};
 ghost use Rattle.task_script.specs.Feeds.{AllArrive};
+ghost use Rattle.task_script.specs.PlannedRuns.{RunsAsPlanned};
 ghost use Rattle.task_script.specs.RowEnds.{ends_from, taken_at};
 ghost use Rattle.task_script.specs.StoreRuns.{all_ends, reports_of};
 ghost use Rattle.task_script.specs.TextRuns.{HaveRun, RefusesText, RunsText, with_rows};
@@ -154,6 +155,9 @@ fn run_dies<R: Threads + Wait + Sync>(
 /// What is written is proved to be the report read off the exact logs of the accepted rows and the slots, whatever the
 /// number of workers. May wait for the workers.
 ///
+/// So is this: on a die whose rows keep its plan, with times that pass their test, no lateness in the report is above 0,
+/// and no row is refused but for want of memory, or behind one that was.
+///
 /// It ends with the first fault of the script, as [`ScriptReader`](crate::ScriptReader) tells it; with `ReadFault`; or
 /// with `NoMemory`. Nothing is written before the whole script was read and run, and nothing with these. `WriteFault`
 /// comes where the writer fails; how much it took by then is not said.
@@ -172,6 +176,7 @@ pub fn run_text<R: Threads + Wait + Sync, S: Read + Drop, W: Write>(
     requires few { slots ≤ MAX_SLOT }
     requires workers { (1 ≤ workers) × (workers ≤ 16) }
     ensures ran { IfOk result (λ count. RunsText (S.remaining script) plan.now slots count (W.contents writer.old) (W.contents writer.new)) }
+    ensures planned { IfOk result (λ count. RunsAsPlanned (S.remaining script) plan.now slots count (W.contents writer.old) (W.contents writer.new)) }
     ensures refused { IfErr result (RefusesText (S.remaining script) (length plan.now) slots) }
     ensures unwritten { IfErr result (λ refusal. (refusal ≡ Refusal.WriteFault → ⊥) → writer.new ≡ writer.old) }
 {

@@ -1,3 +1,4 @@
+pub mod PageLaws
 pub mod PlainFields
 pub mod Written
 pub mod PlainRecords
@@ -5,6 +6,8 @@ pub mod TableLaws
 pub mod PlanLaws
 pub mod RowLaws
 pub mod WordLaws
+pub mod StartLaws
+pub mod LineLaws
 pub mod StepLaws
 pub mod RecordLaws
 pub mod ProgressLaws

@@ -2,6 +2,7 @@ pub mod Number
 pub mod JobRows
 pub mod ReportText
 pub mod Commas
+pub mod Lines
 pub mod Tables
 pub mod PlanText
 pub mod Stores

@@ -1,20 +1,25 @@
 -- The numbers of a plan's text, or the first fault of the text.
-use Rattle.std.specs.Prelude.{ℕ, nat_lt, ◌==◌, ◌&&◌, is_some, Bool, true, List, [], ◌∷◌, ◌++◌, length, codes, Option, Some, None, option_and_then, Result, Ok, if◌then◌else◌}
+use Rattle.std.specs.Prelude.{ℕ, nat_lt, ◌==◌, ◌&&◌, ◌||◌, is_some, Bool, true, List, [], ◌∷◌, ◌++◌, length, codes, Option, Some, None, option_and_then, Result, Ok, if◌then◌else◌}
 use Rattle.std.specs.Str.{is_utf8}
 use Rattle.toml.specs.Data.{Items, no_items, item, Members, get_member, as_array, as_table}
 use Rattle.toml.specs.Parse.{parse_document}
 use Rattle.slot_types.specs.declared.refusals.Cause.TheVariants as cause
 use Rattle.slot_types.specs.declared.refusals.Refusal.{Refusal}
 use Rattle.task_texts.specs.Readings.{◌>>=◌}
-use Rattle.task_texts.specs.Tables.{checked_keys, fault, has_only, has_task_keys, has_top_keys, is_task_key, is_top_key, number_at, or_fault}
+use Rattle.task_texts.specs.Tables.{checked_keys, fault, has_only, has_task_keys, has_times, has_top_keys, is_task_key, is_top_key, number_at, or_fault}
+use Rattle.slot_types.specs.declared.plans.TaskTimes.{TaskTimes}
 use Rattle.task_texts.specs.declared.plan_texts.PlanNumbers.{PlanNumbers}
 use Rattle.task_texts.specs.declared.plan_texts.TaskNumbers.{TaskNumbers}
 use Rattle.task_texts.specs.declared.plan_texts.TopNumbers.{TopNumbers}
 
--- the numbers of the top table
-unfoldable pub top_of : Members → Result TopNumbers Refusal
-top_of ms = do
-  keys ← checked_keys (has_only is_top_key ms) (has_top_keys ms)
+-- for how many slots the load is counted, in a plan with times
+abbrev pub common_of : Bool → Members → Result (Option ℕ) Refusal
+common_of timed ms = if timed then (number_at ms (codes "common") >>= (λ common. Ok (Some common))) else Ok None
+
+-- the numbers of the top table, of a plan with times or without
+unfoldable pub top_of : Bool → Members → Result TopNumbers Refusal
+top_of timed ms = do
+  keys ← checked_keys (has_only (is_top_key timed) ms) (has_top_keys timed ms)
   version ← number_at ms (codes "version")
   dies ← number_at ms (codes "dies")
   blocks ← number_at ms (codes "blocks")
@@ -22,26 +27,41 @@ top_of ms = do
   erase_slots ← number_at ms (codes "erase_slots")
   logical ← number_at ms (codes "logical")
   alpha ← number_at ms (codes "alpha")
-  Ok (record { version = version; dies = dies; blocks = blocks; pages = pages; erase_slots = erase_slots; logical = logical; alpha = alpha })
+  common ← common_of timed ms
+  Ok (record { version = version; dies = dies; blocks = blocks; pages = pages; erase_slots = erase_slots; logical = logical; alpha = alpha; common = common })
 
--- the numbers of a task
-unfoldable pub task_of : Members → Result TaskNumbers Refusal
-task_of ms = do
-  keys ← checked_keys (has_only is_task_key ms) (has_task_keys ms)
+-- the times in a task
+unfoldable pub times_in : Members → Result TaskTimes Refusal
+times_in ms = do
+  period ← number_at ms (codes "period")
+  collect_period ← number_at ms (codes "collect_period")
+  work ← number_at ms (codes "work")
+  writes ← number_at ms (codes "writes")
+  Ok (record { period = period; collect_period = collect_period; work = work; writes = writes })
+
+-- the times of a task, in a plan with times
+abbrev pub task_times_of : Bool → Members → Result (Option TaskTimes) Refusal
+task_times_of timed ms = if timed then (times_in ms >>= (λ times. Ok (Some times))) else Ok None
+
+-- the numbers of a task, of a plan with times or without
+unfoldable pub task_of : Bool → Members → Result TaskNumbers Refusal
+task_of timed ms = do
+  keys ← checked_keys (has_only (is_task_key timed) ms) (has_task_keys timed ms)
   die ← number_at ms (codes "die")
   cap ← number_at ms (codes "cap")
-  Ok (record { die = die; cap = cap })
+  times ← task_times_of timed ms
+  Ok (record { die = die; cap = cap; times = times })
 
-abbrev pub task_in : Option Members → Result TaskNumbers Refusal
-task_in None = fault cause.WrongKind
-task_in (Some ms) = task_of ms
+abbrev pub task_in : Bool → Option Members → Result TaskNumbers Refusal
+task_in timed None = fault cause.WrongKind
+task_in timed (Some ms) = task_of timed ms
 
 -- the numbers of the tasks, in their order
-unfoldable pub tasks_of : Items → Result (List TaskNumbers) Refusal
-tasks_of no_items = Ok []
-tasks_of (item d ds) = do
-  t ← task_in (as_table d)
-  ts ← tasks_of ds
+unfoldable pub tasks_of : Bool → Items → Result (List TaskNumbers) Refusal
+tasks_of timed no_items = Ok []
+tasks_of timed (item d ds) = do
+  t ← task_in timed (as_table d)
+  ts ← tasks_of timed ds
   Ok (t ∷ ts)
 
 -- whether all items are tables
@@ -54,6 +74,10 @@ abbrev pub tables_or : Option Items → Result Items Refusal
 tables_or None = fault cause.WrongKind
 tables_or (Some ds) = if are_tables ds then Ok ds else fault cause.WrongKind
 
+-- a plan of version 1 has no times, one of version 2 has
+abbrev pub is_known : ℕ → Bool
+is_known version = (version == 1) || (version == 2)
+
 -- the numbers of these, where the version is known
 abbrev pub versioned : Bool → TopNumbers → Result (List TaskNumbers) Refusal → Result PlanNumbers Refusal
 versioned known top read = if known then (read >>= (λ tasks. Ok (record { top = top; tasks = tasks }))) else fault cause.BadVersion
@@ -61,9 +85,9 @@ versioned known top read = if known then (read >>= (λ tasks. Ok (record { top =
 -- the numbers of a plan's table: the top table is judged first, then the version, then each task
 unfoldable pub numbers_of : Members → Result PlanNumbers Refusal
 numbers_of ms = do
-  top ← top_of ms
+  top ← top_of (has_times ms) ms
   tables ← tables_or (option_and_then as_array (get_member (codes "task") ms))
-  versioned (top.version == 1) top (tasks_of tables)
+  versioned (is_known top.version) top (tasks_of (has_times ms) tables)
 
 -- the table of a text
 abbrev pub table_of : List ℕ → Result Members Refusal

@@ -51,6 +51,10 @@ abbrev pub row_fields : ℕ → ReportRow → List (List ℕ)
 row_fields die row = kind_word row.row ∷ (row_numbers die row
     ++ number_field row.completion ∷ lateness_field row.lateness ∷ number_field row.given ∷ pages_field row.reads ∷ [])
 
+-- the fields of a row between its first one and its pages
+abbrev pub row_start : ℕ → ReportRow → List (List ℕ)
+row_start die row = row_numbers die row ++ number_field row.completion ∷ lateness_field row.lateness ∷ number_field row.given ∷ []
+
 -- the numbers that each certificate of a die has: its start in the place of a release
 abbrev pub cert_numbers : ℕ → Certificate → List (List ℕ)
 cert_numbers die cert = decimal die ∷ decimal cert.job ∷ [] ∷ decimal cert.start ∷ decimal cert.due ∷ [] ∷ decimal cert.completion ∷ []

@@ -1,5 +1,5 @@
 -- What a plan asks of its tables.
-use Rattle.std.specs.Prelude.{ℕ, ℤ, pos, negsuc, nat_lt, nat_eq, ◌&&◌, ◌||◌, is_some, Bool, true, List, codes, Option, Some, None, option_and_then, Result, Ok, Err, if◌then◌else◌}
+use Rattle.std.specs.Prelude.{ℕ, ℤ, pos, negsuc, nat_lt, nat_eq, ◌==◌, ◌&&◌, ◌||◌, not, is_some, Bool, true, false, List, codes, Option, Some, None, option_and_then, Result, Ok, Err, if◌then◌else◌}
 use Rattle.std.specs.Cmp.Lexicographic.{pointwise}
 use Rattle.toml.specs.Data.{Members, no_members, member, get_member, as_integer}
 use Rattle.slot_types.specs.declared.refusals.Cause.{Cause}
@@ -24,24 +24,35 @@ unfoldable pub has_only : (List ℕ → Bool) → Members → Bool
 has_only test no_members = true
 has_only test (member k d ms) = test k && has_only test ms
 
--- whether a key is one of the top table, or of a task
-abbrev pub is_top_key : List ℕ → Bool
-is_top_key k = is_text k (codes "version") || (is_text k (codes "dies") || (is_text k (codes "blocks") || (is_text k (codes "pages")
-    || (is_text k (codes "erase_slots") || (is_text k (codes "logical") || (is_text k (codes "alpha") || is_text k (codes "task")))))))
+-- whether a key is one of the top table, of a plan with times or without
+abbrev pub is_top_key : Bool → List ℕ → Bool
+is_top_key timed k = is_text k (codes "version") || (is_text k (codes "dies") || (is_text k (codes "blocks") || (is_text k (codes "pages")
+    || (is_text k (codes "erase_slots") || (is_text k (codes "logical") || (is_text k (codes "alpha") || (is_text k (codes "task")
+    || (timed && is_text k (codes "common")))))))))
 
-abbrev pub is_task_key : List ℕ → Bool
-is_task_key k = is_text k (codes "die") || is_text k (codes "cap")
+-- whether a key is one of the times of a task
+abbrev pub is_time_key : List ℕ → Bool
+is_time_key k = is_text k (codes "period") || (is_text k (codes "collect_period") || (is_text k (codes "work") || is_text k (codes "writes")))
+
+-- whether a key is one of a task, of a plan with times or without
+abbrev pub is_task_key : Bool → List ℕ → Bool
+is_task_key timed k = is_text k (codes "die") || (is_text k (codes "cap") || (timed && is_time_key k))
 
 abbrev pub has_member : Members → List ℕ → Bool
 has_member ms k = is_some (get_member k ms)
 
 -- whether each of those keys is there
-abbrev pub has_top_keys : Members → Bool
-has_top_keys ms = has_member ms (codes "version") && (has_member ms (codes "dies") && (has_member ms (codes "blocks") && (has_member ms (codes "pages")
-    && (has_member ms (codes "erase_slots") && (has_member ms (codes "logical") && (has_member ms (codes "alpha") && has_member ms (codes "task")))))))
+abbrev pub has_top_keys : Bool → Members → Bool
+has_top_keys timed ms = has_member ms (codes "version") && (has_member ms (codes "dies") && (has_member ms (codes "blocks") && (has_member ms (codes "pages")
+    && (has_member ms (codes "erase_slots") && (has_member ms (codes "logical") && (has_member ms (codes "alpha") && (has_member ms (codes "task")
+    && (not timed || has_member ms (codes "common")))))))))
 
-abbrev pub has_task_keys : Members → Bool
-has_task_keys ms = has_member ms (codes "die") && has_member ms (codes "cap")
+abbrev pub has_time_keys : Members → Bool
+has_time_keys ms =
+    has_member ms (codes "period") && (has_member ms (codes "collect_period") && (has_member ms (codes "work") && has_member ms (codes "writes")))
+
+abbrev pub has_task_keys : Bool → Members → Bool
+has_task_keys timed ms = has_member ms (codes "die") && (has_member ms (codes "cap") && (not timed || has_time_keys ms))
 
 -- the keys of a table are its own, and all are there
 abbrev pub checked_keys : Bool → Bool → Result (Unit {0}) Refusal
@@ -55,3 +66,11 @@ small_of (negsuc n) = None
 -- the number at a key
 abbrev pub number_at : Members → List ℕ → Result ℕ Refusal
 number_at ms k = or_fault cause.WrongKind (option_and_then small_of (option_and_then as_integer (get_member k ms)))
+
+-- whether a plan has times: its version is the whole number 2
+abbrev pub is_two : Option ℕ → Bool
+is_two None = false
+is_two (Some n) = n == 2
+
+abbrev pub has_times : Members → Bool
+has_times ms = is_two (option_and_then small_of (option_and_then as_integer (get_member (codes "version") ms)))

@@ -1,5 +1,5 @@
 -- Fields that hold several words, with one space between two.
-use Rattle.std.specs.Prelude.{ℕ, ◌==◌, List, [], ◌∷◌, Option, Some, None, Result, Ok, Err}
+use Rattle.std.specs.Prelude.{◌≡◌, ℕ, ◌==◌, List, [], ◌∷◌, ◌++◌, All, false, Option, Some, None, Result, Ok, Err}
 use Rattle.std.specs.List.{slice_split}
 use Rattle.hex.specs.Hex.{decode_sized}
 use Rattle.hex.specs.declared.error.FromHexError.{FromHexError}
@@ -32,3 +32,21 @@ page_or (Err fault) = None
 -- the page that 32 hexadecimal digits write, in either case
 abbrev pub page_of : List ℕ → Option PageData
 page_of digits = page_or (decode_sized digits 16)
+
+-- what stands behind a word: nothing, or a space and more
+abbrev pub behind : Option (List ℕ) → List ℕ
+behind None = []
+behind (Some rest) = 32 ∷ rest
+
+-- a text begins with bytes that say this, no space among them, and the rest stands behind them
+pub record StartsWith {A : Type 0} (read : List ℕ → Option A) (text : List ℕ) (x : A) (rest : List ℕ) : Type 0 where
+  pub front : List ℕ
+  pub parts : text ≡ front ++ rest
+  pub says : read front ≡ Some x
+  pub whole : All (λ b. (b == 32) ≡ false) front
+
+-- the first word of a text says this, and these words follow it
+pub record IsFirst {A : Type 0} (read : List ℕ → Option A) (text : List ℕ) (x : A) (more : List (List ℕ)) : Type 0 where
+  pub word : List ℕ
+  pub parts : slice_split (λ b. b == 32) text ≡ word ∷ more
+  pub says : Some x ≡ read word

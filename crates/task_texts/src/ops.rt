@@ -1,25 +1,15 @@
 //! The operations of a job, as a script writes them.
 
-ghost use Rattle.std.specs.Prelude.{◌≡◌};
+ghost use Rattle.std.specs.Prelude.{◌≡◌, ◌∷◌, IfSome};
 ghost use Rattle.task_texts.specs.Ops.{op_of, ops_of, ops_or, write_of};
 ghost use Rattle.task_texts.specs.Readings.{Gives};
-ghost use Rattle.task_texts.specs.Words.{page_of};
+ghost use Rattle.task_texts.specs.Words.{StartsWith};
 
-use crate::numbers::number;
+use crate::numbers::{leading_number, number};
+use crate::pages::{leading_page, page};
 use crate::words::list;
-use slot_types::{Cause, Op, OpList, PageData, Refusal};
+use slot_types::{Cause, Op, OpList, Refusal};
 use std::alloc::Global;
-
-/// The bytes that 32 hexadecimal digits write.
-pub fn page(digits: &[u8]) -> Option<PageData>
-    ensures { result ≡ page_of digits.now }
-{
-    let mut bytes = [0u8; 16];
-    match hex::decode_to_slice(digits, &mut bytes) {
-        Ok(()) => Some(PageData(bytes)),
-        Err(_) => None,
-    }
-}
 
 /// A write: a page number, `=` and the digits of a page.
 fn write(word: &[u8]) -> Option<Op>
@@ -49,6 +39,41 @@ pub fn op(word: &[u8]) -> Option<Op>
     }
     if *letter == b'W' {
         return write(rest);
+    }
+    None
+}
+
+/// A read at the front of a text, behind its letter, and what stands behind it.
+fn leading_read(text: &[u8]) -> Option<(Op, &[u8])>
+    ensures { IfSome result (λ found. StartsWith op_of (82 ∷ text.now) found.0 found.1.now) }
+{
+    let (page, rest) = leading_number(text)?;
+    Some((Op::Read(page), rest))
+}
+
+/// A write at the front of a text, behind its letter, and what stands behind it.
+fn leading_write(text: &[u8]) -> Option<(Op, &[u8])>
+    ensures { IfSome result (λ found. StartsWith op_of (87 ∷ text.now) found.0 found.1.now) }
+{
+    let (target, left) = leading_number(text)?;
+    let (sign, digits) = left.split_first()?;
+    if *sign != b'=' {
+        return None;
+    }
+    let (bytes, rest) = leading_page(digits)?;
+    Some((Op::Write(target, bytes), rest))
+}
+
+/// An operation at the front of a text, and what stands behind it.
+pub fn leading_op(text: &[u8]) -> Option<(Op, &[u8])>
+    ensures { IfSome result (λ found. StartsWith op_of text.now found.0 found.1.now) }
+{
+    let (letter, left) = text.split_first()?;
+    if *letter == b'R' {
+        return leading_read(left);
+    }
+    if *letter == b'W' {
+        return leading_write(left);
     }
     None
 }

@@ -5,10 +5,10 @@ ghost use Rattle.std.specs.List.{list_all};
 ghost use Rattle.toml.specs.Data.{as_array, as_table, get_member};
 ghost use Rattle.toml.specs.View.{table_view, items_view, view};
 ghost use Rattle.task_texts.specs.Readings.{Gives, Shows};
-ghost use Rattle.task_texts.specs.PlanText.{are_tables, numbers_of, plan_of, table_of, tables_or, task_of, tasks_of, top_of};
+ghost use Rattle.task_texts.specs.PlanText.{are_tables, common_of, numbers_of, plan_of, table_of, tables_or, task_of, task_times_of, tasks_of, times_in, top_of};
 
-use crate::tables::{check_task_keys, check_top_keys, find, number_in};
-use slot_types::{Cause, Items, Refusal};
+use crate::tables::{check_task_keys, check_top_keys, find, has_times, number_in};
+use slot_types::{Cause, Items, Refusal, TaskTimes};
 use std::alloc::Global;
 use toml::{Table, Value};
 
@@ -25,6 +25,8 @@ pub struct TopNumbers {
     pub erase_slots: u32,
     pub logical: u32,
     pub alpha: u32,
+    /// For how many slots the load is counted; none where the plan has no times.
+    pub common: Option<u32>,
 }
 
 /// What a plan says of a task.
@@ -32,6 +34,8 @@ pub struct TopNumbers {
 pub struct TaskNumbers {
     pub die: u32,
     pub cap: u32,
+    /// None where the plan has no times.
+    pub times: Option<TaskTimes>,
 }
 
 /// The tasks of all dies, in the order of the text.
@@ -44,12 +48,23 @@ pub struct PlanNumbers {
     pub tasks: TaskList,
 }
 
-/// The numbers of the top table.
-#[tactic(auto, unfolding(crate::specs::PlanText::top_of))]
-fn top(table: &Table) -> Result<TopNumbers, Refusal>
-    ensures { result ≡ top_of (table_view table.now) }
+/// For how many slots the load is counted, in a plan with times.
+fn common(table: &Table, timed: bool) -> Result<Option<u32>, Refusal>
+    ensures { result ≡ common_of timed (table_view table.now) }
 {
-    check_top_keys(table)?;
+    if !timed {
+        return Ok(None);
+    }
+    let common = number_in(table, "common")?;
+    Ok(Some(common))
+}
+
+/// The numbers of the top table, of a plan with times or without.
+#[tactic(auto, unfolding(crate::specs::PlanText::top_of))]
+fn top(table: &Table, timed: bool) -> Result<TopNumbers, Refusal>
+    ensures { result ≡ top_of timed (table_view table.now) }
+{
+    check_top_keys(table, timed)?;
     let version = number_in(table, "version")?;
     let dies = number_in(table, "dies")?;
     let blocks = number_in(table, "blocks")?;
@@ -57,6 +72,7 @@ fn top(table: &Table) -> Result<TopNumbers, Refusal>
     let erase_slots = number_in(table, "erase_slots")?;
     let logical = number_in(table, "logical")?;
     let alpha = number_in(table, "alpha")?;
+    let common = common(table, timed)?;
     Ok(TopNumbers {
         version,
         dies,
@@ -65,23 +81,53 @@ fn top(table: &Table) -> Result<TopNumbers, Refusal>
         erase_slots,
         logical,
         alpha,
+        common,
     })
 }
 
-/// The numbers of a task.
-#[tactic(auto, unfolding(crate::specs::PlanText::task_of))]
-fn task(table: &Table) -> Result<TaskNumbers, Refusal>
-    ensures { result ≡ task_of (table_view table.now) }
+/// The times in a task.
+#[tactic(auto, unfolding(crate::specs::PlanText::times_in))]
+fn times(table: &Table) -> Result<TaskTimes, Refusal>
+    ensures { result ≡ times_in (table_view table.now) }
 {
-    check_task_keys(table)?;
+    let period = number_in(table, "period")?;
+    let collect_period = number_in(table, "collect_period")?;
+    let work = number_in(table, "work")?;
+    let writes = number_in(table, "writes")?;
+    Ok(TaskTimes {
+        period,
+        collect_period,
+        work,
+        writes,
+    })
+}
+
+/// The times of a task, in a plan with times.
+fn task_times(table: &Table, timed: bool) -> Result<Option<TaskTimes>, Refusal>
+    ensures { result ≡ task_times_of timed (table_view table.now) }
+{
+    if !timed {
+        return Ok(None);
+    }
+    let times = times(table)?;
+    Ok(Some(times))
+}
+
+/// The numbers of a task, of a plan with times or without.
+#[tactic(auto, unfolding(crate::specs::PlanText::task_of))]
+fn task(table: &Table, timed: bool) -> Result<TaskNumbers, Refusal>
+    ensures { result ≡ task_of timed (table_view table.now) }
+{
+    check_task_keys(table, timed)?;
     let die = number_in(table, "die")?;
     let cap = number_in(table, "cap")?;
-    Ok(TaskNumbers { die, cap })
+    let times = task_times(table, timed)?;
+    Ok(TaskNumbers { die, cap, times })
 }
 
 /// The numbers of the tasks, in their order.
-fn tasks(alloc: Global, tables: &[Value]) -> Result<TaskList, Refusal>
-    ensures { Gives result (tasks_of (items_view tables.now)) }
+fn tasks(alloc: Global, tables: &[Value], timed: bool) -> Result<TaskList, Refusal>
+    ensures { Gives result (tasks_of timed (items_view tables.now)) }
 {
     let mut tasks = TaskList::new(alloc);
     for i in 0..tables.len() {
@@ -90,7 +136,7 @@ fn tasks(alloc: Global, tables: &[Value]) -> Result<TaskList, Refusal>
                 cause: Cause::WrongKind,
             });
         };
-        match task(table) {
+        match task(table, timed) {
             Ok(task) => tasks.push(task)?,
             Err(refusal) => return Err(refusal),
         }
@@ -141,14 +187,15 @@ fn task_tables(table: &Table) -> Result<&[Value], Refusal>
 fn numbers(alloc: Global, table: &Table) -> Result<PlanNumbers, Refusal>
     ensures { Gives result (numbers_of (table_view table.now)) }
 {
-    let top = top(table)?;
+    let timed = has_times(table);
+    let top = top(table, timed)?;
     let tables = task_tables(table)?;
-    if top.version != 1 {
+    if top.version != 1 && top.version != 2 {
         return Err(Refusal::PlanText {
             cause: Cause::BadVersion,
         });
     }
-    let tasks = tasks(alloc, tables)?;
+    let tasks = tasks(alloc, tables, timed)?;
     Ok(PlanNumbers { top, tasks })
 }
 

@@ -6,14 +6,18 @@ ghost use Rattle.std.specs.Prelude.{◌≡◌, ◌++◌, ◌∷◌, [], codes, d
 ghost use Rattle.std.specs.Fmt.{signed_decimal};
 ghost use Rattle.std.specs.Io.KnownBytes.{Appends};
 ghost use Rattle.csv.specs.Writing.{default_writer, row_text};
-ghost use Rattle.task_texts.specs.ReportText.{cert_fields, cert_record, die_records, header_fields, kind_word, lateness_field, number_field, numbers_field, page_word, pages_field, records_text, report_text, row_fields, row_numbers, cert_numbers};
-ghost use Rattle.late_cert.specs.Schedule.{lateness_of};
+ghost use Rattle.task_texts.specs.ReportText.{cert_fields, cert_numbers, cert_record, die_records, header_fields, kind_word, numbers_field, page_word, pages_field, records_text, report_text, row_fields, row_start};
 ghost use Rattle.task_texts.specs.Commas.{after_commas};
+ghost use Rattle.task_texts.specs.Lines.{line_text};
+ghost use Rattle.late_cert.specs.Schedule.{lateness_of};
 
+use crate::lines::Line;
+use crate::pages::put_page;
 use crate::reports::{DieReport, Report, ReportRow, RowKind};
+use itoa::Buffer;
 use late_cert::{Certificate, lateness};
 use slot_types::{JobNo, PageData, Refusal};
-use std::alloc::{AllocError, Global};
+use std::alloc::Global;
 use std::io;
 use std::io::Write;
 
@@ -28,35 +32,12 @@ fn word(kind: RowKind) -> &'static str
     }
 }
 
-/// Adds a number, where there is one.
-fn put_number(text: &mut Vec<u8>, number: Option<u32>) -> io::Result<()>
-    ensures { OnOk result (text.new.items ≡ text.old.items ++ number_field number) }
+/// Adds a number.
+fn put_number(text: &mut Vec<u8>, number: u32) -> io::Result<()>
+    ensures { OnOk result (text.new.items ≡ text.old.items ++ decimal number) }
 {
-    match number {
-        Some(number) => write!(text, "{number}"),
-        None => Ok(()),
-    }
-}
-
-/// Adds a lateness, where there is one.
-fn put_lateness(text: &mut Vec<u8>, late: Option<i64>) -> io::Result<()>
-    ensures { OnOk result (text.new.items ≡ text.old.items ++ lateness_field late) }
-{
-    match late {
-        Some(late) => write!(text, "{late}"),
-        None => Ok(()),
-    }
-}
-
-/// Adds the digits of a page.
-fn put_page(text: &mut Vec<u8>, page: &PageData) -> io::Result<()>
-    ensures { OnOk result (text.new.items ≡ text.old.items ++ page_word page.now) }
-{
-    let mut digits = [0u8; 32];
-    if hex::encode_to_slice(page.0.as_slice(), &mut digits).is_err() {
-        return Err(io::Error::from(AllocError));
-    }
-    text.extend_from_slice(&digits)?;
+    let mut buffer = Buffer::new();
+    text.extend_from_slice(buffer.format(number).as_bytes())?;
     Ok(())
 }
 
@@ -87,7 +68,8 @@ fn put_more_numbers(text: &mut Vec<u8>, numbers: &[JobNo]) -> io::Result<()>
     ensures { OnOk result (text.new.items ≡ text.old.items ++ flat_map (λ number. 32 ∷ decimal number) numbers.now) }
 {
     for number in numbers {
-        write!(text, " {}", number.0)?;
+        text.push(b' ')?;
+        put_number(text, number.0)?;
     }
     Ok(())
 }
@@ -99,19 +81,35 @@ fn put_numbers(text: &mut Vec<u8>, numbers: &[JobNo]) -> io::Result<()>
     let Some((first, rest)) = numbers.split_first() else {
         return Ok(());
     };
-    write!(text, "{}", first.0)?;
+    put_number(text, first.0)?;
     put_more_numbers(text, rest)
 }
 
-/// Adds the first fields of a row.
-#[tactic(auto, unfolding(crate::specs::Commas::after_commas))]
-fn put_row_start(text: &mut Vec<u8>, die: u32, row: &ReportRow) -> io::Result<()>
-    ensures { OnOk result (text.new.items ≡ text.old.items ++ (kind_word row.now.row ++ after_commas (row_numbers die row.now))) }
+/// The fields of a row between its first one and its pages, each after a comma.
+fn row_line(die: u32, row: &ReportRow) -> Line
+    ensures { line_text result ≡ after_commas (row_start die row.now) }
 {
-    let kind = word(row.row);
-    let (job, task) = (row.job.0, row.task.0);
-    let (release, due, work) = (row.release, row.due, row.work);
-    write!(text, "{kind},{die},{job},{task},{release},{due},{work}")
+    let mut line = Line::new();
+    line.put_field_if(row.given);
+    line.put_lateness_if(row.lateness);
+    line.put_field_if(row.completion);
+    line.put_field(row.work);
+    line.put_field(row.due);
+    line.put_field(row.release);
+    line.put_field(row.task.0);
+    line.put_field(row.job.0);
+    line.put_field(die);
+    line
+}
+
+/// Adds the fields of a row but for its pages.
+fn put_row_start(text: &mut Vec<u8>, die: u32, row: &ReportRow) -> io::Result<()>
+    ensures { OnOk result (text.new.items ≡ text.old.items ++ (kind_word row.now.row ++ after_commas (row_start die row.now))) }
+{
+    let line = row_line(die, row);
+    text.extend_from_slice(word(row.row).as_bytes())?;
+    text.extend_from_slice(line.as_slice())?;
+    Ok(())
 }
 
 /// Adds the record of a row.
@@ -119,12 +117,6 @@ fn put_row(text: &mut Vec<u8>, die: u32, row: &ReportRow) -> io::Result<()>
     ensures { OnOk result (text.new.items ≡ text.old.items ++ row_text default_writer (row_fields die row.now)) }
 {
     put_row_start(text, die, row)?;
-    text.push(b',')?;
-    put_number(text, row.completion)?;
-    text.push(b',')?;
-    put_lateness(text, row.lateness)?;
-    text.push(b',')?;
-    put_number(text, row.given)?;
     text.push(b',')?;
     put_pages(text, row.reads.as_slice())?;
     text.push(b'\n')?;

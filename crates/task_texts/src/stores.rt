@@ -2,13 +2,14 @@
 
 ghost use Rattle.std.specs.Prelude.{◌≡◌, ◌↔◌, ◌<◌, ◌≤◌, ◌⊎◌, ℕ, All, IsTrue, IfOk, IfErr, Ok, length};
 ghost use Rattle.plan_rules.specs.Bound.{IsShape, MeetsBound};
+ghost use Rattle.plan_rules.specs.Times.{PassesItsTimes};
 ghost use Rattle.task_texts.specs.PlanText.{plan_of};
-ghost use Rattle.task_texts.specs.Stores.{IsShaped, IsServed, IsStore, RefusesPlan, RefusesStore, caps_of, die_of, dies_of, shape_of};
+ghost use Rattle.task_texts.specs.Stores.{IsShaped, IsServed, IsStore, IsUsable, RefusesPlan, RefusesStore, caps_of, die_of, dies_of, shape_of, task_times_of, times_of};
 ghost use Rattle.task_texts.specs.declared.plan_texts.PlanNumbers.{PlanNumbers};
 
 use crate::plan_texts::{PlanNumbers, TaskNumbers, TopNumbers, plan_numbers};
-use plan_rules::bound;
-use slot_types::{Caps, DiePlan, MAX_DIES, Refusal, Shape, StorePlan};
+use plan_rules::{bound, plan_test};
+use slot_types::{Caps, DiePlan, MAX_DIES, Refusal, Shape, StorePlan, Times, TimesList};
 use std::alloc::{AllocError, Global};
 
 /// The shape of the dies.
@@ -32,6 +33,7 @@ fn is_shape(alloc: Global, shape: Shape) -> bool
         logical: 0,
         alpha: 0,
         caps: Caps::new(alloc),
+        times: None,
     };
     bound(&plan) != Err(Refusal::BadShape)
 }
@@ -63,28 +65,66 @@ fn caps(alloc: Global, tasks: &[TaskNumbers], die: u32) -> Result<Caps, AllocErr
     Ok(caps)
 }
 
+/// The times of a die's tasks, in the order of the text.
+fn task_times(alloc: Global, tasks: &[TaskNumbers], die: u32) -> Result<TimesList, AllocError>
+    ensures { IfOk result (λ times. times ≡ task_times_of tasks.now die) }
+{
+    let mut times = TimesList::new(alloc);
+    for task in tasks {
+        if task.die == die {
+            if let Some(own) = task.times {
+                times.push(own)?;
+            }
+        }
+    }
+    Ok(times)
+}
+
+/// The times of a die, in a plan with times.
+fn times(alloc: Global, plan: &PlanNumbers, die: u32) -> Result<Option<Times>, AllocError>
+    ensures { IfOk result (λ times. times ≡ times_of plan.now die) }
+{
+    match plan.top.common {
+        Some(common) => {
+            let tasks = task_times(alloc, plan.tasks.as_slice(), die)?;
+            Ok(Some(Times { common, tasks }))
+        }
+        None => Ok(None),
+    }
+}
+
 /// The plan of a die.
 fn die_plan(alloc: Global, plan: &PlanNumbers, die: u32) -> Result<DiePlan, AllocError>
     ensures { IfOk result (λ made. made ≡ die_of plan.now die) }
 {
+    let caps = caps(alloc, plan.tasks.as_slice(), die)?;
+    let times = times(alloc, plan, die)?;
     Ok(DiePlan {
         shape: shape(&plan.top),
         logical: plan.top.logical,
         alpha: plan.top.alpha,
-        caps: caps(alloc, plan.tasks.as_slice(), die)?,
+        caps,
+        times,
     })
 }
 
-/// The plans of the dies, each of which has to meet its bound.
-fn bound_dies(alloc: Global, plan: &PlanNumbers) -> Result<StorePlan, Refusal>
+/// Whether a die meets its bound, and passes the test of its times if it has any.
+fn is_usable(plan: &DiePlan) -> bool
+    ensures { IsTrue result ↔ IsUsable plan.now }
+{
+    bound(plan).is_ok() && (plan.times.is_none() || plan_test(plan).is_ok())
+}
+
+/// The plans of the dies, each of which has to be usable.
+fn usable_dies(alloc: Global, plan: &PlanNumbers) -> Result<StorePlan, Refusal>
     ensures dies { IfOk result (λ store. store ≡ dies_of plan.now) }
-    ensures bound { IfOk result (λ _. (die : ℕ) → die < plan.now.top.dies → MeetsBound (die_of plan.now die)) }
-    ensures refused { IfErr result (λ refusal. (refusal ≡ Refusal.NoMemory) ⊎ ((refusal ≡ Refusal.BadPlan) × ((die : ℕ) × (die < plan.now.top.dies) × ¬ MeetsBound (die_of plan.now die)))) }
+    ensures usable { IfOk result (λ _. (die : ℕ) → die < plan.now.top.dies → IsUsable (die_of plan.now die)) }
+    ensures refused { IfErr result (λ refusal. (refusal ≡ Refusal.NoMemory) ⊎ ((refusal ≡ Refusal.BadPlan) × ((die : ℕ) × (die < plan.now.top.dies) × ¬ IsUsable (die_of plan.now die)))) }
 {
     let mut store = StorePlan::new(alloc);
     for die in 0..plan.top.dies {
         let made = die_plan(alloc, plan, die)?;
-        if bound(&made).is_err() {
+        if !is_usable(&made) {
             return Err(Refusal::BadPlan);
         }
         store.push(made)?;
@@ -103,23 +143,26 @@ fn store_of(alloc: Global, plan: &PlanNumbers) -> Result<StorePlan, Refusal>
     if !are_named(plan.tasks.as_slice(), plan.top.dies) {
         return Err(Refusal::BadPlan);
     }
-    bound_dies(alloc, plan)
+    usable_dies(alloc, plan)
 }
 
-/// Reads the plan of a store, a TOML text of at most 1,048,576 bytes: `version`, which is 1, `dies`, `blocks`,
+/// Reads the plan of a store, a TOML text of at most 1,048,576 bytes: `version`, which is 1 or 2, `dies`, `blocks`,
 /// `pages`, `erase_slots`, `logical` and `alpha`, whole numbers, and for each task a table `[[task]]` with `die` and
-/// `cap`. The tasks of a die are numbered from 0 in the order of the text.
+/// `cap`. The tasks of a die are numbered from 0 in the order of the text. A plan whose version is the whole number 2
+/// has times: it also has `common`, and in each task `period`, `collect_period`, `work` and `writes`.
 ///
 /// Refusals, in order: PlanText with the first fault of the text, where for the top table, and then for each task, a
 /// key that isn't one of those comes before one that is missing, and that before a value that is no number from 0 to
 /// 4,294,967,295 or no array of tables, and another version comes between the top table and the tasks; BadShape
 /// where dies, blocks, pages or erase slots are out of their limits; BadPlan where a task names a die that isn't
-/// there, or a die doesn't meet the bound on plans. NoMemory comes where memory is refused.
+/// there, or a die doesn't meet the bound on plans, or doesn't pass the test of its times, as
+/// [`plan_test`](plan_rules::plan_test) tells. NoMemory comes where memory is refused.
 pub fn read_plan(alloc: Global, bytes: &[u8]) -> Result<StorePlan, Refusal>
     ensures ok { IfOk result (λ store. (plan : PlanNumbers) × (plan_of bytes.now ≡ Ok plan) × IsStore plan store) }
     ensures some { IfOk result (λ store. 1 ≤ length store) }
     ensures few { IfOk result (λ store. length store ≤ 8) }
     ensures bound { IfOk result (All MeetsBound) }
+    ensures passes { IfOk result (All PassesItsTimes) }
     ensures err { IfErr result (λ refusal. (refusal ≡ Refusal.NoMemory) ⊎ RefusesPlan (plan_of bytes.now) refusal) }
 {
     let plan = plan_numbers(alloc, bytes)?;

@@ -1,13 +1,14 @@
 //! Fields that hold several words, with one space between two.
 
-ghost use Rattle.std.specs.Prelude.{◌≡◌, ◌∷◌, ◌==◌, ◌<◌, List, ℕ, Option, IfOk, IfSome, length, option_map};
+ghost use Rattle.std.specs.Prelude.{◌≡◌, ◌∷◌, ◌==◌, ◌<◌, List, ℕ, Option, IfOk, IfSome, MatchOption, None, length, option_map};
 ghost use Rattle.std.specs.List.{position, slice_split};
 ghost use Rattle.task_texts.specs.Number.{number_of};
 ghost use Rattle.task_texts.specs.Ops.{op_of};
-ghost use Rattle.task_texts.specs.Words.{all_of, list_of, page_of, words_of};
+ghost use Rattle.task_texts.specs.Words.{IsFirst, StartsWith, all_of, behind, list_of, page_of, words_of};
 
-use crate::numbers::number;
-use crate::ops::{op, page};
+use crate::numbers::{leading_number, number};
+use crate::ops::{leading_op, op};
+use crate::pages::{leading_page, page};
 use slot_types::{Items, JobNo, Op, PageData};
 use std::alloc::{AllocError, Global};
 
@@ -18,6 +19,11 @@ pub trait Word: Sized {
     /// What the word says, if it is of the right shape.
     fn read(word: &[u8]) -> Option<Self>
         ensures { result ≡ word_of word.now };
+
+    /// What a word at the front of a text says, and what stands behind it. None says nothing: some words are left
+    /// to [`read`](Word::read).
+    fn start(text: &[u8]) -> Option<(Self, &[u8])>
+        ensures { IfSome result (λ found. StartsWith word_of text.now found.0 found.1.now) };
 }
 
 impl Word for Op {
@@ -26,6 +32,10 @@ impl Word for Op {
     fn read(word: &[u8]) -> Option<Op> {
         op(word)
     }
+
+    fn start(text: &[u8]) -> Option<(Op, &[u8])> {
+        leading_op(text)
+    }
 }
 
 impl Word for PageData {
@@ -33,6 +43,10 @@ impl Word for PageData {
 
     fn read(word: &[u8]) -> Option<PageData> {
         page(word)
+    }
+
+    fn start(text: &[u8]) -> Option<(PageData, &[u8])> {
+        leading_page(text)
     }
 }
 
@@ -44,6 +58,11 @@ impl Word for JobNo {
             Some(n) => Some(JobNo(n)),
             None => None,
         }
+    }
+
+    fn start(text: &[u8]) -> Option<(JobNo, &[u8])> {
+        let (number, rest) = leading_number(text)?;
+        Some((JobNo(number), rest))
     }
 }
 
@@ -65,6 +84,54 @@ fn cut(text: &[u8]) -> (&[u8], Option<&[u8]>)
     }
 }
 
+/// What stands behind a word: nothing, or a space and more.
+fn behind(left: &[u8]) -> Option<Option<&[u8]>>
+    ensures { IfSome result (λ rest. left.now ≡ behind (option_map (λ text. text.now) rest)) }
+{
+    let Some((first, rest)) = left.split_first() else {
+        return Some(None);
+    };
+    if *first == b' ' {
+        Some(Some(rest))
+    } else {
+        None
+    }
+}
+
+/// What the first word of a text says in one pass, and what stands after the space behind it. None says nothing.
+fn quick_word<T: Word + Drop>(text: &[u8]) -> Option<(T, Option<&[u8]>)>
+    ensures { IfSome result (λ found. StartsWith T.word_of text.now found.0 (behind (option_map (λ text. text.now) found.1))) }
+{
+    let (item, left) = T::start(text)?;
+    let rest = behind(left)?;
+    Some((item, rest))
+}
+
+/// What the first word of a text says, cut off first, and what stands after the space behind it.
+fn cut_word<T: Word + Drop>(text: &[u8]) -> Option<(T, Option<&[u8]>)>
+    ensures word { MatchOption result (all_of T.word_of (slice_split (λ b. b == 32) text.now) ≡ None)
+        (λ found. IsFirst T.word_of text.now found.0 (words_of (option_map (λ rest. rest.now) found.1))) }
+    ensures shorter { IfSome result (λ found. IfSome found.1 (λ rest. length rest.now < length text.now)) }
+{
+    let (word, rest) = cut(text);
+    match T::read(word) {
+        Some(item) => Some((item, rest)),
+        None => None,
+    }
+}
+
+/// What the first word of a text says, and what stands after the space behind it.
+fn first_word<T: Word + Drop>(text: &[u8]) -> Option<(T, Option<&[u8]>)>
+    ensures word { MatchOption result (all_of T.word_of (slice_split (λ b. b == 32) text.now) ≡ None)
+        (λ found. IsFirst T.word_of text.now found.0 (words_of (option_map (λ rest. rest.now) found.1))) }
+    ensures shorter { IfSome result (λ found. IfSome found.1 (λ rest. length rest.now < length text.now)) }
+{
+    match quick_word(text) {
+        Some(found) => Some(found),
+        None => cut_word(text),
+    }
+}
+
 /// What the words of a text say, if all of them say something.
 fn all<T: Word + Drop>(alloc: Global, text: &[u8]) -> Result<Option<Items<T>>, AllocError>
     ensures { IfOk result (λ found. found ≡ all_of T.word_of (slice_split (λ b. b == 32) text.now)) }
@@ -72,12 +139,13 @@ fn all<T: Word + Drop>(alloc: Global, text: &[u8]) -> Result<Option<Items<T>>, A
     let mut items = Items::new(alloc);
     let mut left = Some(text);
     while let Some(text) = left {
-        let (word, rest) = cut(text);
-        match T::read(word) {
-            Some(item) => items.push(item)?,
+        match first_word(text) {
+            Some((item, rest)) => {
+                items.push(item)?;
+                left = rest;
+            }
             None => return Ok(None),
         }
-        left = rest;
     }
     Ok(Some(items))
 }

@@ -39,6 +39,26 @@ die = 1
 cap = 4
 ";
 
+/// A plan with times, of one die and one task: a job of two operations, one of them a write, in ten slots, and a
+/// collection in twenty.
+pub const TIMED: &str = "version = 2
+dies = 1
+blocks = 4
+pages = 4
+erase_slots = 3
+logical = 2
+alpha = 2
+common = 20
+
+[[task]]
+die = 0
+cap = 6
+period = 10
+collect_period = 20
+work = 2
+writes = 1
+";
+
 /// A write, and a read of the page that it wrote.
 pub const SCRIPT: &str = "at,die,task,kind,release,due,ops
 0,0,0,job,0,2,W3=11111111111111111111111111111111

@@ -11,6 +11,8 @@ mod growth;
 #[cfg(test)]
 mod long_scripts;
 #[cfg(test)]
+mod planned;
+#[cfg(test)]
 mod plans;
 #[cfg(test)]
 mod reports;

@@ -13,8 +13,9 @@ use Rattle.turn_lock.specs.Views.{numbers_of}
 
 module _ {E R A : Type 0} where
   -- what the pass of seat `id` knows, where these are the entries and the count of passes made. The bit is 1 while the seat `holder` has the turn
-  pub record Knows (log : List (Entry E R)) (count : ℕ) (about : A) (bit holder id : ℕ) (v : View E R A) : Type 0 where
+  pub record Knows (fits : A → List (Entry E R) → Type 0) (log : List (Entry E R)) (count : ℕ) (about : A) (bit holder id : ℕ) (v : View E R A) : Type 0 where
     pub about_is : v.live ≡ true → v.about ≡ Some about
+    pub fit : v.live ≡ true → fits about v.seen
     pub below : v.made ≤ count
     pub seen : (more : List (Entry E R)) × (log ≡ v.seen ++ more) × NoneBy (numbers_of v) more
     pub told : StartsWith log v.told
@@ -42,4 +43,4 @@ module _ {E R A B : Type 0} (log : B → List (Entry E R)) (about : B → A) whe
     pub named : (p : ℕ) → count ≤ p → calls_by p entries ≡ []
     pub parted : (p : ℕ) → total (λ v. times p (numbers_of v)) s.views ≡ once_below p count
     pub sized : total (λ v. length (numbers_of v)) s.views ≡ count
-    pub each : (id : ℕ) (v : View E R A) → get_elem? s.views id ≡ some v → Knows entries count topic bit holder id v
+    pub each : (id : ℕ) (v : View E R A) → get_elem? s.views id ≡ some v → Knows fits entries count topic bit holder id v

@@ -7,7 +7,7 @@ use Rattle.turn_lock.specs.declared.entry.Entry.{Entry}
 use Rattle.turn_lock.specs.declared.view.View.{View}
 use Rattle.turn_lock.specs.declared.view.Kept.{Kept}
 use Rattle.turn_lock.specs.Log.{times, StartsWith, calls_by, NoneBy, AllBy}
-use Rattle.turn_lock.specs.Views.{numbers_of}
+use Rattle.turn_lock.specs.Views.{numbers_of, SeesFitting}
 
 abbrev pub IsTurnTable : TableId → Type 0
 IsTurnTable table = (table.words ≡ 1) × (table.slots ≡ 1)
@@ -26,11 +26,11 @@ module _ {E R A : Type 0} where
   abbrev pub AddsOneAtMost : View E R A → List (Entry E R) → Type 0
   AddsOneAtMost v es = (more : List (Entry E R)) × (es ≡ v.seen ++ more) × (length more ≤ 1) × OnlyBy v.number more
 
-  -- a look that shows, after a join, that what either had seen begins the list, and that no number stands twice
-  abbrev pub compared : {S : Type 0} → Step S → Me S (View E R A) → ℕ → Me S (View E R A) → Type 0
-  compared st m r m' =
+  -- a look that shows, after a join, that what either had seen begins the list, and that no number stands twice; the longer of both fits
+  abbrev pub compared : {S : Type 0} → (A → List (Entry E R) → Type 0) → Step S → Me S (View E R A) → ℕ → Me S (View E R A) → Type 0
+  compared fits st m r m' =
       (m' ≡ m) × (length m.0.told ≤ length m.0.seen → StartsWith m.0.seen m.0.told)
-      × ((p : ℕ) → times p (numbers_of m.0) ≤ 1) × (length (numbers_of m.0) ≤ 65536)
+      × ((p : ℕ) → times p (numbers_of m.0) ≤ 1) × (length (numbers_of m.0) ≤ 65536) × SeesFitting fits m.0
 
 module _ {E R A B : Type 0} (log : B → List (Entry E R)) (about : B → A) where
   -- a look: the pass has seen all entries

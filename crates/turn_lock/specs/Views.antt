@@ -1,6 +1,7 @@
 -- What a pass knows, and what becomes of it where passes are made, split and joined.
 use Rattle.std.specs.Prelude.{◌≡◌, ℕ, ◌+◌, ◌<◌, true, false, if◌then◌else◌, max, List, [], ◌∷◌, ◌++◌, Some, None}
 use Rattle.atomic_table.specs.Seated.{TableId}
+use Rattle.turn_lock.specs.declared.entry.Entry.{Entry}
 use Rattle.turn_lock.specs.declared.view.View.{View}
 use Rattle.turn_lock.specs.Log.{times, longer, shorter}
 
@@ -21,6 +22,14 @@ module _ {E R A : Type 0} where
   -- the count of passes made, as the pass knows it, is above each of its numbers
   abbrev pub CountsOwn : View E R A → Type 0
   CountsOwn v = (p : ℕ) → 0 < times p (v.number ∷ v.joined) → p < v.made
+
+  -- a pass that wasn't joined into another, and knows of more passes than each of its numbers
+  abbrev pub IsLive : View E R A → Type 0
+  IsLive v = (v.live ≡ true) × CountsOwn v
+
+  -- what the pass has seen is a list of a book about this
+  abbrev pub SeesFitting : (A → List (Entry E R) → Type 0) → View E R A → Type 0
+  SeesFitting fits v = (a : A) × (v.about ≡ Some a) × fits a v.seen
 
   -- the first pass of a lock, which is its only one
   abbrev pub first_view : A → View E R A

@@ -2,7 +2,7 @@
 ghost use Rattle.std.specs.Prelude.{◌≡◌, [], ◌++◌, ◌∷◌, length, true, if◌then◌else◌, IsOk, IfOk, IfErr};
 ghost use Rattle.slot_types.specs.declared.refusals.Refusal.TheVariants.{NoMemory, PassesFull};
 ghost use Rattle.turn_lock.specs.Log.{entry, calls_by, AllBy};
-ghost use Rattle.turn_lock.specs.Views.{first_view, IsSamePass};
+ghost use Rattle.turn_lock.specs.Views.{first_view, IsLive, IsSamePass};
 ghost use Rattle.turn_lock.specs.Passes.{Grown, Answers, Replies, Parts, IsFull, Joined, IsOut, Closes, StaysOpen};
 
 use crate::book::Book;
@@ -52,6 +52,7 @@ impl<B: Book> Turned<B> {
         requires empty { B.log book ≡ [] }
         ensures own { IfOk result (λ made. made.1.lock ≡ made.0) }
         ensures first { IfOk result (λ made. made.1.view ≡ first_view (B.about book)) }
+        ensures live { IfOk result (λ made. IsLive made.1.view) }
         ensures refused { IfErr result (λ refusal. refusal ≡ NoMemory) }
     {
         let about = Snapshot::of(&book);
@@ -125,6 +126,7 @@ impl<B: Book> Turned<B> {
         ensures same { IsSamePass pass.old pass.new }
         ensures own { IfOk result (λ made. made.lock ≡ pass.old.lock) }
         ensures parts { IfOk result (λ made. Parts B.fits pass.old.view pass.new.view made.view) }
+        ensures live { IfOk result (λ made. IsLive pass.new.view × IsLive made.view) }
         ensures refused { IfErr result (λ refusal. refusal ≡ PassesFull) }
         ensures full { IfErr result (λ _. IsFull B.fits pass.old.view pass.new.view) }
     {

@@ -1,5 +1,5 @@
 ghost use Rattle.std.specs.Prelude.{◌≡◌};
-ghost use Rattle.turn_lock.specs.Views.{CountsOwn};
+ghost use Rattle.turn_lock.specs.Views.{CountsOwn, IsLive, SeesFitting};
 
 use crate::book::Book;
 use crate::rule::SeatOf;
@@ -18,7 +18,7 @@ pub struct Pass<B: Book> {
 
 impl<B: Book> Model for Pass<B> {
     ghost use Rattle.std.specs.Prelude.{◌≡◌, ◌%◌, true, false, [], length};
-    ghost use Rattle.turn_lock.specs.Views.{Known, CountsOwn};
+    ghost use Rattle.turn_lock.specs.Views.{Known, CountsOwn, SeesFitting};
 
     ghost Value = { Known B.Event B.Reply B.About };
 
@@ -28,7 +28,7 @@ impl<B: Book> Model for Pass<B> {
     ghost invariant = { λ p.
         (p.seat.me.1 ≡ []) × (p.seat.me.0.live ≡ true) × (p.seat.me.0.turn ≡ false)
         × (p.number ≡ p.seat.me.0.number) × (p.joined ≡ length p.seat.me.0.joined)
-        × CountsOwn p.seat.me.0 × (p.free_word % 2 ≡ 0) };
+        × CountsOwn p.seat.me.0 × (p.free_word % 2 ≡ 0) × SeesFitting B.fits p.seat.me.0 };
 }
 
 impl<B: Book> Pass<B> {
@@ -37,6 +37,10 @@ impl<B: Book> Pass<B> {
         ensures number { result ≡ self.now.view.number }
         // of every pass: the count of passes that it knows is above its own number and each joined one
         ensures counted { CountsOwn self.now.view }
+        // no pass that a caller has was joined into another
+        ensures live { IsLive self.now.view }
+        // and what a pass has seen is a list of a book about what this one is about
+        ensures fits { SeesFitting B.fits self.now.view }
     {
         self.number
     }

@@ -37,7 +37,7 @@ use Rattle.die_log.proofs.Tokens.Few.{MayShow, still_few}
 use Rattle.die_log.proofs.Bounds.Acts.{is_copy_read, in_buffer, IsBounded, idle_bounded, other_bounded, own_read, own_copy, own_erase}
 
 -- each collection of a log
-abbrev AreBounded : DiePlan → Log → Type 0
+abbrev pub AreBounded : DiePlan → Log → Type 0
 AreBounded plan log = (j : Job) → Contains (jobs log) j → j.collects ≡ true → IsBounded plan (cells plan log) j (acts j.number log) (victim_of plan j.number log)
 
 -- Acts that are another's
@@ -181,7 +181,7 @@ keeps_bounded plan past caller events.Slot bound exact h =
     let c = chosen_is plan past (well_served plan past bound well) in
     slot_head plan past caller (choice plan past).head bound well (waits plan past).head (event_finds plan past events.Slot bound well) c.head c.unwaivable h
 
-are_bounded : (plan : DiePlan) → MeetsBound plan → (log : Log) → IsExact plan log → AreBounded plan log
+pub are_bounded : (plan : DiePlan) → MeetsBound plan → (log : Log) → IsExact plan log → AreBounded plan log
 are_bounded plan bound = exact_induction plan (AreBounded plan) (λ j stands. absurd (omega (arith, stands.1))) (λ past caller event exact h none. keeps_bounded plan past caller event bound exact h)
 
 -- a collection copies no more than its collector's reserve

@@ -48,7 +48,7 @@ all_begin plan more = exact_induction plan (λ log. AllByRecursion (Begins plan)
     step past caller events.Slot exact h none = h
 
 -- so what is done was not waived
-done_unwaived : (plan : DiePlan) (log : Log) (j : Job) → MeetsBound plan → IsExact plan log → Contains (jobs log) j → is_done plan log j ≡ true → is_waived log j.number ≡ false
+pub done_unwaived : (plan : DiePlan) (log : Log) (j : Job) → MeetsBound plan → IsExact plan log → Contains (jobs log) j → is_done plan log j ≡ true → is_waived log j.number ≡ false
 done_unwaived plan log j bound exact stands done = false_from_ne_true (is_waived log j.number) idle
   where
     begins : Begins plan j

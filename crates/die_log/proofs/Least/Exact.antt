@@ -13,7 +13,8 @@ use Rattle.slot_types.specs.declared.replies.Reply.TheVariants as replies
 use Rattle.slot_types.specs.declared.replies.Waived.{Waived}
 use Rattle.plan_rules.specs.Bound.{MeetsBound}
 use Rattle.late_cert.specs.declared.rows.JobRow.{JobRow}
-use Rattle.late_cert.specs.Stretch.{CarriesLeastKeys, IsLeastLate}
+use Rattle.late_cert.specs.Schedule.{IsLeastLate}
+use Rattle.late_cert.specs.Stretch.{CarriesLeastKeys}
 use Rattle.late_cert.proofs.Moments.{nothing-carried, slot-keeps}
 use Rattle.late_cert.proofs.Least.{least-late}
 use Rattle.die_log.specs.Log.{Log, Job, jobs, now, waived}

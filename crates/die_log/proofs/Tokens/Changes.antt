@@ -7,7 +7,8 @@ use Rattle.slot_types.specs.declared.plans.DiePlan.{DiePlan}
 use Rattle.slot_types.specs.declared.acts.Act.{Act}
 use Rattle.slot_types.specs.declared.events.Op.{Op}
 use Rattle.die_log.specs.Log.{Job}
-use Rattle.die_log.specs.Work.{are_all, is_copy_program, is_write, writes}
+use Rattle.slot_types.specs.Operations.{is_write, writes}
+use Rattle.die_log.specs.Work.{are_all, is_copy_program}
 use Rattle.die_log.specs.Held.{at_task, left_of, held_of, is_pending, lent_of, lent_to, pending_of}
 use Rattle.die_log.proofs.Tokens.Sums.{one_if, some_if, sum_at, le_at, held_at, lent_same, lent_at}
 

@@ -11,10 +11,10 @@ use Rattle.plan_rules.proofs.Totals.{room}
 use Rattle.die_log.specs.Held.{Agree, reserve_full}
 use Rattle.die_log.specs.Held.{AreTrue}
 
-abbrev zeros : ℕ → List ℕ
+abbrev pub zeros : ℕ → List ℕ
 zeros n = replicate n 0
 
-none_at : (n i : ℕ) → get_or (zeros n) i 0 ≡ 0
+pub none_at : (n i : ℕ) → get_or (zeros n) i 0 ≡ 0
 none_at n i = elim (cases_lt i n) [
   | inl below ↦ get_or-replicate n i 0 0 below
   | inr past ↦ get_or_past (zeros n) i 0 (omega (arith, past, length-replicate {A = ℕ} n 0))

@@ -12,7 +12,8 @@ use Rattle.slot_types.specs.declared.replies.Entry.{Entry}
 use Rattle.slot_types.specs.declared.replies.Waived.{Waived}
 use Rattle.die_log.specs.Log.{Log, Job, Carried, jobs, job_at, carried, now, waived, act_of, acts, work, is_waived}
 use Rattle.die_log.specs.Flash.{free}
-use Rattle.die_log.specs.Work.{is_done, writes, owed}
+use Rattle.slot_types.specs.Operations.{writes}
+use Rattle.die_log.specs.Work.{is_done, owed}
 use Rattle.plan_rules.specs.Accounts.{Accounts}
 use Rattle.plan_rules.specs.Accounts as moves
 use Rattle.die_log.specs.Accounts.{accounts, after_act, after_waiver, after_waivers}

@@ -9,7 +9,8 @@ use Rattle.slot_types.specs.declared.events.Op.{Op}
 use Rattle.slot_types.specs.declared.events.Event.TheVariants as events
 use Rattle.die_log.specs.Log.{Log, Job, jobs, acts, is_waived}
 use Rattle.die_log.specs.Flash.{free}
-use Rattle.die_log.specs.Work.{are_all, writes, owed, is_copy_program}
+use Rattle.slot_types.specs.Operations.{writes}
+use Rattle.die_log.specs.Work.{are_all, owed, is_copy_program}
 use Rattle.die_log.specs.Accounts.{accounts}
 use Rattle.die_log.specs.Answers.{IsExact, accepted, refusals, balance}
 use Rattle.die_log.proofs.Legality.{entry}

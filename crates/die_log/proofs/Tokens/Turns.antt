@@ -12,7 +12,8 @@ use Rattle.slot_types.specs.declared.replies.Waived.{Waived}
 use Rattle.plan_rules.specs.Bound.{MeetsBound}
 use Rattle.die_log.specs.Log.{Log, Job, jobs, acts, is_waived, work}
 use Rattle.die_log.specs.Flash.{cells, free, free_in, block_at, erased_once}
-use Rattle.die_log.specs.Work.{are_all, is_erase, is_copy_program, is_write, owed}
+use Rattle.slot_types.specs.Operations.{is_write}
+use Rattle.die_log.specs.Work.{are_all, is_erase, is_copy_program, owed}
 use Rattle.plan_rules.specs.Accounts.{Accounts, settled}
 use Rattle.die_log.specs.Accounts.{accounts, after_waivers}
 use Rattle.die_log.specs.Legal.{is_among, Does, FindsFree}
@@ -111,7 +112,7 @@ erases_more : (own : List Act) (act : Act) → count_by is_erase (own ++ act ∷
 erases_more own act = sum_by_push (λ x. one_if (is_erase x)) own act
 
 -- a copy closes no collection
-stays_pending : (plan : DiePlan) (past : Log) (ws : List Waived) (j : Job) (act : Act) → IsTurn plan past ws j act → j.collects ≡ true → is_erase act ≡ false → are_all plan j (acts j.number past ++ act ∷ []) ≡ false
+pub stays_pending : (plan : DiePlan) (past : Log) (ws : List Waived) (j : Job) (act : Act) → IsTurn plan past ws j act → j.collects ≡ true → is_erase act ≡ false → are_all plan j (acts j.number past ++ act ∷ []) ≡ false
 stays_pending plan past ws j act h is copy =
     let own : List Act = acts j.number past in
     let same : count_by is_erase (own ++ act ∷ []) ≡ count_by is_erase own = omega (arith, erases_more own act, ap one_if copy) in

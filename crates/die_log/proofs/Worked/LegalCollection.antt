@@ -1,7 +1,7 @@
 -- The laws at a plan and a log: jobs, waivers and a collection that copies and erases.
 use Rattle.std.proofs.Common.{[], rules}
 use Rattle.plan_rules.specs.Bound.{MeetsBound}
-use Rattle.late_cert.specs.Stretch.{IsLeastLate}
+use Rattle.late_cert.specs.Schedule.{IsLeastLate}
 use Rattle.die_log.specs.Legal.{IsLegal}
 use Rattle.die_log.specs.Rows.{rows, carried_numbers}
 use Rattle.die_log.specs.Answers.{IsExact}

@@ -14,11 +14,11 @@ use Rattle.die_log.specs.Work.{lateness_of, worst}
 
 -- a die with eight blocks for twelve pages
 abbrev pub roomy : DiePlan
-roomy = record { shape = record { blocks = 8; pages = 4; erase_slots = 3 }; logical = 12; alpha = 2; caps = 4 ∷ [] }
+roomy = record { shape = record { blocks = 8; pages = 4; erase_slots = 3 }; logical = 12; alpha = 2; caps = 4 ∷ []; times = None }
 
 -- a die with four blocks for five pages
 abbrev pub tight : DiePlan
-tight = record { shape = record { blocks = 4; pages = 4; erase_slots = 3 }; logical = 5; alpha = 2; caps = 4 ∷ [] }
+tight = record { shape = record { blocks = 4; pages = 4; erase_slots = 3 }; logical = 5; alpha = 2; caps = 4 ∷ []; times = None }
 
 -- the accounts of a plan of one task
 abbrev pub amounts : DiePlan → ℕ → ℕ → ℕ → ℕ → Accounts

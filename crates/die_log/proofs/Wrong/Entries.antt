@@ -1,21 +1,42 @@
--- Slot entries made by hand, and what a legal one of a collection would have to meet.
-use Rattle.std.proofs.Common.{ℕ, true, false, Bool, [], ◌∷◌, Option, Some, None, MatchBool, MatchOption, slice_get}
+-- Entries made by hand, and what legal ones would have to meet.
+use Rattle.std.proofs.Common.{◌≡◌, ℕ, true, false, Bool, List, [], ◌∷◌, ◌++◌, Option, Some, None, MatchBool, MatchOption, slice_get, sym, ◌∙◌, subst}
+use Rattle.std.proofs.lemmas.Option.{same_Some}
 use Rattle.slot_types.specs.declared.plans.DiePlan.{DiePlan}
 use Rattle.slot_types.specs.declared.acts.Act.{Act}
 use Rattle.slot_types.specs.declared.acts.Act.TheVariants as does
 use Rattle.slot_types.specs.declared.events.Op.{Op}
 use Rattle.slot_types.specs.declared.events.Op.TheVariants.{Read, Write}
-use Rattle.slot_types.specs.declared.events.Event.TheVariants.{Slot}
+use Rattle.slot_types.specs.declared.events.Event.TheVariants.{Submit, Slot}
 use Rattle.slot_types.specs.declared.replies.Entry.{Entry}
 use Rattle.slot_types.specs.declared.replies.Reply.TheVariants as replies
-use Rattle.die_log.specs.Log.{Log, work}
-use Rattle.die_log.specs.Legal.{IsLegal, IsNextCollectAct, Does}
+use Rattle.die_log.specs.Log.{Log, Job, job_at, waived, work}
+use Rattle.die_log.specs.Accounts.{accounts}
+use Rattle.die_log.specs.Legal.{IsLegal, IsLegalAct, IsWaiver, IsNextCollectAct, Does}
 
 abbrev pub idle : ℕ → Entry
 idle now = record { caller = 0; event = Slot; reply = replies.Slot (record { slot = now; waived = []; ran = None; finished = None }) }
 
 abbrev pub ran : ℕ → ℕ → Act → Entry
 ran now number act = record { caller = 0; event = Slot; reply = replies.Slot (record { slot = now; waived = []; ran = Some (number, act); finished = None }) }
+
+abbrev pub waives : ℕ → ℕ → ℕ → Entry
+waives now number given = record { caller = 0; event = Slot; reply = replies.Slot (record { slot = now; waived = record { number = number; given = given } ∷ []; ran = None; finished = None }) }
+
+-- a job of task 0 that was taken under this number
+abbrev pub taken : ℕ → ℕ → List Op → ℕ → Entry
+taken release due ops number = record { caller = 0; event = Submit 0 release due ops; reply = replies.Taken number }
+
+-- the act is one of the job that its number names
+pub act_of_job : (plan : DiePlan) (past : Log) (now number : ℕ) (act : Act) (j : Job) → job_at past number ≡ Some j → IsLegal plan (ran now number act ∷ past) → IsLegalAct plan past (waived past ++ []) j number act
+act_of_job plan past now number act j is h =
+    let a = h.1.slot.1.1 in subst (λ (i : Job). IsLegalAct plan past (waived past ++ []) i number act) (same_Some h.1.slot.1.0 j (sym a.known ∙ is)) a
+
+-- the waiver is one of the collection that its number names
+pub waiver_of_job : (plan : DiePlan) (past : Log) (now number given : ℕ) (j : Job) → job_at past number ≡ Some j → IsLegal plan (waives now number given ∷ past)
+    → IsWaiver plan past (waived past) (accounts plan past) j (record { number = number; given = given })
+waiver_of_job plan past now number given j is h =
+    let w = h.1.slot.0.1 in
+    subst (λ (i : Job). IsWaiver plan past (waived past) (accounts plan past) i (record { number = number; given = given })) (same_Some h.1.slot.0.0 j (sym w.known ∙ is)) w
 
 -- no operation is done by an act of a collection
 abbrev pub IsOfCollection : Act → Type 0

@@ -1,8 +1,9 @@
-use Rattle.std.proofs.Common.{◌≡◌, ℕ, true, List, sym, ◌∙◌, subst, rules, arith}
+use Rattle.std.proofs.Common.{◌≡◌, ℕ, true, false, List, sym, ◌∙◌, subst, rules, arith}
 use Rattle.std.proofs.lemmas.List.Elements.{All-from_recursion, recursion_from_All}
 use Rattle.std.specs.List.{AllZip}
+use Rattle.slot_core.specs.Core.{Core}
 use Rattle.die_service.specs.Stores.{DiePass, AreTold, HasLogOf}
-use Rattle.die_service.proofs.LastPasses.{told_length, told_locks, told_sole, sole_none_out, written, closed_each}
+use Rattle.die_service.proofs.LastPasses.{told_length, told_locks, told_sole, sole_none_out, written, closed_each, none_stopped}
 use Rattle.die_service.proofs.closing.close.Goals as goal
 
 pub close_each-requires-clause-own : goal.close_each-requires-clause-own
@@ -30,7 +31,10 @@ returns-clause-closed g c =
     let zero : c.first_out-out.result ≡ 0 = omega (arith, c.if-out-gt0.false) in
     let told : AreTold ps 0 qs = subst (λ (n : ℕ). AreTold ps n qs) zero (subst (λ (xs : List DiePass). AreTold xs c.first_out-out.result qs) c.as_mut_slice.ensures.value c.first_out-out.ensures.told) in
     let whole = written c.args.passes.len ps qs (told_length ps 0 qs told) (search rules) in
-    closed_each ps qs c.close_each.result.items told (subst (λ (xs : List DiePass). AllZip HasLogOf xs c.close_each.result.items) whole c.close_each.ensures)
+    closed_each g.N.Nand.never_fails ps qs c.close_each.result.items told (subst (λ (xs : List DiePass). AllZip (HasLogOf g.N.Nand.never_fails) xs c.close_each.result.items) whole c.close_each.ensures)
+
+pub returns-clause-runs : goal.returns-clause-runs
+returns-clause-runs g c = λ never. All-from_recursion (λ (die : Core g.row.N.Denot). die.stopped ≡ false) _ (none_stopped g.N.Nand.never_fails _ _ never c.close_each.ensures)
 
 pub returns-then-out-gt0-clause-own : goal.returns-then-out-gt0-clause-own
 returns-then-out-gt0-clause-own g c =

@@ -28,7 +28,15 @@ loop-pass-preserved g c =
     let step = c.in-Some.ensures.steps.0 in
     let book = c.in-Ok.ensures.closed in
     let own = c.in-Ok.ensures.own in
-    let has : HasLogOf c.in-Some.pass c.into_core-core.result = rw c.into_core-core.ensures (record { calls_are = book.0; legal = rw c.into_core-core.ensures at c.promises.ensures.legal; least_late = rw c.into_core-core.ensures at c.promises.ensures.least_late; about_is = book.1; all_joined = book.2; by_own = own }) in record {
+    let core = c.into_core-core.ensures in
+    let has : HasLogOf g.N.Nand.never_fails c.in-Some.pass c.into_core-core.result = record {
+      calls_are = rw core.die book.0;
+      promised = c.promises.ensures;
+      runs = core.runs;
+      about_is = rw core.die book.1;
+      all_joined = book.2;
+      by_own = rw core.die own;
+    } in record {
       can_next = tt;
       is_finite = tt;
       room = rw c.push_reserved.ensures.capacity i.room;
@@ -36,7 +44,7 @@ loop-pass-preserved g c =
       cores = c.push_reserved.ensures.len ∙ (ap (λ n. n + 1) i.cores ∙ sym (length-append c.loop-pass.yielded (c.in-Some.pass ∷ [])));
       own = next_own (λ (p : DiePass). p.lock) _ _ _ _ c.in-Some.pass c.in-Some-next.die i.own step c.in-Some-next.ensures.items;
       sole = (subst (AllByRecursion (λ (p : DiePass). p.view.sole ≡ true)) step i.sole).1;
-      closed = rw c.push_reserved.ensures.items (one_closed c.loop-pass.yielded c.loop-pass.cores.items c.in-Some.pass c.into_core-core.result i.closed has);
+      closed = rw c.push_reserved.ensures.items (one_closed g.N.Nand.never_fails c.loop-pass.yielded c.loop-pass.cores.items c.in-Some.pass c.into_core-core.result i.closed has);
     }
 
 pub returns : goal.returns

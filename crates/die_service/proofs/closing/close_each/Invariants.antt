@@ -14,5 +14,5 @@ invariant-loop-pass g l = record {
   cores : vec_len l.cores ≡ length l.yielded;
   own : map (λ pass. pass.lock) (into_iter_items l.pass-iterator) ≡ into_iter_items l.dies;
   sole : AllByRecursion (λ pass. pass.view.sole ≡ true) (into_iter_items l.pass-iterator);
-  closed : AllZip HasLogOf l.yielded l.cores.items;
+  closed : AllZip (HasLogOf g.N.Nand.never_fails) l.yielded l.cores.items;
 }

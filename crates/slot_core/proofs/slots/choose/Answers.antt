@@ -1,5 +1,4 @@
-use Rattle.std.proofs.Common.{ℕ, List, [], ◌∷◌, ◌++◌, refl, sym, ap, ◌∙◌, subst, length, vec_capacity, arith}
-use Rattle.slot_types.specs.declared.replies.Waived.{Waived}
+use Rattle.std.proofs.Common.{ℕ, refl, sym, ◌∙◌, subst, vec_capacity, arith}
 use Rattle.slot_core.specs.Turns.{HasWaiverRoom}
 use Rattle.slot_core.proofs.Beginning.{begin_leaves, looks_idle, looks_fit, looks_turn, looks_waived, looks_room, looks_roomy}
 use Rattle.slot_core.proofs.slots.choose.Goals as goal
@@ -7,12 +6,11 @@ use Rattle.slot_core.proofs.slots.choose.Goals as goal
 pub loop-number-init : goal.loop-number-init
 loop-number-init g c = record {
   within = c.requires.1.1.0;
-  same = c.requires.1.1.1.0;
-  logged_room = c.requires.1.1.1.1.0;
-  told_room = c.requires.1.1.1.1.1;
+  told_room = c.requires.1.1.1;
   plan = refl;
   alive = c.requires.1.0;
   device = refl;
+  capacity = refl;
 }
 
 pub head-requires-clause-running : goal.head-requires-clause-running
@@ -26,9 +24,6 @@ returns-in_default-clause-idle g c = (
   looks_idle g.N.Nand.blocks g.log c.args.present c.loop-number.told.items c.loop-number.table c.head.new.self c.loop-number.volume c.loop-number.invariant.within c.head.ensures.clock,
   c.in_default.ensures.idle,
 )
-
-pub returns-in_default-clause-same : goal.returns-in_default-clause-same
-returns-in_default-clause-same g c = c.loop-number.invariant.same
 
 pub returns-in_default-clause-plan : goal.returns-in_default-clause-plan
 returns-in_default-clause-plan g c = c.loop-number.invariant.plan
@@ -57,9 +52,6 @@ returns-in-None-waived-clause-turn g c =
     looks_turn g.N.Nand.blocks g.log c.args.present c.loop-number.told.items c.loop-number.table c.head.new.self c.in-Some.number c.loop-number.volume c.begin-waived.new.volume c.in-Some-job.job.now
     c.loop-number.invariant.within c.in-Some.ensures.clock c.in-Some.ensures.head c.in-Some-job.ensures c.in-None-waived.ensures
 
-pub returns-in-None-waived-clause-same : goal.returns-in-None-waived-clause-same
-returns-in-None-waived-clause-same g c = c.loop-number.invariant.same
-
 pub returns-in-None-waived-clause-plan : goal.returns-in-None-waived-clause-plan
 returns-in-None-waived-clause-plan g c = (begin_leaves g.N.Nand.blocks c.loop-number.volume c.begin-waived.new.volume c.in-Some-job.job.now _ c.begin-waived.ensures).plan ∙ c.loop-number.invariant.plan
 
@@ -77,16 +69,6 @@ pub push_reserved-requires : goal.push_reserved-requires
 push_reserved-requires g c =
     omega (
       arith,
-      c.loop-number.logged.ok.0,
-      ap (λ (l : List Waived). length l) c.loop-number.invariant.same,
-      looks_room g.N.Nand.blocks g.log c.args.present c.loop-number.told.items c.loop-number.table c.head.new.self c.in-Some.number c.in-Some-waived.given (vec_capacity c.loop-number.logged) c.loop-number.volume c.begin-waived.new.volume c.in-Some-job.job.now
-          c.loop-number.invariant.within c.in-Some.ensures.clock c.in-Some.ensures.head c.in-Some-job.ensures c.in-Some-waived.ensures c.loop-number.invariant.logged_room,
-    )
-
-pub push_reserved-requires-in-Some-waived : goal.push_reserved-requires-in-Some-waived
-push_reserved-requires-in-Some-waived g c =
-    omega (
-      arith,
       c.loop-number.told.ok.0,
       looks_room g.N.Nand.blocks g.log c.args.present c.loop-number.told.items c.loop-number.table c.head.new.self c.in-Some.number c.in-Some-waived.given (vec_capacity c.loop-number.told) c.loop-number.volume c.begin-waived.new.volume c.in-Some-job.job.now
           c.loop-number.invariant.within c.in-Some.ensures.clock c.in-Some.ensures.head c.in-Some-job.ensures c.in-Some-waived.ensures c.loop-number.invariant.told_room,
@@ -96,8 +78,8 @@ pub loop-number-smaller : goal.loop-number-smaller
 loop-number-smaller g c =
     omega (
       arith,
-      c.push_reserved-in-Some-waived.ensures.len,
-      c.push_reserved-in-Some-waived.ensures.capacity,
+      c.push_reserved.ensures.len,
+      c.push_reserved.ensures.capacity,
       c.loop-number.told.ok.0,
       looks_room g.N.Nand.blocks g.log c.args.present c.loop-number.told.items c.loop-number.table c.head.new.self c.in-Some.number c.in-Some-waived.given (vec_capacity c.loop-number.told) c.loop-number.volume c.begin-waived.new.volume c.in-Some-job.job.now
           c.loop-number.invariant.within c.in-Some.ensures.clock c.in-Some.ensures.head c.in-Some-job.ensures c.in-Some-waived.ensures c.loop-number.invariant.told_room,
@@ -105,16 +87,19 @@ loop-number-smaller g c =
 
 pub loop-number-preserved : goal.loop-number-preserved
 loop-number-preserved g c = record {
-  within = looks_waived g.N.Nand.blocks g.log c.args.present c.loop-number.told.items c.push_reserved-in-Some-waived.new.self.items c.loop-number.table c.head.new.self c.waive.new.self c.in-Some.number c.in-Some-waived.given
-      c.loop-number.volume c.begin-waived.new.volume c.in-Some-job.job.now c.loop-number.invariant.within c.in-Some.ensures.clock c.in-Some.ensures.head c.in-Some-job.ensures c.in-Some-waived.ensures c.waive.ensures c.push_reserved-in-Some-waived.ensures.items;
-  same = c.push_reserved.ensures.items ∙ (ap (λ (l : List Waived). l ++ record { number = c.in-Some.number; given = c.in-Some-waived.given } ∷ []) c.loop-number.invariant.same ∙ sym c.push_reserved-in-Some-waived.ensures.items);
-  logged_room = subst (λ (k : ℕ). HasWaiverRoom k c.waive.new.self) (sym c.push_reserved.ensures.capacity)
-      (looks_roomy g.N.Nand.blocks g.log c.args.present c.loop-number.told.items c.loop-number.table c.head.new.self c.waive.new.self c.in-Some.number c.in-Some-waived.given (vec_capacity c.loop-number.logged) c.loop-number.volume c.begin-waived.new.volume
-      c.in-Some-job.job.now c.loop-number.invariant.within c.in-Some.ensures.clock c.in-Some.ensures.head c.in-Some-job.ensures c.in-Some-waived.ensures c.waive.ensures c.loop-number.invariant.logged_room);
-  told_room = subst (λ (k : ℕ). HasWaiverRoom k c.waive.new.self) (sym c.push_reserved-in-Some-waived.ensures.capacity)
+  within = looks_waived g.N.Nand.blocks g.log c.args.present c.loop-number.told.items c.push_reserved.new.self.items c.loop-number.table c.head.new.self c.waive.new.self c.in-Some.number c.in-Some-waived.given
+      c.loop-number.volume c.begin-waived.new.volume c.in-Some-job.job.now c.loop-number.invariant.within c.in-Some.ensures.clock c.in-Some.ensures.head c.in-Some-job.ensures c.in-Some-waived.ensures c.waive.ensures c.push_reserved.ensures.items;
+  told_room = subst (λ (k : ℕ). HasWaiverRoom k c.waive.new.self) (sym c.push_reserved.ensures.capacity)
       (looks_roomy g.N.Nand.blocks g.log c.args.present c.loop-number.told.items c.loop-number.table c.head.new.self c.waive.new.self c.in-Some.number c.in-Some-waived.given (vec_capacity c.loop-number.told) c.loop-number.volume c.begin-waived.new.volume
       c.in-Some-job.job.now c.loop-number.invariant.within c.in-Some.ensures.clock c.in-Some.ensures.head c.in-Some-job.ensures c.in-Some-waived.ensures c.waive.ensures c.loop-number.invariant.told_room);
   plan = (begin_leaves g.N.Nand.blocks c.loop-number.volume c.begin-waived.new.volume c.in-Some-job.job.now _ c.begin-waived.ensures).plan ∙ c.loop-number.invariant.plan;
   alive = (begin_leaves g.N.Nand.blocks c.loop-number.volume c.begin-waived.new.volume c.in-Some-job.job.now _ c.begin-waived.ensures).failed ∙ c.loop-number.invariant.alive;
   device = (begin_leaves g.N.Nand.blocks c.loop-number.volume c.begin-waived.new.volume c.in-Some-job.job.now _ c.begin-waived.ensures).device ∙ c.loop-number.invariant.device;
+  capacity = c.push_reserved.ensures.capacity ∙ c.loop-number.invariant.capacity;
 }
+
+pub returns-in_default-clause-capacity : goal.returns-in_default-clause-capacity
+returns-in_default-clause-capacity g c = c.loop-number.invariant.capacity
+
+pub returns-in-None-waived-clause-capacity : goal.returns-in-None-waived-clause-capacity
+returns-in-None-waived-clause-capacity g c = c.loop-number.invariant.capacity

@@ -4,4 +4,4 @@ use Rattle.task_texts.proofs.TableLaws.{only-view}
 use Rattle.task_texts.proofs.tables.is_top_only.Goals as goal
 
 pub returns : goal.returns
-returns c = c.lists_top_only.ensures ∙ only-view is_top_key c.args.table.now.entries
+returns c = c.lists_top_only.ensures ∙ only-view (is_top_key c.args.timed) c.args.table.now.entries

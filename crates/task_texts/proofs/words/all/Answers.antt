@@ -1,13 +1,14 @@
 use Rattle.std.proofs.Common.{None, refl}
-use Rattle.task_texts.proofs.WordLaws.{word-more, word-none, words-end}
+use Rattle.task_texts.proofs.WordLaws.{word-more, words-end}
 use Rattle.task_texts.proofs.words.all.Goals as goal
 
 pub returns-in-None : goal.returns-in-None
-returns-in-None g c = word-none g.T.Word.word_of c.loop-left.items _ _ _ _ c.cut.ensures.parts c.in-None.ensures (rw c.in-Some.is at c.loop-left.invariant)
+returns-in-None g c = rw c.in-None.ensures.word at (rw c.in-Some.is at c.loop-left.invariant)
 
 pub loop-left-preserved : goal.loop-left-preserved
 loop-left-preserved g c =
-    word-more g.T.Word.word_of c.loop-left.items _ c.in-Some-read.item _ _ _ _ c.cut.ensures.parts c.in-Some-read.ensures c.in_ok-push-in-Some-read.ensures.ok
+    let found = c.in-Some-first_word.ensures.word in
+    word-more g.T.Word.word_of c.loop-left.items _ c.in-Some-first_word.item found.word _ _ _ found.parts found.says c.in_ok-push-in-Some-first_word.ensures.ok
     (rw c.in-Some.is at c.loop-left.invariant)
 
 pub returns : goal.returns

@@ -11,4 +11,7 @@ returns-clause-most g c =
     rw entries (few_entries die.plan die.log c.promises.ensures.exact)
 
 pub returns-clause-fits : goal.returns-clause-fits
-returns-clause-fits g c = rw (log_of_calls c.args.self.now.log, ← c.self.view_is, ← c.deref.ensures) c.promises.ensures.exact
+returns-clause-fits g c = record {
+  bound = rw (← c.self.view_is, ← c.deref.ensures) c.promises.ensures.bound;
+  exact = rw (log_of_calls c.args.self.now.log, ← c.self.view_is, ← c.deref.ensures) c.promises.ensures.exact;
+}

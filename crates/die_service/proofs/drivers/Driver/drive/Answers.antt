@@ -23,12 +23,12 @@ loop-done-preserved g c =
 
 pub returns-in_default : goal.returns-in_default
 returns-in_default g c =
-    drives g.N.Nand.never_fails c.args.slots c.args.self.now c.take_slot.new.self c.requires
+    drives g.N.Nand.never_fails c.args.slots c.args.self.now c.take_slot.new.self (rw (← c.self.view_is) c.number.ensures.live) c.requires
     (gives_up g.N.Nand.never_fails c.args.slots c.loop-done._done c.loop-done.clock c.args.self.now c.loop-done.self c.bring_due.new.self c.take_slot.new.self
     c.loop-done-test.true c.loop-done.invariant c.bring_due.ensures c.in_default.ensures.stopped)
 
 pub returns : goal.returns
 returns g c =
-    drives g.N.Nand.never_fails c.args.slots c.args.self.now c.bring_due-2.new.self c.requires
+    drives g.N.Nand.never_fails c.args.slots c.args.self.now c.bring_due-2.new.self (rw (← c.self.view_is) c.number.ensures.live) c.requires
     (ends g.N.Nand.never_fails c.args.slots c.loop-done._done c.loop-done.clock c.args.self.now c.loop-done.self c.bring_due-2.new.self
     (omega (arith, c.loop-done-test.false, c.loop-done.auto._done-end)) c.loop-done.invariant c.bring_due-2.ensures)

@@ -57,6 +57,7 @@ returns-in-Ok-true-clause-did g c =
     rw (← c.self.view_is) (
     record {
       dropped = dropped run (rw (← c.self.view_is) at c.requires.left);
+      left = rw (← c.self.view_is) at c.requires.left;
       erases = record {
         victim = refl;
         unplaced = clear.none;
@@ -82,6 +83,7 @@ returns-in-Ok-false-clause-did g c =
     rw (← c.self.view_is) (
     record {
       dropped = dropped run (rw (← c.self.view_is) at c.requires.left);
+      left = rw (← c.self.view_is) at c.requires.left;
       erases = record {
         victim = refl;
         unplaced = clear.none;

@@ -23,6 +23,7 @@ returns-in-Ok-clause-did g c =
     record {
       source = c.args.source;
       dropped = dropped run (rw (← c.self.view_is) at c.requires.left);
+      left = rw (← c.self.view_is) at c.requires.left;
       first = first;
       cells = c.in-Ok.ensures.cells;
       places = ap (λ m. m.places) c.read.ensures.placing;

@@ -1,31 +1,45 @@
-use Rattle.std.proofs.Common.{◌≡◌, ◌<◌, ◌∙◌, sym, rules, arith, length, get_or, None, Some}
-use Rattle.std.proofs.lemmas.List.{get_or_read}
-use Rattle.page_map.specs.Placing.{IsCell}
-use Rattle.page_map.proofs.Moving.{tables_without, one_less, in_table}
+use Rattle.std.proofs.Common.{◌≡◌, ◌<◌, ◌∙◌, ◌-◌, ◌*◌, ap, sym, subst, rules, arith, length, get_or, None, Some, set, ℕ, List, Option}
+use Rattle.std.proofs.lemmas.List.{get_or_read, length-set, set-get_or}
+use Rattle.slot_types.specs.declared.pages.Place.{Place}
+use Rattle.page_map.specs.Placing.{Placing, IsCell, cell_index}
+use Rattle.page_map.specs.Tables.{AreTables, laid, places_of, owners_of}
+use Rattle.page_map.proofs.Owners.{owner_is}
+use Rattle.page_map.proofs.Laid.{laid_below, read-laid, set-laid}
+use Rattle.page_map.proofs.Moving.{tables_without, one_less}
 use Rattle.page_map.proofs.map.PageMap.forget.Goals as goal
 use Rattle.page_map.proofs.map.PageMap.forget.Goals.{In-Some}
 
 -- the page lies in the cell that was found
-lies : (c : In-Some) → get_or c.self.inside.places.items c.args.page None ≡ Some c.in-Some.place
+lies : (c : In-Some) → get_or (places_of c.self.inside) c.args.page None ≡ Some c.in-Some.place
 lies c =
-    let page = rw (← c.self.view_is) at c.requires in
-    sym (get_or_read c.self.inside.places.items c.args.page c.index.result.now page c.index.ensures None) ∙ c.in-Some.is
+    read-laid c.self.inside.logical c.self.inside.places.items c.args.page ∙ sym (rw c.deref.ensures.value at c.read.ensures) ∙ c.in-Some.is
 
 -- which is a cell of the map
 is_cell : (c : In-Some) → IsCell c.self.inside.shape c.in-Some.place
-is_cell c = c.self.invariant.within c.args.page c.in-Some.place (lies c)
+is_cell c = c.self.invariant.tables.within c.args.page c.in-Some.place (lies c)
 
 -- and of a block that is counted
 in_valid : (c : In-Some) → c.in-Some.place.block < length c.self.inside.valid.items
-in_valid c = omega (arith, (is_cell c).block, c.self.invariant.valid_len)
+in_valid c = omega (arith, (is_cell c).block, c.self.invariant.tables.valid_len)
 
-pub cell-requires-clause-place : goal.cell-requires-clause-place
-cell-requires-clause-place c = is_cell (goal.at.cell-requires-clause-place c).In-Some
+-- both entries are laid down
+in_places : (c : In-Some) → c.args.page < length c.self.inside.places.items
+in_places c = laid_below c.self.inside.logical c.self.inside.places.items c.args.page c.in-Some.place (lies c)
+
+in_owners : (c : In-Some) → cell_index c.self.inside.shape c.in-Some.place < length c.self.inside.owners.items
+in_owners c =
+    let m = c.self.inside in
+    laid_below (m.shape.blocks * m.shape.pages) m.owners.items (cell_index m.shape c.in-Some.place) c.args.page (c.self.invariant.tables.owners_are c.in-Some.place (is_cell c) ∙ owner_is (places_of m) c.args.page c.in-Some.place c.self.invariant.tables.apart (lies c))
+
+pub cell-requires : goal.cell-requires
+cell-requires c = is_cell (goal.at.cell-requires c).In-Some
+
+pub index_mut-requires : goal.index_mut-requires
+index_mut-requires c = search (rules, in_places (goal.at.index_mut-requires c).In-Some)
 
 pub index_mut-requires-in-Some : goal.index_mut-requires-in-Some
 index_mut-requires-in-Some c =
-    let cell = is_cell (goal.at.index_mut-requires-in-Some c).In-Some in
-    let below : c.cell.result < length c.self.inside.owners.items = omega (arith, in_table c.self.inside.shape c.in-Some.place cell, c.self.invariant.owners_len, c.cell.ensures) in
+    let below : c.cell.result < length c.self.inside.owners.items = omega (arith, in_owners (goal.at.index_mut-requires-in-Some c).In-Some, c.cell.ensures) in
     search (rules, below)
 
 pub index_mut-requires-in-Some-2 : goal.index_mut-requires-in-Some-2
@@ -36,11 +50,36 @@ overflow_sub-index_mut c =
     let m = c.self.inside in
     let here = (goal.at.overflow_sub-index_mut c).In-Some in
     let read : c.index_mut-in-Some-2.result.now ≡ get_or m.valid.items c.in-Some.place.block 0 = get_or_read m.valid.items c.in-Some.place.block c.index_mut-in-Some-2.result.now (in_valid here) c.index_mut-in-Some-2.ensures.value 0 in
-    omega (arith, read, c.self.invariant.valid_are c.in-Some.place.block (is_cell here).block, one_less m.places.items c.args.page c.in-Some.place (rw (← c.self.view_is) at c.requires) (lies here))
+    omega (arith, read, c.self.invariant.tables.valid_are c.in-Some.place.block (is_cell here).block, one_less (places_of m) c.args.page c.in-Some.place (rw (← c.self.view_is) at c.requires) (lies here))
 
 pub invariant_of-self : goal.invariant_of-self
 invariant_of-self c =
     let m = c.self.inside in
     let here = (goal.at.invariant_of-self c).In-Some in
+    let index = cell_index m.shape c.in-Some.place in
+    let n = m.shape.blocks * m.shape.pages in
     let read : c.index_mut-in-Some-2.result.now ≡ get_or m.valid.items c.in-Some.place.block 0 = get_or_read m.valid.items c.in-Some.place.block c.index_mut-in-Some-2.result.now (in_valid here) c.index_mut-in-Some-2.ensures.value 0 in
-    rw c.cell.ensures (tables_without m.shape m.places.items m.owners.items m.valid.items c.args.page c.index_mut-in-Some-2.result.now c.in-Some.place c.self.invariant (rw (← c.self.view_is) at c.requires) (lies here) read)
+    let valid = set m.valid.items c.in-Some.place.block (c.index_mut-in-Some-2.result.now - 1) in
+    let tables : AreTables m.shape (set (places_of m) c.args.page None) (set (owners_of m) index None) valid = tables_without m.shape (places_of m) (owners_of m) m.valid.items c.args.page c.index_mut-in-Some-2.result.now c.in-Some.place c.self.invariant.tables (rw (← c.self.view_is) at c.requires) (lies here) read in
+    let with_places : AreTables m.shape (laid m.logical (set m.places.items c.args.page None)) (set (owners_of m) index None) valid = subst (λ (l : List (Option Place)). AreTables m.shape l (set (owners_of m) index None) valid) (sym (set-laid m.logical m.places.items c.args.page None (in_places here))) tables in
+    let with_owners : AreTables m.shape (laid m.logical (set m.places.items c.args.page None)) (laid n (set m.owners.items index None)) valid = subst (λ (l : List (Option ℕ)). AreTables m.shape (laid m.logical (set m.places.items c.args.page None)) l valid) (sym (set-laid n m.owners.items index None (in_owners here))) with_places in
+    record {
+      tables = subst (λ (k : ℕ). AreTables m.shape (laid m.logical (set m.places.items c.args.page None)) (laid n (set m.owners.items k None)) valid) (sym c.cell.ensures) with_owners;
+      some_places = omega (arith, length-set m.places.items c.args.page None, c.self.invariant.some_places);
+      room_places = c.self.invariant.room_places;
+      some_owners = omega (arith, length-set m.owners.items c.cell.result None, c.self.invariant.some_owners);
+      room_owners = c.self.invariant.room_owners;
+    }
+
+pub returns-in-None : goal.returns-in-None
+returns-in-None c =
+    let m = c.self.inside in
+    let P : List (Option Place) → Placing = λ l. record { shape = m.shape; places = l } in
+    let nothing : get_or (places_of m) c.args.page None ≡ None = read-laid m.logical m.places.items c.args.page ∙ sym (rw c.deref.ensures.value at c.read.ensures) ∙ c.in-None.is in
+    rw (← c.self.view_is) (ap P (sym (set-get_or (places_of m) c.args.page None) ∙ ap (λ (o : Option Place). set (places_of m) c.args.page o) nothing))
+
+pub returns-in-Some : goal.returns-in-Some
+returns-in-Some c =
+    let m = c.self.inside in
+    let P : List (Option Place) → Placing = λ l. record { shape = m.shape; places = l } in
+    rw (← c.self.view_is) (ap P (set-laid m.logical m.places.items c.args.page None (in_places (goal.at.returns-in-Some c).In-Some)))

@@ -1,10 +1,19 @@
-use Rattle.std.proofs.Common.{◌∙◌, sym, None}
-use Rattle.std.proofs.lemmas.List.{get_or_read}
+use Rattle.std.proofs.Common.{◌≡◌, ◌∙◌, sym, get_or, None}
+use Rattle.page_map.specs.Tables.{places_of}
+use Rattle.page_map.proofs.Laid.{read-laid}
 use Rattle.page_map.proofs.Moving.{in_range}
 use Rattle.page_map.proofs.map.PageMap.place.Goals as goal
+
+pub returns-clause-apart : goal.returns-clause-apart
+returns-clause-apart c = rw (← c.self.view_is) c.self.invariant.tables.apart
+
+pub returns-clause-place : goal.returns-clause-place
+returns-clause-place c =
+    let m = c.self.inside in
+    rw (← c.self.view_is) (rw c.deref.ensures.value at c.read.ensures ∙ sym (read-laid m.logical m.places.items c.args.page))
 
 pub returns-clause-in_range : goal.returns-clause-in_range
 returns-clause-in_range c =
     let m = c.self.inside in
-    let below = rw (← c.self.view_is) at c.requires in
-    rw (← c.self.view_is) (in_range m.shape c.index.result.now (λ q is. c.self.invariant.within c.args.page q (sym (get_or_read m.places.items c.args.page c.index.result.now below c.index.ensures None) ∙ is)))
+    let read : c.read.result ≡ get_or (places_of m) c.args.page None = rw c.deref.ensures.value at c.read.ensures ∙ sym (read-laid m.logical m.places.items c.args.page) in
+    rw (← c.self.view_is) (in_range m.shape c.read.result (λ q is. c.self.invariant.tables.within c.args.page q (sym read ∙ is)))

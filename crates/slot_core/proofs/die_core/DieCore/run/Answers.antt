@@ -1,14 +1,34 @@
-use Rattle.std.proofs.Common.{◌∙◌, ◌+◌, ◌∷◌, [], ap, sym, length-append}
-use Rattle.slot_core.proofs.Running.{goes_on}
+use Rattle.plan_rules.specs.Bound.{MeetsBound}
+use Rattle.die_log.specs.Answers.{IsExact}
+use Rattle.slot_core.specs.Runs.{moment_of}
+use Rattle.slot_core.proofs.Planning.{planned_run, if_ok}
+use Rattle.slot_core.proofs.Accepting.{accepted_until_fault}
+use Rattle.slot_core.proofs.Adding.{run_calls, only_run}
 use Rattle.slot_core.proofs.die_core.DieCore.run.Goals as goal
 
-pub loop-event-preserved : goal.loop-event-preserved
-loop-event-preserved g c = record {
-  can_next = tt;
-  is_finite = tt;
-  room = c.push_reserved.ensures.capacity ∙ c.loop-event.invariant.room;
-  replied = c.push_reserved.ensures.len ∙ ap (λ n. n + 1) c.loop-event.invariant.replied ∙ sym (length-append c.loop-event.yielded (c.in-Some.event ∷ []));
-  ran = goes_on g.N.Nand.failures c.args.self.now c.loop-event.self c.apply-reply.new.self c.loop-event.yielded c.loop-event.replies.items _ c.in-Some.event c.apply-reply.result
-      c.loop-event.invariant.ran c.loop-event.invariant.plan c.apply-reply.ensures.step c.push_reserved.ensures.items;
-  plan = c.apply-reply.ensures.plan ∙ c.loop-event.invariant.plan;
-}
+pub returns-clause-grown : goal.returns-clause-grown
+returns-clause-grown g c =
+    if_ok _ _ c.answer_each.result
+    (λ replies ran. run_calls c.args.self.now.plan (moment_of g.N.Nand.failures c.args.self.now) c.args.events replies (moment_of g.N.Nand.failures c.answer_each.new.self) ran)
+    c.answer_each.ensures.ran
+
+pub returns-clause-only : goal.returns-clause-only
+returns-clause-only g c =
+    let exact : IsExact c.args.self.now.plan c.args.self.now.log = rw (← c.self.view_is) c.self.invariant.kept.exact in
+    if_ok _ _ c.answer_each.result
+    (λ replies ran. only_run c.args.self.now.plan (moment_of g.N.Nand.failures c.args.self.now) c.args.events replies (moment_of g.N.Nand.failures c.answer_each.new.self) exact ran)
+    c.answer_each.ensures.ran
+
+pub returns-clause-planned : goal.returns-clause-planned
+returns-clause-planned g c =
+    let bound : MeetsBound c.args.self.now.plan = rw (← c.self.view_is) c.self.invariant.kept.bound in
+    if_ok _ _ c.answer_each.result
+    (λ replies ran. planned_run c.args.self.now.plan (moment_of g.N.Nand.failures c.args.self.now) c.args.events replies (moment_of g.N.Nand.failures c.answer_each.new.self) bound ran)
+    c.answer_each.ensures.ran
+
+pub returns-clause-accepted : goal.returns-clause-accepted
+returns-clause-accepted g c =
+    let bound : MeetsBound c.args.self.now.plan = rw (← c.self.view_is) c.self.invariant.kept.bound in
+    if_ok _ _ c.answer_each.result
+    (λ replies ran times passes keeps unused found. accepted_until_fault c.args.self.now.plan times bound passes c.args.events keeps replies (moment_of g.N.Nand.failures c.args.self.now) _ unused ran found)
+    c.answer_each.ensures.ran

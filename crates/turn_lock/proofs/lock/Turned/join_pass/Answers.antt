@@ -9,7 +9,7 @@ pub join_seat-requires : goal.join_seat-requires
 join_seat-requires g c = (search rules, search rules, search rules, search rules, joins _ _ _ _ _ _ _ c.pass.invariant.1 c.other.invariant.1 c.pass.invariant.2)
 
 pub load-requires : goal.load-requires
-load-requires g c = (search rules, search rules, compares _ _ _ _ _ _)
+load-requires g c = (search rules, search rules, compares _ _ _ _ _ _ (ap (λ m. m.0.live) c.join_seat.ensures.2 ∙ c.pass.invariant.1))
 
 pub returns-clause-joined : goal.returns-clause-joined
 returns-clause-joined g c = let told = c.load.ensures.2 in
@@ -29,4 +29,5 @@ invariant_of-pass g c =
       joined_count v o w _ _ is c.pass.invariant.4 c.other.invariant.4,
       owns_joined v o w is c.pass.invariant.5 c.other.invariant.5,
       search rules,
+      rw (ap (λ m. m.0) told.0) told.4,
     )

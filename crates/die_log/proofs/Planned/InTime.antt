@@ -1,0 +1,266 @@
+-- Under a passing plan each slot up to a due would be needed for other work, were a job late; but there is less of it.
+use Rattle.std.proofs.Common.{◌≡◌, ℕ, suc, ◌-◌, ◌<◌, ◌≤◌, ◌==◌, ◌&&◌, nat_le, Bool, true, false, cond, List, [], ◌∷◌, ◌++◌, length, take, Option, Some, None, is_some, unwrap_or, option_map, count_by, refl, sym, ap, subst, ◌∙◌, inl, inr, arith, slice_get, pos, ◌-ℤ◌, ◌≤ℤ◌}
+use Rattle.std.specs.Prelude.{Contains}
+use Rattle.std.specs.List.{AllByRecursion}
+use Rattle.std.proofs.lemmas.Bool.{true≢false, cases_Bool, cases_lt, both_ways, and_from, eqb-false, le-leb, eq-eqb}
+use Rattle.std.proofs.lemmas.Int.{ints}
+use Rattle.std.proofs.lemmas.List.{length-map}
+use Rattle.std.proofs.lemmas.List.Elements.{All-contains, All-from_recursion}
+use Rattle.std.proofs.lemmas.List.Sums.{sum_by-take-le}
+use Rattle.slot_types.specs.declared.plans.DiePlan.{DiePlan}
+use Rattle.slot_types.specs.declared.acts.Act.{Act}
+use Rattle.slot_types.specs.declared.events.Event.{Event}
+use Rattle.slot_types.specs.declared.plans.Times.{Times}
+use Rattle.plan_rules.specs.Bound.{MeetsBound}
+use Rattle.plan_rules.specs.Times.{times_of, collection_work, Passes}
+use Rattle.plan_rules.specs.Keeping.{KeepsPlan}
+use Rattle.late_cert.specs.Schedule.{slot_at, is_named, work_in, completion_in}
+use Rattle.late_cert.specs.Rows.{row_of, number_in, is_done_in, is_known, release_of, due_of, completion_of}
+use Rattle.late_cert.specs.Rows as of_rows
+use Rattle.late_cert.specs.Stretch.{is_within, IsStretch, CarriesLeastKeys, start_of, jobs_of}
+use Rattle.late_cert.proofs.Counting.{slot-at-end}
+use Rattle.late_cert.proofs.Binds.{end-le-length}
+use Rattle.late_cert.proofs.Keys.{within-true, named-some}
+use Rattle.late_cert.proofs.Window.{stretch-is}
+use Rattle.late_cert.proofs.Least.{stretch-carries}
+use Rattle.die_log.specs.Log.{Log, Job, jobs, carried, now, acts, work, is_waived}
+use Rattle.die_log.specs.Work.{is_erase, are_all, is_done, completion}
+use Rattle.die_log.specs.Answers.{IsExact}
+use Rattle.die_log.specs.Rows.{row_for, rows, carried_numbers}
+use Rattle.die_log.specs.Planned.{AreEntered, IsInTime}
+use Rattle.die_log.proofs.Exact.{moment_exact}
+use Rattle.die_log.proofs.Standing.Longer.{contained, any_contained, number_at}
+use Rattle.die_log.proofs.Legal.Exact.{stands_well}
+use Rattle.die_log.proofs.Least.Lookups.{row_in, row_at}
+use Rattle.die_log.proofs.Least.Exact.{least_keys}
+use Rattle.die_log.proofs.Least.Certificates.{row_stands, done_unwaived}
+use Rattle.die_log.proofs.Bounds.Exact.{are_bounded, bounded_work}
+use Rattle.die_log.proofs.Planned.Entered.{IsSpaced, IsAsked, spaced, spaced_before}
+use Rattle.die_log.proofs.Planned.Asked.{most_of, is_in_window, asked_in, asked_fits}
+use Rattle.die_log.proofs.Planned.Carrying.{filled, one_behind, carries_one, count_carried, sum_by_less, work_carried}
+
+-- Work
+
+-- the numbers of an unfinished job or collection
+unfinished_job : (plan : DiePlan) (j : Job) (own : List Act) → j.collects ≡ false → are_all plan j own ≡ false → (length own == length j.ops) ≡ false
+unfinished_job plan j own kind h = subst (λ b. cond b (count_by is_erase own == plan.shape.erase_slots) (length own == length j.ops) ≡ false) kind h
+
+unfinished_collection : (plan : DiePlan) (j : Job) (own : List Act) → j.collects ≡ true → are_all plan j own ≡ false → (count_by is_erase own == plan.shape.erase_slots) ≡ false
+unfinished_collection plan j own kind h = subst (λ b. cond b (count_by is_erase own == plan.shape.erase_slots) (length own == length j.ops) ≡ false) kind h
+
+module _ (plan : DiePlan) (times : Times) (log : Log) (bound : MeetsBound plan) (exact : IsExact plan log) (spacing : IsSpaced plan times log) where
+  abbrev most_is : (j : Job) (b : Bool) → j.collects ≡ b → most_of plan times j ≡ cond b (collection_work plan) (times_of times j.task).work
+  most_is j b kind = ap (λ c. cond c (collection_work plan) (times_of times j.task).work) kind
+
+  asked : (j : Job) → Contains (jobs log) j → IsAsked plan times j
+  asked j stands = All-contains (IsAsked plan times) (jobs log) j (All-from_recursion (IsAsked plan times) (jobs log) spacing.asked) stands
+
+  -- nothing takes more slots than the plan has for it
+  few_slots : (j : Job) → Contains (jobs log) j → work j.number log ≤ most_of plan times j
+  few_slots j stands = elim (cases_Bool j.collects) [
+    | inl kind ↦ omega (arith, most_is j true kind, bounded_work plan bound log exact j stands kind)
+    | inr kind ↦ omega (arith, most_is j false kind, ((stands_well plan bound log exact).0.of_jobs j stands kind).within, (asked j stands).few kind)
+  ]
+
+  -- and what isn't done took fewer
+  fewer_slots : (j : Job) → Contains (jobs log) j → is_done plan log j ≡ false → work j.number log < most_of plan times j
+  fewer_slots j stands undone = elim (cases_Bool j.collects) [
+    | inl kind ↦ (
+        let h = are_bounded plan bound log exact j stands kind in
+        let left : count_by is_erase (acts j.number log) < plan.shape.erase_slots = unequal (count_by is_erase (acts j.number log)) plan.shape.erase_slots h.erases (unfinished_collection plan j (acts j.number log) kind undone) in
+        omega (arith, most_is j true kind, h.copies, h.reads, h.total, left))
+    | inr kind ↦ (
+        let within = ((stands_well plan bound log exact).0.of_jobs j stands kind).within in
+        let left : work j.number log < length j.ops = unequal (work j.number log) (length j.ops) within (unfinished_job plan j (acts j.number log) kind undone) in
+        omega (arith, most_is j false kind, left, (asked j stands).few kind))
+  ]
+    where
+      unequal : (a b : ℕ) → a ≤ b → (a == b) ≡ false → a < b
+      unequal a b le apart = elim (cases_lt a b) [ inl less ↦ less | inr more ↦ absurd (eqb-false a b apart (omega (arith, le, more))) ]
+
+-- Rows
+
+-- the job of a row
+record IsRowOf (plan : DiePlan) (log : Log) (k : ℕ) : Type 0 where
+  job : Job
+  stands : Contains (jobs log) job
+  number : job.number ≡ k
+  row : row_of (rows plan log) k ≡ Some (row_for plan log job)
+
+row_by : (plan : DiePlan) (log : Log) (k : ℕ) (o : Option Job) (gone : Bool) → slice_get (jobs log) k ≡ o → ((i : Job) → o ≡ Some i → i.number ≡ k)
+    → row_of (rows plan log) k ≡ row_in (row_for plan log) gone o → is_known (rows plan log) k ≡ true → IsRowOf plan log k
+row_by plan log k None gone at numbered row known = absurd (true≢false (sym known ∙ ap is_some row))
+row_by plan log k (Some i) true at numbered row known = absurd (true≢false (sym known ∙ ap is_some row))
+row_by plan log k (Some i) false at numbered row known = record { job = i; stands = contained (jobs log) k i at; number = numbered i refl; row = row }
+
+job_of_row : (plan : DiePlan) (log : Log) (k : ℕ) → MeetsBound plan → IsExact plan log → is_known (rows plan log) k ≡ true → IsRowOf plan log k
+job_of_row plan log k bound exact known =
+    let numbered = (stands_well plan bound log exact).0.numbered in
+    row_by plan log k (slice_get (jobs log) k) (is_waived log k) refl (λ i at. omega (arith, number_at 0 (jobs log) k i numbered at))
+    (row_at (row_for plan log) (is_waived log) (jobs log) k (λ i. refl) numbered) known
+
+completion_if : (b : Bool) (n : ℕ) → b ≡ true → unwrap_or (cond b (Some n) None) 0 ≡ n
+completion_if true n e = refl
+completion_if false n e = absurd (true≢false (sym e))
+
+done_if : (b : Bool) (n : ℕ) → is_some (cond b (Some n) None) ≡ b
+done_if true n = refl
+done_if false n = refl
+
+-- A late job
+
+-- a job or collection that wasn't waived, is due by now, and isn't done by its due
+record IsLate (plan : DiePlan) (log : Log) (j : Job) : Type 0 where
+  stands : Contains (jobs log) j
+  unwaived : is_waived log j.number ≡ false
+  due_by_now : j.due ≤ now log
+  behind : is_done plan log j ≡ true → j.due < completion j.number log
+
+module _ (plan : DiePlan) (times : Times) (log : Log) (bound : MeetsBound plan) (exact : IsExact plan log) (j : Job) (late : IsLate plan log j) where
+  keys : CarriesLeastKeys (rows plan log) (carried_numbers log)
+  keys = least_keys plan bound log exact
+
+  long_enough : j.due ≤ length (carried_numbers log)
+  long_enough = omega (arith, late.due_by_now, length-map (carried log) (λ c. option_map (λ ran. ran.0) c))
+
+  row : row_of (rows plan log) j.number ≡ Some (row_for plan log j)
+  row = row_stands plan log j bound exact late.stands late.unwaived
+
+  due_is : due_of (rows plan log) j.number ≡ j.due
+  due_is = ap (number_in (λ r. r.due)) row
+
+  release_is : release_of (rows plan log) j.number ≡ j.release
+  release_is = ap (number_in (λ r. r.release)) row
+
+  done_is : of_rows.is_done (rows plan log) j.number ≡ is_done plan log j
+  done_is = ap is_done_in row ∙ done_if (is_done plan log j) (completion j.number log)
+
+  completion_is : is_done plan log j ≡ true → completion_of (rows plan log) j.number ≡ completion j.number log
+  completion_is done = ap (number_in (λ r. unwrap_or r.completion 0)) row ∙ completion_if (is_done plan log j) (completion j.number log) done
+
+  -- the slots before the due that carried nothing but keys up to that of the job
+  abbrev start : ℕ
+  start = start_of (rows plan log) (carried_numbers log) j.number j.due
+
+  stretch : IsStretch (rows plan log) (carried_numbers log) j.number start j.due (jobs_of (rows plan log) (carried_numbers log) start j.due)
+  stretch = stretch-is (rows plan log) (carried_numbers log) j.number j.due keys.rising
+
+  -- from the release on the job itself waited
+  from_release : start ≤ j.release
+  from_release = elim (cases_lt j.release start) [
+    | inl after ↦ (
+        let before : ℕ = start - 1 in
+        let is : start ≡ suc before = omega (arith, after) in
+        let ordered : start ≤ j.due = stretch.ordered in
+        let waits : is_within (rows plan log) j.number (slot_at (carried_numbers log) before) ≡ true =
+        keys.least before j.number (omega (arith, is, ordered, long_enough)) (ap is_some row) (omega (arith, release_is, after, is))
+        (λ done. (let done_then : is_done plan log j ≡ true = sym done_is ∙ done in omega (arith, completion_is done_then, late.behind done_then, is, ordered))) in
+        absurd (both_ways (is_within (rows plan log) j.number (slot_at (carried_numbers log) before)) (stretch.least before is) waits))
+    | inr not_after ↦ not_after
+  ]
+
+  -- each slot of the stretch carried what was released in it and is due by then
+  each_slot : (t : ℕ) → start ≤ t → t < j.due → carries_one (is_in_window start j.due) (jobs log) (slot_at (carried_numbers log) t) ≡ true
+  each_slot t from below =
+      let w = within-true (rows plan log) j.number (slot_at (carried_numbers log) t) (stretch.carries t from below) in
+      let inside = stretch-carries (rows plan log) (carried_numbers log) keys j.number start j.due (jobs_of (rows plan log) (carried_numbers log) start j.due) stretch t w.number from below w.carries in
+      let i = job_of_row plan log w.number bound exact w.known in
+      let released : start ≤ i.job.release = omega (arith, inside.0, ap (number_in (λ r. r.release)) i.row) in
+      let due_by : i.job.due ≤ j.due = omega (arith, inside.1, ap (number_in (λ r. r.due)) i.row, due_is) in
+      any_contained (λ k. is_in_window start j.due k && is_named k.number (slot_at (carried_numbers log) t)) (jobs log) i.job i.stands
+      (and_from (is_in_window start j.due i.job) (is_named i.job.number (slot_at (carried_numbers log) t))
+      (and_from (nat_le start i.job.release) (nat_le i.job.due j.due) (le-leb start i.job.release released) (le-leb i.job.due j.due due_by))
+      (ap (is_named i.job.number) w.carries ∙ eq-eqb i.job.number w.number i.number))
+
+  -- the slots that a job or collection had before the due
+  abbrev had : Job → ℕ
+  had i = work_in (take j.due (carried_numbers log)) i.number
+
+  had_within : (i : Job) → had i ≤ work i.number log
+  had_within i = omega (arith, sum_by-take-le (λ o. cond (is_named i.number o) 1 0) (carried_numbers log) j.due, work_carried i.number log)
+
+  module _ (spacing : IsSpaced plan times log) where
+    -- the job itself had fewer slots before its due than it may take
+    missed : had j < most_of plan times j
+    missed = elim (cases_Bool (is_done plan log j)) [
+      | inl done ↦ (
+          let ends : completion_in (carried_numbers log) j.number ≡ completion j.number log = omega (arith, keys.completes j.number (done_is ∙ done), completion_is done) in
+          let last : ℕ = completion_in (carried_numbers log) j.number - 1 in
+          let is : completion_in (carried_numbers log) j.number ≡ suc last = omega (arith, ends, late.behind done) in
+          let carries = named-some j.number (slot_at (carried_numbers log) last) (slot-at-end (is_named j.number) (carried_numbers log) last is) in
+          let fewer : had j < work_in (carried_numbers log) j.number = one_behind j.number (carried_numbers log) j.due last (omega (arith, is, ends, late.behind done)) carries in
+          omega (arith, fewer, work_carried j.number log, few_slots plan times log bound exact spacing j late.stands))
+      | inr undone ↦ omega (arith, had_within j, fewer_slots plan times log bound exact spacing j late.stands undone)
+    ]
+
+    each_asked : AllByRecursion (λ i. cond (is_in_window start j.due i) (had i) 0 ≤ asked_in plan times start j.due i) (jobs log)
+    each_asked = all_contained (jobs log) (λ i stands. if_inside (is_in_window start j.due i) (had i) (most_of plan times i) (omega (arith, had_within i, few_slots plan times log bound exact spacing i stands)))
+      where
+        if_inside : (b : Bool) (n m : ℕ) → n ≤ m → cond b n 0 ≤ cond b m 0
+        if_inside true n m le = le
+        if_inside false n m le = omega arith
+
+        all_contained : {P : Job → Type 0} (js : List Job) → ((i : Job) → Contains js i → P i) → AllByRecursion P js
+        all_contained [] h = tt
+        all_contained (i ∷ js) h = (h i (0, omega arith, refl), all_contained js (λ k c. h k (suc c.0, omega (arith, c.1), c.2)))
+
+    own_window : is_in_window start j.due j ≡ true
+    own_window = and_from (nat_le start j.release) (nat_le j.due j.due) (le-leb start j.release from_release) (le-leb j.due j.due (omega arith))
+
+    -- so all that the window was asked for is more than it has
+    too_much : Passes plan times → ⊥
+    too_much passes =
+        let full = filled (carries_one (is_in_window start j.due) (jobs log)) (carried_numbers log) start j.due long_enough each_slot in
+        let counted = count_carried (is_in_window start j.due) (jobs log) (take j.due (carried_numbers log)) in
+        let ordered : start ≤ j.due = stretch.ordered in
+        let own : cond (is_in_window start j.due j) (had j) 0 < asked_in plan times start j.due j = if_own (is_in_window start j.due j) (had j) (most_of plan times j) own_window missed in
+        let less = sum_by_less (λ i. cond (is_in_window start j.due i) (had i) 0) (asked_in plan times start j.due) (jobs log) j late.stands each_asked own in
+        omega (arith, full, counted, ordered, less, asked_fits plan times start j.due log passes spacing)
+      where
+        if_own : (b : Bool) (n m : ℕ) → b ≡ true → n < m → cond b n 0 < cond b m 0
+        if_own true n m e lt = lt
+        if_own false n m e lt = absurd (true≢false (sym e))
+
+-- Logs
+
+none_late : (plan : DiePlan) (times : Times) (log : Log) → MeetsBound plan → IsExact plan log → Passes plan times → IsSpaced plan times log → (j : Job) → IsLate plan log j → ⊥
+none_late plan times log bound exact passes spacing j late = too_much plan times log bound exact j late spacing passes
+
+ended_by_now : (plan : DiePlan) (log : Log) (j : Job) → MeetsBound plan → IsExact plan log → Contains (jobs log) j → is_done plan log j ≡ true → completion j.number log ≤ now log
+ended_by_now plan log j bound exact stands done =
+    let keys = least_keys plan bound log exact in
+    let row = row_stands plan log j bound exact stands (done_unwaived plan log j bound exact stands done) in
+    let done_row : of_rows.is_done (rows plan log) j.number ≡ true = ap is_done_in row ∙ (done_if (is_done plan log j) (completion j.number log) ∙ done) in
+    let is : completion_of (rows plan log) j.number ≡ completion j.number log = ap (number_in (λ r. unwrap_or r.completion 0)) row ∙ completion_if (is_done plan log j) (completion j.number log) done in
+    omega (arith, is, keys.completes j.number done_row, end-le-length (is_named j.number) (carried_numbers log), length-map (carried log) (λ c. option_map (λ ran. ran.0) c))
+
+not_late : (c d : ℕ) → c ≤ d → (pos c -ℤ pos d) ≤ℤ pos 0
+not_late c d h = omega (arith, ints)
+
+in_time : (plan : DiePlan) (times : Times) (log : Log) → MeetsBound plan → IsExact plan log → Passes plan times → IsSpaced plan times log → IsInTime plan log
+in_time plan times log bound exact passes spacing = record {
+  due_by_now = λ j stands due. elim (cases_Bool (is_waived log j.number)) [
+    | inl gone ↦ inr gone
+    | inr unwaived ↦ elim (cases_Bool (is_done plan log j)) [
+      | inl done ↦ inl done
+      | inr undone ↦ absurd (none_late plan times log bound exact passes spacing j
+          (record { stands = stands; unwaived = unwaived; due_by_now = due; behind = λ done. absurd (true≢false (sym done ∙ undone)) }))
+    ]
+  ];
+  never_late = λ j stands done. not_late (completion j.number log) j.due (elim (cases_lt j.due (completion j.number log)) [
+    | inl late ↦ absurd (none_late plan times log bound exact passes spacing j
+        (record {
+          stands = stands;
+          unwaived = done_unwaived plan log j bound exact stands done;
+          due_by_now = omega (arith, late, ended_by_now plan log j bound exact stands done);
+          behind = λ same. late;
+        }))
+    | inr soon ↦ omega (arith, soon)
+  ]);
+}
+
+-- at each moment of an exact log that events leave which keep to a passing plan
+pub planned_in_time : (plan : DiePlan) (times : Times) → MeetsBound plan → Passes plan times → (all : List Event) → KeepsPlan plan times all
+    → (later moment : Log) → IsExact plan (later ++ moment) → AreEntered all [] (later ++ moment) → IsInTime plan moment
+planned_in_time plan times bound passes all keeps later moment exact enter =
+    in_time plan times moment bound (moment_exact plan later moment exact) passes (spaced_before plan times later moment (spaced plan times all (later ++ moment) keeps enter exact))

@@ -1,0 +1,72 @@
+-- A run leaves the log of its events.
+use Rattle.std.proofs.Common.{◌≡◌, ◌⊎◌, ℕ, ◌+◌, ◌<◌, ◌≤◌, nat_le, Bool, true, cond, List, [], ◌∷◌, map, Option, Some, None, refl, ap, sym, inl, inr, arith}
+use Rattle.std.proofs.lemmas.Bool.{cases_Bool, leb-true}
+use Rattle.std.proofs.lemmas.Option.{none-some}
+use Rattle.std.proofs.lemmas.List.{length_push}
+use Rattle.std.proofs.lemmas.List.Sums.{sum_by-cons}
+use Rattle.slot_types.specs.Arrivals.{IsArrival}
+use Rattle.slot_types.specs.declared.limits.TheConstants.{MAX_SLOT}
+use Rattle.slot_types.specs.declared.plans.DiePlan.{DiePlan}
+use Rattle.slot_types.specs.declared.events.Event.{Event}
+use Rattle.slot_types.specs.declared.events.Event.TheVariants as events
+use Rattle.slot_types.specs.declared.refusals.Refusal.{Refusal}
+use Rattle.slot_types.specs.declared.refusals.Refusal.TheVariants as because
+use Rattle.slot_types.specs.declared.plans.Times.{Times}
+use Rattle.plan_rules.specs.Bound.{MeetsBound}
+use Rattle.plan_rules.specs.Times.{Passes}
+use Rattle.plan_rules.specs.Keeping.{is_slot, slots, KeepsPlan}
+use Rattle.die_log.specs.Log.{Log, carried, now}
+use Rattle.die_log.specs.Answers.{refusal_of, first_standing, answer, answer_by, choice, slot_reply, with_answer, after_call, run}
+use Rattle.die_log.specs.Planned.{Adds, AreEntered, IsInTime}
+use Rattle.die_log.proofs.Runs.{run_exact}
+use Rattle.die_log.proofs.Planned.InTime.{planned_in_time}
+
+abbrev one_if : Bool → ℕ
+one_if b = cond b 1 0
+
+-- after a call whose answer is `reply`
+record IsEntered (event : Event) (past next : Log) : Type 0 where
+  adds : Adds event past next ⊎ (IsArrival event × (next ≡ past))
+  slot : now next ≡ now past + cond (is_slot event) 1 0
+
+by_answer : (plan : DiePlan) (caller : ℕ) (event : Event) (past : Log) (o : Option Refusal) → (is_slot event ≡ true → o ≡ None) → IsEntered event past (with_answer caller event (answer_by plan past event o) past)
+by_answer plan caller (events.Submit task release due ops) past None on_time = record { adds = inl (caller, _, refl); slot = omega arith }
+by_answer plan caller (events.Submit task release due ops) past (Some r) on_time = record { adds = inr (tt, refl); slot = omega arith }
+by_answer plan caller (events.Collect task release due) past None on_time = record { adds = inl (caller, _, refl); slot = omega arith }
+by_answer plan caller (events.Collect task release due) past (Some r) on_time = record { adds = inr (tt, refl); slot = omega arith }
+by_answer plan caller events.Slot past None on_time =
+    let c = choice plan past in
+    record { adds = inl (caller, _, refl); slot = omega (arith, length_push (carried past) (slot_reply plan past c.waived c.head).ran) }
+by_answer plan caller events.Slot past (Some r) on_time = absurd (none-some r (sym (on_time refl)))
+
+-- no slot is refused before the last one
+pub slot_open : (plan : DiePlan) (past : Log) → now past < MAX_SLOT → refusal_of plan past events.Slot ≡ None
+slot_open plan past lt = elim (cases_Bool (nat_le MAX_SLOT (now past))) [
+  | inl over ↦ absurd (omega (arith, lt, leb-true MAX_SLOT (now past) over))
+  | inr left ↦ ap (λ (b : Bool). first_standing ((b, because.ClockEnd) ∷ [])) left
+]
+
+slot_answered : (plan : DiePlan) (event : Event) (past : Log) → (is_slot event ≡ true → now past < MAX_SLOT) → is_slot event ≡ true → refusal_of plan past event ≡ None
+slot_answered plan (events.Submit task release due ops) past lt is = absurd cc
+slot_answered plan (events.Collect task release due) past lt is = absurd cc
+slot_answered plan events.Slot past lt is = slot_open plan past (lt is)
+
+call_enters : (plan : DiePlan) (call : ℕ × Event) (past : Log) → (is_slot call.1 ≡ true → now past < MAX_SLOT) → IsEntered call.1 past (after_call plan past call)
+unfolding answer
+call_enters plan call past lt = by_answer plan call.0 call.1 past (refusal_of plan past call.1) (slot_answered plan call.1 past lt)
+
+-- the events of calls
+abbrev pub events_of : List (ℕ × Event) → List Event
+events_of calls = map (λ call. call.1) calls
+
+pub run_enters : (plan : DiePlan) (calls : List (ℕ × Event)) (past : Log) → now past + slots (events_of calls) ≤ MAX_SLOT → AreEntered (events_of calls) past (run plan past calls)
+run_enters plan [] past few = refl
+run_enters plan (call ∷ calls) past few =
+    let counted : slots (events_of (call ∷ calls)) ≡ cond (is_slot call.1) 1 0 + slots (events_of calls) = sum_by-cons (λ e. cond (is_slot e) 1 0) call.1 (events_of calls) in
+    let e = call_enters plan call past (λ is. omega (arith, few, counted, ap one_if is)) in
+    (after_call plan past call, e.adds, run_enters plan calls (after_call plan past call) (omega (arith, few, counted, e.slot)))
+
+-- so nothing is late in a run of events that keep to a passing plan
+pub run_in_time : (plan : DiePlan) (times : Times) → MeetsBound plan → Passes plan times → (calls : List (ℕ × Event)) → KeepsPlan plan times (events_of calls) → IsInTime plan (run plan [] calls)
+run_in_time plan times bound passes calls keeps =
+    planned_in_time plan times bound passes (events_of calls) keeps [] (run plan [] calls) (run_exact plan [] calls tt) (run_enters plan calls [] (omega (arith, keeps.few_slots)))

@@ -1,0 +1,81 @@
+-- A task whose jobs are all done holds nothing, and one whose collections are all closed has none pending.
+use Rattle.std.proofs.Common.{◌≡◌, ℕ, zero, suc, ◌≤◌, ◌<◌, ◌==◌, ◌&&◌, not, Bool, true, false, cond, List, [], ◌∷◌, length, drop, sum_by, count_by, Some, refl, ap, sym, ◌∙◌, inl, inr, arith, slice_get}
+use Rattle.std.specs.Prelude.{Contains}
+use Rattle.std.proofs.lemmas.Bool.{true≢false, cases_eq, eqb-true, and_parts, not-true}
+use Rattle.std.proofs.lemmas.List.{drop_all}
+use Rattle.std.proofs.lemmas.List.Sums.{sum_by-cons}
+use Rattle.std.proofs.lemmas.Option.{same_Some}
+use Rattle.slot_types.specs.declared.plans.DiePlan.{DiePlan}
+use Rattle.slot_types.specs.declared.acts.Act.{Act}
+use Rattle.slot_types.specs.declared.events.Op.{Op}
+use Rattle.die_log.specs.Log.{Log, Job, jobs, job_at, now, acts, is_waived}
+use Rattle.slot_types.specs.Operations.{writes}
+use Rattle.die_log.specs.Work.{are_all, is_done, is_erase}
+use Rattle.die_log.specs.Held.{at_task, left_of, is_pending, IsTaken, AreTrue}
+use Rattle.die_log.specs.Planned.{IsInTime}
+use Rattle.die_log.specs.Supply.{hold_of, pending_at, AreDueBy}
+use Rattle.die_log.proofs.Tokens.Sums.{one_if, all_at}
+use Rattle.die_log.proofs.Tokens.Amounts.{at_other}
+use Rattle.die_log.proofs.Tokens.Taking.{at_none}
+use Rattle.die_log.proofs.Standing.Longer.{contained}
+
+sum_zero : {X : Type 0} (f : X → ℕ) (xs : List X) → ((k : ℕ) (x : X) → slice_get xs k ≡ Some x → f x ≡ 0) → sum_by f xs ≡ 0
+sum_zero f [] h = refl
+sum_zero f (x ∷ xs) h = omega (arith, sum_by-cons f x xs, h zero x refl, sum_zero f xs (λ k y e. h (suc k) y e))
+
+-- Jobs
+
+none_left : (n : ℕ) (ops : List Op) → length ops ≤ n → writes (drop n ops) ≡ 0
+none_left n ops le = ap writes (drop_all n ops le)
+
+all_done : (plan : DiePlan) (j : Job) (own : List Act) → j.collects ≡ false → are_all plan j own ≡ true → length own ≡ length j.ops
+all_done plan j own kind is = by_kind j.collects kind is
+  where
+    by_kind : (b : Bool) → b ≡ false → (cond b (count_by is_erase own == plan.shape.erase_slots) (length own == length j.ops)) ≡ true → length own ≡ length j.ops
+    by_kind true k h = absurd (true≢false k)
+    by_kind false k h = eqb-true (length own) (length j.ops) h
+
+-- all jobs of a task that are due are done, so it holds nothing for them
+pub hold_none : (plan : DiePlan) (log : Log) (t : ℕ) → AreTrue plan log → t < length plan.caps → ((k : ℕ) (j : Job) → job_at log k ≡ Some j → j.number ≡ k)
+    → ((number : ℕ) → is_waived log number ≡ true → (j : Job) × (job_at log number ≡ Some j) × (j.collects ≡ true))
+    → IsInTime plan log → AreDueBy (jobs log) t (now log) → hold_of plan log t ≡ 0
+hold_none plan log t h lt numbered collections in_time due_by =
+    h.agree.holds_are t lt ∙ sum_zero (λ j. at_task j.task (left_of (λ n. acts n log) j) t) (jobs log) each
+  where
+    job_left : (k : ℕ) (j : Job) → slice_get (jobs log) k ≡ Some j → j.task ≡ t → j.collects ≡ false → left_of (λ n. acts n log) j ≡ 0
+    job_left k j e task kind = elim (in_time.due_by_now j (contained (jobs log) k j e) (due_by j (contained (jobs log) k j e) kind task)) [
+      | inl done ↦ none_left (length (acts j.number log)) j.ops (omega (arith, all_done plan j (acts j.number log) kind done))
+      | inr gone ↦
+          let c = collections j.number gone in
+          let at : job_at log j.number ≡ Some j = ap (job_at log) (numbered k j e) ∙ e in
+          absurd (true≢false (sym c.2 ∙ (ap (λ (i : Job). i.collects) (same_Some c.0 j (sym c.1 ∙ at)) ∙ kind)))
+    ]
+
+    left : (k : ℕ) (j : Job) → slice_get (jobs log) k ≡ Some j → j.task ≡ t → (b : Bool) → j.collects ≡ b → left_of (λ n. acts n log) j ≡ 0
+    left k j e task true kind =
+        let ops : j.ops ≡ [] = (all_at (IsTaken plan) (jobs log) k j h.taken e).none kind in
+        ap (λ (l : List Op). writes (drop (length (acts j.number log)) l)) ops ∙ none_left (length (acts j.number log)) [] (omega arith)
+    left k j e task false kind = job_left k j e task kind
+
+    each : (k : ℕ) (j : Job) → slice_get (jobs log) k ≡ Some j → at_task j.task (left_of (λ n. acts n log) j) t ≡ 0
+    each k j e = elim (cases_eq t j.task) [
+      | inl same ↦ ap (λ n. at_task j.task n t) (left k j e (sym same) j.collects refl) ∙ at_none j.task t
+      | inr apart ↦ at_other j.task (left_of (λ n. acts n log) j) t apart
+    ]
+
+-- Collections
+
+-- all collections of a task that are due are done or waived, so none of them is pending
+pub pending_none : (plan : DiePlan) (log : Log) (t : ℕ) → IsInTime plan log → ((j : Job) → Contains (jobs log) j → j.collects ≡ true → j.task ≡ t → j.due ≤ now log) → pending_at plan log t ≡ 0
+pending_none plan log t in_time due_by = sum_zero (λ j. one_if ((j.task == t) && is_pending plan (λ n. acts n log) (is_waived log) j)) (jobs log) (λ k j e. ap one_if (each k j e _ refl))
+  where
+    each : (k : ℕ) (j : Job) → slice_get (jobs log) k ≡ Some j → (b : Bool) → ((j.task == t) && is_pending plan (λ n. acts n log) (is_waived log) j) ≡ b → ((j.task == t) && is_pending plan (λ n. acts n log) (is_waived log) j) ≡ false
+    each k j e false is = is
+    each k j e true is =
+        let task = and_parts (j.task == t) (is_pending plan (λ n. acts n log) (is_waived log) j) is in
+        let gone = and_parts (j.collects && not (is_done plan log j)) (not (is_waived log j.number)) task.1 in
+        let done = and_parts j.collects (not (is_done plan log j)) gone.0 in
+        elim (in_time.due_by_now j (contained (jobs log) k j e) (due_by j (contained (jobs log) k j e) done.0 (eqb-true j.task t task.0))) [
+          | inl over ↦ absurd (true≢false (sym over ∙ not-true (is_done plan log j) done.1))
+          | inr waived ↦ absurd (true≢false (sym waived ∙ not-true (is_waived log j.number) gone.1))
+        ]

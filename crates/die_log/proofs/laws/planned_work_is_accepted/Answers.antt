@@ -1,0 +1,9 @@
+use Rattle.std.proofs.Common.{[]}
+use Rattle.die_log.proofs.Supply.Unrefused.{unrefused, run_accepted}
+use Rattle.die_log.proofs.laws.planned_work_is_accepted.Goals as goal
+
+pub returns : goal.returns
+returns c = record {
+  next = unrefused;
+  run = λ plan times bound passes calls. run_accepted plan times bound passes [] calls tt;
+}

@@ -1,0 +1,33 @@
+-- Which logs events leave, and what a plan with times promises of them.
+use Rattle.std.specs.Prelude.{◌≡◌, ℕ, ◌⊎◌, ◌≤◌, List, [], ◌∷◌, ◌++◌, Contains, IsTrue, pos, ◌≤ℤ◌}
+use Rattle.slot_types.specs.Arrivals.{IsArrival}
+use Rattle.slot_types.specs.declared.plans.DiePlan.{DiePlan}
+use Rattle.slot_types.specs.declared.events.Event.{Event}
+use Rattle.slot_types.specs.declared.replies.Reply.{Reply}
+use Rattle.die_log.specs.Log.{Log, Job, jobs, now, is_waived}
+use Rattle.die_log.specs.Work.{is_done, lateness_of}
+use Rattle.die_log.specs.Answers.{answer, IsAccepted, after_call}
+
+-- the events of a log, in their order
+abbrev pub told : Log → List Event
+told [] = []
+told (e ∷ past) = told past ++ e.event ∷ []
+
+-- the log has one more entry, for this event
+abbrev pub Adds : Event → Log → Log → Type 0
+Adds event past log = (caller : ℕ) × (reply : Reply) × (log ≡ record { caller = caller; event = event; reply = reply } ∷ past)
+
+-- the log that events leave behind `past`: in their order each is an entry, but for jobs and collections that were refused
+abbrev pub AreEntered : List Event → Log → Log → Type 0
+AreEntered [] past log = log ≡ past
+AreEntered (event ∷ rest) past log = (next : Log) × (Adds event past next ⊎ (IsArrival event × (next ≡ past))) × AreEntered rest next log
+
+-- what is due by now is done or was waived, and nothing is done late
+pub record IsInTime (plan : DiePlan) (log : Log) : Type 0 where
+  pub due_by_now : (j : Job) → Contains (jobs log) j → j.due ≤ now log → IsTrue (is_done plan log j) ⊎ IsTrue (is_waived log j.number)
+  pub never_late : (j : Job) → Contains (jobs log) j → IsTrue (is_done plan log j) → lateness_of log j ≤ℤ pos 0
+
+-- none of these calls, made one after the other, is refused
+abbrev pub AreAccepted : DiePlan → Log → List (ℕ × Event) → Type 0
+AreAccepted plan past [] = Unit {0}
+AreAccepted plan past (call ∷ calls) = IsAccepted (answer plan past call.1) × AreAccepted plan (after_call plan past call) calls

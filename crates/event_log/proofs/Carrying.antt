@@ -1,0 +1,95 @@
+-- What the runs of deeds of a log carried is what its notes carried.
+use Rattle.std.proofs.Common.{◌≡◌, ℕ, zero, suc, List, [], ◌∷◌, ◌++◌, Option, Some, None, refl, ap, sym, ◌∙◌, length}
+use Rattle.std.proofs.Common.{reverse, take, get_or, append-nil, append_assoc, add-one, arith}
+use Rattle.std.specs.Prelude.{◌+◌, ◌<◌, ◌≤◌, replicate, Result, Ok, Err, IfOk}
+use Rattle.std.specs.List.{filter_map}
+use Rattle.std.proofs.lemmas.List.{reverse-append, reverse-reverse, length-reverse, take_all}
+use Rattle.std.proofs.lemmas.List.Elements.{filter_map-append}
+use Rattle.slot_types.specs.declared.refusals.Refusal.{Refusal}
+use Rattle.late_cert.specs.Schedule.{Slots}
+use Rattle.late_cert.specs.Carried.{CarriedSlots}
+use Rattle.event_log.specs.declared.deeds.Deed.{Deed}
+use Rattle.event_log.specs.declared.runs.Run.{Run}
+use Rattle.event_log.specs.declared.waivers.Waiver.{Waiver}
+use Rattle.event_log.specs.Spread.{spread}
+use Rattle.event_log.specs.Notes.{notes_of}
+use Rattle.event_log.specs.Kept.{notes_in}
+use Rattle.event_log.specs.Slots.{slot_by, with_carried, carried_in}
+
+-- Equal deeds
+
+pub arrivals_pass : (n : ℕ) (d : Deed) → slot_by d ≡ None → filter_map slot_by (replicate n d) ≡ []
+arrivals_pass zero d e = refl
+arrivals_pass (suc n) d e = rw e (arrivals_pass n d e)
+
+pub slots_repeat : (n : ℕ) (d : Deed) (k : Option ℕ) → slot_by d ≡ Some k → filter_map slot_by (replicate n d) ≡ replicate n k
+slots_repeat zero d k e = refl
+slots_repeat (suc n) d k e = rw e (ap (λ ks. k ∷ ks) (slots_repeat n d k e))
+
+-- The notes
+
+with_one : (slots : Slots) (d : Deed) (o : Option (Option ℕ)) → slot_by d ≡ o → with_carried slots o ≡ slots ++ filter_map slot_by (d ∷ [])
+with_one slots d None e = rw e (sym (append-nil slots))
+with_one slots d (Some k) e = rw e refl
+
+carried_back : (ds : List Deed) (cs : List ℕ) (waivers : List Waiver) → length cs ≡ length ds
+    → carried_in (notes_of ds cs waivers) ≡ filter_map slot_by (reverse ds)
+carried_back [] cs waivers e = refl
+carried_back (d ∷ ds) [] waivers e = absurd (omega arith)
+carried_back (d ∷ ds) (c ∷ cs) waivers e =
+    with_one (carried_in (notes_of ds cs waivers)) d (slot_by d) refl
+    ∙ ap (λ ks. ks ++ filter_map slot_by (d ∷ [])) (carried_back ds cs waivers (omega arith))
+    ∙ sym (ap (λ (es : List Deed). filter_map slot_by es) (reverse-append (d ∷ []) ds) ∙ filter_map-append slot_by (reverse ds) (d ∷ []))
+
+pub carried_is : (deeds : List Deed) (callers : List ℕ) (waivers : List Waiver) → length callers ≡ length deeds
+    → filter_map slot_by deeds ≡ carried_in (notes_in deeds callers waivers)
+carried_is deeds callers waivers e =
+    sym (carried_back (reverse deeds) (reverse callers) waivers (length-reverse callers ∙ e ∙ sym (length-reverse deeds))
+    ∙ ap (λ (ds : List Deed). filter_map slot_by ds) (reverse-reverse deeds))
+
+-- Run by run
+
+spread-take : (rs : List (Run Deed)) (i : ℕ) (r : Run Deed) → i < length rs → r ≡ get_or rs i r
+    → spread (take (suc i) rs) ≡ spread (take i rs) ++ replicate r.count r.item
+spread-take [] i r h e = absurd (omega arith)
+spread-take (q ∷ qs) zero r h e = rw e (append-nil (replicate q.count q.item))
+spread-take (q ∷ qs) (suc i) r h e =
+    ap (λ xs. replicate q.count q.item ++ xs) (spread-take qs i r (omega arith) e)
+    ∙ sym (append_assoc (replicate q.count q.item) (spread (take i qs)) (replicate r.count r.item))
+
+slots-take : (rs : List (Run Deed)) (i : ℕ) (r : Run Deed) → i < length rs → r ≡ get_or rs i r
+    → filter_map slot_by (spread (take (i + 1) rs)) ≡ filter_map slot_by (spread (take i rs)) ++ filter_map slot_by (replicate r.count r.item)
+slots-take rs i r h e =
+    rw (add-one i) (ap (λ (ds : List Deed). filter_map slot_by ds) (spread-take rs i r h e)
+    ∙ filter_map-append slot_by (spread (take i rs)) (replicate r.count r.item))
+
+-- a run of slots is added
+pub slots_added : (rs : List (Run Deed)) (i : ℕ) (r : Run Deed) (before after : Slots) (k : Option ℕ) → i < length rs → r ≡ get_or rs i r
+    → before ≡ filter_map slot_by (spread (take i rs)) → slot_by r.item ≡ Some k → after ≡ before ++ replicate r.count k
+    → after ≡ filter_map slot_by (spread (take (i + 1) rs))
+slots_added rs i r before after k h e before_is some after_is =
+    after_is
+    ∙ ap (λ ks. ks ++ replicate r.count k) before_is
+    ∙ ap (λ ks. filter_map slot_by (spread (take i rs)) ++ ks) (sym (slots_repeat r.count r.item k some))
+    ∙ sym (slots-take rs i r h e)
+
+-- a run of arrivals is passed over
+pub slots_passed : (rs : List (Run Deed)) (i : ℕ) (r : Run Deed) (before after : Slots) → i < length rs → r ≡ get_or rs i r
+    → before ≡ filter_map slot_by (spread (take i rs)) → slot_by r.item ≡ None → after ≡ before
+    → after ≡ filter_map slot_by (spread (take (i + 1) rs))
+slots_passed rs i r before after h e before_is none after_is =
+    after_is
+    ∙ before_is
+    ∙ sym (append-nil (filter_map slot_by (spread (take i rs))))
+    ∙ ap (λ ks. filter_map slot_by (spread (take i rs)) ++ ks) (sym (arrivals_pass r.count r.item none))
+    ∙ sym (slots-take rs i r h e)
+
+-- all runs were walked
+pub slots_whole : (rs : List (Run Deed)) (i : ℕ) (slots : Slots) → length rs ≤ i → slots ≡ filter_map slot_by (spread (take i rs))
+    → slots ≡ filter_map slot_by (spread rs)
+slots_whole rs i slots h is = is ∙ ap (λ (qs : List (Run Deed)). filter_map slot_by (spread qs)) (take_all i rs h)
+
+pub ok_as : (r : Result CarriedSlots Refusal) (xs ys : Slots) → xs ≡ ys → IfOk r (λ carried. carried.slots ≡ xs) → IfOk r
+    (λ carried. carried.slots ≡ ys)
+ok_as (Ok carried) xs ys e is = is ∙ e
+ok_as (Err refusal) xs ys e is = tt

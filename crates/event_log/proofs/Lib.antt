@@ -1,0 +1,5 @@
+pub mod Spreading
+pub mod Pushing
+pub mod Growing
+pub mod Counting
+pub mod Carrying

@@ -1,0 +1,103 @@
+use Rattle.std.proofs.Common.{◌∷◌, [], ap, sym, ◌∙◌, length, not, arith, length-append}
+use Rattle.event_log.specs.Notes.{Events}
+use Rattle.event_log.specs.Kept.{notes_in}
+use Rattle.event_log.proofs.Pushing.{notes_push, stretches_push, few_stretches, length_of, before_push, is_none_is, same_some, second_of}
+use Rattle.event_log.proofs.event_log.EventLog.push_reserved.Goals as goal
+
+pub stretches_with-self-inside-requires : goal.stretches_with-self-inside-requires
+stretches_with-self-inside-requires c =
+    omega (
+      arith,
+      c.requires.few,
+      c.self.invariant.count_is,
+      ap (λ (e : Events). length e.notes) c.self.view_is,
+      few_stretches
+          (notes_in c.self.inside.deeds.items c.self.inside.callers.items c.self.inside.waivers.items),
+    )
+
+pub push_reserved-requires-clause-few : goal.push_reserved-requires-clause-few
+push_reserved-requires-clause-few c =
+    omega (
+      arith,
+      c.requires.few,
+      ap (λ (e : Events). length e.notes) c.self.view_is,
+      length_of c.self.inside.deeds.items
+          c.self.inside.callers.items c.self.inside.waivers.items c.self.invariant.callers_are,
+    )
+
+pub push_reserved-requires-clause-like : goal.push_reserved-requires-clause-like
+push_reserved-requires-clause-like c =
+    λ both. c.is_last_deed-same_deed.ensures (second_of c.goes_on-goes_on.result c.is_last_deed-same_deed.result both)
+
+pub push_reserved-requires-2-clause-few : goal.push_reserved-requires-2-clause-few
+push_reserved-requires-2-clause-few c =
+    omega (
+      arith,
+      c.requires.few,
+      c.self.invariant.callers_are,
+      ap (λ (e : Events). length e.notes) c.self.view_is,
+      length_of
+          c.self.inside.deeds.items c.self.inside.callers.items c.self.inside.waivers.items c.self.invariant.callers_are,
+    )
+
+pub push_reserved-requires-2-clause-like : goal.push_reserved-requires-2-clause-like
+push_reserved-requires-2-clause-like c = λ same. same_some _ c.args.caller (sym c.is_last_caller-same_caller.ensures ∙ same)
+
+pub overflow_add-self : goal.overflow_add-self
+overflow_add-self c =
+    omega (
+      arith,
+      c.requires.few,
+      c.self.invariant.len_is,
+      ap (λ (e : Events). length e.notes) c.self.view_is,
+      length_of
+          c.self.inside.deeds.items c.self.inside.callers.items c.self.inside.waivers.items c.self.invariant.callers_are,
+    )
+
+pub invariant_of-self : goal.invariant_of-self
+invariant_of-self c =
+    let events = notes_push c.self.inside.deeds.items c.self.inside.callers.items c.self.inside.len c.self.inside.waivers.items
+    c.args.caller c.args.deed c.args.waived.now c.self.invariant.len_is c.self.invariant.before in
+    record {
+      len_is = rw (c.push_reserved.ensures.items) (omega (
+        arith,
+        c.self.invariant.len_is,
+        length-append c.self.inside.deeds.items
+            (c.args.deed ∷ []),
+      ));
+      callers_are = rw (c.push_reserved.ensures.items, c.push_reserved-2.ensures.items)
+          (omega (
+            arith,
+            length-append c.self.inside.deeds.items (c.args.deed ∷ []),
+            length-append c.self.inside.callers.items
+                (c.args.caller ∷ []),
+            c.self.invariant.callers_are,
+          ));
+      before = rw c.note_waivers.ensures.noted (before_push c.self.inside.len c.self.inside.waivers.items c.args.waived.now
+          c.self.invariant.before);
+      count_is = rw (
+        c.push_reserved.ensures.items,
+        c.push_reserved-2.ensures.items,
+        c.note_waivers.ensures.noted,
+        events,
+        c.stretches_with-self-inside.ensures,
+        c.goes_on-goes_on.ensures,
+        c.self.invariant.count_is,
+        ← c.self.view_is,
+      )
+          (sym (stretches_push (record { caller = c.args.caller; deed = c.args.deed; waived = c.args.waived.now })
+          (notes_in c.self.inside.deeds.items c.self.inside.callers.items c.self.inside.waivers.items)));
+      waives_is = rw (
+        c.push_reserved.ensures.items,
+        c.push_reserved-2.ensures.items,
+        c.note_waivers.ensures.noted,
+        events,
+        c.is_empty.ensures,
+      ) (ap not (is_none_is c.args.waived.now));
+    }
+
+pub returns-clause-events : goal.returns-clause-events
+returns-clause-events c =
+    rw (c.push_reserved.ensures.items, c.push_reserved-2.ensures.items, c.note_waivers.ensures.noted, ← c.self.view_is)
+    (notes_push c.self.inside.deeds.items c.self.inside.callers.items c.self.inside.len c.self.inside.waivers.items c.args.caller
+    c.args.deed c.args.waived.now c.self.invariant.len_is c.self.invariant.before)

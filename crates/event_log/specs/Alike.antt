@@ -1,0 +1,68 @@
+-- How many records a log takes, read off the log itself.
+use Rattle.std.specs.Prelude.{ℕ, ◌+◌, ◌==◌, ◌&&◌, Bool, true, false, List, [], ◌∷◌, Option, Some, None}
+use Rattle.slot_types.specs.declared.acts.Act.{Act}
+use Rattle.slot_types.specs.declared.acts.Act.TheVariants as does
+use Rattle.slot_types.specs.declared.replies.Reply.{Reply}
+use Rattle.slot_types.specs.declared.replies.Reply.TheVariants as replies
+use Rattle.slot_types.specs.declared.replies.SlotReply.{SlotReply}
+use Rattle.slot_types.specs.declared.replies.Entry.{Entry}
+use Rattle.slot_types.specs.declared.replies.Waived.{Waived}
+
+abbrev pub waives_none : List Waived → Bool
+waives_none [] = true
+waives_none (w ∷ ws) = false
+
+abbrev pub finishes_none : Option ℕ → Bool
+finishes_none None = true
+finishes_none (Some number) = false
+
+-- a slot that waived nothing and finished nothing
+abbrev pub is_quiet : SlotReply → Bool
+is_quiet s = waives_none s.waived && finishes_none s.finished
+
+abbrev pub is_erase : Act → Bool
+is_erase (does.Erase block) = true
+is_erase _ = false
+
+-- this was an act of the erase of this collection
+abbrev pub is_erase_of : ℕ → Option (ℕ × Act) → Bool
+is_erase_of number None = false
+is_erase_of number (Some (n, act)) = (number == n) && is_erase act
+
+abbrev pub is_idle : Option (ℕ × Act) → Bool
+is_idle None = true
+is_idle (Some ran) = false
+
+-- both idle, or both acts of one erase
+abbrev pub ran_alike : Option (ℕ × Act) → Option (ℕ × Act) → Bool
+ran_alike None other = is_idle other
+ran_alike (Some (number, act)) other = is_erase act && is_erase_of number other
+
+abbrev pub slots_alike : SlotReply → SlotReply → Bool
+slots_alike s t = is_quiet s && is_quiet t && ran_alike s.ran t.ran
+
+abbrev pub replied_alike : SlotReply → Reply → Bool
+replied_alike s (replies.Slot t) = slots_alike s t
+replied_alike s _ = false
+
+abbrev pub replies_alike : Reply → Reply → Bool
+replies_alike (replies.Slot s) other = replied_alike s other
+replies_alike _ other = false
+
+-- two successive entries are alike: slots of one caller, without waiver and without an end, both idle or both erase acts
+-- of one collection
+abbrev pub alike : Entry → Entry → Bool
+alike e f = (e.caller == f.caller) && replies_alike e.reply f.reply
+
+abbrev pub counted : Bool → ℕ
+counted true = 0
+counted false = 1
+
+abbrev pub records_with : Entry → List Entry → ℕ
+records_with e [] = 1
+records_with e (f ∷ past) = counted (alike e f) + records_with f past
+
+-- how many maximal stretches of alike entries a log has, an entry by itself being one
+abbrev pub records : List Entry → ℕ
+records [] = 0
+records (e ∷ past) = records_with e past

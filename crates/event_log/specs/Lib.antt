@@ -1,0 +1,9 @@
+pub mod Waivers
+pub mod Notes
+pub mod Stretches
+pub mod Spread
+pub mod Slots
+pub mod Kept
+pub mod Entries
+pub mod Growth
+pub mod Alike

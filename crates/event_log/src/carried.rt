@@ -1,0 +1,27 @@
+//! What the slots of a log carried, made from its runs of deeds.
+
+ghost use Rattle.std.specs.Prelude.{◌≡◌, IfOk, IfErr};
+ghost use Rattle.std.specs.List.{filter_map};
+ghost use Rattle.event_log.specs.Spread.{spread};
+ghost use Rattle.event_log.specs.Slots.{slot_by};
+
+use crate::deeds::Deed;
+use crate::runs::Run;
+use late_cert::Carried;
+use slot_types::Refusal;
+use std::alloc::Global;
+
+/// What the slots of these runs of deeds carried, the oldest first. The only refusal is `NoMemory`.
+pub(crate) fn carried_by(alloc: Global, runs: &[Run<Deed>]) -> Result<Carried, Refusal>
+    ensures ok { IfOk result (λ carried. carried.slots ≡ filter_map slot_by (spread runs.now)) }
+    ensures refused { IfErr result (λ refusal. refusal ≡ Refusal.NoMemory) }
+{
+    let mut carried = Carried::new(alloc);
+    for run in runs {
+        match run.item.slot() {
+            Some(number) => carried.push_run(number, run.count)?,
+            None => {}
+        }
+    }
+    Ok(carried)
+}

@@ -1,0 +1,161 @@
+//! The log of a die, in parts.
+
+ghost use Rattle.std.specs.Prelude.{◌≡◌, ◌+◌, ◌<◌, ◌≤◌, ◌∷◌, ◌^◌, [], true, length, OnOk, OnErr, IfOk, IfErr};
+ghost use Rattle.event_log.specs.Spread.{last_of};
+ghost use Rattle.event_log.specs.Notes.{Note};
+ghost use Rattle.event_log.specs.Slots.{carried_in};
+ghost use Rattle.event_log.specs.Stretches.{goes_on, new_stretches, stretches, is_some_number};
+
+use crate::carried::carried_by;
+use crate::deeds::Deed;
+use crate::runs::Runs;
+use crate::waivers::{Waiver, note_waivers};
+use late_cert::Carried;
+use slot_types::{Refusal, Waived};
+use std::alloc::Global;
+use std::marker::Model;
+
+/// The events of a die, kept small: equal neighbours once with their count, callers and waivers beside them, and no bytes.
+///
+/// Contracts see the events one by one, the newest first, and for how many more events and waivers there is room.
+#[derive(Drop)]
+pub struct EventLog {
+    deeds: Runs<Deed>,
+    callers: Runs<u32>,
+    waivers: Vec<Waiver>,
+    len: u32,
+    stretches: u32,
+    /// Whether the newest event came with a waiver.
+    waives: bool,
+}
+
+impl Model for EventLog {
+    ghost use Rattle.std.specs.Prelude.{◌-◌, vec_len, vec_capacity, min};
+    ghost use Rattle.event_log.specs.Notes.{Events};
+    ghost use Rattle.event_log.specs.Kept.{notes_in, IsOf};
+
+    ghost Value = { Events };
+
+    ghost view = { λ l. record {
+      notes = notes_in l.deeds.items l.callers.items l.waivers.items;
+      room = min l.deeds.room l.callers.room;
+      waiver_room = vec_capacity l.waivers - vec_len l.waivers;
+    } };
+
+    ghost invariant = { λ l. IsOf l.deeds.items l.callers.items l.waivers.items l.len l.stretches l.waives };
+}
+
+impl EventLog {
+    /// A log without events. It takes no memory.
+    pub fn new(alloc: Global) -> EventLog
+        ensures { result.notes ≡ [] }
+    {
+        EventLog {
+            deeds: Runs::new(alloc),
+            callers: Runs::new(alloc),
+            waivers: Vec::new(alloc),
+            len: 0,
+            stretches: 0,
+            waives: false,
+        }
+    }
+
+    /// How many events there are.
+    pub fn len(&self) -> u32
+        ensures { result ≡ length self.now.notes }
+    {
+        self.len
+    }
+
+    /// How many maximal stretches of alike events there are, one by itself being a stretch.
+    pub fn stretches(&self) -> u32
+        ensures { result ≡ stretches self.now.notes }
+    {
+        self.stretches
+    }
+
+    /// What the slots carried, by slot. It walks the runs of equal deeds once. The only refusal is `NoMemory`.
+    pub fn carried(&self, alloc: Global) -> Result<Carried, Refusal>
+        ensures ok { IfOk result (λ carried. carried.slots ≡ carried_in self.now.notes) }
+        ensures refused { IfErr result (λ refusal. refusal ≡ Refusal.NoMemory) }
+    {
+        carried_by(alloc, self.deeds.as_slice())
+    }
+
+    /// Makes room for so many more events, and for so many more waivers with them. Refused with `NoMemory`, all events stay.
+    pub fn reserve(&mut self, events: usize, waivers: usize) -> Result<(), Refusal>
+        ensures room { OnOk result (events ≤ self.new.room) }
+        ensures waiver_room { OnOk result (waivers ≤ self.new.waiver_room) }
+        ensures refused { IfErr result (λ refusal. refusal ≡ Refusal.NoMemory) }
+        ensures events { self.new.notes ≡ self.old.notes }
+    {
+        self.deeds.reserve(events)?;
+        self.callers.reserve(events)?;
+        match self.waivers.reserve(waivers) {
+            Ok(()) => Ok(()),
+            Err(_) => Err(Refusal::NoMemory),
+        }
+    }
+
+    /// Whether an event of this caller goes on with the newest stretch.
+    fn goes_on(&self, caller: u32, deed: &Deed, waived: &[Waived]) -> bool
+        ensures { result ≡ goes_on (record { caller = caller; deed = deed.now; waived = waived.now }) self.now.notes }
+    {
+        if self.waives || !waived.is_empty() {
+            return false;
+        }
+        match self.deeds.last() {
+            Some(last) => is_last_caller(&self.callers, caller) && deed.is_alike(last),
+            None => false,
+        }
+    }
+
+    /// Adds an event, with the collections that were waived in it, in room that was made.
+    pub fn push_reserved(&mut self, caller: u32, deed: Deed, waived: &[Waived])
+        requires room { 0 < self.old.room }
+        requires waiver_room { length waived.now ≤ self.old.waiver_room }
+        requires few { length self.old.notes + 1 < 2 ^ 32 }
+        ensures events { self.new.notes ≡ record { caller = caller; deed = deed; waived = waived.now } ∷ self.old.notes }
+        ensures room { self.old.room ≤ self.new.room + 1 }
+        ensures waiver_room { self.old.waiver_room ≡ self.new.waiver_room + length waived.now }
+    {
+        let same_deed = is_last_deed(&self.deeds, &deed);
+        let same_caller = is_last_caller(&self.callers, caller);
+        let goes_on = self.goes_on(caller, &deed, waived);
+        self.stretches = stretches_with(goes_on, self.stretches);
+        // Alike deeds differ where one erase had two blocks.
+        self.deeds.push_reserved(deed, goes_on & same_deed);
+        self.callers.push_reserved(caller, same_caller);
+        note_waivers(&mut self.waivers, self.len, waived);
+        self.len += 1;
+        self.waives = !waived.is_empty();
+    }
+}
+
+/// How many stretches there are with an event that goes on with the newest, or doesn't.
+fn stretches_with(goes_on: bool, stretches: u32) -> u32
+    requires { stretches + 1 < 2 ^ 32 }
+    ensures { result ≡ new_stretches goes_on + stretches }
+{
+    if goes_on { stretches } else { stretches + 1 }
+}
+
+/// Whether the last deed, if there is one, is this one.
+fn is_last_deed(deeds: &Runs<Deed>, deed: &Deed) -> bool
+    ensures { result ≡ true → last_of deeds.now.items ≡ Some deed.now }
+{
+    match deeds.last() {
+        Some(last) => last == *deed,
+        None => false,
+    }
+}
+
+/// Whether the last caller, if there is one, is this one.
+fn is_last_caller(callers: &Runs<u32>, caller: u32) -> bool
+    ensures { result ≡ is_some_number (last_of callers.now.items) caller }
+{
+    match callers.last() {
+        Some(last) => caller == last,
+        None => false,
+    }
+}

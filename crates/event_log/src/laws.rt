@@ -1,0 +1,25 @@
+//! What holds of every log of events and the jobs that it speaks of. Each law is a function that does nothing.
+
+ghost use Rattle.std.specs.Prelude.{◌≡◌, List};
+ghost use Rattle.job_table.specs.Jobs.{JobRecord};
+ghost use Rattle.event_log.specs.Notes.{Note};
+ghost use Rattle.event_log.specs.Stretches.{stretches};
+ghost use Rattle.event_log.specs.Entries.{entries_of};
+ghost use Rattle.event_log.specs.Growth.{AllFit, Grew};
+ghost use Rattle.event_log.specs.Alike.{records};
+
+/// As the jobs of a die grow, the entries of the events that were before stay the same.
+pub fn entries_stay()
+    ensures { (jobs later : List JobRecord) (notes : List Note) → Grew jobs later → AllFit jobs notes
+        → entries_of later notes ≡ entries_of jobs notes }
+{}
+
+/// What an event names goes on standing, as the jobs grow.
+pub fn events_go_on_fitting()
+    ensures { (jobs later : List JobRecord) (notes : List Note) → Grew jobs later → AllFit jobs notes → AllFit later notes }
+{}
+
+/// A log takes as many records as its events have stretches, whatever the jobs.
+pub fn stretches_are_records()
+    ensures { (jobs : List JobRecord) (notes : List Note) → records (entries_of jobs notes) ≡ stretches notes }
+{}

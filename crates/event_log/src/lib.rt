@@ -1,0 +1,15 @@
+//! The log of a die as small records: what was done, without the bytes that the jobs keep.
+#![tactic(auto)]
+
+mod carried;
+pub mod deeds;
+pub mod event_log;
+pub mod laws;
+pub mod runs;
+#[cfg(test)]
+mod tests;
+mod waivers;
+
+pub use deeds::Deed;
+pub use event_log::EventLog;
+pub use runs::Runs;

@@ -1,0 +1,93 @@
+//! A list in which equal neighbours are kept once, with their count.
+
+ghost use Rattle.std.specs.Prelude.{◌≡◌, ◌+◌, ◌<◌, ◌≤◌, ◌∷◌, ◌++◌, ◌^◌, [], true, length, OnOk, IfErr, Some};
+ghost use Rattle.event_log.specs.Spread.{spread, last_of};
+
+use slot_types::Refusal;
+use std::alloc::Global;
+use std::marker::Model;
+
+/// One item, so many times.
+#[derive(Clone, Copy, Debug, Drop)]
+pub(crate) struct Run<T> {
+    pub(crate) item: T,
+    pub(crate) count: u32,
+}
+
+/// A list that grows at its end. Contracts see its items one by one, and for how many more there is room at least.
+#[derive(Drop)]
+pub struct Runs<T> {
+    runs: Vec<Run<T>>,
+}
+
+impl<T> Model for Runs<T> {
+    ghost use Rattle.std.specs.Prelude.{◌-◌, vec_len, vec_capacity};
+    ghost use Rattle.event_log.specs.Spread.{Spread, spread, AreSome};
+
+    ghost Value = { Spread T };
+
+    ghost view = { λ r. record { items = spread r.runs.items; room = vec_capacity r.runs - vec_len r.runs } };
+
+    ghost invariant = { λ r. AreSome r.runs.items };
+}
+
+impl<T> Runs<T> {
+    /// A list with no item. It takes no memory.
+    pub fn new(alloc: Global) -> Runs<T>
+        ensures { result.items ≡ [] }
+    {
+        Runs {
+            runs: Vec::new(alloc),
+        }
+    }
+
+    /// Makes room for at least `count` more items. Refused with `NoMemory`, all items stay.
+    pub fn reserve(&mut self, count: usize) -> Result<(), Refusal>
+        ensures ok { OnOk result (count ≤ self.new.room) }
+        ensures refused { IfErr result (λ refusal. refusal ≡ Refusal.NoMemory) }
+        ensures items { self.new.items ≡ self.old.items }
+    {
+        match self.runs.reserve(count) {
+            Ok(()) => Ok(()),
+            Err(_) => Err(Refusal::NoMemory),
+        }
+    }
+}
+
+impl<T> Runs<T> {
+    /// The runs, in order.
+    pub(crate) fn as_slice(&self) -> &[Run<T>]
+        ensures { spread result.now ≡ self.now.items }
+    {
+        self.runs.as_slice()
+    }
+}
+
+impl<T: Copy> Runs<T> {
+    /// The last item, if there is one.
+    pub fn last(&self) -> Option<T>
+        ensures { result ≡ last_of self.now.items }
+    {
+        let count = self.runs.len();
+        if count == 0 {
+            return None;
+        }
+        Some(self.runs[count - 1].item)
+    }
+
+    /// Adds an item in room that was made: to the last run, if it is said to be like it, else as a run of its own.
+    pub fn push_reserved(&mut self, item: T, is_like_last: bool)
+        requires room { 0 < self.old.room }
+        requires few { length self.old.items + 1 < 2 ^ 32 }
+        requires like { is_like_last ≡ true → last_of self.old.items ≡ Some item }
+        ensures items { self.new.items ≡ self.old.items ++ item ∷ [] }
+        ensures room { self.old.room ≤ self.new.room + 1 }
+    {
+        if is_like_last {
+            let last = self.runs.len() - 1;
+            self.runs[last].count += 1;
+        } else {
+            self.runs.push_reserved(Run { item, count: 1 });
+        }
+    }
+}
