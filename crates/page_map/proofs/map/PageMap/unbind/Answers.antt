@@ -6,8 +6,8 @@ use Rattle.page_map.specs.Tables.{AreTables, laid, places_of, owners_of}
 use Rattle.page_map.proofs.Owners.{owner_is}
 use Rattle.page_map.proofs.Laid.{laid_below, read-laid, set-laid}
 use Rattle.page_map.proofs.Moving.{tables_without, one_less}
-use Rattle.page_map.proofs.map.PageMap.forget.Goals as goal
-use Rattle.page_map.proofs.map.PageMap.forget.Goals.{In-Some}
+use Rattle.page_map.proofs.map.PageMap.unbind.Goals as goal
+use Rattle.page_map.proofs.map.PageMap.unbind.Goals.{In-Some}
 
 -- the page lies in the cell that was found
 lies : (c : In-Some) → get_or (places_of c.self.inside) c.args.page None ≡ Some c.in-Some.place
@@ -71,15 +71,21 @@ invariant_of-self c =
       room_owners = c.self.invariant.room_owners;
     }
 
-pub returns-in-None : goal.returns-in-None
-returns-in-None c =
+pub returns-in-None-clause-gone : goal.returns-in-None-clause-gone
+returns-in-None-clause-gone c =
     let m = c.self.inside in
     let P : List (Option Place) → Placing = λ l. record { shape = m.shape; places = l } in
     let nothing : get_or (places_of m) c.args.page None ≡ None = read-laid m.logical m.places.items c.args.page ∙ sym (rw c.deref.ensures.value at c.read.ensures) ∙ c.in-None.is in
     rw (← c.self.view_is) (ap P (sym (set-get_or (places_of m) c.args.page None) ∙ ap (λ (o : Option Place). set (places_of m) c.args.page o) nothing))
 
-pub returns-in-Some : goal.returns-in-Some
-returns-in-Some c =
+pub returns-in-Some-clause-gone : goal.returns-in-Some-clause-gone
+returns-in-Some-clause-gone c =
     let m = c.self.inside in
     let P : List (Option Place) → Placing = λ l. record { shape = m.shape; places = l } in
-    rw (← c.self.view_is) (ap P (set-laid m.logical m.places.items c.args.page None (in_places (goal.at.returns-in-Some c).In-Some)))
+    rw (← c.self.view_is) (ap P (set-laid m.logical m.places.items c.args.page None (in_places (goal.at.returns-in-Some-clause-gone c).In-Some)))
+
+pub returns-in-Some-clause-nowhere : goal.returns-in-Some-clause-nowhere
+returns-in-Some-clause-nowhere c =
+    let m = c.self.inside in
+    let placed = lies (goal.at.returns-in-Some-clause-nowhere c).In-Some in
+    rw (← c.self.view_is) (λ (nowhere : get_or (places_of m) c.args.page None ≡ None). absurd (cc (placed, nowhere)))
