@@ -10,6 +10,7 @@ pub mod pages;
 pub mod plans;
 pub mod refusals;
 pub mod replies;
+pub mod short_items;
 
 pub use acts::Act;
 pub use events::{Event, Op, OpList};
@@ -23,6 +24,7 @@ pub use pages::{PageData, Place};
 pub use plans::{Caps, DiePlan, Shape, StorePlan, TaskTimes, Times, TimesList};
 pub use refusals::{Cause, Refusal};
 pub use replies::{Entry, Reads, Reply, SlotReply, Waived, WaivedList};
+pub use short_items::ShortItems;
 
 #[cfg(test)]
 mod tests;

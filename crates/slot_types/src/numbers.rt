@@ -3,7 +3,7 @@
 use std::marker::Model;
 
 /// The number of a job or of a collection on its die: 0, 1, 2, .. in order of acceptance.
-#[derive(Clone, Copy, PartialEq, Eq, PartialOrd, Ord, Debug, Drop)]
+#[derive(Clone, Copy, PartialEq, Eq, PartialOrd, Ord, Default, Debug, Drop)]
 pub struct JobNo(pub u32);
 
 impl Model for JobNo {

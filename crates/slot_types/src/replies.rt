@@ -6,16 +6,18 @@ use crate::items::Items;
 use crate::numbers::JobNo;
 use crate::pages::PageData;
 use crate::refusals::Refusal;
+use crate::short_items::ShortItems;
 
 /// A collection that was waived, and the pages that it gave its task.
-#[derive(Clone, Copy, PartialEq, Eq, Debug, Drop)]
+#[derive(Clone, Copy, PartialEq, Eq, Default, Debug, Drop)]
 pub struct Waived {
     pub number: JobNo,
     pub given: u32,
 }
 
-/// The collections that were waived in one slot, in the order of their keys.
-pub type WaivedList = Items<Waived>;
+/// The collections that were waived in one slot, in the order of their keys. A slot waives at most one a task, so a die
+/// has sixteen at most.
+pub type WaivedList = ShortItems<Waived>;
 
 /// What was done in a slot.
 #[derive(Clone, PartialEq, Eq, Debug, Drop)]

@@ -1,6 +1,6 @@
 //! The texts of refusals as they are printed, and lists at a concrete type.
 
-use crate::{Cause, DiePlan, Items, Op, PageData, Refusal, Shape};
+use crate::{Cause, DiePlan, Items, JobNo, Op, PageData, Refusal, Shape, Waived, WaivedList};
 use std::test::Fail;
 
 #[test]
@@ -44,6 +44,28 @@ fn a_list_grows_at_its_end(rt: HostRuntime) -> Result<(), Fail> {
     assert!(rt; ops.get(2).is_none());
     let again = Items::from_vec(ops.clone()?.into_vec());
     assert!(rt; again == ops);
+    Ok(())
+}
+
+fn waived(number: u32) -> Waived {
+    Waived {
+        number: JobNo(number),
+        given: 2,
+    }
+}
+
+// The next one takes memory, which may be refused.
+#[test]
+fn sixteen_waivers_take_no_memory(rt: HostRuntime) -> Result<(), Fail> {
+    let mut list = WaivedList::new(rt.alloc());
+    for number in 0..16_u32 {
+        assert!(rt; list.push(waived(number)).is_ok());
+    }
+    let more = list.push(waived(16)).is_ok();
+    assert_eq!(rt; list.len(), if more { 17 } else { 16 });
+    for number in 0..list.len() {
+        assert!(rt; list.get(number) == Some(&waived(number as u32)));
+    }
     Ok(())
 }
 
