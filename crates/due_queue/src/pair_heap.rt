@@ -1,6 +1,6 @@
 //! A heap of pairs of numbers, the least first, in memory reserved beforehand.
 
-ghost use Rattle.std.specs.Prelude.{◌≡◌, ◌+◌, ◌-◌, ◌<◌, ◌≤◌, [], length, Contains, OnOk, OnErr, OnSome, IfNone, IfErr};
+ghost use Rattle.std.specs.Prelude.{◌≡◌, ◌+◌, ◌-◌, ◌<◌, ◌≤◌, [], length, Contains, IsOk, OnOk, OnErr, OnSome, IfNone, IfErr};
 ghost use Rattle.due_queue.specs.Queue.{inserted, first_of, rest_of, IsRising};
 ghost use Rattle.due_queue.specs.Pairs.{is_pair_before};
 
@@ -45,10 +45,14 @@ impl PairHeap {
         ensures refused { IfErr result (λ refusal. refusal ≡ Refusal.NoMemory) }
         ensures spare { self.old.spare ≤ self.new.spare }
         ensures keys { self.new.keys ≡ self.old.keys }
+        ensures succeeds { count ≤ self.old.spare → IsOk result }
         ensures err { OnErr result (self.new ≡ self.old) }
     {
+        if count <= self.spare {
+            return Ok(());
+        }
         self.heap.reserve(count)?;
-        self.spare = self.spare.max(count);
+        self.spare = count;
         Ok(())
     }
 

@@ -1,6 +1,6 @@
 //! The accepted jobs that are not released yet, by release.
 
-ghost use Rattle.std.specs.Prelude.{◌≡◌, ◌+◌, ◌<◌, ◌≤◌, [], length, Contains, OnOk, OnErr, OnSome, IfNone, IfErr};
+ghost use Rattle.std.specs.Prelude.{◌≡◌, ◌+◌, ◌<◌, ◌≤◌, [], length, Contains, IsOk, OnOk, OnErr, OnSome, IfNone, IfErr};
 ghost use Rattle.due_queue.specs.Queue.{inserted, first_of, rest_of, IsRising};
 ghost use Rattle.due_queue.specs.Keys.{is_released_before, released_by};
 
@@ -39,12 +39,14 @@ impl WaitList {
         }
     }
 
-    /// Makes room for at least `count` more keys. Refused with `NoMemory`, nothing changes.
+    /// Makes room for at least `count` more keys, and never less than there was. Where there is that room already, this
+    /// isn't refused. Refused with `NoMemory`, nothing changes.
     pub fn reserve(&mut self, count: usize) -> Result<(), Refusal>
         ensures ok { OnOk result (count ≤ self.new.spare) }
         ensures refused { IfErr result (λ refusal. refusal ≡ Refusal.NoMemory) }
         ensures spare { self.old.spare ≤ self.new.spare }
         ensures keys { self.new.keys ≡ self.old.keys }
+        ensures succeeds { count ≤ self.old.spare → IsOk result }
         ensures err { OnErr result (self.new ≡ self.old) }
     {
         self.pairs.reserve(count)

@@ -1,5 +1,5 @@
 -- What is always true of the parts of a log.
-use Rattle.std.specs.Prelude.{◌≡◌, ℕ, ◌<◌, Bool, List, length, reverse}
+use Rattle.std.specs.Prelude.{◌≡◌, ℕ, ◌+◌, ◌<◌, ◌≤◌, Bool, List, length, reverse}
 use Rattle.std.specs.List.{AllByRecursion}
 use Rattle.event_log.specs.declared.deeds.Deed.{Deed}
 use Rattle.event_log.specs.declared.waivers.Waiver.{Waiver}
@@ -20,3 +20,9 @@ pub record IsOf (deeds : List Deed) (callers : List ℕ) (waivers : List Waiver)
   pub before : AreBefore len waivers
   pub count_is : count ≡ stretches (notes_in deeds callers waivers)
   pub waives_is : waives ≡ waives_newest (notes_in deeds callers waivers)
+
+-- the parts have the room that is promised
+pub record HasRoom (room waiver_room deeds_room callers_room waivers capacity : ℕ) : Type 0 where
+  pub deeds : room ≤ deeds_room
+  pub callers : room ≤ callers_room
+  pub waivers_fit : waivers + waiver_room ≤ capacity

@@ -1,6 +1,6 @@
 //! The log of a die, in parts.
 
-ghost use Rattle.std.specs.Prelude.{◌≡◌, ◌+◌, ◌<◌, ◌≤◌, ◌∷◌, ◌^◌, [], true, length, OnOk, OnErr, IfOk, IfErr};
+ghost use Rattle.std.specs.Prelude.{◌≡◌, ◌+◌, ◌<◌, ◌≤◌, ◌∷◌, ◌^◌, [], true, length, IsOk, OnOk, OnErr, IfOk, IfErr};
 ghost use Rattle.event_log.specs.Spread.{last_of};
 ghost use Rattle.event_log.specs.Notes.{Note};
 ghost use Rattle.event_log.specs.Slots.{carried_in};
@@ -25,30 +25,36 @@ pub struct EventLog {
     waivers: Vec<Waiver>,
     len: u32,
     stretches: u32,
+    /// For how many more events there is room, however few of them are alike.
+    room: usize,
+    /// For how many more waivers there is room.
+    waiver_room: usize,
     /// Whether the newest event came with a waiver.
     waives: bool,
 }
 
 impl Model for EventLog {
-    ghost use Rattle.std.specs.Prelude.{◌-◌, vec_len, vec_capacity, min};
+    ghost use Rattle.std.specs.Prelude.{vec_len, vec_capacity};
     ghost use Rattle.event_log.specs.Notes.{Events};
-    ghost use Rattle.event_log.specs.Kept.{notes_in, IsOf};
+    ghost use Rattle.event_log.specs.Kept.{notes_in, IsOf, HasRoom};
 
     ghost Value = { Events };
 
     ghost view = { λ l. record {
       notes = notes_in l.deeds.items l.callers.items l.waivers.items;
-      room = min l.deeds.room l.callers.room;
-      waiver_room = vec_capacity l.waivers - vec_len l.waivers;
+      room = l.room;
+      waiver_room = l.waiver_room;
     } };
 
-    ghost invariant = { λ l. IsOf l.deeds.items l.callers.items l.waivers.items l.len l.stretches l.waives };
+    ghost invariant = { λ l.
+        IsOf l.deeds.items l.callers.items l.waivers.items l.len l.stretches l.waives
+        × HasRoom l.room l.waiver_room l.deeds.room l.callers.room (vec_len l.waivers) (vec_capacity l.waivers) };
 }
 
 impl EventLog {
-    /// A log without events. It takes no memory.
+    /// A log without events, and without room for any. It takes no memory.
     pub fn new(alloc: Global) -> EventLog
-        ensures { result.notes ≡ [] }
+        ensures { result ≡ record { notes = []; room = 0; waiver_room = 0 } }
     {
         EventLog {
             deeds: Runs::new(alloc),
@@ -56,6 +62,8 @@ impl EventLog {
             waivers: Vec::new(alloc),
             len: 0,
             stretches: 0,
+            room: 0,
+            waiver_room: 0,
             waives: false,
         }
     }
@@ -82,19 +90,30 @@ impl EventLog {
         carried_by(alloc, self.deeds.as_slice())
     }
 
-    /// Makes room for so many more events, and for so many more waivers with them. Refused with `NoMemory`, all events stay.
+    /// Makes room for at least so many more events, and for so many more waivers with them, and never less than there was.
+    /// Where there is that room already, this isn't refused. Refused with `NoMemory`, nothing changes.
     pub fn reserve(&mut self, events: usize, waivers: usize) -> Result<(), Refusal>
         ensures room { OnOk result (events ≤ self.new.room) }
         ensures waiver_room { OnOk result (waivers ≤ self.new.waiver_room) }
+        ensures no_less { self.old.room ≤ self.new.room }
+        ensures no_less_for_waivers { self.old.waiver_room ≤ self.new.waiver_room }
+        ensures succeeds { events ≤ self.old.room → waivers ≤ self.old.waiver_room → IsOk result }
         ensures refused { IfErr result (λ refusal. refusal ≡ Refusal.NoMemory) }
         ensures events { self.new.notes ≡ self.old.notes }
+        ensures err { OnErr result (self.new ≡ self.old) }
     {
+        if events <= self.room && waivers <= self.waiver_room {
+            return Ok(());
+        }
         self.deeds.reserve(events)?;
         self.callers.reserve(events)?;
-        match self.waivers.reserve(waivers) {
-            Ok(()) => Ok(()),
-            Err(_) => Err(Refusal::NoMemory),
+        if self.waivers.reserve(waivers).is_err() {
+            return Err(Refusal::NoMemory);
         }
+        // All that was had, so that the next events seldom ask.
+        self.room = self.deeds.room().min(self.callers.room());
+        self.waiver_room = self.waivers.capacity() - self.waivers.len();
+        Ok(())
     }
 
     /// Whether an event of this caller goes on with the newest stretch.
@@ -116,7 +135,7 @@ impl EventLog {
         requires waiver_room { length waived.now ≤ self.old.waiver_room }
         requires few { length self.old.notes + 1 < 2 ^ 32 }
         ensures events { self.new.notes ≡ record { caller = caller; deed = deed; waived = waived.now } ∷ self.old.notes }
-        ensures room { self.old.room ≤ self.new.room + 1 }
+        ensures room { self.old.room ≡ self.new.room + 1 }
         ensures waiver_room { self.old.waiver_room ≡ self.new.waiver_room + length waived.now }
     {
         let same_deed = is_last_deed(&self.deeds, &deed);
@@ -128,6 +147,8 @@ impl EventLog {
         self.callers.push_reserved(caller, same_caller);
         note_waivers(&mut self.waivers, self.len, waived);
         self.len += 1;
+        self.room -= 1;
+        self.waiver_room -= waived.len();
         self.waives = !waived.is_empty();
     }
 }

@@ -1,6 +1,6 @@
 //! A list in which equal neighbours are kept once, with their count.
 
-ghost use Rattle.std.specs.Prelude.{◌≡◌, ◌+◌, ◌<◌, ◌≤◌, ◌∷◌, ◌++◌, ◌^◌, [], true, length, OnOk, IfErr, Some};
+ghost use Rattle.std.specs.Prelude.{◌≡◌, ◌+◌, ◌<◌, ◌≤◌, ◌∷◌, ◌++◌, ◌^◌, [], true, length, IsOk, OnOk, OnErr, IfErr, Some};
 ghost use Rattle.event_log.specs.Spread.{spread, last_of};
 
 use slot_types::Refusal;
@@ -41,11 +41,15 @@ impl<T> Runs<T> {
         }
     }
 
-    /// Makes room for at least `count` more items. Refused with `NoMemory`, all items stay.
+    /// Makes room for at least `count` more items, and never less than there was. Where there is that room already, this
+    /// isn't refused. Refused with `NoMemory`, nothing changes.
     pub fn reserve(&mut self, count: usize) -> Result<(), Refusal>
         ensures ok { OnOk result (count ≤ self.new.room) }
         ensures refused { IfErr result (λ refusal. refusal ≡ Refusal.NoMemory) }
         ensures items { self.new.items ≡ self.old.items }
+        ensures room { self.old.room ≤ self.new.room }
+        ensures succeeds { count ≤ self.old.room → IsOk result }
+        ensures err { OnErr result (self.new ≡ self.old) }
     {
         match self.runs.reserve(count) {
             Ok(()) => Ok(()),
@@ -55,6 +59,13 @@ impl<T> Runs<T> {
 }
 
 impl<T> Runs<T> {
+    /// For how many more items there is room, however few of them are alike.
+    pub fn room(&self) -> usize
+        ensures { result ≡ self.now.room }
+    {
+        self.runs.capacity() - self.runs.len()
+    }
+
     /// The runs, in order.
     pub(crate) fn as_slice(&self) -> &[Run<T>]
         ensures { spread result.now ≡ self.now.items }

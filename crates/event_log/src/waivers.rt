@@ -16,6 +16,7 @@ pub(crate) struct Waiver {
 pub(crate) fn note_waivers(waivers: &mut Vec<Waiver>, event: u32, waived: &[Waived])
     requires { vec_len waivers.old + length waived.now ≤ vec_capacity waivers.old }
     ensures noted { waivers.new.items ≡ waivers.old.items ++ map (waiver_of event) waived.now }
+    ensures len { vec_len waivers.new ≡ vec_len waivers.old + length waived.now }
     ensures capacity { vec_capacity waivers.new ≡ vec_capacity waivers.old }
 {
     for w in waived {

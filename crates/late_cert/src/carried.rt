@@ -1,6 +1,6 @@
 //! What the slots carried, kept in runs. Contracts see it as a list by slot, and how many more slots it has room for.
 
-ghost use Rattle.std.specs.Prelude.{◌≡◌, ◌+◌, ◌<◌, ◌≤◌, ◌∷◌, ◌++◌, ◌==◌, [], length, replicate, OnOk, OnErr, IfErr, slice_get, vec_len, vec_capacity};
+ghost use Rattle.std.specs.Prelude.{◌≡◌, ◌+◌, ◌<◌, ◌≤◌, ◌∷◌, ◌++◌, ◌==◌, [], length, replicate, IsOk, OnOk, OnErr, IfErr, slice_get, vec_len, vec_capacity};
 ghost use Rattle.late_cert.specs.Runs.{slots_of};
 
 use slot_types::{JobNo, Refusal};
@@ -51,11 +51,15 @@ impl Carried {
         }
     }
 
-    /// Makes room for at least `count` more slots. Refused with `NoMemory`, all slots stay.
+    /// Makes room for at least `count` more slots, and never less than there was. Where there is that room already, this
+    /// isn't refused. Refused with `NoMemory`, nothing changes.
     pub fn reserve(&mut self, count: usize) -> Result<(), Refusal>
         ensures ok { OnOk result (count ≤ self.new.room) }
         ensures refused { IfErr result (λ refusal. refusal ≡ Refusal.NoMemory) }
         ensures slots { self.new.slots ≡ self.old.slots }
+        ensures room { self.old.room ≤ self.new.room }
+        ensures succeeds { count ≤ self.old.room → IsOk result }
+        ensures err { OnErr result (self.new ≡ self.old) }
     {
         if count <= self.room {
             return Ok(());
@@ -83,30 +87,41 @@ impl Carried {
         self.room -= 1;
     }
 
-    /// Adds what the next slot carried. Without memory for it (`NoMemory`) all slots stay as they were.
+    /// Adds what the next slot carried, where there is room in that; then it isn't refused. Without memory for it
+    /// (`NoMemory`) nothing changes.
     pub fn push(&mut self, number: Option<JobNo>) -> Result<(), Refusal>
         ensures ok { OnOk result (self.new.slots ≡ self.old.slots ++ number ∷ []) }
         ensures refused { IfErr result (λ refusal. refusal ≡ Refusal.NoMemory) }
-        ensures err { OnErr result (self.new.slots ≡ self.old.slots) }
+        ensures room { OnOk result (self.old.room ≤ self.new.room + 1) }
+        ensures succeeds { 0 < self.old.room → IsOk result }
+        ensures err { OnErr result (self.new ≡ self.old) }
     {
         self.push_run(number, 1)
     }
 
-    /// Adds that each of the next `length` slots carried the same. Without memory for it (`NoMemory`) all slots stay as
-    /// they were. Where the slot before carried the same too, they become one run.
+    /// Adds that each of the next `length` slots carried the same, in the room that there is, if it is enough; then it
+    /// isn't refused. Else it takes memory, and leaves the room. Without memory for it (`NoMemory`) nothing changes. Where
+    /// the slot before carried the same too, they become one run.
     pub fn push_run(&mut self, number: Option<JobNo>, length: u32) -> Result<(), Refusal>
         ensures ok { OnOk result (self.new.slots ≡ self.old.slots ++ replicate length number) }
         ensures refused { IfErr result (λ refusal. refusal ≡ Refusal.NoMemory) }
-        ensures err { OnErr result (self.new.slots ≡ self.old.slots) }
+        ensures room { OnOk result (self.old.room ≤ self.new.room + length) }
+        ensures succeeds { length ≤ self.old.room → IsOk result }
+        ensures err { OnErr result (self.new ≡ self.old) }
     {
         if length == 0 {
+            return Ok(());
+        }
+        if length as usize <= self.room {
+            add_run(&mut self.runs, number, length);
+            self.len += length as usize;
+            self.room -= length as usize;
             return Ok(());
         }
         // So many slots, and those that there is room for, can't be counted.
         if length as usize > usize::MAX - self.len - self.room {
             return Err(Refusal::NoMemory);
         }
-        // The room that was reserved stays.
         if self.runs.reserve(self.room + 1).is_err() {
             return Err(Refusal::NoMemory);
         }

@@ -9,5 +9,5 @@ pub returns-clause-ok : goal.returns-clause-ok
 returns-clause-ok c =
     rw (← c.self.view_is) (ok_as c.carried_by.result _ _
     (ap (λ (ds : List Deed). filter_map slot_by ds) c.as_slice.ensures ∙ carried_is c.self.inside.deeds.items c.self.inside.callers.items
-    c.self.inside.waivers.items c.self.invariant.callers_are)
+    c.self.inside.waivers.items c.self.invariant.0.callers_are)
     c.carried_by.ensures.ok)

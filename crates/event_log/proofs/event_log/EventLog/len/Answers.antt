@@ -5,6 +5,6 @@ use Rattle.event_log.proofs.event_log.EventLog.len.Goals as goal
 
 pub returns : goal.returns
 returns c =
-    c.self.invariant.len_is
-    ∙ sym (length_of c.self.inside.deeds.items c.self.inside.callers.items c.self.inside.waivers.items c.self.invariant.callers_are)
+    c.self.invariant.0.len_is
+    ∙ sym (length_of c.self.inside.deeds.items c.self.inside.callers.items c.self.inside.waivers.items c.self.invariant.0.callers_are)
     ∙ ap (λ (e : Events). length e.notes) c.self.view_is

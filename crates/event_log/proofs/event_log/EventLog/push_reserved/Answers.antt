@@ -9,7 +9,7 @@ stretches_with-self-inside-requires c =
     omega (
       arith,
       c.requires.few,
-      c.self.invariant.count_is,
+      c.self.invariant.0.count_is,
       ap (λ (e : Events). length e.notes) c.self.view_is,
       few_stretches
           (notes_in c.self.inside.deeds.items c.self.inside.callers.items c.self.inside.waivers.items),
@@ -22,7 +22,7 @@ push_reserved-requires-clause-few c =
       c.requires.few,
       ap (λ (e : Events). length e.notes) c.self.view_is,
       length_of c.self.inside.deeds.items
-          c.self.inside.callers.items c.self.inside.waivers.items c.self.invariant.callers_are,
+          c.self.inside.callers.items c.self.inside.waivers.items c.self.invariant.0.callers_are,
     )
 
 pub push_reserved-requires-clause-like : goal.push_reserved-requires-clause-like
@@ -34,10 +34,10 @@ push_reserved-requires-2-clause-few c =
     omega (
       arith,
       c.requires.few,
-      c.self.invariant.callers_are,
+      c.self.invariant.0.callers_are,
       ap (λ (e : Events). length e.notes) c.self.view_is,
       length_of
-          c.self.inside.deeds.items c.self.inside.callers.items c.self.inside.waivers.items c.self.invariant.callers_are,
+          c.self.inside.deeds.items c.self.inside.callers.items c.self.inside.waivers.items c.self.invariant.0.callers_are,
     )
 
 pub push_reserved-requires-2-clause-like : goal.push_reserved-requires-2-clause-like
@@ -48,56 +48,62 @@ overflow_add-self c =
     omega (
       arith,
       c.requires.few,
-      c.self.invariant.len_is,
+      c.self.invariant.0.len_is,
       ap (λ (e : Events). length e.notes) c.self.view_is,
       length_of
-          c.self.inside.deeds.items c.self.inside.callers.items c.self.inside.waivers.items c.self.invariant.callers_are,
+          c.self.inside.deeds.items c.self.inside.callers.items c.self.inside.waivers.items c.self.invariant.0.callers_are,
     )
 
 pub invariant_of-self : goal.invariant_of-self
 invariant_of-self c =
     let events = notes_push c.self.inside.deeds.items c.self.inside.callers.items c.self.inside.len c.self.inside.waivers.items
-    c.args.caller c.args.deed c.args.waived.now c.self.invariant.len_is c.self.invariant.before in
-    record {
-      len_is = rw (c.push_reserved.ensures.items) (omega (
-        arith,
-        c.self.invariant.len_is,
-        length-append c.self.inside.deeds.items
-            (c.args.deed ∷ []),
-      ));
-      callers_are = rw (c.push_reserved.ensures.items, c.push_reserved-2.ensures.items)
-          (omega (
-            arith,
-            length-append c.self.inside.deeds.items (c.args.deed ∷ []),
-            length-append c.self.inside.callers.items
-                (c.args.caller ∷ []),
-            c.self.invariant.callers_are,
-          ));
-      before = rw c.note_waivers.ensures.noted (before_push c.self.inside.len c.self.inside.waivers.items c.args.waived.now
-          c.self.invariant.before);
-      count_is = rw (
-        c.push_reserved.ensures.items,
-        c.push_reserved-2.ensures.items,
-        c.note_waivers.ensures.noted,
-        events,
-        c.stretches_with-self-inside.ensures,
-        c.goes_on-goes_on.ensures,
-        c.self.invariant.count_is,
-        ← c.self.view_is,
-      )
-          (sym (stretches_push (record { caller = c.args.caller; deed = c.args.deed; waived = c.args.waived.now })
-          (notes_in c.self.inside.deeds.items c.self.inside.callers.items c.self.inside.waivers.items)));
-      waives_is = rw (
-        c.push_reserved.ensures.items,
-        c.push_reserved-2.ensures.items,
-        c.note_waivers.ensures.noted,
-        events,
-        c.is_empty.ensures,
-      ) (ap not (is_none_is c.args.waived.now));
-    }
+    c.args.caller c.args.deed c.args.waived.now c.self.invariant.0.len_is c.self.invariant.0.before in (
+      record {
+        len_is = rw (c.push_reserved.ensures.items) (omega (
+          arith,
+          c.self.invariant.0.len_is,
+          length-append c.self.inside.deeds.items
+              (c.args.deed ∷ []),
+        ));
+        callers_are = rw (c.push_reserved.ensures.items, c.push_reserved-2.ensures.items)
+            (omega (
+              arith,
+              length-append c.self.inside.deeds.items (c.args.deed ∷ []),
+              length-append c.self.inside.callers.items
+                  (c.args.caller ∷ []),
+              c.self.invariant.0.callers_are,
+            ));
+        before = rw c.note_waivers.ensures.noted (before_push c.self.inside.len c.self.inside.waivers.items c.args.waived.now
+            c.self.invariant.0.before);
+        count_is = rw (
+          c.push_reserved.ensures.items,
+          c.push_reserved-2.ensures.items,
+          c.note_waivers.ensures.noted,
+          events,
+          c.stretches_with-self-inside.ensures,
+          c.goes_on-goes_on.ensures,
+          c.self.invariant.0.count_is,
+          ← c.self.view_is,
+        )
+            (sym (stretches_push (record { caller = c.args.caller; deed = c.args.deed; waived = c.args.waived.now })
+            (notes_in c.self.inside.deeds.items c.self.inside.callers.items c.self.inside.waivers.items)));
+        waives_is = rw (
+          c.push_reserved.ensures.items,
+          c.push_reserved-2.ensures.items,
+          c.note_waivers.ensures.noted,
+          events,
+          c.is_empty.ensures,
+        ) (ap not (is_none_is c.args.waived.now));
+      },
+      record {
+        deeds = omega (arith, c.self.invariant.1.deeds, c.push_reserved.ensures.room);
+        callers = omega (arith, c.self.invariant.1.callers, c.push_reserved-2.ensures.room);
+        waivers_fit = omega (arith, c.self.invariant.1.waivers_fit, c.note_waivers.ensures.len, c.note_waivers.ensures.capacity);
+      },
+    )
 
 pub returns-clause-events : goal.returns-clause-events
 returns-clause-events c =
     rw (c.push_reserved.ensures.items, c.push_reserved-2.ensures.items, c.note_waivers.ensures.noted, ← c.self.view_is)
     (notes_push c.self.inside.deeds.items c.self.inside.callers.items c.self.inside.len c.self.inside.waivers.items c.args.caller
-    c.args.deed c.args.waived.now c.self.invariant.len_is c.self.invariant.before)
+    c.args.deed c.args.waived.now c.self.invariant.0.len_is c.self.invariant.0.before)
