@@ -15,11 +15,10 @@ use Rattle.flash_volume.specs.Acts.{Waives, Begins}
 use Rattle.flash_volume.specs.Running.{running_of}
 use Rattle.flash_volume.specs.State.{State}
 use Rattle.job_table.specs.declared.stages.Stage.TheVariants.{Waived as Gone}
-use Rattle.job_table.specs.Jobs.{JobRecord, with_stage}
+use Rattle.job_table.specs.Jobs.{JobRecord, with_stage, is_pending}
 use Rattle.job_table.specs.Table.{Table, changed_at, with_change}
 use Rattle.job_table.specs.Order as table
 use Rattle.job_table.specs.Waivers.{after_waiver as gone_after, IsPendingAt}
-use Rattle.job_table.proofs.Heads.{one_head}
 use Rattle.job_table.proofs.Waivers.{head_pending, waived_push, WerePending-push}
 use Rattle.die_log.specs.Log.{Log, Job, jobs, job_at, acts, waived, work}
 use Rattle.die_log.specs.Work.{victim_of}
@@ -30,13 +29,15 @@ use Rattle.die_log.proofs.Standing.Actors.{runs_from}
 use Rattle.slot_core.specs.Records.{record_with, records, waiver_among}
 use Rattle.slot_core.specs.Device.{FlashState, flash_of, page_held, AreRunning}
 use Rattle.slot_core.specs.Slotted.{GoesOn, IsWaivedTable, InSlot, RunsHead, HasTurn}
-use Rattle.slot_core.specs.Turns.{is_fresh, is_fresh_of, HasWaiverRoom, BeginsBy, BeginsAs}
+use Rattle.slot_core.specs.Reserved.{open_collections}
+use Rattle.slot_core.specs.Turns.{is_fresh, BeginsBy, BeginsAs}
 use Rattle.slot_core.proofs.Choosing.{waiver_of, waives}
 use Rattle.slot_core.proofs.Collections.{own_running, running_pending, one_pending, others_run, others_begun, runs_none}
 use Rattle.slot_core.proofs.Recording.{map_changed}
 use Rattle.slot_core.proofs.Turning.{IsHeadJob, head_job}
 use Rattle.slot_core.proofs.Victims.{victim_is}
 use Rattle.slot_core.proofs.Waiving.{waiver_fits}
+use Rattle.slot_core.proofs.Reserving.{waiver_closes}
 
 -- The head, and its record
 
@@ -320,25 +321,6 @@ turn_begins {N = N} blocks_of log present ws t n v w r s head at h = by_fresh (i
 pub head_asked : (plan : DiePlan) (log : Log) (present : ℕ) (ws : List Waived) (t u : Table) (f : FlashState) → InSlot plan log present ws t f → u ≡ record t { clock = present } → u ≡ t
 head_asked plan log present ws t u f s is = is ∙ ap (λ (c : ℕ). record t { clock = c }) (s.slot.now_is ∙ sym s.table.clock_is)
 
--- a head that isn't a collection that has not begun needs no room for waivers
-pub unfresh_room : (t : Table) (n room : ℕ) → table.IsHead t n → is_fresh_of (slice_get t.jobs n) ≡ false → HasWaiverRoom room t
-unfresh_room t n room head unfresh m other fresh = absurd (true≢false (sym fresh ∙ (ap (λ (k : ℕ). is_fresh_of (slice_get t.jobs k)) (one_head t m n other head) ∙ unfresh)))
-
--- there is room for the waiver of a head
-pub room_left : {N : Type 0} (blocks_of : N → List device.Block) (log : Log) (present : ℕ) (ws : List Waived) (t : Table) (n given room : ℕ) (v w : State N) (r : JobRecord) → InSlot v.accounts.plan log present ws t (flash_of blocks_of v) → table.IsHead t n
-    → slice_get t.jobs n ≡ Some r → BeginsAs blocks_of v r (Some given) w → HasWaiverRoom room t → length ws < room
-room_left blocks_of log present ws t n given room v w r s head at h has =
-    omega (
-      arith,
-      waiver_room blocks_of log present ws t n given v w r s head at h,
-      has n head (ap is_fresh_of at ∙ (head_waiver blocks_of v w r given h).fresh),
-    )
-
--- and where there was room for one there is room for the rest
-pub room_stays : {N : Type 0} (blocks_of : N → List device.Block) (v w : State N) (t : Table) (n given room : ℕ) (r : JobRecord) (change : JobRecord → JobRecord) → table.IsHead t n → slice_get t.jobs n ≡ Some r → BeginsAs blocks_of v r (Some given) w
-    → HasWaiverRoom room t → HasWaiverRoom room (with_change t n change)
-room_stays blocks_of v w t n given room r change head at h has m other fresh = has n head (ap is_fresh_of at ∙ (head_waiver blocks_of v w r given h).fresh)
-
 -- One look at the head, with a call's values as they come
 
 abbrev Within : {N : Type 0} → (N → List device.Block) → Log → ℕ → List Waived → Table → State N → Type 0
@@ -361,18 +343,26 @@ looks_turn blocks_of log present ws t u n v w r s is head at h =
     (turn_begins blocks_of log present ws u n v w r (asked blocks_of log present ws t u v s is) head at h)
 
 pub looks_waived : {N : Type 0} (blocks_of : N → List device.Block) (log : Log) (present : ℕ) (ws after : List Waived) (t u x : Table) (n given : ℕ) (v w : State N) (r : JobRecord) → Within blocks_of log present ws t v → u ≡ record t { clock = present }
-    → table.IsHead u n → slice_get u.jobs n ≡ Some r → BeginsAs blocks_of v r (Some given) w → x ≡ with_change u n (with_stage (Gone given)) → after ≡ ws ++ record { number = n; given = given } ∷ [] → Within blocks_of log present after x w
+    → table.IsHead u n → slice_get u.jobs n ≡ Some r → BeginsAs blocks_of v r (Some given) w → x ≡ with_change u n (with_stage (Gone given)) → after ≡ ws ++ record { number = n; given = given } ∷ [] → Within blocks_of log present after (record x { clock = present }) w
 looks_waived blocks_of log present ws after t u x n given v w r s is head at h changed more =
-    rw changed (rw more (subst (λ (p : DiePlan). InSlot p log present (ws ++ record { number = n; given = given } ∷ []) (with_change u n (with_stage (Gone given))) (flash_of blocks_of w)) (sym (begin_leaves blocks_of v w r (Some given) h).plan)
-    (waives_head blocks_of log present ws u n given v w r (asked blocks_of log present ws t u v s is) head at h)))
+    let same : record u { clock = present } ≡ u = ap (λ (y : Table). record y { clock = present }) is ∙ sym is in
+    rw changed (rw more (subst (λ (p : DiePlan). InSlot p log present (ws ++ record { number = n; given = given } ∷ []) (with_change (record u { clock = present }) n (with_stage (Gone given))) (flash_of blocks_of w)) (sym (begin_leaves blocks_of v w r (Some given) h).plan)
+    (subst (λ (y : Table). InSlot v.accounts.plan log present (ws ++ record { number = n; given = given } ∷ []) (with_change y n (with_stage (Gone given))) (flash_of blocks_of w)) (sym same)
+    (waives_head blocks_of log present ws u n given v w r (asked blocks_of log present ws t u v s is) head at h))))
 
-pub looks_room : {N : Type 0} (blocks_of : N → List device.Block) (log : Log) (present : ℕ) (ws : List Waived) (t u : Table) (n given room : ℕ) (v w : State N) (r : JobRecord) → Within blocks_of log present ws t v → u ≡ record t { clock = present }
-    → table.IsHead u n → slice_get u.jobs n ≡ Some r → BeginsAs blocks_of v r (Some given) w → HasWaiverRoom room t → length ws < room
-looks_room blocks_of log present ws t u n given room v w r s is head at h has =
-    room_left blocks_of log present ws u n given room v w r (asked blocks_of log present ws t u v s is) head at h
-    (subst (HasWaiverRoom room) (sym (head_asked v.accounts.plan log present ws t u (flash_of blocks_of v) s is)) has)
+pub looks_few : {N : Type 0} (blocks_of : N → List device.Block) (log : Log) (present : ℕ) (ws : List Waived) (t u : Table) (n given : ℕ) (v w : State N) (r : JobRecord) → Within blocks_of log present ws t v → u ≡ record t { clock = present }
+    → table.IsHead u n → slice_get u.jobs n ≡ Some r → BeginsAs blocks_of v r (Some given) w → length ws < 16
+looks_few blocks_of log present ws t u n given v w r s is head at h =
+    let within = asked blocks_of log present ws t u v s is in
+    omega (arith, waiver_room blocks_of log present ws u n given v w r within head at h, within.table.tasks_are, within.slot.bound.limits.few_tasks)
 
-pub looks_roomy : {N : Type 0} (blocks_of : N → List device.Block) (log : Log) (present : ℕ) (ws : List Waived) (t u x : Table) (n given room : ℕ) (v w : State N) (r : JobRecord) → Within blocks_of log present ws t v → u ≡ record t { clock = present }
-    → table.IsHead u n → slice_get u.jobs n ≡ Some r → BeginsAs blocks_of v r (Some given) w → x ≡ with_change u n (with_stage (Gone given)) → HasWaiverRoom room t → HasWaiverRoom room x
-looks_roomy blocks_of log present ws t u x n given room v w r s is head at h changed has =
-    rw changed (room_stays blocks_of v w u n given room r (with_stage (Gone given)) head at h (subst (HasWaiverRoom room) (sym (head_asked v.accounts.plan log present ws t u (flash_of blocks_of v) s is)) has))
+-- a waiver leaves one collection less that is neither done nor waived
+pub looks_closed : {N : Type 0} (blocks_of : N → List device.Block) (present : ℕ) (t u x : Table) (n given : ℕ) (v w : State N) (r : JobRecord) → u ≡ record t { clock = present } → table.IsHead u n → slice_get u.jobs n ≡ Some r
+    → BeginsAs blocks_of v r (Some given) w → x ≡ with_change u n (with_stage (Gone given)) → open_collections x.jobs + 1 ≡ open_collections t.jobs
+looks_closed blocks_of present t u x n given v w r is head at h changed =
+    let same : head.head ≡ r = same_Some head.head r (sym head.is_at ∙ at) in
+    let waits : is_pending r.stage ≡ true = ap (λ (y : JobRecord). is_pending y.stage) (sym same) ∙ (and_parts (nat_le head.head.release u.clock) (is_pending head.head.stage) head.ready).1 in
+    let collects : r.collects ≡ true = (and_parts r.collects (r.work == 0) (head_waiver blocks_of v w r given h).fresh).0 in
+    ap (λ (y : Table). open_collections y.jobs + 1) changed
+    ∙ (waiver_closes u.jobs n given r at (and_from r.collects (is_pending r.stage) collects waits)
+    ∙ ap (λ (y : Table). open_collections y.jobs) is)

@@ -8,6 +8,7 @@ pub mod Opened
 pub mod Victims
 pub mod Taking
 pub mod Waiving
+pub mod Reserving
 pub mod Keeping
 pub mod Telling
 pub mod Serving

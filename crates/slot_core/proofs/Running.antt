@@ -1,5 +1,5 @@
 -- Runs of events.
-use Rattle.std.proofs.Common.{◌≡◌, ◌≢◌, ◌↔◌, ◌⊎◌, inl, inr, ℕ, suc, ◌+◌, Bool, true, false, List, [], ◌∷◌, ◌++◌, Option, Some, None, Err, length, refl, ap, sym, ◌∙◌, subst, arith}
+use Rattle.std.proofs.Common.{◌≡◌, ◌≢◌, ◌↔◌, ◌⊎◌, inl, inr, ℕ, zero, suc, ◌+◌, ◌<◌, Bool, true, false, List, [], ◌∷◌, ◌++◌, Option, Some, None, Err, length, refl, ap, sym, ◌∙◌, subst, arith}
 use Rattle.std.specs.declared.result.Result.{Result}
 use Rattle.std.specs.Iterator.{Yields}
 use Rattle.std.specs.List.{AllByRecursion}
@@ -10,7 +10,7 @@ use Rattle.slot_types.specs.declared.events.Op.{Op}
 use Rattle.slot_types.specs.declared.events.Event.{Event}
 use Rattle.slot_types.specs.declared.events.Event.TheVariants.{Submit, Collect, Slot}
 use Rattle.slot_types.specs.declared.refusals.Refusal.{Refusal}
-use Rattle.slot_types.specs.declared.refusals.Refusal.TheVariants.{DeviceFault, DieStopped}
+use Rattle.slot_types.specs.declared.refusals.Refusal.TheVariants.{NoMemory, DeviceFault, DieStopped}
 use Rattle.slot_types.specs.declared.replies.Reply.{Reply}
 use Rattle.slot_types.specs.declared.replies.Reply.TheVariants.{Refused}
 use Rattle.die_log.specs.Log.{Log}
@@ -64,11 +64,15 @@ err_is r s e = cc
 pub refused_where : {T Q : Type 0} (r s : Refusal) → (◌≡◌ {A = Result T Refusal} (Err r) (Err s) ↔ Q) → (r ≡ s ↔ Q)
 refused_where r s h = ((λ e. h.0 (ap Err e)), (λ q. err_is r s (h.1 q)))
 
+none_left : (n : ℕ) → (0 < n → ⊥) → n ≡ 0
+none_left zero h = refl
+none_left (suc n) h = absurd (h (omega arith))
+
 -- an arrival that is refused changes nothing
 arrival_refused : {N : Type 0} (failures : N → ℕ) (event : Event) (refusal : Refusal) (old new : Core N)
-    → (refusal ≡ DieStopped ↔ (old.stopped ≡ true)) → (old.stopped ≡ false → RefusedBy old.plan old.log event refusal) → new ≡ old → (answer old.plan old.log event ≡ Refused DeviceFault → ⊥)
+    → (refusal ≡ DieStopped ↔ (old.stopped ≡ true)) → (old.stopped ≡ false → RefusedBy old.plan old.log event refusal) → new ≡ old → (answer old.plan old.log event ≡ Refused DeviceFault → ⊥) → (event ≡ Slot → ⊥)
     → IsStep old.plan event (Refused refusal) (moment_of failures old) (moment_of failures new)
-arrival_refused {N} failures event refusal old new stopped refused same faultless = by_stopped old.stopped refl where
+arrival_refused {N} failures event refusal old new stopped refused same faultless arrives = by_stopped old.stopped refl where
   left : moment_of failures new ≡ moment_of failures old
   left = ap (moment_of failures) same
 
@@ -84,9 +88,9 @@ arrival_refused {N} failures event refusal old new stopped refused same faultles
 
   by_refused : old.stopped ≡ false → RefusedBy old.plan old.log event refusal → IsStep old.plan event (Refused refusal) (moment_of failures old) (moment_of failures new)
   by_refused runs (inl e) =
-      step (inl (record { ran = runs; reply_is = sym e; log_is = ap (λ (m : Moment). m.log) left; runs = ap (λ (m : Moment). m.stopped) left ∙ runs }))
+      step (inl (record { ran = runs; reply_is = sym e; log_is = ap (λ (m : Moment). m.log) left; runs = ap (λ (m : Moment). m.stopped) left ∙ runs; reserved_is = ap (λ (m : Moment). m.reserved) left }))
       (λ is. faultless (e ∙ ap Refused is))
-  by_refused runs (inr h) = step (inr (inl (record { ran = runs; accepted = h.0; reply_is = ap Refused h.1; unchanged = left }))) (λ is. absurd cc)
+  by_refused runs (inr h) = step (inr (inl (record { ran = runs; accepted = h.0; reply_is = ap Refused h.1; unreserved = λ slot. absurd (arrives slot); unchanged = left }))) (λ is. absurd cc)
 
   by_stopped : (b : Bool) → old.stopped ≡ b → IsStep old.plan event (Refused refusal) (moment_of failures old) (moment_of failures new)
   by_stopped true is = let why = stopped.1 is in step (inr (inr (inr (record { was_stopped = is; reply_is = ap Refused why; unchanged = left })))) (λ fault. absurd cc)
@@ -95,12 +99,12 @@ arrival_refused {N} failures event refusal old new stopped refused same faultles
 pub submit_refused : {N : Type 0} (failures : N → ℕ) (task release due : ℕ) (ops : List Op) (refusal : Refusal) (old new : Core N)
     → (refusal ≡ DieStopped ↔ (old.stopped ≡ true)) → (old.stopped ≡ false → RefusedBy old.plan old.log (Submit task release due ops) refusal) → new ≡ old
     → IsStep old.plan (Submit task release due ops) (Refused refusal) (moment_of failures old) (moment_of failures new)
-submit_refused failures task release due ops refusal old new stopped refused same = arrival_refused failures (Submit task release due ops) refusal old new stopped refused same (no_fault old.plan old.log task release due ops)
+submit_refused failures task release due ops refusal old new stopped refused same = arrival_refused failures (Submit task release due ops) refusal old new stopped refused same (no_fault old.plan old.log task release due ops) (λ slot. absurd cc)
 
 pub collect_refused : {N : Type 0} (failures : N → ℕ) (task release due : ℕ) (refusal : Refusal) (old new : Core N)
     → (refusal ≡ DieStopped ↔ (old.stopped ≡ true)) → (old.stopped ≡ false → RefusedBy old.plan old.log (Collect task release due) refusal) → new ≡ old
     → IsStep old.plan (Collect task release due) (Refused refusal) (moment_of failures old) (moment_of failures new)
-collect_refused failures task release due refusal old new stopped refused same = arrival_refused failures (Collect task release due) refusal old new stopped refused same (no_collect_fault old.plan old.log task release due)
+collect_refused failures task release due refusal old new stopped refused same = arrival_refused failures (Collect task release due) refusal old new stopped refused same (no_collect_fault old.plan old.log task release due) (λ slot. absurd cc)
 
 -- a slot that is refused changes nothing, or is stopped by a fault
 pub slot_refused_step : {N : Type 0} (failures : N → ℕ) (refusal : Refusal) (old new : Core N)
@@ -108,8 +112,9 @@ pub slot_refused_step : {N : Type 0} (failures : N → ℕ) (refusal : Refusal) 
     → (old.stopped ≡ false → RefusedBy old.plan old.log Slot refusal ⊎ (IsAccepted (answer old.plan old.log Slot) × (refusal ≡ DeviceFault)))
     → (refusal ≡ DeviceFault ↔ (failures new.device ≡ failures old.device + 1))
     → (refusal ≡ DeviceFault → new.stopped ≡ true) → new.log ≡ old.log → ((refusal ≡ DeviceFault → ⊥) → new ≡ old)
+    → (0 < old.reserved → refusal ≡ NoMemory → ⊥) → new.reserved ≡ old.reserved
     → IsStep old.plan Slot (Refused refusal) (moment_of failures old) (moment_of failures new)
-slot_refused_step {N} failures refusal old new stopped refused fault stops log_stays same = record { answered = by_stopped old.stopped refl; faults = ((λ e. fault.0 (refused_is refusal DeviceFault e)), (λ more. ap Refused (fault.1 more))) } where
+slot_refused_step {N} failures refusal old new stopped refused fault stops log_stays same memory reserve_stays = record { answered = by_stopped old.stopped refl; faults = ((λ e. fault.0 (refused_is refusal DeviceFault e)), (λ more. ap Refused (fault.1 more))) } where
   Answered : Type 0
   Answered = AnsweredByLog old.plan Slot (Refused refusal) (moment_of failures old) (moment_of failures new)
       ⊎ FoundNoMemory old.plan Slot (Refused refusal) (moment_of failures old) (moment_of failures new)
@@ -125,9 +130,9 @@ slot_refused_step {N} failures refusal old new stopped refused fault stops log_s
   by_refused : old.stopped ≡ false → RefusedBy old.plan old.log Slot refusal ⊎ (IsAccepted (answer old.plan old.log Slot) × (refusal ≡ DeviceFault)) → Answered
   by_refused runs (inl (inl e)) =
       let unchanged = left (λ is. slot_fault (e ∙ ap Refused is)) in
-      inl (record { ran = runs; reply_is = sym e; log_is = ap (λ (m : Moment). m.log) unchanged; runs = ap (λ (m : Moment). m.stopped) unchanged ∙ runs })
-  by_refused runs (inl (inr h)) = inr (inl (record { ran = runs; accepted = h.0; reply_is = ap Refused h.1; unchanged = left (λ is. absurd cc) }))
-  by_refused runs (inr h) = inr (inr (inl (record { ran = runs; slot = refl; accepted = h.0; reply_is = ap Refused h.1; log_stays = log_stays; stops = stops h.1 })))
+      inl (record { ran = runs; reply_is = sym e; log_is = ap (λ (m : Moment). m.log) unchanged; runs = ap (λ (m : Moment). m.stopped) unchanged ∙ runs; reserved_is = ap (λ (m : Moment). m.reserved) unchanged })
+  by_refused runs (inl (inr h)) = inr (inl (record { ran = runs; accepted = h.0; reply_is = ap Refused h.1; unreserved = λ slot. none_left old.reserved (λ some. memory some h.1); unchanged = left (λ is. absurd cc) }))
+  by_refused runs (inr h) = inr (inr (inl (record { ran = runs; slot = refl; accepted = h.0; reply_is = ap Refused h.1; log_stays = log_stays; stops = stops h.1; reserve_stays = reserve_stays })))
 
   by_stopped : (b : Bool) → old.stopped ≡ b → Answered
   by_stopped true is = let why = stopped.1 is in inr (inr (inr (record { was_stopped = is; reply_is = ap Refused why; unchanged = left (λ fault. absurd cc) })))

@@ -92,9 +92,21 @@ starts_with plan log present t f k few clock = record {
 }
 
 pub slot_starts : {N : Type 0} (blocks_of : N → List device.Block) (log : Log) (present : ℕ) (t : Table) (v : State N) → Keeps v.accounts.plan log present t v.failed (flash_of blocks_of v) → v.failed ≡ false → present < MAX_SLOT
-    → t.clock ≡ present → InSlot v.accounts.plan log present [] t (flash_of blocks_of v)
-slot_starts blocks_of log present t v k alive few clock =
-    starts_with v.accounts.plan log present t (flash_of blocks_of v) (subst (λ (b : Bool). Keeps v.accounts.plan log present t b (flash_of blocks_of v)) alive k) few clock
+    → InSlot v.accounts.plan log present [] (record t { clock = present }) (flash_of blocks_of v)
+slot_starts blocks_of log present t v k alive few =
+    starts_with v.accounts.plan log present (record t { clock = present }) (flash_of blocks_of v) (subst (λ (b : Bool). Keeps v.accounts.plan log present (record t { clock = present }) b (flash_of blocks_of v)) alive (looked k)) few refl
+  where
+    looked : Keeps v.accounts.plan log present t v.failed (flash_of blocks_of v) → Keeps v.accounts.plan log present (record t { clock = present }) v.failed (flash_of blocks_of v)
+    looked kept = record {
+      exact = kept.exact;
+      bound = kept.bound;
+      now_is = kept.now_is;
+      tasks_are = kept.tasks_are;
+      clock_by = omega arith;
+      ended_is = kept.ended_is;
+      jobs_are = kept.jobs_are;
+      flash = kept.flash;
+    }
 
 -- Without a head
 

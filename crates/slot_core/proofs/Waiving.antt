@@ -84,7 +84,7 @@ few_among plan past (suc turns) a xs = by_least (λ b ys. few_among plan past tu
 -- At most one a task
 
 -- the tasks of those that pass
-abbrev tasks_of : (Job → Bool) → List Job → List ℕ
+abbrev pub tasks_of : (Job → Bool) → List Job → List ℕ
 tasks_of p js = map (λ (j : Job). j.task) (filter p js)
 
 abbrev of_task : (Job → Bool) → ℕ → Job → Bool
@@ -157,6 +157,15 @@ all_tasks : (plan : DiePlan) (js : List Job) → AllByRecursion (IsTaken plan) j
 all_tasks plan [] h = tt
 all_tasks plan (x ∷ xs) h = (h.0.task, all_tasks plan xs h.1)
 
+-- at most one collection a task is neither done nor waived
+pub few_pending : (plan : DiePlan) (log : Log) → MeetsBound plan → IsExact plan log → length (tasks_of (is_pending plan (λ n. acts n log) (is_waived log)) (jobs log)) ≤ length plan.caps
+few_pending plan log bound exact =
+    length-le_from_distinct_below (tasks_of (is_pending plan (λ n. acts n log) (is_waived log)) (jobs log)) (length plan.caps) (distinct_tasks (is_pending plan (λ n. acts n log) (is_waived log)) (jobs log) true_accounts.one_each)
+    (tasks_below (length plan.caps) (is_pending plan (λ n. acts n log) (is_waived log)) (jobs log) (all_tasks plan (jobs log) true_accounts.taken))
+  where
+    true_accounts : AreTrue plan log
+    true_accounts = (stands_well plan bound log exact).1.true_accounts
+
 -- a slot waives at most one collection a task
 pub few_waivers : (plan : DiePlan) (log : Log) → MeetsBound plan → IsExact plan log → length (choice plan log).waived ≤ length plan.caps
 few_waivers plan log bound exact =
@@ -164,12 +173,8 @@ few_waivers plan log bound exact =
       arith,
       few_among plan log (length (ready plan log)) (accounts plan log) (ready plan log),
       count_pending (is_pending plan (λ n. acts n log) (is_waived log)) (is_ready plan log) (jobs log) (λ k j e is_ready_now is. is_pending_if plan log j is_ready_now is),
-      length-le_from_distinct_below (tasks_of (is_pending plan (λ n. acts n log) (is_waived log)) (jobs log)) (length plan.caps) (distinct_tasks (is_pending plan (λ n. acts n log) (is_waived log)) (jobs log) true_accounts.one_each)
-          (tasks_below (length plan.caps) (is_pending plan (λ n. acts n log) (is_waived log)) (jobs log) (all_tasks plan (jobs log) true_accounts.taken)),
+      few_pending plan log bound exact,
     )
-  where
-    true_accounts : AreTrue plan log
-    true_accounts = (stands_well plan bound log exact).1.true_accounts
 
 -- so there is room for one more where one more is waived
 pub waiver_fits : (plan : DiePlan) (log : Log) (ws : List Waived) (a : Accounts) (j : Job) → MeetsBound plan → IsExact plan log → GoesOn plan log ws a → least (unwaived ws (ready plan log)) ≡ Some j → is_waivable plan log a j ≡ true

@@ -5,11 +5,12 @@ use Rattle.slot_types.specs.declared.events.Event.{Event}
 use Rattle.slot_types.specs.declared.replies.Reply.{Reply}
 use Rattle.die_log.specs.Log.{Log}
 
--- its plan, its device, whether a fault has stopped it, and its log
+-- its plan, its device, whether a fault has stopped it, for how many slots memory is reserved, and its log
 pub record Core (N : Type 0) : Type 0 where
   pub plan : DiePlan
   pub device : N
   pub stopped : Bool
+  pub reserved : ℕ
   pub log : Log
 
 -- the log with one more call

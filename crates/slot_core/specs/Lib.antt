@@ -3,6 +3,7 @@ pub mod Records
 pub mod Device
 pub mod Kept
 pub mod Told
+pub mod Reserved
 pub mod Slotted
 pub mod Acting
 pub mod Calls

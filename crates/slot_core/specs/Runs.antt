@@ -1,25 +1,31 @@
 -- What a run of events answers, and what it leaves.
-use Rattle.std.specs.Prelude.{◌≡◌, ℕ, ◌+◌, ◌⊎◌, ◌↔◌, Bool, true, false, List, [], ◌∷◌}
+use Rattle.std.specs.Prelude.{◌≡◌, ℕ, ◌+◌, ◌-◌, ◌⊎◌, ◌↔◌, Bool, true, false, List, [], ◌∷◌}
 use Rattle.slot_types.specs.declared.plans.DiePlan.{DiePlan}
 use Rattle.slot_types.specs.declared.events.Event.{Event}
 use Rattle.slot_types.specs.declared.events.Event.TheVariants.{Slot}
 use Rattle.slot_types.specs.declared.refusals.Refusal.TheVariants.{NoMemory, DeviceFault, DieStopped}
 use Rattle.slot_types.specs.declared.replies.Reply.{Reply}
-use Rattle.slot_types.specs.declared.replies.Reply.TheVariants.{Refused}
+use Rattle.slot_types.specs.declared.replies.Reply.TheVariants.{Refused, Slot as Answered}
 use Rattle.die_log.specs.Log.{Log}
 use Rattle.die_log.specs.Answers.{answer, IsAccepted, with_answer}
 use Rattle.slot_core.specs.Core.{Core}
 
 -- One event
 
--- what a run changes of a die: its log, whether a fault has stopped it, and how often its device failed
+-- what a run changes of a die: its log, whether a fault has stopped it, its reserved slots, and how often its device failed
 pub record Moment : Type 0 where
   pub log : Log
   pub stopped : Bool
+  pub reserved : ℕ
   pub failures : ℕ
 
 abbrev pub moment_of : {N : Type 0} → (N → ℕ) → Core N → Moment
-moment_of failures core = record { log = core.log; stopped = core.stopped; failures = failures core.device }
+moment_of failures core = record { log = core.log; stopped = core.stopped; reserved = core.reserved; failures = failures core.device }
+
+-- an answered slot uses up one of the reserved ones, if there is one
+abbrev pub reserved_after : Reply → ℕ → ℕ
+reserved_after (Answered s) reserved = reserved - 1
+reserved_after _ reserved = reserved
 
 -- the log's own answer, which is an entry of caller 0 if it is no refusal
 pub record AnsweredByLog (plan : DiePlan) (event : Event) (reply : Reply) (before after : Moment) : Type 0 where
@@ -27,12 +33,14 @@ pub record AnsweredByLog (plan : DiePlan) (event : Event) (reply : Reply) (befor
   pub reply_is : reply ≡ answer plan before.log event
   pub log_is : after.log ≡ with_answer 0 event reply before.log
   pub runs : after.stopped ≡ false
+  pub reserved_is : after.reserved ≡ reserved_after reply before.reserved
 
--- the log accepts the event, but memory is refused, and nothing changes
+-- the log accepts the event, but memory is refused, of a slot only where none is reserved; and nothing changes
 pub record FoundNoMemory (plan : DiePlan) (event : Event) (reply : Reply) (before after : Moment) : Type 0 where
   pub ran : before.stopped ≡ false
   pub accepted : IsAccepted (answer plan before.log event)
   pub reply_is : reply ≡ Refused NoMemory
+  pub unreserved : event ≡ Slot → before.reserved ≡ 0
   pub unchanged : after ≡ before
 
 -- the log accepts the slot, but the device fails, which stops the die; the log stays
@@ -43,6 +51,7 @@ pub record StoppedByFault (plan : DiePlan) (event : Event) (reply : Reply) (befo
   pub reply_is : reply ≡ Refused DeviceFault
   pub log_stays : after.log ≡ before.log
   pub stops : after.stopped ≡ true
+  pub reserve_stays : after.reserved ≡ before.reserved
 
 -- the die was stopped, and nothing changes
 pub record FoundStopped (plan : DiePlan) (event : Event) (reply : Reply) (before after : Moment) : Type 0 where

@@ -14,7 +14,6 @@ use Rattle.flash_volume.specs.Acts.{Waives, Begins, Does}
 use Rattle.flash_volume.specs.State.{State}
 use Rattle.job_table.specs.declared.stages.Stage.TheVariants.{Done}
 use Rattle.job_table.specs.Jobs.{JobRecord, carried, with_read, with_stage}
-use Rattle.job_table.specs.Order.{IsHead}
 use Rattle.job_table.specs.Table.{Table, with_change}
 use Rattle.slot_types.specs.Operations.{is_write, page_of}
 use Rattle.slot_core.specs.declared.turn.Turn.{Turn}
@@ -26,14 +25,6 @@ use Rattle.slot_core.specs.Acting.{act_by, operated}
 -- a collection that has not begun
 abbrev pub is_fresh : JobRecord → Bool
 is_fresh job = job.collects && (job.work == 0)
-
-abbrev pub is_fresh_of : Option JobRecord → Bool
-is_fresh_of None = false
-is_fresh_of (Some job) = is_fresh job
-
--- there is room for a waiver of each task, if the head is a collection that has not begun
-abbrev pub HasWaiverRoom : ℕ → Table → Type 0
-HasWaiverRoom room table = (n : ℕ) → IsHead table n → is_fresh_of (slice_get table.jobs n) ≡ true → table.tasks ≤ room
 
 -- it is waived and gives so many pages, or takes its victim
 abbrev pub BeginsFresh : {N : Type 0} → (N → List Block) → State N → ℕ → Option ℕ → State N → Type 0

@@ -1,6 +1,6 @@
 //! Jobs and collections that arrive at a die.
 
-ghost use Rattle.std.specs.Prelude.{◌≡◌, ◌∷◌, ◌+◌, ◌^◌, ◌<◌, ◌↔◌, true, false, length, IfOk, IfErr, OnOk, OnErr};
+ghost use Rattle.std.specs.Prelude.{◌≡◌, ◌∷◌, ◌+◌, ◌^◌, ◌<◌, ◌≤◌, ◌↔◌, true, false, length, IfOk, IfErr, OnOk, OnErr};
 ghost use Rattle.std.specs.Prelude.{[]};
 ghost use Rattle.job_table.specs.Jobs.{new_job, new_collection};
 ghost use Rattle.job_table.specs.Table.{with_job, is_collecting};
@@ -17,15 +17,6 @@ use job_table::JobTable;
 use slot_types::{Event, JobNo, MAX_JOBS, MAX_OPS, MAX_SLOT, OpList, Refusal, Reply, TaskNo};
 use std::alloc::Global;
 
-/// Makes room for one more event.
-fn reserve_event(events: &mut EventLog) -> Result<(), Refusal>
-    ensures events { events.new.notes ≡ events.old.notes }
-    ensures ok { OnOk result (0 < events.new.room) }
-    ensures refused { IfErr result (λ refusal. refusal ≡ Refusal.NoMemory) }
-{
-    events.reserve(1, 0)
-}
-
 /// Enters an accepted job into the table and the log, or finds no memory and changes neither.
 fn enter_job(
     alloc: Global,
@@ -36,18 +27,22 @@ fn enter_job(
     release: u32,
     due: u32,
     ops: OpList,
+    reserved: u32,
 ) -> Result<JobNo, Refusal>
     requires running { table.old.ended ≡ false }
     requires few { length table.old.jobs < MAX_JOBS }
     requires few_events { length events.old.notes + 1 < 2 ^ 32 }
+    requires reserved { reserved ≤ events.old.room }
     ensures table { OnOk result (table.new ≡ with_job table.old (new_job task release due ops)) }
     ensures number { IfOk result (λ number. number ≡ length table.old.jobs) }
     ensures logged { IfOk result (λ number. events.new.notes ≡ record { caller = caller; deed = Deed.Submit number; waived = [] } ∷ events.old.notes) }
     ensures refused { IfErr result (λ refusal. refusal ≡ Refusal.NoMemory) }
     ensures table_stays { OnErr result (table.new ≡ table.old) }
     ensures log_stays { OnErr result (events.new.notes ≡ events.old.notes) }
+    ensures reserved { reserved ≤ events.new.room }
+    ensures waiver_room { events.old.waiver_room ≤ events.new.waiver_room }
 {
-    reserve_event(events)?;
+    events.reserve(reserved as usize + 1, 0)?;
     let number = table.add_job(alloc, task, release, due, ops)?;
     events.push_reserved(caller, Deed::Submit { number }, &[]);
     Ok(number)
@@ -62,10 +57,12 @@ fn enter_collection(
     task: TaskNo,
     release: u32,
     due: u32,
+    reserved: u32,
 ) -> Result<JobNo, Refusal>
     requires running { table.old.ended ≡ false }
     requires few { length table.old.jobs < MAX_JOBS }
     requires few_events { length events.old.notes + 1 < 2 ^ 32 }
+    requires reserved { reserved ≤ events.old.room }
     requires task { task < table.old.tasks }
     requires single { is_collecting table.old.jobs task ≡ false }
     ensures table { OnOk result (table.new ≡ with_job table.old (new_collection task release due)) }
@@ -74,8 +71,12 @@ fn enter_collection(
     ensures refused { IfErr result (λ refusal. refusal ≡ Refusal.NoMemory) }
     ensures table_stays { OnErr result (table.new ≡ table.old) }
     ensures log_stays { OnErr result (events.new.notes ≡ events.old.notes) }
+    ensures reserved { reserved ≤ events.new.room }
+    ensures waiver_room { OnOk result (table.old.tasks ≤ events.new.waiver_room) }
+    ensures waiver_room_stays { events.old.waiver_room ≤ events.new.waiver_room }
 {
-    reserve_event(events)?;
+    // So that no slot takes memory for waivers: a task has one collection at a time.
+    events.reserve(reserved as usize + 1, table.tasks())?;
     let number = table.add_collection(alloc, task, release, due)?;
     events.push_reserved(caller, Deed::Collect { number }, &[]);
     Ok(number)
@@ -157,6 +158,7 @@ impl<N: Nand> DieCore<N> {
             release,
             due,
             ops,
+            self.reserved,
         ) {
             Err(refusal) => Err(refusal),
             Ok(number) => {
@@ -234,6 +236,7 @@ impl<N: Nand> DieCore<N> {
             task,
             release,
             due,
+            self.reserved,
         )
     }
 }

@@ -1,6 +1,6 @@
 //! A die.
 
-ghost use Rattle.std.specs.Prelude.{◌≡◌, ◌↔◌, ◌<◌, ◌⊎◌, [], false, length, IfOk, IfErr};
+ghost use Rattle.std.specs.Prelude.{◌≡◌, ◌↔◌, ◌≤◌, ◌⊎◌, [], false, length, max, IsOk, IfOk, IfErr, OnOk, OnErr};
 ghost use Rattle.slot_types.specs.Shapes.{IsShape};
 ghost use Rattle.plan_rules.specs.Bound.{MeetsBound};
 ghost use Rattle.flash_die.specs.Flash.{IsFresh};
@@ -18,25 +18,30 @@ use std::marker::Model;
 
 /// One die: its flash, its jobs and collections, and the log of the calls that it accepted.
 ///
-/// Contracts see its plan, its device, whether a fault has stopped it, and its log.
+/// Contracts see its plan, its device, whether a fault has stopped it, for how many slots memory is reserved, and its log.
 #[derive(Drop)]
 pub struct DieCore<N: Nand> {
     pub(crate) volume: Volume<N>,
     pub(crate) table: JobTable,
     pub(crate) events: EventLog,
     pub(crate) present: u32,
+    /// For how many slots there is room in the log, beside what jobs and collections take.
+    pub(crate) reserved: u32,
 }
 
 impl<N: Nand> Model for DieCore<N> {
     ghost use Rattle.slot_core.specs.Core.{Core};
     ghost use Rattle.slot_core.specs.Told.{log_of, Holds};
+    ghost use Rattle.slot_core.specs.Reserved.{HasRoom};
     ghost use Rattle.slot_core.specs.Device.{flash_of};
 
     ghost Value = { Core N };
 
-    ghost view = { λ c. record { plan = c.volume.accounts.plan; device = c.volume.device; stopped = c.volume.failed; log = log_of c.table c.events.notes } };
+    ghost view = { λ c. record { plan = c.volume.accounts.plan; device = c.volume.device; stopped = c.volume.failed; reserved = c.reserved; log = log_of c.table c.events.notes } };
 
-    ghost invariant = { λ c. Holds c.volume.accounts.plan c.present c.table c.events.notes c.volume.failed (flash_of N.blocks c.volume) };
+    ghost invariant = { λ c.
+        Holds c.volume.accounts.plan c.present c.table c.events.notes c.volume.failed (flash_of N.blocks c.volume)
+        × HasRoom c.reserved c.table.jobs c.events.room c.events.waiver_room };
 }
 
 impl<N: Nand> DieCore<N> {
@@ -46,7 +51,7 @@ impl<N: Nand> DieCore<N> {
     /// not meet its bound; else `NoMemory` where memory is refused. Plan and device are given up then.
     pub fn new(alloc: Global, plan: DiePlan, nand: N) -> Result<DieCore<N>, Refusal>
         requires fresh { IsFresh (N.shape_of nand) (N.blocks nand) (N.failures nand) }
-        ensures ok { IfOk result (λ core. core ≡ record { plan = plan; device = nand; stopped = false; log = [] }) }
+        ensures ok { IfOk result (λ core. core ≡ record { plan = plan; device = nand; stopped = false; reserved = 0; log = [] }) }
         ensures bad_shape { (result ≡ Err Refusal.BadShape) ↔ ¬ (IsShape plan.shape × (N.shape_of nand ≡ plan.shape)) }
         ensures bad_plan { (result ≡ Err Refusal.BadPlan) ↔ (IsShape plan.shape × (N.shape_of nand ≡ plan.shape) × ¬ MeetsBound plan) }
         ensures refused { IfErr result (λ refusal. (refusal ≡ Refusal.BadShape) ⊎ (refusal ≡ Refusal.BadPlan) ⊎ (refusal ≡ Refusal.NoMemory)) }
@@ -62,7 +67,31 @@ impl<N: Nand> DieCore<N> {
             table,
             events: EventLog::new(alloc),
             present: 0,
+            reserved: 0,
         })
+    }
+
+    /// Takes the memory for this many later slots, beside that which jobs and collections take when they come: so many
+    /// slots, and those that were reserved before, are never refused with `NoMemory`. Each slot that is answered uses
+    /// one of them up, and nothing else does.
+    ///
+    /// The only refusal is `NoMemory`, where nothing changes; so many as are reserved already are never refused.
+    pub fn reserve(&mut self, slots: u32) -> Result<(), Refusal>
+        ensures ok { OnOk result (self.new ≡ record self.old { reserved = max self.old.reserved slots }) }
+        ensures refused { IfErr result (λ refusal. refusal ≡ Refusal.NoMemory) }
+        ensures succeeds { slots ≤ self.old.reserved → IsOk result }
+        ensures unchanged { OnErr result (self.new ≡ self.old) }
+    {
+        self.events.reserve(slots as usize, 0)?;
+        self.reserved = self.reserved.max(slots);
+        Ok(())
+    }
+
+    /// For how many slots memory is reserved.
+    pub fn reserved(&self) -> u32
+        ensures { result ≡ self.now.reserved }
+    {
+        self.reserved
     }
 
     /// What the die is planned for.

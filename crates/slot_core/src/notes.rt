@@ -8,7 +8,7 @@ ghost use Rattle.slot_core.specs.Turns.{is_read_act, after_turn, deed_by};
 use crate::turn::Turn;
 use event_log::{Deed, EventLog};
 use job_table::JobTable;
-use slot_types::{Act, JobNo, SlotReply, Waived, WaivedList};
+use slot_types::{Act, JobNo, SlotReply, WaivedList};
 
 /// Notes a turn of the head in the table.
 pub(crate) fn note_turn(table: &mut JobTable, number: JobNo, turn: Turn, completion: u32)
@@ -35,24 +35,24 @@ fn finished(number: JobNo, last: bool) -> Option<JobNo>
 }
 
 /// The answer of a slot without a head.
-pub(crate) fn idle_reply(slot: u32, waived: Vec<Waived>) -> SlotReply
-    ensures { result ≡ record { slot = slot; waived = waived.items; ran = None; finished = None } }
+pub(crate) fn idle_reply(slot: u32, waived: WaivedList) -> SlotReply
+    ensures { result ≡ record { slot = slot; waived = waived; ran = None; finished = None } }
 {
     SlotReply {
         slot,
-        waived: WaivedList::from_vec(waived),
+        waived,
         ran: None,
         finished: None,
     }
 }
 
 /// The answer of a slot in which this number had a turn.
-pub(crate) fn turn_reply(slot: u32, waived: Vec<Waived>, number: JobNo, turn: Turn) -> SlotReply
-    ensures { result ≡ record { slot = slot; waived = waived.items; ran = Some (number, turn.act); finished = (if turn.last then Some number else None) } }
+pub(crate) fn turn_reply(slot: u32, waived: WaivedList, number: JobNo, turn: Turn) -> SlotReply
+    ensures { result ≡ record { slot = slot; waived = waived; ran = Some (number, turn.act); finished = (if turn.last then Some number else None) } }
 {
     SlotReply {
         slot,
-        waived: WaivedList::from_vec(waived),
+        waived,
         ran: Some((number, turn.act)),
         finished: finished(number, turn.last),
     }

@@ -1,6 +1,6 @@
 //! The slots of a die.
 
-ghost use Rattle.std.specs.Prelude.{◌≡◌, ◌+◌, ◌<◌, ◌≤◌, ◌⊎◌, ◌↔◌, [], true, false, length, slice_get, take, count_by, vec_capacity, IsOk, IfOk, IfErr, IfSome, IfNone, OnOk, OnErr};
+ghost use Rattle.std.specs.Prelude.{◌≡◌, ◌+◌, ◌-◌, ◌<◌, ◌≤◌, ◌⊎◌, ◌↔◌, true, false, length, slice_get, take, count_by, IsOk, IfOk, IfErr, IfSome, IfNone, OnOk, OnErr};
 ghost use Rattle.event_log.specs.Growth.{AllFit};
 ghost use Rattle.job_table.specs.Order.{NothingReady};
 ghost use Rattle.job_table.specs.Jobs.{JobRecord, is_read};
@@ -13,7 +13,7 @@ ghost use Rattle.slot_core.specs.Device.{flash_of};
 ghost use Rattle.slot_core.specs.Kept.{Keeps};
 ghost use Rattle.slot_core.specs.Told.{log_of};
 ghost use Rattle.slot_core.specs.Slotted.{InSlot, HasTurn};
-ghost use Rattle.slot_core.specs.Turns.{is_fresh_of, HasWaiverRoom};
+ghost use Rattle.slot_core.specs.Reserved.{open_collections};
 
 use crate::die_core::DieCore;
 use crate::notes::{deed_of, idle_reply, note_turn, turn_reply};
@@ -22,51 +22,24 @@ use event_log::{Deed, EventLog};
 use flash_die::Nand;
 use flash_volume::Volume;
 use job_table::JobTable;
-use slot_types::{Event, JobNo, MAX_SLOT, Refusal, Reply, SlotReply, Waived};
+use slot_types::{Event, JobNo, MAX_SLOT, Refusal, Reply, SlotReply, Waived, WaivedList};
 use std::alloc::Global;
-
-/// How many waivers this slot may have: one a task where the head is a collection that has not begun, else none.
-fn waiver_room(table: &mut JobTable, present: u32) -> usize
-    requires running { table.old.ended ≡ false }
-    requires forward { table.old.clock ≤ present }
-    ensures clock { table.new ≡ record table.old { clock = present } }
-    ensures room { HasWaiverRoom result table.new }
-{
-    let Some(number) = table.head(present) else {
-        return 0;
-    };
-    if is_fresh(table, number) {
-        table.tasks()
-    } else {
-        0
-    }
-}
-
-/// Whether this number is of a collection that has not begun.
-fn is_fresh(table: &JobTable, number: JobNo) -> bool
-    ensures { result ≡ is_fresh_of (slice_get table.now.jobs number) }
-{
-    match table.job(number) {
-        Some(job) => job.collects() && job.work() == 0,
-        None => false,
-    }
-}
 
 /// Waives the collections that come first and needn't begin, and answers who has the slot: the job or collection with
 /// the least key of those that are left. A collection that has not begun takes its victim.
 fn choose<N: Nand>(
     volume: &mut Volume<N>,
     table: &mut JobTable,
-    told: &mut Vec<Waived>,
+    told: &mut WaivedList,
     present: u32,
 ) -> Option<JobNo>
     ghost log: { Log }
     requires alive { volume.old.failed ≡ false }
-    requires within { InSlot volume.old.accounts.plan log present told.old.items table.old (flash_of N.blocks volume.old) }
-    requires told_room { HasWaiverRoom (vec_capacity told.old) table.old }
-    ensures turn { IfSome result (HasTurn volume.new.accounts.plan log present told.new.items table.new (flash_of N.blocks volume.new)) }
-    ensures idle { IfNone result (InSlot volume.new.accounts.plan log present told.new.items table.new (flash_of N.blocks volume.new) × NothingReady table.new) }
-    ensures capacity { vec_capacity told.new ≡ vec_capacity told.old }
+    requires within { InSlot volume.old.accounts.plan log present told.old (record table.old { clock = present }) (flash_of N.blocks volume.old) }
+    requires clock { table.old.clock ≤ present }
+    ensures turn { IfSome result (HasTurn volume.new.accounts.plan log present told.new table.new (flash_of N.blocks volume.new)) }
+    ensures idle { IfNone result (InSlot volume.new.accounts.plan log present told.new table.new (flash_of N.blocks volume.new) × NothingReady table.new) }
+    ensures closed { open_collections table.new.jobs + length told.new ≤ open_collections table.old.jobs + length told.old }
     ensures plan { volume.new.accounts.plan ≡ volume.old.accounts.plan }
     ensures alive { volume.new.failed ≡ false }
     ensures device { volume.new.device ≡ volume.old.device }
@@ -83,31 +56,29 @@ fn choose<N: Nand>(
             None => return Some(number),
             Some(given) => {
                 table.waive(number, given);
-                told.push_reserved(Waived { number, given });
+                told.push_within(Waived { number, given });
             }
         }
     }
 }
 
-/// Carries out the present slot of a die that isn't stopped, in room that was made.
+/// Carries out the present slot of a die that isn't stopped, in room that was made. It takes no memory.
 fn carry_out<N: Nand>(
+    alloc: Global,
     volume: &mut Volume<N>,
     table: &mut JobTable,
     events: &mut EventLog,
     caller: u32,
     present: u32,
-    mut told: Vec<Waived>,
 ) -> Result<SlotReply, Refusal>
     ghost log: { Log }
     requires alive { volume.old.failed ≡ false }
     requires log { log_of table.old events.old.notes ≡ log }
     requires fits { AllFit table.old.jobs events.old.notes }
     requires few { present < MAX_SLOT }
-    requires clock { table.old.clock ≡ present }
+    requires clock { table.old.clock ≤ present }
     requires entry { 0 < events.old.room }
-    requires waivers { vec_capacity told ≤ events.old.waiver_room }
-    requires told_none { told.items ≡ [] }
-    requires told_room { HasWaiverRoom (vec_capacity told) table.old }
+    requires waivers { open_collections table.old.jobs ≤ events.old.waiver_room }
     requires kept { Keeps volume.old.accounts.plan log present table.old volume.old.failed (flash_of N.blocks volume.old) }
     ensures kept { OnOk result (Keeps volume.new.accounts.plan (log_of table.new events.new.notes) (present + 1) table.new volume.new.failed (flash_of N.blocks volume.new)) }
     ensures answered { IfOk result (λ reply. answer volume.old.accounts.plan log Event.Slot ≡ Reply.Slot reply) }
@@ -121,7 +92,11 @@ fn carry_out<N: Nand>(
     ensures still_kept { OnErr result (Keeps volume.new.accounts.plan (log_of table.new events.new.notes) present table.new volume.new.failed (flash_of N.blocks volume.new)) }
     ensures failures { (result ≡ Err Refusal.DeviceFault) ↔ (N.failures volume.new.device ≡ N.failures volume.old.device + 1) }
     ensures never { N.never_fails ≡ true → IsOk result }
+    ensures room { events.old.room ≤ events.new.room + 1 }
+    ensures waiver_room { open_collections table.new.jobs ≤ events.new.waiver_room }
+    ensures room_stays { OnErr result (events.new.room ≡ events.old.room) }
 {
+    let mut told = WaivedList::new(alloc);
     let Some(number) = choose(volume, table, &mut told, present) else {
         events.push_reserved(caller, Deed::Idle, told.as_slice());
         return Ok(idle_reply(present, told));
@@ -156,26 +131,16 @@ fn work_of(table: &JobTable, number: JobNo) -> u32
     }
 }
 
-/// Room for the waivers of a slot.
-fn waiver_list(alloc: Global, room: usize) -> Result<Vec<Waived>, Refusal>
-    ensures none { IfOk result (λ list. list.items ≡ []) }
-    ensures room { IfOk result (λ list. vec_capacity list ≡ room) }
-    ensures refused { IfErr result (λ refusal. refusal ≡ Refusal.NoMemory) }
-{
-    match Vec::with_capacity(alloc, room) {
-        Ok(list) => Ok(list),
-        Err(_) => Err(Refusal::NoMemory),
-    }
-}
-
 impl<N: Nand> DieCore<N> {
     /// Carries out the present slot. Of what is released and neither done nor waived, the head has the earliest due, of
     /// equal ones the smallest number. While the head is a collection that has not begun and at least `alpha` pages are
     /// spare, it is waived, and the next one is the head. The head does one act; without one the slot is idle.
     ///
     /// The refusals, in this order: `DieStopped`, where a fault has stopped the die; `ClockEnd`, where the present slot is
-    /// 1,048,576; `NoMemory`; these change nothing. `DeviceFault`, exactly where a call of the device failed: the die is
-    /// stopped from then on, and its log stays, without this slot's waivers.
+    /// 1,048,576; `NoMemory`, never while slots are reserved; these change nothing. `DeviceFault`, exactly where a call of
+    /// the device failed: the die is stopped from then on, and its log stays, without this slot's waivers.
+    ///
+    /// While slots are reserved it takes no memory, and where it is answered one of them is used up.
     pub fn slot(&mut self, alloc: Global, caller: u32) -> Result<SlotReply, Refusal>
         ensures stopped { (result ≡ Err Refusal.DieStopped) ↔ (self.old.stopped ≡ true) }
         ensures answered { IfOk result (λ reply. answer self.old.plan self.old.log Event.Slot ≡ Reply.Slot reply) }
@@ -188,6 +153,9 @@ impl<N: Nand> DieCore<N> {
         ensures log_stays { OnErr result (self.new.log ≡ self.old.log) }
         ensures unchanged { IfErr result (λ refusal. (refusal ≡ Refusal.DeviceFault → ⊥) → self.new ≡ self.old) }
         ensures never { N.never_fails ≡ true → result ≡ Err Refusal.DeviceFault → ⊥ }
+        ensures memory { 0 < self.old.reserved → result ≡ Err Refusal.NoMemory → ⊥ }
+        ensures used { OnOk result (self.new.reserved ≡ self.old.reserved - 1) }
+        ensures reserve_stays { OnErr result (self.new.reserved ≡ self.old.reserved) }
     {
         if self.volume.failed() {
             return Err(Refusal::DieStopped);
@@ -195,26 +163,22 @@ impl<N: Nand> DieCore<N> {
         if self.present >= MAX_SLOT {
             return Err(Refusal::ClockEnd);
         }
-        let room = waiver_room(&mut self.table, self.present);
-        match self.events.reserve(1, room) {
+        match self.events.reserve(1, 0) {
             Ok(()) => {}
             Err(refusal) => return Err(refusal),
         }
-        let told = match waiver_list(alloc, room) {
-            Ok(list) => list,
-            Err(refusal) => return Err(refusal),
-        };
         match carry_out(
+            alloc,
             &mut self.volume,
             &mut self.table,
             &mut self.events,
             caller,
             self.present,
-            told,
         ) {
             Err(refusal) => Err(refusal),
             Ok(reply) => {
                 self.present += 1;
+                self.reserved = self.reserved.saturating_sub(1);
                 Ok(reply)
             }
         }

@@ -1,27 +1,29 @@
-use Rattle.std.proofs.Common.{ℕ, refl, sym, ◌∙◌, subst, vec_capacity, arith}
-use Rattle.slot_core.specs.Turns.{HasWaiverRoom}
-use Rattle.slot_core.proofs.Beginning.{begin_leaves, looks_idle, looks_fit, looks_turn, looks_waived, looks_room, looks_roomy}
+use Rattle.std.proofs.Common.{List, [], ◌∷◌, refl, ap, ◌∙◌, length, length-append, arith}
+use Rattle.slot_types.specs.declared.replies.Waived.{Waived}
+use Rattle.job_table.specs.Table.{Table}
+use Rattle.slot_core.specs.Reserved.{open_collections}
+use Rattle.slot_core.proofs.Beginning.{begin_leaves, looks_idle, looks_fit, looks_turn, looks_waived, looks_few, looks_closed}
 use Rattle.slot_core.proofs.slots.choose.Goals as goal
 
 pub loop-number-init : goal.loop-number-init
 loop-number-init g c = record {
   within = c.requires.1.1.0;
-  told_room = c.requires.1.1.1;
+  clock = c.requires.1.1.1;
+  closed = omega arith;
   plan = refl;
   alive = c.requires.1.0;
   device = refl;
-  capacity = refl;
 }
 
 pub head-requires-clause-running : goal.head-requires-clause-running
 head-requires-clause-running g c = c.loop-number.invariant.within.table.running
 
 pub head-requires-clause-forward : goal.head-requires-clause-forward
-head-requires-clause-forward g c = omega (arith, c.loop-number.invariant.within.table.clock_is, c.loop-number.invariant.within.slot.now_is)
+head-requires-clause-forward g c = c.loop-number.invariant.clock
 
 pub returns-in_default-clause-idle : goal.returns-in_default-clause-idle
 returns-in_default-clause-idle g c = (
-  looks_idle g.N.Nand.blocks g.log c.args.present c.loop-number.told.items c.loop-number.table c.head.new.self c.loop-number.volume c.loop-number.invariant.within c.head.ensures.clock,
+  looks_idle g.N.Nand.blocks g.log c.args.present c.loop-number.told (record c.loop-number.table { clock = c.args.present }) c.head.new.self c.loop-number.volume c.loop-number.invariant.within c.head.ensures.clock,
   c.in_default.ensures.idle,
 )
 
@@ -39,17 +41,17 @@ begin-waived-requires-clause-alive g c = c.loop-number.invariant.alive
 
 pub begin-waived-requires-clause-task : goal.begin-waived-requires-clause-task
 begin-waived-requires-clause-task g c =
-    (looks_fit g.N.Nand.blocks g.log c.args.present c.loop-number.told.items c.loop-number.table c.head.new.self c.in-Some.number c.loop-number.volume c.in-Some-job.job.now
+    (looks_fit g.N.Nand.blocks g.log c.args.present c.loop-number.told (record c.loop-number.table { clock = c.args.present }) c.head.new.self c.in-Some.number c.loop-number.volume c.in-Some-job.job.now
     c.loop-number.invariant.within c.in-Some.ensures.clock c.in-Some.ensures.head c.in-Some-job.ensures).0
 
 pub begin-waived-requires-clause-idle : goal.begin-waived-requires-clause-idle
 begin-waived-requires-clause-idle g c =
-    (looks_fit g.N.Nand.blocks g.log c.args.present c.loop-number.told.items c.loop-number.table c.head.new.self c.in-Some.number c.loop-number.volume c.in-Some-job.job.now
+    (looks_fit g.N.Nand.blocks g.log c.args.present c.loop-number.told (record c.loop-number.table { clock = c.args.present }) c.head.new.self c.in-Some.number c.loop-number.volume c.in-Some-job.job.now
     c.loop-number.invariant.within c.in-Some.ensures.clock c.in-Some.ensures.head c.in-Some-job.ensures).1
 
 pub returns-in-None-waived-clause-turn : goal.returns-in-None-waived-clause-turn
 returns-in-None-waived-clause-turn g c =
-    looks_turn g.N.Nand.blocks g.log c.args.present c.loop-number.told.items c.loop-number.table c.head.new.self c.in-Some.number c.loop-number.volume c.begin-waived.new.volume c.in-Some-job.job.now
+    looks_turn g.N.Nand.blocks g.log c.args.present c.loop-number.told (record c.loop-number.table { clock = c.args.present }) c.head.new.self c.in-Some.number c.loop-number.volume c.begin-waived.new.volume c.in-Some-job.job.now
     c.loop-number.invariant.within c.in-Some.ensures.clock c.in-Some.ensures.head c.in-Some-job.ensures c.in-None-waived.ensures
 
 pub returns-in-None-waived-clause-plan : goal.returns-in-None-waived-clause-plan
@@ -63,43 +65,45 @@ returns-in-None-waived-clause-device g c = (begin_leaves g.N.Nand.blocks c.loop-
 
 pub waive-requires-clause-running : goal.waive-requires-clause-running
 waive-requires-clause-running g c =
-    (looks_idle g.N.Nand.blocks g.log c.args.present c.loop-number.told.items c.loop-number.table c.head.new.self c.loop-number.volume c.loop-number.invariant.within c.head.ensures.clock).table.running
+    (looks_idle g.N.Nand.blocks g.log c.args.present c.loop-number.told (record c.loop-number.table { clock = c.args.present }) c.head.new.self c.loop-number.volume c.loop-number.invariant.within c.head.ensures.clock).table.running
 
-pub push_reserved-requires : goal.push_reserved-requires
-push_reserved-requires g c =
-    omega (
-      arith,
-      c.loop-number.told.ok.0,
-      looks_room g.N.Nand.blocks g.log c.args.present c.loop-number.told.items c.loop-number.table c.head.new.self c.in-Some.number c.in-Some-waived.given (vec_capacity c.loop-number.told) c.loop-number.volume c.begin-waived.new.volume c.in-Some-job.job.now
-          c.loop-number.invariant.within c.in-Some.ensures.clock c.in-Some.ensures.head c.in-Some-job.ensures c.in-Some-waived.ensures c.loop-number.invariant.told_room,
-    )
+pub push_within-requires : goal.push_within-requires
+push_within-requires g c = (
+  omega arith,
+  looks_few g.N.Nand.blocks g.log c.args.present c.loop-number.told (record c.loop-number.table { clock = c.args.present }) c.head.new.self c.in-Some.number c.in-Some-waived.given c.loop-number.volume c.begin-waived.new.volume c.in-Some-job.job.now
+      c.loop-number.invariant.within c.in-Some.ensures.clock c.in-Some.ensures.head c.in-Some-job.ensures c.in-Some-waived.ensures,
+)
 
 pub loop-number-smaller : goal.loop-number-smaller
 loop-number-smaller g c =
     omega (
       arith,
-      c.push_reserved.ensures.len,
-      c.push_reserved.ensures.capacity,
-      c.loop-number.told.ok.0,
-      looks_room g.N.Nand.blocks g.log c.args.present c.loop-number.told.items c.loop-number.table c.head.new.self c.in-Some.number c.in-Some-waived.given (vec_capacity c.loop-number.told) c.loop-number.volume c.begin-waived.new.volume c.in-Some-job.job.now
-          c.loop-number.invariant.within c.in-Some.ensures.clock c.in-Some.ensures.head c.in-Some-job.ensures c.in-Some-waived.ensures c.loop-number.invariant.told_room,
+      ap (λ (ws : List Waived). length ws) c.push_within.ensures,
+      length-append c.loop-number.told (record { number = c.in-Some.number; given = c.in-Some-waived.given } ∷ []),
+      looks_few g.N.Nand.blocks g.log c.args.present c.loop-number.told (record c.loop-number.table { clock = c.args.present }) c.head.new.self c.in-Some.number c.in-Some-waived.given c.loop-number.volume c.begin-waived.new.volume c.in-Some-job.job.now
+          c.loop-number.invariant.within c.in-Some.ensures.clock c.in-Some.ensures.head c.in-Some-job.ensures c.in-Some-waived.ensures,
     )
 
 pub loop-number-preserved : goal.loop-number-preserved
 loop-number-preserved g c = record {
-  within = looks_waived g.N.Nand.blocks g.log c.args.present c.loop-number.told.items c.push_reserved.new.self.items c.loop-number.table c.head.new.self c.waive.new.self c.in-Some.number c.in-Some-waived.given
-      c.loop-number.volume c.begin-waived.new.volume c.in-Some-job.job.now c.loop-number.invariant.within c.in-Some.ensures.clock c.in-Some.ensures.head c.in-Some-job.ensures c.in-Some-waived.ensures c.waive.ensures c.push_reserved.ensures.items;
-  told_room = subst (λ (k : ℕ). HasWaiverRoom k c.waive.new.self) (sym c.push_reserved.ensures.capacity)
-      (looks_roomy g.N.Nand.blocks g.log c.args.present c.loop-number.told.items c.loop-number.table c.head.new.self c.waive.new.self c.in-Some.number c.in-Some-waived.given (vec_capacity c.loop-number.told) c.loop-number.volume c.begin-waived.new.volume
-      c.in-Some-job.job.now c.loop-number.invariant.within c.in-Some.ensures.clock c.in-Some.ensures.head c.in-Some-job.ensures c.in-Some-waived.ensures c.waive.ensures c.loop-number.invariant.told_room);
+  within = looks_waived g.N.Nand.blocks g.log c.args.present c.loop-number.told c.push_within.new.self (record c.loop-number.table { clock = c.args.present }) c.head.new.self c.waive.new.self c.in-Some.number c.in-Some-waived.given
+      c.loop-number.volume c.begin-waived.new.volume c.in-Some-job.job.now c.loop-number.invariant.within c.in-Some.ensures.clock c.in-Some.ensures.head c.in-Some-job.ensures c.in-Some-waived.ensures c.waive.ensures c.push_within.ensures;
+  clock = omega (arith, ap (λ (t : Table). t.clock) c.waive.ensures, ap (λ (t : Table). t.clock) c.head.ensures.clock);
+  closed = omega (
+    arith,
+    c.loop-number.invariant.closed,
+    looks_closed g.N.Nand.blocks c.args.present (record c.loop-number.table { clock = c.args.present }) c.head.new.self c.waive.new.self c.in-Some.number c.in-Some-waived.given c.loop-number.volume c.begin-waived.new.volume c.in-Some-job.job.now
+        c.in-Some.ensures.clock c.in-Some.ensures.head c.in-Some-job.ensures c.in-Some-waived.ensures c.waive.ensures,
+    ap (λ (ws : List Waived). length ws) c.push_within.ensures,
+    length-append c.loop-number.told (record { number = c.in-Some.number; given = c.in-Some-waived.given } ∷ []),
+  );
   plan = (begin_leaves g.N.Nand.blocks c.loop-number.volume c.begin-waived.new.volume c.in-Some-job.job.now _ c.begin-waived.ensures).plan ∙ c.loop-number.invariant.plan;
   alive = (begin_leaves g.N.Nand.blocks c.loop-number.volume c.begin-waived.new.volume c.in-Some-job.job.now _ c.begin-waived.ensures).failed ∙ c.loop-number.invariant.alive;
   device = (begin_leaves g.N.Nand.blocks c.loop-number.volume c.begin-waived.new.volume c.in-Some-job.job.now _ c.begin-waived.ensures).device ∙ c.loop-number.invariant.device;
-  capacity = c.push_reserved.ensures.capacity ∙ c.loop-number.invariant.capacity;
 }
 
-pub returns-in_default-clause-capacity : goal.returns-in_default-clause-capacity
-returns-in_default-clause-capacity g c = c.loop-number.invariant.capacity
+pub returns-in_default-clause-closed : goal.returns-in_default-clause-closed
+returns-in_default-clause-closed g c = omega (arith, c.loop-number.invariant.closed, ap (λ (t : Table). open_collections t.jobs) c.head.ensures.clock)
 
-pub returns-in-None-waived-clause-capacity : goal.returns-in-None-waived-clause-capacity
-returns-in-None-waived-clause-capacity g c = c.loop-number.invariant.capacity
+pub returns-in-None-waived-clause-closed : goal.returns-in-None-waived-clause-closed
+returns-in-None-waived-clause-closed g c = omega (arith, c.loop-number.invariant.closed, ap (λ (t : Table). open_collections t.jobs) c.head.ensures.clock)

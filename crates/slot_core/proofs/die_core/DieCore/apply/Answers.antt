@@ -12,4 +12,5 @@ returns-in-Err-collect-clause-step g c =
 
 pub returns-in-Err-slot-clause-step : goal.returns-in-Err-slot-clause-step
 returns-in-Err-slot-clause-step g c =
-    rw c.in-Slot.is (slot_refused_step g.N.Nand.failures c.in-Err-slot.refusal c.args.self.now c.slot.new.self (refused_where _ _ c.in-Err-slot.ensures.stopped) c.in-Err-slot.ensures.refused (refused_where _ _ c.in-Err-slot.ensures.fault) (λ is. c.in-Err-slot.ensures.stops (ap Err is)) c.in-Err-slot.ensures.log_stays c.in-Err-slot.ensures.unchanged)
+    rw c.in-Slot.is (slot_refused_step g.N.Nand.failures c.in-Err-slot.refusal c.args.self.now c.slot.new.self (refused_where _ _ c.in-Err-slot.ensures.stopped) c.in-Err-slot.ensures.refused (refused_where _ _ c.in-Err-slot.ensures.fault) (λ is. c.in-Err-slot.ensures.stops (ap Err is)) c.in-Err-slot.ensures.log_stays c.in-Err-slot.ensures.unchanged
+    (λ some is. c.in-Err-slot.ensures.memory some (ap Err is)) c.in-Err-slot.ensures.reserve_stays)

@@ -8,8 +8,8 @@ use Rattle.slot_core.proofs.die_core.DieCore.certificate.Goals as goal
 
 pub returns-in-None-clause-none : goal.returns-in-None-clause-none
 returns-in-None-clause-none g c =
-    let bound : MeetsBound c.args.self.now.plan = rw (← c.self.view_is) c.self.invariant.kept.bound in
-    let exact : IsExact c.args.self.now.plan c.args.self.now.log = rw (← c.self.view_is) c.self.invariant.kept.exact in
+    let bound : MeetsBound c.args.self.now.plan = rw (← c.self.view_is) c.self.invariant.0.kept.bound in
+    let exact : IsExact c.args.self.now.plan c.args.self.now.log = rw (← c.self.view_is) c.self.invariant.0.kept.exact in
     none_said c.args.self.now.plan c.args.self.now.log _ bound exact (no_certificate c.args.self.now.plan c.args.self.now.log (sym c.in-None.is ∙ c.worst.ensures))
 
 pub returns-in_ok-carried-in-Some-clause-ok : goal.returns-in_ok-carried-in-Some-clause-ok
@@ -21,24 +21,24 @@ returns-in_ok-carried-in-Some-clause-ok g c =
 
 pub returns-in_ok-carried-in-Some-clause-none : goal.returns-in_ok-carried-in-Some-clause-none
 returns-in_ok-carried-in-Some-clause-none g c =
-    let bound : MeetsBound c.args.self.now.plan = rw (← c.self.view_is) c.self.invariant.kept.bound in
-    let exact : IsExact c.args.self.now.plan c.args.self.now.log = rw (← c.self.view_is) c.self.invariant.kept.exact in
+    let bound : MeetsBound c.args.self.now.plan = rw (← c.self.view_is) c.self.invariant.0.kept.bound in
+    let exact : IsExact c.args.self.now.plan c.args.self.now.log = rw (← c.self.view_is) c.self.invariant.0.kept.exact in
     ok_where c.build.result _ _ (returns-in_ok-carried-in-Some-clause-ok g c) (λ built. none_said c.args.self.now.plan c.args.self.now.log built bound exact)
 
 pub returns-in_ok-carried-in-Some-clause-worst : goal.returns-in_ok-carried-in-Some-clause-worst
 returns-in_ok-carried-in-Some-clause-worst g c =
-    let bound : MeetsBound c.args.self.now.plan = rw (← c.self.view_is) c.self.invariant.kept.bound in
-    let exact : IsExact c.args.self.now.plan c.args.self.now.log = rw (← c.self.view_is) c.self.invariant.kept.exact in
+    let bound : MeetsBound c.args.self.now.plan = rw (← c.self.view_is) c.self.invariant.0.kept.bound in
+    let exact : IsExact c.args.self.now.plan c.args.self.now.log = rw (← c.self.view_is) c.self.invariant.0.kept.exact in
     ok_where c.build.result _ _ (returns-in_ok-carried-in-Some-clause-ok g c) (λ built. worst_said c.args.self.now.plan c.args.self.now.log built bound exact)
 
 pub returns-in_ok-carried-in-Some-clause-holds : goal.returns-in_ok-carried-in-Some-clause-holds
 returns-in_ok-carried-in-Some-clause-holds g c =
-    let bound : MeetsBound c.args.self.now.plan = rw (← c.self.view_is) c.self.invariant.kept.bound in
-    let exact : IsExact c.args.self.now.plan c.args.self.now.log = rw (← c.self.view_is) c.self.invariant.kept.exact in
+    let bound : MeetsBound c.args.self.now.plan = rw (← c.self.view_is) c.self.invariant.0.kept.bound in
+    let exact : IsExact c.args.self.now.plan c.args.self.now.log = rw (← c.self.view_is) c.self.invariant.0.kept.exact in
     ok_where c.build.result _ _ (returns-in_ok-carried-in-Some-clause-ok g c) (λ built. holds_said c.args.self.now.plan c.args.self.now.log built bound exact)
 
 pub returns-in_ok-carried-in-Some-clause-binds : goal.returns-in_ok-carried-in-Some-clause-binds
 returns-in_ok-carried-in-Some-clause-binds g c =
-    let bound : MeetsBound c.args.self.now.plan = rw (← c.self.view_is) c.self.invariant.kept.bound in
-    let exact : IsExact c.args.self.now.plan c.args.self.now.log = rw (← c.self.view_is) c.self.invariant.kept.exact in
+    let bound : MeetsBound c.args.self.now.plan = rw (← c.self.view_is) c.self.invariant.0.kept.bound in
+    let exact : IsExact c.args.self.now.plan c.args.self.now.log = rw (← c.self.view_is) c.self.invariant.0.kept.exact in
     ok_where c.build.result _ _ (returns-in_ok-carried-in-Some-clause-ok g c) (λ built. binds_said c.args.self.now.plan c.args.self.now.log built bound exact)

@@ -1,8 +1,9 @@
-use Rattle.std.proofs.Common.{◌≡◌, refl, sym, ◌∙◌, ap}
+use Rattle.std.proofs.Common.{◌≡◌, refl, sym, ◌∙◌, ap, arith}
 use Rattle.slot_types.specs.declared.plans.Shape.{Shape}
 use Rattle.flash_die.specs.Flash.{fresh_blocks}
-use Rattle.job_table.specs.Table.{empty_table}
+use Rattle.job_table.specs.Table.{Table, empty_table}
 use Rattle.slot_core.specs.Told.{log_of}
+use Rattle.slot_core.specs.Reserved.{open_collections}
 use Rattle.slot_core.proofs.Keeping.{keeps_start, err_where, bound_refusal, same_shape}
 use Rattle.slot_core.proofs.die_core.DieCore.new.Goals as goal
 
@@ -12,13 +13,15 @@ returns-in_err-bound-clause-refused g c =
 
 pub invariant_of-result : goal.invariant_of-result
 invariant_of-result g c =
-    let same : c.shape.result ≡ c.args.plan.shape = same_shape c.shape.result c.args.plan.shape c.if-ne.ensures in
-    record {
-      kept = keeps_start g.N.Nand.blocks c.args.plan c.args.nand (log_of c.in_ok-table.table c.new-3.result.notes) c.in_ok-table.table c.in_ok-volume.volume
-          (c.in_ok-bound.ensures.ok.0 refl) (c.requires.fresh.unused ∙ ap (λ (s : Shape). fresh_blocks s) (sym c.shape.ensures ∙ same)) (rw c.new-3.ensures refl)
-          (c.in_ok-table.ensures.ok ∙ ap empty_table c.len.ensures) c.in_ok-volume.ensures.ok;
-      fits = rw c.new-3.ensures tt;
-    }
+    let same : c.shape.result ≡ c.args.plan.shape = same_shape c.shape.result c.args.plan.shape c.if-ne.ensures in (
+      record {
+        kept = keeps_start g.N.Nand.blocks c.args.plan c.args.nand (log_of c.in_ok-table.table c.new-3.result.notes) c.in_ok-table.table c.in_ok-volume.volume
+            (c.in_ok-bound.ensures.ok.0 refl) (c.requires.fresh.unused ∙ ap (λ (s : Shape). fresh_blocks s) (sym c.shape.ensures ∙ same)) (rw c.new-3.ensures refl)
+            (c.in_ok-table.ensures.ok ∙ ap empty_table c.len.ensures) c.in_ok-volume.ensures.ok;
+        fits = rw c.new-3.ensures tt;
+      },
+      record { slots = omega arith; waivers = omega (arith, ap (λ (t : Table). open_collections t.jobs) c.in_ok-table.ensures.ok) },
+    )
 
 pub returns-clause-bad_plan : goal.returns-clause-bad_plan
 returns-clause-bad_plan g c = ((λ e. absurd cc), (λ h. absurd (h.2 (c.in_ok-bound.ensures.ok.0 refl))))
