@@ -12,6 +12,7 @@ use Rattle.die_log.specs.Log.{Log, Job}
 use Rattle.die_log.specs.Work.{worst}
 use Rattle.die_log.specs.Answers.{IsExact}
 use Rattle.die_log.specs.Rows.{rows, carried_numbers, certificate, certificate_for}
+use Rattle.die_log.proofs.Least.Certificates.{nothing_done}
 use Rattle.die_log.proofs.Promises.{keeps_promises}
 use Rattle.slot_core.specs.declared.outcomes.Worst.{Worst}
 use Rattle.slot_core.specs.Outcomes.{worst_from, worst_of}
@@ -34,6 +35,10 @@ none_by plan log (Some j) e = absurd (none-some (worst_from log j) e)
 -- where there is no worst one there is none
 pub no_certificate : (plan : DiePlan) (log : Log) → None ≡ worst_of plan log → None ≡ certificate plan log
 no_certificate plan log e = none_by plan log (worst plan log) e
+
+-- where there is a worst one, something is done
+pub some_done : (plan : DiePlan) (log : Log) (w : Worst) → Some w ≡ worst_of plan log → NothingDone plan log → ⊥
+some_done plan log w e nothing = none-some w (sym (e ∙ ap (λ (o : Option Job). option_map (worst_from log) o) (nothing_done plan log nothing)))
 
 -- What is said of it
 

@@ -1,6 +1,6 @@
 //! The rows of a die's jobs and collections, and the certificate of its worst one.
 
-ghost use Rattle.std.specs.Prelude.{◌≡◌, ◌↔◌, None, IfOk, IfErr, IfSome};
+ghost use Rattle.std.specs.Prelude.{◌≡◌, ◌↔◌, None, IsOk, IfOk, IfErr, IfSome};
 ghost use Rattle.late_cert.specs.Rows.{RowsRise};
 ghost use Rattle.die_log.specs.Rows.{rows, certificate};
 ghost use Rattle.die_log.specs.Certified.{NothingDone, IsOfWorst, HoldsOver, BindsAll};
@@ -64,13 +64,15 @@ impl<N: Nand> DieCore<N> {
 
     /// The certificate of the worst job or collection, or none where nothing is done. [`late_cert::check`] says of it,
     /// over the die's rows, that it holds: every schedule that gives its jobs the slots that they took, none before its
-    /// release, completes one of them at least as late. The only refusal is for want of memory.
+    /// release, completes one of them at least as late. The only refusal is for want of memory; where nothing is done, no
+    /// memory is taken.
     pub fn certificate(&self, alloc: Global) -> Result<Option<Certificate>, Refusal>
         ensures ok { IfOk result (λ built. built ≡ certificate self.now.plan self.now.log) }
         ensures none { IfOk result (λ built. (built ≡ None) ↔ NothingDone self.now.plan self.now.log) }
         ensures worst { IfOk result (λ built. IfSome built (IsOfWorst self.now.plan self.now.log)) }
         ensures holds { IfOk result (λ built. IfSome built (HoldsOver self.now.plan self.now.log)) }
         ensures binds { IfOk result (λ built. IfSome built (BindsAll self.now.plan self.now.log)) }
+        ensures nothing { NothingDone self.now.plan self.now.log → IsOk result }
         ensures refused { IfErr result (λ refusal. refusal ≡ Refusal.NoMemory) }
     {
         match self.worst() {

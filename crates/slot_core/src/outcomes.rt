@@ -1,6 +1,7 @@
 //! What became of the jobs and collections of a die, and who of them is worst.
 
-ghost use Rattle.std.specs.Prelude.{◌≡◌, ◌↔◌, ◌⊎◌, Some, None, IfOk, IfErr};
+ghost use Rattle.std.specs.Prelude.{◌≡◌, ◌↔◌, ◌⊎◌, ℕ, false, Some, None, IsOk, IfOk, IfErr};
+ghost use Rattle.job_table.specs.Jobs.{is_done};
 ghost use Rattle.die_log.specs.Log.{job_at};
 ghost use Rattle.slot_core.specs.Outcomes.{outcome_in, outcome_at, head_in, head_at, worst_of, worst_as};
 
@@ -55,6 +56,7 @@ pub struct Worst {
 fn outcome_in(alloc: Global, job: &Job) -> Result<Outcome, Refusal>
     ensures ok { IfOk result (λ outcome. outcome ≡ outcome_in job.now) }
     ensures refused { IfErr result (λ refusal. refusal ≡ Refusal.NoMemory) }
+    ensures undone { is_done job.now.stage ≡ false → IsOk result }
 {
     match job.stage() {
         Stage::Pending => Ok(Outcome::Waiting),
@@ -94,11 +96,13 @@ fn worst_as(found: (JobNo, i64)) -> Worst
 impl<N: Nand> DieCore<N> {
     /// What became of the job or collection of a number, by the log.
     ///
-    /// `UnknownJob` where the log has none of that number; else `NoMemory` where memory is refused for what its reads
-    /// gave.
+    /// `UnknownJob` where the log has none of that number; else `NoMemory` where it is done and memory is refused for what
+    /// its reads gave. Of one that waits or was waived no memory is taken.
     pub fn outcome(&self, alloc: Global, job: JobNo) -> Result<Outcome, Refusal>
         ensures ok { IfOk result (λ outcome. outcome_at self.now.plan self.now.log job ≡ Some outcome) }
         ensures unknown { (result ≡ Err Refusal.UnknownJob) ↔ (job_at self.now.log job ≡ None) }
+        ensures waiting { outcome_at self.now.plan self.now.log job ≡ Some Outcome.Waiting → IsOk result }
+        ensures waived { (given : ℕ) → outcome_at self.now.plan self.now.log job ≡ Some (Outcome.Waived given) → IsOk result }
         ensures refused { IfErr result (λ refusal. (refusal ≡ Refusal.UnknownJob) ⊎ (refusal ≡ Refusal.NoMemory)) }
     {
         match self.table.job(job) {

@@ -3,7 +3,7 @@ use Rattle.plan_rules.specs.Bound.{MeetsBound}
 use Rattle.die_log.specs.Answers.{IsExact}
 use Rattle.die_log.specs.Rows.{carried_numbers}
 use Rattle.slot_core.proofs.Telling.{numbers_told}
-use Rattle.slot_core.proofs.Certifying.{ok_where, built_is, no_certificate, none_said, worst_said, holds_said, binds_said}
+use Rattle.slot_core.proofs.Certifying.{ok_where, built_is, no_certificate, none_said, worst_said, holds_said, binds_said, some_done}
 use Rattle.slot_core.proofs.die_core.DieCore.certificate.Goals as goal
 
 pub returns-in-None-clause-none : goal.returns-in-None-clause-none
@@ -42,3 +42,12 @@ returns-in_ok-carried-in-Some-clause-binds g c =
     let bound : MeetsBound c.args.self.now.plan = rw (← c.self.view_is) c.self.invariant.0.kept.bound in
     let exact : IsExact c.args.self.now.plan c.args.self.now.log = rw (← c.self.view_is) c.self.invariant.0.kept.exact in
     ok_where c.build.result _ _ (returns-in_ok-carried-in-Some-clause-ok g c) (λ built. binds_said c.args.self.now.plan c.args.self.now.log built bound exact)
+
+pub returns-in_err-rows-in-Some-clause-nothing : goal.returns-in_err-rows-in-Some-clause-nothing
+returns-in_err-rows-in-Some-clause-nothing g c = λ nothing. absurd (some_done c.args.self.now.plan c.args.self.now.log c.in-Some.worst (sym c.in-Some.is ∙ c.worst.ensures) nothing)
+
+pub returns-in_err-carried-in-Some-clause-nothing : goal.returns-in_err-carried-in-Some-clause-nothing
+returns-in_err-carried-in-Some-clause-nothing g c = λ nothing. absurd (some_done c.args.self.now.plan c.args.self.now.log c.in-Some.worst (sym c.in-Some.is ∙ c.worst.ensures) nothing)
+
+pub returns-in_ok-carried-in-Some-clause-nothing : goal.returns-in_ok-carried-in-Some-clause-nothing
+returns-in_ok-carried-in-Some-clause-nothing g c = λ nothing. absurd (some_done c.args.self.now.plan c.args.self.now.log c.in-Some.worst (sym c.in-Some.is ∙ c.worst.ensures) nothing)
