@@ -20,6 +20,8 @@ mod idle;
 #[cfg(test)]
 mod jobs;
 #[cfg(test)]
+mod loaded;
+#[cfg(test)]
 mod outcomes;
 #[cfg(test)]
 mod pages;
