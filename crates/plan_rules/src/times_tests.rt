@@ -94,6 +94,33 @@ fn plans_pass_within_their_load(rt: HostRuntime) -> Result<(), Fail> {
 }
 
 #[test]
+fn a_plan_may_ask_for_every_slot(rt: HostRuntime) -> Result<(), Fail> {
+    let times = |work: u32| TaskTimes {
+        period: 20,
+        collect_period: 20,
+        work,
+        writes: 1,
+    };
+    let full = Ok(Load {
+        demand: 20,
+        common: 20,
+    });
+    // the slots of an erase and the operations of a job: of 20 slots 4 go to copies, and all others to these two
+    for (erase_slots, work, want) in [
+        (3, 13, full),
+        (3, 14, Err(Refusal::BadPlan)),
+        (4, 12, full),
+        (5, 12, Err(Refusal::BadPlan)),
+    ] {
+        let times = times_of(rt.alloc(), 20, times(work))?;
+        let mut plan = small(rt.alloc(), 6, times)?;
+        plan.shape.erase_slots = erase_slots;
+        assert_eq!(rt; load_of(&plan), want, "{erase_slots} and {work} slots");
+    }
+    Ok(())
+}
+
+#[test]
 fn each_task_has_its_times(rt: HostRuntime) -> Result<(), Fail> {
     let none = Times {
         common: 20,
