@@ -1,9 +1,12 @@
 -- What a step does to the records that are left.
-use Rattle.std.proofs.Common.{◌≡◌, ℕ, List, [], ◌∷◌, Bool, true, false, Option, Some, None, Result, Ok, Err, refl, sym, ap, ◌∙◌, inl, inr}
-use Rattle.std.specs.Prelude.{option_map, OnOk, IfErr, ◌+◌}
+use Rattle.std.proofs.Common.{◌≡◌, ◌≤◌, ℕ, length, List, [], ◌∷◌, Bool, true, false, Option, Some, None, Result, Ok, Err, refl, sym, ap, ◌∙◌, inl, inr}
+use Rattle.std.specs.Prelude.{option_map, OnOk, IfErr, IfSome, ◌+◌}
 use Rattle.slot_types.specs.declared.refusals.Refusal.{Refusal}
 use Rattle.task_texts.specs.Readings.{IsOutside}
-use Rattle.task_texts.specs.RecordsLeft.{Loses, Stays, hand_of, with_hand}
+use Rattle.task_texts.specs.RecordsLeft.{Loses, Stays, hand_of, with_fit, with_hand}
+use Rattle.task_texts.specs.Marked.{is_within}
+use Rattle.task_texts.specs.RowsLeft.{KeepsFit}
+use Rattle.task_texts.proofs.MarkLaws.{within-short}
 use Rattle.task_texts.specs.ReportOf.{Reading, Reads}
 use Rattle.task_texts.specs.Rows.{Fields, TakesRow}
 
@@ -73,3 +76,29 @@ reads-on before here after (Some records) (Some more) new (Err e) so-far (inl ou
 reads-on before here after (Some records) (Some more) new (Err e) so-far (inr bad) =
     let same : here more ≡ before records = cc so-far in
     inr (sym same ∙ bad)
+
+-- Whether a text fits its bound
+
+-- what is known stays, from step to step
+pub stays-then : (a b c : Option Bool) → Stays a b → Stays b c → Stays a c
+stays-then None b c one two = tt
+stays-then (Some fits) b c one two = rw one at two
+
+pub fit-taken : (left new : Option Bool) (found : Bool) → KeepsFit left new found → Stays left (with_fit found new)
+fit-taken None new found keeps = tt
+fit-taken (Some fits) new true keeps = keeps
+fit-taken (Some fits) new false keeps = rw keeps refl
+
+pub fit-lost : (left new : Option Bool) (had found : Bool) → had ≡ true → KeepsFit left new found → Stays (with_fit had left) (with_fit found new)
+fit-lost left new had found yes_had keeps = rw yes_had (fit-taken left new found keeps)
+
+-- at the end of a text it fits
+pub fit-end : (fits : Option Bool) (found : Bool) (left : Option Bool) → Stays fits (with_fit found left) → found ≡ false → IfSome fits (λ fit. fit ≡ true)
+fit-end None found left stays none = tt
+fit-end (Some fit) found left stays none = sym (cc (rw none at stays))
+
+-- a text that fits its bound is as short
+pub fit-short : (text : Option (List ℕ)) (fits : Option Bool) → Stays (option_map (is_within 67108864) text) fits → IfSome fits (λ fit. fit ≡ true)
+    → IfSome text (λ bytes. length bytes ≤ 67108864)
+fit-short None fits stays fit = tt
+fit-short (Some text) fits stays fit = within-short 67108864 text (rw stays at fit)

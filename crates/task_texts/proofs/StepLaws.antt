@@ -11,7 +11,8 @@ use Rattle.task_texts.specs.Items.{item_of}
 use Rattle.task_texts.specs.Left.{unless_refused}
 use Rattle.task_texts.specs.Readings.{IsOutside}
 use Rattle.task_texts.specs.Rows.{Fields, TakesRow}
-use Rattle.task_texts.specs.Script.{Script, StepOf, Yields, after_item, items_from, script_from, script_at}
+use Rattle.task_texts.specs.RowsLeft.{KeepsFit}
+use Rattle.task_texts.specs.Script.{EndsFit, Script, StepOf, Yields, after_item, items_from, script_from, script_at}
 
 -- a refusal of no row says nothing of the records
 pub step-outside : (before : List Fields → Script) (after : ScriptItem → List Fields → Script) (old new : Option (List Fields)) (e : Refusal) → IsOutside e → StepOf before after old new (Err e)
@@ -98,3 +99,8 @@ yields-item slots lasts lasts2 line m refused ended (Some rows) new x none going
     let later : (max line 2 + 1 == 1) ≡ false = ne_eqb (max line 2 + 1) 1 (omega arith) in
     let rest = step.0 in
     rw (none, going, same, set, step.1) (items_from slots (after_item lasts x) (max line 2 + 1) rest, rw later refl, step.2)
+
+-- whether the text fits its bound, after its header was taken
+pub fit-then : (old mid new : Option Bool) (r : Result (Option ScriptItem) Refusal) → KeepsFit old mid true → EndsFit mid new r → EndsFit old new r
+fit-then None mid new r taken fits = tt
+fit-then (Some fit) mid new r taken fits = rw taken at fits

@@ -1,20 +1,23 @@
 -- What a reader of scripts has left.
-use Rattle.std.specs.Prelude.{◌≡◌, ℕ, List, [], length, Option, Some, None, IfSome, option_map, Result, Ok, Err, if◌then◌else◌}
+use Rattle.std.specs.Prelude.{◌≡◌, ℕ, Bool, true, List, [], length, Option, Some, None, IfSome, option_map, Result, Ok, Err, if◌then◌else◌}
 use Rattle.slot_types.specs.declared.refusals.Refusal.{Refusal}
 use Rattle.task_texts.specs.declared.items.ScriptItem.{ScriptItem}
 use Rattle.task_texts.specs.declared.scripts.ScriptReader.{ScriptReader}
-use Rattle.task_texts.specs.Bounded.{bounded_remaining}
-use Rattle.task_texts.specs.Rows.{rows_left}
+use Rattle.task_texts.specs.RowsLeft.{fits_left, rows_left}
 use Rattle.task_texts.specs.Script.{Script, script_at}
 
 -- nothing is said of what is left after a refusal
-abbrev pub unless_refused : Option Refusal → Option Script → Option Script
+abbrev pub unless_refused : {A : Type 0} → Option Refusal → Option A → Option A
 unless_refused None known = known
 unless_refused (Some refusal) known = None
 
 -- what a reader has left of its script, where it is known
 abbrev pub script_left : {R : Type 0} → (R → Option (List ℕ)) → ScriptReader R → Option Script
-script_left rem s = unless_refused s.refused (if s.ended then Some (Ok []) else option_map (script_at s.slots s.lasts.items s.line) (rows_left (bounded_remaining rem) s.rows))
+script_left rem s = unless_refused s.refused (if s.ended then Some (Ok []) else option_map (script_at s.slots s.lasts.items s.line) (rows_left rem s.rows))
+
+-- whether a reader's text fits its bound, where it is known
+abbrev pub script_fits : {R : Type 0} → (R → Option (List ℕ)) → ScriptReader R → Option Bool
+script_fits rem s = unless_refused s.refused (if s.ended then Some true else fits_left rem s.rows)
 
 -- for how many dies a reader reads
 abbrev pub dies_of : {R : Type 0} → ScriptReader R → ℕ

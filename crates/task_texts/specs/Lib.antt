@@ -9,9 +9,11 @@ pub mod Stores
 pub mod Readings
 pub mod Words
 pub mod Ops
+pub mod Marked
 pub mod Bounded
 pub mod Plain
 pub mod Rows
+pub mod RowsLeft
 pub mod Header
 pub mod Items
 pub mod Script

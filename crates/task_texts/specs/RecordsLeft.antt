@@ -1,9 +1,9 @@
 -- The records that are left of a text, with the one at hand.
-use Rattle.std.specs.Prelude.{◌≡◌, ℕ, List, [], ◌∷◌, ⊤, Bool, Option, Some, None, option_map, if◌then◌else◌}
+use Rattle.std.specs.Prelude.{◌≡◌, ℕ, List, [], ◌∷◌, ⊤, Bool, true, Option, Some, None, option_map, if◌then◌else◌}
 use Rattle.csv.specs.Records.{fields_of}
-use Rattle.task_texts.specs.Bounded.{bounded_remaining}
 use Rattle.task_texts.specs.Plain.{IsPlain}
-use Rattle.task_texts.specs.Rows.{Fields, rows_left}
+use Rattle.task_texts.specs.Rows.{Fields}
+use Rattle.task_texts.specs.RowsLeft.{fits_left, rows_left}
 use Rattle.task_texts.specs.Worst.{is_cert}
 use Rattle.task_texts.specs.declared.records.Records.{Records}
 
@@ -38,7 +38,14 @@ with_hand found fields rest = if found then option_map (λ more. fields ∷ more
 
 -- the records that are left, where they are known
 abbrev pub records_left : {R : Type 0} → (R → Option (List ℕ)) → Records R → Option (List Fields)
-records_left rem r = with_hand r.found (fields_of r.fields) (rows_left (bounded_remaining rem) r.rows)
+records_left rem r = with_hand r.found (fields_of r.fields) (rows_left rem r.rows)
+
+-- whether their text fits its bound, where it is known: at its end it does
+abbrev pub with_fit : Bool → Option Bool → Option Bool
+with_fit found fits = if found then fits else Some true
+
+abbrev pub records_fit : {R : Type 0} → (R → Option (List ℕ)) → Records R → Option Bool
+records_fit rem r = with_fit r.found (fits_left rem r.rows)
 
 -- what is known stays
 abbrev pub Stays : {A : Type 0} → Option A → Option A → Type 0

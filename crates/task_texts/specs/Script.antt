@@ -1,5 +1,5 @@
 -- The items of a script, or its first fault.
-use Rattle.std.specs.Prelude.{◌≡◌, ℕ, ◌+◌, ◌==◌, nat_lt, List, [], ◌∷◌, ⊤, ◌⊎◌, Option, Some, None, Result, Ok, Err, replicate, slice_set, if◌then◌else◌}
+use Rattle.std.specs.Prelude.{◌≡◌, ℕ, ◌+◌, ◌==◌, nat_lt, Bool, true, List, [], ◌∷◌, ⊤, ◌⊎◌, Option, Some, None, Result, Ok, Err, replicate, slice_set, if◌then◌else◌}
 use Rattle.slot_types.specs.declared.refusals.Cause.TheVariants as cause
 use Rattle.slot_types.specs.declared.refusals.Refusal.{Refusal}
 use Rattle.task_texts.specs.Header.{is_script_header}
@@ -59,3 +59,10 @@ StepOf before after None new result = ⊤
 StepOf before after (Some rows) new (Ok None) = before rows ≡ Ok []
 StepOf before after (Some rows) new (Ok (Some x)) = (rest : List Fields) × (new ≡ Some rest) × (before rows ≡ with_front x (after x rest))
 StepOf before after (Some rows) new (Err e) = IsOutside e ⊎ (before rows ≡ Err e)
+
+-- after a step the text still fits its bound or not; where it gave the end, it fits
+abbrev pub EndsFit : Option Bool → Option Bool → Result (Option ScriptItem) Refusal → Type 0
+EndsFit None new result = ⊤
+EndsFit (Some fits) new (Ok None) = fits ≡ true
+EndsFit (Some fits) new (Ok (Some x)) = new ≡ Some fits
+EndsFit (Some fits) new (Err e) = ⊤

@@ -1,9 +1,10 @@
 //! A reader that is given up at a bound.
 
-ghost use Rattle.std.specs.Prelude.{◌≡◌};
+ghost use Rattle.std.specs.Prelude.{◌≡◌, option_map};
 ghost use Rattle.std.specs.Io.{ReadsAtMost};
 ghost use Rattle.std.specs.Io.KnownBytes.{ReadConsumes};
 ghost use Rattle.task_texts.specs.Bounded.{bounded_remaining};
+ghost use Rattle.task_texts.specs.Marked.{marked};
 
 use std::io;
 use std::io::{ErrorKind, Read};
@@ -26,7 +27,7 @@ pub struct Bounded<R> {
 
 impl<R: Read> Bounded<R> {
     pub fn new(inner: R) -> Bounded<R>
-        ensures { bounded_remaining R.remaining result ≡ R.remaining inner }
+        ensures { bounded_remaining R.remaining result ≡ option_map (marked 67108864) (R.remaining inner) }
     {
         Bounded {
             inner,

@@ -3,7 +3,8 @@
 ghost use Rattle.std.specs.Prelude.{◌≡◌, ◌+◌, IfOk, IfErr, OnOk, option_map, true};
 ghost use Rattle.csv.specs.Records.{fields_of};
 ghost use Rattle.task_texts.specs.Readings.{IsOutside};
-ghost use Rattle.task_texts.specs.RecordsLeft.{IsReady, Loses, Stays, at_hand, is_found, record_line, records_left, row_at_hand};
+ghost use Rattle.task_texts.specs.RecordsLeft.{IsReady, Loses, Stays, at_hand, is_found, record_line, records_fit, records_left, row_at_hand};
+ghost use Rattle.task_texts.specs.Marked.{is_within};
 ghost use Rattle.task_texts.specs.Rows.{rows_of};
 
 use crate::bounded::Bounded;
@@ -26,12 +27,13 @@ pub struct Records<R> {
 /// The records of a reader, at the first of them.
 pub fn records_in<R: Read + Drop>(alloc: Global, reader: R) -> Result<Records<R>, Refusal>
     ensures first { IfOk result (λ made. Stays (option_map rows_of (R.remaining reader)) (records_left R.remaining made)) }
+    ensures fits { IfOk result (λ made. Stays (option_map (is_within 67108864) (R.remaining reader)) (records_fit R.remaining made)) }
     ensures ready { IfOk result (λ made. IsReady made) }
     ensures line { IfOk result (λ made. record_line made ≡ 1) }
     ensures refused { IfErr result (λ e. IsOutside e) }
 {
     let mut records = Records {
-        rows: rows_in(alloc, Bounded::new(reader)),
+        rows: rows_in(alloc, reader),
         fields: ByteRecord::new(alloc),
         found: false,
         line: 1,
@@ -78,6 +80,7 @@ impl<R: Read> Records<R> {
         requires ready { IsReady self.old }
         requires found { is_found self.old ≡ true }
         ensures next { OnOk result (Loses (records_left R.remaining self.old) (records_left R.remaining self.new)) }
+        ensures fits { OnOk result (Stays (records_fit R.remaining self.old) (records_fit R.remaining self.new)) }
         ensures ready { OnOk result (IsReady self.new) }
         ensures line { OnOk result (record_line self.new ≡ record_line self.old + 1) }
         ensures refused { IfErr result (λ e. IsOutside e) }

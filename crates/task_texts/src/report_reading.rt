@@ -1,9 +1,9 @@
 //! Reports read from texts.
 
-ghost use Rattle.std.specs.Prelude.{◌≡◌, ◌≤◌, ℕ, List, IfOk, OnOk, length, option_map};
+ghost use Rattle.std.specs.Prelude.{◌≡◌, ◌≤◌, ℕ, List, true, IfOk, IfSome, OnOk, length, option_map};
 ghost use Rattle.task_texts.specs.Numbered.{AreNumbered};
 ghost use Rattle.task_texts.specs.ReportOf.{Reading, Reads, Tells, certs_for, certs_from, no_rows, report_from, report_of, rows_from, with_die};
-ghost use Rattle.task_texts.specs.RecordsLeft.{IsReady, record_line, records_left};
+ghost use Rattle.task_texts.specs.RecordsLeft.{IsReady, Stays, record_line, records_fit, records_left};
 ghost use Rattle.task_texts.specs.Rows.{Fields};
 ghost use Rattle.task_texts.specs.Worst.{worst_of};
 
@@ -21,6 +21,7 @@ fn take_header<R: Read>(records: &mut Records<R>) -> Result<(), Refusal>
     requires ready { IsReady records.old }
     requires first { record_line records.old ≡ 1 }
     ensures read { Reads report_from (λ _. rows_from no_rows (record_line records.new)) (records_left R.remaining records.old) (records_left R.remaining records.new) result }
+    ensures fits { OnOk result (Stays (records_fit R.remaining records.old) (records_fit R.remaining records.new)) }
     ensures ready { OnOk result (IsReady records.new) }
 {
     let Some(fields) = records.get() else {
@@ -36,6 +37,7 @@ fn take_header<R: Read>(records: &mut Records<R>) -> Result<(), Refusal>
 fn take_rows<R: Read>(alloc: Global, records: &mut Records<R>) -> Result<Items<DieReport>, Refusal>
     requires { IsReady records.old }
     ensures read { Reads (rows_from no_rows (record_line records.old)) (λ dies. certs_from dies (record_line records.new)) (records_left R.remaining records.old) (records_left R.remaining records.new) result }
+    ensures fits { OnOk result (Stays (records_fit R.remaining records.old) (records_fit R.remaining records.new)) }
     ensures ready { OnOk result (IsReady records.new) }
     ensures numbered { IfOk result AreNumbered }
 {
@@ -63,6 +65,7 @@ fn take_cert<R: Read>(
 ) -> Result<(), Refusal>
     requires { IsReady records.old }
     ensures read { (more : ℕ → List Fields → Reading) → Reads (certs_for die.old more (worst_of die.old.rows) (record_line records.old)) (λ _ rest. with_die die.new (more (record_line records.new) rest)) (records_left R.remaining records.old) (records_left R.remaining records.new) result }
+    ensures fits { OnOk result (Stays (records_fit R.remaining records.old) (records_fit R.remaining records.new)) }
     ensures ready { OnOk result (IsReady records.new) }
     ensures rows { OnOk result (die.new.rows ≡ die.old.rows) }
 {
@@ -89,6 +92,7 @@ fn take_certs<R: Read>(
     requires ready { IsReady records.old }
     requires numbered { AreNumbered dies }
     ensures report { Tells (option_map (certs_from dies (record_line records.old)) (records_left R.remaining records.old)) result }
+    ensures fits { OnOk result (IfSome (records_fit R.remaining records.old) (λ fits. fits ≡ true)) }
     ensures numbered { IfOk result AreNumbered }
 {
     let mut dies = dies.into_vec();
@@ -121,6 +125,7 @@ fn take_certs<R: Read>(
 /// where memory is refused.
 pub fn read_report<R: Read + Drop>(alloc: Global, reader: R) -> Result<Report, Refusal>
     ensures report { Tells (option_map report_of (R.remaining reader)) result }
+    ensures bound { OnOk result (IfSome (R.remaining reader) (λ text. length text ≤ 67108864)) }
     ensures numbered { IfOk result AreNumbered }
 {
     let mut records = records_in(alloc, reader)?;

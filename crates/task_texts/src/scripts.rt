@@ -39,10 +39,11 @@ pub struct ScriptReader<R> {
 }
 
 impl<R: Read> ScriptReader<R> {
-    ghost use Rattle.task_texts.specs.Script.{Yields, script_of};
+    ghost use Rattle.task_texts.specs.Script.{EndsFit, Yields, script_of};
     ghost use Rattle.task_texts.specs.AskedPages.{RowHasPages};
     ghost use Rattle.task_texts.specs.Arrivals.{IsRowFor};
-    ghost use Rattle.task_texts.specs.Left.{Recalls, dies_of, script_left, slots_of};
+    ghost use Rattle.task_texts.specs.Left.{Recalls, dies_of, script_fits, script_left, slots_of};
+    ghost use Rattle.task_texts.specs.Marked.{is_within};
 
     /// A reader of a script for the dies of a store and so many slots. The only refusal is NoMemory.
     pub fn new(
@@ -56,12 +57,13 @@ impl<R: Read> ScriptReader<R> {
         ensures dies { IfOk result (λ script. dies_of script ≡ length plan.now) }
         ensures slots { IfOk result (λ script. slots_of script ≡ slots) }
         ensures script { IfOk result (λ script. script_left R.remaining script ≡ option_map (script_of (length plan.now) slots) (R.remaining reader)) }
+        ensures bound { IfOk result (λ script. script_fits R.remaining script ≡ option_map (is_within 67108864) (R.remaining reader)) }
         ensures refused { IfErr result (λ refusal. refusal ≡ Refusal.NoMemory) }
     {
         let lasts = vec![in alloc; 0u32; plan.len()]?;
         Ok(ScriptReader {
             alloc,
-            rows: rows_in(alloc, Bounded::new(reader)),
+            rows: rows_in(alloc, reader),
             row: ByteRecord::new(alloc),
             lasts,
             slots,
@@ -80,6 +82,7 @@ impl<R: Read> ScriptReader<R> {
     /// is refused.
     pub fn next(&mut self) -> Result<Option<ScriptItem>, Refusal>
         ensures item { Yields (script_left R.remaining self.old) (script_left R.remaining self.new) result }
+        ensures bound { EndsFit (script_fits R.remaining self.old) (script_fits R.remaining self.new) result }
         ensures row { IfOk result (λ o. IfSome o (IsRowFor (dies_of self.old) (slots_of self.old))) }
         ensures pages { IfOk result (λ o. IfSome o RowHasPages) }
         ensures dies { dies_of self.new ≡ dies_of self.old }

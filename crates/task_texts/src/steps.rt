@@ -4,9 +4,10 @@ ghost use Rattle.std.specs.Prelude.{◌≡◌, ◌<◌, ◌+◌, ◌≤◌, leng
 ghost use Rattle.task_texts.specs.AskedPages.{RowHasPages};
 ghost use Rattle.task_texts.specs.Arrivals.{Arrives};
 ghost use Rattle.task_texts.specs.Plain.{IsPlain};
-ghost use Rattle.task_texts.specs.Rows.{rows_left};
-ghost use Rattle.task_texts.specs.Script.{StepOf, after_item, items_from, script_at, script_from};
+ghost use Rattle.task_texts.specs.RowsLeft.{fits_left, rows_left};
+ghost use Rattle.task_texts.specs.Script.{EndsFit, StepOf, after_item, items_from, script_at, script_from};
 
+use crate::bounded::Bounded;
 use crate::items::{ScriptItem, item};
 use crate::rows::{heads_script, take_row};
 use csv::{ByteRecord, Reader};
@@ -21,7 +22,7 @@ const MAX_LINE: u32 = 1_000_001;
 #[tactic(auto, unfolding(crate::specs::Script::items_from))]
 fn read_item<R: Read>(
     alloc: Global,
-    rows: &mut Reader<R>,
+    rows: &mut Reader<Bounded<R>>,
     row: &mut ByteRecord,
     slots: u32,
     lasts: &[u32],
@@ -29,6 +30,7 @@ fn read_item<R: Read>(
 ) -> Result<Option<ScriptItem>, Refusal>
     requires { IsPlain rows.old }
     ensures step { StepOf (items_from slots lasts.now line) (λ x. items_from slots (after_item lasts.now x) (line + 1)) (rows_left R.remaining rows.old) (rows_left R.remaining rows.new) result }
+    ensures fits { EndsFit (fits_left R.remaining rows.old) (fits_left R.remaining rows.new) result }
     ensures plain { IfOk result (λ _. IsPlain rows.new) }
     ensures line { IfOk result (λ o. IfSome o (λ _. line ≤ 1000001)) }
     ensures die { IfOk result (λ o. IfSome o (λ x. x.die < length lasts.now)) }
@@ -51,13 +53,14 @@ fn read_item<R: Read>(
 /// The item of the second record, where the first is the header.
 fn read_first<R: Read>(
     alloc: Global,
-    rows: &mut Reader<R>,
+    rows: &mut Reader<Bounded<R>>,
     row: &mut ByteRecord,
     slots: u32,
     lasts: &[u32],
 ) -> Result<Option<ScriptItem>, Refusal>
     requires { IsPlain rows.old }
     ensures step { StepOf (script_from slots lasts.now) (λ x. items_from slots (after_item lasts.now x) 3) (rows_left R.remaining rows.old) (rows_left R.remaining rows.new) result }
+    ensures fits { EndsFit (fits_left R.remaining rows.old) (fits_left R.remaining rows.new) result }
     ensures plain { IfOk result (λ _. IsPlain rows.new) }
     ensures die { IfOk result (λ o. IfSome o (λ x. x.die < length lasts.now)) }
     ensures arrives { IfOk result (λ o. IfSome o (Arrives slots)) }
@@ -75,7 +78,7 @@ fn read_first<R: Read>(
 /// The next item, where the next record has this number.
 pub fn read_step<R: Read>(
     alloc: Global,
-    rows: &mut Reader<R>,
+    rows: &mut Reader<Bounded<R>>,
     row: &mut ByteRecord,
     slots: u32,
     lasts: &[u32],
@@ -84,6 +87,7 @@ pub fn read_step<R: Read>(
     requires plain { IsPlain rows.old }
     requires counted { 0 < line }
     ensures step { StepOf (script_at slots lasts.now line) (λ x. items_from slots (after_item lasts.now x) (max line 2 + 1)) (rows_left R.remaining rows.old) (rows_left R.remaining rows.new) result }
+    ensures fits { EndsFit (fits_left R.remaining rows.old) (fits_left R.remaining rows.new) result }
     ensures plain { IfOk result (λ _. IsPlain rows.new) }
     ensures line { IfOk result (λ o. IfSome o (λ _. line ≤ 1000001)) }
     ensures die { IfOk result (λ o. IfSome o (λ x. x.die < length lasts.now)) }

@@ -5,6 +5,7 @@ use Rattle.std.proofs.lemmas.List.Elements.{All-set}
 use Rattle.task_texts.specs.Numbered.{IsNumbered}
 use Rattle.task_texts.specs.ReportOf.{certs_from}
 use Rattle.task_texts.specs.declared.reports.DieReport.{DieReport}
+use Rattle.task_texts.proofs.RecordLaws.{stays-then}
 use Rattle.task_texts.proofs.ReadingLaws.{certs-end, certs-fault, certs-more, certs-over}
 use Rattle.task_texts.proofs.report_reading.take_certs.Goals as goal
 
@@ -24,6 +25,7 @@ loop-i-preserved g c =
     let old : IsNumbered c.index_mut.result.now.rows = subst (λ die. IsNumbered die.rows) (sym c.index_mut.ensures.value) (c.loop-i.invariant.numbered i c.index_mut.result.now below) in
     record {
       ready = c.in-Ok.ensures.ready;
+      fits = stays-then _ _ _ c.loop-i.invariant.fits c.in-Ok.ensures.fits;
       numbered = All-set (λ (die : DieReport). IsNumbered die.rows) dies i c.take_cert.new.die (subst (λ rows. IsNumbered rows) (sym c.in-Ok.ensures.rows) old) c.loop-i.invariant.numbered;
       len = length-set dies i c.take_cert.new.die ∙ c.loop-i.invariant.len;
       read = certs-more dies i c.index_mut.result.now c.take_cert.new.die (record_line c.loop-i.records) (record_line c.take_cert.new.records) _ _ _ below c.index_mut.ensures.value

@@ -3,7 +3,7 @@ use Rattle.csv.specs.Records.{fields_of}
 use Rattle.task_texts.specs.RecordsLeft.{record_line}
 use Rattle.task_texts.specs.Numbered.{AreNumbered}
 use Rattle.task_texts.specs.ReportOf.{rows_from}
-use Rattle.task_texts.proofs.RecordLaws.{reads-on, reads-outside}
+use Rattle.task_texts.proofs.RecordLaws.{reads-on, reads-outside, stays-then}
 use Rattle.task_texts.proofs.NumberLaws.{numbered-dies, numbered-more}
 use Rattle.task_texts.proofs.ReadingLaws.{rows-broken, rows-end, rows-more}
 use Rattle.task_texts.proofs.report_reading.take_rows.Goals as goal
@@ -27,6 +27,7 @@ loop-fields-preserved g c =
     let more = sym (rw c.if-not-branch.false at c.in_ok-gather.ensures.row) in
     record {
       ready = c.in-Ok.ensures.ready;
+      fits = stays-then _ _ _ c.loop-fields.invariant.fits c.in-Ok.ensures.fits;
       numbered = numbered-more c.loop-fields.gathered c.gather.new.gathered (fields_of c.in-Some.fields.now) more c.loop-fields.invariant.numbered;
       few = c.in_ok-gather.ensures.few c.if-not-branch.false;
       read = rows-more c.loop-fields.gathered c.gather.new.gathered (record_line records) (record_line c.advance.new.self) records.found (fields_of records.fields)

@@ -1,3 +1,4 @@
+use Rattle.task_texts.proofs.MarkLaws.{row-bytes}
 use Rattle.task_texts.proofs.RowLaws.{rows-read, ready}
 use Rattle.task_texts.proofs.rows.take_row.Goals as goal
 
@@ -5,4 +6,12 @@ pub returns-in-Ok-clause-takes : goal.returns-in-Ok-clause-takes
 returns-in-Ok-clause-takes g c =
     let plain = c.requires in
     let read = c.in-Ok.ensures.reads plain.1 (ready c.args.rows.now plain.3) in
-    rows-read g.R.Read.remaining c.args.rows.now c.read_byte_record.new.self c.in-Ok.found _ plain.0 read
+    let bytes = row-bytes c.read_byte_record.new.row c.as_slice.result.now c.as_slice.ensures c.check_bytes.ensures in
+    (rows-read g.R.Read.remaining c.args.rows.now c.read_byte_record.new.self c.in-Ok.found _ plain.0 read bytes).0
+
+pub returns-in-Ok-clause-fits : goal.returns-in-Ok-clause-fits
+returns-in-Ok-clause-fits g c =
+    let plain = c.requires in
+    let read = c.in-Ok.ensures.reads plain.1 (ready c.args.rows.now plain.3) in
+    let bytes = row-bytes c.read_byte_record.new.row c.as_slice.result.now c.as_slice.ensures c.check_bytes.ensures in
+    (rows-read g.R.Read.remaining c.args.rows.now c.read_byte_record.new.self c.in-Ok.found _ plain.0 read bytes).1
