@@ -1,2 +1,3 @@
 mod KindLemmas
 mod PlanFronts
+mod Endings

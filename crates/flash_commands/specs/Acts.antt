@@ -1,5 +1,5 @@
--- What a command prints, and its status.
-use Rattle.std.specs.Prelude.{◌≡◌, ℕ, List, Option, Some, IfSome, Ok, Err, ◌⊎◌}
+-- What a command prints, and its status; and what it leaves where it is refused.
+use Rattle.std.specs.Prelude.{◌≡◌, ⊤, ℕ, List, Option, Some, IfSome, Ok, Err, ◌⊎◌}
 use Rattle.std.specs.Io.KnownBytes.{Appends}
 use Rattle.slot_types.specs.declared.plans.DiePlan.{DiePlan}
 use Rattle.slot_types.specs.declared.refusals.Refusal.{Refusal}
@@ -17,6 +17,8 @@ use Rattle.task_script.specs.declared.run_counts.RunCount.{RunCount}
 use Rattle.flash_commands.specs.declared.built_in.TheConstants.{PLAN, SCRIPT, SLOTS}
 use Rattle.flash_commands.specs.declared.commands.Command.{Command}
 use Rattle.flash_commands.specs.declared.commands.Command.TheVariants as command
+use Rattle.flash_commands.specs.declared.faults.Fault.{Fault}
+use Rattle.flash_commands.specs.declared.faults.Fault.TheVariants.{Certificate, NotText, Refused, Words}
 
 -- the report of a text, where the text is known
 abbrev pub IsReportOf : Option (List ℕ) → List DieReport → Type 0
@@ -63,3 +65,25 @@ Prints (command.Audit report) first second old new status = PrintsAudit first ol
 Prints (command.Plan plan) first second old new status = PrintsFigures first old new × (status ≡ 0)
 Prints (command.Run plan script slots workers) first second old new status = PrintsRun first second slots old new × (status ≡ 0)
 Prints command.Alone first second old new status = PrintsRun (Some PLAN.now) (Some SCRIPT.now) SLOTS old new × (status ≡ 0)
+
+-- why a command is refused
+abbrev pub Refuses : Command → Option (List ℕ) → Option (List ℕ) → Refusal → Type 0
+Refuses (command.Audit report) first second refusal = RefusesAudit first refusal
+Refuses (command.Plan plan) first second refusal = RefusesFigures first refusal
+Refuses (command.Run plan script slots workers) first second refusal = RefusesRun first second slots refusal
+Refuses command.Alone first second refusal = RefusesRun (Some PLAN.now) (Some SCRIPT.now) SLOTS refusal
+
+-- a refusal other than the writer's own leaves the writer as it was; how much a failing writer took is not said
+abbrev pub IsUnwritten : {W : Type 0} → W → W → Refusal → Type 0
+IsUnwritten old new refusal = (refusal ≡ WriteFault → ⊥) → new ≡ old
+
+-- a command is refused, and nothing is written, unless the writer failed
+abbrev pub IsRefused : {W : Type 0} → Command → Option (List ℕ) → Option (List ℕ) → W → W → Type 0
+IsRefused c first second old new = (refusal : Refusal) × Refuses c first second refusal × IsUnwritten old new refusal
+
+-- so much of a fault: it is a refusal, of which these say why it comes and what it leaves; or a refused certificate
+abbrev pub IsFaultOf : (Refusal → Type 0) → Fault → Type 0
+IsFaultOf is (Refused refusal) = is refusal
+IsFaultOf is (Words error) = ⊥
+IsFaultOf is NotText = ⊥
+IsFaultOf is Certificate = ⊤

@@ -2,7 +2,7 @@
 
 ghost use Rattle.std.specs.Prelude.{◌≡◌, ◌≤◌, ◌⊎◌, IfOk, IfErr, OnOk, if◌then◌else◌};
 ghost use Rattle.std.specs.Io.KnownBytes.{Appends};
-ghost use Rattle.flash_commands.specs.Acts.{Prints, PrintsAudit, PrintsFigures, PrintsRun, RefusesAudit, RefusesFigures, RefusesRun};
+ghost use Rattle.flash_commands.specs.Acts.{IsFaultOf, IsRefused, IsUnwritten, Prints, PrintsAudit, PrintsFigures, PrintsRun, Refuses, RefusesAudit, RefusesFigures, RefusesRun};
 ghost use Rattle.flash_commands.specs.Commands.{FitsRun};
 ghost use Rattle.flash_commands.specs.Faults.{outcome_status};
 
@@ -38,6 +38,7 @@ fn print_figures<R: Read + Drop, W: Write>(
 ) -> Result<(), Refusal>
     ensures printed { OnOk result (PrintsFigures (R.remaining first) (W.contents out.old) (W.contents out.new)) }
     ensures refused { IfErr result (RefusesFigures (R.remaining first)) }
+    ensures unwritten { IfErr result (IsUnwritten out.old out.new) }
 {
     let store = store_in(alloc, first)?;
     let text = figures_text(alloc, &store)?;
@@ -52,6 +53,7 @@ fn print_audit<R: Read + Drop, W: Write>(
 ) -> Result<bool, Refusal>
     ensures printed { IfOk result (λ refused. PrintsAudit (R.remaining first) (W.contents out.old) (W.contents out.new) (if refused then 3 else 0)) }
     ensures refused { IfErr result (RefusesAudit (R.remaining first)) }
+    ensures unwritten { IfErr result (IsUnwritten out.old out.new) }
 {
     let report = read_report(alloc, first)?;
     let audit = audit_report(alloc, &report)?;
@@ -73,6 +75,7 @@ fn print_run<R: Threads + Wait + Sync, F: Read + Drop, S: Read + Drop, W: Write>
     requires workers { (1 ≤ workers) × (workers ≤ 16) }
     ensures printed { OnOk result (PrintsRun (F.remaining first) (S.remaining second) slots (W.contents out.old) (W.contents out.new)) }
     ensures refused { IfErr result (RefusesRun (F.remaining first) (S.remaining second) slots) }
+    ensures unwritten { IfErr result (IsUnwritten out.old out.new) }
 {
     let store = store_in(alloc, first)?;
     run_text(rt, alloc, &store, second, out, slots, workers)
@@ -100,6 +103,8 @@ fn run<R: Threads + Wait + Sync, F: Read + Drop, S: Read + Drop, W: Write, E: Wr
     requires slots { slots ≤ MAX_SLOT }
     requires workers { (1 ≤ workers) × (workers ≤ 16) }
     ensures printed { (outcome_status result ≡ 1) ⊎ (PrintsRun (F.remaining first) (S.remaining second) slots (W.contents out.old) (W.contents out.new) × (outcome_status result ≡ 0)) }
+    ensures refused { IfErr result (IsFaultOf (RefusesRun (F.remaining first) (S.remaining second) slots)) }
+    ensures unwritten { IfErr result (IsFaultOf (IsUnwritten out.old out.new)) }
 {
     let count = print_run(rt, alloc, first, second, slots, workers, out)?;
     tell_refused(err, &count);
@@ -109,6 +114,8 @@ fn run<R: Threads + Wait + Sync, F: Read + Drop, S: Read + Drop, W: Write, E: Wr
 /// Shows the figures of a plan, or says why not.
 fn figures<R: Read + Drop, W: Write>(alloc: Global, first: R, out: &mut W) -> Result<(), Fault>
     ensures printed { (outcome_status result ≡ 1) ⊎ (PrintsFigures (R.remaining first) (W.contents out.old) (W.contents out.new) × (outcome_status result ≡ 0)) }
+    ensures refused { IfErr result (IsFaultOf (RefusesFigures (R.remaining first))) }
+    ensures unwritten { IfErr result (IsFaultOf (IsUnwritten out.old out.new)) }
 {
     print_figures(alloc, first, out)?;
     Ok(())
@@ -117,6 +124,8 @@ fn figures<R: Read + Drop, W: Write>(alloc: Global, first: R, out: &mut W) -> Re
 /// Audits a report, or says why not.
 fn audit<R: Read + Drop, W: Write>(alloc: Global, first: R, out: &mut W) -> Result<(), Fault>
     ensures printed { (outcome_status result ≡ 1) ⊎ PrintsAudit (R.remaining first) (W.contents out.old) (W.contents out.new) (outcome_status result) }
+    ensures refused { IfErr result (IsFaultOf (RefusesAudit (R.remaining first))) }
+    ensures unwritten { IfErr result (IsFaultOf (IsUnwritten out.old out.new)) }
 {
     if print_audit(alloc, first, out)? {
         return Err(Fault::Certificate);
@@ -125,7 +134,39 @@ fn audit<R: Read + Drop, W: Write>(alloc: Global, first: R, out: &mut W) -> Resu
 }
 
 /// Carries a command out, with `first` in place of the file of the plan or of the report, and `second` in place of
-/// that of the script, which no other command than `run` reads. Answers the status.
+/// that of the script, which no other command than `run` reads.
+///
+/// What it prints is what [`act`] says. `Certificate` comes exactly where a report was read and audited, its audit is
+/// printed whole, and some certificate is refused; any other error is a refusal. A refusal leaves `out` as it was, but for
+/// `WriteFault`: how much `out` took by then is not said.
+pub fn carry_out<R: Threads + Wait + Sync, F: Read + Drop, S: Read + Drop, W: Write, E: Write>(
+    rt: &R,
+    alloc: Global,
+    command: Command<'_>,
+    first: F,
+    second: S,
+    out: &mut W,
+    err: &mut E,
+) -> Result<(), Fault>
+    requires { FitsRun command }
+    ensures printed { (outcome_status result ≡ 1) ⊎ Prints command.entry (F.remaining first) (S.remaining second) (W.contents out.old) (W.contents out.new) (outcome_status result) }
+    ensures refused { IfErr result (IsFaultOf (Refuses command.entry (F.remaining first) (S.remaining second))) }
+    ensures unwritten { IfErr result (IsFaultOf (IsUnwritten out.old out.new)) }
+{
+    match command {
+        Command::Alone => {
+            let (plan, script) = (built_in::PLAN.as_bytes(), built_in::SCRIPT.as_bytes());
+            run(rt, alloc, plan, script, built_in::SLOTS, 1, out, err)
+        }
+        Command::Run { slots, workers, .. } => {
+            run(rt, alloc, first, second, slots, workers, out, err)
+        }
+        Command::Audit { .. } => audit(alloc, first, out),
+        Command::Plan { .. } => figures(alloc, first, out),
+    }
+}
+
+/// Carries a command out, as [`carry_out`] does, tells why not in a line to `err`, and answers the status.
 ///
 /// `run` runs the script on the store of the plan by its workers, and prints the report of what became of it, which is the
 /// same for any number of them. Where rows were refused, `err` gets a line, as `refused 1 first line 6 with 6`. Without
@@ -135,8 +176,8 @@ fn audit<R: Read + Drop, W: Write>(alloc: Global, first: R, out: &mut W) -> Resu
 /// its plan, as `die 0 fmax 7 closed 6 live 18 logical 12 accepted`; no more of the plan is read than 1,048,577 bytes.
 ///
 /// Each text for `out` is made whole before its first byte. A refusal is told in a line to `err`, as
-/// `error 19 ScriptRow 6 Fields`, and the status is 1. Where `err` fails, that is passed over. A run may wait for its
-/// workers.
+/// `error 19 ScriptRow 6 Fields`, and the status is 1: nothing was written to `out`, or `out` failed. Where `err` fails, that
+/// is passed over. A run may wait for its workers.
 pub fn act<R: Threads + Wait + Sync, F: Read + Drop, S: Read + Drop, W: Write, E: Write>(
     rt: &R,
     alloc: Global,
@@ -147,19 +188,9 @@ pub fn act<R: Threads + Wait + Sync, F: Read + Drop, S: Read + Drop, W: Write, E
     err: &mut E,
 ) -> u8
     requires { FitsRun command }
-    ensures { (result ≡ 1) ⊎ Prints command.entry (F.remaining first) (S.remaining second) (W.contents out.old) (W.contents out.new) result }
+    ensures printed { (result ≡ 1) ⊎ Prints command.entry (F.remaining first) (S.remaining second) (W.contents out.old) (W.contents out.new) result }
+    ensures refused { result ≡ 1 → IsRefused command.entry (F.remaining first) (S.remaining second) out.old out.new }
 {
-    match command {
-        Command::Alone => {
-            let (plan, script) = (built_in::PLAN.as_bytes(), built_in::SCRIPT.as_bytes());
-            let done = run(rt, alloc, plan, script, built_in::SLOTS, 1, out, err);
-            end(err, done)
-        }
-        Command::Run { slots, workers, .. } => {
-            let done = run(rt, alloc, first, second, slots, workers, out, err);
-            end(err, done)
-        }
-        Command::Audit { .. } => end(err, audit(alloc, first, out)),
-        Command::Plan { .. } => end(err, figures(alloc, first, out)),
-    }
+    let done = carry_out(rt, alloc, command, first, second, out, err);
+    end(err, done)
 }

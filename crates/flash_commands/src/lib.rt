@@ -11,7 +11,7 @@ pub mod figures;
 pub mod plans;
 pub mod syntax;
 
-pub use acts::act;
+pub use acts::{act, carry_out};
 pub use command_line::{show, words_of};
 pub use commands::{Command, read_words};
 pub use faults::{Fault, end};
