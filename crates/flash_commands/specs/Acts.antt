@@ -12,7 +12,8 @@ use Rattle.task_texts.specs.declared.plan_texts.PlanNumbers.{PlanNumbers}
 use Rattle.task_texts.specs.declared.reports.DieReport.{DieReport}
 use Rattle.flash_commands.specs.Audit.{audit_status, audit_text}
 use Rattle.flash_commands.specs.Figures.{plan_text}
-use Rattle.task_script.specs.TextRuns.{RefusesText, RunsText}
+use Rattle.task_script.specs.PlannedRuns.{RunsAsPlanned}
+use Rattle.task_script.specs.TextRuns.{RefusesText}
 use Rattle.task_script.specs.declared.run_counts.RunCount.{RunCount}
 use Rattle.flash_commands.specs.declared.built_in.TheConstants.{PLAN, SCRIPT, SLOTS}
 use Rattle.flash_commands.specs.declared.commands.Command.{Command}
@@ -48,12 +49,14 @@ PrintsAudit text old new status = (report : List DieReport) × IsReportOf text r
 abbrev pub PrintsFigures : Option (List ℕ) → Option (List ℕ) → Option (List ℕ) → Type 0
 PrintsFigures text old new = (store : List DiePlan) × IsStoreOf text store × Appends old new (plan_text store)
 
--- the report of a run is printed: of the script that was read, on the store of the plan that was read
+-- the report of a run is printed: of the script that was read, on the store of the plan that was read; and each die whose
+-- rows keep its plan went as planned: no lateness in its report is above 0, and no row of it was refused but for want of
+-- memory, or behind one that was
 pub record PrintsRun (plan script : Option (List ℕ)) (slots : ℕ) (old new : Option (List ℕ)) : Type 0 where
   pub store : List DiePlan
-  pub planned : IsStoreOf plan store
+  pub read : IsStoreOf plan store
   pub count : RunCount
-  pub ran : RunsText script store slots count old new
+  pub as_planned : RunsAsPlanned script store slots count old new
 
 -- why nothing is run
 abbrev pub RefusesRun : Option (List ℕ) → Option (List ℕ) → ℕ → Refusal → Type 0

@@ -137,8 +137,8 @@ fn audit<R: Read + Drop, W: Write>(alloc: Global, first: R, out: &mut W) -> Resu
 /// that of the script, which no other command than `run` reads.
 ///
 /// What it prints is what [`act`] says. `Certificate` comes exactly where a report was read and audited, its audit is
-/// printed whole, and some certificate is refused; any other error is a refusal. A refusal leaves `out` as it was, but for
-/// `WriteFault`: how much `out` took by then is not said.
+/// printed whole, and some certificate is refused; any other error is a refusal. A refusal leaves `out` as it was,
+/// but for `WriteFault`: how much `out` took by then is not said.
 pub fn carry_out<R: Threads + Wait + Sync, F: Read + Drop, S: Read + Drop, W: Write, E: Write>(
     rt: &R,
     alloc: Global,
@@ -168,16 +168,21 @@ pub fn carry_out<R: Threads + Wait + Sync, F: Read + Drop, S: Read + Drop, W: Wr
 
 /// Carries a command out, as [`carry_out`] does, tells why not in a line to `err`, and answers the status.
 ///
-/// `run` runs the script on the store of the plan by its workers, and prints the report of what became of it, which is the
-/// same for any number of them. Where rows were refused, `err` gets a line, as `refused 1 first line 6 with 6`. Without
-/// words the plan and the script are built in. `audit` prints for each die of the report the lateness and the job of its certificate, and whether it holds, as
+/// `run` runs the script on the store of the plan by its workers, and prints the report of what became of it, which is
+/// the same for any number of them. Without words the plan and the script are built in. On a die whose rows keep its
+/// plan, with times that pass their test, no lateness in the report is above 0, and no row is refused but for want of
+/// memory, or behind one that was. Where rows were refused, `err` gets a line, as `refused 1 first line 6 with 6`.
+///
+/// `audit` prints for each die of the report the lateness and the job of its certificate, and whether it holds, as
 /// `die 0 worst -1 job 0 holds` or `die 0 worst 0 job 1 refused 5 EarlyRelease`, or that it has none, as
-/// `die 0 no lateness`; the status is 3 where some certificate is refused. `plan` prints for each die the figures of
-/// its plan, as `die 0 fmax 7 closed 6 live 18 logical 12 accepted`; no more of the plan is read than 1,048,577 bytes.
+/// `die 0 no lateness`; the status is 3 where some certificate is refused.
+///
+/// `plan` prints for each die the figures of its plan, as `die 0 fmax 7 closed 6 live 18 logical 12 accepted`; no more
+/// of the plan is read than 1,048,577 bytes.
 ///
 /// Each text for `out` is made whole before its first byte. A refusal is told in a line to `err`, as
-/// `error 19 ScriptRow 6 Fields`, and the status is 1: nothing was written to `out`, or `out` failed. Where `err` fails, that
-/// is passed over. A run may wait for its workers.
+/// `error 19 ScriptRow 6 Fields`, and the status is 1: nothing was written to `out`, or `out` failed. Where `err`
+/// fails, that is passed over. A run may wait for its workers.
 pub fn act<R: Threads + Wait + Sync, F: Read + Drop, S: Read + Drop, W: Write, E: Write>(
     rt: &R,
     alloc: Global,
