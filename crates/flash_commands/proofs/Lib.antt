@@ -1,3 +1,4 @@
 mod KindLemmas
 mod PlanFronts
 mod Endings
+mod Unopened

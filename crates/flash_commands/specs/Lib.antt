@@ -4,3 +4,4 @@ pub mod Figures
 pub mod Audit
 pub mod Acts
 pub mod Faults
+pub mod Files

@@ -8,6 +8,7 @@ pub mod command_line;
 pub mod commands;
 pub mod faults;
 pub mod figures;
+pub mod files;
 pub mod plans;
 pub mod syntax;
 
@@ -15,3 +16,4 @@ pub use acts::{act, carry_out};
 pub use command_line::{show, words_of};
 pub use commands::{Command, read_words};
 pub use faults::{Fault, end};
+pub use files::{Disk, Folder, act_on};
