@@ -1,63 +1,100 @@
-//! Plays the examples: runs each script on its plan and prints the report, then audits the report that lies beside it.
+//! Plays the examples: carries out command lines on the files of the folder `data`, prints what each gives, and compares
+//! its status with the one that it is to end with.
 #![tactic(auto)]
 
-ghost use Rattle.std.specs.Prelude.{◌≤◌};
-
-use flash_commands::{Command, act};
-use slot_types::MAX_SLOT;
+use flash_commands::{Disk, Fault, act_on, read_words};
 use std::alloc::{AllocError, Global};
+use std::io;
 use std::io::Write;
 use std::process::ExitCode;
 use std::rt::Files;
 use std::sync::Wait;
 use std::thread::Threads;
-use std::{fs, io};
 
-/// How many workers run the dies of an example.
-const WORKERS: u32 = 2;
+/// Command lines, and the status that each is to end with.
+const PLAYS: [(&str, u8); 23] = [
+    ("flashrec", 0),
+    ("flashrec run one_die.toml one_die.csv --slots 2", 0),
+    (
+        "flashrec run two_dies.toml two_dies.csv --slots 5 --workers 2",
+        0,
+    ),
+    (
+        "flashrec run collections.toml collections.csv --slots 25",
+        0,
+    ),
+    (
+        "flashrec run refused_rows.toml refused_rows.csv --slots 4",
+        0,
+    ),
+    ("flashrec run missing.toml one_die.csv --slots 2", 1),
+    ("flashrec run one_die.toml missing.csv --slots 2", 1),
+    ("flashrec run one_die.csv one_die.toml --slots 2", 1),
+    ("flashrec run one_die.toml one_die.csv", 2),
+    ("flashrec audit one_die.report.csv", 0),
+    ("flashrec audit two_dies.report.csv", 0),
+    ("flashrec audit collections.report.csv", 0),
+    ("flashrec audit refused_rows.report.csv", 0),
+    ("flashrec audit two_dies.refused.csv", 3),
+    ("flashrec audit missing.report.csv", 1),
+    ("flashrec audit two_dies.toml", 1),
+    ("flashrec plan one_die.toml", 0),
+    ("flashrec plan two_dies.toml", 0),
+    ("flashrec plan collections.toml", 0),
+    ("flashrec plan refused_rows.toml", 0),
+    ("flashrec plan missing.toml", 1),
+    ("flashrec plan one_die.csv", 1),
+    ("flashrec plan one_die.report.csv", 1),
+];
 
-/// Prints the report of an example's script on its plan, as `flashrec run` does, and what the certificates of the report
-/// beside it come to, as `flashrec audit` does. Answers the greater status.
-fn play<R: Files + Threads + Wait + Sync, W: Write, E: Write>(
-    rt: &R,
-    alloc: Global,
-    name: &str,
-    slots: u32,
-    out: &mut W,
-    err: &mut E,
-) -> Result<u8, AllocError>
-    requires { slots ≤ MAX_SLOT }
-{
-    let plan = format!(in alloc; "{name}.toml")?;
-    let script = format!(in alloc; "{name}.csv")?;
-    let report = format!(in alloc; "{name}.report.csv")?;
-    let run = Command::Run {
-        plan: plan.as_str(),
-        script: script.as_str(),
-        slots,
-        workers: WORKERS,
-    };
-    let audit = Command::Audit {
-        report: report.as_str(),
-    };
-    let ran = match (fs::open(rt, plan.as_str()), fs::open(rt, script.as_str())) {
-        (Ok(first), Ok(second)) => act(rt, alloc, run, first, second, out, err),
-        _ => 1,
-    };
-    let audited = match fs::open(rt, report.as_str()) {
-        Ok(first) => act(rt, alloc, audit, first, io::empty(), out, err),
-        Err(_) => 1,
-    };
-    Ok(ran.max(audited))
+/// The words of a line.
+fn words_in(alloc: Global, line: &str) -> Result<Vec<String>, AllocError> {
+    let mut words = Vec::new(alloc);
+    for word in line.split(' ') {
+        words.push(String::from_str(alloc, word)?)?;
+    }
+    Ok(words)
 }
 
-fn main(rt: HostRuntime) -> Result<ExitCode, AllocError> {
-    let alloc = rt.alloc();
-    let (mut out, mut err) = (rt.stdout(), rt.stderr());
-    let one_die = play(&rt, alloc, "one_die", 2, &mut out, &mut err)?;
-    let two_dies = play(&rt, alloc, "two_dies", 5, &mut out, &mut err)?;
-    let collections = play(&rt, alloc, "collections", 25, &mut out, &mut err)?;
-    let refused_rows = play(&rt, alloc, "refused_rows", 4, &mut out, &mut err)?;
-    let worst = one_die.max(two_dies).max(collections).max(refused_rows);
-    Ok(ExitCode::from(worst))
+/// Carries out a command line, as `flashrec` does. Answers the status.
+fn status_of<R: Files + Threads + Wait + Sync, W: Write, E: Write>(
+    rt: &R,
+    alloc: Global,
+    line: &str,
+    out: &mut W,
+    err: &mut E,
+) -> Result<u8, AllocError> {
+    let words = words_in(alloc, line)?;
+    match read_words(alloc, words.as_slice()) {
+        Ok(command) => Ok(act_on(rt, alloc, &Disk::new(rt), command, out, err)),
+        Err(error) => Ok(Fault::Words(error).status()),
+    }
+}
+
+/// Prints a command line, what it gives, what it tells of a refusal, and its status. Answers whether that is the one that
+/// is wanted.
+fn play<R: Files + Threads + Wait + Sync, W: Write>(
+    rt: &R,
+    alloc: Global,
+    line: &str,
+    wanted: u8,
+    out: &mut W,
+) -> io::Result<bool> {
+    writeln!(out, "> {line}")?;
+    let mut err = Vec::new(alloc);
+    let status = status_of(rt, alloc, line, out, &mut err)?;
+    out.write_all(&err)?;
+    writeln!(out, "status {status}")?;
+    Ok(status == wanted)
+}
+
+fn main(rt: HostRuntime) -> io::Result<ExitCode> {
+    let mut out = rt.stdout();
+    let mut failed: u8 = 0;
+    for (line, wanted) in PLAYS {
+        if !play(&rt, rt.alloc(), line, wanted, &mut out)? {
+            failed = 1;
+        }
+    }
+    Ok(ExitCode::from(failed))
 }
