@@ -222,7 +222,8 @@ fn table(alloc: Global, text: &[u8]) -> Result<Table, Refusal>
     }
 }
 
-/// The numbers of a text.
+/// The numbers of a plan's text, which aren't judged beside others: a text that is read may still make no store. Refused as
+/// PlanText with the first fault of the text, as [`read_plan`](crate::read_plan) tells, or as NoMemory.
 pub fn plan_numbers(alloc: Global, text: &[u8]) -> Result<PlanNumbers, Refusal>
     ensures { Gives result (plan_of text.now) }
 {

@@ -93,8 +93,8 @@ fn times(alloc: Global, plan: &PlanNumbers, die: u32) -> Result<Option<Times>, A
     }
 }
 
-/// The plan of a die.
-fn die_plan(alloc: Global, plan: &PlanNumbers, die: u32) -> Result<DiePlan, AllocError>
+/// The plan of a die, by the numbers of a text. It isn't judged.
+pub fn die_plan(alloc: Global, plan: &PlanNumbers, die: u32) -> Result<DiePlan, AllocError>
     ensures { IfOk result (λ made. made ≡ die_of plan.now die) }
 {
     let caps = caps(alloc, plan.tasks.as_slice(), die)?;
