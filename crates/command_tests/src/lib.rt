@@ -9,6 +9,8 @@ mod command_line;
 #[cfg(test)]
 mod failing;
 #[cfg(test)]
+mod files;
+#[cfg(test)]
 mod printed;
 #[cfg(test)]
 mod running;

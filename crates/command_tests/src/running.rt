@@ -72,6 +72,17 @@ fn refused_rows_are_told_and_the_status_stays(rt: HostRuntime) {
 }
 
 #[test]
+fn one_refused_row_is_told_too(rt: HostRuntime) {
+    let script = "at,die,task,kind,release,due,ops\n0,0,0,job,0,2,R3\n1,0,0,job,1,3,R12\n";
+    let report = "row,die,job,task,release,due,work,completion,lateness,given,items
+job,0,0,0,0,2,1,1,-1,,ffffffffffffffffffffffffffffffff
+cert,0,0,,0,2,,1,-1,,0
+";
+    let printed = ran(&rt, rt.alloc(), PLAN.as_bytes(), script.as_bytes(), 1);
+    assert!(rt; printed.is(report, "refused 1 first line 3 with 8\n", 0));
+}
+
+#[test]
 fn a_script_at_fault_is_told_in_a_line(rt: HostRuntime) -> Result<(), Fail> {
     let alloc = rt.alloc();
     for (old, new, line) in [

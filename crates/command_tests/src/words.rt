@@ -5,7 +5,7 @@ use std::alloc::{AllocError, Global};
 use std::test::Fail;
 
 /// The words of a line.
-fn words_of(alloc: Global, line: &str) -> Result<Vec<String>, AllocError> {
+pub(crate) fn words_in(alloc: Global, line: &str) -> Result<Vec<String>, AllocError> {
     let mut words = Vec::new(alloc);
     for word in line.split(' ') {
         words.push(String::from_str(alloc, word)?)?;
@@ -48,7 +48,7 @@ fn words_name_a_command(rt: HostRuntime) -> Result<(), Fail> {
             },
         ),
     ] {
-        let words = words_of(alloc, line)?;
+        let words = words_in(alloc, line)?;
         let read = read_words(alloc, words.as_slice());
         assert!(rt; read.is_ok_and(|read| read == command), "{line}");
     }
@@ -75,7 +75,7 @@ fn other_words_end_with_two(rt: HostRuntime) -> Result<(), Fail> {
         "flashrec run p.toml s.csv --workers 2",
         "flashrec run p.toml s.csv --slots 5 --speed 3",
     ] {
-        let words = words_of(alloc, line)?;
+        let words = words_in(alloc, line)?;
         match read_words(alloc, words.as_slice()) {
             Ok(_) => assert!(rt; false, "{line}"),
             Err(error) => assert!(rt;
@@ -96,7 +96,7 @@ fn a_call_for_help_is_no_fault(rt: HostRuntime) -> Result<(), Fail> {
         "flashrec run -h",
         "flashrec help audit",
     ] {
-        let words = words_of(alloc, line)?;
+        let words = words_in(alloc, line)?;
         let read = read_words(alloc, words.as_slice());
         assert!(rt; read.is_err_and(|error| !error.use_stderr()), "{line}");
     }
@@ -106,7 +106,7 @@ fn a_call_for_help_is_no_fault(rt: HostRuntime) -> Result<(), Fail> {
 #[test]
 fn help_tells_what_a_run_needs(rt: HostRuntime) -> Result<(), Fail> {
     let alloc = rt.alloc();
-    let words = words_of(alloc, "flashrec run --help")?;
+    let words = words_in(alloc, "flashrec run --help")?;
     let Err(help) = read_words(alloc, words.as_slice()) else {
         assert!(rt; false);
         return Ok(());
@@ -135,7 +135,7 @@ Example: flashrec run plan.toml script.csv --slots 1000 --workers 2
 #[test]
 fn a_number_out_of_its_range_is_told(rt: HostRuntime) -> Result<(), Fail> {
     let alloc = rt.alloc();
-    let words = words_of(alloc, "flashrec run p.toml s.csv --slots 1048577")?;
+    let words = words_in(alloc, "flashrec run p.toml s.csv --slots 1048577")?;
     let Err(error) = read_words(alloc, words.as_slice()) else {
         assert!(rt; false);
         return Ok(());
