@@ -55,20 +55,18 @@ is_some_read (Some op) = is_read op
 abbrev pub reads_next : JobRecord → Bool
 reads_next job = is_some_read (slice_get job.ops job.work)
 
--- it has as many bytes as it carried reads, and room for those of all its reads
-pub record HasRoom (ops : List Op) (work len capacity : ℕ) : Type 0 where
-  pub len_is : len ≡ count_by is_read (take work ops)
-  pub room : count_by is_read ops ≤ capacity
+-- a job or a collection that has not begun
+abbrev pub accepted : Bool → ℕ → ℕ → ℕ → List Op → JobRecord
+accepted collects task release due ops =
+    record { collects = collects; task = task; release = release; due = due; ops = ops; work = 0; reads = []; stage = Pending }
 
 -- a job that has not begun
 abbrev pub new_job : ℕ → ℕ → ℕ → List Op → JobRecord
-new_job task release due ops =
-    record { collects = false; task = task; release = release; due = due; ops = ops; work = 0; reads = []; stage = Pending }
+new_job task release due ops = accepted false task release due ops
 
 -- a collection that has not begun
 abbrev pub new_collection : ℕ → ℕ → ℕ → JobRecord
-new_collection task release due =
-    record { collects = true; task = task; release = release; due = due; ops = []; work = 0; reads = []; stage = Pending }
+new_collection task release due = accepted true task release due []
 
 -- it took one more slot
 abbrev pub carried : JobRecord → JobRecord

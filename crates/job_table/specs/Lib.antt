@@ -1,4 +1,6 @@
 pub mod Jobs
+pub mod Words
+pub mod Flat
 pub mod Table
 pub mod Waivers
 pub mod Order

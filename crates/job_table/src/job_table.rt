@@ -1,13 +1,14 @@
 //! The jobs and collections of a die by number.
 
-ghost use Rattle.std.specs.Prelude.{◌≡◌, ◌<◌, ◌≤◌, ◌+◌, ◌^◌, ◌==◌, List, true, false, length, slice_get, option_copied, OnOk, IfOk, OnErr, IfErr, IfSome, IfNone};
+ghost use Rattle.std.specs.Prelude.{◌≡◌, ◌<◌, ◌≤◌, ◌+◌, ◌^◌, ◌==◌, List, true, false, length, slice_get, OnOk, IfOk, OnErr, IfErr, IfSome, IfNone};
 ghost use Rattle.job_table.specs.Jobs.{JobRecord, new_job, new_collection, carried, with_read, with_stage};
 ghost use Rattle.job_table.specs.Table.{empty_table, with_job, with_change, work_at, reads_next_at, is_collecting};
 ghost use Rattle.job_table.specs.Waivers.{AreWaived, WerePending, waived_in, stopped};
 ghost use Rattle.job_table.specs.Order.{IsHead, NothingReady};
 ghost use Rattle.job_table.specs.Worst.{IsWorst, NothingDone, lateness_at};
 
-use crate::changes::{end_job, push_job, take_back};
+use crate::changes::{end_job, take_back};
+use crate::flat_jobs::FlatJobs;
 use crate::jobs::Job;
 use crate::queues::Queues;
 use crate::stages::Stage;
@@ -23,7 +24,7 @@ use std::marker::Model;
 /// and `head` asked again; then the head carried, and finished with its last act.
 #[derive(Drop)]
 pub struct JobTable {
-    jobs: Vec<Job>,
+    jobs: FlatJobs,
     /// By task whether it has a pending collection.
     collecting: Vec<bool>,
     queues: Queues,
@@ -40,9 +41,9 @@ impl Model for JobTable {
 
     ghost Value = { Table };
 
-    ghost view = { λ t. record { tasks = length t.collecting.items; clock = t.clock; ended = t.ended; jobs = t.jobs.items } };
+    ghost view = { λ t. record { tasks = length t.collecting.items; clock = t.clock; ended = t.ended; jobs = t.jobs } };
 
-    ghost invariant = { λ t. IsSound t.jobs.items t.clock t.ended t.collecting.items t.queues t.worst };
+    ghost invariant = { λ t. IsSound t.jobs t.clock t.ended t.collecting.items t.queues t.worst };
 }
 
 impl JobTable {
@@ -52,7 +53,7 @@ impl JobTable {
         ensures refused { IfErr result (λ refusal. refusal ≡ Refusal.NoMemory) }
     {
         Ok(JobTable {
-            jobs: Vec::new(alloc),
+            jobs: FlatJobs::new(alloc),
             collecting: vec![in alloc; false; tasks as usize]?,
             queues: Queues::new(alloc),
             worst: None,
@@ -66,14 +67,14 @@ impl JobTable {
         ensures len { result ≡ length self.now.jobs }
         ensures few { result ≤ MAX_JOBS }
     {
-        self.jobs.len() as u32
+        self.jobs.len()
     }
 
     /// Whether there is none.
     pub fn is_empty(&self) -> bool
         ensures { result ≡ (length self.now.jobs == 0) }
     {
-        self.jobs.is_empty()
+        self.jobs.len() == 0
     }
 
     /// How many tasks there are.
@@ -98,10 +99,10 @@ impl JobTable {
     }
 
     /// The job or collection of a number, if there is one.
-    pub fn job(&self, number: JobNo) -> Option<&Job>
-        ensures { slice_get self.now.jobs number ≡ option_copied result }
+    pub fn job(&self, number: JobNo) -> Option<Job<'_>>
+        ensures { slice_get self.now.jobs number ≡ result }
     {
-        self.jobs.get(number.0 as usize)
+        self.jobs.get(number)
     }
 
     /// Whether a task has a collection that is neither done nor waived. It isn't asked of a die that has stopped.
@@ -121,7 +122,7 @@ impl JobTable {
         ensures none { IfNone result (NothingDone self.now.jobs) }
     {
         match self.worst {
-            Some(number) => Some((JobNo(number), self.jobs[number as usize].lateness())),
+            Some(number) => Some((JobNo(number), self.jobs.at(JobNo(number)).lateness())),
             None => None,
         }
     }
@@ -130,7 +131,7 @@ impl JobTable {
     /// that it will ever need is taken here: refused with `NoMemory`, the table stays as it was.
     pub fn add_job(
         &mut self,
-        alloc: Global,
+        _alloc: Global,
         task: TaskNo,
         release: u32,
         due: u32,
@@ -144,8 +145,7 @@ impl JobTable {
         ensures err { OnErr result (self.new ≡ self.old) }
     {
         self.queues.reserve()?;
-        let job = Job::new_job(alloc, task, release, due, ops)?;
-        let number = push_job(&mut self.jobs, job)?;
+        let number = self.jobs.push_job(task, release, due, ops.as_slice())?;
         self.queues.enter(self.clock, number, release, due);
         Ok(JobNo(number))
     }
@@ -154,7 +154,7 @@ impl JobTable {
     /// Refused with `NoMemory`, the table stays as it was.
     pub fn add_collection(
         &mut self,
-        alloc: Global,
+        _alloc: Global,
         task: TaskNo,
         release: u32,
         due: u32,
@@ -169,10 +169,7 @@ impl JobTable {
         ensures err { OnErr result (self.new ≡ self.old) }
     {
         self.queues.reserve()?;
-        let number = push_job(
-            &mut self.jobs,
-            Job::new_collection(alloc, task, release, due),
-        )?;
+        let number = self.jobs.push_collection(task, release, due)?;
         self.queues.enter(self.clock, number, release, due);
         self.collecting[task.0 as usize] = true;
         Ok(JobNo(number))
@@ -206,8 +203,7 @@ impl JobTable {
         ensures carried { self.new ≡ with_change self.old number carried }
         ensures head { IsHead self.new number }
     {
-        let job = &mut self.jobs[number.0 as usize];
-        job.carry();
+        self.jobs.carry(number);
     }
 
     /// The head took one more slot: its next operation, a read, gave these bytes.
@@ -219,8 +215,7 @@ impl JobTable {
         ensures carried { self.new ≡ with_change self.old number (λ job. with_read bytes (carried job)) }
         ensures head { IsHead self.new number }
     {
-        let job = &mut self.jobs[number.0 as usize];
-        job.carry_read(bytes);
+        self.jobs.carry_read(number, bytes);
     }
 
     /// The head is done: `completion` is 1 + its last slot, and `given` counts the pages that a collection gave its

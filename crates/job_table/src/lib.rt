@@ -1,13 +1,19 @@
 //! The jobs and collections of a die by number: who of them is ready, who is next, and who was done latest.
 #![tactic(auto)]
 
+mod arenas;
 mod changes;
+mod flat_jobs;
 pub mod job_table;
 pub mod jobs;
 mod queues;
+mod rows;
 pub mod stages;
 #[cfg(test)]
 mod tests;
+#[cfg(test)]
+mod twin;
+mod words;
 mod worst;
 
 pub use job_table::JobTable;

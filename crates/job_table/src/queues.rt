@@ -5,9 +5,9 @@ ghost use Rattle.due_queue.specs.Queue.{inserted, first_of, rest_of, IsRising};
 ghost use Rattle.due_queue.specs.Keys.{is_due_before, is_released_before};
 ghost use Rattle.job_table.specs.Queued.{AreQueued, AreLater};
 
-use crate::jobs::Job;
+use crate::flat_jobs::FlatJobs;
 use due_queue::{DueQueue, Key, WaitKey, WaitList};
-use slot_types::Refusal;
+use slot_types::{JobNo, Refusal};
 use std::alloc::Global;
 use std::marker::Model;
 
@@ -90,7 +90,7 @@ impl Queues {
     }
 
     /// Lets all go ahead that are released by `now`.
-    pub(crate) fn release_by(&mut self, jobs: &[Job], now: u32)
+    pub(crate) fn release_by(&mut self, jobs: &FlatJobs, now: u32)
         requires { AreQueued jobs.now now self.old.waiting self.old.ready }
         ensures queued { AreQueued jobs.now now self.new.waiting self.new.ready }
         ensures later { AreLater now self.new.waiting }
@@ -98,7 +98,7 @@ impl Queues {
     {
         while let Some(key) = self.waiting.pop_released(now) {
             let number = key.number;
-            let due = jobs[number as usize].due();
+            let due = jobs.at(JobNo(number)).due();
             self.ready.insert(Key { due, number });
         }
     }

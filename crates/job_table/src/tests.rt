@@ -4,9 +4,11 @@ ghost use Rattle.std.specs.Prelude.{◌≡◌, slice_get, option_map};
 
 use crate::job_table::JobTable;
 use crate::jobs::Job;
+use crate::rows::Row;
 use crate::stages::Stage;
 use slot_types::{JobNo, MAX_JOBS, Op, OpList, PageData, Refusal, TaskNo, Waived};
 use std::alloc::Global;
+use std::mem::size_of;
 use std::test::Fail;
 
 /// Accepts a job of task 0, where the table takes one.
@@ -35,7 +37,7 @@ fn run_slot(table: &mut JobTable, now: u32) -> Option<JobNo> {
     }
     let number = table.head(now)?;
     let (work, count, next) = match table.job(number) {
-        Some(job) => (job.work(), job.ops().len(), job.op(job.work())),
+        Some(job) => (job.work(), job.op_count(), job.next_op()),
         None => return None,
     };
     if work >= 1_000 {
@@ -127,9 +129,9 @@ fn stages(table: &JobTable) -> [Option<Stage>; 3] {
 }
 
 /// Of a job: its task, its release, its due and its slots so far.
-type Row = (u32, u32, u32, u32);
+type RowOf = (u32, u32, u32, u32);
 
-fn row_of(job: &Job) -> Row {
+fn row_of(job: &Job) -> RowOf {
     (job.task().0, job.release(), job.due(), job.work())
 }
 
@@ -152,7 +154,7 @@ enum Step<'a> {
     /// The slot last asked for, whether there is no job, and whether the die has stopped.
     Is(u32, bool, bool),
     /// Job 0 has this row, collects or not, and is pending or not.
-    Row(Row, bool, bool),
+    Row(RowOf, bool, bool),
     /// Job 0 has these operations at places 1 and 2.
     Ops([Option<Op>; 2]),
     /// The reads of job 0 gave these pages.
@@ -191,7 +193,7 @@ fn goes(table: &mut JobTable, alloc: Global, step: &Step) -> bool {
             (table.clock() == *clock) & (table.is_empty() == *is_empty) & (table.ended() == *ended)
         }
         _ => match table.job(JobNo(0)) {
-            Some(job) => is_so(job, step),
+            Some(job) => is_so(&job, step),
             None => false,
         },
     }
@@ -289,5 +291,11 @@ fn a_job_keeps_what_its_reads_gave(rt: HostRuntime) -> Result<(), Fail> {
         Step::Gave(&[BYTES]),
     ];
     assert_eq!(rt; first_wrong(rt.alloc(), 1, STEPS)?, None);
+    Ok(())
+}
+
+#[test]
+fn a_job_takes_forty_eight_bytes_besides_its_operations(rt: HostRuntime) -> Result<(), Fail> {
+    assert_eq!(rt; size_of::<Row>(), 48);
     Ok(())
 }

@@ -3,17 +3,24 @@
 ghost use Rattle.std.specs.Prelude.{◌≡◌, MatchOption};
 ghost use Rattle.job_table.specs.Worst.{is_worse, IsWorst, IsDoneAt, IsWorstBeside, NothingDoneBeside};
 
+use crate::flat_jobs::FlatJobs;
 use crate::jobs::Job;
+use slot_types::JobNo;
 
 /// The worst, where one has just been done and the others' worst is known.
-pub(crate) fn worse_of(jobs: &[Job], worst: Option<u32>, number: u32) -> u32
+pub(crate) fn worse_of(jobs: &FlatJobs, worst: Option<u32>, number: u32) -> u32
     requires done { IsDoneAt jobs.now number }
     requires others { MatchOption worst (NothingDoneBeside jobs.now number) (IsWorstBeside jobs.now number) }
     ensures { IsWorst jobs.now result }
 {
     match worst {
         Some(other) => {
-            if is_worse(number, &jobs[number as usize], other, &jobs[other as usize]) {
+            if is_worse(
+                number,
+                &jobs.at(JobNo(number)),
+                other,
+                &jobs.at(JobNo(other)),
+            ) {
                 number
             } else {
                 other

@@ -107,7 +107,7 @@ impl<N: Nand> DieCore<N> {
     {
         match self.table.job(job) {
             None => Err(Refusal::UnknownJob),
-            Some(kept) => outcome_in(alloc, kept),
+            Some(kept) => outcome_in(alloc, &kept),
         }
     }
 
@@ -119,7 +119,7 @@ impl<N: Nand> DieCore<N> {
     {
         match self.table.job(number) {
             None => Err(Refusal::UnknownJob),
-            Some(kept) => Ok(head_in(kept)),
+            Some(kept) => Ok(head_in(&kept)),
         }
     }
 

@@ -49,7 +49,7 @@ fn choose<N: Nand>(
             return None;
         };
         let waived = match table.job(number) {
-            Some(job) => begin(volume, job),
+            Some(job) => begin(volume, &job),
             None => unreachable!(),
         };
         match waived {
@@ -103,7 +103,7 @@ fn carry_out<N: Nand>(
     };
     let place = work_of(table, number);
     let turn = match table.job(number) {
-        Some(job) => take_turn(volume, job),
+        Some(job) => take_turn(volume, &job),
         None => unreachable!(),
     };
     match turn {

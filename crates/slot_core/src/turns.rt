@@ -62,14 +62,14 @@ fn operate_next<N: Nand>(volume: &mut Volume<N>, job: &Job) -> Result<Turn, Refu
     ensures failures { (result ≡ Err Refusal.DeviceFault) ↔ (N.failures volume.new.device ≡ N.failures volume.old.device + 1) }
     ensures never { N.never_fails ≡ true → IsOk result }
 {
-    let Some(op) = job.op(job.work()) else {
+    let Some(op) = job.next_op() else {
         unreachable!()
     };
     match operate(volume, job.task(), op) {
         Err(refusal) => Err(refusal),
         Ok(act) => Ok(Turn {
             act,
-            last: job.work() as usize + 1 == job.ops().len(),
+            last: job.work() as usize + 1 == job.op_count(),
             given: 0,
         }),
     }

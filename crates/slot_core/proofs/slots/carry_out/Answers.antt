@@ -63,7 +63,7 @@ returns-in_default-clause-answered g c =
 
 pub take_turn-turn-requires-clause-fits : goal.take_turn-turn-requires-clause-fits
 take_turn-turn-requires-clause-fits g c =
-    head_fits g.N.Nand.blocks g.log c.args.present c.choose.new.told c.choose.new.table c.in-Some.number c.choose.new.volume c.in-Some-job.job.now c.in-Some.ensures.turn c.in-Some-job.ensures
+    head_fits g.N.Nand.blocks g.log c.args.present c.choose.new.told c.choose.new.table c.in-Some.number c.choose.new.volume c.in-Some-job.job c.in-Some.ensures.turn c.in-Some-job.ensures
 
 pub stop-requires : goal.stop-requires
 stop-requires g c =
@@ -76,33 +76,33 @@ note_turn-requires-clause-room g c =
 
 pub note_turn-requires-clause-reads : goal.note_turn-requires-clause-reads
 note_turn-requires-clause-reads g c =
-    turn_reads g.N.Nand.blocks g.log c.args.present c.choose.new.told c.choose.new.table c.in-Some.number c.choose.new.volume c.take_turn-turn.new.volume c.in-Some-job.job.now c.in-Ok.turn c.in-Some.ensures.turn c.in-Some-job.ensures c.in-Ok.ensures.did
+    turn_reads g.N.Nand.blocks g.log c.args.present c.choose.new.told c.choose.new.table c.in-Some.number c.choose.new.volume c.take_turn-turn.new.volume c.in-Some-job.job c.in-Ok.turn c.in-Some.ensures.turn c.in-Some-job.ensures c.in-Ok.ensures.did
 
 pub push_reserved-requires-in-Ok-clause-few : goal.push_reserved-requires-in-Ok-clause-few
 push_reserved-requires-in-Ok-clause-few g c = few_of c.args.volume.now.accounts.plan c.args.table.now.jobs c.args.events.now.notes g.log c.requires.1.1.0 c.requires.1.1.1.1.1.1.1.1.exact c.requires.1.1.1.0
 
 pub returns-in-Ok-clause-logged : goal.returns-in-Ok-clause-logged
-returns-in-Ok-clause-logged g c = (turn_told g.N.Nand.blocks c.args.table.now.jobs c.args.events.now.notes c.push_reserved-in-Ok.new.self.notes g.log c.args.caller c.args.present c.work_of-place.result c.choose.new.told c.choose.new.table c.note_turn.new.table c.in-Some.number c.in-Some-job.job.now c.choose.new.volume c.take_turn-turn.new.volume c.in-Ok.turn c.deed_of-deed.result c.turn_reply.result
+returns-in-Ok-clause-logged g c = (turn_told g.N.Nand.blocks c.args.table.now.jobs c.args.events.now.notes c.push_reserved-in-Ok.new.self.notes g.log c.args.caller c.args.present c.work_of-place.result c.choose.new.told c.choose.new.table c.note_turn.new.table c.in-Some.number c.in-Some-job.job c.choose.new.volume c.take_turn-turn.new.volume c.in-Ok.turn c.deed_of-deed.result c.turn_reply.result
     c.requires.1.1.0 c.requires.1.1.1.0
     (slot_grew c.args.volume.now.accounts.plan c.choose.new.volume.accounts.plan g.log c.args.table.now.jobs c.choose.new.table.jobs c.choose.new.told c.in-Some.ensures.plan c.requires.1.1.1.1.1.1.1.1.jobs_are c.in-Some.ensures.turn.table.were)
-    c.requires.1.1.1.1.1.1.1.1.now_is c.in-Some-job.ensures c.in-Ok.ensures.did (c.work_of-place.ensures.reads c.in-Some-job.job.now c.in-Some-job.ensures) (c.work_of-place.ensures.work ∙ ap work_of c.in-Some-job.ensures)
+    c.requires.1.1.1.1.1.1.1.1.now_is c.in-Some-job.ensures c.in-Ok.ensures.did (c.work_of-place.ensures.reads c.in-Some-job.job c.in-Some-job.ensures) (c.work_of-place.ensures.work ∙ ap work_of c.in-Some-job.ensures)
     c.note_turn.ensures c.deed_of-deed.ensures (c.push_reserved-in-Ok.ensures.events ∙ ap (λ (ws : List Waived). record { caller = c.args.caller; deed = c.deed_of-deed.result; waived = ws } ∷ c.args.events.now.notes) c.as_slice-in-Ok.ensures) c.turn_reply.ensures).tells
 
 pub returns-in-Ok-clause-fit : goal.returns-in-Ok-clause-fit
-returns-in-Ok-clause-fit g c = (turn_told g.N.Nand.blocks c.args.table.now.jobs c.args.events.now.notes c.push_reserved-in-Ok.new.self.notes g.log c.args.caller c.args.present c.work_of-place.result c.choose.new.told c.choose.new.table c.note_turn.new.table c.in-Some.number c.in-Some-job.job.now c.choose.new.volume c.take_turn-turn.new.volume c.in-Ok.turn c.deed_of-deed.result c.turn_reply.result
+returns-in-Ok-clause-fit g c = (turn_told g.N.Nand.blocks c.args.table.now.jobs c.args.events.now.notes c.push_reserved-in-Ok.new.self.notes g.log c.args.caller c.args.present c.work_of-place.result c.choose.new.told c.choose.new.table c.note_turn.new.table c.in-Some.number c.in-Some-job.job c.choose.new.volume c.take_turn-turn.new.volume c.in-Ok.turn c.deed_of-deed.result c.turn_reply.result
     c.requires.1.1.0 c.requires.1.1.1.0
     (slot_grew c.args.volume.now.accounts.plan c.choose.new.volume.accounts.plan g.log c.args.table.now.jobs c.choose.new.table.jobs c.choose.new.told c.in-Some.ensures.plan c.requires.1.1.1.1.1.1.1.1.jobs_are c.in-Some.ensures.turn.table.were)
-    c.requires.1.1.1.1.1.1.1.1.now_is c.in-Some-job.ensures c.in-Ok.ensures.did (c.work_of-place.ensures.reads c.in-Some-job.job.now c.in-Some-job.ensures) (c.work_of-place.ensures.work ∙ ap work_of c.in-Some-job.ensures)
+    c.requires.1.1.1.1.1.1.1.1.now_is c.in-Some-job.ensures c.in-Ok.ensures.did (c.work_of-place.ensures.reads c.in-Some-job.job c.in-Some-job.ensures) (c.work_of-place.ensures.work ∙ ap work_of c.in-Some-job.ensures)
     c.note_turn.ensures c.deed_of-deed.ensures (c.push_reserved-in-Ok.ensures.events ∙ ap (λ (ws : List Waived). record { caller = c.args.caller; deed = c.deed_of-deed.result; waived = ws } ∷ c.args.events.now.notes) c.as_slice-in-Ok.ensures) c.turn_reply.ensures).fits
 
 pub returns-in-Ok-clause-kept : goal.returns-in-Ok-clause-kept
-returns-in-Ok-clause-kept g c = (turn_kept g.N.Nand.blocks g.log (log_of c.note_turn.new.table c.push_reserved-in-Ok.new.self.notes) c.args.present c.args.caller c.choose.new.told c.choose.new.table c.note_turn.new.table c.in-Some.number c.choose.new.volume c.take_turn-turn.new.volume c.in-Some-job.job.now c.in-Ok.turn c.turn_reply.result
+returns-in-Ok-clause-kept g c = (turn_kept g.N.Nand.blocks g.log (log_of c.note_turn.new.table c.push_reserved-in-Ok.new.self.notes) c.args.present c.args.caller c.choose.new.told c.choose.new.table c.note_turn.new.table c.in-Some.number c.choose.new.volume c.take_turn-turn.new.volume c.in-Some-job.job c.in-Ok.turn c.turn_reply.result
     c.in-Some.ensures.turn c.in-Some-job.ensures c.in-Ok.ensures.did c.in-Ok.ensures.plan c.in-Ok.ensures.well c.note_turn.ensures c.turn_reply.ensures (returns-in-Ok-clause-logged g c)).0
 
 pub returns-in-Ok-clause-answered : goal.returns-in-Ok-clause-answered
 returns-in-Ok-clause-answered g c =
     ap (λ (p : DiePlan). answer p g.log Slot) (sym c.in-Some.ensures.plan)
-    ∙ (turn_kept g.N.Nand.blocks g.log (log_of c.note_turn.new.table c.push_reserved-in-Ok.new.self.notes) c.args.present c.args.caller c.choose.new.told c.choose.new.table c.note_turn.new.table c.in-Some.number c.choose.new.volume c.take_turn-turn.new.volume c.in-Some-job.job.now c.in-Ok.turn c.turn_reply.result
+    ∙ (turn_kept g.N.Nand.blocks g.log (log_of c.note_turn.new.table c.push_reserved-in-Ok.new.self.notes) c.args.present c.args.caller c.choose.new.told c.choose.new.table c.note_turn.new.table c.in-Some.number c.choose.new.volume c.take_turn-turn.new.volume c.in-Some-job.job c.in-Ok.turn c.turn_reply.result
     c.in-Some.ensures.turn c.in-Some-job.ensures c.in-Ok.ensures.did c.in-Ok.ensures.plan c.in-Ok.ensures.well c.note_turn.ensures c.turn_reply.ensures (returns-in-Ok-clause-logged g c)).1
 
 -- Room for the waivers

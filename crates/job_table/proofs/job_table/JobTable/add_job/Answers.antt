@@ -12,11 +12,11 @@ invariant_of-self-2 c =
     let few = subst (λ (t : Table). length t.jobs < MAX_JOBS) (sym c.self.view_is) c.requires.few in
     let waiting = rw (c.in_ok-number.ensures.number, c.in_ok-reserve.ensures.waiting) at c.enter.ensures.waiting in
     let ready = rw (c.in_ok-number.ensures.number, c.in_ok-reserve.ensures.ready) at c.enter.ensures.ready in
-    rw (c.in_ok-number.ensures.ok, c.in_ok-job.ensures)
-    (job_sound c.self.inside.jobs.items job c.self.inside.clock c.self.inside.ended c.self.inside.collecting.items c.self.inside.queues c.enter.new.self c.self.inside.worst
+    rw (c.in_ok-number.ensures.ok, c.as_slice.ensures)
+    (job_sound c.self.inside.jobs job c.self.inside.clock c.self.inside.ended c.self.inside.collecting.items c.self.inside.queues c.enter.new.self c.self.inside.worst
     few refl refl
     (λ runs. let r = c.self.invariant.running runs in
-    has_entered c.self.inside.jobs.items job c.self.inside.clock c.self.inside.queues.waiting c.enter.new.self.waiting c.self.inside.queues.ready c.enter.new.self.ready
+    has_entered c.self.inside.jobs job c.self.inside.clock c.self.inside.queues.waiting c.enter.new.self.waiting c.self.inside.queues.ready c.enter.new.self.ready
     refl waiting ready r.queued r.later)
     c.self.invariant)
 
@@ -25,11 +25,11 @@ enter-requires-clause-not_waiting c =
     let runs = subst (λ (t : Table). t.ended ≡ false) (sym c.self.view_is) c.requires.running in
     let r = c.self.invariant.running runs in
     rw (c.in_ok-reserve.ensures.waiting, c.in_ok-number.ensures.number)
-    (not_waiting c.self.inside.jobs.items c.self.inside.clock c.self.inside.queues.waiting c.self.inside.queues.ready c.args.release r.queued)
+    (not_waiting c.self.inside.jobs c.self.inside.clock c.self.inside.queues.waiting c.self.inside.queues.ready c.args.release r.queued)
 
 pub enter-requires-clause-not_ready : goal.enter-requires-clause-not_ready
 enter-requires-clause-not_ready c =
     let runs = subst (λ (t : Table). t.ended ≡ false) (sym c.self.view_is) c.requires.running in
     let r = c.self.invariant.running runs in
     rw (c.in_ok-reserve.ensures.ready, c.in_ok-number.ensures.number)
-    (not_ready c.self.inside.jobs.items c.self.inside.clock c.self.inside.queues.waiting c.self.inside.queues.ready c.args.due r.queued)
+    (not_ready c.self.inside.jobs c.self.inside.clock c.self.inside.queues.waiting c.self.inside.queues.ready c.args.due r.queued)

@@ -9,7 +9,7 @@ returns-clause-head c =
       | in-Some w ↦
           rw w.result-is
           (number_is_head _ c.release_by.new.self.waiting c.release_by.new.self.ready w.in-Some.number
-          (rw c.deref.ensures.value at c.release_by.ensures.queued) c.release_by.ensures.later c.first.ensures.rising (sym w.in-Some.is ∙ c.first.ensures.first))
+          c.release_by.ensures.queued c.release_by.ensures.later c.first.ensures.rising (sym w.in-Some.is ∙ c.first.ensures.first))
       | in-None w ↦ rw w.result-is tt
     ]
 
@@ -19,6 +19,6 @@ returns-clause-idle c =
       | in-Some w ↦ rw w.result-is tt
       | in-None w ↦
           rw w.result-is
-          (no_number_ready (record { tasks = 0; clock = c.args.now; ended = false; jobs = c.self.inside.jobs.items }) c.release_by.new.self.waiting c.release_by.new.self.ready
-          (rw c.deref.ensures.value at c.release_by.ensures.queued) c.release_by.ensures.later (sym w.in-None.is ∙ c.first.ensures.first))
+          (no_number_ready (record { tasks = 0; clock = c.args.now; ended = false; jobs = c.self.inside.jobs }) c.release_by.new.self.waiting c.release_by.new.self.ready
+          c.release_by.ensures.queued c.release_by.ensures.later (sym w.in-None.is ∙ c.first.ensures.first))
     ]

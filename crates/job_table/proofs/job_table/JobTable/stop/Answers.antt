@@ -10,7 +10,7 @@ invariant_of-self c =
     rw c.take_back.ensures (record {
       few = rw length-without_waivers c.self.invariant.few;
       running = λ e. absurd cc;
-      worst_is = without_worst c.self.inside.jobs.items c.args.waived.now c.self.inside.worst (undone-waived c.self.inside.jobs.items c.args.waived.now waived) c.self.invariant.worst_is;
+      worst_is = without_worst c.self.inside.jobs c.args.waived.now c.self.inside.worst (undone-waived c.self.inside.jobs c.args.waived.now waived) c.self.invariant.worst_is;
     })
 
 pub returns-clause-as_before : goal.returns-clause-as_before

@@ -1,0 +1,90 @@
+//! The operations of all jobs.
+
+ghost use Rattle.std.specs.Prelude.{◌≡◌, ◌+◌, ◌<◌, ◌≤◌, ◌++◌, Some, [], length, take, count_by, slice_get, OnOk, OnErr, IfErr};
+ghost use Rattle.job_table.specs.Jobs.{is_read};
+
+use crate::words::{count_reads_in, have_words, is_read_in, page_in, push_bytes, push_words};
+use slot_types::{Op, PageData, Refusal};
+use std::alloc::Global;
+use std::marker::Model;
+
+/// Operations, one behind another. One takes four bytes, and one that isn't a read those of its page besides: these stand in
+/// the order of their operations, so that the place of an operation's bytes is the number of operations before it that
+/// aren't reads.
+#[derive(Drop)]
+pub(crate) struct OpArena {
+    words: Vec<u32>,
+    bytes: Vec<PageData>,
+}
+
+impl Model for OpArena {
+    ghost use Rattle.std.specs.Prelude.{List};
+    ghost use Rattle.slot_types.specs.declared.events.Op.{Op};
+    ghost use Rattle.job_table.specs.Words.{ops_of, HasBytes};
+
+    ghost Value = { List Op };
+
+    ghost view = { λ a. ops_of a.words.items a.bytes.items };
+
+    ghost invariant = { λ a. HasBytes a.words.items a.bytes.items };
+}
+
+impl OpArena {
+    /// No operation. It takes no memory.
+    pub(crate) fn new(alloc: Global) -> OpArena
+        ensures { result ≡ [] }
+    {
+        OpArena {
+            words: Vec::new(alloc),
+            bytes: Vec::new(alloc),
+        }
+    }
+
+    /// How many operations there are.
+    pub(crate) fn len(&self) -> usize
+        ensures { result ≡ length self.now }
+    {
+        self.words.len()
+    }
+
+    /// The operation at a place, which has so many reads before it.
+    pub(crate) fn get(&self, place: usize, reads: usize) -> Op
+        requires there { place < length self.now }
+        requires reads { reads ≡ count_by is_read (take place self.now) }
+        ensures { slice_get self.now place ≡ Some result }
+    {
+        let word = self.words[place];
+        if is_read_in(word) {
+            Op::Read(page_in(word))
+        } else {
+            Op::Write(page_in(word), self.bytes[place - reads])
+        }
+    }
+
+    /// How many reads there are from one place to before another.
+    pub(crate) fn count_reads(&self, from: usize, to: usize) -> usize
+        requires rise { from ≤ to }
+        requires there { to ≤ length self.now }
+        ensures { count_by is_read (take from self.now) + result ≡ count_by is_read (take to self.now) }
+    {
+        count_reads_in(&self.words[from..to])
+    }
+
+    /// Adds operations, of which so many are reads. Refused with `NoMemory`, none is added; that is also the answer where a
+    /// page leaves no room in its word, which is so from 2^30 on.
+    pub(crate) fn push_all(&mut self, ops: &[Op], reads: usize) -> Result<(), Refusal>
+        requires { reads ≡ count_by is_read ops.now }
+        ensures ok { OnOk result (self.new ≡ self.old ++ ops.now) }
+        ensures refused { IfErr result (λ refusal. refusal ≡ Refusal.NoMemory) }
+        ensures err { OnErr result (self.new ≡ self.old) }
+    {
+        if !have_words(ops) {
+            return Err(Refusal::NoMemory);
+        }
+        self.words.reserve(ops.len())?;
+        self.bytes.reserve(ops.len() - reads)?;
+        push_words(&mut self.words, ops);
+        push_bytes(&mut self.bytes, ops);
+        Ok(())
+    }
+}

@@ -1,0 +1,206 @@
+//! The jobs and collections of a table by number, without a list of their own each.
+
+ghost use Rattle.std.specs.Prelude.{◌≡◌, ◌+◌, ◌<◌, ◌≤◌, ◌^◌, ◌∷◌, ◌++◌, [], true, false, Some, length, slice_get, replicate, vec_len, vec_capacity, OnOk, IfOk, OnErr, IfErr};
+ghost use Rattle.slot_types.specs.declared.limits.TheConstants.{MAX_JOBS};
+ghost use Rattle.job_table.specs.Jobs.{JobRecord, new_job, new_collection, accepted, carried, with_read, with_stage};
+ghost use Rattle.job_table.specs.Table.{changed_at, work_at, reads_next_at};
+ghost use Rattle.job_table.specs.Words.{blank};
+
+use crate::arenas::OpArena;
+use crate::jobs::{Job, count_reads};
+use crate::rows::Row;
+use crate::stages::Stage;
+use slot_types::{JobNo, Op, PageData, Refusal, TaskNo};
+use std::alloc::Global;
+use std::marker::Model;
+
+/// Jobs and collections by number. A row names operations and reads by their places in arenas, so accepting a job moves no
+/// memory but that of a list that grows, and letting all go is letting five lists go.
+#[derive(Drop)]
+pub(crate) struct FlatJobs {
+    rows: Vec<Row>,
+    ops: OpArena,
+    /// A place for each read of all jobs, from acceptance on.
+    reads: Vec<PageData>,
+}
+
+impl Model for FlatJobs {
+    ghost use Rattle.std.specs.Prelude.{List};
+    ghost use Rattle.job_table.specs.Jobs.{JobRecord};
+
+    ghost Value = { List JobRecord };
+
+    ghost use Rattle.job_table.specs.Flat.{jobs_at, AreLaid};
+
+    ghost view = { λ j. jobs_at j.ops j.reads.items j.rows.items };
+
+    ghost invariant = { λ j. AreLaid j.rows.items j.ops j.reads.items };
+}
+
+/// A length of an arena as a row keeps it. What 32 bits can't count finds no memory.
+fn count_in_row(len: usize) -> Result<u32, Refusal>
+    ensures ok { IfOk result (λ count. count ≡ len) }
+    ensures refused { IfErr result (λ refusal. refusal ≡ Refusal.NoMemory) }
+{
+    if len > u32::MAX as usize {
+        return Err(Refusal::NoMemory);
+    }
+    Ok(len as u32)
+}
+
+/// Adds so many places, in room that was made.
+fn push_places(reads: &mut Vec<PageData>, count: usize)
+    requires room { vec_len reads.old + count ≤ vec_capacity reads.old }
+    ensures { reads.new.items ≡ reads.old.items ++ replicate count blank }
+{
+    for _place in 0..count {
+        reads.push_reserved(PageData::BLANK);
+    }
+}
+
+impl FlatJobs {
+    /// No job. It takes no memory.
+    pub(crate) fn new(alloc: Global) -> FlatJobs
+        ensures { result ≡ [] }
+    {
+        FlatJobs {
+            rows: Vec::new(alloc),
+            ops: OpArena::new(alloc),
+            reads: Vec::new(alloc),
+        }
+    }
+
+    /// How many there are.
+    pub(crate) fn len(&self) -> u32
+        requires { length self.now < 2 ^ 32 }
+        ensures { result ≡ length self.now }
+    {
+        self.rows.len() as u32
+    }
+
+    /// The one of a number, if there is one.
+    pub(crate) fn get(&self, number: JobNo) -> Option<Job<'_>>
+        ensures { slice_get self.now number ≡ result }
+    {
+        if number.0 as usize >= self.rows.len() {
+            return None;
+        }
+        Some(self.at(number))
+    }
+
+    /// The one of a number that is there.
+    pub(crate) fn at(&self, number: JobNo) -> Job<'_>
+        requires { number < length self.now }
+        ensures { slice_get self.now number ≡ Some result }
+    {
+        Job {
+            ops: &self.ops,
+            reads: self.reads.as_slice(),
+            row: &self.rows[number.0 as usize],
+        }
+    }
+
+    /// Adds a job that has not begun, and answers its number. It takes all memory that the job will ever need. Refused with
+    /// `NoMemory`, all stay as they were.
+    pub(crate) fn push_job(
+        &mut self,
+        task: TaskNo,
+        release: u32,
+        due: u32,
+        ops: &[Op],
+    ) -> Result<u32, Refusal>
+        requires { length self.old < MAX_JOBS }
+        ensures ok { OnOk result (self.new ≡ self.old ++ new_job task release due ops.now ∷ []) }
+        ensures number { IfOk result (λ number. number ≡ length self.old) }
+        ensures refused { IfErr result (λ refusal. refusal ≡ Refusal.NoMemory) }
+        ensures err { OnErr result (self.new ≡ self.old) }
+    {
+        self.push(false, task, release, due, ops)
+    }
+
+    /// Adds a collection that has not begun, and answers its number. Refused with `NoMemory`, all stay as they were.
+    pub(crate) fn push_collection(
+        &mut self,
+        task: TaskNo,
+        release: u32,
+        due: u32,
+    ) -> Result<u32, Refusal>
+        requires { length self.old < MAX_JOBS }
+        ensures ok { OnOk result (self.new ≡ self.old ++ new_collection task release due ∷ []) }
+        ensures number { IfOk result (λ number. number ≡ length self.old) }
+        ensures refused { IfErr result (λ refusal. refusal ≡ Refusal.NoMemory) }
+        ensures err { OnErr result (self.new ≡ self.old) }
+    {
+        self.push(true, task, release, due, &[])
+    }
+
+    fn push(
+        &mut self,
+        collects: bool,
+        task: TaskNo,
+        release: u32,
+        due: u32,
+        ops: &[Op],
+    ) -> Result<u32, Refusal>
+        requires { length self.old < MAX_JOBS }
+        ensures ok { OnOk result (self.new ≡ self.old ++ accepted collects task release due ops.now ∷ []) }
+        ensures number { IfOk result (λ number. number ≡ length self.old) }
+        ensures refused { IfErr result (λ refusal. refusal ≡ Refusal.NoMemory) }
+        ensures err { OnErr result (self.new ≡ self.old) }
+    {
+        let reads = count_reads(ops);
+        let row = Row {
+            task,
+            release,
+            due,
+            first_op: count_in_row(self.ops.len())?,
+            op_count: count_in_row(ops.len())?,
+            first_read: count_in_row(self.reads.len())?,
+            reads_done: 0,
+            work: 0,
+            stage: Stage::Pending,
+            collects,
+        };
+        self.rows.reserve(1)?;
+        self.reads.reserve(reads)?;
+        self.ops.push_all(ops, reads)?;
+        push_places(&mut self.reads, reads);
+        let number = self.rows.len() as u32;
+        self.rows.push_reserved(row);
+        Ok(number)
+    }
+
+    /// It took one more slot, which wasn't a read of a job.
+    pub(crate) fn carry(&mut self, number: JobNo)
+        requires there { number < length self.old }
+        requires reads { reads_next_at self.old number ≡ false }
+        requires room { work_at self.old number + 1 < 2 ^ 32 }
+        ensures { self.new ≡ changed_at self.old number carried }
+    {
+        let row = &mut self.rows[number.0 as usize];
+        row.work += 1;
+    }
+
+    /// It took one more slot, in which its read gave these bytes.
+    pub(crate) fn carry_read(&mut self, number: JobNo, bytes: PageData)
+        requires there { number < length self.old }
+        requires reads { reads_next_at self.old number ≡ true }
+        requires room { work_at self.old number + 1 < 2 ^ 32 }
+        ensures { self.new ≡ changed_at self.old number (λ job. with_read bytes (carried job)) }
+    {
+        let row = &mut self.rows[number.0 as usize];
+        let place = row.first_read as usize + row.reads_done as usize;
+        row.reads_done += 1;
+        row.work += 1;
+        self.reads[place] = bytes;
+    }
+
+    /// It stands otherwise from now on.
+    pub(crate) fn set_stage(&mut self, number: JobNo, stage: Stage)
+        requires { number < length self.old }
+        ensures { self.new ≡ changed_at self.old number (with_stage stage) }
+    {
+        let row = &mut self.rows[number.0 as usize];
+        row.stage = stage;
+    }
+}
