@@ -9,3 +9,7 @@ pub mod Driving
 pub mod Bringing
 pub mod Clocking
 pub mod Gathering
+pub mod Transcripts
+pub mod SlotCalls
+pub mod RunAlone
+pub mod PlannedFeeds

@@ -5,3 +5,4 @@ pub mod Passes
 pub mod Stores
 pub mod Runs
 pub mod Drives
+pub mod PlannedRuns

@@ -31,7 +31,7 @@ pub use die::{Die, DiePass};
 pub use ends::{DieEnd, DieEnds, RefusedEvent, RefusedList};
 pub use feeds::{Arrival, Feed};
 pub use gate::{FreeGate, Gate};
-pub use promised::{promises, seen_keeps_promises};
+pub use promised::{planned_feeds_go_as_planned, promises, seen_keeps_promises};
 pub use refused::RefusedAt;
 pub use runs::run_slots;
 pub use store::Store;

@@ -1,11 +1,16 @@
 //! What is promised of all that a pass has seen.
 
-ghost use Rattle.std.specs.Prelude.{List, ◌++◌};
+ghost use Rattle.std.specs.Prelude.{ℕ, Bool, List, ◌++◌};
 ghost use Rattle.slot_types.specs.declared.plans.DiePlan.{DiePlan};
+ghost use Rattle.die_log.specs.Log.{Log};
 ghost use Rattle.die_log.specs.Promised.{KeepsPromises};
+ghost use Rattle.die_service.specs.declared.ends.DieEnd.{DieEnd};
+ghost use Rattle.die_service.specs.declared.feeds.Arrival.{Arrival};
 ghost use Rattle.die_service.specs.Logs.{Call, log_of};
 ghost use Rattle.die_service.specs.Replies.{HasExactLog};
 ghost use Rattle.die_service.specs.Passes.{SeesPromised};
+ghost use Rattle.die_service.specs.PlannedRuns.{KeepsItsPlan, RanAlone, GoesAsPlanned};
+ghost use Rattle.die_service.specs.Runs.{AllArrive};
 
 use crate::die::DiePass;
 use flash_die::Nand;
@@ -24,4 +29,15 @@ pub fn promises<N: Nand>(pass: &DiePass<N>)
 pub fn seen_keeps_promises()
     ensures seen { (plan : DiePlan) (seen : List Call) → HasExactLog plan seen → KeepsPromises plan (log_of seen) }
     ensures beginnings { (plan : DiePlan) (first later : List Call) → HasExactLog plan (first ++ later) → KeepsPromises plan (log_of first) }
+{}
+
+/// Whatever [`run_slots`](crate::run_slots) did on a new die, where the events of its feed keep the die's plan, whose times
+/// pass their test: nothing is late, also where slots were refused. Of the feed's events none is refused but for want of
+/// memory, or behind one that was; and a slot is refused for want of memory alone, or where the device fails. An event
+/// behind a refused one may be refused for it: a task lacks the tokens of a collection that found no memory.
+///
+/// It speaks of a die on which nothing else was done, as [`close`](crate::close) tells of a closed one, whose log this is.
+pub fn planned_feeds_go_as_planned()
+    ensures { (never_fails : Bool) (plan : DiePlan) (slots : ℕ) (feed : List Arrival) (end : DieEnd) (log : Log) →
+        AllArrive feed → KeepsItsPlan plan slots feed → RanAlone never_fails plan slots feed end log → GoesAsPlanned never_fails plan end log }
 {}
