@@ -168,20 +168,3 @@ pub fn check_cases(
     }
     Ok(())
 }
-
-/// Each prefix of a text is read, or refused with a word of these.
-pub fn check_prefixes(
-    rt: &impl Abort,
-    alloc: Global,
-    kind: Text,
-    text: &str,
-    allowed: &str,
-) -> Result<(), Fail> {
-    let text = text.as_bytes();
-    for len in 0..text.len() {
-        let answer = format!(in alloc; "{:?}", refusal(alloc, kind, &text[..len]))?;
-        let word = answer.as_str().split(' ').next().ok_or("no word")?;
-        assert!(rt; allowed.contains(word), "{len}: {answer}");
-    }
-    Ok(())
-}

@@ -5,15 +5,21 @@
 #[cfg(test)]
 mod answers;
 #[cfg(test)]
+mod bounds;
+#[cfg(test)]
 mod faults;
 #[cfg(test)]
 mod growth;
+#[cfg(test)]
+mod hostile;
 #[cfg(test)]
 mod long_scripts;
 #[cfg(test)]
 mod planned;
 #[cfg(test)]
 mod plans;
+#[cfg(test)]
+mod prefixes;
 #[cfg(test)]
 mod reports;
 #[cfg(test)]

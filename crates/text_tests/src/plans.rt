@@ -1,4 +1,4 @@
-use crate::answers::{PLAN, TIMED, TWO_DIES, Text, check_cases, check_prefixes, refusal};
+use crate::answers::{PLAN, TIMED, TWO_DIES, Text, check_cases, refusal};
 use std::test::Fail;
 use task_script::read_plan;
 
@@ -216,26 +216,4 @@ fn a_plan_is_text_of_so_many_bytes(rt: HostRuntime) -> Result<(), Fail> {
         "Some(PlanText { cause: TooLong })"
     );
     Ok(())
-}
-
-#[test]
-fn each_prefix_of_a_plan_is_read_to_an_answer(rt: HostRuntime) -> Result<(), Fail> {
-    check_prefixes(
-        &rt,
-        rt.alloc(),
-        Text::Plan,
-        PLAN,
-        "None Some(PlanText Some(BadPlan)",
-    )
-}
-
-#[test]
-fn each_prefix_of_a_plan_with_times_is_read_to_an_answer(rt: HostRuntime) -> Result<(), Fail> {
-    check_prefixes(
-        &rt,
-        rt.alloc(),
-        Text::Plan,
-        TIMED,
-        "None Some(PlanText Some(BadPlan)",
-    )
 }

@@ -1,4 +1,4 @@
-use crate::answers::{REPORT, TWO_REPORT, Text, check_cases, check_prefixes};
+use crate::answers::{REPORT, TWO_REPORT, Text, check_cases};
 use std::alloc::Global;
 use std::process::Abort;
 use std::test::Fail;
@@ -119,15 +119,4 @@ job,0,2,0,0,9,1,3,-6,,
 -6,,~|-6,,~cert,0,0,,0,3,,2,-1,,0|Some(ReportText { line: 5 })
 -6,,~|-6,,~cert,0,2,,0,9,,3,-6,,2|Some(ReportText { line: 5 })";
     check_cases(&rt, rt.alloc(), Text::Report, base, cases)
-}
-
-#[test]
-fn each_prefix_of_a_report_is_read_to_an_answer(rt: HostRuntime) -> Result<(), Fail> {
-    check_prefixes(
-        &rt,
-        rt.alloc(),
-        Text::Report,
-        TWO_REPORT,
-        "None Some(ReportText",
-    )
 }

@@ -143,28 +143,40 @@ fn a_script_at_fault_writes_nothing(rt: HostRuntime) -> Result<(), Fail> {
     Ok(())
 }
 
+/// A script of 162 bytes is read in 25 calls of seven bytes: the first asks for one byte, and the last shows the end.
 #[test]
 fn a_failing_reader_writes_nothing(rt: HostRuntime) {
     let alloc = rt.alloc();
-    for call in 1..26 {
+    for call in 1..40 {
         let mut text = Vec::new(alloc);
         let ended = run(&rt, alloc, failing_at(TWO_SCRIPT, call), &mut text, 1);
-        assert!(rt;
-            ended == Err(Refusal::ReadFault) && text.is_empty(),
-            "{call}"
-        );
+        if call <= 25 {
+            assert!(rt;
+                ended == Err(Refusal::ReadFault) && text.is_empty(),
+                "{call}"
+            );
+        } else {
+            assert!(rt; ended == Ok(counted(5, 0, None)), "{call}");
+            assert_eq!(rt; text.as_slice(), TWO_REPORT.as_bytes());
+        }
     }
 }
 
+/// A report of 86 bytes is written in 13 calls of seven bytes.
 #[test]
 fn a_failing_writer_is_told(rt: HostRuntime) {
     let alloc = rt.alloc();
-    for calls in 1..13 {
+    for calls in 1..30 {
         let mut writer = Choppy {
             text: Vec::new(alloc),
             calls,
         };
         let ended = run(&rt, alloc, REFUSED.as_bytes(), &mut writer, 1);
-        assert!(rt; ended == Err(Refusal::WriteFault), "{calls}");
+        if calls <= 13 {
+            assert!(rt; ended == Err(Refusal::WriteFault), "{calls}");
+        } else {
+            assert!(rt; ended == Ok(counted(1, 3, Some((2, 6)))), "{calls}");
+            assert_eq!(rt; writer.text.as_slice(), WAITING.as_bytes());
+        }
     }
 }

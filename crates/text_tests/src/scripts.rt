@@ -1,6 +1,4 @@
-use crate::answers::{
-    SCRIPT, TWO_SCRIPT, Text, check_cases, check_prefixes, items, refusal, script_refusal,
-};
+use crate::answers::{SCRIPT, TWO_SCRIPT, Text, check_cases, items, refusal, script_refusal};
 use std::io;
 use std::io::Read;
 use std::test::Fail;
@@ -73,17 +71,6 @@ due,ops~|due,ops\r~~\r~|None
 9,R3~|9,R4294967295|None
 9,R3~|9,|None";
     check_cases(&rt, rt.alloc(), Text::Script, TWO_SCRIPT, cases)
-}
-
-#[test]
-fn each_prefix_of_a_script_is_read_to_an_answer(rt: HostRuntime) -> Result<(), Fail> {
-    check_prefixes(
-        &rt,
-        rt.alloc(),
-        Text::Script,
-        TWO_SCRIPT,
-        "None Some(ScriptRow",
-    )
 }
 
 #[test]
