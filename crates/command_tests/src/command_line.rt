@@ -136,8 +136,8 @@ fn ends_with(alloc: Global, line: &[&[u8]], is_closed: bool, status: u8, told: &
 }
 
 #[test]
-fn help_ends_with_zero_where_it_can_be_written(rt: HostRuntime) {
-    for word in [b"--help".as_slice(), b"-h", b"help"] {
+fn help_and_the_version_end_with_zero_where_they_can_be_written(rt: HostRuntime) {
+    for word in [b"--help".as_slice(), b"-h", b"help", b"--version", b"-V"] {
         let line = [b"flashrec".as_slice(), word];
         assert!(rt; ends_with(rt.alloc(), &line, false, 0, ""));
         assert!(rt; ends_with(rt.alloc(), &line, true, 1, "error 22 WriteFault\n"));

@@ -148,3 +148,17 @@ fn a_number_out_of_its_range_is_told(rt: HostRuntime) -> Result<(), Fail> {
     );
     Ok(())
 }
+
+#[test]
+fn the_version_is_told(rt: HostRuntime) -> Result<(), Fail> {
+    let alloc = rt.alloc();
+    for line in ["flashrec --version", "flashrec -V"] {
+        let words = words_in(alloc, line)?;
+        let Err(version) = read_words(alloc, words.as_slice()) else {
+            panic!(rt; "{line} is a command")
+        };
+        assert!(rt; !version.use_stderr());
+        assert_eq!(rt; version.to_string(alloc)?.as_str(), "flashrec 0.1.0\n");
+    }
+    Ok(())
+}

@@ -28,9 +28,13 @@ audit_app = with_rule (new_app (codes "audit")) (needed (codes "REPORT"))
 abbrev pub plan_app : App
 plan_app = with_rule (new_app (codes "plan")) (needed (codes "PLAN"))
 
+-- the program alone, which has a version
+abbrev pub named_app : App
+named_app = let app = new_app (codes "flashrec") in record app { top = record app.top { has_version = true } }
+
 -- the program's command line
 abbrev pub flashrec_app : App
-flashrec_app = with_subcommand (with_subcommand (with_subcommand (new_app (codes "flashrec")) run_app.top) audit_app.top) plan_app.top
+flashrec_app = with_subcommand (with_subcommand (with_subcommand named_app run_app.top) audit_app.top) plan_app.top
 
 -- whether a command has an argument that is global
 abbrev pub has_globals : Command → Bool

@@ -25,10 +25,12 @@ pub fn words_of<R: Env>(rt: &R, alloc: Global) -> Result<Vec<String>, Fault>
     }
 }
 
-/// Shows what clap answers in place of a command, and gives the status. Help is written to standard output, and ends with 0,
-/// or with 1, as `WriteFault`, where it can't be written. A fault of the words is written to standard error, and ends with 2.
+/// Shows what clap answers in place of a command, and gives the status. Help and the version are written to standard
+/// output, and end with 0, or with 1, as `WriteFault`, where they can't be written. A fault of the words is written to
+/// standard error, and ends with 2.
 pub fn show<R: Print + Eprint, E: Write>(rt: &R, err: &mut E, error: clap::Error) -> u8
     ensures help { kind_of error ≡ ErrorKind.DisplayHelp → (result ≡ 0) ⊎ (result ≡ 1) }
+    ensures version { kind_of error ≡ ErrorKind.DisplayVersion → (result ≡ 0) ⊎ (result ≡ 1) }
     ensures fault { kind_of error ≢ ErrorKind.DisplayHelp → kind_of error ≢ ErrorKind.DisplayVersion → result ≡ 2 }
 {
     let shown = error.print(rt);

@@ -1,8 +1,8 @@
 //! The words that the program takes.
 
 ghost use Rattle.std.specs.Prelude.{◌≡◌, false, codes, IfOk};
-ghost use Rattle.clap.specs.Words.{app_of, new_app, rule_of, with_subcommand};
-ghost use Rattle.flash_commands.specs.Syntax.{audit_app, files_app, flashrec_app, has_globals, needed, plan_app, run_app, slots_rule, workers_rule};
+ghost use Rattle.clap.specs.Words.{app_of, rule_of, with_subcommand};
+ghost use Rattle.flash_commands.specs.Syntax.{audit_app, files_app, flashrec_app, has_globals, named_app, needed, plan_app, run_app, slots_rule, workers_rule};
 
 use clap::{Arg, Command};
 use std::alloc::{AllocError, Global};
@@ -89,11 +89,15 @@ fn plan_words<'a>(alloc: Global) -> Result<Command<'a>, AllocError>
         .arg(plan_file(alloc))
 }
 
-/// The program's name and what it is about.
+/// The program's version.
+pub const VERSION: &str = "0.1.0";
+
+/// The program's name, its version and what it is about.
 fn name<'a>(alloc: Global) -> Command<'a>
-    ensures { app_of result ≡ new_app (codes "flashrec") }
+    ensures { app_of result ≡ named_app }
 {
     Command::new(alloc, "flashrec")
+        .version(VERSION)
         .about(
             "A real-time flash store. Without words it runs a plan and a script that are built in",
         )
