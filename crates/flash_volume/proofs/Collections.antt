@@ -145,6 +145,13 @@ picks_written {accounts} {shape} {blocks} {places} {running} {counts} {place} by
   ];
 }
 
+-- the same blocks are candidates
+pub picks_kept : {pages : ℕ} {blocks : List Block} {running : List (Option Collection)} {counts : List (Option ℕ)} (counts_then : List (Option ℕ)) → PicksWell pages blocks counts running → ((block : ℕ) → is_some (count_of counts_then block) ≡ is_some (count_of counts block)) → PicksWell pages blocks counts_then running
+picks_kept {counts = counts} counts_then picks same = record {
+  taken = λ t c is. none_of (count_of counts_then c.victim) (same c.victim ∙ ap is_some (picks.taken t c is));
+  closed = λ block below closed none. picks.closed block below closed (none_of (count_of counts block) (sym (same block) ∙ ap is_some none));
+}
+
 -- a task's collection changed, but not its victim
 pub picks_changed : {pages : ℕ} {blocks : List Block} {counts : List (Option ℕ)} {running : List (Option Collection)} (task : ℕ) (c new : Collection) → PicksWell pages blocks counts running → task < length running → running_of running task ≡ Some c → new.victim ≡ c.victim → PicksWell pages blocks counts (set running task (Some new))
 picks_changed {pages} {blocks} {counts} {running} task c new picks below is victim = record {

@@ -81,7 +81,7 @@ lowered_some None = refl
 lowered_some (Some n) = refl
 
 -- a page that leaves makes nobody a candidate, and takes none away
-left_some : (before : Option Place) (counts : List (Option ℕ)) (block : ℕ) → is_some (count_of (left before counts) block) ≡ is_some (count_of counts block)
+pub left_some : (before : Option Place) (counts : List (Option ℕ)) (block : ℕ) → is_some (count_of (left before counts) block) ≡ is_some (count_of counts block)
 left_some None counts block = refl
 left_some (Some place) counts block =
     elim (cases_eq block place.block) [
@@ -119,7 +119,7 @@ lowered_was None n is = absurd (cc)
 lowered_was (Some m) n is = (m, refl, (let e : m - 1 ≡ n = cc in sym e))
 
 -- who is counted after a page has left was counted before, with that page
-left_counted : (before : Option Place) (counts : List (Option ℕ)) (block n : ℕ) → count_of (left before counts) block ≡ Some n → (m : ℕ) × (count_of counts block ≡ Some m) × (n ≡ m - here block before)
+pub left_counted : (before : Option Place) (counts : List (Option ℕ)) (block n : ℕ) → count_of (left before counts) block ≡ Some n → (m : ℕ) × (count_of counts block ≡ Some m) × (n ≡ m - here block before)
 left_counted None counts block n is = (n, is, omega arith)
 left_counted (Some place) counts block n is =
     elim (cases_eq block place.block) [

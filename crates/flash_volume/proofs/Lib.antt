@@ -7,3 +7,4 @@ pub mod Collections
 pub mod Kept
 pub mod Beginning
 pub mod Fresh
+pub mod Trimming

@@ -1,5 +1,5 @@
 -- A volume as its callers see it.
-use Rattle.std.specs.Prelude.{Bool, false, List, length, Option, None, replicate}
+use Rattle.std.specs.Prelude.{ℕ, Bool, false, List, length, Option, None, replicate, slice_set}
 use Rattle.slot_types.specs.declared.pages.Place.{Place}
 use Rattle.slot_types.specs.declared.pages.PageData.{PageData}
 use Rattle.slot_types.specs.declared.plans.DiePlan.{DiePlan}
@@ -26,3 +26,7 @@ fresh_volume plan device = record {
   places = replicate plan.logical None;
   running = replicate (length plan.caps) None;
 }
+
+-- with a page that is blank and lies nowhere
+abbrev pub trimmed : {N : Type 0} → State N → ℕ → State N
+trimmed volume page = record volume { pages = slice_set volume.pages page blank; places = slice_set volume.places page None }

@@ -5,7 +5,7 @@ ghost use Rattle.slot_types.specs.declared.pages.Place.{Place};
 ghost use Rattle.slot_types.specs.Places.{is_in, place_of, owner_of};
 ghost use Rattle.slot_types.specs.Shapes.{IsShape};
 ghost use Rattle.victim_pick.specs.Candidates.{count_of, HasNone, IsLeast, without};
-ghost use Rattle.page_map.specs.Placing.{blank_map, bound};
+ghost use Rattle.page_map.specs.Placing.{blank_map, bound, unbound};
 ghost use Rattle.flash_die.specs.Flash.{IsFresh, blank, block_at, programmed, erased};
 ghost use Rattle.flash_volume.specs.Cells.{filled_of, is_wholly_free, open_in, left_open, next_cell, content_at, contents, free_cells};
 ghost use Rattle.flash_volume.specs.Array.{IsSoundArray};
@@ -151,6 +151,22 @@ impl<N: Nand> PageArray<N> {
                 Ok(())
             }
         }
+    }
+
+    /// Lets a page lie nowhere, so that it is blank. Calls no device.
+    pub(crate) fn trim(&mut self, page: u32)
+        requires alive { self.old.failed ≡ false }
+        requires page { page < length self.old.placing.places }
+        ensures device { self.new.device ≡ self.old.device }
+        ensures placing { self.new.placing ≡ unbound self.old.placing page }
+        ensures candidates { (block : ℕ) → is_some (count_of self.new.candidates.counts block) ≡ is_some (count_of self.old.candidates.counts block) }
+        ensures contents { contents (N.blocks self.new.device) self.new.placing.places ≡ slice_set (contents (N.blocks self.old.device) self.old.placing.places) page blank }
+        ensures sound { IsSoundArray N.shape_of N.failures N.blocks self.new }
+        ensures failed { self.new.failed ≡ false }
+    {
+        let before = self.map.place(page);
+        self.map.unbind(page);
+        leave(&mut self.victims, before);
     }
 
     /// Does one slot of the erase of a block that is closed and in which no page lies, and answers

@@ -1,7 +1,9 @@
 //! A history that fills a small volume, and what a collection then does. No test holds a volume.
 
 use crate::recorder::{FREE, Recorder};
-use crate::steps::Step::{Admits, Begins, Called, Collects, Has, Holds, Reads, Refuses, Writes};
+use crate::steps::Step::{
+    Admits, Begins, Called, Collects, Has, Holds, Reads, Refuses, Trims, Writes,
+};
 use crate::steps::{Step, first_wrong};
 use crate::{Began, Collected, Volume};
 use plan_rules::bound;
@@ -182,6 +184,65 @@ const A_WRITE_BEFORE_THE_COPY: &[Step] = &[
 #[test]
 fn a_rewritten_page_is_not_copied(rt: HostRuntime) -> Result<(), Fail> {
     let wrong = plays(rt.alloc(), 4, 5, &[HISTORY, A_WRITE_BEFORE_THE_COPY])?;
+    assert_eq!(rt; wrong, None);
+    Ok(())
+}
+
+/// The same history; page 2 is trimmed between its copy read and its copy program, and written behind the collection.
+const A_TRIM_BEFORE_THE_COPY: &[Step] = &[
+    Admits(1),
+    Writes(4, 4),
+    Begins(BEGUN),
+    Collects(COPY_READ),
+    Trims(2),
+    Has(0, 1, 0, 2, 3),
+    Called(1, 13, 0),
+    Collects(ERASE),
+    Collects(ERASE),
+    Collects(FINISHED),
+    Has(2, 3, 0, 2, 7),
+    Holds(&[[0, 1, 4, 4], [FREE; 4], [3, 4, 4, 4], [4, FREE, FREE, FREE]]),
+    Reads(2, 0xff),
+    Called(1, 13, 3),
+    Admits(1),
+    Writes(2, 2),
+    Reads(2, 2),
+    Called(2, 14, 3),
+];
+
+#[test]
+fn a_trimmed_page_is_not_copied(rt: HostRuntime) -> Result<(), Fail> {
+    let wrong = plays(rt.alloc(), 4, 5, &[HISTORY, A_TRIM_BEFORE_THE_COPY])?;
+    assert_eq!(rt; wrong, None);
+    Ok(())
+}
+
+const ERASE_OF_TWO: Collected = Collected::EraseSlot { block: 2 };
+
+/// Blocks 1 and 2 have one valid page each. Without page 3 block 2 has none, so it is the victim, and nothing is
+/// copied. A page that lies nowhere may be trimmed: no cell and no account changes.
+const A_TRIM_BEFORE_THE_CHOICE: &[Step] = &[
+    Trims(3),
+    Trims(3),
+    Reads(3, 0xff),
+    Has(0, 0, 0, 2, 2),
+    Holds(&[[0, 1, 4, 4], [2, 4, 4, 4], [3, 4, 4, 4], [4, 4, FREE, FREE]]),
+    Called(0, 14, 0),
+    Begins(Began::Begun { victim: 2 }),
+    Collects(ERASE_OF_TWO),
+    Collects(ERASE_OF_TWO),
+    Collects(Collected::Finished { block: 2, given: 2 }),
+    Has(2, 2, 0, 2, 6),
+];
+
+#[test]
+fn a_trimmed_page_is_no_longer_valid(rt: HostRuntime) -> Result<(), Fail> {
+    let wrong = plays(
+        rt.alloc(),
+        4,
+        5,
+        &[HISTORY, FILLED, A_TRIM_BEFORE_THE_CHOICE],
+    )?;
     assert_eq!(rt; wrong, None);
     Ok(())
 }

@@ -19,6 +19,8 @@ pub(crate) enum Step<'a> {
     Writes(u32, u8),
     /// The page holds sixteen bytes of this value.
     Reads(u32, u8),
+    /// The page is trimmed.
+    Trims(u32),
     /// A collection begins so.
     Begins(Began),
     /// The running collection does this in a slot.
@@ -74,6 +76,10 @@ fn reads(volume: &mut Volume<Recorder>, page: u32, byte: u8) -> bool {
     has_page(volume, page) && volume.read(page) == Ok(PageData([byte; 16]))
 }
 
+fn trims(volume: &mut Volume<Recorder>, page: u32) -> bool {
+    has_page(volume, page) && volume.trim(page) == Ok(())
+}
+
 fn begins(volume: &mut Volume<Recorder>, began: Began) -> bool
     requires { 0 < length volume.old.accounts.plan.caps }
 {
@@ -120,6 +126,7 @@ fn goes(volume: &mut Volume<Recorder>, step: &Step) -> bool
         }
         Step::Writes(page, byte) => writes(volume, page, byte),
         Step::Reads(page, byte) => reads(volume, page, byte),
+        Step::Trims(page) => trims(volume, page),
         Step::Begins(began) => begins(volume, began),
         Step::Collects(did) => collects(volume, did),
         Step::Has(spare, balance, hold, reserve, free) => {

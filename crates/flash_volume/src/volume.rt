@@ -7,7 +7,7 @@ ghost use Rattle.plan_rules.specs.Bound.{MeetsBound};
 ghost use Rattle.plan_rules.specs.Accounts.{total_of, admitted, hold_spent};
 ghost use Rattle.flash_die.specs.Flash.{IsFresh, IsProgrammed, blank, programmed};
 ghost use Rattle.flash_volume.specs.Cells.{open_in, next_cell, contents, free_cells};
-ghost use Rattle.flash_volume.specs.State.{fresh_volume};
+ghost use Rattle.flash_volume.specs.State.{fresh_volume, trimmed};
 
 use crate::array::PageArray;
 use crate::collection::Collection;
@@ -191,5 +191,24 @@ impl<N: Nand> Volume<N> {
                 Ok(())
             }
         }
+    }
+
+    /// Makes a page blank: it lies nowhere until it is written again. It takes no token and no memory and calls no device,
+    /// and leaves the accounts and the running collections; a copy of the page that a collection has read is dropped at
+    /// its next turn. A page that was never written stays as it is.
+    ///
+    /// `DieStopped` exactly where the volume has failed, which changes nothing.
+    pub fn trim(&mut self, page: u32) -> Result<(), Refusal>
+        requires { page < length self.old.pages }
+        ensures trimmed { OnOk result (self.new ≡ trimmed self.old page) }
+        ensures stopped { self.old.failed ≡ true → result ≡ Err Refusal.DieStopped }
+        ensures alive { self.old.failed ≡ false → IsOk result }
+        ensures unchanged { OnErr result (self.new ≡ self.old) }
+    {
+        if self.array.failed() {
+            return Err(Refusal::DieStopped);
+        }
+        self.array.trim(page);
+        Ok(())
     }
 }
