@@ -8,9 +8,9 @@ use slot_types::{Op, PageData, Refusal};
 use std::alloc::Global;
 use std::marker::Model;
 
-/// Operations, one behind another. One takes four bytes, and one that isn't a read those of its page besides: these stand in
-/// the order of their operations, so that the place of an operation's bytes is the number of operations before it that
-/// aren't reads.
+/// Operations, one behind another. One takes four bytes, and one that isn't a read those of its page besides: these
+/// stand in the order of their operations, so that the place of an operation's bytes is the number of operations before
+/// it that aren't reads.
 #[derive(Drop)]
 pub(crate) struct OpArena {
     words: Vec<u32>,
@@ -70,8 +70,8 @@ impl OpArena {
         count_reads_in(&self.words[from..to])
     }
 
-    /// Adds operations, of which so many are reads. Refused with `NoMemory`, none is added; that is also the answer where a
-    /// page leaves no room in its word, which is so from 2^30 on.
+    /// Adds operations, of which so many are reads. Refused with `NoMemory`, none is added; that is also the answer
+    /// where a page leaves no room in its word, which is so from 2^30 on.
     pub(crate) fn push_all(&mut self, ops: &[Op], reads: usize) -> Result<(), Refusal>
         requires { reads ≡ count_by is_read ops.now }
         ensures ok { OnOk result (self.new ≡ self.old ++ ops.now) }

@@ -14,8 +14,8 @@ use slot_types::{JobNo, Op, PageData, Refusal, TaskNo};
 use std::alloc::Global;
 use std::marker::Model;
 
-/// Jobs and collections by number. A row names operations and reads by their places in arenas, so accepting a job moves no
-/// memory but that of a list that grows, and letting all go is letting five lists go.
+/// Jobs and collections by number. A row names operations and reads by their places in arenas, so a job has no memory
+/// of its own: accepting one takes memory only where a list grows, and letting all go is letting four lists go.
 #[derive(Drop)]
 pub(crate) struct FlatJobs {
     rows: Vec<Row>,
@@ -100,8 +100,8 @@ impl FlatJobs {
         }
     }
 
-    /// Adds a job that has not begun, and answers its number. It takes all memory that the job will ever need. Refused with
-    /// `NoMemory`, all stay as they were.
+    /// Adds a job that has not begun, and answers its number. It takes all memory that the job will ever need. Refused
+    /// with `NoMemory`, all stay as they were.
     pub(crate) fn push_job(
         &mut self,
         task: TaskNo,

@@ -3,8 +3,8 @@
 use crate::stages::Stage;
 use slot_types::TaskNo;
 
-/// A job or a collection, flat. Its operations are `op_count` of an arena from `first_op` on; what its reads give has places
-/// in another from `first_read` on, of which `reads_done` have their bytes.
+/// A job or a collection, flat. Its operations are `op_count` of an arena from `first_op` on; what its reads give has
+/// places in another from `first_read` on, of which `reads_done` have their bytes.
 #[derive(Clone, Copy, Debug, Drop)]
 pub(crate) struct Row {
     pub(crate) task: TaskNo,
