@@ -1,0 +1,115 @@
+//! The bound on a die, in sentences: what it comes to, what is missing, and what would mend it.
+
+use crate::subjects::Subject;
+use crate::trials::{greatest_logical, least_blocks};
+use plan_rules::{Figures, bound, figures};
+use slot_types::DiePlan;
+use std::io;
+use std::io::Write;
+
+/// The most pages that are free while fewer than `alpha` of them are spare, of a plan that need not meet its bound.
+fn most_free(plan: &DiePlan) -> u64 {
+    let reserve = u64::from(plan.shape.pages.saturating_sub(plan.alpha));
+    let mut most = u64::from(plan.alpha).saturating_sub(1);
+    for cap in plan.caps.as_slice() {
+        most = most.saturating_add(reserve).saturating_add(u64::from(*cap));
+    }
+    most
+}
+
+/// Tells how many blocks are closed with no collection at work, and from how many valid pages on none might be worth
+/// collecting.
+fn tell_closed(text: &mut Vec<u8>, of: Subject, closed: u64, live: u64) -> io::Result<()> {
+    writeln!(
+        text,
+        "{of}: the closed blocks that no collection works on are then at least {closed}."
+    )?;
+    writeln!(
+        text,
+        "{of}: if none of these were worth collecting, at least {live} pages would be valid."
+    )
+}
+
+/// Tells the figures of a die that meets its bound.
+fn tell_met(text: &mut Vec<u8>, of: Subject, found: Figures, logical: u32) -> io::Result<()> {
+    let fmax = found.fmax;
+    writeln!(
+        text,
+        "{of}: while fewer than alpha pages are spare, at most {fmax} are free."
+    )?;
+    tell_closed(text, of, u64::from(found.closed), u64::from(found.live))?;
+    writeln!(text, "{of}: logical is {logical}, which is below that.")
+}
+
+/// Tells that a die has too few blocks for what may be free.
+fn tell_few_blocks(text: &mut Vec<u8>, of: Subject, blocks: u64, kept: u64) -> io::Result<()> {
+    let missing = kept.saturating_sub(blocks).saturating_add(1);
+    writeln!(
+        text,
+        "{of}: {kept} blocks may then be free or collected; blocks is {blocks}, and has to be above that: {missing} \
+         missing."
+    )
+}
+
+/// Tells that a die has too many logical pages.
+fn tell_many_pages(text: &mut Vec<u8>, of: Subject, closed: u64, plan: &DiePlan) -> io::Result<()> {
+    let least = u64::from(plan.shape.pages.saturating_sub(plan.alpha)) + 1;
+    let live = closed.saturating_mul(least);
+    let logical = u64::from(plan.logical);
+    let beyond = logical.saturating_sub(live).saturating_add(1);
+    tell_closed(text, of, closed, live)?;
+    writeln!(
+        text,
+        "{of}: logical is {logical}, and has to be below that: {beyond} too many."
+    )
+}
+
+/// Tells what a die lacks of its bound.
+fn tell_unmet(text: &mut Vec<u8>, of: Subject, plan: &DiePlan) -> io::Result<()> {
+    let fmax = most_free(plan);
+    let kept = (fmax / u64::from(plan.shape.pages.max(1))).saturating_add(plan.caps.len() as u64);
+    let blocks = u64::from(plan.shape.blocks);
+    writeln!(
+        text,
+        "{of}: while fewer than alpha pages are spare, up to {fmax} may be free."
+    )?;
+    if blocks <= kept {
+        tell_few_blocks(text, of, blocks, kept)
+    } else {
+        tell_many_pages(text, of, blocks - kept, plan)
+    }
+}
+
+/// Tells the least number of blocks and the greatest `logical` that would do.
+fn tell_mends(text: &mut Vec<u8>, of: Subject, plan: &mut DiePlan) -> io::Result<()> {
+    match least_blocks(plan) {
+        Some(blocks) => writeln!(
+            text,
+            "{of}: with its other numbers as they are, the least blocks that would do is {blocks}."
+        )?,
+        None => writeln!(
+            text,
+            "{of}: with its other numbers as they are, no blocks would do."
+        )?,
+    }
+    match greatest_logical(plan) {
+        Some(logical) => writeln!(
+            text,
+            "{of}: with its other numbers as they are, the greatest logical that would do is {logical}."
+        ),
+        None => writeln!(
+            text,
+            "{of}: with its other numbers as they are, no logical would do."
+        ),
+    }
+}
+
+/// Tells what the bound on a die comes to, or what is missing, and what would mend it. The plan is afterwards what it was.
+pub fn tell_bound(text: &mut Vec<u8>, die: u32, plan: &mut DiePlan) -> io::Result<()> {
+    let of = Subject::Die(die);
+    match bound(plan) {
+        Ok(()) => tell_met(text, of, figures(plan), plan.logical)?,
+        Err(_) => tell_unmet(text, of, plan)?,
+    }
+    tell_mends(text, of, plan)
+}
