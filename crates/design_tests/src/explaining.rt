@@ -1,0 +1,311 @@
+//! What is said of plans: the sentences are worked out by hand.
+
+use plan_design::explain;
+use std::alloc::Global;
+use std::test::Fail;
+
+/// The plan of one die: fmax is 1 + 2 + 4 = 7, so one block and the task's collection are kept back, and live is 3 for
+/// each of the other blocks.
+const PLAN: &str = "version = 1
+dies = 1
+blocks = 8
+pages = 4
+erase_slots = 3
+logical = 12
+alpha = 2
+
+[[task]]
+die = 0
+cap = 4
+";
+
+/// A plan with times: fmax is 1 + 2 + 6 = 9, closed 4 - 2 - 1 = 1; its jobs take 2 * 2 of 20 slots, and its collections
+/// 2 * 2 + 3.
+const TIMED: &str = "version = 2
+dies = 1
+blocks = 4
+pages = 4
+erase_slots = 3
+logical = 2
+alpha = 2
+common = 20
+
+[[task]]
+die = 0
+cap = 6
+period = 10
+collect_period = 20
+work = 2
+writes = 1
+";
+
+/// What stands in a plan, what comes in its place, whether the plan is then accepted, and what is said.
+type Said = (&'static str, &'static str, bool, &'static str);
+
+/// Bounds that are met, and not.
+const BOUNDS: [Said; 5] = [
+    (
+        "blocks = 8",
+        "blocks = 8",
+        true,
+        "The plan is accepted.
+die 0: while fewer than alpha pages are spare, at most 7 are free.
+die 0: the closed blocks that no collection works on are then at least 6.
+die 0: if none of these were worth collecting, at least 18 pages would be valid.
+die 0: logical is 12, which is below that.
+die 0: with its other numbers as they are, the least blocks that would do is 7.
+die 0: with its other numbers as they are, the greatest logical that would do is 17.
+",
+    ),
+    (
+        "blocks = 8",
+        "blocks = 4",
+        false,
+        "The plan is refused: BadPlan.
+die 0: while fewer than alpha pages are spare, up to 7 may be free.
+die 0: the closed blocks that no collection works on are then at least 2.
+die 0: if none of these were worth collecting, at least 6 pages would be valid.
+die 0: logical is 12, and has to be below that: 7 too many.
+die 0: with its other numbers as they are, the least blocks that would do is 7.
+die 0: with its other numbers as they are, the greatest logical that would do is 5.
+",
+    ),
+    (
+        "blocks = 8",
+        "blocks = 2",
+        false,
+        "The plan is refused: BadPlan.
+die 0: while fewer than alpha pages are spare, up to 7 may be free.
+die 0: 2 blocks may then be free or collected; blocks is 2, and has to be above that: 1 missing.
+die 0: with its other numbers as they are, the least blocks that would do is 7.
+die 0: with its other numbers as they are, no logical would do.
+",
+    ),
+    (
+        "logical = 12",
+        "logical = 100000",
+        false,
+        "The plan is refused: BadPlan.
+die 0: while fewer than alpha pages are spare, up to 7 may be free.
+die 0: the closed blocks that no collection works on are then at least 6.
+die 0: if none of these were worth collecting, at least 18 pages would be valid.
+die 0: logical is 100000, and has to be below that: 99983 too many.
+die 0: with its other numbers as they are, no blocks would do.
+die 0: with its other numbers as they are, the greatest logical that would do is 17.
+",
+    ),
+    (
+        "cap = 4",
+        "cap = 4294967295",
+        false,
+        "The plan is refused: BadPlan.
+die 0: while fewer than alpha pages are spare, up to 4294967298 may be free.
+die 0: 1073741825 blocks may then be free or collected; blocks is 8, and has to be above that: 1073741818 missing.
+die 0: with its other numbers as they are, no blocks would do.
+die 0: with its other numbers as they are, no logical would do.
+",
+    ),
+];
+
+/// Numbers out of their limits.
+const LIMITS: [Said; 4] = [
+    (
+        "logical = 12",
+        "logical = 0",
+        false,
+        "The plan is refused: BadPlan.
+die 0: logical is 0, and has to be at least 1.
+",
+    ),
+    (
+        "cap = 4",
+        "cap = 0",
+        false,
+        "The plan is refused: BadPlan.
+die 0 task 0: cap is 0, and has to be at least 1.
+",
+    ),
+    (
+        "pages = 4",
+        "pages = 257",
+        false,
+        "The plan is refused: BadShape.
+plan: pages is 257, and has to be from 2 to 256.
+",
+    ),
+    (
+        "die = 0",
+        "die = 3",
+        false,
+        "The plan is refused: BadPlan.
+plan: [[task]] number 1 is of die 3, and dies are numbered from 0 to 0.
+die 0: it has 0 tasks, and has to have from 1 to 16.
+",
+    ),
+];
+
+/// Faults of the text.
+const TEXTS: [Said; 2] = [
+    (
+        "version = 1",
+        "version = 3",
+        false,
+        "The plan is refused: PlanText BadVersion.
+plan: version has to be 1 or 2.
+",
+    ),
+    (
+        "alpha = 2\n",
+        "",
+        false,
+        "The plan is refused: PlanText MissingKey.
+plan: a key is missing.
+plan: its keys are version, dies, blocks, pages, erase_slots, logical, alpha and task; in each [[task]] die and cap.
+plan: where version is 2, it also has common; in each [[task]] period, collect_period, work and writes.
+",
+    ),
+];
+
+/// Loads that fit, and not.
+const LOADS: [Said; 5] = [
+    (
+        "cap = 6",
+        "cap = 6",
+        true,
+        "The plan is accepted.
+die 0: while fewer than alpha pages are spare, at most 9 are free.
+die 0: the closed blocks that no collection works on are then at least 1.
+die 0: if none of these were worth collecting, at least 3 pages would be valid.
+die 0: logical is 2, which is below that.
+die 0: with its other numbers as they are, the least blocks that would do is 4.
+die 0: with its other numbers as they are, the greatest logical that would do is 2.
+die 0 task 0: of each 20 slots its jobs take at most 4, its collections 7.
+die 0 task 0: alpha * period is 20, and writes * collect_period is 20: 0 to spare.
+die 0 task 0: cap is 6, and 2 * writes + 2 * alpha is 6: 0 to spare.
+die 0: of each 20 slots all tasks take at most 11: 9 to spare.
+",
+    ),
+    (
+        "cap = 6",
+        "cap = 5",
+        false,
+        "The plan is refused: BadPlan.
+die 0: while fewer than alpha pages are spare, at most 8 are free.
+die 0: the closed blocks that no collection works on are then at least 1.
+die 0: if none of these were worth collecting, at least 3 pages would be valid.
+die 0: logical is 2, which is below that.
+die 0: with its other numbers as they are, the least blocks that would do is 4.
+die 0: with its other numbers as they are, the greatest logical that would do is 2.
+die 0 task 0: of each 20 slots its jobs take at most 4, its collections 7.
+die 0 task 0: alpha * period is 20, and writes * collect_period is 20: 0 to spare.
+die 0 task 0: cap is 5, and has to be at least 2 * writes + 2 * alpha, which is 6: 1 missing.
+die 0: of each 20 slots all tasks take at most 11: 9 to spare.
+",
+    ),
+    (
+        "work = 2",
+        "work = 7",
+        false,
+        "The plan is refused: BadPlan.
+die 0: while fewer than alpha pages are spare, at most 9 are free.
+die 0: the closed blocks that no collection works on are then at least 1.
+die 0: if none of these were worth collecting, at least 3 pages would be valid.
+die 0: logical is 2, which is below that.
+die 0: with its other numbers as they are, the least blocks that would do is 4.
+die 0: with its other numbers as they are, the greatest logical that would do is 2.
+die 0 task 0: of each 20 slots its jobs take at most 14, its collections 7.
+die 0 task 0: alpha * period is 20, and writes * collect_period is 20: 0 to spare.
+die 0 task 0: cap is 6, and 2 * writes + 2 * alpha is 6: 0 to spare.
+die 0: of each 20 slots all tasks may take 21: 1 missing.
+",
+    ),
+    (
+        "common = 20",
+        "common = 10",
+        false,
+        "The plan is refused: BadPlan.
+die 0: while fewer than alpha pages are spare, at most 9 are free.
+die 0: the closed blocks that no collection works on are then at least 1.
+die 0: if none of these were worth collecting, at least 3 pages would be valid.
+die 0: logical is 2, which is below that.
+die 0: with its other numbers as they are, the least blocks that would do is 4.
+die 0: with its other numbers as they are, the greatest logical that would do is 2.
+die 0 task 0: collect_period is 20, and has to divide common, which is 10.
+die 0 task 0: of each 10 slots its jobs take at most 2, its collections 0.
+die 0 task 0: alpha * period is 20, and writes * collect_period is 20: 0 to spare.
+die 0 task 0: cap is 6, and 2 * writes + 2 * alpha is 6: 0 to spare.
+die 0: of each 10 slots all tasks take at most 2: 8 to spare.
+",
+    ),
+    (
+        "writes = 1",
+        "writes = 2",
+        false,
+        "The plan is refused: BadPlan.
+die 0: while fewer than alpha pages are spare, at most 9 are free.
+die 0: the closed blocks that no collection works on are then at least 1.
+die 0: if none of these were worth collecting, at least 3 pages would be valid.
+die 0: logical is 2, which is below that.
+die 0: with its other numbers as they are, the least blocks that would do is 4.
+die 0: with its other numbers as they are, the greatest logical that would do is 2.
+die 0 task 0: of each 20 slots its jobs take at most 4, its collections 7.
+die 0 task 0: alpha * period is 20, and has to be at least writes * collect_period, which is 40: 20 missing.
+die 0 task 0: cap is 6, and has to be at least 2 * writes + 2 * alpha, which is 8: 2 missing.
+die 0: of each 20 slots all tasks take at most 11: 9 to spare.
+",
+    ),
+];
+
+/// Times out of their limits.
+const TIMES: [Said; 1] = [(
+    "work = 2",
+    "work = 0",
+    false,
+    "The plan is refused: BadPlan.
+die 0 task 0: work is 0, and has to be from 1 to 64.
+die 0 task 0: writes is 1, and has to be at most work, which is 0.
+",
+)];
+
+/// Whether this is what is said of a plan with a change.
+fn is_said(alloc: Global, plan: &str, said: Said) -> Result<bool, Fail> {
+    let (old, new, is_accepted, text) = said;
+    let plan = plan.replace(alloc, old, new)?;
+    let explained = explain(alloc, plan.as_bytes())?;
+    Ok(explained.is_accepted == is_accepted && explained.text.as_slice() == text.as_bytes())
+}
+
+#[test]
+fn bounds_are_told_with_what_would_mend_them(rt: HostRuntime) -> Result<(), Fail> {
+    for said in BOUNDS {
+        assert!(rt; is_said(rt.alloc(), PLAN, said)?, "{}", said.1);
+    }
+    Ok(())
+}
+
+#[test]
+fn numbers_out_of_their_limits_are_told(rt: HostRuntime) -> Result<(), Fail> {
+    for said in LIMITS {
+        assert!(rt; is_said(rt.alloc(), PLAN, said)?, "{}", said.1);
+    }
+    for said in TIMES {
+        assert!(rt; is_said(rt.alloc(), TIMED, said)?, "{}", said.1);
+    }
+    Ok(())
+}
+
+#[test]
+fn faults_of_the_text_are_told(rt: HostRuntime) -> Result<(), Fail> {
+    for said in TEXTS {
+        assert!(rt; is_said(rt.alloc(), PLAN, said)?, "{}", said.1);
+    }
+    Ok(())
+}
+
+#[test]
+fn loads_are_told_by_task_and_in_sum(rt: HostRuntime) -> Result<(), Fail> {
+    for said in LOADS {
+        assert!(rt; is_said(rt.alloc(), TIMED, said)?, "{}", said.1);
+    }
+    Ok(())
+}

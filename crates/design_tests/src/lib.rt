@@ -1,0 +1,5 @@
+//! What no clause says of the designer's tools: their texts.
+#![tactic(auto)]
+
+#[cfg(test)]
+mod explaining;
