@@ -125,11 +125,16 @@ candidates plan past =
     let c = cells plan past in
     filter (λ b. is_closed plan (block_at c b) && not (is_collected plan past b)) (range_with_len 0 plan.shape.blocks)
 
--- of these the one with the fewest valid pages, then the smaller number
+-- fewer valid pages, or as many and fewer finished erases
+abbrev pub goes_before : Cells → ℕ → ℕ → Bool
+goes_before c b best =
+    nat_lt (valid c b) (valid c best) || ((valid c b == valid c best) && nat_lt (block_at c b).erases (block_at c best).erases)
+
+-- of these the one with the fewest valid pages, then with the fewest erases, then the smaller number
 abbrev pub victim : DiePlan → Log → Option ℕ
 victim plan past =
     let c = cells plan past in
-    reduce (λ best b. if nat_lt (valid c b) (valid c best) then b else best) (candidates plan past)
+    reduce (λ best b. if goes_before c b best then b else best) (candidates plan past)
 
 -- the block of a collection that has its turn
 abbrev pub block_for : DiePlan → Log → Job → Option ℕ

@@ -13,11 +13,12 @@ use Rattle.plan_rules.specs.Bound.{fmax_of}
 use Rattle.plan_rules.specs.Blocks.{BeginsShort, is_of}
 use Rattle.plan_rules.specs.Accounts.{Accounts, total_of}
 use Rattle.plan_rules.proofs.Spread.{choice}
-use Rattle.victim_pick.specs.Candidates.{Candidates, count_of, HasNone, IsLeast}
+use Rattle.victim_pick.specs.Candidates.{Candidates, count_of, erases_of, HasNone, IsLeast}
 use Rattle.page_map.specs.Placing.{Placing}
 use Rattle.flash_die.specs.Flash.{Block, free_block, block_at}
 use Rattle.flash_volume.specs.declared.collection.Collection.{Collection}
 use Rattle.flash_volume.specs.Cells.{fills_of, is_open_with, opened_in, free_in, free_cells}
+use Rattle.flash_volume.specs.Array.{taken_out}
 use Rattle.flash_volume.specs.Running.{running_of, RunWell}
 use Rattle.flash_volume.specs.Picks.{IsCandidate, IsVictim, PicksWell}
 use Rattle.flash_volume.specs.Sound.{IsSound}
@@ -131,17 +132,21 @@ not_none it none = let nothing = none it.block in let some = it.counted in cc
 
 -- The victim
 
-pub is_victim : {accounts : Accounts} {shape : Shape} {failures : ℕ} {blocks : List Block} {placing : Placing} {candidates : Candidates} {running : List (Option Collection)} (victim : ℕ) → IsSound accounts shape failures blocks placing candidates running → IsLeast candidates.counts victim → IsVictim shape.pages blocks placing.places running victim
-is_victim {placing = placing} {candidates = candidates} victim sound least =
+pub is_victim : {accounts : Accounts} {shape : Shape} {failures : ℕ} {blocks : List Block} {placing : Placing} {candidates : Candidates} {running : List (Option Collection)} (victim : ℕ) → IsSound accounts shape failures blocks placing candidates running → IsLeast candidates.counts candidates.erases victim → IsVictim shape.pages blocks placing.places running victim
+is_victim {shape = shape} {blocks = blocks} {placing = placing} {candidates = candidates} {running = running} victim sound least =
     let valid : least.valid ≡ count_by (is_in victim) placing.places = (sound.stands.counted victim least.valid least.counted).1 in
+    let as_valid : (other : ℕ) → IsCandidate shape.pages blocks running other → count_by (is_in other) placing.places ≡ count_by (is_in victim) placing.places → count_of candidates.counts other ≡ Some least.valid = (λ other closed as_few. counted_closed other sound closed ∙ ap (λ (n : ℕ). Some n) (as_few ∙ sym valid)) in
+    let mine : erases_of candidates.erases victim ≡ (block_at blocks victim).erases = sound.stands.worn victim least.valid least.counted in
+    let theirs : (other : ℕ) → IsCandidate shape.pages blocks running other → erases_of candidates.erases other ≡ (block_at blocks other).erases = (λ other closed. sound.stands.worn other (count_by (is_in other) placing.places) (counted_closed other sound closed)) in
     record {
       candidate = closed_counted victim least.valid sound least.counted;
       fewest = λ other closed. omega (arith, valid, least.fewest other (count_by (is_in other) placing.places) (counted_closed other sound closed));
-      first = λ other closed as_few. least.first other (counted_closed other sound closed ∙ ap (λ (n : ℕ). Some n) (as_few ∙ sym valid));
+      least_worn = λ other closed as_few. omega (arith, least.least_worn other (as_valid other closed as_few), mine, theirs other closed);
+      first = λ other closed as_few as_worn. least.first other (as_valid other closed as_few) (omega (arith, mine, theirs other closed, as_worn));
     }
 
 -- in which few pages lie
-pub few_in_victim : {accounts : Accounts} {shape : Shape} {failures : ℕ} {blocks : List Block} {placing : Placing} {candidates : Candidates} {running : List (Option Collection)} (victim : ℕ) → IsSound accounts shape failures blocks placing candidates running → IsLeast candidates.counts victim → Chosen accounts placing.places candidates.counts → count_by (is_in victim) placing.places ≤ accounts.plan.shape.pages - accounts.plan.alpha
+pub few_in_victim : {accounts : Accounts} {shape : Shape} {failures : ℕ} {blocks : List Block} {placing : Placing} {candidates : Candidates} {running : List (Option Collection)} (victim : ℕ) → IsSound accounts shape failures blocks placing candidates running → IsLeast candidates.counts candidates.erases victim → Chosen accounts placing.places candidates.counts → count_by (is_in victim) placing.places ≤ accounts.plan.shape.pages - accounts.plan.alpha
 few_in_victim {placing = placing} victim sound least it =
     omega (arith, (sound.stands.counted victim least.valid least.counted).1, least.fewest it.block (count_by (is_in it.block) placing.places) it.counted, it.few)
 
@@ -164,7 +169,7 @@ picks_begun {pages} {blocks} {counts} {running} task n new picks below none coun
   ];
 }
 
-pub sound_begun : {accounts : Accounts} {shape : Shape} {failures : ℕ} {blocks : List Block} {placing : Placing} {candidates : Candidates} {running : List (Option Collection)} (task victim : ℕ) → IsSound accounts shape failures blocks placing candidates running → task < length accounts.plan.caps → running_of running task ≡ None → IsLeast candidates.counts victim → Chosen accounts placing.places candidates.counts → Sound shape failures blocks placing (record candidates { counts = set candidates.counts victim None }) → IsSound accounts shape failures blocks placing (record candidates { counts = set candidates.counts victim None }) (set running task (Some (record { victim = victim; buffer = None })))
+pub sound_begun : {accounts : Accounts} {shape : Shape} {failures : ℕ} {blocks : List Block} {placing : Placing} {candidates : Candidates} {running : List (Option Collection)} (task victim : ℕ) → IsSound accounts shape failures blocks placing candidates running → task < length accounts.plan.caps → running_of running task ≡ None → IsLeast candidates.counts candidates.erases victim → Chosen accounts placing.places candidates.counts → Sound shape failures blocks placing (taken_out victim candidates) → IsSound accounts shape failures blocks placing (taken_out victim candidates) (set running task (Some (record { victim = victim; buffer = None })))
 sound_begun {accounts} {shape} {failures} {blocks} {placing} {candidates} {running} task victim sound in_caps none least it stands =
     let new : Collection = record { victim = victim; buffer = None } in
     let closed = closed_counted victim least.valid sound least.counted in

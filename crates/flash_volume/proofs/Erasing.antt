@@ -2,19 +2,19 @@
 use Rattle.std.proofs.Common.{◌≡◌, ◌≢◌, ℕ, ◌+◌, ◌<◌, ◌≤◌, Bool, true, false, cond, suc, List, [], length, get_or, set, Option, Some, None, refl, sym, ap, ◌∙◌, arith, inl, inr, ◌∷◌, count_by}
 use Rattle.std.specs.Prelude.{◌==◌, if◌then◌else◌, position}
 use Rattle.std.proofs.lemmas.Bool.{cases_eq}
-use Rattle.std.proofs.lemmas.List.{get_or-set_same, get_or-set_other, length-set, length-map, get_or-map, map-set, set-get_or, ext_get_or}
+use Rattle.std.proofs.lemmas.List.{get_or_read, get_or-set_same, get_or-set_other, length-set, length-map, get_or-map, map-set, set-get_or, ext_get_or}
 use Rattle.std.proofs.lemmas.List.Sums.{sum_by-set, sum_by-cons}
 use Rattle.std.proofs.lemmas.List.Quantifiers.{position-Some}
 use Rattle.slot_types.specs.declared.pages.Place.{Place}
 use Rattle.slot_types.specs.declared.plans.Shape.{Shape}
 use Rattle.slot_types.specs.Places.{place_of, is_in, owner_of}
-use Rattle.victim_pick.specs.Candidates.{Candidates, count_of}
+use Rattle.victim_pick.specs.Candidates.{Candidates, count_of, erases_of}
 use Rattle.page_map.specs.Placing.{Placing}
 use Rattle.page_map.proofs.Owners.{unowned}
 use Rattle.flash_die.specs.Flash.{Block, free_block, blank, block_at, cell_at, IsProgrammed, IsErasable, erased}
-use Rattle.flash_volume.specs.Cells.{filled_of, fills_of, is_open_with, free_in, free_cells, content_at, contents}
+use Rattle.flash_volume.specs.Cells.{filled_of, fills_of, erases_in, is_open_with, free_in, free_cells, content_at, contents}
 use Rattle.flash_volume.specs.Array.{Stands}
-use Rattle.flash_volume.proofs.Opening.{OneOpen, fill_is, seen, opened_is, opened_none, opened_means, none_opened}
+use Rattle.flash_volume.proofs.Opening.{OneOpen, erases_at, fill_is, seen, opened_is, opened_none, opened_means, none_opened}
 use Rattle.flash_volume.proofs.Counting.{here_other}
 
 -- a closed block in which no page lies
@@ -23,8 +23,8 @@ pub record IsEmptied (shape : Shape) (blocks : List Block) (places : List (Optio
   pub closed : filled_of (block_at blocks block) ≡ shape.pages
   pub none : (p : ℕ) (q : Place) → place_of places p ≡ Some q → q.block ≡ block → ⊥
 
-pub unplaced_of : {shape : Shape} {failures : ℕ} {blocks : List Block} {placing : Placing} {fills : List ℕ} {writing : Option ℕ} {candidates : Candidates} (block : ℕ) → Stands shape failures blocks placing fills writing candidates → block < length blocks → filled_of (block_at blocks block) ≡ shape.pages → ((page : ℕ) → page < shape.pages → owner_of placing.places (record { block = block; page = page }) ≡ None) → IsEmptied shape blocks placing.places block
-unplaced_of {shape} {failures} {blocks} {placing} {fills} {writing} {candidates} block stands in_range closed unplaced = record {
+pub unplaced_of : {shape : Shape} {failures : ℕ} {blocks : List Block} {placing : Placing} {fills worn : List ℕ} {writing : Option ℕ} {candidates : Candidates} (block : ℕ) → Stands shape failures blocks placing fills worn writing candidates → block < length blocks → filled_of (block_at blocks block) ≡ shape.pages → ((page : ℕ) → page < shape.pages → owner_of placing.places (record { block = block; page = page }) ≡ None) → IsEmptied shape blocks placing.places block
+unplaced_of {shape} {failures} {blocks} {placing} {fills} {worn} {writing} {candidates} block stands in_range closed unplaced = record {
   in_range = in_range;
   closed = closed;
   none = λ p q lies same.
@@ -33,6 +33,12 @@ unplaced_of {shape} {failures} {blocks} {placing} {fills} {writing} {candidates}
       let at : ℕ → Place = λ b. record { block = b; page = q.page } in
       unowned placing.places p q (ap (λ (b : ℕ). owner_of placing.places (at b)) same ∙ unplaced q.page below) lies;
 }
+
+-- what is read of the counts of erases is the block's
+pub erases_are_counted : {shape : Shape} {failures : ℕ} {blocks : List Block} {placing : Placing} {fills worn : List ℕ} {writing : Option ℕ} {candidates : Candidates} (block read : ℕ) → Stands shape failures blocks placing fills worn writing candidates → block < length blocks → read ≡ get_or worn block read → read ≡ (block_at blocks block).erases
+erases_are_counted {blocks = blocks} {worn = worn} block read stands below is =
+    let in_worn : block < length worn = omega (arith, below, ap length stands.erases_are, length-map blocks (λ (b : Block). b.erases)) in
+    get_or_read worn block read in_worn is 0 ∙ ap (λ (l : List ℕ). get_or l block 0) stands.erases_are ∙ erases_at blocks block below
 
 pub erasable : {shape : Shape} {blocks : List Block} {places : List (Option Place)} {block : ℕ} → IsEmptied shape blocks places block → (block_at blocks block).erases < 4294967295 → IsErasable blocks shape.pages block
 erasable clear few = record { in_range = clear.in_range; closed = λ _. clear.closed; few_erases = few }
@@ -69,9 +75,10 @@ record RestStands (shape : Shape) (blocks : List Block) (placing : Placing) (can
   placed : (p : ℕ) (q : Place) → place_of placing.places p ≡ Some q → IsProgrammed blocks q
   few_valid : (k : ℕ) → count_by (is_in k) placing.places ≤ filled_of (block_at blocks k)
   counted : (k n : ℕ) → count_of candidates.counts k ≡ Some n → (filled_of (block_at blocks k) ≡ shape.pages) × (n ≡ count_by (is_in k) placing.places)
+  worn : (k n : ℕ) → count_of candidates.counts k ≡ Some n → erases_of candidates.erases k ≡ (block_at blocks k).erases
 
-rest_stands : {shape : Shape} {failures : ℕ} {blocks : List Block} {placing : Placing} {fills : List ℕ} {writing : Option ℕ} {candidates : Candidates} {block : ℕ} (new : Block) → Stands shape failures blocks placing fills writing candidates → IsEmptied shape blocks placing.places block → count_of candidates.counts block ≡ None → RestStands shape (set blocks block new) placing candidates
-rest_stands {shape} {failures} {blocks} {placing} {fills} {writing} {candidates} {block} new stands clear taken = record {
+rest_stands : {shape : Shape} {failures : ℕ} {blocks : List Block} {placing : Placing} {fills worn : List ℕ} {writing : Option ℕ} {candidates : Candidates} {block : ℕ} (new : Block) → Stands shape failures blocks placing fills worn writing candidates → IsEmptied shape blocks placing.places block → count_of candidates.counts block ≡ None → RestStands shape (set blocks block new) placing candidates
+rest_stands {shape} {failures} {blocks} {placing} {fills} {worn} {writing} {candidates} {block} new stands clear taken = record {
   placed = λ p q lies. elsewhere blocks block new q (clear.none p q lies) (stands.placed p q lies);
   few_valid = λ k. elim (cases_eq k block) [
     | inl same ↦ omega (arith, ap (λ (b : ℕ). count_by (is_in b) placing.places) same, none_valid block placing.places clear.none)
@@ -80,11 +87,14 @@ rest_stands {shape} {failures} {blocks} {placing} {fills} {writing} {candidates}
   counted = λ k n is.
       let other : k ≢ block = λ same. (let both : count_of candidates.counts k ≡ None = ap (λ (b : ℕ). count_of candidates.counts b) same ∙ taken in cc) in
       (ap filled_of (get_or-set_other blocks block k new free_block other) ∙ (stands.counted k n is).0, (stands.counted k n is).1);
+  worn = λ k n is.
+      let other : k ≢ block = λ same. (let both : count_of candidates.counts k ≡ None = ap (λ (b : ℕ). count_of candidates.counts b) same ∙ taken in cc) in
+      stands.worn k n is ∙ ap (λ (b : Block). b.erases) (sym (get_or-set_other blocks block k new free_block other));
 }
 
 -- one slot more, and not the last
-pub stands_going : {shape : Shape} {failures : ℕ} {blocks : List Block} {placing : Placing} {fills : List ℕ} {writing : Option ℕ} {candidates : Candidates} {block : ℕ} → Stands shape failures blocks placing fills writing candidates → IsEmptied shape blocks placing.places block → count_of candidates.counts block ≡ None → Stands shape failures (set blocks block (record (block_at blocks block) { erasing = (block_at blocks block).erasing + 1 })) placing fills writing candidates
-stands_going {shape} {failures} {blocks} {placing} {fills} {writing} {candidates} {block} stands clear taken =
+pub stands_going : {shape : Shape} {failures : ℕ} {blocks : List Block} {placing : Placing} {fills worn : List ℕ} {writing : Option ℕ} {candidates : Candidates} {block : ℕ} → Stands shape failures blocks placing fills worn writing candidates → IsEmptied shape blocks placing.places block → count_of candidates.counts block ≡ None → Stands shape failures (set blocks block (record (block_at blocks block) { erasing = (block_at blocks block).erasing + 1 })) placing fills worn writing candidates
+stands_going {shape} {failures} {blocks} {placing} {fills} {worn} {writing} {candidates} {block} stands clear taken =
     let new : Block = record (block_at blocks block) { erasing = (block_at blocks block).erasing + 1 } in
     let closed : get_or fills block 0 ≡ shape.pages = ap (λ (l : List ℕ). get_or l block 0) stands.fills_are ∙ fill_is blocks block ∙ clear.closed in
     let rest = rest_stands new stands clear taken in
@@ -94,6 +104,7 @@ stands_going {shape} {failures} {blocks} {placing} {fills} {writing} {candidates
       well = stands.well;
       count = length-set blocks block new ∙ stands.count;
       fills_are = stands.fills_are ∙ sym (set-get_or (fills_of blocks) block 0) ∙ ap (λ (m : ℕ). set (fills_of blocks) block m) (fill_is blocks block) ∙ sym (map-set filled_of blocks block new);
+      erases_are = stands.erases_are ∙ sym (set-get_or (erases_in blocks) block 0) ∙ ap (λ (m : ℕ). set (erases_in blocks) block m) (erases_at blocks block clear.in_range) ∙ sym (map-set (λ (b : Block). b.erases) blocks block new);
       within = stands.within;
       one_open = stands.one_open;
       writing_is = stands.writing_is;
@@ -104,8 +115,10 @@ stands_going {shape} {failures} {blocks} {placing} {fills} {writing} {candidates
       placed = rest.placed;
       few_valid = rest.few_valid;
       candidates_len = stands.candidates_len;
+      worn_len = stands.worn_len;
       candidates_pages = stands.candidates_pages;
       counted = rest.counted;
+      worn = rest.worn;
     }
 
 -- a block that is freed is not open, and was not
@@ -121,8 +134,8 @@ same_opened pages fills block (Some k) is closed other one =
     opened_is pages (set fills block 0) k (position (is_open_with pages) (set fills block 0)) refl one (omega (arith, means.0, stays)) (omega (arith, means.1, stays))
 
 -- the last slot frees the block
-pub stands_freed : {shape : Shape} {failures : ℕ} {blocks : List Block} {placing : Placing} {fills : List ℕ} {writing : Option ℕ} {candidates : Candidates} {block : ℕ} (erases : ℕ) → Stands shape failures blocks placing fills writing candidates → IsEmptied shape blocks placing.places block → count_of candidates.counts block ≡ None → Stands shape failures (set blocks block (record { pages = []; erasing = 0; erases = erases })) placing (set fills block 0) writing candidates
-stands_freed {shape} {failures} {blocks} {placing} {fills} {writing} {candidates} {block} erases stands clear taken =
+pub stands_freed : {shape : Shape} {failures : ℕ} {blocks : List Block} {placing : Placing} {fills worn : List ℕ} {writing : Option ℕ} {candidates : Candidates} {block : ℕ} (erases : ℕ) → Stands shape failures blocks placing fills worn writing candidates → IsEmptied shape blocks placing.places block → count_of candidates.counts block ≡ None → Stands shape failures (set blocks block (record { pages = []; erasing = 0; erases = erases })) placing (set fills block 0) (set worn block erases) writing candidates
+stands_freed {shape} {failures} {blocks} {placing} {fills} {worn} {writing} {candidates} {block} erases stands clear taken =
     let new : Block = record { pages = []; erasing = 0; erases = erases } in
     let closed : get_or fills block 0 ≡ shape.pages = ap (λ (l : List ℕ). get_or l block 0) stands.fills_are ∙ fill_is blocks block ∙ clear.closed in
     let rest = rest_stands new stands clear taken in
@@ -139,6 +152,7 @@ stands_freed {shape} {failures} {blocks} {placing} {fills} {writing} {candidates
       well = stands.well;
       count = length-set blocks block new ∙ stands.count;
       fills_are = ap (λ (l : List ℕ). set l block 0) stands.fills_are ∙ sym (map-set filled_of blocks block new);
+      erases_are = ap (λ (l : List ℕ). set l block erases) stands.erases_are ∙ sym (map-set (λ (b : Block). b.erases) blocks block new);
       within = λ k. elim (cases_eq k block) [
         | inl same ↦ omega (arith, ap (λ (j : ℕ). get_or (set fills block 0) j 0) same, zero_is)
         | inr other ↦ omega (arith, get_or-set_other fills block k 0 0 other, stands.within k)
@@ -152,8 +166,10 @@ stands_freed {shape} {failures} {blocks} {placing} {fills} {writing} {candidates
       placed = rest.placed;
       few_valid = rest.few_valid;
       candidates_len = stands.candidates_len;
+      worn_len = stands.worn_len;
       candidates_pages = stands.candidates_pages;
       counted = rest.counted;
+      worn = rest.worn;
     }
 
 -- a block's worth of cells more is free

@@ -9,13 +9,13 @@ use Rattle.slot_types.specs.declared.pages.Place.{Place}
 use Rattle.slot_types.specs.declared.plans.Shape.{Shape}
 use Rattle.slot_types.specs.declared.pages.PageData.{PageData}
 use Rattle.slot_types.specs.Places.{place_of, is_in}
-use Rattle.victim_pick.specs.Candidates.{Candidates, count_of}
+use Rattle.victim_pick.specs.Candidates.{Candidates, count_of, erases_of}
 use Rattle.page_map.specs.Placing.{Placing, bound}
 use Rattle.flash_die.specs.Flash.{Block, blank, free_block, block_at, cell_at, IsProgrammed, programmed}
-use Rattle.flash_volume.specs.Cells.{filled_of, fills_of, is_open_with, left_open, content_at, contents, free_in, free_cells}
+use Rattle.flash_volume.specs.Cells.{filled_of, fills_of, erases_in, is_open_with, left_open, content_at, contents, free_in, free_cells}
 use Rattle.flash_volume.specs.Array.{Stands, left}
-use Rattle.flash_volume.proofs.Opening.{Opens, OneOpen, Fits, opened_is, opened_none, same_block, other_block, stays}
-use Rattle.flash_volume.proofs.Counting.{counts_written, closed_len, left_len, closed_here, few_written, candidates_written}
+use Rattle.flash_volume.proofs.Opening.{Opens, OneOpen, Fits, erases_at, opened_is, opened_none, same_block, other_block, stays}
+use Rattle.flash_volume.proofs.Counting.{counts_written, erases_written, worn_written, closed_len, left_len, closed_here, few_written, candidates_written}
 
 -- What the program keeps
 
@@ -41,12 +41,13 @@ left_open_is pages fills block n o =
           opened_none pages (set fills block (n + 1)) (λ k some few. let k_is : k ≡ block = only_this (n + 1) k o some few in omega (arith, few, closed, now, ap (λ (j : ℕ). get_or (set fills block (n + 1)) j 0) k_is)) ∙ ap (λ t. if t then Some block else None) (sym test)
     ]
 
-pub stands_written : {shape : Shape} {failures : ℕ} {blocks : List Block} {placing : Placing} {fills : List ℕ} {writing : Option ℕ} {candidates : Candidates} (page : ℕ) (bytes : PageData) {place : Place} → Stands shape failures blocks placing fills writing candidates → Fits shape blocks place → page < length placing.places → Stands shape failures (programmed blocks place.block bytes) (bound placing page place) (set fills place.block (place.page + 1)) (left_open shape.pages place.block (place.page + 1)) (record candidates { counts = counts_written shape page place placing.places candidates.counts })
-stands_written {shape} {failures} {blocks} {placing} {fills} {writing} {candidates} page bytes {place} stands fit below =
+pub stands_written : {shape : Shape} {failures : ℕ} {blocks : List Block} {placing : Placing} {fills worn : List ℕ} {writing : Option ℕ} {candidates : Candidates} (page : ℕ) (bytes : PageData) {place : Place} → Stands shape failures blocks placing fills worn writing candidates → Fits shape blocks place → page < length placing.places → Stands shape failures (programmed blocks place.block bytes) (bound placing page place) (set fills place.block (place.page + 1)) worn (left_open shape.pages place.block (place.page + 1)) (record candidates { counts = counts_written shape page place placing.places candidates.counts; erases = erases_written shape place (get_or worn place.block 0) candidates.erases })
+stands_written {shape} {failures} {blocks} {placing} {fills} {worn} {writing} {candidates} page bytes {place} stands fit below =
     let old : Block = block_at blocks place.block in
     let new : Block = record old { pages = old.pages ++ bytes ∷ [] } in
     let longer : length new.pages ≡ length old.pages + 1 = length_push old.pages bytes in
     let o : Opens shape.pages fills place.block = rw stands.fills_are fit.opens in
+    let worn_is : get_or worn place.block 0 ≡ old.erases = ap (λ (l : List ℕ). get_or l place.block 0) stands.erases_are ∙ erases_at blocks place.block fit.in_range in
     record {
       limits = stands.limits;
       map_shape = stands.map_shape;
@@ -55,6 +56,7 @@ stands_written {shape} {failures} {blocks} {placing} {fills} {writing} {candidat
       fills_are =
           let n : place.page + 1 ≡ filled_of new = omega (arith, longer, fit.next) in
           ap (λ (l : List ℕ). set l place.block (place.page + 1)) stands.fills_are ∙ ap (λ (m : ℕ). set (fills_of blocks) place.block m) n ∙ sym (map-set filled_of blocks place.block new);
+      erases_are = stands.erases_are ∙ sym (set-get_or (erases_in blocks) place.block 0) ∙ ap (λ (n : ℕ). set (erases_in blocks) place.block n) (erases_at blocks place.block fit.in_range) ∙ sym (map-set (λ (b : Block). b.erases) blocks place.block new);
       within = λ k. elim (cases_eq k place.block) [
         | inl same ↦ omega (arith, ap (λ (j : ℕ). get_or (set fills place.block (place.page + 1)) j 0) same, get_or-set_same fills place.block (place.page + 1) 0 o.below, fit.room)
         | inr other ↦ omega (arith, get_or-set_other fills place.block k (place.page + 1) 0 other, stands.within k)
@@ -80,13 +82,15 @@ stands_written {shape} {failures} {blocks} {placing} {fills} {writing} {candidat
       ];
       few_valid = λ block. few_written page bytes block stands fit below;
       candidates_len = closed_len shape.pages place.block (place.page + 1) (count_by (is_in place.block) (set placing.places page (Some place))) (left (place_of placing.places page) candidates.counts) (nat_lt (place.page + 1) shape.pages) refl ∙ left_len (place_of placing.places page) candidates.counts ∙ stands.candidates_len;
+      worn_len = closed_len shape.pages place.block (place.page + 1) (get_or worn place.block 0) candidates.erases (nat_lt (place.page + 1) shape.pages) refl ∙ stands.worn_len;
       candidates_pages = stands.candidates_pages;
       counted = λ block n. candidates_written page bytes block n stands fit below;
+      worn = λ block n is. ap (λ (e : ℕ). erases_of (erases_written shape place e candidates.erases) block) worn_is ∙ worn_written page bytes block n stands fit is;
     }
 
 -- a block that is closed then is a candidate
-pub closes_filled : {shape : Shape} {failures : ℕ} {blocks : List Block} {placing : Placing} {fills : List ℕ} {writing : Option ℕ} {candidates : Candidates} {place : Place} (page : ℕ) (bytes : PageData) → Stands shape failures blocks placing fills writing candidates → Fits shape blocks place → filled_of (block_at (programmed blocks place.block bytes) place.block) ≡ shape.pages → IsSome (count_of (counts_written shape page place placing.places candidates.counts) place.block)
-closes_filled {shape} {failures} {blocks} {placing} {fills} {writing} {candidates} {place} page bytes stands fit closed =
+pub closes_filled : {shape : Shape} {failures : ℕ} {blocks : List Block} {placing : Placing} {fills worn : List ℕ} {writing : Option ℕ} {candidates : Candidates} {place : Place} (page : ℕ) (bytes : PageData) → Stands shape failures blocks placing fills worn writing candidates → Fits shape blocks place → filled_of (block_at (programmed blocks place.block bytes) place.block) ≡ shape.pages → IsSome (count_of (counts_written shape page place placing.places candidates.counts) place.block)
+closes_filled {shape} {failures} {blocks} {placing} {fills} {worn} {writing} {candidates} {place} page bytes stands fit closed =
     let valid : ℕ = count_by (is_in place.block) (set placing.places page (Some place)) in
     let there = closed_here shape.pages place.block (place.page + 1) valid (left (place_of placing.places page) candidates.counts) (omega (arith, closed, ap filled_of (same_block blocks place.block bytes fit.in_range), length_push (block_at blocks place.block).pages bytes, fit.next)) (omega (arith, left_len (place_of placing.places page) candidates.counts, stands.candidates_len, fit.in_range, stands.count)) in
     rw there refl
@@ -103,8 +107,8 @@ content_stays blocks block bytes None below placed = refl
 content_stays blocks block bytes (Some q) below placed = (stays blocks block bytes q below (placed q refl)).1
 
 -- the page reads what was programmed, and every other page as before
-pub contents_written : {shape : Shape} {failures : ℕ} {blocks : List Block} {placing : Placing} {fills : List ℕ} {writing : Option ℕ} {candidates : Candidates} (page : ℕ) (bytes : PageData) {place : Place} → Stands shape failures blocks placing fills writing candidates → Fits shape blocks place → page < length placing.places → contents (programmed blocks place.block bytes) (set placing.places page (Some place)) ≡ set (contents blocks placing.places) page bytes
-contents_written {shape} {failures} {blocks} {placing} {fills} {writing} {candidates} page bytes {place} stands fit below =
+pub contents_written : {shape : Shape} {failures : ℕ} {blocks : List Block} {placing : Placing} {fills worn : List ℕ} {writing : Option ℕ} {candidates : Candidates} (page : ℕ) (bytes : PageData) {place : Place} → Stands shape failures blocks placing fills worn writing candidates → Fits shape blocks place → page < length placing.places → contents (programmed blocks place.block bytes) (set placing.places page (Some place)) ≡ set (contents blocks placing.places) page bytes
+contents_written {shape} {failures} {blocks} {placing} {fills} {worn} {writing} {candidates} page bytes {place} stands fit below =
     let after : List Block = programmed blocks place.block bytes in
     let places : List (Option Place) = set placing.places page (Some place) in
     let len : length places ≡ length placing.places = length-set placing.places page (Some place) in

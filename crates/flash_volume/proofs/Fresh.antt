@@ -13,11 +13,11 @@ use Rattle.plan_rules.proofs.Totals.{room}
 use Rattle.std.proofs.lemmas.List.Folds.{sum_by-replicate}
 use Rattle.slot_types.specs.Places.{place_of, is_in}
 use Rattle.slot_types.specs.Shapes.{IsShape}
-use Rattle.victim_pick.specs.Candidates.{Candidates, count_of}
+use Rattle.victim_pick.specs.Candidates.{count_of}
 use Rattle.page_map.specs.Placing.{blank_map}
 use Rattle.flash_die.specs.Flash.{Block, blank, free_block, block_at, IsFresh}
-use Rattle.flash_volume.specs.Cells.{filled_of, fills_of, free_in, free_cells, contents}
-use Rattle.flash_volume.specs.Array.{Stands}
+use Rattle.flash_volume.specs.Cells.{filled_of, fills_of, erases_in, free_in, free_cells, contents}
+use Rattle.flash_volume.specs.Array.{Stands, no_candidates}
 use Rattle.flash_volume.specs.Running.{running_of}
 use Rattle.flash_volume.specs.Sound.{IsSound}
 use Rattle.flash_volume.specs.declared.collection.Collection.{Collection}
@@ -29,6 +29,10 @@ zeros n = replicate n 0
 fills_fresh : (n : ℕ) → zeros n ≡ fills_of (replicate n free_block)
 fills_fresh zero = refl
 fills_fresh (suc n) = ap (λ (l : List ℕ). 0 ∷ l) (fills_fresh n)
+
+erases_fresh : (n : ℕ) → zeros n ≡ erases_in (replicate n free_block)
+erases_fresh zero = refl
+erases_fresh (suc n) = ap (λ (l : List ℕ). 0 ∷ l) (erases_fresh n)
 
 fill_fresh : (n k : ℕ) → get_or (zeros n) k 0 ≡ 0
 fill_fresh n k =
@@ -51,9 +55,6 @@ lies_nowhere logical page =
       | inr past ↦ get_or_past (replicate logical None) page None (omega (arith, past, length-replicate {A = Option Place} logical None))
     ]
 
-abbrev pub no_candidates : Shape → Candidates
-no_candidates shape = record { pages = shape.pages; counts = replicate shape.blocks None }
-
 abbrev nowhere : ℕ → List (Option Place)
 nowhere logical = replicate logical None
 
@@ -68,7 +69,7 @@ none_counted n k =
       | inr past ↦ get_or_past (replicate n None) k None (omega (arith, past, length-replicate {A = Option ℕ} n None))
     ]
 
-pub stands_fresh : (shape : Shape) (failures : ℕ) (blocks : List Block) (logical : ℕ) → IsShape shape → IsFresh shape blocks failures → Stands shape failures blocks (blank_map shape logical) (replicate shape.blocks 0) None (no_candidates shape)
+pub stands_fresh : (shape : Shape) (failures : ℕ) (blocks : List Block) (logical : ℕ) → IsShape shape → IsFresh shape blocks failures → Stands shape failures blocks (blank_map shape logical) (replicate shape.blocks 0) (replicate shape.blocks 0) None (no_candidates shape)
 stands_fresh shape failures blocks logical limits fresh =
     let none : (k : ℕ) → 0 < get_or (zeros shape.blocks) k 0 → ⊥ = λ k some. omega (arith, some, fill_fresh shape.blocks k) in
     record {
@@ -77,6 +78,7 @@ stands_fresh shape failures blocks logical limits fresh =
       well = fresh.well;
       count = ap length fresh.unused ∙ length-replicate shape.blocks free_block;
       fills_are = fills_fresh shape.blocks ∙ ap fills_of (sym fresh.unused);
+      erases_are = erases_fresh shape.blocks ∙ ap erases_in (sym fresh.unused);
       within = λ k. omega (arith, fill_fresh shape.blocks k);
       one_open = λ i j some_i few_i some_j few_j. absurd (none i some_i);
       writing_is = opened_none shape.pages (replicate shape.blocks 0) (λ k some few. none k some);
@@ -84,8 +86,10 @@ stands_fresh shape failures blocks logical limits fresh =
       placed = λ page place lies. let none_lies : place_of (replicate logical None) page ≡ None = lies_nowhere logical page in absurd (cc);
       few_valid = λ block. omega (arith, none_valid logical block);
       candidates_len = length-replicate shape.blocks None;
+      worn_len = length-replicate shape.blocks None;
       candidates_pages = refl;
       counted = λ block n is. let none_is : count_of (replicate shape.blocks None) block ≡ None = none_counted shape.blocks block in absurd (cc);
+      worn = λ block n is. let none_is : count_of (replicate shape.blocks None) block ≡ None = none_counted shape.blocks block in absurd (cc);
     }
 
 one_more : (n k : ℕ) → (n + 1) * k ≡ n * k + k

@@ -14,7 +14,7 @@ use Rattle.victim_pick.specs.Candidates.{Candidates}
 use Rattle.page_map.specs.Placing.{Placing, IsCell}
 use Rattle.page_map.proofs.Owners.{fails_where_none, no_owner}
 use Rattle.flash_die.specs.Flash.{Block, blank, free_block, block_at, cell_at, IsProgrammed, IsNext, programmed}
-use Rattle.flash_volume.specs.Cells.{filled_of, fills_of, is_open_with, is_wholly_free, first_of, opened_in, open_in, next_cell, free_in, free_cells}
+use Rattle.flash_volume.specs.Cells.{filled_of, fills_of, erases_in, is_open_with, is_wholly_free, first_of, opened_in, open_in, next_cell, free_in, free_cells}
 use Rattle.flash_volume.specs.Array.{Stands}
 
 -- The open block
@@ -96,6 +96,9 @@ open_none pages fills (Some k) e is = cc
 pub fill_at : (blocks : List Block) (k : ℕ) → k < length blocks → get_or (fills_of blocks) k 0 ≡ length (block_at blocks k).pages
 fill_at blocks k below = get_or-map filled_of blocks k free_block 0 below
 
+pub erases_at : (blocks : List Block) (k : ℕ) → k < length blocks → get_or (erases_in blocks) k 0 ≡ (block_at blocks k).erases
+erases_at blocks k below = get_or-map (λ (b : Block). b.erases) blocks k free_block 0 below
+
 -- also past the last block
 pub fill_is : (blocks : List Block) (k : ℕ) → get_or (fills_of blocks) k 0 ≡ filled_of (block_at blocks k)
 fill_is blocks k =
@@ -165,16 +168,17 @@ pub record Fits (shape : Shape) (blocks : List Block) (place : Place) : Type 0 w
 
 -- the array as its callers see it
 abbrev pub Sound : Shape → ℕ → List Block → Placing → Candidates → Type 0
-Sound shape failures blocks placing candidates = Stands shape failures blocks placing (fills_of blocks) (opened_in shape.pages blocks) candidates
+Sound shape failures blocks placing candidates = Stands shape failures blocks placing (fills_of blocks) (erases_in blocks) (opened_in shape.pages blocks) candidates
 
 -- what is kept is what callers see
-pub seen : {shape : Shape} {failures : ℕ} {blocks : List Block} {placing : Placing} {fills : List ℕ} {writing : Option ℕ} {candidates : Candidates} → Stands shape failures blocks placing fills writing candidates → Sound shape failures blocks placing candidates
-seen {shape} {failures} {blocks} {placing} {fills} {writing} {candidates} stands = record {
+pub seen : {shape : Shape} {failures : ℕ} {blocks : List Block} {placing : Placing} {fills worn : List ℕ} {writing : Option ℕ} {candidates : Candidates} → Stands shape failures blocks placing fills worn writing candidates → Sound shape failures blocks placing candidates
+seen {shape} {failures} {blocks} {placing} {fills} {worn} {writing} {candidates} stands = record {
   limits = stands.limits;
   map_shape = stands.map_shape;
   well = stands.well;
   count = stands.count;
   fills_are = refl;
+  erases_are = refl;
   within = rw (← stands.fills_are) stands.within;
   one_open = rw (← stands.fills_are) stands.one_open;
   writing_is = refl;
@@ -182,16 +186,18 @@ seen {shape} {failures} {blocks} {placing} {fills} {writing} {candidates} stands
   placed = stands.placed;
   few_valid = stands.few_valid;
   candidates_len = stands.candidates_len;
+  worn_len = stands.worn_len;
   candidates_pages = stands.candidates_pages;
   counted = stands.counted;
+  worn = stands.worn;
 }
 
 -- the block that is remembered is the open one
-pub remembered : {shape : Shape} {failures : ℕ} {blocks : List Block} {placing : Placing} {fills : List ℕ} {writing : Option ℕ} {candidates : Candidates} → Stands shape failures blocks placing fills writing candidates → opened_in shape.pages blocks ≡ writing
+pub remembered : {shape : Shape} {failures : ℕ} {blocks : List Block} {placing : Placing} {fills worn : List ℕ} {writing : Option ℕ} {candidates : Candidates} → Stands shape failures blocks placing fills worn writing candidates → opened_in shape.pages blocks ≡ writing
 remembered {shape} stands = ap (λ (l : List ℕ). position (is_open_with shape.pages) l) (sym stands.fills_are) ∙ stands.writing_is
 
-pub fits : {shape : Shape} {failures : ℕ} {blocks : List Block} {placing : Placing} {fills : List ℕ} {writing : Option ℕ} {candidates : Candidates} (place : Place) → Stands shape failures blocks placing fills writing candidates → open_in shape.pages blocks ≡ Some place.block → place.page ≡ filled_of (block_at blocks place.block) → Fits shape blocks place
-fits {shape} {failures} {blocks} {placing} {fills} {writing} {candidates} place stands is page =
+pub fits : {shape : Shape} {failures : ℕ} {blocks : List Block} {placing : Placing} {fills worn : List ℕ} {writing : Option ℕ} {candidates : Candidates} (place : Place) → Stands shape failures blocks placing fills worn writing candidates → open_in shape.pages blocks ≡ Some place.block → place.page ≡ filled_of (block_at blocks place.block) → Fits shape blocks place
+fits {shape} {failures} {blocks} {placing} {fills} {worn} {writing} {candidates} place stands is page =
     let o : Opens shape.pages (fills_of blocks) place.block = opens shape.pages blocks place.block (omega (arith, stands.limits.some_pages)) (seen stands).one_open is in
     record {
       opens = o;
@@ -201,36 +207,36 @@ fits {shape} {failures} {blocks} {placing} {fills} {writing} {candidates} place 
     }
 
 -- the next cell, where a block is open
-next_fits_by : {shape : Shape} {failures : ℕ} {blocks : List Block} {placing : Placing} {fills : List ℕ} {writing : Option ℕ} {candidates : Candidates} (o : Option ℕ) → Stands shape failures blocks placing fills writing candidates → open_in shape.pages blocks ≡ o → IsSome o → Fits shape blocks (record { block = unwrap_or o 0; page = filled_of (block_at blocks (unwrap_or o 0)) })
+next_fits_by : {shape : Shape} {failures : ℕ} {blocks : List Block} {placing : Placing} {fills worn : List ℕ} {writing : Option ℕ} {candidates : Candidates} (o : Option ℕ) → Stands shape failures blocks placing fills worn writing candidates → open_in shape.pages blocks ≡ o → IsSome o → Fits shape blocks (record { block = unwrap_or o 0; page = filled_of (block_at blocks (unwrap_or o 0)) })
 next_fits_by None stands is some = absurd (cc)
 next_fits_by (Some block) stands is some = fits (record { block = block; page = filled_of (block_at _ block) }) stands is refl
 
-pub next_fits : {shape : Shape} {failures : ℕ} {blocks : List Block} {placing : Placing} {fills : List ℕ} {writing : Option ℕ} {candidates : Candidates} → Stands shape failures blocks placing fills writing candidates → 0 < free_cells shape.pages blocks → Fits shape blocks (next_cell shape.pages blocks)
+pub next_fits : {shape : Shape} {failures : ℕ} {blocks : List Block} {placing : Placing} {fills worn : List ℕ} {writing : Option ℕ} {candidates : Candidates} → Stands shape failures blocks placing fills worn writing candidates → 0 < free_cells shape.pages blocks → Fits shape blocks (next_cell shape.pages blocks)
 next_fits {shape} {failures} {blocks} stands some = next_fits_by (open_in shape.pages blocks) stands refl (some_open shape.pages blocks some)
 
-pub fits_next : {shape : Shape} {failures : ℕ} {blocks : List Block} {placing : Placing} {fills : List ℕ} {writing : Option ℕ} {candidates : Candidates} {place : Place} → Stands shape failures blocks placing fills writing candidates → 0 < free_cells shape.pages blocks → place ≡ next_cell shape.pages blocks → Fits shape blocks place
+pub fits_next : {shape : Shape} {failures : ℕ} {blocks : List Block} {placing : Placing} {fills worn : List ℕ} {writing : Option ℕ} {candidates : Candidates} {place : Place} → Stands shape failures blocks placing fills worn writing candidates → 0 < free_cells shape.pages blocks → place ≡ next_cell shape.pages blocks → Fits shape blocks place
 fits_next {shape} {failures} {blocks} stands some is = subst (λ (p : Place). Fits shape blocks p) (sym is) (next_fits stands some)
 
 -- an array that stands, a page of it, and the cell that is written next
-pub record Ready (shape : Shape) (failures : ℕ) (blocks : List Block) (placing : Placing) (fills : List ℕ) (writing : Option ℕ) (candidates : Candidates) (page : ℕ) (place : Place) : Type 0 where
-  pub stands : Stands shape failures blocks placing fills writing candidates
+pub record Ready (shape : Shape) (failures : ℕ) (blocks : List Block) (placing : Placing) (fills worn : List ℕ) (writing : Option ℕ) (candidates : Candidates) (page : ℕ) (place : Place) : Type 0 where
+  pub stands : Stands shape failures blocks placing fills worn writing candidates
   pub is : place ≡ next_cell shape.pages blocks
   pub fit : Fits shape blocks place
   pub in_list : page < length placing.places
 
-pub is_next : {shape : Shape} {failures : ℕ} {blocks : List Block} {placing : Placing} {fills : List ℕ} {writing : Option ℕ} {candidates : Candidates} {place : Place} → Stands shape failures blocks placing fills writing candidates → Fits shape blocks place → IsNext blocks shape.pages place
-is_next {shape} {failures} {blocks} {placing} {fills} {writing} {candidates} {place} stands fit = record {
+pub is_next : {shape : Shape} {failures : ℕ} {blocks : List Block} {placing : Placing} {fills worn : List ℕ} {writing : Option ℕ} {candidates : Candidates} {place : Place} → Stands shape failures blocks placing fills worn writing candidates → Fits shape blocks place → IsNext blocks shape.pages place
+is_next {shape} {failures} {blocks} {placing} {fills} {worn} {writing} {candidates} {place} stands fit = record {
   in_range = fit.in_range;
   next = fit.next;
   room = fit.room;
   quiet = (seen stands).quiet place.block fit.opens.room;
 }
 
-pub is_cell : {shape : Shape} {failures : ℕ} {blocks : List Block} {placing : Placing} {fills : List ℕ} {writing : Option ℕ} {candidates : Candidates} {place : Place} → Stands shape failures blocks placing fills writing candidates → Fits shape blocks place → IsCell placing.shape place
-is_cell {shape} {failures} {blocks} {placing} {fills} {writing} {candidates} {place} stands fit =
+pub is_cell : {shape : Shape} {failures : ℕ} {blocks : List Block} {placing : Placing} {fills worn : List ℕ} {writing : Option ℕ} {candidates : Candidates} {place : Place} → Stands shape failures blocks placing fills worn writing candidates → Fits shape blocks place → IsCell placing.shape place
+is_cell {shape} {failures} {blocks} {placing} {fills} {worn} {writing} {candidates} {place} stands fit =
     subst (λ (s : Shape). IsCell s place) (sym stands.map_shape) (let cell : IsCell shape place = record { block = omega (arith, fit.in_range, stands.count); page = fit.room } in cell)
 
 -- nothing lies in a free cell
-pub unplaced : {shape : Shape} {failures : ℕ} {blocks : List Block} {placing : Placing} {fills : List ℕ} {writing : Option ℕ} {candidates : Candidates} {place : Place} → Stands shape failures blocks placing fills writing candidates → Fits shape blocks place → owner_of placing.places place ≡ None
-unplaced {shape} {failures} {blocks} {placing} {fills} {writing} {candidates} {place} stands fit =
+pub unplaced : {shape : Shape} {failures : ℕ} {blocks : List Block} {placing : Placing} {fills worn : List ℕ} {writing : Option ℕ} {candidates : Candidates} {place : Place} → Stands shape failures blocks placing fills worn writing candidates → Fits shape blocks place → owner_of placing.places place ≡ None
+unplaced {shape} {failures} {blocks} {placing} {fills} {worn} {writing} {candidates} {place} stands fit =
     no_owner placing.places place (λ page lies. omega (arith, (stands.placed page place lies).filled, fit.next))

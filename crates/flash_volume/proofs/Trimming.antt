@@ -34,13 +34,14 @@ lay_there places page p q below lies =
 leaves : (block page : ℕ) (places : List (Option Place)) → page < length places → count_by (is_in block) (set places page None) + here block (place_of places page) ≡ count_by (is_in block) places
 leaves block page places below = omega (arith, sum_by-set (here block) places page None None below)
 
-pub stands_trimmed : {shape : Shape} {failures : ℕ} {blocks : List Block} {placing : Placing} {fills : List ℕ} {writing : Option ℕ} {candidates : Candidates} (page : ℕ) → Stands shape failures blocks placing fills writing candidates → page < length placing.places → Stands shape failures blocks (unbound placing page) fills writing (record candidates { counts = left (place_of placing.places page) candidates.counts })
+pub stands_trimmed : {shape : Shape} {failures : ℕ} {blocks : List Block} {placing : Placing} {fills worn : List ℕ} {writing : Option ℕ} {candidates : Candidates} (page : ℕ) → Stands shape failures blocks placing fills worn writing candidates → page < length placing.places → Stands shape failures blocks (unbound placing page) fills worn writing (record candidates { counts = left (place_of placing.places page) candidates.counts })
 stands_trimmed {placing = placing} {candidates = candidates} page stands below = record {
   limits = stands.limits;
   map_shape = stands.map_shape;
   well = stands.well;
   count = stands.count;
   fills_are = stands.fills_are;
+  erases_are = stands.erases_are;
   within = stands.within;
   one_open = stands.one_open;
   writing_is = stands.writing_is;
@@ -48,11 +49,13 @@ stands_trimmed {placing = placing} {candidates = candidates} page stands below =
   placed = λ p q lies. stands.placed p q (lay_there placing.places page p q below lies);
   few_valid = λ block. omega (arith, stands.few_valid block, leaves block page placing.places below);
   candidates_len = left_len (place_of placing.places page) candidates.counts ∙ stands.candidates_len;
+  worn_len = stands.worn_len;
   candidates_pages = stands.candidates_pages;
   counted = λ block n is.
       let was = left_counted (place_of placing.places page) candidates.counts block n is in
       let old = stands.counted block was.0 was.1 in
       (old.0, omega (arith, was.2, old.1, leaves block page placing.places below));
+  worn = λ block n is. let was = left_counted (place_of placing.places page) candidates.counts block n is in stands.worn block was.0 was.1;
 }
 
 -- the page is blank, and every other one as before

@@ -11,6 +11,10 @@ filled_of block = length block.pages
 abbrev pub fills_of : List Block → List ℕ
 fills_of blocks = map filled_of blocks
 
+-- by block its finished erases
+abbrev pub erases_in : List Block → List ℕ
+erases_in blocks = map (λ block. block.erases) blocks
+
 -- a block of so many pages is open if so many of them are programmed
 abbrev pub is_open_with : ℕ → ℕ → Bool
 is_open_with pages filled = nat_lt 0 filled && nat_lt filled pages

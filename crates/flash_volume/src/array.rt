@@ -4,11 +4,11 @@ ghost use Rattle.std.specs.Prelude.{◌≡◌, ◌≢◌, ◌==◌, ◌+◌, ◌
 ghost use Rattle.slot_types.specs.declared.pages.Place.{Place};
 ghost use Rattle.slot_types.specs.Places.{is_in, place_of, owner_of};
 ghost use Rattle.slot_types.specs.Shapes.{IsShape};
-ghost use Rattle.victim_pick.specs.Candidates.{count_of, HasNone, IsLeast, without};
+ghost use Rattle.victim_pick.specs.Candidates.{count_of, HasNone, IsLeast};
 ghost use Rattle.page_map.specs.Placing.{blank_map, bound, unbound};
 ghost use Rattle.flash_die.specs.Flash.{IsFresh, blank, block_at, programmed, erased};
 ghost use Rattle.flash_volume.specs.Cells.{filled_of, is_wholly_free, open_in, left_open, next_cell, content_at, contents, free_cells};
-ghost use Rattle.flash_volume.specs.Array.{IsSoundArray};
+ghost use Rattle.flash_volume.specs.Array.{IsSoundArray, no_candidates, taken_out};
 ghost use Rattle.flash_volume.specs.Acts.{IsFirst};
 
 use crate::candidates::{close_when_filled, leave};
@@ -32,6 +32,8 @@ pub(crate) struct PageArray<N: Nand> {
     fills: Vec<u32>,
     /// The open block. There is one at most.
     writing: Option<u32>,
+    /// By block its finished erases.
+    erases: Vec<u32>,
     /// The closed blocks that may be collected.
     victims: Victims,
     failed: bool,
@@ -45,7 +47,7 @@ impl<N: Nand> Model for PageArray<N> {
 
     ghost view = { λ a. record { failed = a.failed; device = a.device; placing = a.map; candidates = a.victims } };
 
-    ghost invariant = { λ a. a.failed ≡ false → Stands (N.shape_of a.device) (N.failures a.device) (N.blocks a.device) a.map a.fills.items a.writing a.victims };
+    ghost invariant = { λ a. a.failed ≡ false → Stands (N.shape_of a.device) (N.failures a.device) (N.blocks a.device) a.map a.fills.items a.erases.items a.writing a.victims };
 }
 
 impl<N: Nand> PageArray<N> {
@@ -53,7 +55,7 @@ impl<N: Nand> PageArray<N> {
     pub(crate) fn new(alloc: Global, device: N, logical: u32) -> Result<Self, Refusal>
         requires limits { IsShape (N.shape_of device) }
         requires fresh { IsFresh (N.shape_of device) (N.blocks device) (N.failures device) }
-        ensures ok { IfOk result (λ array. array ≡ record { failed = false; device = device; placing = blank_map (N.shape_of device) logical; candidates = record { pages = (N.shape_of device).pages; counts = replicate (N.shape_of device).blocks None } }) }
+        ensures ok { IfOk result (λ array. array ≡ record { failed = false; device = device; placing = blank_map (N.shape_of device) logical; candidates = no_candidates (N.shape_of device) }) }
         ensures sound { IfOk result (IsSoundArray N.shape_of N.failures N.blocks) }
         ensures err { IfErr result (λ refusal. refusal ≡ Refusal.NoMemory) }
     {
@@ -62,6 +64,7 @@ impl<N: Nand> PageArray<N> {
             device,
             map: PageMap::new(alloc, shape, logical)?,
             fills: vec![in alloc; 0; shape.blocks as usize]?,
+            erases: vec![in alloc; 0; shape.blocks as usize]?,
             writing: None,
             victims: Victims::new(alloc, shape.blocks, shape.pages)?,
             failed: false,
@@ -147,7 +150,8 @@ impl<N: Nand> PageArray<N> {
                 self.map.bind(page, place);
                 leave(&mut self.victims, before);
                 let valid = self.map.valid(place.block);
-                close_when_filled(&mut self.victims, place.block, filled, pages, valid);
+                let erases = self.erases[place.block as usize];
+                close_when_filled(&mut self.victims, place.block, filled, pages, valid, erases);
                 Ok(())
             }
         }
@@ -202,17 +206,19 @@ impl<N: Nand> PageArray<N> {
             Ok(false) => Ok(false),
             Ok(true) => {
                 self.fills[block as usize] = 0;
+                self.erases[block as usize] += 1;
                 Ok(true)
             }
         }
     }
 
-    /// Takes away the candidate in which the fewest pages lie, of equal ones the first.
+    /// Takes away the candidate in which the fewest pages lie, of equal ones that with the fewest erases, of these the
+    /// first.
     pub(crate) fn take_victim(&mut self) -> u32
         requires alive { self.old.failed ≡ false }
         requires some { HasNone self.old.candidates.counts → ⊥ }
-        ensures least { IsLeast self.old.candidates.counts result }
-        ensures taken { self.new ≡ record self.old { candidates = record self.old.candidates { counts = without (Some result) self.old.candidates.counts } } }
+        ensures least { IsLeast self.old.candidates.counts self.old.candidates.erases result }
+        ensures taken { self.new ≡ record self.old { candidates = taken_out result self.old.candidates } }
         ensures sound { IsSoundArray N.shape_of N.failures N.blocks self.new }
     {
         self.victims.take_least().unwrap()

@@ -20,20 +20,22 @@ pub(crate) fn leave(victims: &mut Victims, before: Option<Place>)
     }
 }
 
-/// A block whose last cell is programmed is closed: it becomes a candidate, with so many pages that lie in it.
+/// A block whose last cell is programmed is closed: it becomes a candidate, with so many pages that lie in it and so
+/// many erases.
 pub(crate) fn close_when_filled(
     victims: &mut Victims,
     block: u32,
     filled: u32,
     pages: u32,
     valid: u32,
+    erases: u32,
 )
     requires in_range { block < length victims.old.counts }
     requires open { count_of victims.old.counts block ≡ None }
     requires fits { valid ≤ victims.old.pages }
-    ensures { victims.new ≡ record victims.old { counts = closed_when_filled pages block filled valid victims.old.counts } }
+    ensures { victims.new ≡ record victims.old { counts = closed_when_filled pages block filled valid victims.old.counts; erases = closed_when_filled pages block filled erases victims.old.erases } }
 {
     if filled >= pages {
-        victims.close(block, valid);
+        victims.close(block, valid, erases);
     }
 }

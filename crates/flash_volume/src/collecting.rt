@@ -18,8 +18,9 @@ impl<N: Nand> Volume<N> {
     ///
     /// While at least `alpha` pages are spare it is waived: the task is given what a collection
     /// would give it, out of the spare pages. Else it takes its victim: of the closed blocks that
-    /// no collection works on the one in which the fewest pages lie, of equal ones the first.
-    /// There always is one, and no more pages lie in it than the reserve can hold.
+    /// no collection works on the one in which the fewest pages lie, of equal ones the one with the
+    /// fewest finished erases, and of these the first. There always is one, and no more pages lie
+    /// in it than the reserve can hold.
     ///
     /// `DieStopped` exactly where the volume has failed, which changes nothing.
     pub fn begin(&mut self, task: TaskNo) -> Result<Began, Refusal>

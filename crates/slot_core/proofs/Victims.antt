@@ -1,7 +1,7 @@
 -- The victim that a volume takes is the log's.
-use Rattle.std.proofs.Common.{◌≡◌, ◌⊎◌, inl, inr, ℕ, zero, suc, ◌+◌, ◌<◌, ◌≤◌, ◌==◌, ◌&&◌, not, nat_lt, Bool, true, false, cond, List, [], ◌∷◌, Option, Some, refl, ap, sym, ◌∙◌, subst, length, map, filter, fold, count_by, slice_index_or, if◌then◌else◌, arith}
+use Rattle.std.proofs.Common.{◌≡◌, ◌⊎◌, inl, inr, ℕ, zero, suc, ◌+◌, ◌<◌, ◌≤◌, ◌==◌, ◌&&◌, ◌||◌, not, nat_lt, Bool, true, false, cond, List, [], ◌∷◌, Option, Some, refl, ap, sym, ◌∙◌, subst, length, map, filter, fold, count_by, slice_index_or, if◌then◌else◌, arith}
 use Rattle.std.specs.List.{AllByRecursion, range_with_len, reduce}
-use Rattle.std.proofs.lemmas.Bool.{true≢false, and_parts, and_from, not-true, not_from_false, false_from_ne_true, eqb-true, eq-eqb}
+use Rattle.std.proofs.lemmas.Bool.{cases_lt, true≢false, and_parts, and_from, not-true, not_from_false, false_from_ne_true, eqb-true, eq-eqb}
 use Rattle.std.proofs.lemmas.Bool.Decides.{nat_tests}
 use Rattle.std.proofs.lemmas.List.{length-map}
 use Rattle.slot_types.specs.declared.plans.DiePlan.{DiePlan}
@@ -40,42 +40,63 @@ rises_lower : (low high : ℕ) (xs : List ℕ) → low ≤ high → RisesFrom hi
 rises_lower low high [] le h = tt
 rises_lower low high (x ∷ xs) le h = (omega (arith, le, h.0), h.1)
 
--- no key is smaller, and of equal ones none comes before
-pub record NotAfter (key : ℕ → ℕ) (v o : ℕ) : Type 0 where
+-- no key is smaller, of equal ones none is less worn, and of these none comes before
+pub record NotAfter (key worn : ℕ → ℕ) (v o : ℕ) : Type 0 where
   pub least : key v ≤ key o
-  pub first : key o ≡ key v → v ≤ o
+  pub least_worn : key o ≡ key v → worn v ≤ worn o
+  pub first : key o ≡ key v → worn o ≡ worn v → v ≤ o
 
-abbrev lesser : (ℕ → ℕ) → ℕ → ℕ → ℕ
-lesser key best b = if nat_lt (key b) (key best) then b else best
+abbrev goes : (ℕ → ℕ) → (ℕ → ℕ) → ℕ → ℕ → Bool
+goes key worn b best = nat_lt (key b) (key best) || ((key b == key best) && nat_lt (worn b) (worn best))
 
-not_less : (m n : ℕ) → n ≤ m → nat_lt m n ≡ false
-not_less m n h = grind (arith, nat_tests)
+abbrev lesser : (ℕ → ℕ) → (ℕ → ℕ) → ℕ → ℕ → ℕ
+lesser key worn best b = if goes key worn b best then b else best
 
-fold_least : (key : ℕ → ℕ) (v best : ℕ) (xs : List ℕ) → RisesFrom (best + 1) xs → NotAfter key v best → AllByRecursion (NotAfter key v) xs → (best ≡ v) ⊎ IsOneOf v xs → fold (lesser key) best xs ≡ v
-fold_least key v best [] rises before all (inl is) = is
-fold_least key v best [] rises before all (inr none) = absurd none
-fold_least key v best (x ∷ xs) rises before all (inl is) =
-    ap (λ (b : Bool). fold (lesser key) (cond b x best) xs) (not_less (key x) (key best) (omega (arith, all.0.least, ap key is)))
-    ∙ fold_least key v best xs (rises_lower (best + 1) (x + 1) xs (omega (arith, rises.0)) rises.1) before all.1 (inl is)
-fold_least key v best (x ∷ xs) rises before all (inr found) =
-    by_test (nat_lt (key x) (key best)) refl found (λ place. fold_least key v x xs rises.1 all.0 all.1 place)
-    (λ later. fold_least key v best xs (rises_lower (best + 1) (x + 1) xs (omega (arith, rises.0)) rises.1) before all.1 (inr later))
+more_stays : (m n p q : ℕ) → n < m → (nat_lt m n || ((m == n) && nat_lt p q)) ≡ false
+more_stays m n p q h = grind (arith, nat_tests)
+
+worn_stays : (m n p q : ℕ) → m ≡ n → q ≤ p → (nat_lt m n || ((m == n) && nat_lt p q)) ≡ false
+worn_stays m n p q same h = grind (arith, nat_tests)
+
+not_less : (m n p q : ℕ) → n ≤ m → (m ≡ n → q ≤ p) → (nat_lt m n || ((m == n) && nat_lt p q)) ≡ false
+not_less m n p q h worn = elim (cases_lt n m) [
+  | inl more ↦ more_stays m n p q more
+  | inr few ↦ let same : m ≡ n = omega (arith, h, few) in worn_stays m n p q same (worn same)
+]
+
+stays_least : (m n p q : ℕ) → (nat_lt m n || ((m == n) && nat_lt p q)) ≡ false → n ≤ m
+stays_least m n p q e = grind (arith, nat_tests)
+
+stays_worn : (m n p q : ℕ) → (nat_lt m n || ((m == n) && nat_lt p q)) ≡ false → m ≡ n → q ≤ p
+stays_worn m n p q e same = grind (arith, nat_tests)
+
+fold_least : (key worn : ℕ → ℕ) (v best : ℕ) (xs : List ℕ) → RisesFrom (best + 1) xs → NotAfter key worn v best → AllByRecursion (NotAfter key worn v) xs → (best ≡ v) ⊎ IsOneOf v xs → fold (lesser key worn) best xs ≡ v
+fold_least key worn v best [] rises before all (inl is) = is
+fold_least key worn v best [] rises before all (inr none) = absurd none
+fold_least key worn v best (x ∷ xs) rises before all (inl is) =
+    ap (λ (b : Bool). fold (lesser key worn) (cond b x best) xs) (not_less (key x) (key best) (worn x) (worn best) (omega (arith, all.0.least, ap key is)) (λ same. omega (arith, all.0.least_worn (same ∙ ap key is), ap worn is)))
+    ∙ fold_least key worn v best xs (rises_lower (best + 1) (x + 1) xs (omega (arith, rises.0)) rises.1) before all.1 (inl is)
+fold_least key worn v best (x ∷ xs) rises before all (inr found) =
+    by_test (goes key worn x best) refl found (λ place. fold_least key worn v x xs rises.1 all.0 all.1 place)
+    (λ later. fold_least key worn v best xs (rises_lower (best + 1) (x + 1) xs (omega (arith, rises.0)) rises.1) before all.1 (inr later))
   where
-    too_late : nat_lt (key x) (key best) ≡ false → x ≡ v → ⊥
+    too_late : goes key worn x best ≡ false → x ≡ v → ⊥
     too_late e is =
-        let le : key best ≤ key x = grind (arith, nat_tests) in
+        let le : key best ≤ key x = stays_least (key x) (key best) (worn x) (worn best) e in
         let same : key x ≡ key v = ap key is in
-        let low : v ≤ best = before.first (omega (arith, le, same, before.least)) in
-        absurd (omega (arith, low, rises.0, is))
+        let as_few : key best ≡ key v = omega (arith, le, same, before.least) in
+        let worn_le : worn best ≤ worn x = stays_worn (key x) (key best) (worn x) (worn best) e (same ∙ sym as_few) in
+        let as_worn : worn best ≡ worn v = omega (arith, worn_le, ap worn is, before.least_worn as_few) in
+        absurd (omega (arith, before.first as_few as_worn, rises.0, is))
 
-    by_test : (b : Bool) → nat_lt (key x) (key best) ≡ b → (x ≡ v) ⊎ IsOneOf v xs → ((x ≡ v) ⊎ IsOneOf v xs → fold (lesser key) x xs ≡ v) → (IsOneOf v xs → fold (lesser key) best xs ≡ v) → fold (lesser key) (cond b x best) xs ≡ v
+    by_test : (b : Bool) → goes key worn x best ≡ b → (x ≡ v) ⊎ IsOneOf v xs → ((x ≡ v) ⊎ IsOneOf v xs → fold (lesser key worn) x xs ≡ v) → (IsOneOf v xs → fold (lesser key worn) best xs ≡ v) → fold (lesser key worn) (cond b x best) xs ≡ v
     by_test true e place taken kept = taken place
     by_test false e (inl is) taken kept = absurd (too_late e is)
     by_test false e (inr later) taken kept = kept later
 
-reduce_least : (key : ℕ → ℕ) (v : ℕ) (xs : List ℕ) → RisesFrom 0 xs → AllByRecursion (NotAfter key v) xs → IsOneOf v xs → reduce (lesser key) xs ≡ Some v
-reduce_least key v [] rises all none = absurd none
-reduce_least key v (x ∷ xs) rises all found = ap (λ (n : ℕ). Some n) (fold_least key v x xs rises.1 all.0 all.1 found)
+reduce_least : (key worn : ℕ → ℕ) (v : ℕ) (xs : List ℕ) → RisesFrom 0 xs → AllByRecursion (NotAfter key worn v) xs → IsOneOf v xs → reduce (lesser key worn) xs ≡ Some v
+reduce_least key worn v [] rises all none = absurd none
+reduce_least key worn v (x ∷ xs) rises all found = ap (λ (n : ℕ). Some n) (fold_least key worn v x xs rises.1 all.0 all.1 found)
 
 -- The numbers that pass a test
 
@@ -121,6 +142,9 @@ is_candidate plan past b = is_closed plan (block_at (cells plan past) b) && not 
 filled_is : (plan : DiePlan) (past : Log) (blocks : List device.Block) (b : ℕ) → map counts_of blocks ≡ (cells plan past).blocks → filled_of (device.block_at blocks b) ≡ (block_at (cells plan past) b).filled
 filled_is plan past blocks b are = ap (λ (s : Block). s.filled) (counted blocks b ∙ ap (λ (bs : List Block). slice_index_or bs b free_block) are)
 
+erases_is : (plan : DiePlan) (past : Log) (blocks : List device.Block) (b : ℕ) → map counts_of blocks ≡ (cells plan past).blocks → (device.block_at blocks b).erases ≡ (block_at (cells plan past) b).erases
+erases_is plan past blocks b are = ap (λ (s : Block). s.erases) (counted blocks b ∙ ap (λ (bs : List Block). slice_index_or bs b free_block) are)
+
 closed_is : (plan : DiePlan) (past : Log) (blocks : List device.Block) (running : List (Option Collection)) (b : ℕ) → AreSound plan (cells plan past) → map counts_of blocks ≡ (cells plan past).blocks → AreRunning plan past running
     → b < plan.shape.blocks → is_candidate plan past b ≡ true → IsCandidate plan.shape.pages blocks running b
 closed_is plan past blocks running b sound are r lt e =
@@ -151,16 +175,22 @@ candidate_is plan past blocks running b are r closed =
 pub victim_is : (plan : DiePlan) (past : Log) (blocks : List device.Block) (places : List (Option Place)) (running : List (Option Collection)) (b : ℕ) → AreSound plan (cells plan past) → map counts_of blocks ≡ (cells plan past).blocks → places ≡ (cells plan past).places
     → AreRunning plan past running → IsVictim plan.shape.pages blocks places running b → victim plan past ≡ Some b
 victim_is plan past blocks places running b sound are places_are r v =
-    reduce_least (valid (cells plan past)) b (candidates plan past) (filter_rises (is_candidate plan past) 0 plan.shape.blocks)
-    (filter_all (is_candidate plan past) (NotAfter (valid (cells plan past)) b) 0 plan.shape.blocks not_after)
+    reduce_least (valid (cells plan past)) (λ (d : ℕ). (block_at (cells plan past) d).erases) b (candidates plan past) (filter_rises (is_candidate plan past) 0 plan.shape.blocks)
+    (filter_all (is_candidate plan past) (NotAfter (valid (cells plan past)) (λ (d : ℕ). (block_at (cells plan past) d).erases) b) 0 plan.shape.blocks not_after)
     (filter_has (is_candidate plan past) 0 plan.shape.blocks b (omega arith) (omega (arith, v.candidate.in_range, sound.blocks, length-map blocks counts_of, ap length are)) (candidate_is plan past blocks running b are r v.candidate))
   where
     count_is : (o : ℕ) → count_by (is_in o) places ≡ valid (cells plan past) o
     count_is o = ap (count_by (is_in o)) places_are
 
-    not_after : (o : ℕ) → o < 0 + plan.shape.blocks → is_candidate plan past o ≡ true → NotAfter (valid (cells plan past)) b o
+    worn_is : (o : ℕ) → (device.block_at blocks o).erases ≡ (block_at (cells plan past) o).erases
+    worn_is o = erases_is plan past blocks o are
+
+    not_after : (o : ℕ) → o < 0 + plan.shape.blocks → is_candidate plan past o ≡ true → NotAfter (valid (cells plan past)) (λ (d : ℕ). (block_at (cells plan past) d).erases) b o
     not_after o lt e =
-        let closed = closed_is plan past blocks running o sound are r (omega (arith, lt)) e in record {
+        let closed = closed_is plan past blocks running o sound are r (omega (arith, lt)) e in
+        let as_few : valid (cells plan past) o ≡ valid (cells plan past) b → count_by (is_in o) places ≡ count_by (is_in b) places = (λ same. count_is o ∙ (same ∙ sym (count_is b))) in
+        record {
           least = omega (arith, v.fewest o closed, count_is b, count_is o);
-          first = λ same. v.first o closed (count_is o ∙ (same ∙ sym (count_is b)));
+          least_worn = λ same. omega (arith, v.least_worn o closed (as_few same), worn_is b, worn_is o);
+          first = λ same as_worn. v.first o closed (as_few same) (worn_is o ∙ (as_worn ∙ sym (worn_is b)));
         }

@@ -1,5 +1,5 @@
 -- The lists of a die without candidates.
-use Rattle.std.proofs.Common.{◌≡◌, ℕ, ◌+◌, ◌*◌, ◌/◌, ◌%◌, ◌^◌, ◌<◌, List, get_or, Option, Some, None, sym, ap, ◌∙◌, arith, inl, inr}
+use Rattle.std.proofs.Common.{◌≡◌, ℕ, ◌+◌, ◌*◌, ◌/◌, ◌%◌, ◌^◌, ◌<◌, List, get_or, Option, Some, None, refl, sym, ap, ◌∙◌, arith, inl, inr}
 use Rattle.std.specs.Prelude.{replicate}
 use Rattle.std.specs.Int.{bit_at}
 use Rattle.std.proofs.lemmas.Bool.{cases_lt}
@@ -32,22 +32,24 @@ zero_at n i =
 none_in : (words n count block : ℕ) → is_in words (replicate n 0) count block ≡ 0
 none_in words n count block = ap (λ (w : ℕ). bit_at w (block % 64)) (zero_at n (count * words + block / 64)) ∙ bit_at-zero (block % 64)
 
-first_none : (counts : List (Option ℕ)) (count : ℕ) (first : Option ℕ) → first ≡ None → ((block : ℕ) → count_of counts block ≡ None) → IsFirstOf counts count first
-first_none counts count None is none = λ block counted. let no = none block in absurd (cc)
-first_none counts count (Some first) is none = absurd (cc)
+first_none : (counts erases : List (Option ℕ)) (count : ℕ) (first : Option ℕ) → first ≡ None → ((block : ℕ) → count_of counts block ≡ None) → IsFirstOf counts erases count first
+first_none counts erases count None is none = λ block counted. let no = none block in absurd (cc)
+first_none counts erases count (Some first) is none = absurd (cc)
 
-pub fresh_lists : (pages blocks : ℕ) → blocks < 2 ^ 32 → pages < 2 ^ 32 → AreLists pages (replicate blocks None) (replicate (pages + 1) None) (words_for blocks) (replicate ((pages + 1) * words_for blocks) 0) 0
+pub fresh_lists : (pages blocks : ℕ) → blocks < 2 ^ 32 → pages < 2 ^ 32 → AreLists pages (replicate blocks None) (replicate blocks None) (replicate (pages + 1) None) (words_for blocks) (replicate ((pages + 1) * words_for blocks) 0) 0
 fresh_lists pages blocks few_blocks few_pages = record {
   few_blocks = omega (arith, length-replicate {A = Option ℕ} blocks None, few_blocks);
   few_pages = few_pages;
   words_are = ap words_for (sym (length-replicate {A = Option ℕ} blocks None));
   bits_len = length-replicate ((pages + 1) * words_for blocks) 0;
   firsts_len = length-replicate {A = Option ℕ} (pages + 1) None;
+  erases_len = refl;
+  both = λ block. refl;
   fit = λ block count is. let none = none_at blocks block in absurd (cc);
   sets = λ count block fits below.
       let out = none_in (words_for blocks) ((pages + 1) * words_for blocks) count block in
       let none = none_at blocks block in
       (λ is. absurd (omega (arith, out, is)), λ is. absurd (cc));
-  firsts_are = λ count fits. first_none (replicate blocks None) count (get_or (replicate (pages + 1) None) count None) (none_at (pages + 1) count) (none_at blocks);
+  firsts_are = λ count fits. first_none (replicate blocks None) (replicate blocks None) count (get_or (replicate (pages + 1) None) count None) (none_at (pages + 1) count) (none_at blocks);
   least_is = λ block count is. let none = none_at blocks block in absurd (cc);
 }

@@ -191,5 +191,5 @@ victim_found plan past b t =
     let c : Cells = cells plan past in
     let test : ℕ → Bool = λ d. is_closed plan (block_at c d) && not (is_collected plan past d) in
     let s = keeps_passing test (range_with_len 0 plan.shape.blocks) b b (range_at 0 plan.shape.blocks b t.in_range ∙ ap (λ (n : ℕ). Some n) (omega arith)) (and_from (is_closed plan (block_at c b)) (not (is_collected plan past b)) t.closed (not_from_false (is_collected plan past b) t.alone)) in
-    let v = least_le (valid c) (candidates plan past) s.place b s.is in
+    let v = least_le (valid c) (λ (d : ℕ). (block_at c d).erases) (candidates plan past) s.place b s.is in
     (v.0, v.1, omega (arith, v.2, t.few_valid))

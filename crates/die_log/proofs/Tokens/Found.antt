@@ -1,7 +1,8 @@
 -- Lists: what a search finds, and the least by a key.
-use Rattle.std.proofs.Common.{◌≡◌, ℕ, zero, suc, ◌+◌, ◌<◌, ◌≤◌, nat_lt, Bool, true, false, cond, List, [], ◌∷◌, length, filter, fold, sum_by, count_by, get_or, Option, Some, None, refl, ap, sym, ◌∙◌, inl, inr, arith, slice_get}
+use Rattle.std.proofs.Common.{◌≡◌, ℕ, zero, suc, ◌+◌, ◌<◌, ◌≤◌, ◌==◌, ◌&&◌, ◌||◌, nat_lt, Bool, true, false, cond, List, [], ◌∷◌, length, filter, fold, sum_by, count_by, get_or, Option, Some, None, refl, ap, sym, ◌∙◌, inl, inr, arith, slice_get}
 use Rattle.std.specs.List.{list_any, range_with_len, reduce}
-use Rattle.std.proofs.lemmas.Bool.{or_cases, or_left, or_right, ltb-true, ltb-false, true≢false}
+use Rattle.std.proofs.lemmas.Bool.{or_cases, or_left, or_right, true≢false}
+use Rattle.std.proofs.lemmas.Bool.Decides.{nat_tests}
 use Rattle.std.proofs.lemmas.Option.{same_Some}
 use Rattle.std.proofs.lemmas.List.Sums.{sum_by-cons}
 use Rattle.die_log.proofs.Tokens.Sums.{one_if, some_pass}
@@ -68,33 +69,39 @@ pub keeps_passing : {X : Type 0} (t : X → Bool) (xs : List X) (k : ℕ) (x : X
 keeps_passing t [] k x e is = absurd cc
 keeps_passing t (z ∷ xs) k x e is = kept_by t z xs k x (t z) refl e is (λ m h. keeps_passing t xs m x h is)
 
--- The least by a key
+-- The least by a key, and of equal ones by another
 
-abbrev pub lesser_by : (ℕ → ℕ) → ℕ → ℕ → ℕ
-lesser_by key best b = cond (nat_lt (key b) (key best)) b best
+abbrev pub lesser_by : (ℕ → ℕ) → (ℕ → ℕ) → ℕ → ℕ → ℕ
+lesser_by key worn best b = cond (nat_lt (key b) (key best) || ((key b == key best) && nat_lt (worn b) (worn best))) b best
 
-lesser_le : (key : ℕ → ℕ) (best b : ℕ) (t : Bool) → nat_lt (key b) (key best) ≡ t → (key (cond t b best) ≤ key best) × (key (cond t b best) ≤ key b)
-lesser_le key best b true e = let h = ltb-true (key b) (key best) e in (omega (arith, h), omega arith)
-lesser_le key best b false e = let h = ltb-false (key b) (key best) e in (omega arith, omega (arith, h))
+goes_says : (m n p q : ℕ) → (nat_lt m n || ((m == n) && nat_lt p q)) ≡ true → m ≤ n
+goes_says m n p q e = grind (arith, nat_tests)
 
-fold_le : (key : ℕ → ℕ) (best : ℕ) (xs : List ℕ) → (key (fold (lesser_by key) best xs) ≤ key best) × ((k b : ℕ) → slice_get xs k ≡ Some b → key (fold (lesser_by key) best xs) ≤ key b)
-fold_le key best [] = (omega arith, λ k b e. absurd cc)
-fold_le key best (x ∷ xs) =
-    let two = lesser_le key best x (nat_lt (key x) (key best)) refl in
-    let rest = fold_le key (lesser_by key best x) xs in
+stays_says : (m n p q : ℕ) → (nat_lt m n || ((m == n) && nat_lt p q)) ≡ false → n ≤ m
+stays_says m n p q e = grind (arith, nat_tests)
+
+lesser_le : (key worn : ℕ → ℕ) (best b : ℕ) (t : Bool) → (nat_lt (key b) (key best) || ((key b == key best) && nat_lt (worn b) (worn best))) ≡ t → (key (cond t b best) ≤ key best) × (key (cond t b best) ≤ key b)
+lesser_le key worn best b true e = (goes_says (key b) (key best) (worn b) (worn best) e, omega arith)
+lesser_le key worn best b false e = (omega arith, stays_says (key b) (key best) (worn b) (worn best) e)
+
+fold_le : (key worn : ℕ → ℕ) (best : ℕ) (xs : List ℕ) → (key (fold (lesser_by key worn) best xs) ≤ key best) × ((k b : ℕ) → slice_get xs k ≡ Some b → key (fold (lesser_by key worn) best xs) ≤ key b)
+fold_le key worn best [] = (omega arith, λ k b e. absurd cc)
+fold_le key worn best (x ∷ xs) =
+    let two = lesser_le key worn best x (nat_lt (key x) (key best) || ((key x == key best) && nat_lt (worn x) (worn best))) refl in
+    let rest = fold_le key worn (lesser_by key worn best x) xs in
     (omega (arith, two.0, rest.0), at two.1 rest.0 rest.1)
   where
-    at : key (lesser_by key best x) ≤ key x → key (fold (lesser_by key) (lesser_by key best x) xs) ≤ key (lesser_by key best x)
-        → ((k b : ℕ) → slice_get xs k ≡ Some b → key (fold (lesser_by key) (lesser_by key best x) xs) ≤ key b)
-        → (k b : ℕ) → slice_get (x ∷ xs) k ≡ Some b → key (fold (lesser_by key) best (x ∷ xs)) ≤ key b
+    at : key (lesser_by key worn best x) ≤ key x → key (fold (lesser_by key worn) (lesser_by key worn best x) xs) ≤ key (lesser_by key worn best x)
+        → ((k b : ℕ) → slice_get xs k ≡ Some b → key (fold (lesser_by key worn) (lesser_by key worn best x) xs) ≤ key b)
+        → (k b : ℕ) → slice_get (x ∷ xs) k ≡ Some b → key (fold (lesser_by key worn) best (x ∷ xs)) ≤ key b
     at here le rest zero b e = let same : key x ≡ key b = ap key (same_Some x b e) in omega (arith, here, le, same)
     at here le rest (suc k) b e = rest k b e
 
 -- the chosen one's key is no more than that of any in the list
-pub least_le : (key : ℕ → ℕ) (xs : List ℕ) (k b : ℕ) → slice_get xs k ≡ Some b → (v : ℕ) × (reduce (lesser_by key) xs ≡ Some v) × (key v ≤ key b)
-least_le key [] k b e = absurd cc
-least_le key (x ∷ xs) zero b e = let same : key x ≡ key b = ap key (same_Some x b e) in (fold (lesser_by key) x xs, refl, omega (arith, (fold_le key x xs).0, same))
-least_le key (x ∷ xs) (suc k) b e = (fold (lesser_by key) x xs, refl, (fold_le key x xs).1 k b e)
+pub least_le : (key worn : ℕ → ℕ) (xs : List ℕ) (k b : ℕ) → slice_get xs k ≡ Some b → (v : ℕ) × (reduce (lesser_by key worn) xs ≡ Some v) × (key v ≤ key b)
+least_le key worn [] k b e = absurd cc
+least_le key worn (x ∷ xs) zero b e = let same : key x ≡ key b = ap key (same_Some x b e) in (fold (lesser_by key worn) x xs, refl, omega (arith, (fold_le key worn x xs).0, same))
+least_le key worn (x ∷ xs) (suc k) b e = (fold (lesser_by key worn) x xs, refl, (fold_le key worn x xs).1 k b e)
 
 -- Ranges
 

@@ -3,4 +3,4 @@ use Rattle.victim_pick.proofs.tests.ten_thousand_steps_agree_with_the_plain_sear
 
 -- the blocks stay as many, and as large
 abbrev pub invariant-loop : goal.invariant-loop
-invariant-loop g l = record { blocks : length l.victims.counts ≡ 1024; pages : l.victims.pages ≡ 16; both : length l.counts.items ≡ 1024 }
+invariant-loop g l = record { blocks : length l.victims.counts ≡ 1024; pages : l.victims.pages ≡ 16; both : length l.blocks.items ≡ 1024 }

@@ -1,7 +1,7 @@
-use Rattle.std.proofs.Common.{◌+◌, []}
+use Rattle.std.proofs.Common.{◌+◌, [], arith}
 use Rattle.flash_die.specs.Flash.{block_at}
 use Rattle.flash_volume.proofs.Opening.{seen}
-use Rattle.flash_volume.proofs.Erasing.{IsEmptied, unplaced_of, stands_going, stands_freed, contents_erased, erased_last, erased_going}
+use Rattle.flash_volume.proofs.Erasing.{IsEmptied, erases_are_counted, unplaced_of, stands_going, stands_freed, contents_erased, erased_last, erased_going}
 use Rattle.flash_volume.proofs.array.PageArray.erase_slot.Given.{Over}
 use Rattle.flash_volume.proofs.array.PageArray.erase_slot.Goals as goal
 use Rattle.flash_volume.proofs.array.PageArray.erase_slot.Goals.{After-erase_slot}
@@ -14,13 +14,21 @@ emptied g c =
     let closed = rw (← c.self.view_is) at c.requires.closed in
     unplaced_of c.args.block stands in_range closed (rw (← c.self.view_is) at c.requires.unplaced)
 
+pub overflow_add-index_mut : goal.overflow_add-index_mut
+overflow_add-index_mut g c =
+    let stands = c.self.invariant (rw (← c.self.view_is) at c.requires.alive) in
+    let in_range = rw (← c.self.view_is) at c.requires.block in
+    let worn_is = erases_are_counted c.args.block c.index_mut-in-Ok-true.result.now stands in_range c.index_mut-in-Ok-true.ensures.value in
+    omega (arith, worn_is, rw (← c.self.view_is) at c.requires.few_erases)
+
 pub invariant_of-self-in-Ok-true : goal.invariant_of-self-in-Ok-true
 invariant_of-self-in-Ok-true g c = λ _.
     let stands = c.self.invariant (rw (← c.self.view_is) at c.requires.alive) in
     let clear = emptied g (goal.at.invariant_of-self-in-Ok-true g c).After-erase_slot in
     let b = g.N.Nand.blocks c.self.inside.device in
     let is = erased_last b (g.N.Nand.blocks c.erase_slot.new.self) (g.N.Nand.shape_of c.self.inside.device).erase_slots c.args.block c.in-Ok-true.field-0 c.in-Ok-true.ensures.blocks c.in-Ok-true.ensures.last c.in-Ok-true.field-0-test in
-    rw (c.erase_slot.ensures.shape, c.in-Ok-true.ensures.well, is) (stands_freed ((block_at b c.args.block).erases + 1) stands clear (rw (← c.self.view_is) at c.requires.taken))
+    let worn_is = erases_are_counted c.args.block c.index_mut-in-Ok-true.result.now stands clear.in_range c.index_mut-in-Ok-true.ensures.value in
+    rw (c.erase_slot.ensures.shape, c.in-Ok-true.ensures.well, is, worn_is) (stands_freed ((block_at b c.args.block).erases + 1) stands clear (rw (← c.self.view_is) at c.requires.taken))
 
 pub invariant_of-self-in-Ok-false : goal.invariant_of-self-in-Ok-false
 invariant_of-self-in-Ok-false g c = λ _.

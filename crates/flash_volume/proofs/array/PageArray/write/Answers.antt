@@ -1,4 +1,6 @@
-use Rattle.std.proofs.Common.{arith}
+use Rattle.std.proofs.Common.{◌≡◌, ◌<◌, length, get_or, ap, arith}
+use Rattle.std.proofs.lemmas.List.{get_or_read, length-map}
+use Rattle.flash_die.specs.Flash.{Block}
 use Rattle.flash_volume.proofs.Opening.{fits_next, is_next, is_cell, unplaced, seen, some_open, Ready}
 use Rattle.flash_volume.proofs.Counting.{some_valid, left_open_block, left_len, few_open}
 use Rattle.flash_volume.proofs.Filling.{stands_written, contents_written, free_written, closes_filled}
@@ -7,7 +9,7 @@ use Rattle.flash_volume.proofs.array.PageArray.write.Goals as goal
 use Rattle.flash_volume.proofs.array.PageArray.write.Goals.{After-next_cell-place}
 
 -- the array stands, and the cell that was found is the next one
-ready : (g : Over) (c : After-next_cell-place g) → Ready (g.N.Nand.shape_of c.self.inside.device) (g.N.Nand.failures c.self.inside.device) (g.N.Nand.blocks c.self.inside.device) c.self.inside.map c.self.inside.fills.items c.self.inside.writing c.self.inside.victims c.args.page c.next_cell-place.result
+ready : (g : Over) (c : After-next_cell-place g) → Ready (g.N.Nand.shape_of c.self.inside.device) (g.N.Nand.failures c.self.inside.device) (g.N.Nand.blocks c.self.inside.device) c.self.inside.map c.self.inside.fills.items c.self.inside.erases.items c.self.inside.writing c.self.inside.victims c.args.page c.next_cell-place.result
 ready g c =
     let stands = c.self.invariant (rw (← c.self.view_is) at c.requires.alive) in
     let is = rw (← c.self.view_is) at c.next_cell-place.ensures in
@@ -56,7 +58,11 @@ close_when_filled-requires-clause-fits g c =
 pub invariant_of-self-in-Ok : goal.invariant_of-self-in-Ok
 invariant_of-self-in-Ok g c = λ _.
     let k = ready g (goal.at.invariant_of-self-in-Ok g c).After-next_cell-place in
-    rw (c.program.ensures.shape, c.in-Ok.ensures.well, c.in-Ok.ensures.blocks, c.left_open-still_open.ensures, c.close_when_filled.ensures, c.leave.ensures, c.valid-valid.ensures, c.bind.ensures, c.place-before.ensures.place, c.shape-pages.ensures, c.program.ensures.shape) (stands_written c.args.page c.args.bytes k.stands k.fit k.in_list)
+    let worn = c.self.inside.erases.items in
+    let block = c.next_cell-place.result.block in
+    let below : block < length worn = omega (arith, k.fit.in_range, ap length k.stands.erases_are, length-map (g.N.Nand.blocks c.self.inside.device) (λ (b : Block). b.erases)) in
+    let worn_read : c.index-erases.result.now ≡ get_or worn block 0 = get_or_read worn block c.index-erases.result.now below c.index-erases.ensures 0 in
+    rw (c.program.ensures.shape, c.in-Ok.ensures.well, c.in-Ok.ensures.blocks, c.left_open-still_open.ensures, c.close_when_filled.ensures, c.leave.ensures, c.valid-valid.ensures, c.bind.ensures, c.place-before.ensures.place, c.shape-pages.ensures, c.program.ensures.shape, worn_read) (stands_written c.args.page c.args.bytes k.stands k.fit k.in_list)
 
 pub returns-in-Ok-clause-sound : goal.returns-in-Ok-clause-sound
 returns-in-Ok-clause-sound g c = λ again. seen (invariant_of-self-in-Ok g c again)
