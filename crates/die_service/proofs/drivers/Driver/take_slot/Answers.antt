@@ -5,8 +5,8 @@ use Rattle.die_service.proofs.drivers.Driver.take_slot.Goals as goal
 pub returns-in-Ok-clause-taken : goal.returns-in-Ok-clause-taken
 returns-in-Ok-clause-taken g c =
     elim c.match-reply.branch [
-      in-Heap-1 w ↦ rw (w.self-is, ← c.self.view_is) (slot_taken g.N.Nand.never_fails _ _ _ _ _ c.in-Ok.reply c.in-Ok.ensures.same c.in-Ok.ensures.answered)
-    | in-Inline-1 w ↦ rw (w.self-is, ← c.self.view_is) (slot_taken g.N.Nand.never_fails _ _ _ _ _ c.in-Ok.reply c.in-Ok.ensures.same c.in-Ok.ensures.answered)
+      | in-Heap-1 w ↦ rw (w.self-is, ← c.self.view_is) (slot_taken g.N.Nand.never_fails _ _ _ _ _ c.in-Ok.reply c.in-Ok.ensures.same c.in-Ok.ensures.answered)
+      | in-Inline-1 w ↦ rw (w.self-is, ← c.self.view_is) (slot_taken g.N.Nand.never_fails _ _ _ _ _ c.in-Ok.reply c.in-Ok.ensures.same c.in-Ok.ensures.answered)
     ]
 
 pub returns-in-Ok-clause-few : goal.returns-in-Ok-clause-few
