@@ -8,13 +8,9 @@ mod dealt;
 #[cfg(test)]
 mod feeds;
 #[cfg(test)]
-mod gated;
-#[cfg(test)]
 mod held;
 #[cfg(test)]
 mod made;
-#[cfg(test)]
-mod noted;
 #[cfg(test)]
 mod played;
 #[cfg(test)]
