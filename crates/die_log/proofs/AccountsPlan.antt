@@ -21,6 +21,7 @@ act_plan : (plan : DiePlan) (o : Option Job) (own : List Act) (act : Act) (a : A
 act_plan plan None own act a = refl
 act_plan plan (Some j) own (does.Read page bytes) a = refl
 act_plan plan (Some j) own (does.Write page bytes) a = refl
+act_plan plan (Some j) own (does.Trim page) a = refl
 act_plan plan (Some j) own (does.CopyRead page) a = refl
 act_plan plan (Some j) own (does.CopyProgram page) a = refl
 act_plan plan (Some j) own (does.Erase block) a = settled_plan _ a (are_all plan j (own ++ does.Erase block ∷ [])) refl

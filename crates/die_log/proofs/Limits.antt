@@ -130,6 +130,7 @@ step_erases : (plan : DiePlan) (ran : Carried) (c : Cells) (a : ℕ) → (block_
 step_erases plan None c a = omega arith
 step_erases plan (Some (n, does.Read page bytes)) c a = omega arith
 step_erases plan (Some (n, does.Write page bytes)) c a = program_erases plan page c (open_block plan c) a
+step_erases plan (Some (n, does.Trim page)) c a = omega arith
 step_erases plan (Some (n, does.CopyRead page)) c a = omega arith
 step_erases plan (Some (n, does.CopyProgram page)) c a = program_erases plan page c (open_block plan c) a
 step_erases plan (Some (n, does.Erase b)) c a = set_erases c.blocks b a (erased_once plan (block_at c b)) (once_erases (block_at c b) ((block_at c b).erasing + 1 == plan.shape.erase_slots))

@@ -12,6 +12,8 @@ pub mod FillingHistory
 pub mod CollectionCopies
 mod EraseSuspended
 pub mod RewrittenPage
+pub mod TrimmedPage
+pub mod TrimmedCopy
 mod Certificates
 mod LegalCollection
 mod PlannedWork

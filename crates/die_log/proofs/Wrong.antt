@@ -10,6 +10,10 @@ mod IdleWhileJobWaits
 mod LateReleaseAccepted
 mod WrongNumberTaken
 mod StaleBytesRead
+mod TrimmedPageRead
+mod TrimmedPageProgrammed
+mod TrimFreesACell
+mod TrimMovesAToken
 mod MoreOwedThanFree
 mod WaiverGivesWrong
 mod WrongWaivers

@@ -19,6 +19,7 @@ abbrev pub after_act : DiePlan → Option Job → List Act → Act → Accounts 
 after_act plan None own act a = a
 after_act plan (Some j) own (does.Read page bytes) a = a
 after_act plan (Some j) own (does.Write page bytes) a = hold_spent a j.task
+after_act plan (Some j) own (does.Trim page) a = a
 after_act plan (Some j) own (does.CopyRead page) a = a
 after_act plan (Some j) own (does.CopyProgram page) a = reserve_spent a j.task
 after_act plan (Some j) own (does.Erase block) a =

@@ -106,6 +106,7 @@ abbrev pub act_of_op : DiePlan → Log → Option Op → Option Act
 act_of_op plan past None = None
 act_of_op plan past (Some (asks.Read page)) = Some (does.Read page (content plan past page))
 act_of_op plan past (Some (asks.Write page bytes)) = Some (does.Write page bytes)
+act_of_op plan past (Some (asks.Trim page)) = Some (does.Trim page)
 
 -- begun and not done
 abbrev pub is_running : DiePlan → Log → Job → Bool

@@ -17,16 +17,17 @@ ran_by _ = None
 
 -- Contents
 
--- a page that was never written
+-- a page that was never written, or was trimmed since
 abbrev pub blank_page : PageData
 blank_page = record { 0 = replicate 16 255 }
 
 abbrev pub written : Carried → List PageData → List PageData
 written None pages = pages
 written (Some (n, does.Write page bytes)) pages = slice_set pages page bytes
+written (Some (n, does.Trim page)) pages = slice_set pages page blank_page
 written (Some (n, _)) pages = pages
 
--- the array of logical pages: what was written last stands
+-- the array of logical pages: what was written last stands, and a trimmed page is blank
 abbrev pub contents : DiePlan → Log → List PageData
 contents plan [] = replicate plan.logical blank_page
 contents plan (e ∷ past) = written (ran_by e.reply) (contents plan past)
@@ -42,7 +43,7 @@ pub record Block : Type 0 where
   pub erasing : ℕ
   pub erases : ℕ
 
--- the blocks, and by logical page the cell that its last program filled
+-- the blocks, and by logical page the cell that its last program filled, if it wasn't trimmed since
 pub record Cells : Type 0 where
   pub blocks : List Block
   pub places : List (Option Place)
@@ -95,6 +96,7 @@ abbrev pub cells_after : DiePlan → Carried → Cells → Cells
 cells_after plan None c = c
 cells_after plan (Some (n, does.Read page bytes)) c = c
 cells_after plan (Some (n, does.Write page bytes)) c = programmed plan page c
+cells_after plan (Some (n, does.Trim page)) c = record c { places = slice_set c.places page None }
 cells_after plan (Some (n, does.CopyRead page)) c = c
 cells_after plan (Some (n, does.CopyProgram page)) c = programmed plan page c
 cells_after plan (Some (n, does.Erase block)) c = record c { blocks = slice_set c.blocks block (erased_once plan (block_at c block)) }

@@ -43,6 +43,7 @@ ArrivesInTime past events.Slot = Unit {0}
 abbrev pub Does : Op → Act → Type 0
 Does (asks.Read page) (does.Read p bytes) = p ≡ page
 Does (asks.Write page bytes) (does.Write p b) = (p ≡ page) × (b ≡ bytes)
+Does (asks.Trim page) (does.Trim p) = p ≡ page
 Does _ _ = ⊥
 
 -- the act is the next of the job's operations
@@ -60,23 +61,24 @@ pub record MayCopyRead (plan : DiePlan) (past : Log) (number b page : ℕ) : Typ
   pub once : Contains (acts number past) (does.CopyRead page) → ⊥
   pub unerased : erases_of number past ≡ 0
 
-abbrev pub is_write_of : ℕ → Act → Bool
-is_write_of page (does.Write p bytes) = p == page
-is_write_of page _ = false
+abbrev pub is_change_of : ℕ → Act → Bool
+is_change_of page (does.Write p bytes) = p == page
+is_change_of page (does.Trim p) = p == page
+is_change_of page _ = false
 
-abbrev pub written_by : Carried → ℕ → ℕ → Bool → Bool
-written_by None number page before = before
-written_by (Some (n, act)) number page before = if n == number then false else is_write_of page act || before
+abbrev pub changed_by : Carried → ℕ → ℕ → Bool → Bool
+changed_by None number page before = before
+changed_by (Some (n, act)) number page before = if n == number then false else is_change_of page act || before
 
--- a job wrote the page after the last act of this number
-abbrev pub written_since : ℕ → ℕ → Log → Bool
-written_since number page [] = false
-written_since number page (e ∷ past) = written_by (ran_by e.reply) number page (written_since number page past)
+-- a job wrote or trimmed the page after the last act of this number
+abbrev pub changed_since : ℕ → ℕ → Log → Bool
+changed_since number page [] = false
+changed_since number page (e ∷ past) = changed_by (ran_by e.reply) number page (changed_since number page past)
 
--- the page that was just read is programmed, if no job wrote it in between
+-- the page that was just read is programmed, if no job wrote or trimmed it in between
 pub record MayCopyProgram (past : Log) (number page : ℕ) : Type 0 where
   pub follows : last_or None (acts number past) ≡ Some (does.CopyRead page)
-  pub unwritten : IsFalse (written_since number page past)
+  pub unchanged : IsFalse (changed_since number page past)
 
 -- an erase begins on a closed block in which no page is placed, and no other collection erases the block until it is done
 pub record MayErase (plan : DiePlan) (past : Log) (number b block : ℕ) : Type 0 where

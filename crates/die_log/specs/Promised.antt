@@ -33,7 +33,7 @@ abbrev pub HasMoment : Log → Log → Type 0
 HasMoment log moment = (later : Log) × (log ≡ later ++ moment)
 
 -- The plan meets its bound, and each entry is the exact answer behind the entries before it. The log is legal, hence: each
--- release is not before the slot of its arrival; each read tells the last finished write of its page; each program finds a
+-- release is not before the slot of its arrival; each read tells the last finished write or trim of its page; each program finds a
 -- free page, and at every moment no more is owed than is free; no slot idles while released work waits; each waiver keeps
 -- its rule. At every moment each slot so far carried a least key, and the greatest lateness so far is least. Collections
 -- take no more copies and slots than the plan says. There is a certificate where something is done: that of the worst job,

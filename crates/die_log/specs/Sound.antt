@@ -56,10 +56,18 @@ pub record IsEraseSlot (plan : DiePlan) (b : ℕ) (c d : Cells) : Type 0 where
   pub slot : (((block_at c b).erasing + 1 ≡ plan.shape.erase_slots) × ((block_at d b).filled ≡ 0) × ((block_at d b).erasing ≡ 0))
       ⊎ (((block_at c b).erasing + 1 ≢ plan.shape.erase_slots) × ((block_at d b).filled ≡ (block_at c b).filled) × ((block_at d b).erasing ≡ (block_at c b).erasing + 1))
 
+-- the page has no cell any longer
+pub record IsTrim (page : ℕ) (c d : Cells) : Type 0 where
+  pub blocks : d.blocks ≡ c.blocks
+  pub places : length d.places ≡ length c.places
+  pub gone : place_of d.places page ≡ None
+  pub others : (p : ℕ) (q : Place) → place_of d.places p ≡ Some q → place_of c.places p ≡ Some q
+
 -- what an act did to the cells
 abbrev pub IsStep : DiePlan → Act → Cells → Cells → Type 0
 IsStep plan (does.Read page bytes) c d = d ≡ c
 IsStep plan (does.Write page bytes) c d = (b : ℕ) × IsProgram plan page b c d
+IsStep plan (does.Trim page) c d = IsTrim page c d
 IsStep plan (does.CopyRead page) c d = d ≡ c
 IsStep plan (does.CopyProgram page) c d = (b : ℕ) × IsProgram plan page b c d
 IsStep plan (does.Erase b) c d = IsEraseSlot plan b c d
@@ -70,13 +78,13 @@ HasRoom plan c (does.Write page bytes) = 0 < sum_by (free_in plan) c.blocks
 HasRoom plan c (does.CopyProgram page) = 0 < sum_by (free_in plan) c.blocks
 HasRoom plan c _ = Unit {0}
 
--- a running collection of block b with these acts, where `fresh page` says that a job wrote the page since its last act
+-- a running collection of block b with these acts, where `fresh page` says that a job wrote or trimmed the page since its last act
 pub record IsCollecting (plan : DiePlan) (c : Cells) (own : List Act) (fresh : ℕ → Bool) (b : ℕ) : Type 0 where
   pub closed : IsClosed plan c b
   pub erases : (block_at c b).erasing ≡ count_by is_erase own
   pub of_own : (a : ℕ) → Contains own (does.Erase a) → a ≡ b
   pub read : (page : ℕ) → Contains own (does.CopyRead page) → block_of_page c page ≡ Some b → last_or None own ≡ Some (does.CopyRead page)
-  pub unwritten : (page : ℕ) → last_or None own ≡ Some (does.CopyRead page) → fresh page ≡ true → block_of_page c page ≡ Some b → ⊥
+  pub unchanged : (page : ℕ) → last_or None own ≡ Some (does.CopyRead page) → fresh page ≡ true → block_of_page c page ≡ Some b → ⊥
 
 -- a page that is placed in the block is read; no page that was read is there any longer, and no erase has begun
 pub record MayRead (c : Cells) (own : List Act) (b page : ℕ) : Type 0 where
@@ -84,11 +92,11 @@ pub record MayRead (c : Cells) (own : List Act) (b page : ℕ) : Type 0 where
   pub none_left : (p : ℕ) → Contains own (does.CopyRead p) → block_of_page c p ≡ Some b → ⊥
   pub unerased : count_by is_erase own ≡ 0
 
--- the page that was just read is still there, and no job wrote it in between
+-- the page that was just read is still there, and no job wrote or trimmed it in between
 pub record MayProgram (c : Cells) (own : List Act) (fresh : ℕ → Bool) (b page : ℕ) : Type 0 where
   pub follows : last_or None own ≡ Some (does.CopyRead page)
   pub placed : block_of_page c page ≡ Some b
-  pub unwritten : fresh page ≡ false
+  pub unchanged : fresh page ≡ false
 
 -- the block is its own, closed, with no page placed in it, and an erase slot is left
 pub record MayEraseSlot (plan : DiePlan) (c : Cells) (own : List Act) (b block : ℕ) : Type 0 where

@@ -6,7 +6,7 @@ use Rattle.die_log.specs.Log.{Log, Job, jobs, acts, work}
 use Rattle.die_log.specs.Flash.{cells, block_at}
 use Rattle.die_log.specs.Work.{victim_of}
 use Rattle.die_log.specs.Answers.{is_running}
-use Rattle.die_log.specs.Legal.{written_since}
+use Rattle.die_log.specs.Legal.{changed_since}
 use Rattle.die_log.specs.Sound.{AreSound, IsCollecting}
 
 -- jobs are numbered by place
@@ -29,7 +29,7 @@ pub record KeepsToOps (log : Log) (j : Job) : Type 0 where
 pub record Collects (plan : DiePlan) (log : Log) : Type 0 where
   pub sound : AreSound plan (cells plan log)
   pub shown : (j : Job) → Contains (jobs log) j → is_running plan log j ≡ true → (b : ℕ) × Runs plan log j b
-  pub collecting : (j : Job) (b : ℕ) → Runs plan log j b → IsCollecting plan (cells plan log) (acts j.number log) (λ page. written_since j.number page log) b
+  pub collecting : (j : Job) (b : ℕ) → Runs plan log j b → IsCollecting plan (cells plan log) (acts j.number log) (λ page. changed_since j.number page log) b
   pub different : (i j : Job) (b : ℕ) → Runs plan log i b → Runs plan log j b → i.number ≡ j.number
   pub owned : (b : ℕ) → 0 < (block_at (cells plan log) b).erasing → (j : Job) × Runs plan log j b
 

@@ -13,7 +13,8 @@ use Rattle.turn_lock.specs.Passes.{Replies}
 use Rattle.die_log.specs.Log.{Log}
 use Rattle.die_log.specs.Answers.{answer, answer_by, refusal_of, IsAccepted}
 use Rattle.die_service.specs.declared.refused.RefusedAt.{RefusedAt}
-use Rattle.die_service.specs.Replies.{HasExactLog, MayReply}
+use Rattle.die_service.specs.declared.reply_note.ReplyNote.{ReplyNote}
+use Rattle.die_service.specs.Replies.{HasExactLog, MayReply, noted, result_noted}
 use Rattle.die_service.specs.Passes.{DieView, AddsEntry, AddsNone, IsTaken, IsSlotReply}
 
 -- what the lock says of a call
@@ -31,6 +32,20 @@ added never v event (Err refused) w said own = tt
 pub left : (never : Bool) (v : DieView) (event : Event) (result : Result Reply RefusedAt) (w : DieView) → Said never v event result w → Owns v event result w → IfErr result (λ refused. AddsNone never v event refused w)
 left never v event (Ok reply) w said own = tt
 left never v event (Err refused) w said own = record { grown = said.0; entries = said.1.0; reason = said.1.1; own = own ∙ append-nil (calls_by v.number v.seen) }
+
+-- .. where no more than a note of the reply is kept
+
+pub noted_accepted : (never : Bool) (v : DieView) (event : Event) (result : Result ReplyNote RefusedAt) (w : DieView) → Said never v event (result_noted result) w → IfOk result (λ note. IsAccepted (noted note))
+noted_accepted never v event (Ok note) w said = said.3.1
+noted_accepted never v event (Err refused) w said = tt
+
+pub noted_added : (never : Bool) (v : DieView) (event : Event) (result : Result ReplyNote RefusedAt) (w : DieView) → Said never v event (result_noted result) w → Owns v event (result_noted result) w → IfOk result (λ note. AddsEntry v event (noted note) w)
+noted_added never v event (Ok note) w said own = added never v event (Ok (noted note)) w said own
+noted_added never v event (Err refused) w said own = tt
+
+pub noted_left : (never : Bool) (v : DieView) (event : Event) (result : Result ReplyNote RefusedAt) (w : DieView) → Said never v event (result_noted result) w → Owns v event (result_noted result) w → IfErr result (λ refused. AddsNone never v event refused w)
+noted_left never v event (Ok note) w said own = tt
+noted_left never v event (Err refused) w said own = left never v event (Err refused) w said own
 
 -- Which replies a die gives
 

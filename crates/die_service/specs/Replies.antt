@@ -6,11 +6,14 @@ use Rattle.slot_types.specs.declared.events.Event.TheVariants.{Slot}
 use Rattle.slot_types.specs.declared.refusals.Refusal.{Refusal}
 use Rattle.slot_types.specs.declared.refusals.Refusal.TheVariants.{DeviceFault, DieStopped}
 use Rattle.slot_types.specs.declared.replies.Reply.{Reply}
+use Rattle.slot_types.specs.declared.replies.Reply.TheVariants as replies
 use Rattle.plan_rules.specs.Bound.{MeetsBound}
 use Rattle.die_log.specs.Log.{Log}
 use Rattle.die_log.specs.Answers.{answer, IsAccepted, IsExact}
 use Rattle.slot_core.specs.Calls.{RefusedBy}
 use Rattle.die_service.specs.declared.refused.RefusedAt.{RefusedAt}
+use Rattle.die_service.specs.declared.reply_note.ReplyNote.{ReplyNote}
+use Rattle.die_service.specs.declared.reply_note.ReplyNote.TheVariants as notes
 use Rattle.die_service.specs.Logs.{Call, log_of}
 
 -- the plan meets its bound, and each call was answered as a die of this plan answers it behind the calls before it
@@ -31,3 +34,12 @@ abbrev pub MayReply : Bool → DiePlan → List Call → Event → Result Reply 
 MayReply never_fails plan calls event (Ok reply) = (answer plan (log_of calls) event ≡ reply) × IsAccepted reply
 MayReply never_fails plan calls event (Err refused) =
     (refused.entries ≡ length calls) × MayRefuse never_fails plan (log_of calls) event refused.refusal
+
+-- the reply that a note is of
+abbrev pub noted : ReplyNote → Reply
+noted (notes.Taken number) = replies.Taken number
+noted (notes.Slot reply) = replies.Slot reply
+
+abbrev pub result_noted : Result ReplyNote RefusedAt → Result Reply RefusedAt
+result_noted (Ok note) = Ok (noted note)
+result_noted (Err refused) = Err refused

@@ -4,10 +4,11 @@ ghost use Rattle.std.specs.Prelude.{◌≡◌, true, false, IfOk, IfErr, OnErr};
 ghost use Rattle.std.specs.Box.{box_value};
 ghost use Rattle.die_log.specs.Answers.{answer, IsAccepted};
 ghost use Rattle.slot_core.specs.Core.{with_entry};
-ghost use Rattle.die_service.specs.Replies.{MayRefuse};
+ghost use Rattle.die_service.specs.Replies.{MayRefuse, noted};
 
 use crate::queries::{Answer, Query};
 use crate::refused::RefusedAt;
+use crate::reply_note::ReplyNote;
 use flash_die::Nand;
 use slot_core::DieCore;
 use slot_types::{DiePlan, Event, Refusal, Reply};
@@ -85,17 +86,51 @@ impl<N: Nand> DieBook<N> {
             },
         }
     }
+    /// What the die says to an event, of which no more than a note is kept.
+    fn perform_noted(&mut self, caller: u32, event: Event) -> Result<ReplyNote, Refusal>
+        ensures plan { self.new.plan ≡ self.old.plan }
+        ensures answered { IfOk result (λ note. answer self.old.plan self.old.log event ≡ noted note) }
+        ensures accepted { IfOk result (λ note. IsAccepted (noted note)) }
+        ensures logged { IfOk result (λ note. self.new.log ≡ with_entry caller event (noted note) self.old.log) }
+        ensures refused { IfErr result (MayRefuse N.never_fails self.old.plan self.old.log event) }
+        ensures log_stays { OnErr result (self.new.log ≡ self.old.log) }
+    {
+        let alloc = self.alloc;
+        match event {
+            Event::Submit {
+                task,
+                release,
+                due,
+                ops,
+            } => match self.core.submit(alloc, caller, task, release, due, ops) {
+                Ok(number) => Ok(ReplyNote::Taken(number)),
+                Err(refusal) => Err(refusal),
+            },
+            Event::Collect { task, release, due } => {
+                match self.core.collect(alloc, caller, task, release, due) {
+                    Ok(number) => Ok(ReplyNote::Taken(number)),
+                    Err(refusal) => Err(refusal),
+                }
+            }
+            Event::Slot => match self.core.note_slot(alloc, caller) {
+                Ok(slot) => Ok(ReplyNote::Slot(slot)),
+                Err(refusal) => Err(refusal),
+            },
+        }
+    }
 }
 
 impl<N: Nand> Book for DieBook<N> {
     ghost use Rattle.std.specs.Prelude.{is_ok};
     ghost use Rattle.die_service.specs.Logs.{calls_of};
-    ghost use Rattle.die_service.specs.Replies.{HasExactLog, MayReply};
+    ghost use Rattle.die_service.specs.Replies.{HasExactLog, MayReply, result_noted};
     ghost use Rattle.die_service.specs.Answers.{MayAnswer};
 
     type Event = Event;
 
     type Reply = Result<Reply, RefusedAt>;
+
+    type Note = Result<ReplyNote, RefusedAt>;
 
     type Query = Query;
 
@@ -109,6 +144,8 @@ impl<N: Nand> Book for DieBook<N> {
 
     ghost accepts = { is_ok };
 
+    ghost noted = { result_noted };
+
     ghost gives = { λ plan calls _ event reply. MayReply N.never_fails plan calls event reply };
 
     ghost tells = { MayAnswer };
@@ -120,6 +157,17 @@ impl<N: Nand> Book for DieBook<N> {
         match self.perform(caller, event) {
             Ok(reply) => Ok(reply),
             Err(refusal) => Err(RefusedAt { entries, refusal }),
+        }
+    }
+
+    fn note(&mut self, caller: u32, event: Event) -> Result<ReplyNote, RefusedAt> {
+        let before = self.core.len();
+        match self.perform_noted(caller, event) {
+            Ok(note) => Ok(note),
+            Err(refusal) => Err(RefusedAt {
+                entries: before,
+                refusal,
+            }),
         }
     }
 

@@ -7,16 +7,17 @@ ghost use Rattle.slot_core.specs.Outcomes.{worst_of};
 ghost use Rattle.turn_lock.specs.Log.{calls_by};
 ghost use Rattle.turn_lock.specs.Views.{IsLive, IsSamePass};
 ghost use Rattle.turn_lock.specs.Passes.{Parts, IsFull, Joined, IsOut};
-ghost use Rattle.die_service.specs.Replies.{HasExactLog};
+ghost use Rattle.die_service.specs.Replies.{HasExactLog, noted};
 ghost use Rattle.die_service.specs.Answers.{TellsOutcome, TellsCertificate};
 ghost use Rattle.die_service.specs.Passes.{HasGrown, AddsEntry, AddsNone, Sees, IsTaken, IsSlotReply};
 
 use crate::book::DieBook;
 use crate::queries::{Answer, Query};
 use crate::refused::RefusedAt;
+use crate::reply_note::ReplyNote;
 use flash_die::Nand;
 use late_cert::Certificate;
-use slot_core::{Outcome, Worst};
+use slot_core::{Outcome, SlotNote, Worst};
 use slot_types::{Event, JobNo, OpList, Refusal, Reply, SlotReply, TaskNo};
 use std::marker::Model;
 use std::sync::Wait;
@@ -61,6 +62,17 @@ fn slot_reply(reply: Reply) -> SlotReply
     }
 }
 
+/// The note of a slot.
+fn slot_note(note: ReplyNote) -> SlotNote
+    requires { IsSlotReply (noted note) }
+    ensures { noted note ≡ Reply.Slot result }
+{
+    match note {
+        ReplyNote::Slot(slot) => slot,
+        _ => unreachable!(),
+    }
+}
+
 impl<N: Nand> Die<N> {
     /// Carries out an event for the pass.
     pub(crate) fn apply<R: Wait>(
@@ -76,6 +88,22 @@ impl<N: Nand> Die<N> {
         ensures refused { IfErr result (λ refused. AddsNone N.never_fails pass.old.view event refused pass.new.view) }
     {
         self.turned.apply(rt, pass, event)
+    }
+
+    /// Carries out an event for the pass, and hands back no more than a note of the reply.
+    pub(crate) fn note<R: Wait>(
+        &self,
+        rt: &R,
+        pass: &mut DiePass<N>,
+        event: Event,
+    ) -> Result<ReplyNote, RefusedAt>
+        requires { pass.old.lock ≡ self.now }
+        ensures same { IsSamePass pass.old pass.new }
+        ensures accepted { IfOk result (λ note. IsAccepted (noted note)) }
+        ensures added { IfOk result (λ note. AddsEntry pass.old.view event (noted note) pass.new.view) }
+        ensures refused { IfErr result (λ refused. AddsNone N.never_fails pass.old.view event refused pass.new.view) }
+    {
+        self.turned.note(rt, pass, event)
     }
 
     /// Accepts a job of the task, to run from slot `release` on and to be done by `due`, and answers its number. May
@@ -151,6 +179,23 @@ impl<N: Nand> Die<N> {
     {
         match self.apply(rt, pass, Event::Slot) {
             Ok(reply) => Ok(slot_reply(reply)),
+            Err(refused) => Err(refused),
+        }
+    }
+
+    /// As `slot`, and hands back no more than the slot's number.
+    pub(crate) fn note_slot<R: Wait>(
+        &self,
+        rt: &R,
+        pass: &mut DiePass<N>,
+    ) -> Result<SlotNote, RefusedAt>
+        requires { pass.old.lock ≡ self.now }
+        ensures same { IsSamePass pass.old pass.new }
+        ensures answered { IfOk result (λ reply. AddsEntry pass.old.view Event.Slot (Reply.Slot reply) pass.new.view) }
+        ensures refused { IfErr result (λ refused. AddsNone N.never_fails pass.old.view Event.Slot refused pass.new.view) }
+    {
+        match self.note(rt, pass, Event::Slot) {
+            Ok(note) => Ok(slot_note(note)),
             Err(refused) => Err(refused),
         }
     }

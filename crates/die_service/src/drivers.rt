@@ -90,7 +90,7 @@ impl<'a, N: Nand> Driver<'a, N> {
             return false;
         };
         let die = self.die;
-        match die.apply(rt, &mut self.pass, event) {
+        match die.note(rt, &mut self.pass, event) {
             Ok(_) => {}
             Err(refused) => self.course.note(refused),
         }
@@ -113,10 +113,10 @@ impl<'a, N: Nand> Driver<'a, N> {
         ensures stopped { IfNone result (IsStopped N.never_fails self.old self.new) }
     {
         let die = self.die;
-        match die.slot(rt, &mut self.pass) {
-            Ok(reply) => {
+        match die.note_slot(rt, &mut self.pass) {
+            Ok(note) => {
                 self.slots = self.slots + 1;
-                Some(reply.slot)
+                Some(note.slot())
             }
             Err(refused) => {
                 self.stop = Some(refused);

@@ -23,6 +23,7 @@ pub mod gate;
 pub mod promised;
 pub mod queries;
 pub mod refused;
+pub mod reply_note;
 pub mod runs;
 pub mod store;
 

@@ -28,6 +28,7 @@ no_erase_doing : (job : JobRecord) (place : ℕ) (op : Option Op) → is_erase (
 no_erase_doing job place None = refl
 no_erase_doing job place (Some (asks.Read page)) = no_erase_read page (slice_get job.reads (reads_before job place))
 no_erase_doing job place (Some (asks.Write page bytes)) = refl
+no_erase_doing job place (Some (asks.Trim page)) = refl
 
 no_erase_in : (job : Option JobRecord) (place : ℕ) → is_erase (act_in job place) ≡ false
 no_erase_in None place = refl

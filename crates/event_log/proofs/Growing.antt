@@ -28,6 +28,7 @@ doing_stays : (job later : JobRecord) (place : ℕ) (op : Op) → IsGrown job la
     → (is_read op ≡ true → (bytes : PageData) × (slice_get job.reads (reads_before job place) ≡ Some bytes))
     → act_doing later place (slice_get later.ops place) ≡ act_doing job place (slice_get job.ops place)
 doing_stays job later place (asks.Write page bytes) grown stands gave = rw (grown.ops_are, stands) refl
+doing_stays job later place (asks.Trim page) grown stands gave = rw (grown.ops_are, stands) refl
 doing_stays job later place (asks.Read page) grown stands gave =
     let given = gave refl in
     rw (grown.ops_are, stands, grown.reads_are, get_front job.reads grown.more (reads_before job place) given.0 given.1, given.1) refl

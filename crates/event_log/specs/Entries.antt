@@ -36,6 +36,7 @@ abbrev pub act_doing : JobRecord → ℕ → Option Op → Act
 act_doing job place None = no_act
 act_doing job place (Some (asks.Read page)) = act_reading page (slice_get job.reads (reads_before job place))
 act_doing job place (Some (asks.Write page bytes)) = does.Write page bytes
+act_doing job place (Some (asks.Trim page)) = does.Trim page
 
 abbrev pub act_in : Option JobRecord → ℕ → Act
 act_in None place = no_act

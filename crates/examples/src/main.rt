@@ -12,7 +12,7 @@ use std::sync::Wait;
 use std::thread::Threads;
 
 /// Command lines, and the status that each is to end with.
-const PLAYS: [(&str, u8); 23] = [
+const PLAYS: [(&str, u8); 26] = [
     ("flashrec", 0),
     ("flashrec run one_die.toml one_die.csv --slots 2", 0),
     (
@@ -23,6 +23,7 @@ const PLAYS: [(&str, u8); 23] = [
         "flashrec run collections.toml collections.csv --slots 25",
         0,
     ),
+    ("flashrec run trims.toml trims.csv --slots 25", 0),
     (
         "flashrec run refused_rows.toml refused_rows.csv --slots 4",
         0,
@@ -34,6 +35,7 @@ const PLAYS: [(&str, u8); 23] = [
     ("flashrec audit one_die.report.csv", 0),
     ("flashrec audit two_dies.report.csv", 0),
     ("flashrec audit collections.report.csv", 0),
+    ("flashrec audit trims.report.csv", 0),
     ("flashrec audit refused_rows.report.csv", 0),
     ("flashrec audit two_dies.refused.csv", 3),
     ("flashrec audit missing.report.csv", 1),
@@ -41,6 +43,7 @@ const PLAYS: [(&str, u8); 23] = [
     ("flashrec plan one_die.toml", 0),
     ("flashrec plan two_dies.toml", 0),
     ("flashrec plan collections.toml", 0),
+    ("flashrec plan trims.toml", 0),
     ("flashrec plan refused_rows.toml", 0),
     ("flashrec plan missing.toml", 1),
     ("flashrec plan one_die.csv", 1),

@@ -1,4 +1,3 @@
 mod KindLemmas
-mod PlanFronts
 mod Endings
 mod Unopened

@@ -4,11 +4,11 @@ use Rattle.std.specs.Io.KnownBytes.{Appends}
 use Rattle.slot_types.specs.declared.plans.DiePlan.{DiePlan}
 use Rattle.slot_types.specs.declared.refusals.Refusal.{Refusal}
 use Rattle.slot_types.specs.declared.refusals.Refusal.TheVariants.{WriteFault}
+use Rattle.task_texts.specs.PlanReading.{IsStoreOf}
 use Rattle.task_texts.specs.PlanText.{plan_of}
 use Rattle.task_texts.specs.Readings.{IsOutside}
 use Rattle.task_texts.specs.ReportOf.{report_of}
-use Rattle.task_texts.specs.Stores.{IsStore, RefusesPlan}
-use Rattle.task_texts.specs.declared.plan_texts.PlanNumbers.{PlanNumbers}
+use Rattle.task_texts.specs.Stores.{RefusesPlan}
 use Rattle.task_texts.specs.declared.reports.DieReport.{DieReport}
 use Rattle.flash_commands.specs.Audit.{audit_status, audit_text}
 use Rattle.flash_commands.specs.Figures.{plan_text}
@@ -24,10 +24,6 @@ use Rattle.flash_commands.specs.declared.faults.Fault.TheVariants.{Certificate, 
 -- the report of a text, where the text is known
 abbrev pub IsReportOf : Option (List ℕ) → List DieReport → Type 0
 IsReportOf text report = IfSome text (λ bytes. report_of bytes ≡ Ok report)
-
--- the store that a plan's text makes, where the text is known
-abbrev pub IsStoreOf : Option (List ℕ) → List DiePlan → Type 0
-IsStoreOf text store = (plan : PlanNumbers) × IsStore plan store × IfSome text (λ bytes. plan_of bytes ≡ Ok plan)
 
 -- memory ran out, or a reader or a writer failed
 abbrev pub IsHostFault : Refusal → Type 0

@@ -11,13 +11,13 @@ use crate::built_in;
 use crate::commands::Command;
 use crate::faults::{Fault, end};
 use crate::figures::figures_text;
-use crate::plans::store_in;
 use slot_types::{MAX_SLOT, Refusal};
 use std::alloc::Global;
 use std::io::{Read, Write};
 use std::sync::Wait;
 use std::thread::Threads;
 use task_script::{RunCount, read_report, run_text};
+use task_texts::read_plan_from;
 
 /// Writes a text that is whole.
 fn put<W: Write>(out: &mut W, text: &[u8]) -> Result<(), Refusal>
@@ -40,7 +40,7 @@ fn print_figures<R: Read + Drop, W: Write>(
     ensures refused { IfErr result (RefusesFigures (R.remaining first)) }
     ensures unwritten { IfErr result (IsUnwritten out.old out.new) }
 {
-    let store = store_in(alloc, first)?;
+    let store = read_plan_from(alloc, first)?;
     let text = figures_text(alloc, &store)?;
     put(out, &text)
 }
@@ -77,7 +77,7 @@ fn print_run<R: Threads + Wait + Sync, F: Read + Drop, S: Read + Drop, W: Write>
     ensures refused { IfErr result (RefusesRun (F.remaining first) (S.remaining second) slots) }
     ensures unwritten { IfErr result (IsUnwritten out.old out.new) }
 {
-    let store = store_in(alloc, first)?;
+    let store = read_plan_from(alloc, first)?;
     run_text(rt, alloc, &store, second, out, slots, workers)
 }
 

@@ -9,7 +9,6 @@ pub mod commands;
 pub mod faults;
 pub mod figures;
 pub mod files;
-pub mod plans;
 pub mod syntax;
 
 pub use acts::{act, carry_out};

@@ -1,2 +1,2 @@
 mod KindLemmas
-mod PlanFronts
+mod SimpleWords

@@ -1,10 +1,11 @@
 -- What the words of a command line ask for.
-use Rattle.std.specs.Prelude.{ℕ, List, [], ◌∷◌, codes, Option, Some, None, option_and_then, if◌then◌else◌}
+use Rattle.std.specs.Prelude.{ℕ, ◌≤◌, ⊤, nat_le, List, [], ◌∷◌, codes, Option, Some, None, option_and_then, if◌then◌else◌}
 use Rattle.std.specs.Str.{bytes_eq}
 use Rattle.clap.specs.Words.{Row, Text, first_of, subcommand_of}
 use Rattle.clap.specs.Kinds.{Kinds, or_else}
 use Rattle.clap.specs.Faults.{fault_of}
-use Rattle.clap.specs.declared.error.kind.ErrorKind.TheVariants.{MissingSubcommand}
+use Rattle.clap.specs.declared.error.kind.ErrorKind.TheVariants.{ValueValidation}
+use Rattle.task_texts.specs.Number.{number_of}
 use Rattle.flashplan.specs.Syntax.{flashplan_app}
 use Rattle.flashplan.specs.declared.commands.Command.{Command}
 use Rattle.flashplan.specs.declared.commands.Command.TheVariants as command
@@ -12,24 +13,59 @@ use Rattle.flashplan.specs.declared.commands.Command.TheVariants as command
 -- a command, with the names of its files as texts
 pub data Task : Type 0 where
   Explain : (plan : Text) → Task
+  Wear : (plan script : Text) (slots : ℕ) → Task
+  Draw : (plan script : Text) (slots die first end : ℕ) → Task
 
 abbrev pub task_of : Command → Task
 task_of (command.Explain plan) = Explain plan.now
+task_of (command.Wear plan script slots) = Wear plan.now script.now slots
+task_of (command.Draw plan script slots die first end) = Draw plan.now script.now slots die first end
+
+-- a run has at most 1,048,576 slots
+abbrev pub FitsRun : Command → Type 0
+FitsRun (command.Wear plan script slots) = slots ≤ 1048576
+FitsRun (command.Draw plan script slots die first end) = slots ≤ 1048576
+FitsRun _ = ⊤
 
 -- the next step, where there is a value
 infixl 10 ◌>>=◌
 abbrev pub ◌>>=◌ : {A B : Type 0} → Option A → (A → Option B) → Option B
 o >>= f = option_and_then f o
 
+-- the number that a text writes, if it is at most 1,048,576
+abbrev pub number_upto : Text → Option ℕ
+number_upto text = number_of text >>= (λ n. if nat_le n 1048576 then Some n else None)
+
 abbrev pub explain_of : List Row → Option Task
 explain_of rows = do
   plan ← first_of (codes "PLAN") rows
   Some (Explain plan)
 
-abbrev pub named : Text → List Row → Option Task
-named name rows = if bytes_eq name (codes "explain") then explain_of rows else None
+abbrev pub wear_of : List Row → Option Task
+wear_of rows = do
+  plan ← first_of (codes "PLAN") rows
+  script ← first_of (codes "SCRIPT") rows
+  slots ← first_of (codes "slots") rows >>= number_upto
+  Some (Wear plan script slots)
 
--- what the command that clap met in the words asks for, if there is one
+abbrev pub draw_of : List Row → Option Task
+draw_of rows = do
+  plan ← first_of (codes "PLAN") rows
+  script ← first_of (codes "SCRIPT") rows
+  slots ← first_of (codes "slots") rows >>= number_upto
+  die ← first_of (codes "die") rows >>= number_upto
+  first ← first_of (codes "from") rows >>= number_upto
+  end ← first_of (codes "to") rows >>= number_upto
+  Some (Draw plan script slots die first end)
+
+abbrev pub named : Text → List Row → Option Task
+named name rows =
+    if bytes_eq name (codes "explain") then explain_of rows
+    else if bytes_eq name (codes "wear") then wear_of rows
+    else if bytes_eq name (codes "draw") then draw_of rows
+    else None
+
+-- what the command that clap met in the words asks for, if there is one, and its numbers lie in their ranges
 abbrev pub asked_by : Option (Text × List Row) → Option Task
 asked_by None = None
 asked_by (Some met) = named met.0 met.1
@@ -37,10 +73,10 @@ asked_by (Some met) = named met.0 met.1
 abbrev pub asked : List Text → Option Task
 asked words = asked_by (subcommand_of flashplan_app words)
 
-abbrev pub command_fault : Option Task → Kinds
-command_fault None = MissingSubcommand ∷ []
-command_fault (Some task) = []
+abbrev pub range_fault : Option Task → Kinds
+range_fault None = ValueValidation ∷ []
+range_fault (Some task) = []
 
--- what is wrong with the words: clap's own faults, and then that no command is named
+-- what is wrong with the words: clap's own faults, and then that no command is named, or a number is none or too great
 abbrev pub words_fault : List Text → Kinds
-words_fault words = or_else (fault_of flashplan_app words) (command_fault (asked words))
+words_fault words = or_else (fault_of flashplan_app words) (range_fault (asked words))

@@ -1,5 +1,5 @@
 -- The words that the program takes, as clap reads them.
-use Rattle.std.specs.Prelude.{codes, Bool, true}
+use Rattle.std.specs.Prelude.{codes, Bool, true, Some, [], ◌∷◌}
 use Rattle.clap.specs.Words.{App, Rule, Text, new_app, new_rule, with_rule, with_subcommand}
 use Rattle.clap.specs.declared.builder.command.Command.{Command}
 use Rattle.clap.specs.declared.builder.command.Command.TheViews.{out-Command}
@@ -8,12 +8,43 @@ use Rattle.clap.specs.declared.builder.command.Command.TheViews.{out-Command}
 abbrev pub needed : Text → Rule
 needed id = record (new_rule id) { required = true }
 
+-- `--slots N`, which has to be there
+abbrev pub slots_rule : Rule
+slots_rule = record (needed (codes "slots")) { long = Some (codes "slots"); value_names = 1 }
+
+-- `--die D`, which has to be there
+abbrev pub die_rule : Rule
+die_rule = record (needed (codes "die")) { long = Some (codes "die"); value_names = 1 }
+
+-- `--from A`, which is 0 where it isn't there
+abbrev pub from_rule : Rule
+from_rule = record (new_rule (codes "from")) { long = Some (codes "from"); value_names = 1; defaults = codes "0" ∷ [] }
+
+-- `--to B`, which is the greatest number of slots where it isn't there
+abbrev pub to_rule : Rule
+to_rule = record (new_rule (codes "to")) { long = Some (codes "to"); value_names = 1; defaults = codes "1048576" ∷ [] }
+
 abbrev pub explain_app : App
 explain_app = with_rule (new_app (codes "explain")) (needed (codes "PLAN"))
 
+abbrev pub wear_files_app : App
+wear_files_app = with_rule (with_rule (new_app (codes "wear")) (needed (codes "PLAN"))) (needed (codes "SCRIPT"))
+
+abbrev pub wear_app : App
+wear_app = with_rule wear_files_app slots_rule
+
+abbrev pub draw_files_app : App
+draw_files_app = with_rule (with_rule (new_app (codes "draw")) (needed (codes "PLAN"))) (needed (codes "SCRIPT"))
+
+abbrev pub draw_run_app : App
+draw_run_app = with_rule (with_rule draw_files_app slots_rule) die_rule
+
+abbrev pub draw_app : App
+draw_app = with_rule (with_rule draw_run_app from_rule) to_rule
+
 -- the program's command line
 abbrev pub flashplan_app : App
-flashplan_app = with_subcommand (new_app (codes "flashplan")) explain_app.top
+flashplan_app = with_subcommand (with_subcommand (with_subcommand (new_app (codes "flashplan")) explain_app.top) wear_app.top) draw_app.top
 
 -- whether a command has an argument that is global
 abbrev pub has_globals : Command → Bool

@@ -1,29 +1,27 @@
 //! Commands that are carried out.
 
-ghost use Rattle.std.specs.Prelude.{◌≡◌, IfErr, IfOk, IfSome, take, true};
-ghost use Rattle.task_texts.specs.Readings.{IsOutside};
-ghost use Rattle.flashplan.specs.Acts.{IsHostFault, SaysOf};
+ghost use Rattle.std.specs.Prelude.{◌≡◌, ◌≤◌, IfErr, IfOk, OnOk, true};
+ghost use Rattle.std.specs.Io.KnownBytes.{Appends};
+ghost use Rattle.flashplan.specs.Acts.{IsExplained, IsHostFault, SaysOf};
+ghost use Rattle.flashplan.specs.Commands.{FitsRun};
 
 use crate::commands::Command;
 use flash_commands::{Fault, end};
 use plan_design::explain;
-use slot_types::Refusal;
+use slot_types::{MAX_SLOT, Refusal};
 use std::alloc::Global;
-use std::io::{ErrorKind, Read, Write};
+use std::io::{Read, Write};
+use task_texts::{plan_text, read_plan_from};
+use watched_runs::{RefusedRows, draw, wear};
 
-/// The most bytes of a plan that are read: one more than a plan may have.
-const PLAN_BYTES: u64 = 1_048_577;
-
-/// The text of a plan, as far as it is read.
-fn plan_text<R: Read + Drop>(alloc: Global, reader: R) -> Result<Vec<u8>, Refusal>
-    ensures text { IfOk result (λ text. IfSome (R.remaining reader) (λ bytes. text.items ≡ take 1048577 bytes)) }
-    ensures refused { IfErr result IsOutside }
+/// Writes a text that is whole.
+fn put<W: Write>(out: &mut W, text: &[u8]) -> Result<(), Refusal>
+    ensures written { OnOk result (Appends (W.contents out.old) (W.contents out.new) text.now) }
+    ensures refused { IfErr result (λ refusal. refusal ≡ Refusal.WriteFault) }
 {
-    let mut text = Vec::new(alloc);
-    match reader.take(PLAN_BYTES).read_to_end(&mut text) {
-        Ok(_) => Ok(text),
-        Err(e) if e.kind() == ErrorKind::OutOfMemory => Err(Refusal::NoMemory),
-        Err(_) => Err(Refusal::ReadFault),
+    match out.write_all(text) {
+        Ok(()) => Ok(()),
+        Err(_) => Err(Refusal::WriteFault),
     }
 }
 
@@ -38,25 +36,77 @@ fn print_explained<R: Read + Drop, W: Write>(
 {
     let text = plan_text(alloc, plan)?;
     let explained = explain(alloc, &text)?;
-    match out.write_all(&explained.text) {
-        Ok(()) => Ok(explained.is_accepted),
-        Err(_) => Err(Refusal::WriteFault),
-    }
+    put(out, &explained.text)?;
+    Ok(explained.is_accepted)
 }
 
-/// Carries a command out, with `plan` in place of the file of the plan. Answers the status.
+/// Prints what a run wore.
+fn print_wear<P: Read + Drop, S: Read + Drop, W: Write>(
+    alloc: Global,
+    plan: P,
+    script: S,
+    slots: u32,
+    out: &mut W,
+) -> Result<RefusedRows, Refusal>
+    requires slots { slots ≤ MAX_SLOT }
+{
+    let store = read_plan_from(alloc, plan)?;
+    let worn = wear(alloc, store, script, slots)?;
+    put(out, &worn.text)?;
+    Ok(worn.refused)
+}
+
+/// Prints the picture of what the slots of a die carried.
+fn print_drawn<P: Read + Drop, S: Read + Drop, W: Write>(
+    alloc: Global,
+    plan: P,
+    script: S,
+    slots: u32,
+    die: u32,
+    from: u32,
+    to: u32,
+    out: &mut W,
+) -> Result<RefusedRows, Refusal>
+    requires slots { slots ≤ MAX_SLOT }
+{
+    let store = read_plan_from(alloc, plan)?;
+    let drawn = draw(alloc, store, script, slots, die, from, to)?;
+    put(out, &drawn.text)?;
+    Ok(drawn.refused)
+}
+
+/// Tells the rows that were refused, if there are any, and answers the status. A writer that fails is passed over.
+fn end_run<E: Write>(err: &mut E, ran: Result<RefusedRows, Refusal>) -> u8 {
+    let refused = match ran {
+        Ok(refused) => refused,
+        Err(refusal) => return end(err, Err(Fault::Refused(refusal))),
+    };
+    if let Some((line, number)) = refused.first {
+        let count = refused.count;
+        let _ = writeln!(err, "refused {count} first line {line} with {number}");
+    }
+    0
+}
+
+/// Carries a command out, with `plan` and `script` in place of its files. Answers the status.
 ///
 /// `explain` prints what [`explain`](plan_design::explain) says of the plan, whole; the status is 0 where the plan is accepted,
-/// and 1 where it isn't. No more of the plan is read than 1,048,577 bytes. Where memory runs out, or the reader or `out`
+/// and 1 where it isn't. `wear` prints what [`wear`](watched_runs::wear) tells of the run of the script, and `draw` what
+/// [`draw`](watched_runs::draw) draws of it, each whole; the status is 0, and where rows were refused, `err` gets a line, as
+/// `refused 1 first line 6 with 6`.
+///
+/// No more of the plan is read than 1,048,577 bytes. Where a text is refused, memory runs out, or a reader or `out`
 /// fails, that is told in a line to `err`, as `error 21 ReadFault`, and the status is 1. Where `err` fails, that is passed over.
-pub fn act<R: Read + Drop, W: Write, E: Write>(
+pub fn act<P: Read + Drop, S: Read + Drop, W: Write, E: Write>(
     alloc: Global,
     command: Command<'_>,
-    plan: R,
+    plan: P,
+    script: S,
     out: &mut W,
     err: &mut E,
 ) -> u8
-    ensures { result ≡ 0 → SaysOf (R.remaining plan) true }
+    requires { FitsRun command }
+    ensures { result ≡ 0 → IsExplained command.entry (P.remaining plan) }
 {
     match command {
         Command::Explain { .. } => match print_explained(alloc, plan, out) {
@@ -64,5 +114,19 @@ pub fn act<R: Read + Drop, W: Write, E: Write>(
             Ok(false) => 1,
             Err(refusal) => end(err, Err(Fault::Refused(refusal))),
         },
+        Command::Wear { slots, .. } => {
+            let ran = print_wear(alloc, plan, script, slots, out);
+            end_run(err, ran)
+        }
+        Command::Draw {
+            slots,
+            die,
+            from,
+            to,
+            ..
+        } => {
+            let ran = print_drawn(alloc, plan, script, slots, die, from, to, out);
+            end_run(err, ran)
+        }
     }
 }

@@ -1,22 +1,46 @@
 //! What the words of a command line ask for.
 
-ghost use Rattle.std.specs.Prelude.{◌≡◌, IfOk, Some, None, map, option_map, string_bytes};
+ghost use Rattle.std.specs.Prelude.{◌≡◌, ◌≤◌, IfOk, IfSome, Some, None, map, option_map, string_bytes};
 ghost use Rattle.clap.specs.Words.{app_of, first_of, found_of, rows_of, subcommand_rows_of};
 ghost use Rattle.clap.specs.Kinds.{FailsBy, HasKind};
 ghost use Rattle.clap.specs.Faults.{fault_of};
-ghost use Rattle.flashplan.specs.Commands.{asked, asked_by, command_fault, named, task_of, words_fault};
+ghost use Rattle.flashplan.specs.Commands.{FitsRun, asked, asked_by, draw_of, named, number_upto, range_fault, task_of, wear_of, words_fault};
 ghost use Rattle.flashplan.specs.Syntax.{flashplan_app};
 
 use crate::syntax::program_words;
 use clap::error::ErrorKind;
 use clap::{ArgMatches, Error};
+use slot_types::MAX_SLOT;
 use std::alloc::Global;
+use task_texts::number;
 
 /// What the words of a command line ask for. Files stand by their names.
 #[derive(Clone, Copy, PartialEq, Eq, Debug)]
 pub enum Command<'a> {
     /// Explain a plan.
-    Explain { plan: &'a str },
+    Explain {
+        plan: &'a str,
+    },
+    /// Run a script, and tell what it wore.
+    Wear {
+        plan: &'a str,
+        script: &'a str,
+        /// How many slots each die runs, from 0 to 1,048,576.
+        slots: u32,
+    },
+    /// Run a script, and draw what a die did.
+    Draw {
+        plan: &'a str,
+        script: &'a str,
+        /// How many slots the die runs, from 0 to 1,048,576.
+        slots: u32,
+        /// Which die.
+        die: u32,
+        /// The first slot that is drawn.
+        from: u32,
+        /// The slot before which the picture ends.
+        to: u32,
+    },
 }
 
 /// The value of an argument.
@@ -26,21 +50,72 @@ fn value<'a>(met: &ArgMatches<'a>, id: &str) -> Option<&'a str>
     met.get_str(id)
 }
 
+/// The number that a text writes, if it is at most 1,048,576.
+fn number_in(text: &str) -> Option<u32>
+    ensures number { result ≡ number_upto text.now }
+    ensures few { IfSome result (λ n. n ≤ MAX_SLOT) }
+{
+    let n = number(text.as_bytes())?;
+    if n <= MAX_SLOT { Some(n) } else { None }
+}
+
+/// The command `wear` that was met.
+fn wear<'a>(met: &ArgMatches<'a>) -> Option<Command<'a>>
+    ensures wear { option_map task_of result ≡ wear_of (rows_of (found_of met.now)) }
+    ensures fits { IfSome result FitsRun }
+{
+    let plan = value(met, "PLAN")?;
+    let script = value(met, "SCRIPT")?;
+    let slots = number_in(value(met, "slots")?)?;
+    Some(Command::Wear {
+        plan,
+        script,
+        slots,
+    })
+}
+
+/// The command `draw` that was met.
+fn draw<'a>(met: &ArgMatches<'a>) -> Option<Command<'a>>
+    ensures draw { option_map task_of result ≡ draw_of (rows_of (found_of met.now)) }
+    ensures fits { IfSome result FitsRun }
+{
+    let plan = value(met, "PLAN")?;
+    let script = value(met, "SCRIPT")?;
+    let slots = number_in(value(met, "slots")?)?;
+    let die = number_in(value(met, "die")?)?;
+    let from = number_in(value(met, "from")?)?;
+    let to = number_in(value(met, "to")?)?;
+    Some(Command::Draw {
+        plan,
+        script,
+        slots,
+        die,
+        from,
+        to,
+    })
+}
+
 /// The command that was met, by its name.
 fn command_named<'a>(name: &str, met: &ArgMatches<'a>) -> Option<Command<'a>>
-    ensures { option_map task_of result ≡ named name.now (rows_of (found_of met.now)) }
+    ensures named { option_map task_of result ≡ named name.now (rows_of (found_of met.now)) }
+    ensures fits { IfSome result FitsRun }
 {
     if name == "explain" {
         let plan = value(met, "PLAN")?;
         Some(Command::Explain { plan })
+    } else if name == "wear" {
+        wear(met)
+    } else if name == "draw" {
+        draw(met)
     } else {
         None
     }
 }
 
-/// The command that clap met, if it met one.
+/// The command that clap met, if it met one, and its numbers lie in their ranges.
 fn command_met<'a>(matches: &ArgMatches<'a>) -> Option<Command<'a>>
-    ensures { option_map task_of result ≡ asked_by (subcommand_rows_of matches.now) }
+    ensures asked { option_map task_of result ≡ asked_by (subcommand_rows_of matches.now) }
+    ensures fits { IfSome result FitsRun }
 {
     match matches.subcommand() {
         None => None,
@@ -48,26 +123,27 @@ fn command_met<'a>(matches: &ArgMatches<'a>) -> Option<Command<'a>>
     }
 }
 
-/// The command that clap meets in the words, if there is one.
+/// The command that clap meets in the words, if there is one, and its numbers lie in their ranges.
 fn parsed<'a>(
     program: &mut clap::Command<'a>,
     words: &'a [String],
 ) -> Result<Option<Command<'a>>, Error>
     requires { app_of program.old ≡ flashplan_app }
     ensures ok { IfOk result (λ c. option_map task_of c ≡ asked (map string_bytes words.entry.now)) }
+    ensures fits { IfOk result (λ c. IfSome c FitsRun) }
     ensures fault { FailsBy (fault_of flashplan_app (map string_bytes words.entry.now)) result }
 {
     let matches = program.try_get_matches_from_mut(words)?;
     Ok(command_met(&matches))
 }
 
-/// The error for words that name no command.
+/// The error for words that name no command, or a number that is none or too great.
 fn command_error(mut program: clap::Command<'_>) -> Error
-    ensures { HasKind (command_fault None) result }
+    ensures { HasKind (range_fault None) result }
 {
     match program.error(
-        ErrorKind::MissingSubcommand,
-        "a command is wanted: explain PLAN",
+        ErrorKind::ValueValidation,
+        "a command is wanted: explain, wear or draw; each of its numbers is a whole one from 0 to 1048576",
     ) {
         Ok(error) => error,
         Err(error) => Error::from(error),
@@ -76,11 +152,14 @@ fn command_error(mut program: clap::Command<'_>) -> Error
 
 /// What the words ask for, the first of them being the program's name.
 ///
-/// The words are `explain PLAN`. The error is that of clap, which prints itself: a call for help, a fault of the words, or
-/// want of memory; and MissingSubcommand where there is no command.
+/// The words are `explain PLAN`, `wear PLAN SCRIPT --slots N`, or `draw PLAN SCRIPT --slots N --die D --from A --to B`,
+/// where A and B may be left out: the picture then begins with slot 0, or ends with the run. A number is 1 to 10 decimal
+/// digits, and at most 1,048,576. The error is that of clap, which prints itself: a call for help, a fault of the words,
+/// or want of memory; and ValueValidation where there is no command, or a number that is none or too great.
 #[tactic(auto, using(crate::proofs::KindLemmas::has_kind_in_first))]
 pub fn read_words<'a>(alloc: Global, words: &'a [String]) -> Result<Command<'a>, Error>
     ensures ok { IfOk result (λ c. asked (map string_bytes words.entry.now) ≡ Some (task_of c)) }
+    ensures fits { IfOk result FitsRun }
     ensures fault { FailsBy (words_fault (map string_bytes words.entry.now)) result }
 {
     let mut program = program_words(alloc)?;

@@ -5,28 +5,37 @@ mod acts;
 mod commands;
 mod syntax;
 
+ghost use Rattle.flashplan.specs.Commands.{FitsRun};
+
 use acts::act;
 use commands::{Command, read_words};
-use flash_commands::{Fault, end, show, words_of};
+use flash_commands::{Disk, Fault, Folder, end, show, words_of};
 use slot_types::Refusal;
 use std::alloc::Global;
-use std::fs;
+use std::io;
 use std::io::Write;
 use std::process::ExitCode;
-use std::rt::Files;
 
-/// Carries out a command on the file that it names.
-fn act_on_file<R: Files, W: Write, E: Write>(
-    rt: &R,
+/// Carries out a command on the files that it names, which are opened before any of them is read.
+fn act_on<D: Folder, W: Write, E: Write>(
     alloc: Global,
+    folder: &D,
     command: Command<'_>,
     out: &mut W,
     err: &mut E,
-) -> u8 {
-    let Command::Explain { plan } = command;
-    match fs::open(rt, plan) {
-        Ok(plan) => act(alloc, command, plan, out, err),
-        Err(_) => end(err, Err(Fault::Refused(Refusal::ReadFault))),
+) -> Result<u8, Refusal>
+    requires { FitsRun command }
+{
+    match command {
+        Command::Explain { plan } => {
+            let plan = folder.open(plan)?;
+            Ok(act(alloc, command, plan, io::empty(), out, err))
+        }
+        Command::Wear { plan, script, .. } | Command::Draw { plan, script, .. } => {
+            let plan = folder.open(plan)?;
+            let script = folder.open(script)?;
+            Ok(act(alloc, command, plan, script, out, err))
+        }
     }
 }
 
@@ -35,7 +44,10 @@ fn main(rt: HostRuntime) -> ExitCode {
     let (mut out, mut err) = (rt.stdout(), rt.stderr());
     let status = match words_of(&rt, alloc) {
         Ok(words) => match read_words(alloc, words.as_slice()) {
-            Ok(command) => act_on_file(&rt, alloc, command, &mut out, &mut err),
+            Ok(command) => match act_on(alloc, &Disk::new(&rt), command, &mut out, &mut err) {
+                Ok(status) => status,
+                Err(refusal) => end(&mut err, Err(Fault::Refused(refusal))),
+            },
             Err(error) => show(&rt, &mut err, error),
         },
         Err(fault) => end(&mut err, Err(fault)),

@@ -2,7 +2,7 @@
 
 ghost use Rattle.std.specs.Prelude.{◌≡◌, false, codes, IfOk};
 ghost use Rattle.clap.specs.Words.{app_of, new_app, rule_of, with_subcommand};
-ghost use Rattle.flashplan.specs.Syntax.{explain_app, flashplan_app, has_globals, needed};
+ghost use Rattle.flashplan.specs.Syntax.{die_rule, draw_app, draw_files_app, draw_run_app, explain_app, from_rule, flashplan_app, has_globals, needed, slots_rule, to_rule, wear_app, wear_files_app};
 
 use clap::{Arg, Command};
 use std::alloc::{AllocError, Global};
@@ -17,6 +17,64 @@ fn plan_file<'a>(alloc: Global) -> Arg<'a>
         .help("The plan of the store, a TOML file")
 }
 
+/// The file that has the script.
+fn script_file<'a>(alloc: Global) -> Arg<'a>
+    ensures rule { rule_of result ≡ needed (codes "SCRIPT") }
+    ensures local { result.global ≡ false }
+{
+    Arg::new(alloc, "SCRIPT")
+        .required(true)
+        .help("The jobs and collections that the dies get, a CSV file")
+}
+
+/// How many slots each die runs.
+fn slots<'a>(alloc: Global) -> Arg<'a>
+    ensures rule { rule_of result ≡ slots_rule }
+    ensures local { result.global ≡ false }
+{
+    Arg::new(alloc, "slots")
+        .long("slots")
+        .value_name("N")
+        .required(true)
+        .help("How many slots each die runs, from 0 to 1048576 (required)")
+}
+
+/// Which die is drawn.
+fn die<'a>(alloc: Global) -> Arg<'a>
+    ensures rule { rule_of result ≡ die_rule }
+    ensures local { result.global ≡ false }
+{
+    Arg::new(alloc, "die")
+        .long("die")
+        .value_name("D")
+        .required(true)
+        .help("Which die is drawn, from 0 (required)")
+}
+
+/// Where the picture begins.
+fn first<'a>(alloc: Global) -> Arg<'a>
+    ensures rule { rule_of result ≡ from_rule }
+    ensures local { result.global ≡ false }
+{
+    Arg::new(alloc, "from")
+        .long("from")
+        .value_name("A")
+        .default_value("0")
+        .help("The first slot that is drawn")
+}
+
+/// Where the picture ends.
+fn end<'a>(alloc: Global) -> Arg<'a>
+    ensures rule { rule_of result ≡ to_rule }
+    ensures local { result.global ≡ false }
+{
+    Arg::new(alloc, "to")
+        .long("to")
+        .value_name("B")
+        .default_value("1048576")
+        .help("The slot before which the picture ends, at most that of the run")
+}
+
 /// The command `explain`.
 fn explain_words<'a>(alloc: Global) -> Result<Command<'a>, AllocError>
     ensures app { IfOk result (λ c. app_of c ≡ explain_app) }
@@ -26,6 +84,56 @@ fn explain_words<'a>(alloc: Global) -> Result<Command<'a>, AllocError>
         .about("Tell in sentences whether a store's plan is accepted, and what would mend it")
         .after_help("Example: flashplan explain plan.toml")
         .arg(plan_file(alloc))
+}
+
+/// The command `wear`, with its files.
+fn wear_files<'a>(alloc: Global) -> Result<Command<'a>, AllocError>
+    ensures app { IfOk result (λ c. app_of c ≡ wear_files_app) }
+    ensures local { IfOk result (λ c. has_globals c ≡ false) }
+{
+    Command::new(alloc, "wear")
+        .about("Run a script on a store, and tell how often its blocks were erased")
+        .after_help("Example: flashplan wear plan.toml script.csv --slots 1000")
+        .arg(plan_file(alloc))?
+        .arg(script_file(alloc))
+}
+
+/// The command `wear`.
+fn wear_words<'a>(alloc: Global) -> Result<Command<'a>, AllocError>
+    ensures app { IfOk result (λ c. app_of c ≡ wear_app) }
+    ensures local { IfOk result (λ c. has_globals c ≡ false) }
+{
+    wear_files(alloc)?.arg(slots(alloc))
+}
+
+/// The command `draw`, with its files.
+fn draw_files<'a>(alloc: Global) -> Result<Command<'a>, AllocError>
+    ensures app { IfOk result (λ c. app_of c ≡ draw_files_app) }
+    ensures local { IfOk result (λ c. has_globals c ≡ false) }
+{
+    Command::new(alloc, "draw")
+        .about("Run a script on a die, and draw what its slots carried, as an SVG picture")
+        .after_help(
+            "Example: flashplan draw plan.toml script.csv --slots 1000 --die 0 --from 200 --to 300",
+        )
+        .arg(plan_file(alloc))?
+        .arg(script_file(alloc))
+}
+
+/// The command `draw`, with what it runs.
+fn draw_run<'a>(alloc: Global) -> Result<Command<'a>, AllocError>
+    ensures app { IfOk result (λ c. app_of c ≡ draw_run_app) }
+    ensures local { IfOk result (λ c. has_globals c ≡ false) }
+{
+    draw_files(alloc)?.arg(slots(alloc))?.arg(die(alloc))
+}
+
+/// The command `draw`.
+fn draw_words<'a>(alloc: Global) -> Result<Command<'a>, AllocError>
+    ensures app { IfOk result (λ c. app_of c ≡ draw_app) }
+    ensures local { IfOk result (λ c. has_globals c ≡ false) }
+{
+    draw_run(alloc)?.arg(first(alloc))?.arg(end(alloc))
 }
 
 /// The program's name and what it is about.
@@ -50,5 +158,9 @@ pub fn program_words<'a>(alloc: Global) -> Result<Command<'a>, AllocError>
     ensures { IfOk result (λ c. app_of c ≡ flashplan_app) }
 {
     let explain = explain_words(alloc)?;
-    with_command(name(alloc), explain)
+    let wear = wear_words(alloc)?;
+    let with_explain = with_command(name(alloc), explain)?;
+    let draw = draw_words(alloc)?;
+    let with_wear = with_command(with_explain, wear)?;
+    with_command(with_wear, draw)
 }

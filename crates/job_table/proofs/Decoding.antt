@@ -5,10 +5,10 @@ use Rattle.std.proofs.lemmas.List.{length-take, length-drop, nil_from_length}
 use Rattle.std.proofs.lemmas.List.Sums.{sum_by-cons, sum_by-append, sum_by-take-drop, count_by-le-length}
 use Rattle.std.proofs.lemmas.Bool.Decides.{nat_tests}
 use Rattle.slot_types.specs.declared.events.Op.{Op}
-use Rattle.slot_types.specs.declared.events.Op.TheVariants.{Read, Write}
+use Rattle.slot_types.specs.declared.events.Op.TheVariants.{Read, Write, Trim}
 use Rattle.slot_types.specs.declared.pages.PageData.{PageData}
 use Rattle.job_table.specs.Jobs.{is_read}
-use Rattle.job_table.specs.Words.{word_of, page_in, is_read_in, bytes_of, blank, op_in, bytes_behind, ops_of, HasBytes}
+use Rattle.job_table.specs.Words.{word_of, page_in, is_read_in, is_trim_in, bytes_of, blank, changing_in, op_in, bytes_behind, ops_of, HasBytes}
 
 abbrev read_word : ℕ → ℕ
 read_word word = cond (is_read_in word) 1 0
@@ -20,10 +20,15 @@ pub length-ops_of : (words : List ℕ) (bytes : List PageData) → length (ops_o
 length-ops_of [] bytes = refl
 length-ops_of (word ∷ words) bytes = ap suc (length-ops_of words (bytes_behind word bytes))
 
+is_read-changing_in : (word : ℕ) (b : PageData) → is_read (changing_in word b) ≡ false
+is_read-changing_in word b =
+    elim (is_trim_in word) as (λ (v : Bool). is_read (cond v (Trim (page_in word)) (Write (page_in word) b)) ≡ false)
+    [ true ↦ refl | false ↦ refl ]
+
 is_read-op_in : (word : ℕ) (bytes : List PageData) → is_read (op_in word bytes) ≡ is_read_in word
 is_read-op_in word bytes =
-    elim (is_read_in word) as (λ (v : Bool). is_read (cond v (Read (page_in word)) (Write (page_in word) (get_or bytes 0 blank))) ≡ v)
-    [ true ↦ refl | false ↦ refl ]
+    elim (is_read_in word) as (λ (v : Bool). is_read (cond v (Read (page_in word)) (changing_in word (get_or bytes 0 blank))) ≡ v)
+    [ true ↦ refl | false ↦ is_read-changing_in word (get_or bytes 0 blank) ]
 
 -- reads are counted by their words
 pub count_words : (words : List ℕ) (bytes : List PageData) (n : ℕ) → count_by is_read (take n (ops_of words bytes)) ≡ count_by is_read_in (take n words)
@@ -39,7 +44,7 @@ pub read_at : (words : List ℕ) (bytes : List PageData) (n word : ℕ) → slic
 read_at [] bytes n word e is = absurd cc
 read_at (w ∷ words) bytes zero word e is =
     let same : w ≡ word = cc in
-    rw same (ap (λ (v : Bool). Some (cond v (Read (page_in word)) (Write (page_in word) (get_or bytes 0 blank)))) is)
+    rw same (ap (λ (v : Bool). Some (cond v (Read (page_in word)) (changing_in word (get_or bytes 0 blank)))) is)
 read_at (w ∷ words) bytes (suc n) word e is = read_at words (bytes_behind w bytes) n word e is
 
 pub count_take_le : (words : List ℕ) (n : ℕ) → count_by is_read_in (take n words) ≤ n
@@ -51,26 +56,33 @@ get_or-drop_one [] (suc k) = refl
 get_or-drop_one (b ∷ bytes) k = refl
 
 -- of a list of bytes whose first is behind
-write_behind : (words : List ℕ) (bytes : List PageData) (n page k : ℕ)
-    → ((k : ℕ) → k + count_by is_read_in (take n words) ≡ n → slice_get (ops_of words (drop 1 bytes)) n ≡ Some (Write page (get_or (drop 1 bytes) k blank)))
-    → k + count_by is_read_in (take n words) ≡ suc n → slice_get (ops_of words (drop 1 bytes)) n ≡ Some (Write page (get_or bytes k blank))
-write_behind words bytes n page zero rest rank = absurd (omega (arith, count_take_le words n))
-write_behind words bytes n page (suc k) rest rank = rest k (omega arith) ∙ ap (λ (b : PageData). Some (Write page b)) (get_or-drop_one bytes k)
+changing_behind : (words : List ℕ) (bytes : List PageData) (n word k : ℕ)
+    → ((k : ℕ) → k + count_by is_read_in (take n words) ≡ n → slice_get (ops_of words (drop 1 bytes)) n ≡ Some (changing_in word (get_or (drop 1 bytes) k blank)))
+    → k + count_by is_read_in (take n words) ≡ suc n → slice_get (ops_of words (drop 1 bytes)) n ≡ Some (changing_in word (get_or bytes k blank))
+changing_behind words bytes n word zero rest rank = absurd (omega (arith, count_take_le words n))
+changing_behind words bytes n word (suc k) rest rank = rest k (omega arith) ∙ ap (λ (b : PageData). Some (changing_in word b)) (get_or-drop_one bytes k)
 
 -- a word that isn't: its bytes have as many before them as there are such words before it
-pub write_at : (words : List ℕ) (bytes : List PageData) (n word k : ℕ) → slice_get words n ≡ Some word → is_read_in word ≡ false → k + count_by is_read_in (take n words) ≡ n
-    → slice_get (ops_of words bytes) n ≡ Some (Write (page_in word) (get_or bytes k blank))
-write_at [] bytes n word k e isnt rank = absurd cc
-write_at (w ∷ words) bytes zero word k e isnt rank =
+pub changing_at : (words : List ℕ) (bytes : List PageData) (n word k : ℕ) → slice_get words n ≡ Some word → is_read_in word ≡ false → k + count_by is_read_in (take n words) ≡ n
+    → slice_get (ops_of words bytes) n ≡ Some (changing_in word (get_or bytes k blank))
+changing_at [] bytes n word k e isnt rank = absurd cc
+changing_at (w ∷ words) bytes zero word k e isnt rank =
     let same : w ≡ word = cc in
     let first : k ≡ 0 = omega arith in
-    rw (same, first) (ap (λ (v : Bool). Some (cond v (Read (page_in word)) (Write (page_in word) (get_or bytes 0 blank)))) isnt)
-write_at (w ∷ words) bytes (suc n) word k e isnt rank =
+    rw (same, first) (ap (λ (v : Bool). Some (cond v (Read (page_in word)) (changing_in word (get_or bytes 0 blank)))) isnt)
+changing_at (w ∷ words) bytes (suc n) word k e isnt rank =
     elim (is_read_in w) as (λ (v : Bool). cond v 1 0 + count_by is_read_in (take n words) ≡ count_by is_read_in (take (suc n) (w ∷ words)) →
-    slice_get (ops_of words (cond v bytes (drop 1 bytes))) n ≡ Some (Write (page_in word) (get_or bytes k blank))) [
-      | true ↦ λ c. write_at words bytes n word k e isnt (omega arith)
-      | false ↦ λ c. write_behind words bytes n (page_in word) k (λ j r. write_at words (drop 1 bytes) n word j e isnt r) (omega arith)
+    slice_get (ops_of words (cond v bytes (drop 1 bytes))) n ≡ Some (changing_in word (get_or bytes k blank))) [
+      | true ↦ λ c. changing_at words bytes n word k e isnt (omega arith)
+      | false ↦ λ c. changing_behind words bytes n word k (λ j r. changing_at words (drop 1 bytes) n word j e isnt r) (omega arith)
     ] (sym (sum_by-cons read_word w (take n words)))
+
+-- .. where it is a trim, and where it isn't
+pub is_trimmed : (word : ℕ) (b : PageData) → is_trim_in word ≡ true → changing_in word b ≡ Trim (page_in word)
+is_trimmed word b is = ap (λ (v : Bool). cond v (Trim (page_in word)) (Write (page_in word) b)) is
+
+pub is_written : (word : ℕ) (b : PageData) → is_trim_in word ≡ false → changing_in word b ≡ Write (page_in word) b
+is_written word b isnt = ap (λ (v : Bool). cond v (Trim (page_in word)) (Write (page_in word) b)) isnt
 
 -- behind a word that isn't a read stand all reads that stand from it on
 no_read : (words : List ℕ) (n word : ℕ) → slice_get words n ≡ Some word → is_read_in word ≡ false → count_by is_read_in (drop n words) ≡ count_by is_read_in (drop (suc n) words)
@@ -101,25 +113,46 @@ read_is_read page = eq-eqb ((4 * page) % 4) 0 (omega arith)
 write_is_none : (page : ℕ) → is_read_in (4 * page + 1) ≡ false
 write_is_none page = grind (arith, nat_tests)
 
+trim_is_none : (page : ℕ) → is_read_in (4 * page + 2) ≡ false
+trim_is_none page = grind (arith, nat_tests)
+
+write_is_no_trim : (page : ℕ) → is_trim_in (4 * page + 1) ≡ false
+write_is_no_trim page = grind (arith, nat_tests)
+
+trim_is_trim : (page : ℕ) → is_trim_in (4 * page + 2) ≡ true
+trim_is_trim page = eq-eqb ((4 * page + 2) % 4) 2 (omega arith)
+
 page_read : (page : ℕ) → (4 * page) / 4 ≡ page
 page_read page = omega arith
 
 page_written : (page : ℕ) → (4 * page + 1) / 4 ≡ page
 page_written page = omega arith
 
+page_trimmed : (page : ℕ) → (4 * page + 2) / 4 ≡ page
+page_trimmed page = omega arith
+
 op_read : (page : ℕ) (bytes : List PageData) → op_in (4 * page) bytes ≡ Read page
 op_read page bytes =
-    ap (λ (v : Bool). cond v (Read (page_in (4 * page))) (Write (page_in (4 * page)) (get_or bytes 0 blank))) (read_is_read page) ∙ ap Read (page_read page)
+    ap (λ (v : Bool). cond v (Read (page_in (4 * page))) (changing_in (4 * page) (get_or bytes 0 blank))) (read_is_read page) ∙ ap Read (page_read page)
 
 op_written : (page : ℕ) (b : PageData) (bytes : List PageData) → op_in (4 * page + 1) (b ∷ bytes) ≡ Write page b
 op_written page b bytes =
-    ap (λ (v : Bool). cond v (Read (page_in (4 * page + 1))) (Write (page_in (4 * page + 1)) b)) (write_is_none page) ∙ ap (λ (p : ℕ). Write p b) (page_written page)
+    ap (λ (v : Bool). cond v (Read (page_in (4 * page + 1))) (changing_in (4 * page + 1) b)) (write_is_none page)
+    ∙ is_written (4 * page + 1) b (write_is_no_trim page) ∙ ap (λ (p : ℕ). Write p b) (page_written page)
+
+op_trimmed : (page : ℕ) (bytes : List PageData) → op_in (4 * page + 2) (blank ∷ bytes) ≡ Trim page
+op_trimmed page bytes =
+    ap (λ (v : Bool). cond v (Read (page_in (4 * page + 2))) (changing_in (4 * page + 2) blank)) (trim_is_none page)
+    ∙ is_trimmed (4 * page + 2) blank (trim_is_trim page) ∙ ap Trim (page_trimmed page)
 
 behind_read : (page : ℕ) (bytes : List PageData) → bytes_behind (4 * page) bytes ≡ bytes
 behind_read page bytes = ap (λ (v : Bool). cond v bytes (drop 1 bytes)) (read_is_read page)
 
 behind_write : (page : ℕ) (b : PageData) (bytes : List PageData) → bytes_behind (4 * page + 1) (b ∷ bytes) ≡ bytes
 behind_write page b bytes = ap (λ (v : Bool). cond v (b ∷ bytes) bytes) (write_is_none page)
+
+behind_trim : (page : ℕ) (bytes : List PageData) → bytes_behind (4 * page + 2) (blank ∷ bytes) ≡ bytes
+behind_trim page bytes = ap (λ (v : Bool). cond v (blank ∷ bytes) bytes) (trim_is_none page)
 
 words_read : (ops : List Op) → ops_of (map word_of ops) (bytes_of ops) ≡ ops
 words_read [] = refl
@@ -131,14 +164,18 @@ words_read (Write page b ∷ ops) =
     ap (λ (o : Op). o ∷ ops_of (map word_of ops) (bytes_behind (4 * page + 1) (b ∷ bytes_of ops))) (op_written page b (bytes_of ops))
     ∙ ap (λ (bs : List PageData). Write page b ∷ ops_of (map word_of ops) bs) (behind_write page b (bytes_of ops))
     ∙ ap (λ (l : List Op). Write page b ∷ l) (words_read ops)
+words_read (Trim page ∷ ops) =
+    ap (λ (o : Op). o ∷ ops_of (map word_of ops) (bytes_behind (4 * page + 2) (blank ∷ bytes_of ops))) (op_trimmed page (bytes_of ops))
+    ∙ ap (λ (bs : List PageData). Trim page ∷ ops_of (map word_of ops) bs) (behind_trim page (bytes_of ops))
+    ∙ ap (λ (l : List Op). Trim page ∷ l) (words_read ops)
 
 -- one that isn't a read before the others
-write_pushed : (words : List ℕ) (bytes : List PageData) (page : ℕ) (ops : List Op)
+changing_pushed : (words : List ℕ) (bytes : List PageData) (word : ℕ) (ops : List Op)
     → ((bytes : List PageData) → HasBytes words bytes → ops_of (words ++ map word_of ops) (bytes ++ bytes_of ops) ≡ ops_of words bytes ++ ops)
     → length bytes + count_by is_read_in words ≡ suc (length words)
-    → Write page (get_or (bytes ++ bytes_of ops) 0 blank) ∷ ops_of (words ++ map word_of ops) (drop 1 (bytes ++ bytes_of ops)) ≡ Write page (get_or bytes 0 blank) ∷ (ops_of words (drop 1 bytes) ++ ops)
-write_pushed words [] page ops rest has = absurd (omega (arith, count_by-le-length is_read_in words))
-write_pushed words (b ∷ bytes) page ops rest has = ap (λ (l : List Op). Write page b ∷ l) (rest bytes (record { each = omega arith }))
+    → changing_in word (get_or (bytes ++ bytes_of ops) 0 blank) ∷ ops_of (words ++ map word_of ops) (drop 1 (bytes ++ bytes_of ops)) ≡ changing_in word (get_or bytes 0 blank) ∷ (ops_of words (drop 1 bytes) ++ ops)
+changing_pushed words [] word ops rest has = absurd (omega (arith, count_by-le-length is_read_in words))
+changing_pushed words (b ∷ bytes) word ops rest has = ap (λ (l : List Op). changing_in word b ∷ l) (rest bytes (record { each = omega arith }))
 
 -- the operations of words that are added behind
 pub ops_pushed : (words : List ℕ) (bytes : List PageData) (ops : List Op) → HasBytes words bytes → ops_of (words ++ map word_of ops) (bytes ++ bytes_of ops) ≡ ops_of words bytes ++ ops
@@ -148,10 +185,10 @@ ops_pushed [] bytes ops has =
 ops_pushed (w ∷ words) bytes ops has =
     let all = has.each in
     elim (is_read_in w) as (λ (v : Bool). cond v 1 0 + count_by is_read_in words ≡ count_by is_read_in (w ∷ words) →
-    cond v (Read (page_in w)) (Write (page_in w) (get_or (bytes ++ bytes_of ops) 0 blank)) ∷ ops_of (words ++ map word_of ops) (cond v (bytes ++ bytes_of ops) (drop 1 (bytes ++ bytes_of ops)))
-    ≡ cond v (Read (page_in w)) (Write (page_in w) (get_or bytes 0 blank)) ∷ (ops_of words (cond v bytes (drop 1 bytes)) ++ ops)) [
+    cond v (Read (page_in w)) (changing_in w (get_or (bytes ++ bytes_of ops) 0 blank)) ∷ ops_of (words ++ map word_of ops) (cond v (bytes ++ bytes_of ops) (drop 1 (bytes ++ bytes_of ops)))
+    ≡ cond v (Read (page_in w)) (changing_in w (get_or bytes 0 blank)) ∷ (ops_of words (cond v bytes (drop 1 bytes)) ++ ops)) [
       | true ↦ λ c. ap (λ (l : List Op). Read (page_in w) ∷ l) (ops_pushed words bytes ops (record { each = omega arith }))
-      | false ↦ λ c. write_pushed words bytes (page_in w) ops (λ bs h. ops_pushed words bs ops h) (omega arith)
+      | false ↦ λ c. changing_pushed words bytes w ops (λ bs h. ops_pushed words bs ops h) (omega arith)
     ] (sym (sum_by-cons read_word w words))
 
 words_have : (ops : List Op) → length (bytes_of ops) + count_by is_read_in (map word_of ops) ≡ length (map word_of ops)
@@ -164,6 +201,10 @@ words_have (Write page b ∷ ops) =
     let h = words_have ops in
     let e : read_word (4 * page + 1) ≡ 0 = ap (λ (v : Bool). cond v 1 0) (write_is_none page) in
     omega (arith, h, e, sum_by-cons read_word (4 * page + 1) (map word_of ops))
+words_have (Trim page ∷ ops) =
+    let h = words_have ops in
+    let e : read_word (4 * page + 2) ≡ 0 = ap (λ (v : Bool). cond v 1 0) (trim_is_none page) in
+    omega (arith, h, e, sum_by-cons read_word (4 * page + 2) (map word_of ops))
 
 pub has_pushed : (words : List ℕ) (bytes : List PageData) (ops : List Op) → HasBytes words bytes → HasBytes (words ++ map word_of ops) (bytes ++ bytes_of ops)
 has_pushed words bytes ops has = record {
@@ -187,25 +228,15 @@ words_between words bytes from to count up is =
 
 -- One operation more of a list
 
-pub bytes_more : (ops : List Op) (n page : ℕ) (b : PageData) → slice_get ops n ≡ Some (Write page b) → bytes_of (take (n + 1) ops) ≡ bytes_of (take n ops) ++ b ∷ []
-bytes_more ops n page b e = rw add-one (by_write ops n page b e)
+pub bytes_more : (ops : List Op) (n : ℕ) (op : Op) → slice_get ops n ≡ Some op → bytes_of (take (n + 1) ops) ≡ bytes_of (take n ops) ++ bytes_of (op ∷ [])
+bytes_more ops n op e = rw add-one (by_op ops n op e)
   where
-    by_write : (ops : List Op) (n page : ℕ) (b : PageData) → slice_get ops n ≡ Some (Write page b) → bytes_of (take (suc n) ops) ≡ bytes_of (take n ops) ++ b ∷ []
-    by_write [] n page b e = absurd cc
-    by_write (Read p ∷ ops) zero page b e = absurd cc
-    by_write (Write p d ∷ ops) zero page b e = let same : d ≡ b = cc in ap (λ (x : PageData). x ∷ []) same
-    by_write (Read p ∷ ops) (suc n) page b e = by_write ops n page b e
-    by_write (Write p d ∷ ops) (suc n) page b e = ap (λ (l : List PageData). d ∷ l) (by_write ops n page b e)
-
-pub bytes_same : (ops : List Op) (n page : ℕ) → slice_get ops n ≡ Some (Read page) → bytes_of (take (n + 1) ops) ≡ bytes_of (take n ops)
-bytes_same ops n page e = rw add-one (by_read ops n page e)
-  where
-    by_read : (ops : List Op) (n page : ℕ) → slice_get ops n ≡ Some (Read page) → bytes_of (take (suc n) ops) ≡ bytes_of (take n ops)
-    by_read [] n page e = absurd cc
-    by_read (Read p ∷ ops) zero page e = refl
-    by_read (Write p d ∷ ops) zero page e = absurd cc
-    by_read (Read p ∷ ops) (suc n) page e = by_read ops n page e
-    by_read (Write p d ∷ ops) (suc n) page e = ap (λ (l : List PageData). d ∷ l) (by_read ops n page e)
+    by_op : (ops : List Op) (n : ℕ) (op : Op) → slice_get ops n ≡ Some op → bytes_of (take (suc n) ops) ≡ bytes_of (take n ops) ++ bytes_of (op ∷ [])
+    by_op [] n op e = absurd cc
+    by_op (o ∷ ops) zero op e = let same : o ≡ op = cc in ap (λ (x : Op). bytes_of (x ∷ [])) same
+    by_op (Read p ∷ ops) (suc n) op e = by_op ops n op e
+    by_op (Write p d ∷ ops) (suc n) op e = ap (λ (l : List PageData). d ∷ l) (by_op ops n op e)
+    by_op (Trim p ∷ ops) (suc n) op e = ap (λ (l : List PageData). blank ∷ l) (by_op ops n op e)
 
 -- the reads that are left from a place on
 pub reads_left : (ops : List Op) (n : ℕ) (op : Op) → slice_get ops n ≡ Some op → count_by is_read (drop n ops) ≡ read_op op + count_by is_read (drop (n + 1) ops)

@@ -1,7 +1,7 @@
 -- A job or a collection, as the table keeps it.
 use Rattle.std.specs.Prelude.{ℕ, ◌+◌, Bool, true, false, List, [], ◌∷◌, ◌++◌, Option, Some, None, slice_get, take, count_by, ◌≡◌, ◌≤◌, ℤ, pos, ◌-ℤ◌}
 use Rattle.slot_types.specs.declared.events.Op.{Op}
-use Rattle.slot_types.specs.declared.events.Op.TheVariants.{Read, Write}
+use Rattle.slot_types.specs.declared.events.Op.TheVariants.{Read, Write, Trim}
 use Rattle.slot_types.specs.declared.pages.PageData.{PageData}
 use Rattle.job_table.specs.declared.stages.Stage.{Stage}
 use Rattle.job_table.specs.declared.stages.Stage.TheVariants.{Pending, Done, Waived}
@@ -46,6 +46,7 @@ lateness_of job = pos (completion_in job.stage) -ℤ pos job.due
 abbrev pub is_read : Op → Bool
 is_read (Read page) = true
 is_read (Write page bytes) = false
+is_read (Trim page) = false
 
 abbrev pub is_some_read : Option Op → Bool
 is_some_read None = false

@@ -3,7 +3,9 @@
 ghost use Rattle.std.specs.Prelude.{◌≡◌, ◌+◌, ◌<◌, ◌≤◌, ◌++◌, Some, [], length, take, count_by, slice_get, OnOk, OnErr, IfErr};
 ghost use Rattle.job_table.specs.Jobs.{is_read};
 
-use crate::words::{count_reads_in, have_words, is_read_in, page_in, push_bytes, push_words};
+use crate::words::{
+    count_reads_in, have_words, is_read_in, is_trim_in, page_in, push_bytes, push_words,
+};
 use slot_types::{Op, PageData, Refusal};
 use std::alloc::Global;
 use std::marker::Model;
@@ -56,6 +58,8 @@ impl OpArena {
         let word = self.words[place];
         if is_read_in(word) {
             Op::Read(page_in(word))
+        } else if is_trim_in(word) {
+            Op::Trim(page_in(word))
         } else {
             Op::Write(page_in(word), self.bytes[place - reads])
         }

@@ -25,10 +25,10 @@ fn page(number: u32) -> PageData {
 
 fn some_op(seed: &mut u32) -> Op {
     let number = draw(seed);
-    if number % 2 == 0 {
-        Op::Read(number)
-    } else {
-        Op::Write(number, page(number))
+    match number % 3 {
+        0 => Op::Read(number),
+        1 => Op::Write(number, page(number)),
+        _ => Op::Trim(number),
     }
 }
 

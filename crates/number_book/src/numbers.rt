@@ -63,6 +63,8 @@ impl Book for Numbers {
 
     type Reply = NumberReply;
 
+    type Note = NumberReply;
+
     type Query = usize;
 
     type Answer = Option<u64>;
@@ -74,6 +76,8 @@ impl Book for Numbers {
     ghost about = { λ _. tt };
 
     ghost accepts = { is_added };
+
+    ghost noted = { λ reply. reply };
 
     ghost gives = { λ _ log _ number reply. Gives log number reply };
 
@@ -98,6 +102,10 @@ impl Book for Numbers {
             reply,
         });
         reply
+    }
+
+    fn note(&mut self, caller: u32, event: u64) -> NumberReply {
+        self.apply(caller, event)
     }
 
     fn ask(&self, query: usize) -> Option<u64> {

@@ -31,6 +31,7 @@ fn page(op: &Op) -> u32
     match op {
         Op::Read(page) => *page,
         Op::Write(page, _) => *page,
+        Op::Trim(page) => *page,
     }
 }
 

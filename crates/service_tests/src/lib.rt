@@ -8,9 +8,13 @@ mod dealt;
 #[cfg(test)]
 mod feeds;
 #[cfg(test)]
+mod gated;
+#[cfg(test)]
 mod held;
 #[cfg(test)]
 mod made;
+#[cfg(test)]
+mod noted;
 #[cfg(test)]
 mod played;
 #[cfg(test)]

@@ -161,6 +161,18 @@ flash-write plan past caller slot ws j page bytes finished f b at opens h r = re
   running_are = r;
 }
 
+-- a trim
+pub flash-trim : (plan : DiePlan) (past : Log) (caller slot : ℕ) (ws : List Waived) (j : Job) (page : ℕ) (finished : Option ℕ) (f : FlashState)
+    → job_at past j.number ≡ Some j → IsWaivedFlash plan past ws f → AreRunning plan (slot_with caller slot ws j.number (does.Trim page) finished past) f.running
+    → IsFlashOf plan (slot_with caller slot ws j.number (does.Trim page) finished past) (record f { pages = slice_set f.pages page device.blank; places = slice_set f.places page None })
+flash-trim plan past caller slot ws j page finished f at h r = record {
+  accounts_are = rw at h.accounts_are;
+  pages_are = ap (λ ps. slice_set ps page device.blank) h.pages_are;
+  places_are = ap (λ ps. slice_set ps page None) h.places_are;
+  blocks_are = h.blocks_are;
+  running_are = r;
+}
+
 -- a copy's program
 pub flash-copy : (plan : DiePlan) (past : Log) (caller slot : ℕ) (ws : List Waived) (j : Job) (page : ℕ) (bytes : PageData) (finished : Option ℕ) (f : FlashState) (running : List (Option Collection)) (b : ℕ)
     → job_at past j.number ≡ Some j → open_block plan (cells plan past) ≡ Some b → IsWaivedFlash plan past ws f → AreRunning plan (slot_with caller slot ws j.number (does.CopyProgram page) finished past) running

@@ -38,6 +38,7 @@ use Rattle.slot_core.proofs.Telling.{get_here, now_told}
 act_grown : (act : Act) (job : JobRecord) → IsGrown job (after_read act (jobs_table.carried job))
 act_grown (does.Read page bytes) job = read_grown bytes job
 act_grown (does.Write page bytes) job = carried_grown job
+act_grown (does.Trim page) job = carried_grown job
 act_grown (does.CopyRead page) job = carried_grown job
 act_grown (does.CopyProgram page) job = carried_grown job
 act_grown (does.Erase block) job = carried_grown job
@@ -64,6 +65,8 @@ turned_ops (does.Read page bytes) true completion given r = refl
 turned_ops (does.Read page bytes) false completion given r = refl
 turned_ops (does.Write page bytes) true completion given r = refl
 turned_ops (does.Write page bytes) false completion given r = refl
+turned_ops (does.Trim page) true completion given r = refl
+turned_ops (does.Trim page) false completion given r = refl
 turned_ops (does.CopyRead page) true completion given r = refl
 turned_ops (does.CopyRead page) false completion given r = refl
 turned_ops (does.CopyProgram page) true completion given r = refl
@@ -76,6 +79,8 @@ turned_reads (does.Read page bytes) true completion given r = refl
 turned_reads (does.Read page bytes) false completion given r = refl
 turned_reads (does.Write page bytes) true completion given r = refl
 turned_reads (does.Write page bytes) false completion given r = refl
+turned_reads (does.Trim page) true completion given r = refl
+turned_reads (does.Trim page) false completion given r = refl
 turned_reads (does.CopyRead page) true completion given r = refl
 turned_reads (does.CopyRead page) false completion given r = refl
 turned_reads (does.CopyProgram page) true completion given r = refl
@@ -116,6 +121,10 @@ op_stands later n r f (asks.Write page bytes) m next counted = record {
   act_is = rw (m.is_at, m.ops_are, next) refl;
   done = record { job = m.moved; is_at = m.is_at; op = asks.Write page bytes; stands = rw m.ops_are next; gave = λ reads. absurd cc };
 }
+op_stands later n r f (asks.Trim page) m next counted = record {
+  act_is = rw (m.is_at, m.ops_are, next) refl;
+  done = record { job = m.moved; is_at = m.is_at; op = asks.Trim page; stands = rw m.ops_are next; gave = λ reads. absurd cc };
+}
 op_stands later n r f (asks.Read page) m next counted = read_stands later n r page _ m next counted
 
 -- What is noted of it
@@ -131,6 +140,8 @@ op_noted later notes log caller present ws n place given f (asks.Read page) true
 op_noted later notes log caller present ws n place given f (asks.Read page) false st told slot = record { tells = rw (st.act_is, told, slot) refl; fits = st.done }
 op_noted later notes log caller present ws n place given f (asks.Write page bytes) true st told slot = record { tells = rw (st.act_is, told, slot) refl; fits = st.done }
 op_noted later notes log caller present ws n place given f (asks.Write page bytes) false st told slot = record { tells = rw (st.act_is, told, slot) refl; fits = st.done }
+op_noted later notes log caller present ws n place given f (asks.Trim page) true st told slot = record { tells = rw (st.act_is, told, slot) refl; fits = st.done }
+op_noted later notes log caller present ws n place given f (asks.Trim page) false st told slot = record { tells = rw (st.act_is, told, slot) refl; fits = st.done }
 
 did_noted : (later : List JobRecord) (notes : List Note) (log : Log) (caller present : ℕ) (ws : List Waived) (n place : ℕ) (did : Collected) → entries_of later notes ≡ log → slots_in notes ≡ present
     → Noted later notes log caller present ws n place (turn_by did)

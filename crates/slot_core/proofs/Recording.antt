@@ -156,6 +156,8 @@ with_act plan own j ws (does.Read page bytes) c g c' g' ends none is =
     rw is (rw none (rw (length_push own (does.Read page bytes)) (rw (reads_more own (does.Read page bytes)) refl)))
 with_act plan own j ws (does.Write page bytes) c g c' g' ends none is =
     rw is (rw none (rw (length_push own (does.Write page bytes)) (rw (reads_more own (does.Write page bytes)) (rw (append-nil (reads_of own)) refl))))
+with_act plan own j ws (does.Trim page) c g c' g' ends none is =
+    rw is (rw none (rw (length_push own (does.Trim page)) (rw (reads_more own (does.Trim page)) (rw (append-nil (reads_of own)) refl))))
 with_act plan own j ws (does.CopyRead page) c g c' g' ends none is =
     rw is (rw none (rw (length_push own (does.CopyRead page)) (rw (reads_more own (does.CopyRead page)) (rw (append-nil (reads_of own)) refl))))
 with_act plan own j ws (does.CopyProgram page) c g c' g' ends none is =

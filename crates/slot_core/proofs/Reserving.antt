@@ -62,6 +62,7 @@ open_closed (x ∷ js) (suc n) r f at opened closed = omega (arith, open_more x 
 act_opens_nothing : (act : Act) (r : JobRecord) → is_open (after_read act (carried r)) ≡ is_open r
 act_opens_nothing (does.Read page bytes) r = refl
 act_opens_nothing (does.Write page bytes) r = refl
+act_opens_nothing (does.Trim page) r = refl
 act_opens_nothing (does.CopyRead page) r = refl
 act_opens_nothing (does.CopyProgram page) r = refl
 act_opens_nothing (does.Erase block) r = refl

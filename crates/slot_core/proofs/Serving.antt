@@ -40,6 +40,7 @@ written_len : (c : Carried) (pages : List PageData) → length (written c pages)
 written_len None pages = refl
 written_len (Some (n, does.Read page bytes)) pages = refl
 written_len (Some (n, does.Write page bytes)) pages = length-set pages page bytes
+written_len (Some (n, does.Trim page)) pages = length-set pages page _
 written_len (Some (n, does.CopyRead page)) pages = refl
 written_len (Some (n, does.CopyProgram page)) pages = refl
 written_len (Some (n, does.Erase block)) pages = refl
@@ -86,14 +87,22 @@ read_among (x ∷ ops) (suc w) op e is =
 read_count : (op : Op) (act : Act) → Does op act → length (cons_option (bytes_read act) []) ≡ one_if is_read op
 read_count (asks.Read page) (does.Read p bytes) h = refl
 read_count (asks.Read page) (does.Write p bytes) h = absurd h
+read_count (asks.Read page) (does.Trim p) h = absurd h
 read_count (asks.Read page) (does.CopyRead p) h = absurd h
 read_count (asks.Read page) (does.CopyProgram p) h = absurd h
 read_count (asks.Read page) (does.Erase b) h = absurd h
 read_count (asks.Write page b) (does.Read p bytes) h = absurd h
 read_count (asks.Write page b) (does.Write p bytes) h = refl
+read_count (asks.Write page b) (does.Trim p) h = absurd h
 read_count (asks.Write page b) (does.CopyRead p) h = absurd h
 read_count (asks.Write page b) (does.CopyProgram p) h = absurd h
 read_count (asks.Write page b) (does.Erase c) h = absurd h
+read_count (asks.Trim page) (does.Read p bytes) h = absurd h
+read_count (asks.Trim page) (does.Write p bytes) h = absurd h
+read_count (asks.Trim page) (does.Trim p) h = refl
+read_count (asks.Trim page) (does.CopyRead p) h = absurd h
+read_count (asks.Trim page) (does.CopyProgram p) h = absurd h
+read_count (asks.Trim page) (does.Erase c) h = absurd h
 
 count_suc : (ops : List Op) (w : ℕ) (op : Op) → slice_get ops w ≡ Some op → count_by is_read (take (suc w) ops) ≡ count_by is_read (take w ops) + one_if is_read op
 count_suc [] w op e = absurd (none-some op e)

@@ -49,7 +49,7 @@ use Rattle.slot_core.specs.Core.{with_entry}
 use Rattle.slot_core.specs.Kept.{Keeps}
 use Rattle.slot_core.specs.Records.{record_with, records, waiver_among}
 use Rattle.slot_core.specs.Device.{FlashState, flash_of, AreRunning, IsFlashOf}
-use Rattle.slot_core.specs.Slotted.{GoesOn, IsWaivedFlash, IsSlot, InSlot, HasTurn}
+use Rattle.slot_core.specs.Slotted.{GoesOn, IsWaivedFlash, IsSlot, InSlot, HasTurn, idle_reply}
 use Rattle.slot_core.specs.Acting.{act_by, operated}
 use Rattle.slot_core.specs.declared.turn.Turn.{Turn}
 use Rattle.slot_core.specs.Turns.{is_read_act, after_read, finished, after_turn, turn_by, DidOp, DidBy, DidTurn}
@@ -57,7 +57,7 @@ use Rattle.slot_core.proofs.Choosing.{starts, begins, ends}
 use Rattle.slot_core.proofs.Collections.{running_acted}
 use Rattle.slot_core.proofs.Recording.{records-idle, records-act, acted_is, acted_record, acted_reply}
 use Rattle.slot_core.proofs.Heading.{is_some_waiver, waiver_is, among_both, nothing_least, pending_is}
-use Rattle.slot_core.proofs.Flashing.{slot_entry, slot_with, unwaived_flash, flash-idle, flash-read, flash-write, content_is}
+use Rattle.slot_core.proofs.Flashing.{slot_entry, slot_with, unwaived_flash, flash-idle, flash-read, flash-trim, flash-write, content_is}
 use Rattle.slot_core.proofs.Opened.{opens_same}
 use Rattle.slot_core.proofs.Serving.{hold_positive}
 use Rattle.slot_core.proofs.Taking.{IsCollector, IsTaken, took}
@@ -110,9 +110,6 @@ slot_starts blocks_of log present t v k alive few =
 
 -- Without a head
 
-abbrev pub idle_reply : ℕ → List Waived → SlotReply
-idle_reply slot ws = record { slot = slot; waived = ws; ran = None; finished = None }
-
 pub slot_idles : (plan : DiePlan) (log : Log) (present : ℕ) (ws : List Waived) (t : Table) (f : FlashState) (caller : ℕ) → InSlot plan log present ws t f → table.NothingReady t
     → Keeps plan (entry caller events.Slot (replies.Slot (idle_reply present ws)) ∷ log) (present + 1) t false f × (accepted plan log events.Slot ≡ replies.Slot (idle_reply present ws))
 slot_idles plan log present ws t f caller s nothing =
@@ -154,12 +151,14 @@ act_is plan log f j op pages_are plain next = rw plain (rw next (by_op op))
     by_op : (o : Op) → act_of_op plan log (Some o) ≡ Some (act_by f o)
     by_op (asks.Read page) = ap (λ (bytes : PageData). Some (does.Read page bytes)) (sym (content_is plan log f.pages page pages_are))
     by_op (asks.Write page bytes) = refl
+    by_op (asks.Trim page) = refl
 
 -- and it leaves the flash of the log with that act
 flash_operated : (plan : DiePlan) (log : Log) (caller slot : ℕ) (ws : List Waived) (j : Job) (op : Op) (finished : Option ℕ) (f : FlashState)
     → job_at log j.number ≡ Some j → f.tokens.plan ≡ plan → IsWaivedFlash plan log ws f → AreRunning plan (slot_with caller slot ws j.number (act_by f op) finished log) f.running → (is_write op ≡ true → 0 < free plan log)
     → IsFlashOf plan (slot_with caller slot ws j.number (act_by f op) finished log) (operated f j.task op)
 flash_operated plan log caller slot ws j (asks.Read page) finished f at plan_is w runs some = flash-read plan log caller slot ws j page (slice_index_or f.pages page device.blank) finished f at w runs
+flash_operated plan log caller slot ws j (asks.Trim page) finished f at plan_is w runs some = flash-trim plan log caller slot ws j page finished f at w runs
 flash_operated plan log caller slot ws j (asks.Write page bytes) finished f at plan_is w runs some =
     rw (ap (λ (p : DiePlan). open_in p.shape.pages f.blocks) plan_is ∙ (opens_same plan (cells plan log) f.blocks w.blocks_are ∙ opened.1))
     (flash-write plan log caller slot ws j page bytes finished f opened.0 at opened.1 w runs)
@@ -244,6 +243,7 @@ stage_pending (Gone g) h = absurd cc
 same_stage : (act : Act) (r : JobRecord) → r.stage ≡ Pending → with_stage Pending (after_read act (jobs_table.carried r)) ≡ after_read act (jobs_table.carried r)
 same_stage (does.Read page bytes) r h = rw h refl
 same_stage (does.Write page bytes) r h = rw h refl
+same_stage (does.Trim page) r h = rw h refl
 same_stage (does.CopyRead page) r h = rw h refl
 same_stage (does.CopyProgram page) r h = rw h refl
 same_stage (does.Erase block) r h = rw h refl
@@ -370,6 +370,7 @@ turn_reads blocks_of log present ws t n v w r turn h at did = ap reads_next_of a
     by_op : (op : Op) → is_read op ≡ is_read_act (act_by (flash_of blocks_of v) op)
     by_op (asks.Read page) = refl
     by_op (asks.Write page bytes) = refl
+    by_op (asks.Trim page) = refl
 
     by_did : (did : Collected) → false ≡ is_read_act (turn_by did).act
     by_did (acts_of.CopyRead page) = refl

@@ -27,7 +27,7 @@ use Rattle.die_log.specs.Work.{are_all, is_done, is_erase, is_copy_program, vict
 use Rattle.die_log.specs.Accounts.{accounts, after_waiver, after_waivers}
 use Rattle.die_log.specs.Answers.{act_for, collect_act, buffer_after}
 use Rattle.die_log.specs.Held.{is_pending}
-use Rattle.die_log.specs.Legal.{written_since}
+use Rattle.die_log.specs.Legal.{changed_since}
 use Rattle.die_log.specs.Sound.{MayDo}
 use Rattle.die_log.proofs.Cells.Collections.{last_push, next_may}
 use Rattle.die_log.proofs.Legal.Exact.{StandsWell, has_slots}
@@ -134,8 +134,8 @@ runs_on blocks_of log caller slot ws finished j v c d act after k act_is undone 
     grown : acts j.number (slot_with caller slot ws j.number act finished log) ≡ acts j.number log ++ act ∷ []
     grown = acts_grow j.number (slot_entry caller slot ws j.number act finished) log act (act_own j.number act)
 
-    may : MayDo v.accounts.plan (cells v.accounts.plan log) (acts j.number log) (λ p. written_since j.number p log) c.victim act
-    may = next_may v.accounts.plan (cells v.accounts.plan log) (acts j.number log) (λ p. written_since j.number p log) c.victim act (has_slots v.accounts.plan k.bound) k.both.0.collects.sound
+    may : MayDo v.accounts.plan (cells v.accounts.plan log) (acts j.number log) (λ p. changed_since j.number p log) c.victim act
+    may = next_may v.accounts.plan (cells v.accounts.plan log) (acts j.number log) (λ p. changed_since j.number p log) c.victim act (has_slots v.accounts.plan k.bound) k.both.0.collects.sound
         (is_begun blocks_of log ws j v c k).collecting
         (ap (λ (o : Option ℕ). collect_act v.accounts.plan (cells v.accounts.plan log) o (Some c.victim)) (sym k.run.holds) ∙ (sym (collect_is v.accounts.plan log j c k.collects k.run.victim k.run.holds) ∙ act_is))
 

@@ -1,5 +1,5 @@
 -- What an operation of a job does to the flash.
-use Rattle.std.specs.Prelude.{ℕ, Some, slice_index_or, slice_set}
+use Rattle.std.specs.Prelude.{ℕ, None, Some, slice_index_or, slice_set}
 use Rattle.slot_types.specs.declared.acts.Act.{Act}
 use Rattle.slot_types.specs.declared.acts.Act.TheVariants as does
 use Rattle.slot_types.specs.declared.events.Op.{Op}
@@ -13,6 +13,7 @@ use Rattle.slot_core.specs.Device.{FlashState}
 abbrev pub act_by : FlashState → Op → Act
 act_by f (asks.Read page) = does.Read page (slice_index_or f.pages page blank)
 act_by f (asks.Write page bytes) = does.Write page bytes
+act_by f (asks.Trim page) = does.Trim page
 
 -- the flash after an operation of a job of the task
 abbrev pub operated : FlashState → ℕ → Op → FlashState
@@ -26,3 +27,4 @@ operated f task (asks.Write page bytes) =
       blocks = programmed f.blocks cell.block bytes;
       running = f.running;
     }
+operated f task (asks.Trim page) = record f { pages = slice_set f.pages page blank; places = slice_set f.places page None }

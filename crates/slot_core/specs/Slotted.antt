@@ -1,7 +1,8 @@
 -- What holds within a slot, after some collections were waived and before the head acts.
-use Rattle.std.specs.Prelude.{◌≡◌, ◌≢◌, ℕ, ◌≤◌, ◌<◌, not, true, false, List, ◌++◌, length, map, filter, Some}
+use Rattle.std.specs.Prelude.{◌≡◌, ◌≢◌, ℕ, ◌≤◌, ◌<◌, not, true, false, List, ◌++◌, length, map, filter, Some, None}
 use Rattle.slot_types.specs.declared.plans.DiePlan.{DiePlan}
 use Rattle.slot_types.specs.declared.limits.TheConstants.{MAX_SLOT}
+use Rattle.slot_types.specs.declared.replies.SlotReply.{SlotReply}
 use Rattle.slot_types.specs.declared.replies.Waived.{Waived}
 use Rattle.plan_rules.specs.Bound.{MeetsBound}
 use Rattle.plan_rules.specs.Accounts.{Accounts}
@@ -35,6 +36,10 @@ pub record GoesOn (plan : DiePlan) (past : Log) (ws : List Waived) (a : Accounts
   pub turns : ℕ
   pub enough : length (unwaived ws (ready plan past)) ≤ turns
   pub rest : choice plan past ≡ behind ws (choice_among plan past turns a (unwaived ws (ready plan past)))
+
+-- the reply of a slot that waived these, without a head
+abbrev pub idle_reply : ℕ → List Waived → SlotReply
+idle_reply slot ws = record { slot = slot; waived = ws; ran = None; finished = None }
 
 -- The fields
 

@@ -119,7 +119,9 @@ impl<N: Nand> DieCore<N> {
         None
     }
 
-    /// Accepts a job of the task, to run from slot `release` on and to be done by `due`, and answers its number.
+    /// Accepts a job of the task, to run from slot `release` on and to be done by `due`, and answers its number. It
+    /// does its operations in order, one a slot: a read; a write, which takes a token of the task; a trim, which takes
+    /// none and calls no device.
     ///
     /// The refusals, of which the first that stands is answered and nothing is changed: `DieStopped`; `UnknownTask`;
     /// `EmptyJob`; `TooManyOps`, above 64; `BadPage`, with the first page that the die doesn't have; `ReleasePast`, where

@@ -4,11 +4,13 @@ ghost use Rattle.std.specs.Prelude.{◌≡◌, ◌+◌, ◌<◌, ◌≤◌, ◌�
 ghost use Rattle.job_table.specs.Order.{IsHead};
 ghost use Rattle.job_table.specs.Table.{work_at, reads_next_at};
 ghost use Rattle.slot_core.specs.Turns.{is_read_act, after_turn, deed_by};
+ghost use Rattle.slot_core.specs.Slotted.{idle_reply};
 
 use crate::turn::Turn;
 use event_log::{Deed, EventLog};
 use job_table::JobTable;
 use slot_types::{Act, JobNo, SlotReply, WaivedList};
+use std::alloc::Global;
 
 /// Notes a turn of the head in the table.
 pub(crate) fn note_turn(table: &mut JobTable, number: JobNo, turn: Turn, completion: u32)
@@ -28,33 +30,21 @@ pub(crate) fn note_turn(table: &mut JobTable, number: JobNo, turn: Turn, complet
 }
 
 /// The number, if it is its last act.
-fn finished(number: JobNo, last: bool) -> Option<JobNo>
+pub(crate) fn finished(number: JobNo, last: bool) -> Option<JobNo>
     ensures { result ≡ (if last then Some number else None) }
 {
     if last { Some(number) } else { None }
 }
 
-/// The answer of a slot without a head.
-pub(crate) fn idle_reply(slot: u32, waived: WaivedList) -> SlotReply
-    ensures { result ≡ record { slot = slot; waived = waived; ran = None; finished = None } }
+/// A reply to be filled.
+pub(crate) fn new_reply(alloc: Global) -> SlotReply
+    ensures { result ≡ idle_reply 0 [] }
 {
     SlotReply {
-        slot,
-        waived,
+        slot: 0,
+        waived: WaivedList::new(alloc),
         ran: None,
         finished: None,
-    }
-}
-
-/// The answer of a slot in which this number had a turn.
-pub(crate) fn turn_reply(slot: u32, waived: WaivedList, number: JobNo, turn: Turn) -> SlotReply
-    ensures { result ≡ record { slot = slot; waived = waived; ran = Some (number, turn.act); finished = (if turn.last then Some number else None) } }
-{
-    SlotReply {
-        slot,
-        waived,
-        ran: Some((number, turn.act)),
-        finished: finished(number, turn.last),
     }
 }
 
@@ -63,7 +53,7 @@ pub(crate) fn deed_of(number: JobNo, place: u32, turn: Turn) -> Deed
     ensures { result ≡ deed_by number place turn.last turn.act }
 {
     match turn.act {
-        Act::Read { .. } | Act::Write { .. } => {
+        Act::Read { .. } | Act::Write { .. } | Act::Trim { .. } => {
             if turn.last {
                 Deed::LastOperation { number, place }
             } else {

@@ -16,6 +16,7 @@ pub(crate) fn page_of(op: Op) -> u32
     match op {
         Op::Read(page) => page,
         Op::Write(page, _) => page,
+        Op::Trim(page) => page,
     }
 }
 
@@ -64,6 +65,10 @@ pub(crate) fn operate<N: Nand>(volume: &mut Volume<N>, task: TaskNo, op: Op) -> 
         Op::Write(page, bytes) => {
             volume.write(task, page, bytes)?;
             Ok(Act::Write { page, bytes })
+        }
+        Op::Trim(page) => {
+            volume.trim(page)?;
+            Ok(Act::Trim { page })
         }
     }
 }

@@ -1,6 +1,6 @@
 //! The slots of a die.
 
-ghost use Rattle.std.specs.Prelude.{◌≡◌, ◌+◌, ◌-◌, ◌<◌, ◌≤◌, ◌⊎◌, ◌↔◌, true, false, length, slice_get, take, count_by, IsOk, IfOk, IfErr, IfSome, IfNone, OnOk, OnErr};
+ghost use Rattle.std.specs.Prelude.{◌≡◌, ◌+◌, ◌-◌, ◌<◌, ◌≤◌, ◌⊎◌, ◌↔◌, true, false, length, slice_get, take, count_by, IsOk, IfOk, IfErr, IfSome, IfNone, OnOk, OnErr, []};
 ghost use Rattle.event_log.specs.Growth.{AllFit};
 ghost use Rattle.job_table.specs.Order.{NothingReady};
 ghost use Rattle.job_table.specs.Jobs.{JobRecord, is_read};
@@ -12,11 +12,12 @@ ghost use Rattle.slot_core.specs.Calls.{RefusedBy};
 ghost use Rattle.slot_core.specs.Device.{flash_of};
 ghost use Rattle.slot_core.specs.Kept.{Keeps};
 ghost use Rattle.slot_core.specs.Told.{log_of};
-ghost use Rattle.slot_core.specs.Slotted.{InSlot, HasTurn};
+ghost use Rattle.slot_core.specs.Slotted.{InSlot, HasTurn, idle_reply};
 ghost use Rattle.slot_core.specs.Reserved.{open_collections};
 
 use crate::die_core::DieCore;
-use crate::notes::{deed_of, idle_reply, note_turn, turn_reply};
+use crate::notes::{deed_of, finished, new_reply, note_turn};
+use crate::slot_note::SlotNote;
 use crate::turns::{begin, take_turn};
 use event_log::{Deed, EventLog};
 use flash_die::Nand;
@@ -64,13 +65,13 @@ fn choose<N: Nand>(
 
 /// Carries out the present slot of a die that isn't stopped, in room that was made. It takes no memory.
 fn carry_out<N: Nand>(
-    alloc: Global,
     volume: &mut Volume<N>,
     table: &mut JobTable,
     events: &mut EventLog,
     caller: u32,
     present: u32,
-) -> Result<SlotReply, Refusal>
+    reply: &mut SlotReply,
+) -> Result<(), Refusal>
     ghost log: { Log }
     requires alive { volume.old.failed ≡ false }
     requires log { log_of table.old events.old.notes ≡ log }
@@ -80,9 +81,10 @@ fn carry_out<N: Nand>(
     requires entry { 0 < events.old.room }
     requires waivers { open_collections table.old.jobs ≤ events.old.waiver_room }
     requires kept { Keeps volume.old.accounts.plan log present table.old volume.old.failed (flash_of N.blocks volume.old) }
+    requires unfilled { reply.old ≡ idle_reply present [] }
     ensures kept { OnOk result (Keeps volume.new.accounts.plan (log_of table.new events.new.notes) (present + 1) table.new volume.new.failed (flash_of N.blocks volume.new)) }
-    ensures answered { IfOk result (λ reply. answer volume.old.accounts.plan log Event.Slot ≡ Reply.Slot reply) }
-    ensures logged { IfOk result (λ reply. log_of table.new events.new.notes ≡ with_entry caller Event.Slot (Reply.Slot reply) log) }
+    ensures answered { OnOk result (answer volume.old.accounts.plan log Event.Slot ≡ Reply.Slot reply.new) }
+    ensures logged { OnOk result (log_of table.new events.new.notes ≡ with_entry caller Event.Slot (Reply.Slot reply.new) log) }
     ensures well { OnOk result (volume.new.failed ≡ false) }
     ensures plan { volume.new.accounts.plan ≡ volume.old.accounts.plan }
     ensures fault { IfErr result (λ refusal. refusal ≡ Refusal.DeviceFault) }
@@ -96,10 +98,9 @@ fn carry_out<N: Nand>(
     ensures waiver_room { open_collections table.new.jobs ≤ events.new.waiver_room }
     ensures room_stays { OnErr result (events.new.room ≡ events.old.room) }
 {
-    let mut told = WaivedList::new(alloc);
-    let Some(number) = choose(volume, table, &mut told, present) else {
-        events.push_reserved(caller, Deed::Idle, told.as_slice());
-        return Ok(idle_reply(present, told));
+    let Some(number) = choose(volume, table, &mut reply.waived, present) else {
+        events.push_reserved(caller, Deed::Idle, reply.waived.as_slice());
+        return Ok(());
     };
     let place = work_of(table, number);
     let turn = match table.job(number) {
@@ -108,14 +109,16 @@ fn carry_out<N: Nand>(
     };
     match turn {
         Err(refusal) => {
-            table.stop(told.as_slice());
+            table.stop(reply.waived.as_slice());
             Err(refusal)
         }
         Ok(turn) => {
             note_turn(table, number, turn, present + 1);
             let deed = deed_of(number, place, turn);
-            events.push_reserved(caller, deed, told.as_slice());
-            Ok(turn_reply(present, told, number, turn))
+            events.push_reserved(caller, deed, reply.waived.as_slice());
+            reply.ran = Some((number, turn.act));
+            reply.finished = finished(number, turn.last);
+            Ok(())
         }
     }
 }
@@ -132,6 +135,52 @@ fn work_of(table: &JobTable, number: JobNo) -> u32
 }
 
 impl<N: Nand> DieCore<N> {
+    // Carries out the present slot, and fills the reply that is given. So no reply is moved.
+    fn fill_slot(&mut self, caller: u32, reply: &mut SlotReply) -> Result<(), Refusal>
+        requires unfilled { reply.old ≡ idle_reply 0 [] }
+        ensures stopped { (result ≡ Err Refusal.DieStopped) ↔ (self.old.stopped ≡ true) }
+        ensures answered { OnOk result (answer self.old.plan self.old.log Event.Slot ≡ Reply.Slot reply.new) }
+        ensures logged { OnOk result (self.new.log ≡ with_entry caller Event.Slot (Reply.Slot reply.new) self.old.log) }
+        ensures runs { OnOk result (self.new.stopped ≡ false) }
+        ensures plan { self.new.plan ≡ self.old.plan }
+        ensures refused { self.old.stopped ≡ false → IfErr result (λ refusal. RefusedBy self.old.plan self.old.log Event.Slot refusal ⊎ (IsAccepted (answer self.old.plan self.old.log Event.Slot) × (refusal ≡ Refusal.DeviceFault))) }
+        ensures fault { (result ≡ Err Refusal.DeviceFault) ↔ (N.failures self.new.device ≡ N.failures self.old.device + 1) }
+        ensures stops { result ≡ Err Refusal.DeviceFault → self.new.stopped ≡ true }
+        ensures log_stays { OnErr result (self.new.log ≡ self.old.log) }
+        ensures unchanged { IfErr result (λ refusal. (refusal ≡ Refusal.DeviceFault → ⊥) → self.new ≡ self.old) }
+        ensures never { N.never_fails ≡ true → result ≡ Err Refusal.DeviceFault → ⊥ }
+        ensures memory { 0 < self.old.reserved → result ≡ Err Refusal.NoMemory → ⊥ }
+        ensures used { OnOk result (self.new.reserved ≡ self.old.reserved - 1) }
+        ensures reserve_stays { OnErr result (self.new.reserved ≡ self.old.reserved) }
+    {
+        if self.volume.failed() {
+            return Err(Refusal::DieStopped);
+        }
+        if self.present >= MAX_SLOT {
+            return Err(Refusal::ClockEnd);
+        }
+        match self.events.reserve(1, 0) {
+            Ok(()) => {}
+            Err(refusal) => return Err(refusal),
+        }
+        reply.slot = self.present;
+        match carry_out(
+            &mut self.volume,
+            &mut self.table,
+            &mut self.events,
+            caller,
+            self.present,
+            reply,
+        ) {
+            Err(refusal) => Err(refusal),
+            Ok(()) => {
+                self.present += 1;
+                self.reserved = self.reserved.saturating_sub(1);
+                Ok(())
+            }
+        }
+    }
+
     /// Carries out the present slot. Of what is released and neither done nor waived, the head has the earliest due, of
     /// equal ones the smallest number. While the head is a collection that has not begun and at least `alpha` pages are
     /// spare, it is waived, and the next one is the head. The head does one act; without one the slot is idle.
@@ -157,30 +206,34 @@ impl<N: Nand> DieCore<N> {
         ensures used { OnOk result (self.new.reserved ≡ self.old.reserved - 1) }
         ensures reserve_stays { OnErr result (self.new.reserved ≡ self.old.reserved) }
     {
-        if self.volume.failed() {
-            return Err(Refusal::DieStopped);
-        }
-        if self.present >= MAX_SLOT {
-            return Err(Refusal::ClockEnd);
-        }
-        match self.events.reserve(1, 0) {
-            Ok(()) => {}
-            Err(refusal) => return Err(refusal),
-        }
-        match carry_out(
-            alloc,
-            &mut self.volume,
-            &mut self.table,
-            &mut self.events,
-            caller,
-            self.present,
-        ) {
+        let mut reply = new_reply(alloc);
+        match self.fill_slot(caller, &mut reply) {
+            Ok(()) => Ok(reply),
             Err(refusal) => Err(refusal),
-            Ok(reply) => {
-                self.present += 1;
-                self.reserved = self.reserved.saturating_sub(1);
-                Ok(reply)
-            }
+        }
+    }
+
+    /// As `slot`, and hands back no more than the slot's number.
+    pub fn note_slot(&mut self, alloc: Global, caller: u32) -> Result<SlotNote, Refusal>
+        ensures stopped { (result ≡ Err Refusal.DieStopped) ↔ (self.old.stopped ≡ true) }
+        ensures answered { IfOk result (λ reply. answer self.old.plan self.old.log Event.Slot ≡ Reply.Slot reply) }
+        ensures logged { IfOk result (λ reply. self.new.log ≡ with_entry caller Event.Slot (Reply.Slot reply) self.old.log) }
+        ensures runs { OnOk result (self.new.stopped ≡ false) }
+        ensures plan { self.new.plan ≡ self.old.plan }
+        ensures refused { self.old.stopped ≡ false → IfErr result (λ refusal. RefusedBy self.old.plan self.old.log Event.Slot refusal ⊎ (IsAccepted (answer self.old.plan self.old.log Event.Slot) × (refusal ≡ Refusal.DeviceFault))) }
+        ensures fault { (result ≡ Err Refusal.DeviceFault) ↔ (N.failures self.new.device ≡ N.failures self.old.device + 1) }
+        ensures stops { result ≡ Err Refusal.DeviceFault → self.new.stopped ≡ true }
+        ensures log_stays { OnErr result (self.new.log ≡ self.old.log) }
+        ensures unchanged { IfErr result (λ refusal. (refusal ≡ Refusal.DeviceFault → ⊥) → self.new ≡ self.old) }
+        ensures never { N.never_fails ≡ true → result ≡ Err Refusal.DeviceFault → ⊥ }
+        ensures memory { 0 < self.old.reserved → result ≡ Err Refusal.NoMemory → ⊥ }
+        ensures used { OnOk result (self.new.reserved ≡ self.old.reserved - 1) }
+        ensures reserve_stays { OnErr result (self.new.reserved ≡ self.old.reserved) }
+    {
+        let mut reply = new_reply(alloc);
+        match self.fill_slot(caller, &mut reply) {
+            Ok(()) => Ok(SlotNote::new(&reply)),
+            Err(refusal) => Err(refusal),
         }
     }
 }

@@ -2,12 +2,11 @@
 
 use crate::dies::{plays_tight, plays_wide};
 use crate::facts::Fact::{Certified, Collected, Done, Entries, Holds, Records, Waived, Worst};
+use crate::pages::{BLANK, TWOS};
 use crate::steps::Step;
 use crate::steps::Step::{Acts, Carries, Collect, Is, NoCollect, Refused, Submit, Waives};
 use slot_types::{Act, Op, PageData, Refusal};
 use std::test::Fail;
-
-const TWOS: PageData = PageData([2; 16]);
 
 const FOURS: PageData = PageData([4; 16]);
 
@@ -33,7 +32,7 @@ const ERASE: Act = Act::Erase { block: 1 };
 const TWO_TOKENS: Refusal = Refusal::NoTokens { have: 2, need: 5 };
 
 /// Up to slot 17, in which no page is spare any longer.
-const HISTORY: &[Step] = &[
+pub(crate) const HISTORY: &[Step] = &[
     Submit(0, 100, &[W0, W1, W4, W4], 0),
     Carries(&[0, 0, 0, 0]),
     Collect(4, 5, 1),
@@ -57,7 +56,7 @@ const HISTORY: &[Step] = &[
 ];
 
 /// Page 2 is copied out of block 1, and the block is erased. Its first two erase slots are one record.
-const COPIES_AND_ERASES: &[Step] = &[
+pub(crate) const COPIES_AND_ERASES: &[Step] = &[
     Submit(17, 19, &[W4, W4], 10),
     Carries(&[10, 10]),
     Is(Worst(2, 0)),
@@ -137,6 +136,37 @@ const A_WRITE_BEFORE_THE_COPY: &[Step] = &[
 #[test]
 fn a_rewritten_page_is_not_copied(rt: HostRuntime) -> Result<(), Fail> {
     Ok(plays_tight(&rt, rt.alloc(), HISTORY, A_WRITE_BEFORE_THE_COPY)?)
+}
+
+const TRIM: Act = Act::Trim { page: 2 };
+
+const READ_BLANK: Act = Act::Read {
+    page: 2,
+    bytes: BLANK,
+};
+
+/// Five writes are more than the task's three tokens.
+const THREE_TOKENS: Refusal = Refusal::NoTokens { have: 3, need: 5 };
+
+/// Page 2 is trimmed between its copy read and its copy program.
+const A_TRIM_BEFORE_THE_COPY: &[Step] = &[
+    Submit(17, 19, &[W4], 10),
+    Acts(10, &[WRITE_FOURS]),
+    Collect(18, 40, 11),
+    Acts(11, &[COPY_READ]),
+    Submit(19, 25, &[Op::Trim(2)], 12),
+    Acts(12, &[TRIM]),
+    Acts(11, &[ERASE, ERASE, ERASE]),
+    Is(Collected(11, 23, -17, 2)),
+    Refused(0, 23, 24, &[W4; 5], THREE_TOKENS),
+    Submit(23, 24, &[Op::Read(2)], 13),
+    Acts(13, &[READ_BLANK]),
+    Is(Holds),
+];
+
+#[test]
+fn a_trimmed_page_is_not_copied(rt: HostRuntime) -> Result<(), Fail> {
+    Ok(plays_tight(&rt, rt.alloc(), HISTORY, A_TRIM_BEFORE_THE_COPY)?)
 }
 
 /// A new die has pages to spare.

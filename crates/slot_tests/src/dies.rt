@@ -9,7 +9,7 @@ use slot_types::{Caps, DiePlan, Refusal, Shape};
 use std::alloc::Global;
 use std::process::Abort;
 
-const TIGHT: Shape = Shape {
+pub(crate) const TIGHT: Shape = Shape {
     blocks: 4,
     pages: 4,
     erase_slots: 3,
@@ -22,7 +22,7 @@ const WIDE: Shape = Shape {
 };
 
 /// A plan with so many logical pages.
-fn plan_of(alloc: Global, shape: Shape, logical: u32) -> Result<DiePlan, Refusal> {
+pub(crate) fn plan_of(alloc: Global, shape: Shape, logical: u32) -> Result<DiePlan, Refusal> {
     let mut caps = Caps::new(alloc);
     caps.push(4)?;
     Ok(DiePlan {

@@ -1,8 +1,10 @@
-//! Random histories of a die with as many logical pages as its bound allows, on which a collection copies as a rule: each read gives the page's last finished write.
+//! Random histories of a die with as many logical pages as its bound allows, on which a collection copies as a rule: each read gives the page's
+//! last finished write, or blank behind its trim.
 
 use crate::asked::submit;
 use crate::dies::plays_dense;
 use crate::facts::Fact::Holds;
+use crate::pages::BLANK;
 use crate::steps::Step;
 use crate::steps::Step::{History, Is};
 use flash_die::Nand;
@@ -27,9 +29,10 @@ const SLOTS: u32 = 3000;
 /// What a history came to.
 #[derive(Drop)]
 struct Played {
-    /// Whether each read gave the page's last finished write.
+    /// Whether each read gave the page's last finished write, or blank behind its trim.
     agrees: bool,
     writes: u32,
+    trims: u32,
     copies: u32,
     erases: u32,
 }
@@ -39,7 +42,7 @@ fn next(dice: u32) -> u32 {
     dice.wrapping_mul(1664525).wrapping_add(1013904223)
 }
 
-/// One arrival, which may be refused: a write, a read or a collection.
+/// One arrival, which may be refused: a write, a read, a trim or a collection.
 fn arrive<N: Nand>(die: &mut DieCore<N>, alloc: Global, dice: u32, now: u32) -> bool {
     let page = dice / 65536 % 17;
     let bytes = CONTENTS[(dice / 2097152 % 4) as usize];
@@ -54,6 +57,14 @@ fn arrive<N: Nand>(die: &mut DieCore<N>, alloc: Global, dice: u32, now: u32) -> 
         )
         .is_ok(),
         4 => submit(die, alloc, 0, now, now.wrapping_add(8), &[Op::Read(page)]).is_ok(),
+        5 if dice / 8388608 % 2 == 0 => submit(
+            die,
+            alloc,
+            0,
+            now,
+            now.wrapping_add(8),
+            &[Op::Trim(page)],
+        ).is_ok(),
         _ => die
             .collect(alloc, 0, TaskNo(0), now, now.wrapping_add(16))
             .is_ok(),
@@ -74,6 +85,13 @@ fn note(played: &mut Played, pages: &mut [PageData; PAGES], act: Act) {
                 None => played.agrees = false,
             }
         }
+        Act::Trim { page } => {
+            played.trims = played.trims.wrapping_add(1);
+            match pages.get_mut(page as usize) {
+                Some(content) => *content = BLANK,
+                None => played.agrees = false,
+            }
+        }
         Act::CopyRead { .. } => {}
         Act::CopyProgram { .. } => played.copies = played.copies.wrapping_add(1),
         Act::Erase { .. } => played.erases = played.erases.wrapping_add(1),
@@ -82,10 +100,11 @@ fn note(played: &mut Played, pages: &mut [PageData; PAGES], act: Act) {
 
 /// Plays a history from this seed, an arrival and a slot at a time.
 fn play<N: Nand>(die: &mut DieCore<N>, alloc: Global, seed: u32) -> Result<Played, Refusal> {
-    let mut pages = [PageData([0xFF; 16]); PAGES];
+    let mut pages = [BLANK; PAGES];
     let mut played = Played {
         agrees: true,
         writes: 0,
+        trims: 0,
         copies: 0,
         erases: 0,
     };
@@ -108,6 +127,7 @@ pub(crate) fn agrees<N: Nand>(die: &mut DieCore<N>, alloc: Global, seed: u32) ->
             let collections = played.erases / 3;
             played.agrees
                 & (played.writes > 300)
+                & (played.trims > 100)
                 & (collections > 100)
                 & (played.copies > collections / 2)
         }

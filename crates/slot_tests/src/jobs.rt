@@ -2,11 +2,14 @@
 
 use crate::dies::plays_wide;
 use crate::facts::Fact::{Built, Certified, Done, Holds, Work, Worst};
-use crate::pages::{BLANK, ONES, READ};
+use crate::pages::{BLANK, ONES, READ, TWOS};
 use crate::steps::Step;
-use crate::steps::Step::{Carries, Is, Submit};
-use slot_types::Op;
+use crate::steps::Step::{Carries, Is, Refused, Submit};
+use slot_types::{Op, Refusal};
 use std::test::Fail;
+
+/// Four writes are one more than the task has tokens for.
+const THREE_TOKENS: Refusal = Refusal::NoTokens { have: 3, need: 4 };
 
 /// A write of page 3, and then a read of it.
 const A_READ_BEHIND_A_WRITE: &[Step] = &[
@@ -37,6 +40,51 @@ const A_READ_OF_A_NEW_PAGE: &[Step] = &[
 #[test]
 fn a_page_never_written_reads_blank(rt: HostRuntime) -> Result<(), Fail> {
     Ok(plays_wide(&rt, rt.alloc(), A_READ_OF_A_NEW_PAGE)?)
+}
+
+/// Page 3 is written, trimmed and read. The trim gives no token back.
+const A_READ_BEHIND_A_TRIM: &[Step] = &[
+    Submit(0, 3, &[Op::Write(3, ONES)], 0),
+    Carries(&[0]),
+    Submit(1, 4, &[Op::Trim(3)], 1),
+    Carries(&[1]),
+    Submit(2, 5, &[Op::Read(3)], 2),
+    Carries(&[2]),
+    Is(Done(0, 1, -2, &[])),
+    Is(Done(1, 2, -2, &[])),
+    Is(Done(2, 3, -2, &[BLANK])),
+    Refused(0, 3, 9, &[Op::Write(3, ONES); 4], THREE_TOKENS),
+    Is(Holds),
+];
+
+#[test]
+fn a_trimmed_page_reads_blank(rt: HostRuntime) -> Result<(), Fail> {
+    Ok(plays_wide(&rt, rt.alloc(), A_READ_BEHIND_A_TRIM)?)
+}
+
+/// Page 3 is written again behind its trim; page 7 was never written.
+const WRITES_BEHIND_A_TRIM: &[Step] = &[
+    Submit(
+        0,
+        9,
+        &[
+            Op::Write(3, ONES),
+            Op::Trim(3),
+            Op::Write(3, TWOS),
+            Op::Read(3),
+            Op::Trim(7),
+            Op::Read(7),
+        ],
+        0,
+    ),
+    Carries(&[0; 6]),
+    Is(Done(0, 6, -3, &[TWOS, BLANK])),
+    Is(Holds),
+];
+
+#[test]
+fn a_trimmed_page_is_written_again(rt: HostRuntime) -> Result<(), Fail> {
+    Ok(plays_wide(&rt, rt.alloc(), WRITES_BEHIND_A_TRIM)?)
 }
 
 /// Three reads due by 10, and from slot 1 on a read due by 3.

@@ -32,6 +32,7 @@ const FAULTS: &[Step] = &[
     Refused(0, 5, 5, &[READ], Refusal::BadDue),
     Refused(0, 5, 1048577, &[READ], Refusal::BadDue),
     Refused(0, 5, 9, &[BEYOND], Refusal::BadPage { page: 12 }),
+    Refused(0, 5, 9, &[Op::Trim(12)], Refusal::BadPage { page: 12 }),
     Refused(0, 5, 9, &[], Refusal::EmptyJob),
     Refused(0, 5, 9, &[READ; 65], Refusal::TooManyOps),
     Refused(1, 5, 9, &[], Refusal::UnknownTask),

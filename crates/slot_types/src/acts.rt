@@ -9,6 +9,8 @@ pub enum Act {
     Read { page: u32, bytes: PageData },
     /// A job wrote the page.
     Write { page: u32, bytes: PageData },
+    /// A job trimmed the page.
+    Trim { page: u32 },
     /// A collection read the page out of its block into its buffer.
     CopyRead { page: u32 },
     /// A collection programmed the page from its buffer.

@@ -9,6 +9,8 @@ use crate::pages::PageData;
 pub enum Op {
     Read(u32),
     Write(u32, PageData),
+    /// The page reads as 16 bytes 0xFF from now on, until it is written again.
+    Trim(u32),
 }
 
 /// The operations of a job, in their order.

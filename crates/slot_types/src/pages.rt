@@ -5,7 +5,7 @@
 pub struct PageData(pub [u8; 16]);
 
 impl PageData {
-    /// What a page reads as that was never written: sixteen bytes 0xFF.
+    /// What a page reads as that was never written, or was trimmed since: sixteen bytes 0xFF.
     pub const BLANK: PageData = PageData([255; 16]);
 }
 

@@ -105,6 +105,7 @@ op_pages : (plan : DiePlan) (past : Log) (o : Option Op) (act : Act) → KeepsPa
 op_pages plan past None act k h e = absurd (none-some act e)
 op_pages plan past (Some (asks.Read page)) act k h e = subst (HasActPages false) (same_Some _ act e) (refl, all_or IsPage (contents plan past) page blank_page k.held blank_is)
 op_pages plan past (Some (asks.Write page bytes)) act k h e = subst (HasActPages false) (same_Some _ act e) h
+op_pages plan past (Some (asks.Trim page)) act k h e = subst (HasActPages false) (same_Some _ act e) tt
 
 op_at : (ops : List Op) (n : ℕ) (o : Option Op) → slice_get ops n ≡ o → AllByRecursion WritesPage ops → OfSome WritesPage o
 op_at ops n None at h = tt
@@ -146,6 +147,7 @@ held_after : (js : List Job) (c : Carried) (pages : List PageData) → HasRunPag
 held_after js None pages h k = k
 held_after js (Some (n, does.Read page bytes)) pages h k = k
 held_after js (Some (n, does.Write page bytes)) pages h k = all_set IsPage pages page bytes k h.2
+held_after js (Some (n, does.Trim page)) pages h k = all_set IsPage pages page blank_page k blank_is
 held_after js (Some (n, does.CopyRead page)) pages h k = k
 held_after js (Some (n, does.CopyProgram page)) pages h k = k
 held_after js (Some (n, does.Erase block)) pages h k = k
@@ -229,6 +231,7 @@ read_pages : (collects : Bool) (own : List Act) → AllByRecursion (HasActPages 
 read_pages collects [] h = tt
 read_pages collects (does.Read page bytes ∷ own) h = (h.0.1, read_pages collects own h.1)
 read_pages collects (does.Write page bytes ∷ own) h = read_pages collects own h.1
+read_pages collects (does.Trim page ∷ own) h = read_pages collects own h.1
 read_pages collects (does.CopyRead page ∷ own) h = read_pages collects own h.1
 read_pages collects (does.CopyProgram page ∷ own) h = read_pages collects own h.1
 read_pages collects (does.Erase block ∷ own) h = read_pages collects own h.1
@@ -237,6 +240,7 @@ no_reads : (own : List Act) → AllByRecursion (HasActPages true) own → reads_
 no_reads [] h = refl
 no_reads (does.Read page bytes ∷ own) h = absurd (true≢false h.0.0)
 no_reads (does.Write page bytes ∷ own) h = no_reads own h.1
+no_reads (does.Trim page ∷ own) h = no_reads own h.1
 no_reads (does.CopyRead page ∷ own) h = no_reads own h.1
 no_reads (does.CopyProgram page ∷ own) h = no_reads own h.1
 no_reads (does.Erase block ∷ own) h = no_reads own h.1

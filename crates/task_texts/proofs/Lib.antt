@@ -4,6 +4,7 @@ pub mod Written
 pub mod PlainRecords
 pub mod TableLaws
 pub mod PlanLaws
+pub mod PlanFronts
 pub mod MarkLaws
 pub mod RowLaws
 pub mod WordLaws

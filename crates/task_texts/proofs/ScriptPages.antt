@@ -8,7 +8,7 @@ use Rattle.hex.specs.Hex.{decode_sized}
 use Rattle.hex.specs.declared.error.FromHexError.{FromHexError}
 use Rattle.hex.proofs.HexLemmas.{decode_of-ok, decode_sized-ok, decode_sized-twice}
 use Rattle.slot_types.specs.declared.events.Op.{Op}
-use Rattle.slot_types.specs.declared.events.Op.TheVariants.{Read}
+use Rattle.slot_types.specs.declared.events.Op.TheVariants.{Read, Trim}
 use Rattle.slot_types.specs.declared.pages.PageData.{PageData}
 use Rattle.slot_types.specs.declared.refusals.Refusal.{Refusal}
 use Rattle.task_texts.specs.AskedPages.{WritesPage}
@@ -56,14 +56,21 @@ read_word : (number : Option ℕ) (op : Op) → option_map Read number ≡ Some 
 read_word None op e = absurd (none-some op e)
 read_word (Some page) op e = subst WritesPage (same_Some _ op e) tt
 
+trim_word : (number : Option ℕ) (op : Op) → option_map Trim number ≡ Some op → WritesPage op
+trim_word None op e = absurd (none-some op e)
+trim_word (Some page) op e = subst WritesPage (same_Some _ op e) tt
+
 op_read : (word : List ℕ) (op : Op) → op_of word ≡ Some op → WritesPage op
 op_read [] op e = absurd (none-some op e)
-op_read (letter ∷ rest) op e = by_letter (letter == 82) (letter == 87) e
+op_read (letter ∷ rest) op e = by_letter (letter == 82) (letter == 87) (letter == 84) e
   where
-    by_letter : (reads writes : Bool) → cond reads (option_map Read (number_of rest)) (cond writes (write_of rest) None) ≡ Some op → WritesPage op
-    by_letter true writes e = read_word (number_of rest) op e
-    by_letter false true e = write_word rest op e
-    by_letter false false e = absurd (none-some op e)
+    by_letter : (reads writes trims : Bool)
+        → cond reads (option_map Read (number_of rest)) (cond writes (write_of rest) (cond trims (option_map Trim (number_of rest)) None)) ≡ Some op
+        → WritesPage op
+    by_letter true writes trims e = read_word (number_of rest) op e
+    by_letter false true trims e = write_word rest op e
+    by_letter false false true e = trim_word (number_of rest) op e
+    by_letter false false false e = absurd (none-some op e)
 
 words_read : (words : List (List ℕ)) (ops : List Op) → all_of op_of words ≡ Some ops → AllByRecursion WritesPage ops
 unfolding all_of

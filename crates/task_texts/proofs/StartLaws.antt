@@ -12,7 +12,7 @@ use Rattle.std.proofs.Math.Seq.{take-append_seam}
 use Rattle.hex.proofs.HexLemmas.{decode_of-ok, decode_sized-ok, decode_sized-twice}
 use Rattle.hex.specs.Hex.{decode_sized, is_hex_digit}
 use Rattle.hex.specs.declared.error.FromHexError.{FromHexError}
-use Rattle.slot_types.specs.declared.events.Op.TheVariants.{Read, Write}
+use Rattle.slot_types.specs.declared.events.Op.TheVariants.{Read, Write, Trim}
 use Rattle.slot_types.specs.declared.pages.PageData.{PageData}
 use Rattle.task_texts.specs.Number.{HasDigits, number_from, number_of}
 use Rattle.task_texts.specs.Ops.{op_of, write_of}
@@ -97,6 +97,14 @@ read-starts text rest n s = record {
   parts = ap (λ (t : List ℕ). 82 ∷ t) s.parts;
   says = ap (option_map Read) s.says;
   whole = All-cons NoSpace 82 s.front refl s.whole;
+}
+
+pub trim-starts : (text rest : List ℕ) (n : ℕ) → StartsWith number_of text n rest → StartsWith op_of (84 ∷ text) (Trim n) rest
+trim-starts text rest n s = record {
+  front = 84 ∷ s.front;
+  parts = ap (λ (t : List ℕ). 84 ∷ t) s.parts;
+  says = ap (option_map Trim) s.says;
+  whole = All-cons NoSpace 84 s.front refl s.whole;
 }
 
 at-seam : (xs : List ℕ) (y : ℕ) (ys : List ℕ) → slice_index (xs ++ y ∷ ys) (length xs) ≡ y

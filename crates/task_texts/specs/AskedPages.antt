@@ -11,6 +11,7 @@ use Rattle.task_texts.specs.declared.items.ScriptItem.{ScriptItem}
 abbrev pub WritesPage : Op → Type 0
 WritesPage (asks.Read page) = ⊤
 WritesPage (asks.Write page bytes) = IsPage bytes
+WritesPage (asks.Trim page) = ⊤
 
 -- what a job is to write are pages
 abbrev pub AsksPages : Event → Type 0

@@ -7,6 +7,7 @@ pub mod Tables
 pub mod PlanText
 pub mod Stores
 pub mod Readings
+pub mod PlanReading
 pub mod Words
 pub mod Ops
 pub mod Marked

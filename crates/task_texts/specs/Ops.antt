@@ -1,7 +1,7 @@
 -- The operations of a job, as a script writes them.
 use Rattle.std.specs.Prelude.{ℕ, ◌+◌, ◌-◌, ◌==◌, nat_lt, List, [], ◌∷◌, length, take, drop, slice_index, Option, Some, None, option_map, Result, Ok, Err, if◌then◌else◌}
 use Rattle.slot_types.specs.declared.events.Op.{Op}
-use Rattle.slot_types.specs.declared.events.Op.TheVariants.{Read, Write}
+use Rattle.slot_types.specs.declared.events.Op.TheVariants.{Read, Write, Trim}
 use Rattle.slot_types.specs.declared.pages.PageData.{PageData}
 use Rattle.slot_types.specs.declared.refusals.Cause.TheVariants as cause
 use Rattle.slot_types.specs.declared.refusals.Refusal.{Refusal}
@@ -22,10 +22,14 @@ write_of word =
     then write_to (number_of (take (length word - 33) word)) (page_of (drop (length word - 33 + 1) word))
     else None
 
--- an operation: `R` and a page number, or `W` and a write
+-- an operation: `R` and a page number, `W` and a write, or `T` and a page number
 abbrev pub op_of : List ℕ → Option Op
 op_of [] = None
-op_of (letter ∷ rest) = if letter == 82 then option_map Read (number_of rest) else if letter == 87 then write_of rest else None
+op_of (letter ∷ rest) =
+    if letter == 82 then option_map Read (number_of rest)
+    else if letter == 87 then write_of rest
+    else if letter == 84 then option_map Trim (number_of rest)
+    else None
 
 -- the operations of a field
 abbrev pub ops_of : List ℕ → Option (List Op)

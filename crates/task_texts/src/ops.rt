@@ -40,6 +40,9 @@ pub fn op(word: &[u8]) -> Option<Op>
     if *letter == b'W' {
         return write(rest);
     }
+    if *letter == b'T' {
+        return Some(Op::Trim(number(rest)?));
+    }
     None
 }
 
@@ -64,6 +67,14 @@ fn leading_write(text: &[u8]) -> Option<(Op, &[u8])>
     Some((Op::Write(target, bytes), rest))
 }
 
+/// A trim at the front of a text, behind its letter, and what stands behind it.
+fn leading_trim(text: &[u8]) -> Option<(Op, &[u8])>
+    ensures { IfSome result (λ found. StartsWith op_of (84 ∷ text.now) found.0 found.1.now) }
+{
+    let (page, rest) = leading_number(text)?;
+    Some((Op::Trim(page), rest))
+}
+
 /// An operation at the front of a text, and what stands behind it.
 pub fn leading_op(text: &[u8]) -> Option<(Op, &[u8])>
     ensures { IfSome result (λ found. StartsWith op_of text.now found.0 found.1.now) }
@@ -74,6 +85,9 @@ pub fn leading_op(text: &[u8]) -> Option<(Op, &[u8])>
     }
     if *letter == b'W' {
         return leading_write(left);
+    }
+    if *letter == b'T' {
+        return leading_trim(left);
     }
     None
 }

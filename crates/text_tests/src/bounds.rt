@@ -1,4 +1,4 @@
-//! The byte and the call at which a reader is given up.
+//! The byte and the call at which the reader of a script or of a report is given up.
 
 use crate::answers::{report_refusal, script_refusal};
 use slot_types::Refusal;
@@ -15,7 +15,7 @@ const SCRIPT_HEADER: &str = "at,die,task,kind,release,due,ops\n";
 const REPORT_HEADER: &str = "row,die,job,task,release,due,work,completion,lateness,given,items\n";
 
 /// The kinds of an error of a reader, `OutOfMemory` and `Interrupted` among them.
-const KINDS: [ErrorKind; 42] = [
+pub const KINDS: [ErrorKind; 42] = [
     ErrorKind::NotFound,
     ErrorKind::PermissionDenied,
     ErrorKind::ConnectionRefused,
@@ -63,12 +63,39 @@ const KINDS: [ErrorKind; 42] = [
 /// Gives a text and then line feeds, so many bytes in all and at most so many a call, and then fails or ends. It counts
 /// its calls.
 #[derive(Drop)]
-struct Counting {
+pub struct Counting {
     text: &'static [u8],
     bytes: usize,
     a_call: usize,
     fault: Option<ErrorKind>,
     calls: usize,
+}
+
+impl Counting {
+    /// A reader that wasn't called yet.
+    pub fn new(
+        text: &'static str,
+        bytes: usize,
+        a_call: usize,
+        fault: Option<ErrorKind>,
+    ) -> Counting {
+        Counting {
+            text: text.as_bytes(),
+            bytes,
+            a_call,
+            fault,
+            calls: 0,
+        }
+    }
+
+    /// What came of reading these bytes.
+    pub fn into_ended(self, bytes: usize, refusal: Option<Refusal>) -> Ended {
+        Ended {
+            refusal,
+            given: bytes.saturating_sub(self.bytes),
+            calls: self.calls,
+        }
+    }
 }
 
 impl Read for Counting {
@@ -100,13 +127,13 @@ enum Kind {
     Report,
 }
 
-/// What came of reading a header and line feeds.
+/// What came of reading a text and line feeds.
 #[derive(Clone, Copy, PartialEq, Eq, Debug, Drop)]
-struct Ended {
-    refusal: Option<Refusal>,
+pub struct Ended {
+    pub refusal: Option<Refusal>,
     /// How many bytes the reader gave.
-    given: usize,
-    calls: usize,
+    pub given: usize,
+    pub calls: usize,
 }
 
 /// Reads a header and line feeds, so many bytes in all and at most so many a call, behind which the reader fails or ends.
@@ -115,22 +142,12 @@ fn read(alloc: Global, kind: Kind, bytes: usize, a_call: usize, fault: Option<Er
         Kind::Script => SCRIPT_HEADER,
         Kind::Report => REPORT_HEADER,
     };
-    let mut reader = Counting {
-        text: text.as_bytes(),
-        bytes,
-        a_call,
-        fault,
-        calls: 0,
-    };
+    let mut reader = Counting::new(text, bytes, a_call, fault);
     let refusal = match kind {
         Kind::Script => script_refusal(alloc, &mut reader),
         Kind::Report => report_refusal(alloc, &mut reader),
     };
-    Ended {
-        refusal,
-        given: bytes.saturating_sub(reader.bytes),
-        calls: reader.calls,
-    }
+    reader.into_ended(bytes, refusal)
 }
 
 fn check(rt: &impl Abort, alloc: Global, case: (usize, usize, Option<ErrorKind>), want: Ended) {

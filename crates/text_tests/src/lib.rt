@@ -15,6 +15,8 @@ mod hostile;
 #[cfg(test)]
 mod long_scripts;
 #[cfg(test)]
+mod plan_bounds;
+#[cfg(test)]
 mod planned;
 #[cfg(test)]
 mod plans;

@@ -31,8 +31,12 @@ due,ops~|due~|Some(ScriptRow { line: 1, cause: Header })
 9,R3~|9,R3 |Some(ScriptRow { line: 6, cause: Ops })
 9,R3~|9, R3|Some(ScriptRow { line: 6, cause: Ops })
 9,R3~|9,R3  R3|Some(ScriptRow { line: 6, cause: Ops })
-9,R3~|9,T3|Some(ScriptRow { line: 6, cause: Ops })
+9,R3~|9,X3|Some(ScriptRow { line: 6, cause: Ops })
 9,R3~|9,R00000000001|Some(ScriptRow { line: 6, cause: Ops })
+9,R3~|9,T|Some(ScriptRow { line: 6, cause: Ops })
+9,R3~|9,T3=|Some(ScriptRow { line: 6, cause: Ops })
+9,R3~|9,t3|Some(ScriptRow { line: 6, cause: Ops })
+9,R3~|9,T4294967296|Some(ScriptRow { line: 6, cause: Ops })
 9,R3~|9,W3=00|Some(ScriptRow { line: 6, cause: Ops })
 9,R3~|9,W=00000000000000000000000000000000|Some(ScriptRow { line: 6, cause: Ops })
 9,R3~|9,W3=0000000000000000000000000000000g|Some(ScriptRow { line: 6, cause: Ops })
@@ -69,6 +73,8 @@ due,ops~|due,ops\r~~\r~|None
 1,1,0,job|5,1,4294967295,job|None
 0A0B0C0D0E0F10|0a0b0c0d0e0f10|None
 9,R3~|9,R4294967295|None
+9,R3~|9,T3|None
+9,R3~|9,T4294967295 R3|None
 9,R3~|9,|None";
     check_cases(&rt, rt.alloc(), Text::Script, TWO_SCRIPT, cases)
 }

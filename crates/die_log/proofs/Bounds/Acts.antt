@@ -20,7 +20,7 @@ use Rattle.die_log.proofs.Cells.Collections.{last_push, is_block_says}
 use Rattle.die_log.proofs.Cells.Steps.{open_is}
 use Rattle.die_log.proofs.Standing.Quiet.{runs_with, runs_says}
 use Rattle.die_log.proofs.Tokens.Sums.{one_if}
-use Rattle.die_log.proofs.Tokens.Copying.{set_less, other_block, program_by, placed_at, some_valid}
+use Rattle.die_log.proofs.Tokens.Copying.{set_fewer, set_less, other_block, program_by, placed_at, some_valid}
 
 abbrev pub is_copy_read : Act → Bool
 is_copy_read (does.CopyRead page) = true
@@ -75,6 +75,26 @@ program_in_buffer plan c page b (Some p) (Some o) pages s closed e = elim (cases
       omega (arith, same, program_by plan c page b (Some o) pages s closed e)
 ]
 
+-- and so does a trim of a page
+trim_in_buffer : (c : Cells) (page b : ℕ) (buffer : Option ℕ)
+    → valid (record c { places = slice_set c.places page None }) b + one_if (is_placed_in c b buffer) ≤ valid c b + one_if (is_placed_in (record c { places = slice_set c.places page None }) b buffer)
+trim_in_buffer c page b None = omega (arith, set_fewer c.places page b None refl)
+trim_in_buffer c page b (Some p) = elim (cases_eq p page) [
+  | inl is ↦ elim (cases_Bool (is_placed_in c b (Some page))) [
+    | inl placed ↦
+        let at = placed_at c page b placed in
+        let less = set_less c.places page b at.place None at.stands at.inside refl in
+        let one : one_if (is_placed_in c b (Some p)) ≡ 1 = ap (λ n. one_if (is_placed_in c b (Some n))) is ∙ ap one_if placed in
+        omega (arith, less, one)
+    | inr away ↦
+        let none : one_if (is_placed_in c b (Some p)) ≡ 0 = ap (λ n. one_if (is_placed_in c b (Some n))) is ∙ ap one_if away in
+        omega (arith, none, set_fewer c.places page b None refl)
+  ]
+  | inr apart ↦
+      let same = ap one_if (kept_place c page p b None apart) in
+      omega (arith, same, set_fewer c.places page b None refl)
+]
+
 with_fits : (plan : DiePlan) (c d : Cells) (j : Job) (own : List Act) (block : Option ℕ) → IsBounded plan c j own block
     → ((b : ℕ) → runs_with plan j own ≡ true → block ≡ Some b → valid d b + in_buffer c own b ≤ valid c b + in_buffer d own b) → IsBounded plan d j own block
 with_fits plan c d j own block h less = record {
@@ -91,6 +111,8 @@ pub other_bounded : (plan : DiePlan) (c : Cells) (j : Job) (own : List Act) (blo
 other_bounded plan c j own block n (does.Read page bytes) pages s closed h = h
 other_bounded plan c j own block n (does.Write page bytes) pages s closed h =
     with_fits plan c (programmed plan page c) j own block h (λ b runs is. program_in_buffer plan c page b (buffer_after (last_or None own)) (open_block plan c) pages s (closed b runs is) refl)
+other_bounded plan c j own block n (does.Trim page) pages s closed h =
+    with_fits plan c (record c { places = slice_set c.places page None }) j own block h (λ b runs is. trim_in_buffer c page b (buffer_after (last_or None own)))
 other_bounded plan c j own block n (does.CopyRead page) pages s closed h = h
 other_bounded plan c j own block n (does.CopyProgram page) pages s closed h =
     with_fits plan c (programmed plan page c) j own block h (λ b runs is. program_in_buffer plan c page b (buffer_after (last_or None own)) (open_block plan c) pages s (closed b runs is) refl)
@@ -136,6 +158,7 @@ read_in_buffer c own b page may = by_last (last_or None own) refl
     by_last None e = refl
     by_last (Some (does.Read p bytes)) e = refl
     by_last (Some (does.Write p bytes)) e = refl
+    by_last (Some (does.Trim p)) e = refl
     by_last (Some (does.CopyProgram p)) e = refl
     by_last (Some (does.Erase a)) e = refl
     by_last (Some (does.CopyRead p)) e = elim (cases_Bool (is_block b (block_of_page c p))) [

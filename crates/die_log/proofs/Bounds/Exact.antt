@@ -19,7 +19,7 @@ use Rattle.die_log.specs.Flash.{Cells, cells, cells_after, programmed_in, ran_by
 use Rattle.die_log.specs.Work.{is_done, is_copy_program, victim_of, shown_by}
 use Rattle.die_log.specs.Accounts.{accounts, after_waivers}
 use Rattle.die_log.specs.Answers.{IsExact, accepted, choice, is_waivable, slot_reply, reply_with, act_for}
-use Rattle.die_log.specs.Legal.{written_since, FindsFree}
+use Rattle.die_log.specs.Legal.{changed_since, FindsFree}
 use Rattle.die_log.specs.Sound.{MayDo}
 use Rattle.die_log.specs.Held.{reserve_full}
 use Rattle.die_log.proofs.Legality.{entry, exact_induction}
@@ -89,10 +89,11 @@ begun_fits plan past j b kind undone shown h =
 
 -- the collection that acts on its block b, in which few pages are placed
 own_bounded : (plan : DiePlan) (past : Log) (j : Job) (act : Act) (b : ℕ) → Moves plan past j act → IsBegun plan past j b → is_done plan past j ≡ false
-    → MayDo plan (cells plan past) (acts j.number past) (λ p. written_since j.number p past) b act → valid (cells plan past) b ≤ reserve_full plan
+    → MayDo plan (cells plan past) (acts j.number past) (λ p. changed_since j.number p past) b act → valid (cells plan past) b ≤ reserve_full plan
     → IsBounded plan (cells plan past) j (acts j.number past) (victim_of plan j.number past) → IsBounded plan (cells_after plan (Some (j.number, act)) (cells plan past)) j (acts j.number past ++ act ∷ []) (Some b)
 own_bounded plan past j (does.Read page bytes) b m k undone may few h = absurd may
 own_bounded plan past j (does.Write page bytes) b m k undone may few h = absurd may
+own_bounded plan past j (does.Trim page) b m k undone may few h = absurd may
 own_bounded plan past j (does.CopyRead page) b m k undone may few h =
     own_read plan (cells plan past) j (acts j.number past) (victim_of plan j.number past) b page h may (by_case k.shown)
   where
@@ -105,7 +106,7 @@ own_bounded plan past j (does.CopyProgram page) b m k undone may few h =
     let o = opens plan (cells plan past) m.finds in
     let copies = (well_served plan past m.bound m.well).few_copies j page (stands_at (jobs past) j m.well.0.numbered m.waiting.0) m.waiting.1 m.does_it in
     subst (λ x. IsBounded plan (programmed_in page x (cells plan past)) j (acts j.number past ++ does.CopyProgram page ∷ []) (Some b)) (sym o.1)
-    (own_copy plan (cells plan past) j (acts j.number past) (victim_of plan j.number past) (λ p. written_since j.number p past) b page o.0 pages sound k.collecting.closed o.1 h may copies (by_case k.shown))
+    (own_copy plan (cells plan past) j (acts j.number past) (victim_of plan j.number past) (λ p. changed_since j.number p past) b page o.0 pages sound k.collecting.closed o.1 h may copies (by_case k.shown))
   where
     by_case : (victim_of plan j.number past ≡ Some b) ⊎ (acts j.number past ≡ []) → count_by is_copy_read (acts j.number past) + valid (cells plan past) b ≤ reserve_full plan + in_buffer (cells plan past) (acts j.number past) b
     by_case (inl shown) = begun_fits plan past j b m.kind undone shown h

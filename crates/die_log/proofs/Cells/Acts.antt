@@ -1,11 +1,12 @@
 -- One act keeps cells sound.
-use Rattle.std.proofs.Common.{◌≡◌, ◌≢◌, ◌⊎◌, ℕ, ◌+◌, ◌<◌, ◌≤◌, List, Option, Some, None, refl, ap, sym, ◌∙◌, subst, inl, inr, arith, length, option_map}
+use Rattle.std.proofs.Common.{◌≡◌, ◌≢◌, ◌⊎◌, ℕ, ◌+◌, ◌<◌, ◌≤◌, List, Option, Some, None, refl, ap, sym, ◌∙◌, subst, inl, inr, arith, length, option_map, get_or}
 use Rattle.std.proofs.lemmas.Bool.{cases_eq}
+use Rattle.std.proofs.lemmas.Option.{none-some}
 use Rattle.slot_types.specs.Places.{place_of}
 use Rattle.slot_types.specs.declared.plans.DiePlan.{DiePlan}
 use Rattle.slot_types.specs.declared.pages.Place.{Place}
-use Rattle.die_log.specs.Flash.{Cells, Block, block_at, block_of_page}
-use Rattle.die_log.specs.Sound.{IsOpen, IsClosed, IsUnplaced, AreSound, IsProgram, IsEraseSlot}
+use Rattle.die_log.specs.Flash.{Cells, Block, free_block, block_at, block_of_page}
+use Rattle.die_log.specs.Sound.{IsOpen, IsClosed, IsUnplaced, AreSound, IsProgram, IsTrim, IsEraseSlot}
 
 -- a page is placed in a block
 pub in_block : (c : Cells) (page b : ℕ) (q : Place) → place_of c.places page ≡ Some q → q.block ≡ b → block_of_page c page ≡ Some b
@@ -90,6 +91,32 @@ program_sound plan page b c d s w = record {
   apart = λ p o q r e f. apart_more plan page b c s p o q r (w.moved p q e) (w.moved o r f);
   one_open = λ x y h k. opened_is plan page b c d w x h (cases_eq x b) ∙ sym (opened_is plan page b c d w y k (cases_eq y b));
   erasing = λ a h. erasing_more plan page b c d s w a h (cases_eq a b);
+}
+
+-- Trims
+
+-- who is placed after a trim was there before, and isn't the page that was trimmed
+pub trim_stays : (page : ℕ) (c d : Cells) → IsTrim page c d → (a p : ℕ) → block_of_page d p ≡ Some a → (p ≢ page) × (block_of_page c p ≡ Some a)
+trim_stays page c d w a p e =
+    let h = of_block d p a e in
+    (λ is. none-some h.0 (sym w.gone ∙ subst (λ (x : ℕ). place_of d.places x ≡ Some h.0) is h.1), in_block c p a h.0 (w.others p h.0 h.1) h.2)
+
+pub trimmed_block : (page : ℕ) (c d : Cells) → IsTrim page c d → (a : ℕ) → block_at d a ≡ block_at c a
+trimmed_block page c d w a = ap (λ (bs : List Block). get_or bs a free_block) w.blocks
+
+-- a trim keeps cells sound
+pub trim_sound : (plan : DiePlan) (page : ℕ) (c d : Cells) → AreSound plan c → IsTrim page c d → AreSound plan d
+trim_sound plan page c d s w = record {
+  blocks = ap length w.blocks ∙ s.blocks;
+  places = w.places ∙ s.places;
+  within = λ a. rw (trimmed_block page c d w a) (s.within a);
+  placed = λ p q e. rw (trimmed_block page c d w q.block) (s.placed p q (w.others p q e));
+  apart = λ p o q r e f. s.apart p o q r (w.others p q e) (w.others o r f);
+  one_open = λ x y h k. s.one_open x y (rw (trimmed_block page c d w x) at h) (rw (trimmed_block page c d w y) at k);
+  erasing = λ a h.
+      let same : block_at d a ≡ block_at c a = trimmed_block page c d w a in
+      let old = s.erasing a (subst (λ (x : Block). 0 < x.erasing) same h) in
+      (rw same old.0, rw same old.1, λ p e. old.2 p (trim_stays page c d w a p e).1);
 }
 
 -- Erases

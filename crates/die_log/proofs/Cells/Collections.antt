@@ -12,9 +12,9 @@ use Rattle.slot_types.specs.declared.acts.Act.TheVariants as does
 use Rattle.die_log.specs.Flash.{Cells, Block, block_at, block_of_page, valid, valid_pages}
 use Rattle.die_log.specs.Work.{is_erase}
 use Rattle.die_log.specs.Answers.{buffer_after, is_block, is_placed_in, read_or_erase, collect_act}
-use Rattle.die_log.specs.Legal.{is_write_of}
+use Rattle.die_log.specs.Legal.{is_change_of}
 use Rattle.die_log.specs.Sound.{IsClosed, AreSound, IsProgram, IsEraseSlot, IsStep, IsCollecting, MayDo}
-use Rattle.die_log.proofs.Cells.Acts.{program_stays, erase_stays, erase_left}
+use Rattle.die_log.proofs.Cells.Acts.{program_stays, trim_stays, trimmed_block, erase_stays, erase_left}
 use Rattle.die_log.proofs.Cells.Valid.{valid_is, unplaced_is, valid_placed}
 
 -- Acts of others
@@ -27,7 +27,7 @@ keeps_collecting plan c d own fresh newer b k same stays = record {
   erases = ap (λ (s : Block). s.erasing) same ∙ k.erases;
   of_own = k.of_own;
   read = λ p h e. k.read p h (stays p e).0;
-  unwritten = λ p h n e. k.unwritten p h ((stays p e).1 n) (stays p e).0;
+  unchanged = λ p h n e. k.unchanged p h ((stays p e).1 n) (stays p e).0;
 }
 
 -- the open block isn't the one that is collected
@@ -45,12 +45,15 @@ not_written page p before other h = by_test (page == p) (ne_eqb page p (λ e. ot
 
 -- the act of another keeps a running collection
 pub other_step : (plan : DiePlan) (act : Act) (c d : Cells) (own : List Act) (fresh : ℕ → Bool) (b : ℕ) → IsCollecting plan c own fresh b → (act ≡ does.Erase b → ⊥) → IsStep plan act c d
-    → IsCollecting plan d own (λ p. is_write_of p act || fresh p) b
+    → IsCollecting plan d own (λ p. is_change_of p act || fresh p) b
 other_step plan (does.Read page bytes) c d own fresh b k differs w = keeps_collecting plan c d own fresh fresh b k (ap (λ (x : Cells). block_at x b) w) (λ p e. (sym (ap (λ (x : Cells). block_of_page x p) w) ∙ e, λ n. n))
 other_step plan (does.Write page bytes) c d own fresh b k differs w =
     let apart : b ≢ w.0 = apart_open plan c d own fresh b w.0 page k w.1 in
     keeps_collecting plan c d own fresh (λ p. (page == p) || fresh p) b k (w.1.others b apart)
     (λ p e. ((program_stays plan page w.0 c d w.1 b p apart e).1, not_written page p (fresh p) (program_stays plan page w.0 c d w.1 b p apart e).0))
+other_step plan (does.Trim page) c d own fresh b k differs w =
+    keeps_collecting plan c d own fresh (λ p. (page == p) || fresh p) b k (trimmed_block page c d w b)
+    (λ p e. ((trim_stays page c d w b p e).1, not_written page p (fresh p) (trim_stays page c d w b p e).0))
 other_step plan (does.CopyRead page) c d own fresh b k differs w = keeps_collecting plan c d own fresh fresh b k (ap (λ (x : Cells). block_at x b) w) (λ p e. (sym (ap (λ (x : Cells). block_of_page x p) w) ∙ e, λ n. n))
 other_step plan (does.CopyProgram page) c d own fresh b k differs w =
     let apart : b ≢ w.0 = apart_open plan c d own fresh b w.0 page k w.1 in
@@ -81,7 +84,7 @@ begins_collecting plan c fresh b closed none = record {
   erases = none;
   of_own = λ a h. absurd (omega (arith, h.1));
   read = λ p h e. absurd (omega (arith, h.1));
-  unwritten = λ p h n e. absurd (none-some (does.CopyRead p) h);
+  unchanged = λ p h n e. absurd (none-some (does.CopyRead p) h);
 }
 
 same_page : (p q : ℕ) → does.CopyRead p ≡ does.CopyRead q → p ≡ q
@@ -105,12 +108,13 @@ pub own_step : (plan : DiePlan) (act : Act) (c d : Cells) (own : List Act) (fres
     → count_by is_erase (own ++ act ∷ []) ≢ plan.shape.erase_slots → ((p : ℕ) → newer p ≡ false) → IsCollecting plan d (own ++ act ∷ []) newer b
 own_step plan (does.Read page bytes) c d own fresh newer b k may w differs never = absurd may
 own_step plan (does.Write page bytes) c d own fresh newer b k may w differs never = absurd may
+own_step plan (does.Trim page) c d own fresh newer b k may w differs never = absurd may
 own_step plan (does.CopyRead page) c d own fresh newer b k may w differs never = record {
   closed = rw w k.closed;
   erases = rw w (k.erases ∙ omega (arith, erases_push own (does.CopyRead page)));
   of_own = λ a h. k.of_own a (push_case own (does.CopyRead page) (does.Erase a) (λ e. absurd cc) h);
   read = λ p h e. by_case p (sym (ap (λ (x : Cells). block_of_page x p) w) ∙ e) (Contains-push_cases own (does.CopyRead page) (does.CopyRead p) h);
-  unwritten = λ p h n e. true≢false (sym n ∙ never p);
+  unchanged = λ p h n e. true≢false (sym n ∙ never p);
 }
   where
     by_case : (p : ℕ) → block_of_page c p ≡ Some b → Contains own (does.CopyRead p) ⊎ (does.CopyRead page ≡ does.CopyRead p) → last_or None (own ++ does.CopyRead page ∷ []) ≡ Some (does.CopyRead p)
@@ -125,7 +129,7 @@ own_step plan (does.CopyProgram page) c d own fresh newer b k may w differs neve
       read = λ p h e.
           let stays = program_stays plan page w.0 c d w.1 b p apart e in
           absurd (stays.0 (sym (same_page page p (same_Some _ _ (sym may.follows ∙ k.read p (push_case own (does.CopyProgram page) (does.CopyRead p) (λ x. absurd cc) h) stays.1)))));
-      unwritten = λ p h n e. true≢false (sym n ∙ never p);
+      unchanged = λ p h n e. true≢false (sym n ∙ never p);
     }
 own_step plan (does.Erase a) c d own fresh newer b k may w differs never = subst Goal (sym may.same) (λ v x. at_own v x) w differs
   where
@@ -139,7 +143,7 @@ own_step plan (does.Erase a) c d own fresh newer b k may w differs never = subst
           erases = omega (arith, h.1, k.erases, erases_push own (does.Erase b));
           of_own = λ e g. own_case e (Contains-push_cases own (does.Erase b) (does.Erase e) g);
           read = λ p g e. absurd (may.unplaced p (sym (erase_stays plan b c d v p) ∙ e));
-          unwritten = λ p g n e. true≢false (sym n ∙ never p);
+          unchanged = λ p g n e. true≢false (sym n ∙ never p);
         }
       where
         own_case : (e : ℕ) → Contains own (does.Erase e) ⊎ (does.Erase b ≡ does.Erase e) → e ≡ b
@@ -152,6 +156,7 @@ buffered : (o : Option Act) (page : ℕ) → buffer_after o ≡ Some page → o 
 buffered None page e = absurd cc
 buffered (Some (does.Read p bytes)) page e = absurd cc
 buffered (Some (does.Write p bytes)) page e = absurd cc
+buffered (Some (does.Trim p)) page e = absurd cc
 buffered (Some (does.CopyRead p)) page e = cc
 buffered (Some (does.CopyProgram p)) page e = absurd cc
 buffered (Some (does.Erase a)) page e = absurd cc
@@ -191,7 +196,7 @@ act_may plan c own fresh b None more s k buffer true test act e = absurd cc
 act_may plan c own fresh b (Some page) more s k buffer true test act e =
     let last : last_or None own ≡ Some (does.CopyRead page) = buffered (last_or None own) page buffer in
     let placed : block_of_page c page ≡ Some b = is_block_says b (block_of_page c page) test in
-    subst (MayDo plan c own fresh b) (same_Some _ _ e) (record { follows = last; placed = placed; unwritten = false_from_ne_true (fresh page) (λ n. k.unwritten page last n placed) })
+    subst (MayDo plan c own fresh b) (same_Some _ _ e) (record { follows = last; placed = placed; unchanged = false_from_ne_true (fresh page) (λ n. k.unchanged page last n placed) })
 act_may plan c own fresh b o more s k buffer false test act e =
     subst (MayDo plan c own fresh b) (same_Some _ _ e) (read_or_erase_may plan c own fresh b (valid_pages plan c b) more s k left refl)
   where

@@ -13,8 +13,8 @@ use Rattle.slot_types.specs.declared.acts.Act.{Act}
 use Rattle.slot_types.specs.declared.acts.Act.TheVariants as does
 use Rattle.slot_types.specs.declared.pages.Place.{Place}
 use Rattle.die_log.specs.Flash.{Cells, Block, free_block, block_at, is_open, first_of, open_block, programmed_in, programmed, free_in, erased_once, cells_after, fresh_cells}
-use Rattle.die_log.specs.Sound.{IsOpen, IsClosed, IsUnplaced, AreSound, IsProgram, IsEraseSlot, TakesNext, IsStep, HasRoom}
-use Rattle.die_log.proofs.Cells.Acts.{program_sound, erase_sound}
+use Rattle.die_log.specs.Sound.{IsOpen, IsClosed, IsUnplaced, AreSound, IsProgram, IsTrim, IsEraseSlot, TakesNext, IsStep, HasRoom}
+use Rattle.die_log.proofs.Cells.Acts.{program_sound, trim_sound, erase_sound}
 
 -- Places of lists
 
@@ -169,11 +169,35 @@ program_step plan page c more s free =
     let k = open_is plan c o.0 more s o.1 in
     (o.0, subst (λ (x : Option ℕ). IsProgram plan page o.0 c (programmed_in page x c)) (sym o.1) (program_is plan page o.0 c k.stands k.room k.alone))
 
+abbrev nowhere : Option Place
+nowhere = None
+
+trimmed_gone : (places : List (Option Place)) (page : ℕ) → place_of (slice_set places page nowhere) page ≡ None
+trimmed_gone places page = elim (cases_lt page (length places)) [
+  | inl lt ↦ get_or-set_same places page nowhere None lt
+  | inr past ↦ get_or_past (slice_set places page nowhere) page None (omega (arith, length-set places page nowhere))
+]
+
+trimmed_others : (places : List (Option Place)) (page p : ℕ) (q : Place) → place_of (slice_set places page nowhere) p ≡ Some q → place_of places p ≡ Some q
+trimmed_others places page p q e = elim (cases_eq p page) [
+  | inl is ↦ absurd (none-some q (sym (trimmed_gone places page) ∙ subst (λ (x : ℕ). place_of (slice_set places page nowhere) x ≡ Some q) is e))
+  | inr other ↦ sym (get_or-set_other places page p nowhere None other) ∙ e
+]
+
+trim_is : (page : ℕ) (c : Cells) → IsTrim page c (record c { places = slice_set c.places page None })
+trim_is page c = record {
+  blocks = refl;
+  places = length-set c.places page None;
+  gone = trimmed_gone c.places page;
+  others = λ p q e. trimmed_others c.places page p q e;
+}
+
 -- a program needs a free page, and an erase slot a closed block
 pub step_is : (plan : DiePlan) (n : ℕ) (act : Act) (c : Cells) → 0 < plan.shape.pages → AreSound plan c → HasRoom plan c act → ((b : ℕ) → act ≡ does.Erase b → IsClosed plan c b)
     → IsStep plan act c (cells_after plan (Some (n, act)) c)
 step_is plan n (does.Read page bytes) c more s room closed = refl
 step_is plan n (does.Write page bytes) c more s room closed = program_step plan page c more s room
+step_is plan n (does.Trim page) c more s room closed = trim_is page c
 step_is plan n (does.CopyRead page) c more s room closed = refl
 step_is plan n (does.CopyProgram page) c more s room closed = program_step plan page c more s room
 step_is plan n (does.Erase b) c more s room closed =
@@ -184,6 +208,7 @@ step_is plan n (does.Erase b) c more s room closed =
 pub step_sound : (plan : DiePlan) (act : Act) (c d : Cells) → 0 < plan.shape.erase_slots → AreSound plan c → ((b : ℕ) → act ≡ does.Erase b → IsClosed plan c b × IsUnplaced c b) → IsStep plan act c d → AreSound plan d
 step_sound plan (does.Read page bytes) c d more s ok w = subst (AreSound plan) (sym w) s
 step_sound plan (does.Write page bytes) c d more s ok w = program_sound plan page w.0 c d s w.1
+step_sound plan (does.Trim page) c d more s ok w = trim_sound plan page c d s w
 step_sound plan (does.CopyRead page) c d more s ok w = subst (AreSound plan) (sym w) s
 step_sound plan (does.CopyProgram page) c d more s ok w = program_sound plan page w.0 c d s w.1
 step_sound plan (does.Erase b) c d more s ok w = let h = ok b refl in erase_sound plan b c d more s h.0 h.1 w
@@ -194,9 +219,6 @@ fresh_block : (n a : ℕ) → get_or (replicate n free_block) a free_block ≡ f
 fresh_block zero a = refl
 fresh_block (suc n) zero = refl
 fresh_block (suc n) (suc a) = fresh_block n a
-
-abbrev nowhere : Option Place
-nowhere = None
 
 fresh_place : (n a : ℕ) → place_of (replicate n nowhere) a ≡ nowhere
 fresh_place zero a = refl

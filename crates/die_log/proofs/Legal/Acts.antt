@@ -17,7 +17,7 @@ use Rattle.die_log.specs.Work.{is_done, least}
 use Rattle.plan_rules.specs.Accounts.{Accounts, given_of}
 use Rattle.plan_rules.specs.Accounts as moves
 use Rattle.die_log.specs.Answers.{Choice, is_running, is_waivable, without, weighed, chosen, choice_among, act_for, act_of_op}
-use Rattle.die_log.specs.Legal.{Does, IsNextOperation, IsCollectAct, IsNextCollectAct, MayErase, written_since, is_among, TellsContent, FindsFree, IsLegalAct}
+use Rattle.die_log.specs.Legal.{Does, IsNextOperation, IsCollectAct, IsNextCollectAct, MayErase, changed_since, is_among, TellsContent, FindsFree, IsLegalAct}
 use Rattle.die_log.specs.Sound.{MayDo, MayEraseSlot}
 use Rattle.die_log.specs.Standing.{Runs, Stands}
 use Rattle.die_log.proofs.Choices.{OfSome, names_waiting}
@@ -31,6 +31,7 @@ does_op : (plan : DiePlan) (past : Log) (o : Option Op) (act : Act) → act_of_o
 does_op plan past None act e = absurd cc
 does_op plan past (Some (asks.Read page)) act e = subst (λ (x : Act). Does (asks.Read page) x × TellsContent plan past x) (same_Some _ act e) (refl, refl)
 does_op plan past (Some (asks.Write page bytes)) act e = subst (λ (x : Act). Does (asks.Write page bytes) x × TellsContent plan past x) (same_Some _ act e) ((refl, refl), tt)
+does_op plan past (Some (asks.Trim page)) act e = subst (λ (x : Act). Does (asks.Trim page) x × TellsContent plan past x) (same_Some _ act e) (refl, tt)
 
 -- Collections
 
@@ -61,12 +62,13 @@ erase_may plan past j b block s k may = record {
     by_done i stands other h true e = refl
     by_done i stands other h false e = absurd (other (k.apart i (erased_runs plan past i b s stands h e)))
 
-pub may_legal : (plan : DiePlan) (past : Log) (j : Job) (b : ℕ) (act : Act) → Stands plan past → IsBegun plan past j b → MayDo plan (cells plan past) (acts j.number past) (λ p. written_since j.number p past) b act
+pub may_legal : (plan : DiePlan) (past : Log) (j : Job) (b : ℕ) (act : Act) → Stands plan past → IsBegun plan past j b → MayDo plan (cells plan past) (acts j.number past) (λ p. changed_since j.number p past) b act
     → IsCollectAct plan past j.number b act × TellsContent plan past act
 may_legal plan past j b (does.Read page bytes) s k may = absurd may
 may_legal plan past j b (does.Write page bytes) s k may = absurd may
+may_legal plan past j b (does.Trim page) s k may = absurd may
 may_legal plan past j b (does.CopyRead page) s k may = (record { placed = may.placed; once = λ h. may.none_left page h may.placed; unerased = may.unerased }, tt)
-may_legal plan past j b (does.CopyProgram page) s k may = (record { follows = may.follows; unwritten = may.unwritten }, tt)
+may_legal plan past j b (does.CopyProgram page) s k may = (record { follows = may.follows; unchanged = may.unchanged }, tt)
 may_legal plan past j b (does.Erase block) s k may = (erase_may plan past j b block s k may, tt)
 
 -- Waived in the same slot

@@ -36,6 +36,7 @@ some_act : (plan : DiePlan) (past : Log) (o : Option Op) (op : Op) → o ≡ Som
 some_act plan past None op e = absurd cc
 some_act plan past (Some (asks.Read page)) op e = (_, refl)
 some_act plan past (Some (asks.Write page bytes)) op e = (_, refl)
+some_act plan past (Some (asks.Trim page)) op e = (_, refl)
 
 some_collect : (plan : DiePlan) (c : Cells) (buffer o : Option ℕ) (b : ℕ) → o ≡ Some b → (act : Act) × (collect_act plan c buffer o ≡ Some act)
 some_collect plan c buffer None b e = absurd cc

@@ -11,7 +11,7 @@ use Rattle.die_log.specs.Log.{Log, Job, jobs, act_of, acts}
 use Rattle.die_log.specs.Flash.{ran_by, cells, block_at}
 use Rattle.die_log.specs.Work.{victim_of}
 use Rattle.die_log.specs.Answers.{is_running}
-use Rattle.die_log.specs.Legal.{written_since}
+use Rattle.die_log.specs.Legal.{changed_since}
 use Rattle.die_log.specs.Sound.{AreSound, IsCollecting, IsStep}
 use Rattle.die_log.specs.Standing.{AreNumbered, Runs, Collects}
 use Rattle.die_log.proofs.Standing.Longer.{act_other, same_job}
@@ -21,7 +21,7 @@ use Rattle.die_log.proofs.Standing.Quiet.{running_stays, runs_later, runs_before
 pub record IsActor (plan : DiePlan) (e : Entry) (past : Log) (j : Job) (act : Act) : Type 0 where
   -- if it runs now, it has a block, and nobody else ran on it
   pub mine : is_running plan (e ∷ past) j ≡ true
-      → (b : ℕ) × (victim_of plan j.number (e ∷ past) ≡ Some b) × IsCollecting plan (cells plan (e ∷ past)) (acts j.number (e ∷ past)) (λ p. written_since j.number p (e ∷ past)) b × ((i : Job) → Runs plan past i b → i.number ≡ j.number)
+      → (b : ℕ) × (victim_of plan j.number (e ∷ past) ≡ Some b) × IsCollecting plan (cells plan (e ∷ past)) (acts j.number (e ∷ past)) (λ p. changed_since j.number p (e ∷ past)) b × ((i : Job) → Runs plan past i b → i.number ≡ j.number)
   -- it erased nobody else's block
   pub others : (i : Job) (a : ℕ) → Runs plan past i a → i.number ≢ j.number → act ≡ does.Erase a → ⊥
   -- a block that it erased and that is still in erase is its own
@@ -32,6 +32,7 @@ pub record IsActor (plan : DiePlan) (e : Entry) (past : Log) (j : Job) (act : Ac
 pub erase_case : (act : Act) (a : ℕ) → (act ≡ does.Erase a) ⊎ (act ≡ does.Erase a → ⊥)
 erase_case (does.Read page bytes) a = inr (λ e. absurd cc)
 erase_case (does.Write page bytes) a = inr (λ e. absurd cc)
+erase_case (does.Trim page) a = inr (λ e. absurd cc)
 erase_case (does.CopyRead page) a = inr (λ e. absurd cc)
 erase_case (does.CopyProgram page) a = inr (λ e. absurd cc)
 erase_case (does.Erase b) a = by_eq (cases_eq b a)
@@ -77,13 +78,13 @@ acted plan e past j act ran same numbered stands k sound step actor = record {
         (old.0, runs_later plan e past i old.0 (no_act i other) h old.1)
 
     collecting_by_case : (i : Job) (b : ℕ) → Runs plan (e ∷ past) i b → (i.number ≡ j.number) ⊎ (i.number ≡ j.number → ⊥)
-        → IsCollecting plan (cells plan (e ∷ past)) (acts i.number (e ∷ past)) (λ p. written_since i.number p (e ∷ past)) b
+        → IsCollecting plan (cells plan (e ∷ past)) (acts i.number (e ∷ past)) (λ p. changed_since i.number p (e ∷ past)) b
     collecting_by_case i b r (inl is) =
         let it : i ≡ j = is_it i r.stands is in
         let mine = actor.mine (subst (λ (x : Job). is_running plan (e ∷ past) x ≡ true) it r.running) in
         let at : mine.0 ≡ b = same_Some mine.0 b (sym mine.1 ∙ subst (λ (x : Job). victim_of plan x.number (e ∷ past) ≡ Some b) it r.victim) in
-        subst (λ (x : Job). IsCollecting plan (cells plan (e ∷ past)) (acts x.number (e ∷ past)) (λ p. written_since x.number p (e ∷ past)) b) (sym it)
-        (subst (λ (x : ℕ). IsCollecting plan (cells plan (e ∷ past)) (acts j.number (e ∷ past)) (λ p. written_since j.number p (e ∷ past)) x) at mine.2)
+        subst (λ (x : Job). IsCollecting plan (cells plan (e ∷ past)) (acts x.number (e ∷ past)) (λ p. changed_since x.number p (e ∷ past)) b) (sym it)
+        (subst (λ (x : ℕ). IsCollecting plan (cells plan (e ∷ past)) (acts j.number (e ∷ past)) (λ p. changed_since j.number p (e ∷ past)) x) at mine.2)
     collecting_by_case i b r (inr other) =
         let old = to_past i b other r in
         others_collect plan e past j.number act (cells plan (e ∷ past)) i b ran (λ x. other (sym x)) (actor.others i b old other) step (k.collecting i b old)

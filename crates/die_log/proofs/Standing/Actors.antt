@@ -16,7 +16,7 @@ use Rattle.die_log.specs.Log.{Log, Job, Carried, jobs, act_of, acts, work}
 use Rattle.die_log.specs.Flash.{ran_by, Cells, cells, cells_after, block_at, is_closed}
 use Rattle.die_log.specs.Work.{are_all, is_done, is_erase, victim_of, shown_by, block_shown}
 use Rattle.die_log.specs.Answers.{is_running, is_block, is_collected, candidates, victim, block_for, buffer_after, collect_act, act_of_op, act_for}
-use Rattle.die_log.specs.Legal.{written_since, written_by, FindsFree}
+use Rattle.die_log.specs.Legal.{changed_since, changed_by, FindsFree}
 use Rattle.die_log.specs.Sound.{IsClosed, IsUnplaced, AreSound, IsCollecting, IsEraseSlot, IsStep, HasRoom, MayDo}
 use Rattle.die_log.specs.Standing.{AreNumbered, Runs, Collects}
 use Rattle.die_log.proofs.Choices.{OfSome}
@@ -30,7 +30,7 @@ use Rattle.die_log.proofs.Standing.Acting.{IsActor, acted}
 
 -- before its act: it collects the block, nobody else does, and it has no other
 pub record IsBegun (plan : DiePlan) (past : Log) (j : Job) (b : ℕ) : Type 0 where
-  pub collecting : IsCollecting plan (cells plan past) (acts j.number past) (λ p. written_since j.number p past) b
+  pub collecting : IsCollecting plan (cells plan past) (acts j.number past) (λ p. changed_since j.number p past) b
   pub shown : (victim_of plan j.number past ≡ Some b) ⊎ (acts j.number past ≡ [])
   pub apart : (i : Job) → Runs plan past i b → i.number ≡ j.number
   pub same : (a : ℕ) → Runs plan past j a → a ≡ b
@@ -74,8 +74,8 @@ begun_by plan past j b k stands collects undone true zero_test e =
     let v = victim_is plan past b e in
     let nil : acts j.number past ≡ [] = nil_by (acts j.number past) (eqb-true (length (acts j.number past)) 0 zero_test) in
     record {
-      collecting = collecting_as plan (cells plan past) [] (acts j.number past) (λ p. written_since j.number p past) (λ p. written_since j.number p past) b nil (λ p x. x)
-          (begins_collecting plan (cells plan past) (λ p. written_since j.number p past) b v.0 (idle (block_at (cells plan past) b).erasing refl v.1));
+      collecting = collecting_as plan (cells plan past) [] (acts j.number past) (λ p. changed_since j.number p past) (λ p. changed_since j.number p past) b nil (λ p x. x)
+          (begins_collecting plan (cells plan past) (λ p. changed_since j.number p past) b v.0 (idle (block_at (cells plan past) b).erasing refl v.1));
       shown = inr nil;
       apart = λ i r. absurd (true≢false (sym (runs_collected plan past i b r) ∙ v.1));
       same = λ a r. absurd (omega (arith, (runs_says plan j (acts j.number past) r.running).begun, ap length nil));
@@ -105,6 +105,7 @@ begun plan past j b k stands collects undone e = begun_by plan past j b k stands
 pub may_erase : (plan : DiePlan) (c : Cells) (own : List Act) (fresh : ℕ → Bool) (b : ℕ) (act : Act) → MayDo plan c own fresh b act → (a : ℕ) → act ≡ does.Erase a → (a ≡ b) × IsClosed plan c a × IsUnplaced c a
 may_erase plan c own fresh b (does.Read page bytes) may a e = absurd may
 may_erase plan c own fresh b (does.Write page bytes) may a e = absurd may
+may_erase plan c own fresh b (does.Trim page) may a e = absurd may
 may_erase plan c own fresh b (does.CopyRead page) may a e = absurd cc
 may_erase plan c own fresh b (does.CopyProgram page) may a e = absurd cc
 may_erase plan c own fresh b (does.Erase x) may a e =
@@ -116,6 +117,7 @@ may_erase plan c own fresh b (does.Erase x) may a e =
 pub may_placed : (plan : DiePlan) (c : Cells) (own : List Act) (fresh : ℕ → Bool) (b : ℕ) (act : Act) → MayDo plan c own fresh b act → (act ≡ does.Erase b → ⊥) → IsUnplaced c b → ⊥
 may_placed plan c own fresh b (does.Read page bytes) may not_erased none = may
 may_placed plan c own fresh b (does.Write page bytes) may not_erased none = may
+may_placed plan c own fresh b (does.Trim page) may not_erased none = may
 may_placed plan c own fresh b (does.CopyRead page) may not_erased none = none page may.placed
 may_placed plan c own fresh b (does.CopyProgram page) may not_erased none = none page may.placed
 may_placed plan c own fresh b (does.Erase x) may not_erased none = not_erased (ap does.Erase may.same)
@@ -123,18 +125,19 @@ may_placed plan c own fresh b (does.Erase x) may not_erased none = not_erased (a
 first_shown : (plan : DiePlan) (c : Cells) (own : List Act) (fresh : ℕ → Bool) (b : ℕ) (act : Act) → MayDo plan c own fresh b act → own ≡ [] → block_shown c act ≡ Some b
 first_shown plan c own fresh b (does.Read page bytes) may nil = absurd may
 first_shown plan c own fresh b (does.Write page bytes) may nil = absurd may
+first_shown plan c own fresh b (does.Trim page) may nil = absurd may
 first_shown plan c own fresh b (does.CopyRead page) may nil = may.placed
 first_shown plan c own fresh b (does.CopyProgram page) may nil = absurd (none-some (does.CopyRead page) (sym (ap (last_or None) nil) ∙ may.follows))
 first_shown plan c own fresh b (does.Erase x) may nil = ap Some may.same
 
 -- the act shows the collection's block
-pub act_shows : (plan : DiePlan) (past : Log) (j : Job) (b : ℕ) (act : Act) → IsBegun plan past j b → MayDo plan (cells plan past) (acts j.number past) (λ p. written_since j.number p past) b act
+pub act_shows : (plan : DiePlan) (past : Log) (j : Job) (b : ℕ) (act : Act) → IsBegun plan past j b → MayDo plan (cells plan past) (acts j.number past) (λ p. changed_since j.number p past) b act
     → shown_by plan past (victim_of plan j.number past) (Some act) ≡ Some b
 act_shows plan past j b act k may = by_case k.shown
   where
     by_case : (victim_of plan j.number past ≡ Some b) ⊎ (acts j.number past ≡ []) → shown_by plan past (victim_of plan j.number past) (Some act) ≡ Some b
     by_case (inl e) = ap (λ (o : Option ℕ). shown_by plan past o (Some act)) e
-    by_case (inr nil) = ap (λ (o : Option ℕ). shown_by plan past o (Some act)) (no_victim plan j.number past nil) ∙ first_shown plan (cells plan past) (acts j.number past) (λ p. written_since j.number p past) b act may nil
+    by_case (inr nil) = ap (λ (o : Option ℕ). shown_by plan past o (Some act)) (no_victim plan j.number past nil) ∙ first_shown plan (cells plan past) (acts j.number past) (λ p. changed_since j.number p past) b act may nil
 
 pub all_is : (plan : DiePlan) (j : Job) (own : List Act) → j.collects ≡ true → are_all plan j own ≡ (count_by is_erase own == plan.shape.erase_slots)
 all_is plan j own e = rw e refl
@@ -144,21 +147,21 @@ erases_push own a = sum_by_push (λ x. cond (is_erase x) 1 0) own (does.Erase a)
 
 -- a collection acts as one may
 pub collection_actor : (plan : DiePlan) (e : Entry) (past : Log) (j : Job) (act : Act) (b : ℕ) → ran_by e.reply ≡ Some (j.number, act) → j.collects ≡ true
-    → AreSound plan (cells plan past) → IsBegun plan past j b → MayDo plan (cells plan past) (acts j.number past) (λ p. written_since j.number p past) b act → IsStep plan act (cells plan past) (cells plan (e ∷ past))
+    → AreSound plan (cells plan past) → IsBegun plan past j b → MayDo plan (cells plan past) (acts j.number past) (λ p. changed_since j.number p past) b act → IsStep plan act (cells plan past) (cells plan (e ∷ past))
     → IsActor plan e past j act
 collection_actor plan e past j act b ran collects sound k may step = record {
   mine = λ r. (
     b,
     shows,
-    subst (λ (xs : List Act). IsCollecting plan (cells plan (e ∷ past)) xs (λ p. written_since j.number p (e ∷ past)) b) (sym grown)
-        (own_step plan act (cells plan past) (cells plan (e ∷ past)) (acts j.number past) (λ p. written_since j.number p past) (λ p. written_since j.number p (e ∷ past)) b k.collecting may step (undone r) never),
+    subst (λ (xs : List Act). IsCollecting plan (cells plan (e ∷ past)) xs (λ p. changed_since j.number p (e ∷ past)) b) (sym grown)
+        (own_step plan act (cells plan past) (cells plan (e ∷ past)) (acts j.number past) (λ p. changed_since j.number p past) (λ p. changed_since j.number p (e ∷ past)) b k.collecting may step (undone r) never),
     k.apart,
   );
   others = λ i a r other is. other (k.apart i (subst (λ (x : ℕ). Runs plan past i x) (erased a is).0 r));
   erasing = λ a is h. (running a (subst (λ (x : Act). IsStep plan x (cells plan past) (cells plan (e ∷ past))) is step) is h, shows ∙ ap Some (sym (erased a is).0));
   erases = λ a r not_erased h.
       let at : a ≡ b = k.same a r in
-      may_placed plan (cells plan past) (acts j.number past) (λ p. written_since j.number p past) b act may (λ x. not_erased (x ∙ ap does.Erase (sym at))) (subst (IsUnplaced (cells plan past)) at (sound.erasing a h).2);
+      may_placed plan (cells plan past) (acts j.number past) (λ p. changed_since j.number p past) b act may (λ x. not_erased (x ∙ ap does.Erase (sym at))) (subst (IsUnplaced (cells plan past)) at (sound.erasing a h).2);
 }
   where
     acted_own : act_of j.number (ran_by e.reply) ≡ Some act
@@ -171,13 +174,13 @@ collection_actor plan e past j act b ran collects sound k may step = record {
     shows = ap (shown_by plan past (victim_of plan j.number past)) acted_own ∙ act_shows plan past j b act k may
 
     erased : (a : ℕ) → act ≡ does.Erase a → (a ≡ b) × IsClosed plan (cells plan past) a × IsUnplaced (cells plan past) a
-    erased a is = may_erase plan (cells plan past) (acts j.number past) (λ p. written_since j.number p past) b act may a is
+    erased a is = may_erase plan (cells plan past) (acts j.number past) (λ p. changed_since j.number p past) b act may a is
 
-    own_written : (p : ℕ) (before : Bool) → written_by (Some (j.number, act)) j.number p before ≡ false
+    own_written : (p : ℕ) (before : Bool) → changed_by (Some (j.number, act)) j.number p before ≡ false
     own_written p before = rw (eq-eqb j.number j.number refl) refl
 
-    never : (p : ℕ) → written_since j.number p (e ∷ past) ≡ false
-    never p = ap (λ (c : Carried). written_by c j.number p (written_since j.number p past)) ran ∙ own_written p (written_since j.number p past)
+    never : (p : ℕ) → changed_since j.number p (e ∷ past) ≡ false
+    never p = ap (λ (c : Carried). changed_by c j.number p (changed_since j.number p past)) ran ∙ own_written p (changed_since j.number p past)
 
     undone : is_running plan (e ∷ past) j ≡ true → count_by is_erase (acts j.number past ++ act ∷ []) ≢ plan.shape.erase_slots
     undone r is =
@@ -207,15 +210,17 @@ collection_actor plan e past j act b ran collects sound k may step = record {
 
 -- Jobs
 
--- a read or a write
+-- a read, a write or a trim
 abbrev pub IsJobAct : Act → Type 0
 IsJobAct (does.Read page bytes) = Unit {0}
 IsJobAct (does.Write page bytes) = Unit {0}
+IsJobAct (does.Trim page) = Unit {0}
 IsJobAct _ = ⊥
 
 pub job_erases_not : (act : Act) → IsJobAct act → (a : ℕ) → act ≡ does.Erase a → ⊥
 job_erases_not (does.Read page bytes) h a e = absurd cc
 job_erases_not (does.Write page bytes) h a e = absurd cc
+job_erases_not (does.Trim page) h a e = absurd cc
 job_erases_not (does.CopyRead page) h a e = absurd h
 job_erases_not (does.CopyProgram page) h a e = absurd h
 job_erases_not (does.Erase x) h a e = absurd h
@@ -224,6 +229,7 @@ pub op_act : (plan : DiePlan) (past : Log) (o : Option Op) (act : Act) → act_o
 op_act plan past None act e = absurd cc
 op_act plan past (Some (asks.Read page)) act e = subst IsJobAct (same_Some _ act e) tt
 op_act plan past (Some (asks.Write page bytes)) act e = subst IsJobAct (same_Some _ act e) tt
+op_act plan past (Some (asks.Trim page)) act e = subst IsJobAct (same_Some _ act e) tt
 
 -- a job erases nothing
 pub job_actor : (plan : DiePlan) (e : Entry) (past : Log) (j : Job) (act : Act) → j.collects ≡ false → IsJobAct act → IsActor plan e past j act
@@ -239,6 +245,7 @@ job_actor plan e past j act is_job h = record {
 pub room_of : (plan : DiePlan) (past : Log) (act : Act) → FindsFree plan past act → HasRoom plan (cells plan past) act
 room_of plan past (does.Read page bytes) h = tt
 room_of plan past (does.Write page bytes) h = h
+room_of plan past (does.Trim page) h = tt
 room_of plan past (does.CopyRead page) h = tt
 room_of plan past (does.CopyProgram page) h = h
 room_of plan past (does.Erase b) h = tt
@@ -249,7 +256,7 @@ block_some plan c buffer (Some b) act e = (b, refl)
 
 -- a collection that has its turn has a block, and does what it may
 pub collection_may : (plan : DiePlan) (past : Log) (j : Job) (act : Act) → 0 < plan.shape.erase_slots → Collects plan past → Contains (jobs past) j → j.collects ≡ true → is_done plan past j ≡ false → act_for plan past j ≡ Some act
-    → (b : ℕ) × IsBegun plan past j b × MayDo plan (cells plan past) (acts j.number past) (λ p. written_since j.number p past) b act
+    → (b : ℕ) × IsBegun plan past j b × MayDo plan (cells plan past) (acts j.number past) (λ p. changed_since j.number p past) b act
 collection_may plan past j act more k stands collects undone e =
     let buffer : Option ℕ = buffer_after (last_or None (acts j.number past)) in
     let is : collect_act plan (cells plan past) buffer (block_for plan past j) ≡ Some act =
@@ -257,7 +264,7 @@ collection_may plan past j act more k stands collects undone e =
     let b = block_some plan (cells plan past) buffer (block_for plan past j) act is in
     let has = begun plan past j b.0 k stands collects undone b.1 in
     let at : collect_act plan (cells plan past) buffer (Some b.0) ≡ Some act = ap (collect_act plan (cells plan past) buffer) (sym b.1) ∙ is in
-    (b.0, has, next_may plan (cells plan past) (acts j.number past) (λ p. written_since j.number p past) b.0 act more k.sound has.collecting at)
+    (b.0, has, next_may plan (cells plan past) (acts j.number past) (λ p. changed_since j.number p past) b.0 act more k.sound has.collecting at)
 
 pub job_act : (plan : DiePlan) (past : Log) (j : Job) (act : Act) → j.collects ≡ false → act_for plan past j ≡ Some act → act_of_op plan past (slice_get j.ops (work j.number past)) ≡ Some act
 job_act plan past j act is_job e =
@@ -285,7 +292,7 @@ head_acted plan e past j act pages more ran same numbered stands undone is finds
     by_kind true kind =
         let m = collection_may plan past j act more k stands kind undone is in
         let erased : (a : ℕ) → act ≡ does.Erase a → (a ≡ m.0) × IsClosed plan (cells plan past) a × IsUnplaced (cells plan past) a =
-        λ a x. may_erase plan (cells plan past) (acts j.number past) (λ p. written_since j.number p past) m.0 act m.2 a x in
+        λ a x. may_erase plan (cells plan past) (acts j.number past) (λ p. changed_since j.number p past) m.0 act m.2 a x in
         let w : IsStep plan act (cells plan past) (cells plan (e ∷ past)) = step (λ a x. (erased a x).1) in
         acted plan e past j act ran same numbered stands k (step_sound plan act (cells plan past) (cells plan (e ∷ past)) more k.sound (λ a x. ((erased a x).1, (erased a x).2)) w) w
         (collection_actor plan e past j act m.0 ran kind k.sound m.1 m.2 w)

@@ -10,9 +10,10 @@ use Rattle.die_log.specs.Log.{Log, Job, Carried, jobs, act_of, acts}
 use Rattle.die_log.specs.Flash.{ran_by, Cells, cells, cells_after, Block, block_at}
 use Rattle.die_log.specs.Work.{are_all}
 use Rattle.die_log.specs.Answers.{is_running}
-use Rattle.die_log.specs.Legal.{written_since, written_by, is_write_of}
+use Rattle.die_log.specs.Legal.{changed_since, changed_by, is_change_of}
 use Rattle.die_log.specs.Sound.{AreSound, IsCollecting, IsStep, IsProgram}
 use Rattle.die_log.specs.Standing.{Runs, Collects}
+use Rattle.die_log.proofs.Cells.Acts.{trimmed_block}
 use Rattle.die_log.proofs.Cells.Collections.{keeps_collecting, other_step}
 use Rattle.die_log.proofs.Standing.Longer.{acts_stay, victim_stays, act_other}
 
@@ -53,8 +54,8 @@ pub collecting_as : (plan : DiePlan) (c : Cells) (own after : List Act) (fresh n
 collecting_as plan c own after fresh newer b e weaker k =
     subst (λ (xs : List Act). IsCollecting plan c xs newer b) (sym e) (keeps_collecting plan c c own fresh newer b k refl (λ p x. (x, weaker p)))
 
-written_none : (n p : ℕ) (r : Carried) (before : Bool) → r ≡ None → written_by r n p before ≡ before
-written_none n p r before e = ap (λ (c : Carried). written_by c n p before) e
+written_none : (n p : ℕ) (r : Carried) (before : Bool) → r ≡ None → changed_by r n p before ≡ before
+written_none n p r before e = ap (λ (c : Carried). changed_by c n p before) e
 
 no_act : (n : ℕ) (r : Carried) → r ≡ None → act_of n r ≡ None
 no_act n r e = ap (act_of n) e
@@ -68,9 +69,9 @@ quiet plan e past none later before k = record {
   sound = subst (AreSound plan) (sym same) k.sound;
   shown = λ j h r. let old = k.shown j (before j h r) (sym (running_stays plan e past j (no_act j.number _ none)) ∙ r) in (old.0, runs_later plan e past j old.0 (no_act j.number _ none) h old.1);
   collecting = λ j b r.
-      subst (λ (c : Cells). IsCollecting plan c (acts j.number (e ∷ past)) (λ p. written_since j.number p (e ∷ past)) b) (sym same)
-      (collecting_as plan (cells plan past) (acts j.number past) (acts j.number (e ∷ past)) (λ p. written_since j.number p past) (λ p. written_since j.number p (e ∷ past)) b
-      (acts_stay j.number e past (no_act j.number _ none)) (λ p w. sym (written_none j.number p _ (written_since j.number p past) none) ∙ w) (k.collecting j b (back j b r)));
+      subst (λ (c : Cells). IsCollecting plan c (acts j.number (e ∷ past)) (λ p. changed_since j.number p (e ∷ past)) b) (sym same)
+      (collecting_as plan (cells plan past) (acts j.number past) (acts j.number (e ∷ past)) (λ p. changed_since j.number p past) (λ p. changed_since j.number p (e ∷ past)) b
+      (acts_stay j.number e past (no_act j.number _ none)) (λ p w. sym (written_none j.number p _ (changed_since j.number p past) none) ∙ w) (k.collecting j b (back j b r)));
   different = λ i j b r s. k.different i j b (back i b r) (back j b s);
   owned = λ b h.
       let old = k.owned b (subst (λ (c : Cells). 0 < (block_at c b).erasing) same h) in
@@ -85,18 +86,18 @@ quiet plan e past none later before k = record {
 
 -- Others, behind an act
 
-written_other : (n m p : ℕ) (act : Act) (before : Bool) → n ≢ m → written_by (Some (n, act)) m p before ≡ (is_write_of p act || before)
+written_other : (n m p : ℕ) (act : Act) (before : Bool) → n ≢ m → changed_by (Some (n, act)) m p before ≡ (is_change_of p act || before)
 written_other n m p act before other = rw (ne_eqb n m other) refl
 
 -- another's act keeps who collects another block
 pub others_collect : (plan : DiePlan) (e : Entry) (past : Log) (n : ℕ) (act : Act) (d : Cells) (j : Job) (b : ℕ) → ran_by e.reply ≡ Some (n, act) → n ≢ j.number → (act ≡ does.Erase b → ⊥)
-    → IsStep plan act (cells plan past) d → IsCollecting plan (cells plan past) (acts j.number past) (λ p. written_since j.number p past) b
-    → IsCollecting plan d (acts j.number (e ∷ past)) (λ p. written_since j.number p (e ∷ past)) b
+    → IsStep plan act (cells plan past) d → IsCollecting plan (cells plan past) (acts j.number past) (λ p. changed_since j.number p past) b
+    → IsCollecting plan d (acts j.number (e ∷ past)) (λ p. changed_since j.number p (e ∷ past)) b
 others_collect plan e past n act d j b ran other not_erased step k =
-    collecting_as plan d (acts j.number past) (acts j.number (e ∷ past)) (λ p. is_write_of p act || written_since j.number p past) (λ p. written_since j.number p (e ∷ past)) b
+    collecting_as plan d (acts j.number past) (acts j.number (e ∷ past)) (λ p. is_change_of p act || changed_since j.number p past) (λ p. changed_since j.number p (e ∷ past)) b
     (acts_stay j.number e past (ap (act_of j.number) ran ∙ act_other n j.number act other))
-    (λ p w. sym (ap (λ (c : Carried). written_by c j.number p (written_since j.number p past)) ran ∙ written_other n j.number p act (written_since j.number p past) other) ∙ w)
-    (other_step plan act (cells plan past) d (acts j.number past) (λ p. written_since j.number p past) b k not_erased step)
+    (λ p w. sym (ap (λ (c : Carried). changed_by c j.number p (changed_since j.number p past)) ran ∙ written_other n j.number p act (changed_since j.number p past) other) ∙ w)
+    (other_step plan act (cells plan past) d (acts j.number past) (λ p. changed_since j.number p past) b k not_erased step)
 
 program_erasing : (plan : DiePlan) (page o : ℕ) (c d : Cells) (b : ℕ) → IsProgram plan page o c d → (b ≡ o) ⊎ (b ≡ o → ⊥) → (block_at d b).erasing ≡ (block_at c b).erasing
 program_erasing plan page o c d b w (inl e) = rw e w.erasing
@@ -106,6 +107,7 @@ program_erasing plan page o c d b w (inr other) = ap (λ (s : Block). s.erasing)
 pub erasing_kept : (plan : DiePlan) (act : Act) (c d : Cells) (b : ℕ) → (act ≡ does.Erase b → ⊥) → IsStep plan act c d → (block_at d b).erasing ≡ (block_at c b).erasing
 erasing_kept plan (does.Read page bytes) c d b not_erased step = ap (λ (x : Cells). (block_at x b).erasing) step
 erasing_kept plan (does.Write page bytes) c d b not_erased step = program_erasing plan page step.0 c d b step.1 (cases_eq b step.0)
+erasing_kept plan (does.Trim page) c d b not_erased step = ap (λ (s : Block). s.erasing) (trimmed_block page c d step b)
 erasing_kept plan (does.CopyRead page) c d b not_erased step = ap (λ (x : Cells). (block_at x b).erasing) step
 erasing_kept plan (does.CopyProgram page) c d b not_erased step = program_erasing plan page step.0 c d b step.1 (cases_eq b step.0)
 erasing_kept plan (does.Erase a) c d b not_erased step = ap (λ (s : Block). s.erasing) (step.others b (λ e. not_erased (ap does.Erase (sym e))))

@@ -115,6 +115,7 @@ settles : (plan : DiePlan) (past : Log) (ws : List Waived) (j : Job) (act : Act)
 settles plan past ws j act h kind all (inl k) a f = absurd (true≢false (sym kind ∙ k.job))
 settles plan past ws j (does.Read page bytes) h kind all (inr k) a f = absurd k.kind
 settles plan past ws j (does.Write page bytes) h kind all (inr k) a f = absurd k.kind
+settles plan past ws j (does.Trim page) h kind all (inr k) a f = absurd k.kind
 settles plan past ws j (does.CopyRead page) h kind all (inr k) a f = absurd (true≢false (sym all ∙ stays_pending plan past ws j (does.CopyRead page) h kind refl))
 settles plan past ws j (does.CopyProgram page) h kind all (inr k) a f = absurd (true≢false (sym all ∙ stays_pending plan past ws j (does.CopyProgram page) h kind refl))
 settles plan past ws j (does.Erase block) h kind all (inr k) a f =

@@ -15,7 +15,7 @@ use Rattle.die_log.specs.Work.{are_all, is_copy_program}
 use Rattle.die_log.specs.Accounts.{after_act, after_waiver, after_waivers}
 use Rattle.die_log.specs.Legal.{is_among}
 use Rattle.die_log.specs.Held.{Agree}
-use Rattle.die_log.proofs.Tokens.Amounts.{added, taken, added_at, at_itself, length_added}
+use Rattle.die_log.proofs.Tokens.Amounts.{added, taken, added_at, length_added}
 
 -- a task has as much in its balance, or more, and holds as much, or less
 pub record Rises (a b : Accounts) (task : ℕ) : Type 0 where
@@ -88,6 +88,7 @@ pub act_rises : (plan : DiePlan) (o : Option Job) (own : List Act) (act : Act) (
 act_rises plan None own act a t = stays a t
 act_rises plan (Some j) own (does.Read page bytes) a t = stays a t
 act_rises plan (Some j) own (does.Write page bytes) a t = record { balance = omega arith; hold = one_less a.holds j.task t }
+act_rises plan (Some j) own (does.Trim page) a t = stays a t
 act_rises plan (Some j) own (does.CopyRead page) a t = stays a t
 act_rises plan (Some j) own (does.CopyProgram page) a t = record { balance = omega arith; hold = omega arith }
 act_rises plan (Some j) own (does.Erase block) a t = settled_rises a j.task (count_by is_copy_program own) (are_all plan j (own ++ does.Erase block ∷ [])) t

@@ -17,7 +17,7 @@ use Rattle.die_log.proofs.Cells.Steps.{open_is}
 
 -- Places
 
-set_fewer : (xs : List (Option Place)) (page b : ℕ) (new : Option Place) → is_in b new ≡ false → count_by (is_in b) (set xs page new) ≤ count_by (is_in b) xs
+pub set_fewer : (xs : List (Option Place)) (page b : ℕ) (new : Option Place) → is_in b new ≡ false → count_by (is_in b) (set xs page new) ≤ count_by (is_in b) xs
 set_fewer xs page b new out = elim (cases_lt page (length xs)) [
   | inl h ↦ omega (arith, sum_by-set (λ x. one_if (is_in b x)) xs page new None h, ap one_if out)
   | inr past ↦ omega (arith, ap (λ (ys : List (Option Place)). count_by (is_in b) ys) (set_past xs page new past))

@@ -16,6 +16,7 @@ use Rattle.die_log.specs.Legal.{Does}
 abbrev pub IsOfCollection : Act → Type 0
 IsOfCollection (does.Read page bytes) = ⊥
 IsOfCollection (does.Write page bytes) = ⊥
+IsOfCollection (does.Trim page) = ⊥
 IsOfCollection _ = Unit {0}
 
 -- the act is the next operation of a job, or one of a collection
@@ -45,6 +46,7 @@ op_kind : (plan : DiePlan) (past : Log) (o : Option Op) (act : Act) → act_of_o
 op_kind plan past None act e = absurd cc
 op_kind plan past (Some (asks.Read page)) act e = (asks.Read page, refl, subst (Does (asks.Read page)) (same_Some (does.Read page (content plan past page)) act e) refl)
 op_kind plan past (Some (asks.Write page bytes)) act e = (asks.Write page bytes, refl, subst (Does (asks.Write page bytes)) (same_Some (does.Write page bytes) act e) (refl, refl))
+op_kind plan past (Some (asks.Trim page)) act e = (asks.Trim page, refl, subst (Does (asks.Trim page)) (same_Some (does.Trim page) act e) refl)
 
 job_act : (past : Log) (j : Job) (act : Act) → j.collects ≡ false → (op : Op) × (slice_get j.ops (work j.number past) ≡ Some op) × Does op act → IsJobAct past j act
 job_act past j act is k = record { job = is; op = k.0; next = k.1; done = k.2 }

@@ -30,7 +30,7 @@ use Rattle.die_log.proofs.Tokens.Changes.{pending_other}
 use Rattle.die_log.proofs.Tokens.Slots.{slot_waives, ran_acts, empty_if, IsTurn, was_pending}
 use Rattle.die_log.proofs.Tokens.Turns.{turn_log, turn_copy}
 use Rattle.die_log.proofs.Tokens.Begins.{fresh_finds, is_pending_if}
-use Rattle.die_log.proofs.Tokens.Copying.{program_elsewhere, program_away, copy_is, IsPlacedAt, placed_at, some_valid}
+use Rattle.die_log.proofs.Tokens.Copying.{set_fewer, program_elsewhere, program_away, copy_is, IsPlacedAt, placed_at, some_valid}
 
 -- The act of a collection
 
@@ -151,6 +151,7 @@ few_own : (plan : DiePlan) (past : Log) (caller slot : ℕ) (ws : List Waived) (
     → copied_of (λ n. acts n (turn_log past caller slot ws finished j act)) j + valid (cells plan (turn_log past caller slot ws finished j act)) b' ≤ reserve_full plan
 few_own plan past caller slot ws finished j (does.Read page bytes) b' h m is kind shows = absurd kind
 few_own plan past caller slot ws finished j (does.Write page bytes) b' h m is kind shows = absurd kind
+few_own plan past caller slot ws finished j (does.Trim page) b' h m is kind shows = absurd kind
 few_own plan past caller slot ws finished j (does.CopyRead page) b' h m is kind shows =
     omega (arith, copies_more plan past caller slot ws finished j (does.CopyRead page), still_few plan past ws j (does.CopyRead page) b' h m is shows)
 few_own plan past caller slot ws finished j (does.Erase block) b' h m is kind shows =
@@ -170,6 +171,7 @@ pub valid_less : (plan : DiePlan) (past : Log) (caller slot : ℕ) (ws : List Wa
     → valid (cells plan (turn_log past caller slot ws finished j act)) b ≤ valid (cells plan past) b
 valid_less plan past caller slot ws finished j (does.Read page bytes) b bound h closed = omega arith
 valid_less plan past caller slot ws finished j (does.Write page bytes) b bound h closed = program_elsewhere plan (cells plan past) page b (omega (arith, bound.shape.some_pages)) h.serve.sound closed
+valid_less plan past caller slot ws finished j (does.Trim page) b bound h closed = set_fewer (cells plan past).places page b None refl
 valid_less plan past caller slot ws finished j (does.CopyRead page) b bound h closed = omega arith
 valid_less plan past caller slot ws finished j (does.CopyProgram page) b bound h closed = program_elsewhere plan (cells plan past) page b (omega (arith, bound.shape.some_pages)) h.serve.sound closed
 valid_less plan past caller slot ws finished j (does.Erase block) b bound h closed = omega arith

@@ -126,6 +126,7 @@ turn_read plan past caller slot ws finished j page bytes h k = by_op k.op k.next
   where
     by_op : (op : Op) → slice_get j.ops (work j.number past) ≡ Some op → Does op (does.Read page bytes) → AreTrue plan (turn_log past caller slot ws finished j (does.Read page bytes))
     by_op (asks.Write p b) e d = absurd d
+    by_op (asks.Trim p) e d = absurd d
     by_op (asks.Read p) e d =
         let l = leaves_job plan past caller slot ws finished j (does.Read page bytes) (asks.Read p) h k.job e in
         let log : Log = turn_log past caller slot ws finished j (does.Read page bytes) in
@@ -140,6 +141,7 @@ turn_write plan past caller slot ws finished j page bytes bound h k = by_op k.op
   where
     by_op : (op : Op) → slice_get j.ops (work j.number past) ≡ Some op → Does op (does.Write page bytes) → AreTrue plan (turn_log past caller slot ws finished j (does.Write page bytes)) × (0 < free plan past)
     by_op (asks.Read p) e d = absurd d
+    by_op (asks.Trim p) e d = absurd d
     by_op (asks.Write p b) e d =
         let act : Act = does.Write page bytes in
         let l = leaves_job plan past caller slot ws finished j act (asks.Write p b) h k.job e in
@@ -153,6 +155,21 @@ turn_write plan past caller slot ws finished j page bytes bound h k = by_op k.op
               (λ t. refl) l.lent refl refl
               ),
           some,
+        )
+
+pub turn_trim : (plan : DiePlan) (past : Log) (caller slot : ℕ) (ws : List Waived) (finished : Option ℕ) (j : Job) (page : ℕ) → IsTurn plan past ws j (does.Trim page) → IsJobAct past j (does.Trim page)
+    → AreTrue plan (turn_log past caller slot ws finished j (does.Trim page))
+turn_trim plan past caller slot ws finished j page h k = by_op k.op k.next k.done
+  where
+    by_op : (op : Op) → slice_get j.ops (work j.number past) ≡ Some op → Does op (does.Trim page) → AreTrue plan (turn_log past caller slot ws finished j (does.Trim page))
+    by_op (asks.Read p) e d = absurd d
+    by_op (asks.Write p b) e d = absurd d
+    by_op (asks.Trim p) e d =
+        let l = leaves_job plan past caller slot ws finished j (does.Trim page) (asks.Trim p) h k.job e in
+        let log : Log = turn_log past caller slot ws finished j (does.Trim page) in
+        from_act plan past caller slot ws finished j (does.Trim page) h (
+        agree_same plan (after_waivers past ws (accounts plan past)) _ _ (held_of (λ n. acts n log) (jobs past)) (lent_to plan (λ n. acts n log) (is_waived log) (jobs past)) (owed past) (free plan past) (owed log) (free plan log)
+        (before_act plan past ws j (does.Trim page) h) (λ t. omega (arith, l.held t, at_none j.task t)) l.lent (omega (arith, l.owed_is)) refl
         )
 
 pub turn_copy_read : (plan : DiePlan) (past : Log) (caller slot : ℕ) (ws : List Waived) (finished : Option ℕ) (j : Job) (page : ℕ) → IsTurn plan past ws j (does.CopyRead page) → j.collects ≡ true
@@ -259,14 +276,17 @@ turn_erase plan past caller slot ws finished j b bound h is =
 no_job_copy_read : (op : Op) (page : ℕ) → Does op (does.CopyRead page) → ⊥
 no_job_copy_read (asks.Read p) page d = d
 no_job_copy_read (asks.Write p b) page d = d
+no_job_copy_read (asks.Trim p) page d = d
 
 pub no_job_copy : (op : Op) (page : ℕ) → Does op (does.CopyProgram page) → ⊥
 no_job_copy (asks.Read p) page d = d
 no_job_copy (asks.Write p b) page d = d
+no_job_copy (asks.Trim p) page d = d
 
 no_job_erase : (op : Op) (block : ℕ) → Does op (does.Erase block) → ⊥
 no_job_erase (asks.Read p) block d = d
 no_job_erase (asks.Write p b) block d = d
+no_job_erase (asks.Trim p) block d = d
 
 -- a slot in which the head does an act keeps the accounts true, and finds a free cell where it programs
 pub keeps_act : (plan : DiePlan) (past : Log) (caller slot : ℕ) (ws : List Waived) (finished : Option ℕ) (j : Job) (act : Act) → MeetsBound plan → IsTurn plan past ws j act → IsJobAct past j act ⊎ IsCollectionAct j act
@@ -275,6 +295,8 @@ keeps_act plan past caller slot ws finished j (does.Read page bytes) bound h (in
 keeps_act plan past caller slot ws finished j (does.Read page bytes) bound h (inr k) = absurd k.kind
 keeps_act plan past caller slot ws finished j (does.Write page bytes) bound h (inl k) = turn_write plan past caller slot ws finished j page bytes bound h k
 keeps_act plan past caller slot ws finished j (does.Write page bytes) bound h (inr k) = absurd k.kind
+keeps_act plan past caller slot ws finished j (does.Trim page) bound h (inl k) = (turn_trim plan past caller slot ws finished j page h k, tt)
+keeps_act plan past caller slot ws finished j (does.Trim page) bound h (inr k) = absurd k.kind
 keeps_act plan past caller slot ws finished j (does.CopyRead page) bound h (inl k) = absurd (no_job_copy_read k.op page k.done)
 keeps_act plan past caller slot ws finished j (does.CopyRead page) bound h (inr k) = (turn_copy_read plan past caller slot ws finished j page h k.collection, tt)
 keeps_act plan past caller slot ws finished j (does.CopyProgram page) bound h (inl k) = absurd (no_job_copy k.op page k.done)

@@ -11,7 +11,7 @@ use Rattle.die_log.specs.Flash.{cells, block_at, free}
 use Rattle.die_log.specs.Accounts.{accounts}
 use Rattle.die_log.specs.Work.{completion, victim_of}
 use Rattle.die_log.specs.Answers.{run, answer}
-use Rattle.die_log.specs.Legal.{written_since}
+use Rattle.die_log.specs.Legal.{changed_since}
 use Rattle.die_log.proofs.Worked.Plans.{tight, amounts, collect, slot}
 use Rattle.die_log.proofs.Worked.FillingHistory.{full}
 
@@ -54,9 +54,9 @@ unfolding answer
 is_late = refl
 
 -- no job wrote the page between its read and its program
-unwritten : written_since 11 2 (drop 4 collected) ≡ false
+unchanged : changed_since 11 2 (drop 4 collected) ≡ false
 unfolding answer
-unwritten = refl
+unchanged = refl
 
 -- two slots into its erase
 erasing : block_at (cells tight (drop 1 collected)) 1 ≡ record { filled = 4; erasing = 2; erases = 0 }

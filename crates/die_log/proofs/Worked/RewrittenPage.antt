@@ -8,7 +8,7 @@ use Rattle.die_log.specs.Flash.{free, content}
 use Rattle.die_log.specs.Accounts.{accounts}
 use Rattle.die_log.specs.Work.{completion}
 use Rattle.die_log.specs.Answers.{run, answer}
-use Rattle.die_log.specs.Legal.{written_since}
+use Rattle.die_log.specs.Legal.{changed_since}
 use Rattle.die_log.proofs.Worked.Plans.{tight, amounts, submit, collect, slot, bytes}
 use Rattle.die_log.proofs.Worked.FillingHistory.{one_less}
 
@@ -16,7 +16,7 @@ use Rattle.die_log.proofs.Worked.FillingHistory.{one_less}
 abbrev pub rewritten : Log
 rewritten = run tight one_less (collect 18 40 ∷ slot ∷ submit 19 25 (Write 2 (bytes 170) ∷ []) ∷ slot ∷ [])
 
-since : written_since 11 2 rewritten ≡ true
+since : changed_since 11 2 rewritten ≡ true
 unfolding answer
 since = refl
 

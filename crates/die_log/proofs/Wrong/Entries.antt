@@ -5,7 +5,7 @@ use Rattle.slot_types.specs.declared.plans.DiePlan.{DiePlan}
 use Rattle.slot_types.specs.declared.acts.Act.{Act}
 use Rattle.slot_types.specs.declared.acts.Act.TheVariants as does
 use Rattle.slot_types.specs.declared.events.Op.{Op}
-use Rattle.slot_types.specs.declared.events.Op.TheVariants.{Read, Write}
+use Rattle.slot_types.specs.declared.events.Op.TheVariants.{Read, Write, Trim}
 use Rattle.slot_types.specs.declared.events.Event.TheVariants.{Submit, Slot}
 use Rattle.slot_types.specs.declared.replies.Entry.{Entry}
 use Rattle.slot_types.specs.declared.replies.Reply.TheVariants as replies
@@ -42,19 +42,28 @@ waiver_of_job plan past now number given j is h =
 abbrev pub IsOfCollection : Act → Type 0
 IsOfCollection (does.Read page bytes) = ⊥
 IsOfCollection (does.Write page bytes) = ⊥
+IsOfCollection (does.Trim page) = ⊥
 IsOfCollection _ = Unit {0}
 
 not_done : (op : Op) (act : Act) → IsOfCollection act → Does op act → ⊥
 not_done (Read page) (does.Read p b) c h = c
 not_done (Read page) (does.Write p b) c h = h
+not_done (Read page) (does.Trim p) c h = h
 not_done (Read page) (does.CopyRead p) c h = h
 not_done (Read page) (does.CopyProgram p) c h = h
 not_done (Read page) (does.Erase b) c h = h
 not_done (Write page bytes) (does.Read p b) c h = h
 not_done (Write page bytes) (does.Write p b) c h = c
+not_done (Write page bytes) (does.Trim p) c h = h
 not_done (Write page bytes) (does.CopyRead p) c h = h
 not_done (Write page bytes) (does.CopyProgram p) c h = h
 not_done (Write page bytes) (does.Erase b) c h = h
+not_done (Trim page) (does.Read p b) c h = h
+not_done (Trim page) (does.Write p b) c h = h
+not_done (Trim page) (does.Trim p) c h = c
+not_done (Trim page) (does.CopyRead p) c h = h
+not_done (Trim page) (does.CopyProgram p) c h = h
+not_done (Trim page) (does.Erase b) c h = h
 
 no_operation : (op : Option Op) (act : Act) → IsOfCollection act → MatchOption op ⊥ (λ o. Does o act) → ⊥
 no_operation None act c h = h

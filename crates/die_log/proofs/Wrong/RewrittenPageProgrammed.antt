@@ -9,7 +9,7 @@ use Rattle.die_log.proofs.Wrong.Entries.{ran, next_of}
 
 refused : IsNextCollectAct tight rewritten 11 (does.CopyProgram 2) → ⊥
 unfolding answer
-refused h = cc (h.2.unwritten)
+refused h = cc (h.2.unchanged)
 
 not_legal : IsLegal tight (ran 20 11 (does.CopyProgram 2) ∷ rewritten) → ⊥
 not_legal h = refused (next_of tight rewritten 20 11 (does.CopyProgram 2) tt h)

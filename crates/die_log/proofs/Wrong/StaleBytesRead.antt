@@ -13,7 +13,7 @@ use Rattle.die_log.proofs.Wrong.Entries.{ran}
 abbrev rewritten : Log
 rewritten = run roomy [] (submit 0 2 (Write 3 (bytes 17) ∷ Write 3 (bytes 34) ∷ []) ∷ slot ∷ slot ∷ submit 2 4 (Read 3 ∷ []) ∷ [])
 
-abbrev first_byte : PageData → ℕ
+abbrev pub first_byte : PageData → ℕ
 first_byte page = slice_index page.0 0
 
 last_written : first_byte (content roomy rewritten 3) ≡ 34

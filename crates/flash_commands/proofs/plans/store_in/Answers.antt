@@ -1,8 +1,0 @@
-use Rattle.flash_commands.proofs.PlanFronts.{refused-front, store-front}
-use Rattle.flash_commands.proofs.plans.store_in.Goals as goal
-
-pub returns-clause-store : goal.returns-clause-store
-returns-clause-store g c = store-front (g.R.Read.remaining c.args.reader) c.in_ok-text.text.items c.read_plan.result c.in_ok-text.ensures.text (rw c.deref.ensures.value at c.read_plan.ensures.ok)
-
-pub returns-clause-refused : goal.returns-clause-refused
-returns-clause-refused g c = refused-front (g.R.Read.remaining c.args.reader) c.in_ok-text.text.items c.read_plan.result c.in_ok-text.ensures.text (rw c.deref.ensures.value at c.read_plan.ensures.err)

@@ -1,0 +1,5 @@
+use Rattle.slot_core.specs.Told.{log_of}
+use Rattle.slot_core.proofs.die_core.DieCore.fill_slot.Given as goal
+
+abbrev pub ghost-carry_out : goal.ghost-carry_out
+ghost-carry_out g a = log_of a.table.now a.events.now.notes

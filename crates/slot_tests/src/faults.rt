@@ -1,0 +1,189 @@
+//! The long history of a die whose device fails at one of its calls, beside the same history without a fault.
+
+use crate::asked::submit;
+use crate::certified::{has_none, holds};
+use crate::collections::{COPIES_AND_ERASES, HISTORY};
+use crate::dies::{TIGHT, plan_of};
+use crate::steps::Step;
+use flash_die::{FuseNand, MemoryNand, Nand};
+use slot_core::{DieCore, Worst};
+use slot_types::{Act, JobNo, Refusal, TaskNo, Waived};
+use std::alloc::Global;
+use std::test::Fail;
+
+/// What came of the die whose device fails.
+#[derive(Drop)]
+struct Beside {
+    /// How many of its calls were accepted.
+    accepted: u64,
+    stopped: bool,
+}
+
+/// What a slot was answered.
+#[derive(Clone, Copy, PartialEq, Eq, Drop)]
+struct Told {
+    slot: u32,
+    ran: Option<(JobNo, Act)>,
+    finished: Option<JobNo>,
+    waived: Option<Waived>,
+}
+
+/// Carries out the present slot.
+fn carry<N: Nand>(die: &mut DieCore<N>, alloc: Global) -> Result<Told, Refusal> {
+    match die.slot(alloc, 0) {
+        Ok(reply) => Ok(Told {
+            slot: reply.slot,
+            ran: reply.ran,
+            finished: reply.finished,
+            waived: reply.waived.get(0).copied(),
+        }),
+        Err(refusal) => Err(refusal),
+    }
+}
+
+/// Whether what stands of a stopped die is read off its log: its worst job is the one from before the fault.
+fn still_answers<N: Nand>(die: &DieCore<N>, alloc: Global, worst: Option<Worst>) -> bool {
+    match worst {
+        None => die.worst().is_none() & has_none(die, alloc),
+        Some(_) => (die.worst() == worst) & holds(die, alloc),
+    }
+}
+
+impl Beside {
+    /// Whether an arrival is answered as on the die without a fault, or as on a stopped one.
+    fn takes(&mut self, answer: Result<JobNo, Refusal>, want: Result<JobNo, Refusal>) -> bool {
+        if self.stopped {
+            return answer == Err(Refusal::DieStopped);
+        }
+        if answer.is_ok() {
+            self.accepted = self.accepted.saturating_add(1);
+        }
+        answer == want
+    }
+
+    /// Whether a slot is answered as on the die without a fault, or is the one in which the device failed, or comes behind
+    /// that.
+    fn carries<N: Nand, M: Nand>(
+        &mut self,
+        fused: &mut DieCore<N>,
+        whole: &mut DieCore<M>,
+        alloc: Global,
+    ) -> bool {
+        let worst = whole.worst();
+        let want = carry(whole, alloc);
+        let told = carry(fused, alloc);
+        if self.stopped {
+            return told == Err(Refusal::DieStopped);
+        }
+        if told == Err(Refusal::DeviceFault) {
+            self.stopped = true;
+            return want.is_ok() & still_answers(fused, alloc, worst);
+        }
+        self.accepted = self.accepted.saturating_add(1);
+        told.is_ok() & (told == want)
+    }
+
+    fn carries_all<N: Nand, M: Nand>(
+        &mut self,
+        fused: &mut DieCore<N>,
+        whole: &mut DieCore<M>,
+        alloc: Global,
+        slots: usize,
+    ) -> bool {
+        for _ in 0..slots {
+            if !self.carries(fused, whole, alloc) {
+                return false;
+            }
+        }
+        true
+    }
+
+    /// Whether what a step asks is answered so.
+    fn goes<N: Nand, M: Nand>(
+        &mut self,
+        fused: &mut DieCore<N>,
+        whole: &mut DieCore<M>,
+        alloc: Global,
+        step: &Step,
+    ) -> bool {
+        match step {
+            Step::Submit(release, due, ops, _) => self.takes(
+                submit(fused, alloc, 0, *release, *due, *ops),
+                submit(whole, alloc, 0, *release, *due, *ops),
+            ),
+            Step::Collect(release, due, _) => self.takes(
+                fused.collect(alloc, 0, TaskNo(0), *release, *due),
+                whole.collect(alloc, 0, TaskNo(0), *release, *due),
+            ),
+            Step::Carries(numbers) => self.carries_all(fused, whole, alloc, numbers.len()),
+            Step::Acts(_, acts) => self.carries_all(fused, whole, alloc, acts.len()),
+            Step::Waives(_, _) => self.carries_all(fused, whole, alloc, 1),
+            _ => true,
+        }
+    }
+
+    /// Whether what each of these steps asks is answered so.
+    fn goes_all<N: Nand, M: Nand>(
+        &mut self,
+        fused: &mut DieCore<N>,
+        whole: &mut DieCore<M>,
+        alloc: Global,
+        steps: &[Step],
+    ) -> bool {
+        for step in steps {
+            if !self.goes(fused, whole, alloc, step) {
+                return false;
+            }
+        }
+        true
+    }
+}
+
+/// Plays the history on a die whose device may fail, and on one whose device doesn't. Whether the first was stopped, if all
+/// went as it is to.
+fn play<N: Nand, M: Nand>(
+    fused: &mut DieCore<N>,
+    whole: &mut DieCore<M>,
+    alloc: Global,
+) -> Option<bool> {
+    let mut beside = Beside {
+        accepted: 0,
+        stopped: false,
+    };
+    let begins = beside.goes_all(fused, whole, alloc, HISTORY);
+    let ends = beside.goes_all(fused, whole, alloc, COPIES_AND_ERASES);
+    if begins & ends & (fused.len() == beside.accepted) {
+        Some(beside.stopped)
+    } else {
+        None
+    }
+}
+
+/// Plays the history on a die beside a new one without a fault.
+fn play_beside<N: Nand>(fused: &mut DieCore<N>, alloc: Global) -> Result<Option<bool>, Refusal> {
+    let device = MemoryNand::new(alloc, TIGHT)?;
+    let mut whole = DieCore::new(alloc, plan_of(alloc, TIGHT, 5)?, device)?;
+    Ok(play(fused, &mut whole, alloc))
+}
+
+/// Plays the history on a die whose device fails behind so many calls.
+fn play_fused(alloc: Global, calls: u64) -> Result<Option<bool>, Refusal> {
+    let device = FuseNand::new(MemoryNand::new(alloc, TIGHT)?, calls);
+    let mut fused = DieCore::new(alloc, plan_of(alloc, TIGHT, 5)?, device)?;
+    play_beside(&mut fused, alloc)
+}
+
+/// The history makes nineteen calls of the device. At whichever it fails, one slot tells the fault and all later calls find
+/// the die stopped; up to there each call is answered as without a fault, and the log keeps just those.
+#[test]
+fn each_call_of_the_device_fails_in_turn(rt: HostRuntime) -> Result<(), Fail> {
+    for calls in 0..19u64 {
+        assert_eq!(rt;
+            play_fused(rt.alloc(), calls)?,
+            Some(true),
+            "fails behind {calls} calls"
+        );
+    }
+    assert_eq!(rt; play_fused(rt.alloc(), 19)?, Some(false));
+    Ok(())
+}

@@ -1,0 +1,133 @@
+//! A die in memory that runs the rows of a script, and what is noted of it.
+
+ghost use Rattle.std.specs.Prelude.{◌≡◌, ◌+◌, ◌≤◌, [], IfOk, IfErr, OnOk};
+ghost use Rattle.plan_rules.specs.Bound.{MeetsBound};
+ghost use Rattle.die_log.specs.Log.{now};
+ghost use Rattle.die_wear.specs.Wear.{IsWearOf};
+
+use die_pictures::{Waiver, Whose, Window};
+use die_wear::Tally;
+use flash_die::MemoryNand;
+use slot_core::DieCore;
+use slot_types::{DiePlan, Event, JobNo, Refusal, SlotReply};
+use std::alloc::Global;
+
+/// A die in memory, what its slots wore, and what was done in a window of them.
+#[derive(Drop)]
+pub struct DieRun {
+    /// Its number in the store.
+    pub die: u32,
+    pub core: DieCore<MemoryNand>,
+    pub tally: Tally,
+    pub window: Window,
+    ghost worn: { IsWearOf core.plan.shape.blocks core.log tally },
+}
+
+/// A job or a collection of a die.
+pub fn whose(core: &DieCore<MemoryNand>, job: JobNo) -> Whose {
+    match core.job(job) {
+        Ok(head) => Whose {
+            job: job.0,
+            collects: head.collects,
+            task: head.task.0,
+        },
+        Err(_) => Whose {
+            job: job.0,
+            collects: false,
+            task: 0,
+        },
+    }
+}
+
+/// Notes in a window what was done in a slot. The only refusal is NoMemory.
+fn note(window: &mut Window, core: &DieCore<MemoryNand>, reply: &SlotReply) -> Result<(), Refusal>
+    ensures { IfErr result (λ refusal. refusal ≡ Refusal.NoMemory) }
+{
+    if !window.has(reply.slot) {
+        return Ok(());
+    }
+    for waived in reply.waived.as_slice() {
+        window.note_waived(Waiver {
+            slot: reply.slot,
+            whose: whose(core, waived.number),
+            given: waived.given,
+        })?;
+    }
+    match reply.ran {
+        Some((job, _)) => window.note_carried(reply, whose(core, job)),
+        None => Ok(()),
+    }
+}
+
+impl DieRun {
+    /// A fresh die of a plan, of which a window is looked at. The only refusal is NoMemory.
+    pub fn new(alloc: Global, die: u32, plan: DiePlan, window: Window) -> Result<DieRun, Refusal>
+        requires { MeetsBound plan }
+        ensures plan { IfOk result (λ run. run.core.plan ≡ plan) }
+        ensures log { IfOk result (λ run. run.core.log ≡ []) }
+        ensures die { IfOk result (λ run. run.die ≡ die) }
+        ensures refused { IfErr result (λ refusal. refusal ≡ Refusal.NoMemory) }
+    {
+        let tally = Tally::new(alloc, plan.shape.blocks)?;
+        let nand = match MemoryNand::new(alloc, plan.shape) {
+            Ok(nand) => nand,
+            Err(_) => return Err(Refusal::NoMemory),
+        };
+        match DieCore::new(alloc, plan, nand) {
+            Ok(core) => Ok(DieRun {
+                die,
+                core,
+                tally,
+                window,
+            }),
+            Err(_) => Err(Refusal::NoMemory),
+        }
+    }
+
+    /// Carries out the present slot.
+    fn step(&mut self, alloc: Global) -> Result<(), Refusal>
+        ensures plan { self.new.core.plan ≡ self.old.core.plan }
+        ensures die { self.new.die ≡ self.old.die }
+        ensures slot { OnOk result (now self.new.core.log ≡ now self.old.core.log + 1) }
+    {
+        let reply = self.core.slot(alloc, 0)?;
+        // So many slots fit a number.
+        let _ = self.core.now();
+        self.tally.note(&reply);
+        note(&mut self.window, &self.core, &reply)
+    }
+
+    /// Carries out slots until this one is the present one. The only refusal is NoMemory.
+    pub fn carry_to(&mut self, alloc: Global, slot: u32) -> Result<(), Refusal>
+        ensures plan { self.new.core.plan ≡ self.old.core.plan }
+        ensures die { self.new.die ≡ self.old.die }
+        ensures slot { OnOk result (now self.old.core.log ≤ slot → now self.new.core.log ≡ slot) }
+    {
+        for _present in self.core.now()..slot {
+            self.step(alloc)?;
+        }
+        Ok(())
+    }
+
+    /// Asks for what a row says, and answers why it was refused, if it was.
+    pub fn ask(&mut self, alloc: Global, event: Event) -> Option<Refusal>
+        ensures plan { self.new.core.plan ≡ self.old.core.plan }
+        ensures die { self.new.die ≡ self.old.die }
+        ensures slot { now self.new.core.log ≡ now self.old.core.log }
+    {
+        let taken = match event {
+            Event::Submit {
+                task,
+                release,
+                due,
+                ops,
+            } => self.core.submit(alloc, 0, task, release, due, ops),
+            Event::Collect { task, release, due } => {
+                self.core.collect(alloc, 0, task, release, due)
+            }
+            // No row asks for a slot.
+            Event::Slot => return None,
+        };
+        taken.err()
+    }
+}

@@ -1,0 +1,95 @@
+//! Scripts that are run, row by row, on dies in memory.
+
+ghost use Rattle.std.specs.Prelude.{◌≡◌, ◌≤◌, All, length, IfOk, IfErr, OnOk};
+ghost use Rattle.plan_rules.specs.Bound.{MeetsBound};
+
+use crate::die_runs::DieRun;
+use crate::refused::RefusedRows;
+use die_pictures::Window;
+use die_wear::{Tally, wear_text};
+use slot_types::{MAX_SLOT, Refusal, StorePlan};
+use std::alloc::Global;
+use std::io::Read;
+use task_texts::ScriptReader;
+
+/// What is told of a run, as a text, and which rows were refused.
+#[derive(Drop)]
+pub struct Told {
+    pub text: Vec<u8>,
+    pub refused: RefusedRows,
+}
+
+/// A fresh die for each plan.
+fn fresh_dies(alloc: Global, plan: StorePlan) -> Result<Vec<DieRun>, Refusal>
+    requires { All MeetsBound plan }
+{
+    let mut dies = Vec::new(alloc);
+    let mut die: u32 = 0;
+    for plan in plan.into_vec() {
+        let run = DieRun::new(alloc, die, plan, Window::new(alloc, 0, 0))?;
+        match dies.push(run) {
+            Ok(()) => {}
+            Err(_) => return Err(Refusal::NoMemory),
+        }
+        die = die.saturating_add(1);
+    }
+    Ok(dies)
+}
+
+/// Runs the rows of a script on these dies, and then so many slots. Rows of other dies are passed over.
+pub fn run_rows<R: Read + Drop>(
+    alloc: Global,
+    mut script: ScriptReader<R>,
+    dies: &mut Vec<DieRun>,
+    slots: u32,
+) -> Result<RefusedRows, Refusal> {
+    let mut refused = RefusedRows::NONE;
+    for _ in 0..u64::MAX {
+        let Some(item) = script.next()? else {
+            break;
+        };
+        let (die, at) = (item.die, item.at);
+        let Some(place) = dies.iter().position(|run| run.die == die) else {
+            continue;
+        };
+        dies[place].carry_to(alloc, at)?;
+        if let Some(refusal) = dies[place].ask(alloc, item.event) {
+            refused.add(item.line, refusal);
+        }
+    }
+    for place in 0..dies.len() {
+        dies[place].carry_to(alloc, slots)?;
+    }
+    Ok(refused)
+}
+
+/// What dies wore.
+fn tallies_of(alloc: Global, dies: Vec<DieRun>) -> Result<Vec<Tally>, Refusal> {
+    let mut tallies = Vec::new(alloc);
+    for run in dies {
+        let DieRun { tally, .. } = run;
+        match tallies.push(tally) {
+            Ok(()) => {}
+            Err(_) => return Err(Refusal::NoMemory),
+        }
+    }
+    Ok(tallies)
+}
+
+/// Runs a script on a store of dies in memory, and tells what it wore.
+pub fn wear<R: Read + Drop>(
+    alloc: Global,
+    plan: StorePlan,
+    script: R,
+    slots: u32,
+) -> Result<Told, Refusal>
+    requires few { slots ≤ MAX_SLOT }
+    requires bound { All MeetsBound plan }
+{
+    let script = ScriptReader::new(alloc, script, &plan, slots)?;
+    let mut dies = fresh_dies(alloc, plan)?;
+    let refused = run_rows(alloc, script, &mut dies, slots)?;
+    let tallies = tallies_of(alloc, dies)?;
+    let text = wear_text(alloc, &tallies)?;
+    Ok(Told { text, refused })
+}
