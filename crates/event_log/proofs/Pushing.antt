@@ -6,12 +6,13 @@ use Rattle.std.proofs.lemmas.List.{reverse-append, length-reverse}
 use Rattle.std.proofs.lemmas.List.Elements.{filter_map-append}
 use Rattle.slot_types.specs.declared.replies.Waived.{Waived}
 use Rattle.event_log.specs.declared.deeds.Deed.{Deed}
+use Rattle.event_log.specs.declared.deeds.Deed.TheVariants.{Submit, Collect, Idle, Operation, LastOperation, CopyRead, CopyProgram, EraseSlot, LastEraseSlot}
 use Rattle.event_log.specs.declared.waivers.Waiver.{Waiver}
 use Rattle.event_log.specs.Spread.{last_of}
 use Rattle.event_log.specs.Waivers.{waiver_of}
 use Rattle.event_log.specs.Waivers.{waived_in, waived_at}
 use Rattle.event_log.specs.Notes.{Note, is_none, notes_of, waives_newest}
-use Rattle.event_log.specs.Stretches.{alike_deeds, goes_on, new_stretches, stretches, is_some_number}
+use Rattle.event_log.specs.Stretches.{is_idle, alike_deeds, goes_on, new_stretches, stretches, is_some_number}
 use Rattle.event_log.specs.Kept.{AreBefore, notes_in}
 
 -- The waivers of an event
@@ -182,3 +183,68 @@ same_some (Some n) number e = ap Some (sym (grind (arith, nat_tests)))
 pub second_of : (a b : Bool) → (a && b) ≡ true → b ≡ true
 second_of true b e = e
 second_of false b e = absurd (cc)
+
+-- An idle slot that goes on with the newest stretch
+
+all_four : (a b c d : Bool) → (a && b && c && d) ≡ true → (a ≡ true) × (b ≡ true) × (c ≡ true) × (d ≡ true)
+all_four true true true true h = (refl, refl, refl, refl)
+all_four false b c d h = absurd (cc)
+all_four true false c d h = absurd (cc)
+all_four true true false d h = absurd (cc)
+all_four true true true false h = absurd (cc)
+
+idle_is : (d : Deed) → is_idle d ≡ true → d ≡ Idle
+idle_is Idle h = refl
+idle_is (Submit n) h = absurd (cc)
+idle_is (Collect n) h = absurd (cc)
+idle_is (Operation n p) h = absurd (cc)
+idle_is (LastOperation n p) h = absurd (cc)
+idle_is (CopyRead n p) h = absurd (cc)
+idle_is (CopyProgram n p) h = absurd (cc)
+idle_is (EraseSlot n b) h = absurd (cc)
+idle_is (LastEraseSlot n b) h = absurd (cc)
+
+nothing_is : {T : Type 0} (xs : List T) → is_none xs ≡ true → xs ≡ []
+nothing_is [] h = refl
+nothing_is (x ∷ xs) h = absurd (cc)
+
+the_number : (m n : ℕ) → (m == n) ≡ true → m ≡ n
+the_number m n h = grind (arith, nat_tests)
+
+-- the newest event was an idle slot of the same caller, and neither waives a collection
+pub record GoesOnIdle (deeds : List Deed) (callers : List ℕ) (waivers : List Waiver) (caller : ℕ) (waived : List Waived) : Type 0 where
+  pub deed : last_of deeds ≡ Some Idle
+  pub same : last_of callers ≡ Some caller
+  pub none : waived ≡ []
+  pub quiet : waives_newest (notes_in deeds callers waivers) ≡ false
+
+goes_on_by_last : (deeds : List Deed) (callers : List ℕ) (waivers : List Waiver) (c : ℕ) (ws : List Waived) (last : Option Deed)
+    → last_of deeds ≡ last → length callers ≡ length deeds
+    → goes_on (record { caller = c; deed = Idle; waived = ws }) (notes_in deeds callers waivers) ≡ true → GoesOnIdle deeds callers waivers c ws
+goes_on_by_last deeds callers waivers c ws None last n on =
+    let no : goes_on (record { caller = c; deed = Idle; waived = ws }) (notes_in deeds callers waivers) ≡ false =
+    goes_on_first deeds callers waivers (record { caller = c; deed = Idle; waived = ws }) last in
+    absurd (cc)
+goes_on_by_last deeds callers waivers c ws (Some d) last n on =
+    let who = last_with deeds callers d n last in
+    let ds = last_split deeds d last in
+    let cs = last_split callers who.0 who.1 in
+    let shown = newest_shown deeds ds.0 callers cs.0 waivers who.0 d ds.1 cs.1 in
+    let parts = all_four (c == who.0) (is_none ws) (is_none (waived_at (length (reverse ds.0)) waivers)) (is_idle d) (rw shown at on) in
+    record {
+      deed = last ∙ ap Some (idle_is d parts.3);
+      same = who.1 ∙ ap Some (sym (the_number c who.0 parts.0));
+      none = nothing_is ws parts.1;
+      quiet = rw shown (ap not parts.2);
+    }
+
+pub idle_goes_on : (deeds : List Deed) (callers : List ℕ) (waivers : List Waiver) (c : ℕ) (ws : List Waived) → length callers ≡ length deeds
+    → goes_on (record { caller = c; deed = Idle; waived = ws }) (notes_in deeds callers waivers) ≡ true → GoesOnIdle deeds callers waivers c ws
+idle_goes_on deeds callers waivers c ws n on = goes_on_by_last deeds callers waivers c ws (last_of deeds) refl n on
+
+-- one more idle slot
+pub idle_push : (deeds : List Deed) (callers : List ℕ) (n : ℕ) (waivers : List Waiver) (c : ℕ) → n ≡ length deeds → AreBefore n waivers
+    → notes_in (deeds ++ Idle ∷ []) (callers ++ c ∷ []) waivers ≡ record { caller = c; deed = Idle; waived = [] } ∷ notes_in deeds callers waivers
+idle_push deeds callers n waivers c e b =
+    ap (λ (ws : List Waiver). notes_in (deeds ++ Idle ∷ []) (callers ++ c ∷ []) ws) (sym (append-nil waivers))
+    ∙ notes_push deeds callers n waivers c Idle [] e b

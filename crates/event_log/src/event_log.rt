@@ -84,7 +84,7 @@ impl EventLog {
 
     /// What the slots carried, by slot. It walks the runs of equal deeds once. The only refusal is `NoMemory`.
     pub fn carried(&self, alloc: Global) -> Result<Carried, Refusal>
-        ensures ok { IfOk result (λ carried. carried.slots ≡ carried_in self.now.notes) }
+        ensures ok { IfOk result (λ carried. carried ≡ carried_in self.now.notes) }
         ensures refused { IfErr result (λ refusal. refusal ≡ Refusal.NoMemory) }
     {
         carried_by(alloc, self.deeds.as_slice())
@@ -150,6 +150,25 @@ impl EventLog {
         self.room -= 1;
         self.waiver_room -= waived.len();
         self.waives = !waived.is_empty();
+    }
+
+    /// As `push_reserved` of an idle slot, and quicker where that goes on with the newest stretch.
+    pub fn push_idle(&mut self, caller: u32, waived: &[Waived])
+        requires room { 0 < self.old.room }
+        requires waiver_room { length waived.now ≤ self.old.waiver_room }
+        requires few { length self.old.notes + 1 < 2 ^ 32 }
+        ensures events { self.new.notes ≡ record { caller = caller; deed = Deed.Idle; waived = waived.now } ∷ self.old.notes }
+        ensures room { self.old.room ≡ self.new.room + 1 }
+        ensures waiver_room { self.old.waiver_room ≡ self.new.waiver_room + length waived.now }
+    {
+        if self.goes_on(caller, &Deed::Idle, waived) {
+            self.deeds.push_reserved(Deed::Idle, true);
+            self.callers.push_reserved(caller, true);
+            self.len += 1;
+            self.room -= 1;
+        } else {
+            self.push_reserved(caller, Deed::Idle, waived);
+        }
     }
 }
 

@@ -99,7 +99,7 @@ fn carry_out<N: Nand>(
     ensures room_stays { OnErr result (events.new.room ≡ events.old.room) }
 {
     let Some(number) = choose(volume, table, &mut reply.waived, present) else {
-        events.push_reserved(caller, Deed::Idle, reply.waived.as_slice());
+        events.push_idle(caller, reply.waived.as_slice());
         return Ok(());
     };
     let place = work_of(table, number);

@@ -1,0 +1,97 @@
+use Rattle.std.proofs.Common.{◌≡◌, ◌+◌, ◌∷◌, [], ap, sym, ◌∙◌, length, arith, length-append}
+use Rattle.event_log.specs.declared.deeds.Deed.TheVariants.{Idle}
+use Rattle.event_log.specs.Notes.{Events}
+use Rattle.event_log.specs.Kept.{notes_in}
+use Rattle.event_log.proofs.Pushing.{GoesOnIdle, idle_goes_on, idle_push, stretches_push, length_of, before_later}
+use Rattle.event_log.proofs.event_log.EventLog.push_idle.Goals as goal
+
+pub push_reserved-requires-clause-few : goal.push_reserved-requires-clause-few
+push_reserved-requires-clause-few c =
+    omega (
+      arith,
+      c.requires.few,
+      ap (λ (e : Events). length e.notes) c.self.view_is,
+      length_of c.self.inside.deeds.items
+          c.self.inside.callers.items c.self.inside.waivers.items c.self.invariant.0.callers_are,
+    )
+
+pub push_reserved-requires-clause-like : goal.push_reserved-requires-clause-like
+push_reserved-requires-clause-like c =
+    λ _. (idle_goes_on c.self.inside.deeds.items c.self.inside.callers.items c.self.inside.waivers.items c.args.caller c.args.waived.now
+    c.self.invariant.0.callers_are (rw (← c.self.view_is) at (sym c.goes_on.ensures ∙ c.if-goes_on.true))).deed
+
+pub push_reserved-requires-then-goes_on-clause-few : goal.push_reserved-requires-then-goes_on-clause-few
+push_reserved-requires-then-goes_on-clause-few c =
+    omega (
+      arith,
+      c.requires.few,
+      c.self.invariant.0.callers_are,
+      ap (λ (e : Events). length e.notes) c.self.view_is,
+      length_of c.self.inside.deeds.items
+          c.self.inside.callers.items c.self.inside.waivers.items c.self.invariant.0.callers_are,
+    )
+
+pub push_reserved-requires-then-goes_on-clause-like : goal.push_reserved-requires-then-goes_on-clause-like
+push_reserved-requires-then-goes_on-clause-like c =
+    λ _. (idle_goes_on c.self.inside.deeds.items c.self.inside.callers.items c.self.inside.waivers.items c.args.caller c.args.waived.now
+    c.self.invariant.0.callers_are (rw (← c.self.view_is) at (sym c.goes_on.ensures ∙ c.if-goes_on.true))).same
+
+pub overflow_add-self : goal.overflow_add-self
+overflow_add-self c =
+    omega (
+      arith,
+      c.requires.few,
+      c.self.invariant.0.len_is,
+      ap (λ (e : Events). length e.notes) c.self.view_is,
+      length_of c.self.inside.deeds.items
+          c.self.inside.callers.items c.self.inside.waivers.items c.self.invariant.0.callers_are,
+    )
+
+pub invariant_of-self : goal.invariant_of-self
+invariant_of-self c =
+    let on = rw (← c.self.view_is) at (sym c.goes_on.ensures ∙ c.if-goes_on.true) in
+    let newest = idle_goes_on c.self.inside.deeds.items c.self.inside.callers.items c.self.inside.waivers.items c.args.caller
+    c.args.waived.now c.self.invariant.0.callers_are on in
+    let pushed = idle_push c.self.inside.deeds.items c.self.inside.callers.items c.self.inside.len c.self.inside.waivers.items
+    c.args.caller c.self.invariant.0.len_is c.self.invariant.0.before in (
+      record {
+        len_is = rw (c.push_reserved.ensures.items) (omega (
+          arith,
+          c.self.invariant.0.len_is,
+          length-append c.self.inside.deeds.items (Idle ∷ []),
+        ));
+        callers_are = rw (c.push_reserved.ensures.items, c.push_reserved-then-goes_on.ensures.items)
+            (omega (
+              arith,
+              length-append c.self.inside.deeds.items (Idle ∷ []),
+              length-append c.self.inside.callers.items
+                  (c.args.caller ∷ []),
+              c.self.invariant.0.callers_are,
+            ));
+        before = before_later c.self.inside.len (c.self.inside.len + 1) c.self.inside.waivers.items (omega arith) c.self.invariant.0.before;
+        count_is = rw (
+          c.push_reserved.ensures.items,
+          c.push_reserved-then-goes_on.ensures.items,
+          pushed,
+          stretches_push (record { caller = c.args.caller; deed = Idle; waived = [] })
+              (notes_in c.self.inside.deeds.items c.self.inside.callers.items c.self.inside.waivers.items),
+          (rw newest.none at on),
+        ) (omega (arith, c.self.invariant.0.count_is));
+        waives_is = rw (c.push_reserved.ensures.items, c.push_reserved-then-goes_on.ensures.items, pushed)
+            (c.self.invariant.0.waives_is ∙ newest.quiet);
+      },
+      record {
+        deeds = omega (arith, c.self.invariant.1.deeds, c.push_reserved.ensures.room);
+        callers = omega (arith, c.self.invariant.1.callers, c.push_reserved-then-goes_on.ensures.room);
+        waivers_fit = c.self.invariant.1.waivers_fit;
+      },
+    )
+
+pub returns-then-goes_on-clause-events : goal.returns-then-goes_on-clause-events
+returns-then-goes_on-clause-events c =
+    let on = rw (← c.self.view_is) at (sym c.goes_on.ensures ∙ c.if-goes_on.true) in
+    let newest = idle_goes_on c.self.inside.deeds.items c.self.inside.callers.items c.self.inside.waivers.items c.args.caller
+    c.args.waived.now c.self.invariant.0.callers_are on in
+    rw (c.push_reserved.ensures.items, c.push_reserved-then-goes_on.ensures.items, newest.none, ← c.self.view_is)
+    (idle_push c.self.inside.deeds.items c.self.inside.callers.items c.self.inside.len c.self.inside.waivers.items
+    c.args.caller c.self.invariant.0.len_is c.self.invariant.0.before)
