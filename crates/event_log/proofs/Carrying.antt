@@ -7,7 +7,6 @@ use Rattle.std.proofs.lemmas.List.{reverse-append, reverse-reverse, length-rever
 use Rattle.std.proofs.lemmas.List.Elements.{filter_map-append}
 use Rattle.slot_types.specs.declared.refusals.Refusal.{Refusal}
 use Rattle.late_cert.specs.Schedule.{Slots}
-use Rattle.late_cert.specs.Carried.{CarriedSlots}
 use Rattle.event_log.specs.declared.deeds.Deed.{Deed}
 use Rattle.event_log.specs.declared.runs.Run.{Run}
 use Rattle.event_log.specs.declared.waivers.Waiver.{Waiver}
@@ -89,7 +88,7 @@ pub slots_whole : (rs : List (Run Deed)) (i : ℕ) (slots : Slots) → length rs
     → slots ≡ filter_map slot_by (spread rs)
 slots_whole rs i slots h is = is ∙ ap (λ (qs : List (Run Deed)). filter_map slot_by (spread qs)) (take_all i rs h)
 
-pub ok_as : (r : Result CarriedSlots Refusal) (xs ys : Slots) → xs ≡ ys → IfOk r (λ carried. carried.slots ≡ xs) → IfOk r
-    (λ carried. carried.slots ≡ ys)
+pub ok_as : (r : Result Slots Refusal) (xs ys : Slots) → xs ≡ ys → IfOk r (λ carried. carried ≡ xs) → IfOk r
+    (λ carried. carried ≡ ys)
 ok_as (Ok carried) xs ys e is = is ∙ e
 ok_as (Err refusal) xs ys e is = tt

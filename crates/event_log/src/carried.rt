@@ -13,7 +13,7 @@ use std::alloc::Global;
 
 /// What the slots of these runs of deeds carried, the oldest first. The only refusal is `NoMemory`.
 pub(crate) fn carried_by(alloc: Global, runs: &[Run<Deed>]) -> Result<Carried, Refusal>
-    ensures ok { IfOk result (λ carried. carried.slots ≡ filter_map slot_by (spread runs.now)) }
+    ensures ok { IfOk result (λ carried. carried ≡ filter_map slot_by (spread runs.now)) }
     ensures refused { IfErr result (λ refusal. refusal ≡ Refusal.NoMemory) }
 {
     let mut carried = Carried::new(alloc);

@@ -1,14 +1,12 @@
 -- The marks of the rows that a stretch carries.
-use Rattle.std.proofs.Common.{◌≡◌, ◌≢◌, ℕ, zero, suc, ◌+◌, ◌<◌, ◌≤◌, Bool, true, false, cond, eqb, ◌||◌, List, [], ◌∷◌, length, map, Option, Some, None, get_or, set, filter, take, ◌++◌, append-nil, replicate, arith, refl, sym, ap, ◌∙◌, inl, inr, eq-eqb, ne_eqb, add-one, le-leb, get_or-set_same, get_or-set_other, length-set}
-use Rattle.std.proofs.lemmas.Bool.{true≢false, cases_Bool, cases_order, lt-leb}
-use Rattle.std.proofs.lemmas.Option.{none-some}
+use Rattle.std.proofs.Common.{◌≡◌, ℕ, zero, suc, ◌+◌, ◌<◌, ◌≤◌, Bool, true, false, cond, List, [], ◌∷◌, length, map, None, get_or, filter, take, ◌++◌, append-nil, replicate, arith, refl, sym, ap, ◌∙◌}
+use Rattle.std.proofs.lemmas.Bool.{lt-leb}
 use Rattle.std.proofs.lemmas.List.Elements.{filter_more}
 use Rattle.late_cert.specs.declared.rows.JobRow.{JobRow}
-use Rattle.late_cert.specs.Schedule.{Slots, slot_at, is_named}
-use Rattle.late_cert.specs.Rows.{RowsRise, IsNamedAt, row_of}
+use Rattle.late_cert.specs.Schedule.{Slots}
 use Rattle.late_cert.specs.Stretch.{is_carried}
 use Rattle.late_cert.specs.Build.{AreMarks}
-use Rattle.late_cert.proofs.RowSearch.{rows-rise-lt, map-length, map-get}
+use Rattle.late_cert.proofs.RowSearch.{map-length, map-get}
 
 pub carried-none : (c : Slots) (s n k : ℕ) → n ≤ s → is_carried c s n k ≡ false
 carried-none c s zero k h = refl

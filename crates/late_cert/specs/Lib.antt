@@ -1,4 +1,3 @@
-pub mod Carried
 pub mod Rows
 pub mod Schedule
 pub mod Runs

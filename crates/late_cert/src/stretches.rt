@@ -30,9 +30,9 @@ pub fn build(
     job: JobNo,
 ) -> Result<Option<Certificate>, Refusal>
     requires { RowsRise rows.now }
-    ensures built { IfOk result (λ built. built ≡ certificate_of rows.now carried.now.slots job) }
-    ensures own { IfOk result (λ built. IfSome built (IsOwn rows.now carried.now.slots job)) }
-    ensures none { IfOk result (λ built. IfNone built ((c : Certificate) → IsOwn rows.now carried.now.slots job c → ⊥)) }
+    ensures built { IfOk result (λ built. built ≡ certificate_of rows.now carried.now job) }
+    ensures own { IfOk result (λ built. IfSome built (IsOwn rows.now carried.now job)) }
+    ensures none { IfOk result (λ built. IfNone built ((c : Certificate) → IsOwn rows.now carried.now job c → ⊥)) }
     ensures refused { IfErr result (λ refusal. refusal ≡ Refusal.NoMemory) }
 {
     let Some(certificate) = stretch(alloc, rows.as_slice(), carried, job)? else {
@@ -53,7 +53,7 @@ fn stretch(
     job: JobNo,
 ) -> Result<Option<Certificate>, AllocError>
     requires { RowsRise rows.now }
-    ensures { IfOk result (λ stretch. stretch ≡ stretch_if_done rows.now carried.now.slots job) }
+    ensures { IfOk result (λ stretch. stretch ≡ stretch_if_done rows.now carried.now job) }
 {
     let Some(row) = find(rows, job) else {
         return Ok(None);
@@ -99,8 +99,8 @@ fn walk_back(
 ) -> Result<Walk, AllocError>
     requires rise { RowsRise rows.now }
     requires due { due ≡ due_of rows.now job }
-    ensures start { IfOk result (λ walk. walk.start ≡ start_of rows.now carried.now.slots job completion) }
-    ensures marks { IfOk result (λ walk. AreMarks rows.now carried.now.slots walk.start completion walk.marks.items) }
+    ensures start { IfOk result (λ walk. walk.start ≡ start_of rows.now carried.now job completion) }
+    ensures marks { IfOk result (λ walk. AreMarks rows.now carried.now walk.start completion walk.marks.items) }
 {
     let mut marks = vec![in alloc; false; rows.len()]?;
     let mut start = completion;
@@ -155,8 +155,8 @@ fn marked(
     start: u32,
     completion: u32,
 ) -> Result<JobList, AllocError>
-    requires { AreMarks rows.now carried.now.slots start completion marks.now }
-    ensures { IfOk result (λ jobs. jobs ≡ jobs_of rows.now carried.now.slots start completion) }
+    requires { AreMarks rows.now carried.now start completion marks.now }
+    ensures { IfOk result (λ jobs. jobs ≡ jobs_of rows.now carried.now start completion) }
 {
     let mut jobs = JobList::new(alloc);
     for i in 0..rows.len() {

@@ -171,8 +171,7 @@ fn what_slots_carried_is_read_back(rt: HostRuntime) -> Result<(), Fail> {
     assert!(rt; carried.get(0) == Some(None));
     assert!(rt; carried.get(1) == Some(Some(JobNo(3))));
     assert!(rt; carried.get(2).is_none());
-    carried.reserve(1)?;
-    carried.push_reserved(Some(JobNo(4)));
+    carried.push(Some(JobNo(4)))?;
     assert!(rt; carried.get(2) == Some(Some(JobNo(4))));
     carried.push_run(Some(JobNo(4)), 2)?;
     assert_eq!(rt; carried.len(), 5);

@@ -1,5 +1,4 @@
 use Rattle.std.proofs.Common.{ap, sym, ◌∙◌}
-use Rattle.late_cert.specs.Carried.{CarriedSlots}
 use Rattle.event_log.proofs.Carrying.{slots_added, slots_passed, slots_whole}
 use Rattle.event_log.proofs.carried.carried_by.Goals as goal
 use Rattle.event_log.proofs.carried.carried_by.Goals.{in-Some+in_ok-push_run-in-Some, in-None}
@@ -8,13 +7,13 @@ pub loop-run-preserved : goal.loop-run-preserved
 loop-run-preserved c =
     elim c.match-slot.branch [
       | in-Some+in_ok-push_run-in-Some w ↦
-          slots_added c.args.runs.now c.loop-run.run-index c.run-item.result c.loop-run.carried.slots c.match-slot.carried.slots
+          slots_added c.args.runs.now c.loop-run.run-index c.run-item.result c.loop-run.carried c.match-slot.carried
           w.in-Some.number
           c.loop-run-test.true c.run-item.is c.loop-run.invariant (sym w.in-Some.ensures)
-          (ap (λ (k : CarriedSlots). k.slots) w.carried-is ∙ w.in_ok-push_run-in-Some.ensures.ok)
+          (w.carried-is ∙ w.in_ok-push_run-in-Some.ensures.ok)
       | in-None w ↦
-          slots_passed c.args.runs.now c.loop-run.run-index c.run-item.result c.loop-run.carried.slots c.match-slot.carried.slots
-          c.loop-run-test.true c.run-item.is c.loop-run.invariant (sym w.in-None.ensures) (ap (λ (k : CarriedSlots). k.slots) w.carried-is)
+          slots_passed c.args.runs.now c.loop-run.run-index c.run-item.result c.loop-run.carried c.match-slot.carried
+          c.loop-run-test.true c.run-item.is c.loop-run.invariant (sym w.in-None.ensures) w.carried-is
     ]
 
 pub returns-clause-ok : goal.returns-clause-ok

@@ -5,4 +5,4 @@ use Rattle.event_log.specs.Slots.{slot_by}
 use Rattle.event_log.proofs.carried.carried_by.Given as goal
 
 abbrev pub invariant-loop-run : goal.invariant-loop-run
-invariant-loop-run l = l.carried.slots ≡ filter_map slot_by (spread (take l.run-index l.runs))
+invariant-loop-run l = l.carried ≡ filter_map slot_by (spread (take l.run-index l.runs))

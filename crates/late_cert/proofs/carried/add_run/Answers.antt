@@ -1,4 +1,4 @@
-use Rattle.std.proofs.Common.{◌≡◌, ◌+◌, ◌-◌, ◌∙◌, sym, ap, arith}
+use Rattle.std.proofs.Common.{◌≡◌, ◌-◌, ◌∙◌, sym, ap, arith}
 use Rattle.late_cert.specs.declared.carried.Run.{Run}
 use Rattle.late_cert.proofs.RowSearch.{get-same}
 use Rattle.late_cert.proofs.Runs.{slots-push, slots-longer, same-carried}

@@ -5,4 +5,4 @@ use Rattle.late_cert.proofs.stretches.marked.Given as goal
 
 abbrev pub invariant-loop-i : goal.invariant-loop-i
 invariant-loop-i l =
-    l.jobs ≡ filter (is_carried l.carried.slots l.start l.completion) (take l.i (map (λ (row : JobRow). row.number) l.rows))
+    l.jobs ≡ filter (is_carried l.carried l.start l.completion) (take l.i (map (λ (row : JobRow). row.number) l.rows))

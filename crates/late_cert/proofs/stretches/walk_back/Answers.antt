@@ -22,22 +22,22 @@ loop-i-init c = record {
 
 pub overflow_sub-begin : goal.overflow_sub-begin
 overflow_sub-begin c =
-    (last-run c.runs-runs.result.now c.args.carried.now.slots c.loop-i.i c.index-runs-i.result c.loop-i.end c.runs-runs.ensures (omega arith)
+    (last-run c.runs-runs.result.now c.args.carried.now c.loop-i.i c.index-runs-i.result c.loop-i.end c.runs-runs.ensures (omega arith)
     c.loop-i.invariant.inside c.loop-i.invariant.ends c.index-runs-i.is).fits
 
 pub returns-in_default-clause-start : goal.returns-in_default-clause-start
 returns-in_default-clause-start c =
-    let q : IsLastRun c.runs-runs.result.now c.args.carried.now.slots c.loop-i.i c.index-runs-i.result c.loop-i.end =
-    last-run c.runs-runs.result.now c.args.carried.now.slots c.loop-i.i c.index-runs-i.result c.loop-i.end c.runs-runs.ensures (omega arith)
+    let q : IsLastRun c.runs-runs.result.now c.args.carried.now c.loop-i.i c.index-runs-i.result c.loop-i.end =
+    last-run c.runs-runs.result.now c.args.carried.now c.loop-i.i c.index-runs-i.result c.loop-i.end c.runs-runs.ensures (omega arith)
     c.loop-i.invariant.inside c.loop-i.invariant.ends c.index-runs-i.is in
     sym (c.loop-i.invariant.same
-    ∙ start-stays c.args.rows.now c.args.carried.now.slots c.args.job c.loop-i.start (c.loop-i.start - 1) c.index-runs-i.result.number (omega arith)
+    ∙ start-stays c.args.rows.now c.args.carried.now c.args.job c.loop-i.start (c.loop-i.start - 1) c.index-runs-i.result.number (omega arith)
     (q.carries (c.loop-i.start - 1) (omega arith) (let r = c.loop-i.invariant.reached in omega arith)) c.in_default.ensures.outside)
 
 pub loop-i-preserved : goal.loop-i-preserved
 loop-i-preserved c =
-    let q : IsLastRun c.runs-runs.result.now c.args.carried.now.slots c.loop-i.i c.index-runs-i.result c.loop-i.end =
-    last-run c.runs-runs.result.now c.args.carried.now.slots c.loop-i.i c.index-runs-i.result c.loop-i.end c.runs-runs.ensures (omega arith)
+    let q : IsLastRun c.runs-runs.result.now c.args.carried.now c.loop-i.i c.index-runs-i.result c.loop-i.end =
+    last-run c.runs-runs.result.now c.args.carried.now c.loop-i.i c.index-runs-i.result c.loop-i.end c.runs-runs.ensures (omega arith)
     c.loop-i.invariant.inside c.loop-i.invariant.ends c.index-runs-i.is in
     let begin : ℕ = c.loop-i.end - c.index-runs-i.result.length in
     elim c.if-begin-start.branch [
@@ -50,12 +50,12 @@ loop-i-preserved c =
             ordered = omega arith;
             same =
                 c.loop-i.invariant.same
-                ∙ start-run c.args.rows.now c.args.carried.now.slots c.args.job begin c.loop-i.start c.index-runs-i.result.number (omega arith)
+                ∙ start-run c.args.rows.now c.args.carried.now c.args.job begin c.loop-i.start c.index-runs-i.result.number (omega arith)
                 (λ t a b. q.carries t a (omega arith)) w.in-Some.ensures.within
-                ∙ ap (start_of c.args.rows.now c.args.carried.now.slots c.args.job) (sym same);
+                ∙ ap (start_of c.args.rows.now c.args.carried.now c.args.job) (sym same);
             marked =
                 rw (w.start-is, w.marks-is)
-                (marks-step c.args.rows.now c.requires.rise c.args.carried.now.slots c.args.job begin c.loop-i.start c.args.completion c.index-runs-i.result.number _ _
+                (marks-step c.args.rows.now c.requires.rise c.args.carried.now c.args.job begin c.loop-i.start c.args.completion c.index-runs-i.result.number _ _
                 c.loop-i.invariant.marked w.if-begin-start.true c.loop-i.invariant.ordered (λ t a b. q.carries t a (omega arith))
                 w.in-Some.ensures.within w.in-Some.ensures.inside w.in-Some.ensures.named);
           }
@@ -66,7 +66,7 @@ loop-i-preserved c =
             ends = q.begins;
             reached = omega arith;
             ordered = omega arith;
-            same = c.loop-i.invariant.same ∙ ap (start_of c.args.rows.now c.args.carried.now.slots c.args.job) (sym same);
+            same = c.loop-i.invariant.same ∙ ap (start_of c.args.rows.now c.args.carried.now c.args.job) (sym same);
             marked = rw (w.start-is, w.marks-is) c.loop-i.invariant.marked;
           }
     ]

@@ -10,8 +10,8 @@ invariant-loop-i l = record {
   ends : l.end ≡ length (slots_of (take l.i l.runs));
   reached : l.start ≤ l.end;
   ordered : l.start ≤ l.completion;
-  same : start_of l.rows l.carried.slots l.job l.completion ≡ start_of l.rows l.carried.slots l.job l.start;
-  marked : AreMarks l.rows l.carried.slots l.start l.completion l.marks.items;
+  same : start_of l.rows l.carried l.job l.completion ≡ start_of l.rows l.carried l.job l.start;
+  marked : AreMarks l.rows l.carried l.start l.completion l.marks.items;
 }
 
 abbrev pub decreases-loop-i : goal.decreases-loop-i

@@ -14,10 +14,10 @@ returns-in-None-clause-none g c =
 
 pub returns-in_ok-carried-in-Some-clause-ok : goal.returns-in_ok-carried-in-Some-clause-ok
 returns-in_ok-carried-in-Some-clause-ok g c =
-    let slots : c.in_ok-carried-in-Some.carried.slots ≡ carried_numbers c.args.self.now.log =
+    let slots : c.in_ok-carried-in-Some.carried ≡ carried_numbers c.args.self.now.log =
     rw (← c.self.view_is) (c.in_ok-carried-in-Some.ensures.ok ∙ sym (numbers_told c.self.inside.table.jobs c.self.inside.events.notes)) in
     ok_where c.build.result _ _ c.build.ensures.built
-    (λ built. built_is c.args.self.now.plan c.args.self.now.log c.in-Some.worst c.in_ok-rows-in-Some.rows c.in_ok-carried-in-Some.carried.slots built (sym c.in-Some.is ∙ c.worst.ensures) c.in_ok-rows-in-Some.ensures.ok slots)
+    (λ built. built_is c.args.self.now.plan c.args.self.now.log c.in-Some.worst c.in_ok-rows-in-Some.rows c.in_ok-carried-in-Some.carried built (sym c.in-Some.is ∙ c.worst.ensures) c.in_ok-rows-in-Some.ensures.ok slots)
 
 pub returns-in_ok-carried-in-Some-clause-none : goal.returns-in_ok-carried-in-Some-clause-none
 returns-in_ok-carried-in-Some-clause-none g c =
