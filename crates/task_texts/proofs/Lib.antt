@@ -1,6 +1,7 @@
 pub mod PageLaws
 pub mod PlainFields
 pub mod Written
+pub mod WritingLaws
 pub mod PlainRecords
 pub mod TableLaws
 pub mod PlanLaws

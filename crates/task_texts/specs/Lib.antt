@@ -1,6 +1,7 @@
 pub mod Number
 pub mod JobRows
 pub mod ReportText
+pub mod Writing
 pub mod Commas
 pub mod Lines
 pub mod Tables

@@ -23,6 +23,7 @@ mod steps;
 mod stores;
 mod tables;
 mod words;
+mod writing;
 
 pub use items::ScriptItem;
 pub use laws::reports_come_back;
@@ -34,3 +35,4 @@ pub use report_texts::write_report;
 pub use reports::{DieReport, Report, ReportRow, ReportRows, RowKind};
 pub use scripts::ScriptReader;
 pub use stores::{die_plan, read_plan};
+pub use writing::write_whole;

@@ -9,11 +9,13 @@ ghost use Rattle.csv.specs.Writing.{default_writer, row_text};
 ghost use Rattle.task_texts.specs.ReportText.{cert_fields, cert_numbers, cert_record, die_records, header_fields, kind_word, numbers_field, page_word, pages_field, records_text, report_text, row_fields, row_start};
 ghost use Rattle.task_texts.specs.Commas.{after_commas};
 ghost use Rattle.task_texts.specs.Lines.{line_text};
+ghost use Rattle.task_texts.specs.Writing.{AppendsPart};
 ghost use Rattle.late_cert.specs.Schedule.{lateness_of};
 
 use crate::lines::Line;
 use crate::pages::put_page;
 use crate::reports::{DieReport, Report, ReportRow, RowKind};
+use crate::writing::write_whole;
 use itoa::Buffer;
 use late_cert::{Certificate, lateness};
 use slot_types::{JobNo, PageData, Refusal};
@@ -227,16 +229,14 @@ fn text_of(alloc: Global, report: &Report) -> Result<Vec<u8>, Refusal>
 /// Writes a report as csv: a header, the rows of each die, and after all of them the certificates. Numbers have no
 /// leading zeros, pages are 32 lower-case hexadecimal digits, each record ends with one line feed, no field is quoted.
 ///
-/// NoMemory comes before the first byte, and the writer is as it was. WriteFault comes where the writer fails; how
-/// much it took by then is not said.
+/// NoMemory comes before the first byte, and the writer is as it was. WriteFault comes where the writer fails, as
+/// [`write_whole`] says: a front of the text was then written that isn't the whole.
 pub fn write_report<W: Write>(alloc: Global, writer: &mut W, report: &Report) -> Result<(), Refusal>
     ensures written { OnOk result (Appends (W.contents writer.old) (W.contents writer.new) (report_text report.now)) }
     ensures memory { result ≡ Err Refusal.NoMemory → writer.new ≡ writer.old }
+    ensures part { result ≡ Err Refusal.WriteFault → AppendsPart (W.contents writer.old) (W.contents writer.new) (report_text report.now) }
     ensures refused { IfErr result (λ refusal. (refusal ≡ Refusal.NoMemory) ⊎ (refusal ≡ Refusal.WriteFault)) }
 {
     let text = text_of(alloc, report)?;
-    match writer.write_all(&text) {
-        Ok(()) => Ok(()),
-        Err(_) => Err(Refusal::WriteFault),
-    }
+    write_whole(writer, &text)
 }
