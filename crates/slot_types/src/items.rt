@@ -89,6 +89,13 @@ impl<T: Drop> Items<T> {
         self.items.push(item)?;
         Ok(())
     }
+
+    /// Lets all items go, and keeps their memory.
+    pub fn clear(&mut self)
+        ensures { self.new ≡ [] }
+    {
+        self.items.clear();
+    }
 }
 
 impl<T: PartialEq> PartialEq for Items<T> {
