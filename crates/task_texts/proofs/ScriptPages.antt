@@ -1,6 +1,6 @@
 -- The rows of a script ask for pages of sixteen bytes.
 use Rattle.std.proofs.Common.{◌≡◌, ℕ, ◌+◌, ◌-◌, ◌*◌, ◌==◌, Bool, true, false, cond, List, [], ◌∷◌, Option, Some, None, Result, Ok, Err, refl, ap, sym, ◌∙◌, subst, length, take, drop, arith, nat_lt}
-use Rattle.std.specs.Prelude.{All, option_map}
+use Rattle.std.specs.Prelude.{All, OnOk, option_map}
 use Rattle.std.specs.List.{AllByRecursion, slice_split}
 use Rattle.std.proofs.lemmas.Option.{none-some, same_Some}
 use Rattle.std.proofs.lemmas.List.Elements.{All-from_recursion, All-nil}
@@ -11,7 +11,10 @@ use Rattle.slot_types.specs.declared.events.Op.{Op}
 use Rattle.slot_types.specs.declared.events.Op.TheVariants.{Read, Trim}
 use Rattle.slot_types.specs.declared.pages.PageData.{PageData}
 use Rattle.slot_types.specs.declared.refusals.Refusal.{Refusal}
-use Rattle.task_texts.specs.AskedPages.{WritesPage}
+use Rattle.task_texts.specs.AskedPages.{AsksPages, WritesPage}
+use Rattle.task_texts.specs.Heads.{asked_by}
+use Rattle.task_texts.specs.Readings.{Shows}
+use Rattle.task_texts.specs.declared.items.RowHead.{RowHead}
 use Rattle.task_texts.specs.Items.{fault}
 use Rattle.task_texts.specs.Number.{number_of}
 use Rattle.task_texts.specs.Ops.{op_of, ops_of, ops_or, write_of, write_to}
@@ -101,3 +104,9 @@ same_ok x y e = ap (given_or x) e
 pub ops_found : (line : ℕ) (o : Option (List Op)) (ops : List Op) → ops_or line o ≡ Ok ops → o ≡ Some ops
 ops_found line None ops e = absurd cc
 ops_found line (Some found) ops e = ap Some (same_ok found ops e)
+
+-- the operations that were put write pages
+pub put_read : (r : Result (Unit {0}) Refusal) (line : ℕ) (field : List ℕ) (ops : List Op) (head : RowHead) → head.collects ≡ false
+    → Shows (λ _. ops) r (ops_or line (ops_of field)) → OnOk r (AsksPages (asked_by head ops))
+put_read (Ok x) line field ops head job put = rw job (ops_read field ops (ops_found line (ops_of field) ops put))
+put_read (Err e) line field ops head job put = tt

@@ -18,6 +18,7 @@ pub mod Rows
 pub mod RowsLeft
 pub mod Header
 pub mod Items
+pub mod Heads
 pub mod Script
 pub mod Left
 pub mod ReportRows

@@ -1,5 +1,5 @@
 -- Fields that hold several words, with one space between two.
-use Rattle.std.specs.Prelude.{◌≡◌, ℕ, ◌==◌, List, [], ◌∷◌, ◌++◌, All, false, Option, Some, None, Result, Ok, Err}
+use Rattle.std.specs.Prelude.{◌≡◌, ℕ, ◌==◌, List, [], ◌∷◌, ◌++◌, All, Bool, false, Option, Some, None, Result, Ok, Err, if◌then◌else◌}
 use Rattle.std.specs.List.{slice_split}
 use Rattle.hex.specs.Hex.{decode_sized}
 use Rattle.hex.specs.declared.error.FromHexError.{FromHexError}
@@ -24,6 +24,10 @@ words_of (Some text) = slice_split (λ b. b == 32) text
 abbrev pub list_of : {A : Type 0} → (List ℕ → Option A) → List ℕ → Option (List A)
 list_of read [] = Some []
 list_of read (b ∷ bytes) = all_of read (slice_split (λ c. c == 32) (b ∷ bytes))
+
+-- what was read, if that is the whole
+abbrev pub if_whole : {A : Type 0} → Bool → List A → Option (List A)
+if_whole whole items = if whole then Some items else None
 
 abbrev pub page_or : Result (List ℕ) FromHexError → Option PageData
 page_or (Ok bytes) = Some (record { 0 = bytes })

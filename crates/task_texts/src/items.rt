@@ -1,19 +1,18 @@
 //! One row of a script.
 
-ghost use Rattle.std.specs.Prelude.{◌≡◌, ◌<◌, length, IfOk};
+ghost use Rattle.std.specs.Prelude.{◌≡◌, ◌<◌, length, IfOk, OnOk};
 ghost use Rattle.csv.specs.Records.{fields_of};
 ghost use Rattle.task_texts.specs.AskedPages.{AsksPages, RowHasPages};
-ghost use Rattle.slot_types.specs.Arrivals.{IsArrival};
 ghost use Rattle.task_texts.specs.Arrivals.{Arrives};
+ghost use Rattle.task_texts.specs.Heads.{HasOwnOps, asked_by, row_of};
 ghost use Rattle.task_texts.specs.Items.{collects_at, event_of, item_of, number_at};
-ghost use Rattle.task_texts.specs.Readings.{Gives};
+ghost use Rattle.task_texts.specs.Readings.{Shows};
 
 use crate::numbers::number;
-use crate::ops::ops;
+use crate::ops::put_ops;
 use crate::rows::field_in;
 use csv::ByteRecord;
-use slot_types::{Cause, Event, Refusal, TaskNo};
-use std::alloc::Global;
+use slot_types::{Cause, Event, OpList, Refusal, TaskNo};
 
 /// What a row of a script asks.
 #[derive(Clone, PartialEq, Eq, Debug, Drop)]
@@ -24,6 +23,53 @@ pub struct ScriptItem {
     pub at: u32,
     pub die: u32,
     pub event: Event,
+}
+
+/// What a row of a script asks, but for its operations.
+#[derive(Clone, Copy, PartialEq, Eq, Debug, Drop)]
+pub struct RowHead {
+    /// The number of its record, the header being 1.
+    pub line: u32,
+    /// It comes before this slot.
+    pub at: u32,
+    pub die: u32,
+    /// Whether it asks for a collection, and not for a job.
+    pub collects: bool,
+    pub task: TaskNo,
+    pub release: u32,
+    pub due: u32,
+}
+
+impl RowHead {
+    ghost use Rattle.task_texts.specs.Heads.{row_of};
+
+    /// The row, with its operations. A collection lets them go.
+    pub fn with_ops(self, ops: OpList) -> ScriptItem
+        ensures { result ≡ row_of self ops }
+    {
+        let RowHead {
+            task,
+            release,
+            due,
+            ..
+        } = self;
+        let event = if self.collects {
+            Event::Collect { task, release, due }
+        } else {
+            Event::Submit {
+                task,
+                release,
+                due,
+                ops,
+            }
+        };
+        ScriptItem {
+            line: self.line,
+            at: self.at,
+            die: self.die,
+            event,
+        }
+    }
 }
 
 /// The number in a field of a row.
@@ -60,51 +106,40 @@ fn collects_in(row: &ByteRecord, line: u32) -> Result<bool, Refusal>
     }
 }
 
-/// What a row asks of its die.
-fn event(
-    alloc: Global,
-    line: u32,
-    collects: bool,
-    task: TaskNo,
-    release: u32,
-    due: u32,
-    field: &[u8],
-) -> Result<Event, Refusal>
-    ensures event { Gives result (event_of line collects task release due field.now) }
-    ensures arrives { IfOk result IsArrival }
-    ensures pages { IfOk result AsksPages }
+/// Puts the operations of a row in place of others, in their memory: a collection has none.
+fn put_asked(ops: &mut OpList, head: &RowHead, field: &[u8]) -> Result<(), Refusal>
+    ensures event { Shows (λ _. asked_by head.now ops.new) result (event_of head.now.line head.now.collects head.now.task head.now.release head.now.due field.now) }
+    ensures pages { OnOk result (AsksPages (asked_by head.now ops.new)) }
+    ensures own { OnOk result (HasOwnOps head.now ops.new) }
 {
-    if collects {
-        if !field.is_empty() {
-            return Err(Refusal::ScriptRow {
-                line,
-                cause: Cause::Ops,
-            });
-        }
-        return Ok(Event::Collect { task, release, due });
+    if !head.collects {
+        return put_ops(ops, field, head.line);
     }
-    let ops = ops(alloc, field, line)?;
-    Ok(Event::Submit {
-        task,
-        release,
-        due,
-        ops,
-    })
+    ops.clear();
+    if field.is_empty() {
+        Ok(())
+    } else {
+        Err(Refusal::ScriptRow {
+            line: head.line,
+            cause: Cause::Ops,
+        })
+    }
 }
 
-/// The item of a row, after rows of its dies that came at these slots.
+/// The head of a row, after rows of its dies that came at these slots; its operations are put in place of others.
 #[tactic(auto, unfolding(crate::specs::Items::item_of))]
-pub fn item(
-    alloc: Global,
+pub fn take_item(
     row: &ByteRecord,
     slots: u32,
     lasts: &[u32],
     line: u32,
-) -> Result<ScriptItem, Refusal>
-    ensures item { Gives result (item_of slots lasts.now line (fields_of row.now)) }
-    ensures die { IfOk result (λ item. item.die < length lasts.now) }
-    ensures arrives { IfOk result (Arrives slots) }
-    ensures pages { IfOk result RowHasPages }
+    ops: &mut OpList,
+) -> Result<RowHead, Refusal>
+    ensures item { Shows (λ head. row_of head ops.new) result (item_of slots lasts.now line (fields_of row.now)) }
+    ensures die { IfOk result (λ head. head.die < length lasts.now) }
+    ensures arrives { IfOk result (λ head. Arrives slots (row_of head ops.new)) }
+    ensures pages { IfOk result (λ head. RowHasPages (row_of head ops.new)) }
+    ensures own { IfOk result (λ head. HasOwnOps head ops.new) }
 {
     if row.len() != 7 {
         return Err(Refusal::ScriptRow {
@@ -130,19 +165,15 @@ pub fn item(
             cause: Cause::At,
         });
     }
-    let event = event(
-        alloc,
-        line,
-        collects,
-        TaskNo(task),
-        release,
-        due,
-        field_in(row, 6),
-    )?;
-    Ok(ScriptItem {
+    let head = RowHead {
         line,
         at,
         die,
-        event,
-    })
+        collects,
+        task: TaskNo(task),
+        release,
+        due,
+    };
+    put_asked(ops, &head, field_in(row, 6))?;
+    Ok(head)
 }

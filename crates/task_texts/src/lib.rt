@@ -25,7 +25,7 @@ mod tables;
 mod words;
 mod writing;
 
-pub use items::ScriptItem;
+pub use items::{RowHead, ScriptItem};
 pub use laws::reports_come_back;
 pub use numbers::number;
 pub use plan_reading::{plan_text, read_plan_from};

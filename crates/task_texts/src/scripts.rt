@@ -4,11 +4,11 @@ ghost use Rattle.std.specs.Prelude.{◌≡◌, ◌<◌, ◌≤◌, IfOk, IfErr, 
 ghost use Rattle.task_texts.specs.Plain.{IsPlain};
 
 use crate::bounded::Bounded;
-use crate::items::ScriptItem;
+use crate::items::{RowHead, ScriptItem};
 use crate::rows::rows_in;
 use crate::steps::read_step;
 use csv::{ByteRecord, Reader};
-use slot_types::{Refusal, StorePlan};
+use slot_types::{OpList, Refusal, StorePlan};
 use std::alloc::Global;
 use std::io::Read;
 
@@ -42,6 +42,7 @@ impl<R: Read> ScriptReader<R> {
     ghost use Rattle.task_texts.specs.Script.{EndsFit, Yields, script_of};
     ghost use Rattle.task_texts.specs.AskedPages.{RowHasPages};
     ghost use Rattle.task_texts.specs.Arrivals.{IsRowFor};
+    ghost use Rattle.task_texts.specs.Heads.{HasOwnOps, row_of, row_read};
     ghost use Rattle.task_texts.specs.Left.{Recalls, dies_of, script_fits, script_left, slots_of};
     ghost use Rattle.task_texts.specs.Marked.{is_within};
 
@@ -89,6 +90,27 @@ impl<R: Read> ScriptReader<R> {
         ensures slots { slots_of self.new ≡ slots_of self.old }
         ensures again { Recalls self.old self.new result }
     {
+        let mut ops = OpList::new(self.alloc);
+        match self.next_into(&mut ops)? {
+            Some(head) => Ok(Some(head.with_ops(ops))),
+            None => Ok(None),
+        }
+    }
+
+    /// The next item, as [`next`](ScriptReader::next) answers it, but its operations are put into a list of the
+    /// caller's, in place of those that it has and in their memory: a reader that is given one list for all rows takes
+    /// memory for its longest job alone. A collection has no operations. Where there is no item, nothing is said of
+    /// the list.
+    pub fn next_into(&mut self, ops: &mut OpList) -> Result<Option<RowHead>, Refusal>
+        ensures item { Yields (script_left R.remaining self.old) (script_left R.remaining self.new) (row_read result ops.new) }
+        ensures bound { EndsFit (script_fits R.remaining self.old) (script_fits R.remaining self.new) (row_read result ops.new) }
+        ensures row { IfOk result (λ o. IfSome o (λ head. IsRowFor (dies_of self.old) (slots_of self.old) (row_of head ops.new))) }
+        ensures pages { IfOk result (λ o. IfSome o (λ head. RowHasPages (row_of head ops.new))) }
+        ensures own { IfOk result (λ o. IfSome o (λ head. HasOwnOps head ops.new)) }
+        ensures dies { dies_of self.new ≡ dies_of self.old }
+        ensures slots { slots_of self.new ≡ slots_of self.old }
+        ensures again { Recalls self.old self.new (row_read result ops.new) }
+    {
         if let Some(refusal) = self.refused {
             return Err(refusal);
         }
@@ -97,17 +119,17 @@ impl<R: Read> ScriptReader<R> {
         }
         let line = self.line;
         match read_step(
-            self.alloc,
             &mut self.rows,
             &mut self.row,
             self.slots,
             &self.lasts,
             line,
+            ops,
         ) {
-            Ok(Some(item)) => {
+            Ok(Some(head)) => {
                 self.line = line.max(2) + 1;
-                self.lasts[item.die as usize] = item.at;
-                Ok(Some(item))
+                self.lasts[head.die as usize] = head.at;
+                Ok(Some(head))
             }
             Ok(None) => {
                 self.ended = true;

@@ -3,39 +3,40 @@
 ghost use Rattle.std.specs.Prelude.{◌≡◌, ◌<◌, ◌+◌, ◌≤◌, length, max, IfOk, IfSome};
 ghost use Rattle.task_texts.specs.AskedPages.{RowHasPages};
 ghost use Rattle.task_texts.specs.Arrivals.{Arrives};
+ghost use Rattle.task_texts.specs.Heads.{HasOwnOps, row_of, row_read};
 ghost use Rattle.task_texts.specs.Plain.{IsPlain};
 ghost use Rattle.task_texts.specs.RowsLeft.{fits_left, rows_left};
 ghost use Rattle.task_texts.specs.Script.{EndsFit, StepOf, after_item, items_from, script_at, script_from};
 
 use crate::bounded::Bounded;
-use crate::items::{ScriptItem, item};
+use crate::items::{RowHead, take_item};
 use crate::rows::{heads_script, take_row};
 use csv::{ByteRecord, Reader};
-use slot_types::{Cause, Refusal};
-use std::alloc::Global;
+use slot_types::{Cause, OpList, Refusal};
 use std::io::Read;
 
 /// The greatest number of a record.
 const MAX_LINE: u32 = 1_000_001;
 
-/// The item of the next record, which has this number.
+/// The item of the next record, which has this number: its head, and its operations in place of others.
 #[tactic(auto, unfolding(crate::specs::Script::items_from))]
 fn read_item<R: Read>(
-    alloc: Global,
     rows: &mut Reader<Bounded<R>>,
     row: &mut ByteRecord,
     slots: u32,
     lasts: &[u32],
     line: u32,
-) -> Result<Option<ScriptItem>, Refusal>
+    ops: &mut OpList,
+) -> Result<Option<RowHead>, Refusal>
     requires { IsPlain rows.old }
-    ensures step { StepOf (items_from slots lasts.now line) (λ x. items_from slots (after_item lasts.now x) (line + 1)) (rows_left R.remaining rows.old) (rows_left R.remaining rows.new) result }
-    ensures fits { EndsFit (fits_left R.remaining rows.old) (fits_left R.remaining rows.new) result }
+    ensures step { StepOf (items_from slots lasts.now line) (λ x. items_from slots (after_item lasts.now x) (line + 1)) (rows_left R.remaining rows.old) (rows_left R.remaining rows.new) (row_read result ops.new) }
+    ensures fits { EndsFit (fits_left R.remaining rows.old) (fits_left R.remaining rows.new) (row_read result ops.new) }
     ensures plain { IfOk result (λ _. IsPlain rows.new) }
     ensures line { IfOk result (λ o. IfSome o (λ _. line ≤ 1000001)) }
-    ensures die { IfOk result (λ o. IfSome o (λ x. x.die < length lasts.now)) }
-    ensures arrives { IfOk result (λ o. IfSome o (Arrives slots)) }
-    ensures pages { IfOk result (λ o. IfSome o RowHasPages) }
+    ensures die { IfOk result (λ o. IfSome o (λ head. head.die < length lasts.now)) }
+    ensures arrives { IfOk result (λ o. IfSome o (λ head. Arrives slots (row_of head ops.new))) }
+    ensures pages { IfOk result (λ o. IfSome o (λ head. RowHasPages (row_of head ops.new))) }
+    ensures own { IfOk result (λ o. IfSome o (λ head. HasOwnOps head ops.new)) }
 {
     if !take_row(rows, row)? {
         return Ok(None);
@@ -46,25 +47,26 @@ fn read_item<R: Read>(
             cause: Cause::TooManyRows,
         });
     }
-    let item = item(alloc, row, slots, lasts, line)?;
-    Ok(Some(item))
+    let head = take_item(row, slots, lasts, line, ops)?;
+    Ok(Some(head))
 }
 
 /// The item of the second record, where the first is the header.
 fn read_first<R: Read>(
-    alloc: Global,
     rows: &mut Reader<Bounded<R>>,
     row: &mut ByteRecord,
     slots: u32,
     lasts: &[u32],
-) -> Result<Option<ScriptItem>, Refusal>
+    ops: &mut OpList,
+) -> Result<Option<RowHead>, Refusal>
     requires { IsPlain rows.old }
-    ensures step { StepOf (script_from slots lasts.now) (λ x. items_from slots (after_item lasts.now x) 3) (rows_left R.remaining rows.old) (rows_left R.remaining rows.new) result }
-    ensures fits { EndsFit (fits_left R.remaining rows.old) (fits_left R.remaining rows.new) result }
+    ensures step { StepOf (script_from slots lasts.now) (λ x. items_from slots (after_item lasts.now x) 3) (rows_left R.remaining rows.old) (rows_left R.remaining rows.new) (row_read result ops.new) }
+    ensures fits { EndsFit (fits_left R.remaining rows.old) (fits_left R.remaining rows.new) (row_read result ops.new) }
     ensures plain { IfOk result (λ _. IsPlain rows.new) }
-    ensures die { IfOk result (λ o. IfSome o (λ x. x.die < length lasts.now)) }
-    ensures arrives { IfOk result (λ o. IfSome o (Arrives slots)) }
-    ensures pages { IfOk result (λ o. IfSome o RowHasPages) }
+    ensures die { IfOk result (λ o. IfSome o (λ head. head.die < length lasts.now)) }
+    ensures arrives { IfOk result (λ o. IfSome o (λ head. Arrives slots (row_of head ops.new))) }
+    ensures pages { IfOk result (λ o. IfSome o (λ head. RowHasPages (row_of head ops.new))) }
+    ensures own { IfOk result (λ o. IfSome o (λ head. HasOwnOps head ops.new)) }
 {
     if !take_row(rows, row)? || !heads_script(row) {
         return Err(Refusal::ScriptRow {
@@ -72,31 +74,32 @@ fn read_first<R: Read>(
             cause: Cause::Header,
         });
     }
-    read_item(alloc, rows, row, slots, lasts, 2)
+    read_item(rows, row, slots, lasts, 2, ops)
 }
 
 /// The next item, where the next record has this number.
 pub fn read_step<R: Read>(
-    alloc: Global,
     rows: &mut Reader<Bounded<R>>,
     row: &mut ByteRecord,
     slots: u32,
     lasts: &[u32],
     line: u32,
-) -> Result<Option<ScriptItem>, Refusal>
+    ops: &mut OpList,
+) -> Result<Option<RowHead>, Refusal>
     requires plain { IsPlain rows.old }
     requires counted { 0 < line }
-    ensures step { StepOf (script_at slots lasts.now line) (λ x. items_from slots (after_item lasts.now x) (max line 2 + 1)) (rows_left R.remaining rows.old) (rows_left R.remaining rows.new) result }
-    ensures fits { EndsFit (fits_left R.remaining rows.old) (fits_left R.remaining rows.new) result }
+    ensures step { StepOf (script_at slots lasts.now line) (λ x. items_from slots (after_item lasts.now x) (max line 2 + 1)) (rows_left R.remaining rows.old) (rows_left R.remaining rows.new) (row_read result ops.new) }
+    ensures fits { EndsFit (fits_left R.remaining rows.old) (fits_left R.remaining rows.new) (row_read result ops.new) }
     ensures plain { IfOk result (λ _. IsPlain rows.new) }
     ensures line { IfOk result (λ o. IfSome o (λ _. line ≤ 1000001)) }
-    ensures die { IfOk result (λ o. IfSome o (λ x. x.die < length lasts.now)) }
-    ensures arrives { IfOk result (λ o. IfSome o (Arrives slots)) }
-    ensures pages { IfOk result (λ o. IfSome o RowHasPages) }
+    ensures die { IfOk result (λ o. IfSome o (λ head. head.die < length lasts.now)) }
+    ensures arrives { IfOk result (λ o. IfSome o (λ head. Arrives slots (row_of head ops.new))) }
+    ensures pages { IfOk result (λ o. IfSome o (λ head. RowHasPages (row_of head ops.new))) }
+    ensures own { IfOk result (λ o. IfSome o (λ head. HasOwnOps head ops.new)) }
 {
     if line == 1 {
-        read_first(alloc, rows, row, slots, lasts)
+        read_first(rows, row, slots, lasts, ops)
     } else {
-        read_item(alloc, rows, row, slots, lasts, line)
+        read_item(rows, row, slots, lasts, line, ops)
     }
 }

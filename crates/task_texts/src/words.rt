@@ -1,10 +1,10 @@
 //! Fields that hold several words, with one space between two.
 
-ghost use Rattle.std.specs.Prelude.{◌≡◌, ◌∷◌, ◌==◌, ◌<◌, List, ℕ, Option, IfOk, IfSome, MatchOption, None, length, option_map};
+ghost use Rattle.std.specs.Prelude.{◌≡◌, ◌∷◌, [], ◌==◌, ◌<◌, List, ℕ, Option, IfOk, IfSome, MatchOption, None, length, option_map};
 ghost use Rattle.std.specs.List.{position, slice_split};
 ghost use Rattle.task_texts.specs.Number.{number_of};
 ghost use Rattle.task_texts.specs.Ops.{op_of};
-ghost use Rattle.task_texts.specs.Words.{IsFirst, StartsWith, all_of, behind, list_of, page_of, words_of};
+ghost use Rattle.task_texts.specs.Words.{IsFirst, StartsWith, all_of, behind, if_whole, list_of, page_of, words_of};
 
 use crate::numbers::{leading_number, number};
 use crate::ops::{leading_op, op};
@@ -132,11 +132,11 @@ fn first_word<T: Word + Drop>(text: &[u8]) -> Option<(T, Option<&[u8]>)>
     }
 }
 
-/// What the words of a text say, if all of them say something.
-fn all<T: Word + Drop>(alloc: Global, text: &[u8]) -> Result<Option<Items<T>>, AllocError>
-    ensures { IfOk result (λ found. found ≡ all_of T.word_of (slice_split (λ b. b == 32) text.now)) }
+/// Adds what the words of a text say, up to one that says nothing, and answers whether there is none.
+fn put_all<T: Word + Drop>(items: &mut Items<T>, text: &[u8]) -> Result<bool, AllocError>
+    requires { items.old ≡ [] }
+    ensures { IfOk result (λ whole. if_whole whole items.new ≡ all_of T.word_of (slice_split (λ b. b == 32) text.now)) }
 {
-    let mut items = Items::new(alloc);
     let mut left = Some(text);
     while let Some(text) = left {
         match first_word(text) {
@@ -144,18 +144,29 @@ fn all<T: Word + Drop>(alloc: Global, text: &[u8]) -> Result<Option<Items<T>>, A
                 items.push(item)?;
                 left = rest;
             }
-            None => return Ok(None),
+            None => return Ok(false),
         }
     }
-    Ok(Some(items))
+    Ok(true)
+}
+
+/// Puts what the words of a field say in place of other items, in their memory, and answers whether all of them say
+/// something. An empty field has none.
+pub fn put_list<T: Word + Drop>(items: &mut Items<T>, field: &[u8]) -> Result<bool, AllocError>
+    ensures { IfOk result (λ whole. if_whole whole items.new ≡ list_of T.word_of field.now) }
+{
+    items.clear();
+    if field.is_empty() {
+        return Ok(true);
+    }
+    put_all(items, field)
 }
 
 /// What the words of a field say, if all of them say something. An empty field has none.
 pub fn list<T: Word + Drop>(alloc: Global, field: &[u8]) -> Result<Option<Items<T>>, AllocError>
     ensures { IfOk result (λ found. found ≡ list_of T.word_of field.now) }
 {
-    if field.is_empty() {
-        return Ok(Some(Items::new(alloc)));
-    }
-    all(alloc, field)
+    let mut items = Items::new(alloc);
+    let whole = put_list(&mut items, field)?;
+    Ok(if whole { Some(items) } else { None })
 }

@@ -1,6 +1,6 @@
 use Rattle.std.proofs.Common.{None, refl}
 use Rattle.task_texts.proofs.WordLaws.{word-more, words-end}
-use Rattle.task_texts.proofs.words.all.Goals as goal
+use Rattle.task_texts.proofs.words.put_all.Goals as goal
 
 pub returns-in-None : goal.returns-in-None
 returns-in-None g c = rw c.in-None.ensures.word at (rw c.in-Some.is at c.loop-left.invariant)

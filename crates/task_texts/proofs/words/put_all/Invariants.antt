@@ -3,7 +3,7 @@ use Rattle.std.specs.Prelude.{option_map}
 use Rattle.std.specs.List.{slice_split}
 use Rattle.task_texts.specs.Words.{all_of, words_of}
 use Rattle.task_texts.proofs.WordLaws.{front_words, size_left}
-use Rattle.task_texts.proofs.words.all.Given as goal
+use Rattle.task_texts.proofs.words.put_all.Given as goal
 
 abbrev pub decreases-loop-left : goal.decreases-loop-left
 decreases-loop-left g l = size_left (option_map (λ text. text.now) l.left)
