@@ -13,4 +13,5 @@ pub mod ExactReports
 pub mod EachCall
 pub mod RunPages
 pub mod AsPlanned
+pub mod InPart
 pub mod ExactBack

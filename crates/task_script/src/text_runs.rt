@@ -1,12 +1,13 @@
 //! Scripts that are run on the dies of a store.
 
-ghost use Rattle.std.specs.Prelude.{◌≡◌, ◌≤◌, ◌++◌, [], None, All, length, map, IfOk, IfErr, IfSome, OnOk};
+ghost use Rattle.std.specs.Prelude.{◌≡◌, ◌≤◌, ◌++◌, [], None, All, length, map, IfOk, IfErr, IfSome, OnErr, OnOk};
 ghost use Rattle.plan_rules.specs.Bound.{MeetsBound};
 ghost use Rattle.task_script.specs.Feeds.{AllArrive};
-ghost use Rattle.task_script.specs.PlannedRuns.{RunsAsPlanned};
+ghost use Rattle.task_script.specs.PlannedRuns.{RunsAsPlanned, RunsSo};
 ghost use Rattle.task_script.specs.RowEnds.{ends_from, taken_at};
 ghost use Rattle.task_script.specs.StoreRuns.{all_ends, reports_of};
 ghost use Rattle.task_script.specs.TextRuns.{HaveRun, RefusesText, RunsText, with_rows};
+ghost use Rattle.task_texts.specs.Writing.{IsNotWhole};
 
 use crate::die_reports::die_report;
 use crate::die_runs::{Lines, run_store, split_all};
@@ -160,7 +161,7 @@ fn run_dies<R: Threads + Wait + Sync>(
 ///
 /// It ends with the first fault of the script, as [`ScriptReader`](crate::ScriptReader) tells it; with `ReadFault`; or
 /// with `NoMemory`. Nothing is written before the whole script was read and run, and nothing with these. `WriteFault`
-/// comes where the writer fails; how much it took by then is not said.
+/// comes where the writer fails: a front of the report was then written that isn't the whole.
 pub fn run_text<R: Threads + Wait + Sync, S: Read + Drop, W: Write>(
     rt: &R,
     alloc: Global,
@@ -179,6 +180,7 @@ pub fn run_text<R: Threads + Wait + Sync, S: Read + Drop, W: Write>(
     ensures planned { IfOk result (λ count. RunsAsPlanned (S.remaining script) plan.now slots count (W.contents writer.old) (W.contents writer.new)) }
     ensures refused { IfErr result (RefusesText (S.remaining script) (length plan.now) slots) }
     ensures unwritten { IfErr result (λ refusal. (refusal ≡ Refusal.WriteFault → ⊥) → writer.new ≡ writer.old) }
+    ensures part { OnErr result (IsNotWhole W.contents (RunsSo (S.remaining script) plan.now slots) writer.old writer.new) }
 {
     let rows = read_feeds(alloc, script, plan, slots)?;
     let ran = run_dies(rt, alloc, plan.as_slice(), rows, slots, workers)?;

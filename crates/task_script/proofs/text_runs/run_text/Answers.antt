@@ -1,7 +1,8 @@
-use Rattle.std.proofs.Common.{◌∙◌, ap}
+use Rattle.std.proofs.Common.{◌∙◌, ap, Err}
 use Rattle.task_script.specs.RunCounts.{count_of}
 use Rattle.task_script.proofs.AsPlanned.{runs_as_planned}
 use Rattle.task_script.proofs.Gathering.{runs_text}
+use Rattle.task_script.proofs.InPart.{runs_in_part}
 use Rattle.task_script.proofs.text_runs.run_text.Goals as goal
 
 pub returns-in-Ok-clause-ran : goal.returns-in-Ok-clause-ran
@@ -13,3 +14,8 @@ pub returns-in-Ok-clause-planned : goal.returns-in-Ok-clause-planned
 returns-in-Ok-clause-planned g c =
     runs_as_planned _ c.args.plan.now c.args.slots c.in_ok-rows.rows.items _ _ _ _ _ c.requires.bound c.in_ok-rows.ensures.feeds
     (rw c.as_slice.ensures at c.in_ok-ran.ensures.ran) (c.count.ensures ∙ ap count_of c.as_slice-in-Ok.ensures) c.in-Ok.ensures.written
+
+pub returns-clause-part : goal.returns-clause-part
+returns-clause-part g c =
+    runs_in_part g.W.Write.contents _ c.args.plan.now c.args.slots c.in_ok-rows.rows.items _ _ _ _ c.in-Err.refusal c.requires.bound c.in_ok-rows.ensures.feeds
+    (rw c.as_slice.ensures at c.in_ok-ran.ensures.ran) (λ is. c.in-Err.ensures.memory (ap Err is)) (λ is. c.in-Err.ensures.part (ap Err is)) c.in-Err.ensures.refused
