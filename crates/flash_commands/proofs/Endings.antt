@@ -1,16 +1,37 @@
 -- An outcome with the status of a refusal is one.
-use Rattle.std.proofs.Common.{◌≡◌, Result, Ok, Err, IfErr, arith}
+use Rattle.std.proofs.Common.{◌≡◌, ℕ, List, [], Option, Some, Result, Ok, Err, IfErr, arith, inl, inr}
 use Rattle.slot_types.specs.declared.refusals.Refusal.{Refusal}
-use Rattle.flash_commands.specs.Acts.{IsFaultOf}
+use Rattle.task_texts.specs.Writing.{IsNotWhole}
+use Rattle.flash_commands.specs.Acts.{IsFaultOf, IsRefusedFor, IsUnwritten, PrintsSome, Refuses}
 use Rattle.flash_commands.specs.Faults.{outcome_status}
+use Rattle.flash_commands.specs.declared.commands.Command.{Command}
 use Rattle.flash_commands.specs.declared.faults.Fault.{Fault}
 use Rattle.flash_commands.specs.declared.faults.Fault.TheVariants.{Certificate, NotText, Refused, Words}
 
--- what is said of it beside it
-pub refusal-of : (P Q : Refusal → Type 0) (done : Result (Unit {0}) Fault) → IfErr done (IsFaultOf P) → IfErr done (IsFaultOf Q)
-    → outcome_status done ≡ 1 → (refusal : Refusal) × P refusal × Q refusal
-refusal-of P Q (Ok x) p q ends = absurd (omega (arith, ends))
-refusal-of P Q (Err (Refused refusal)) p q ends = (refusal, p, q)
-refusal-of P Q (Err (Words error)) p q ends = absurd p
-refusal-of P Q (Err NotText) p q ends = absurd p
-refusal-of P Q (Err Certificate) p q ends = absurd (omega (arith, ends))
+-- what is said of it
+pub refusal-of : (P : Refusal → Type 0) (done : Result (Unit {0}) Fault) → IfErr done (IsFaultOf P) → outcome_status done ≡ 1 → (refusal : Refusal) × P refusal
+refusal-of P (Ok x) p ends = absurd (omega (arith, ends))
+refusal-of P (Err (Refused refusal)) p ends = (refusal, p)
+refusal-of P (Err (Words error)) p ends = absurd p
+refusal-of P (Err NotText) p ends = absurd p
+refusal-of P (Err Certificate) p ends = absurd (omega (arith, ends))
+
+not-whole-as : {W : Type 0} (contents : W → Option (List ℕ)) (P Q : Option (List ℕ) → Option (List ℕ) → Type 0) (old new : W)
+    → ((a b : Option (List ℕ)) → P a b → Q a b) → IsNotWhole contents P old new → IsNotWhole contents Q old new
+not-whole-as contents P Q old new turn (inl same) = inl same
+not-whole-as contents P Q old new turn (inr (whole, prints, part)) = inr (whole, turn (Some []) (Some whole) prints, part)
+
+-- the refusal of a command, of which three things are said
+pub refused-for : {W : Type 0} (contents : W → Option (List ℕ)) (c : Command) (first second : Option (List ℕ)) (old new : W)
+    (P : Option (List ℕ) → Option (List ℕ) → Type 0) (done : Result (Unit {0}) Fault) → ((a b : Option (List ℕ)) → P a b → PrintsSome c first second a b)
+    → IfErr done (IsFaultOf (Refuses c first second)) → IfErr done (IsFaultOf (IsUnwritten old new))
+    → IfErr done (IsFaultOf (λ _. IsNotWhole contents P old new)) → IfErr done (IsFaultOf (IsRefusedFor contents c first second old new))
+refused-for contents c first second old new P (Ok x) turn why unwritten part = tt
+refused-for contents c first second old new P (Err (Refused refusal)) turn why unwritten part = record {
+  why = why;
+  unwritten = unwritten;
+  part = not-whole-as contents P (PrintsSome c first second) old new turn part;
+}
+refused-for contents c first second old new P (Err (Words error)) turn why unwritten part = why
+refused-for contents c first second old new P (Err NotText) turn why unwritten part = why
+refused-for contents c first second old new P (Err Certificate) turn why unwritten part = tt

@@ -1,3 +1,4 @@
 mod KindLemmas
 mod Endings
 mod Unopened
+mod Told

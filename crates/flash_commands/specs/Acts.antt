@@ -9,6 +9,7 @@ use Rattle.task_texts.specs.PlanText.{plan_of}
 use Rattle.task_texts.specs.Readings.{IsOutside}
 use Rattle.task_texts.specs.ReportOf.{report_of}
 use Rattle.task_texts.specs.Stores.{RefusesPlan}
+use Rattle.task_texts.specs.Writing.{IsNotWhole}
 use Rattle.task_texts.specs.declared.reports.DieReport.{DieReport}
 use Rattle.flash_commands.specs.Audit.{audit_status, audit_text}
 use Rattle.flash_commands.specs.Figures.{plan_text}
@@ -41,6 +42,10 @@ RefusesFigures text refusal = IsHostFault refusal ⊎ IfSome text (λ bytes. Ref
 abbrev pub PrintsAudit : Option (List ℕ) → Option (List ℕ) → Option (List ℕ) → ℕ → Type 0
 PrintsAudit text old new status = (report : List DieReport) × IsReportOf text report × Appends old new (audit_text report) × (status ≡ audit_status report)
 
+-- so it is, whatever the status
+abbrev pub AuditsSome : Option (List ℕ) → Option (List ℕ) → Option (List ℕ) → Type 0
+AuditsSome text old new = (status : ℕ) × PrintsAudit text old new status
+
 -- the figures of the plan that was read are printed
 abbrev pub PrintsFigures : Option (List ℕ) → Option (List ℕ) → Option (List ℕ) → Type 0
 PrintsFigures text old new = (store : List DiePlan) × IsStoreOf text store × Appends old new (plan_text store)
@@ -72,13 +77,22 @@ Refuses (command.Plan plan) first second refusal = RefusesFigures first refusal
 Refuses (command.Run plan script slots workers) first second refusal = RefusesRun first second slots refusal
 Refuses command.Alone first second refusal = RefusesRun (Some PLAN.now) (Some SCRIPT.now) SLOTS refusal
 
--- a refusal other than the writer's own leaves the writer as it was; how much a failing writer took is not said
+-- a refusal other than the writer's own leaves the writer as it was
 abbrev pub IsUnwritten : {W : Type 0} → W → W → Refusal → Type 0
 IsUnwritten old new refusal = (refusal ≡ WriteFault → ⊥) → new ≡ old
 
--- a command is refused, and nothing is written, unless the writer failed
-abbrev pub IsRefused : {W : Type 0} → Command → Option (List ℕ) → Option (List ℕ) → W → W → Type 0
-IsRefused c first second old new = (refusal : Refusal) × Refuses c first second refusal × IsUnwritten old new refusal
+-- what a command prints, whatever its status
+abbrev pub PrintsSome : Command → Option (List ℕ) → Option (List ℕ) → Option (List ℕ) → Option (List ℕ) → Type 0
+PrintsSome c first second old new = (status : ℕ) × Prints c first second old new status
+
+-- why a command is refused, and that nothing was written, or not the whole
+pub record IsRefusedFor {W : Type 0} (contents : W → Option (List ℕ)) (c : Command) (first second : Option (List ℕ)) (old new : W) (refusal : Refusal) : Type 0 where
+  pub why : Refuses c first second refusal
+  pub unwritten : IsUnwritten old new refusal
+  pub part : IsNotWhole contents (PrintsSome c first second) old new
+
+abbrev pub IsRefused : {W : Type 0} → (W → Option (List ℕ)) → Command → Option (List ℕ) → Option (List ℕ) → W → W → Type 0
+IsRefused contents c first second old new = (refusal : Refusal) × IsRefusedFor contents c first second old new refusal
 
 -- so much of a fault: it is a refusal, of which these say why it comes and what it leaves; or a refused certificate
 abbrev pub IsFaultOf : (Refusal → Type 0) → Fault → Type 0

@@ -1,10 +1,10 @@
 //! Commands that are carried out.
 
-ghost use Rattle.std.specs.Prelude.{◌≡◌, ◌≤◌, ◌⊎◌, IfOk, IfErr, OnOk, if◌then◌else◌};
-ghost use Rattle.std.specs.Io.KnownBytes.{Appends};
-ghost use Rattle.flash_commands.specs.Acts.{IsFaultOf, IsRefused, IsUnwritten, Prints, PrintsAudit, PrintsFigures, PrintsRun, Refuses, RefusesAudit, RefusesFigures, RefusesRun};
+ghost use Rattle.std.specs.Prelude.{◌≡◌, ◌≤◌, ◌⊎◌, IfOk, IfErr, OnErr, OnOk, if◌then◌else◌};
+ghost use Rattle.flash_commands.specs.Acts.{AuditsSome, IsFaultOf, IsRefused, IsRefusedFor, IsUnwritten, Prints, PrintsAudit, PrintsFigures, PrintsRun, RefusesAudit, RefusesFigures, RefusesRun};
 ghost use Rattle.flash_commands.specs.Commands.{FitsRun};
 ghost use Rattle.flash_commands.specs.Faults.{outcome_status};
+ghost use Rattle.task_texts.specs.Writing.{IsNotWhole};
 
 use crate::audits::audit_report;
 use crate::built_in;
@@ -17,18 +17,7 @@ use std::io::{Read, Write};
 use std::sync::Wait;
 use std::thread::Threads;
 use task_script::{RunCount, read_report, run_text};
-use task_texts::read_plan_from;
-
-/// Writes a text that is whole.
-fn put<W: Write>(out: &mut W, text: &[u8]) -> Result<(), Refusal>
-    ensures written { OnOk result (Appends (W.contents out.old) (W.contents out.new) text.now) }
-    ensures refused { IfErr result (λ refusal. refusal ≡ Refusal.WriteFault) }
-{
-    match out.write_all(text) {
-        Ok(()) => Ok(()),
-        Err(_) => Err(Refusal::WriteFault),
-    }
-}
+use task_texts::{read_plan_from, write_whole};
 
 /// Prints the figures of a plan.
 fn print_figures<R: Read + Drop, W: Write>(
@@ -39,10 +28,11 @@ fn print_figures<R: Read + Drop, W: Write>(
     ensures printed { OnOk result (PrintsFigures (R.remaining first) (W.contents out.old) (W.contents out.new)) }
     ensures refused { IfErr result (RefusesFigures (R.remaining first)) }
     ensures unwritten { IfErr result (IsUnwritten out.old out.new) }
+    ensures part { OnErr result (IsNotWhole W.contents (PrintsFigures (R.remaining first)) out.old out.new) }
 {
     let store = read_plan_from(alloc, first)?;
     let text = figures_text(alloc, &store)?;
-    put(out, &text)
+    write_whole(out, &text)
 }
 
 /// Prints the audit of a report, and says whether a certificate is refused.
@@ -54,10 +44,11 @@ fn print_audit<R: Read + Drop, W: Write>(
     ensures printed { IfOk result (λ refused. PrintsAudit (R.remaining first) (W.contents out.old) (W.contents out.new) (if refused then 3 else 0)) }
     ensures refused { IfErr result (RefusesAudit (R.remaining first)) }
     ensures unwritten { IfErr result (IsUnwritten out.old out.new) }
+    ensures part { OnErr result (IsNotWhole W.contents (AuditsSome (R.remaining first)) out.old out.new) }
 {
     let report = read_report(alloc, first)?;
     let audit = audit_report(alloc, &report)?;
-    put(out, &audit.text)?;
+    write_whole(out, &audit.text)?;
     Ok(audit.refused)
 }
 
@@ -76,6 +67,7 @@ fn print_run<R: Threads + Wait + Sync, F: Read + Drop, S: Read + Drop, W: Write>
     ensures printed { OnOk result (PrintsRun (F.remaining first) (S.remaining second) slots (W.contents out.old) (W.contents out.new)) }
     ensures refused { IfErr result (RefusesRun (F.remaining first) (S.remaining second) slots) }
     ensures unwritten { IfErr result (IsUnwritten out.old out.new) }
+    ensures part { OnErr result (IsNotWhole W.contents (PrintsRun (F.remaining first) (S.remaining second) slots) out.old out.new) }
 {
     let store = read_plan_from(alloc, first)?;
     run_text(rt, alloc, &store, second, out, slots, workers)
@@ -105,6 +97,7 @@ fn run<R: Threads + Wait + Sync, F: Read + Drop, S: Read + Drop, W: Write, E: Wr
     ensures printed { (outcome_status result ≡ 1) ⊎ (PrintsRun (F.remaining first) (S.remaining second) slots (W.contents out.old) (W.contents out.new) × (outcome_status result ≡ 0)) }
     ensures refused { IfErr result (IsFaultOf (RefusesRun (F.remaining first) (S.remaining second) slots)) }
     ensures unwritten { IfErr result (IsFaultOf (IsUnwritten out.old out.new)) }
+    ensures part { IfErr result (IsFaultOf (λ _. IsNotWhole W.contents (PrintsRun (F.remaining first) (S.remaining second) slots) out.old out.new)) }
 {
     let count = print_run(rt, alloc, first, second, slots, workers, out)?;
     tell_refused(err, &count);
@@ -116,6 +109,7 @@ fn figures<R: Read + Drop, W: Write>(alloc: Global, first: R, out: &mut W) -> Re
     ensures printed { (outcome_status result ≡ 1) ⊎ (PrintsFigures (R.remaining first) (W.contents out.old) (W.contents out.new) × (outcome_status result ≡ 0)) }
     ensures refused { IfErr result (IsFaultOf (RefusesFigures (R.remaining first))) }
     ensures unwritten { IfErr result (IsFaultOf (IsUnwritten out.old out.new)) }
+    ensures part { IfErr result (IsFaultOf (λ _. IsNotWhole W.contents (PrintsFigures (R.remaining first)) out.old out.new)) }
 {
     print_figures(alloc, first, out)?;
     Ok(())
@@ -126,6 +120,7 @@ fn audit<R: Read + Drop, W: Write>(alloc: Global, first: R, out: &mut W) -> Resu
     ensures printed { (outcome_status result ≡ 1) ⊎ PrintsAudit (R.remaining first) (W.contents out.old) (W.contents out.new) (outcome_status result) }
     ensures refused { IfErr result (IsFaultOf (RefusesAudit (R.remaining first))) }
     ensures unwritten { IfErr result (IsFaultOf (IsUnwritten out.old out.new)) }
+    ensures part { IfErr result (IsFaultOf (λ _. IsNotWhole W.contents (AuditsSome (R.remaining first)) out.old out.new)) }
 {
     if print_audit(alloc, first, out)? {
         return Err(Fault::Certificate);
@@ -138,7 +133,7 @@ fn audit<R: Read + Drop, W: Write>(alloc: Global, first: R, out: &mut W) -> Resu
 ///
 /// What it prints is what [`act`] says. `Certificate` comes exactly where a report was read and audited, its audit is
 /// printed whole, and some certificate is refused; any other error is a refusal. A refusal leaves `out` as it was,
-/// but for `WriteFault`: how much `out` took by then is not said.
+/// but for `WriteFault`: `out` then took a front of what was to be printed, and not the whole.
 pub fn carry_out<R: Threads + Wait + Sync, F: Read + Drop, S: Read + Drop, W: Write, E: Write>(
     rt: &R,
     alloc: Global,
@@ -150,8 +145,7 @@ pub fn carry_out<R: Threads + Wait + Sync, F: Read + Drop, S: Read + Drop, W: Wr
 ) -> Result<(), Fault>
     requires { FitsRun command }
     ensures printed { (outcome_status result ≡ 1) ⊎ Prints command.entry (F.remaining first) (S.remaining second) (W.contents out.old) (W.contents out.new) (outcome_status result) }
-    ensures refused { IfErr result (IsFaultOf (Refuses command.entry (F.remaining first) (S.remaining second))) }
-    ensures unwritten { IfErr result (IsFaultOf (IsUnwritten out.old out.new)) }
+    ensures refused { IfErr result (IsFaultOf (IsRefusedFor W.contents command.entry (F.remaining first) (S.remaining second) out.old out.new)) }
 {
     match command {
         Command::Alone => {
@@ -181,8 +175,8 @@ pub fn carry_out<R: Threads + Wait + Sync, F: Read + Drop, S: Read + Drop, W: Wr
 /// of the plan is read than 1,048,577 bytes.
 ///
 /// Each text for `out` is made whole before its first byte. A refusal is told in a line to `err`, as
-/// `error 19 ScriptRow 6 Fields`, and the status is 1: nothing was written to `out`, or `out` failed. Where `err`
-/// fails, that is passed over. A run may wait for its workers.
+/// `error 19 ScriptRow 6 Fields`, and the status is 1: nothing was written to `out`, or `out` failed before it had the
+/// whole text. Where `err` fails, that is passed over. Neither is flushed. A run may wait for its workers.
 pub fn act<R: Threads + Wait + Sync, F: Read + Drop, S: Read + Drop, W: Write, E: Write>(
     rt: &R,
     alloc: Global,
@@ -194,7 +188,7 @@ pub fn act<R: Threads + Wait + Sync, F: Read + Drop, S: Read + Drop, W: Write, E
 ) -> u8
     requires { FitsRun command }
     ensures printed { (result ≡ 1) ⊎ Prints command.entry (F.remaining first) (S.remaining second) (W.contents out.old) (W.contents out.new) result }
-    ensures refused { result ≡ 1 → IsRefused command.entry (F.remaining first) (S.remaining second) out.old out.new }
+    ensures refused { result ≡ 1 → IsRefused W.contents command.entry (F.remaining first) (S.remaining second) out.old out.new }
 {
     let done = carry_out(rt, alloc, command, first, second, out, err);
     end(err, done)

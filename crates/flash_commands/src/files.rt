@@ -1,7 +1,7 @@
 //! Commands that are carried out on files.
 
 ghost use Rattle.std.specs.Prelude.{◌≡◌, ◌⊎◌, IfErr, IfOk};
-ghost use Rattle.flash_commands.specs.Acts.{IsFaultOf, IsRefused, IsUnwritten, Prints, Refuses};
+ghost use Rattle.flash_commands.specs.Acts.{IsFaultOf, IsRefused, IsRefusedFor, Prints};
 ghost use Rattle.flash_commands.specs.Commands.{FitsRun};
 ghost use Rattle.flash_commands.specs.Faults.{outcome_status};
 ghost use Rattle.flash_commands.specs.Files.{Gives, OfFiles};
@@ -67,8 +67,7 @@ fn carry_out_on<R: Threads + Wait + Sync, D: Folder, W: Write, E: Write>(
 ) -> Result<(), Fault>
     requires { FitsRun command }
     ensures printed { (outcome_status result ≡ 1) ⊎ OfFiles (D.held folder.now) command.entry (λ first second. Prints command.entry first second (W.contents out.old) (W.contents out.new) (outcome_status result)) }
-    ensures refused { IfErr result (IsFaultOf (λ refusal. OfFiles (D.held folder.now) command.entry (λ first second. Refuses command.entry first second refusal))) }
-    ensures unwritten { IfErr result (IsFaultOf (IsUnwritten out.old out.new)) }
+    ensures refused { IfErr result (IsFaultOf (λ refusal. OfFiles (D.held folder.now) command.entry (λ first second. IsRefusedFor W.contents command.entry first second out.old out.new refusal))) }
 {
     match command {
         Command::Alone => carry_out(rt, alloc, command, io::empty(), io::empty(), out, err),
@@ -100,7 +99,7 @@ pub fn act_on<R: Threads + Wait + Sync, D: Folder, W: Write, E: Write>(
 ) -> u8
     requires { FitsRun command }
     ensures printed { (result ≡ 1) ⊎ OfFiles (D.held folder.now) command.entry (λ first second. Prints command.entry first second (W.contents out.old) (W.contents out.new) result) }
-    ensures refused { result ≡ 1 → OfFiles (D.held folder.now) command.entry (λ first second. IsRefused command.entry first second out.old out.new) }
+    ensures refused { result ≡ 1 → OfFiles (D.held folder.now) command.entry (λ first second. IsRefused W.contents command.entry first second out.old out.new) }
 {
     let done = carry_out_on(rt, alloc, folder, command, out, err);
     end(err, done)

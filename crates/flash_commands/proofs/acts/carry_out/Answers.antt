@@ -1,0 +1,13 @@
+use Rattle.std.proofs.Common.{Some, refl}
+use Rattle.flash_commands.specs.Acts.{PrintsRun}
+use Rattle.flash_commands.specs.declared.built_in.TheConstants.{PLAN, SCRIPT, SLOTS}
+use Rattle.flash_commands.specs.declared.commands.Command.TheVariants as command
+use Rattle.flash_commands.proofs.Endings.{refused-for}
+use Rattle.flash_commands.proofs.acts.carry_out.Goals as goal
+
+pub returns-in-Alone-clause-refused : goal.returns-in-Alone-clause-refused
+returns-in-Alone-clause-refused g c =
+    rw c.in-Alone.is
+    (refused-for g.W.Write.contents command.Alone _ _ _ _ (PrintsRun (Some PLAN.now) (Some SCRIPT.now) SLOTS) c.run.result (λ a b prints. (0, (prints, refl)))
+    (rw (c.as_bytes-plan.ensures.value, c.as_bytes-script.ensures.value) at c.run.ensures.refused) c.run.ensures.unwritten
+    (rw (c.as_bytes-plan.ensures.value, c.as_bytes-script.ensures.value) at c.run.ensures.part))
