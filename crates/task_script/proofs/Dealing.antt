@@ -3,7 +3,8 @@ use Rattle.std.proofs.Common.{◌≡◌, ℕ, ◌+◌, ◌<◌, ◌==◌, ◌⊎
 use Rattle.std.specs.Prelude.{IfSome, option_map}
 use Rattle.std.proofs.lemmas.Bool.{eq-eqb, eqb-true}
 use Rattle.std.proofs.lemmas.List.{append-nil, length-set, length-replicate, get_or-replicate, get_or-set_same, get_or-set_other, get_or_default, replicate-append-replicate}
-use Rattle.std.proofs.lemmas.List.Elements.{All-get_or, All-nil, All-push, All-replicate, All-set, filter-append}
+use Rattle.std.specs.Prelude.{All}
+use Rattle.std.proofs.lemmas.List.Elements.{All-get_or, All-nil, All-push, All-replicate, All-same, All-set, All-weaker, filter-append, filter_passes}
 use Rattle.std.proofs.Math.ListN.{set}
 use Rattle.slot_types.specs.declared.refusals.Refusal.{Refusal}
 use Rattle.task_texts.specs.AskedPages.{RowHasPages, RowsHavePages}
@@ -125,3 +126,12 @@ deals_fault text left new dies slots feeds e step h = known (read_fault _ left n
 
 pub no_more : (n : ℕ) (feeds : List (List ScriptItem)) → feeds ≡ replicate n [] → feeds ++ [] ∷ [] ≡ replicate (n + 1) []
 no_more n feeds is = ap (λ (xs : List (List ScriptItem)). xs ++ [] ∷ []) is ∙ replicate-append-replicate n 1 []
+
+-- the rows that a die has so far are all of it
+pub dealt_own : (whole left : Option Script) (dies slots : ℕ) (feeds : List (List ScriptItem)) (item : ScriptItem) (old : List ScriptItem) → IsRowFor dies slots item
+    → old ≡ get_or feeds item.die old → HasDealt whole left dies slots feeds → All (λ (row : ScriptItem). row.die ≡ item.die) old
+dealt_own whole left dies slots feeds item old row at h =
+    let below : item.die < length feeds = omega (arith, row.0, h.2.all) in
+    let is : old ≡ feed_of h.0 item.die = at ∙ get_or_default feeds item.die old [] below ∙ h.2.rows item.die row.0 in
+    All-same (λ (row : ScriptItem). row.die ≡ item.die) old (feed_of h.0 item.die) is
+    (All-weaker (λ (row : ScriptItem). is_of item.die row ≡ true) (λ row. row.die ≡ item.die) (λ (row : ScriptItem) same. eqb-true row.die item.die same) (feed_of h.0 item.die) (filter_passes (is_of item.die) h.0))

@@ -1,5 +1,6 @@
 pub mod DieRows
 pub mod Calling
+pub mod KeptRows
 pub mod Dealing
 pub mod Gathering
 pub mod Transcripts

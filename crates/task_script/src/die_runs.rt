@@ -8,35 +8,14 @@ ghost use Rattle.die_service.specs.Runs as run;
 ghost use Rattle.task_script.specs.RowEnds.{arrivals_of, lines_of};
 ghost use Rattle.task_script.specs.StoreRuns.{RanFeeds};
 
-use crate::feeds::DieRows;
-use die_service::{Arrival, DieEnds, DiePass, Feed, FreeGate, Store, close, run_slots};
+use crate::rows::{DieRows, Lines};
+use die_service::{DieEnds, DiePass, Feed, FreeGate, Store, close, run_slots};
 use flash_die::MemoryNand;
 use slot_core::DieCore;
-use slot_types::{Caps, DiePlan, Items, Refusal, StorePlan, Times, TimesList};
+use slot_types::{Caps, DiePlan, Refusal, StorePlan, Times, TimesList};
 use std::alloc::Global;
 use std::sync::Wait;
 use std::thread::Threads;
-
-/// The lines of rows, in their order.
-pub type Lines = Items<u32>;
-
-/// The rows of a die, as its feed and the lines of their records.
-fn split_rows(alloc: Global, rows: DieRows) -> Result<(Feed, Lines), Refusal>
-    ensures feed { IfOk result (λ made. made.0 ≡ arrivals_of rows) }
-    ensures lines { IfOk result (λ made. made.1 ≡ lines_of rows) }
-    ensures refused { IfErr result (λ refusal. refusal ≡ Refusal.NoMemory) }
-{
-    let mut feed = Feed::new(alloc);
-    let mut lines = Lines::new(alloc);
-    for item in rows.into_vec() {
-        lines.push(item.line)?;
-        feed.push(Arrival {
-            at: item.at,
-            event: item.event,
-        })?;
-    }
-    Ok((feed, lines))
-}
 
 /// The rows of all dies, as their feeds and the lines of their records.
 pub fn split_all(alloc: Global, rows: Vec<DieRows>) -> Result<(Vec<Feed>, Vec<Lines>), Refusal>
@@ -47,7 +26,7 @@ pub fn split_all(alloc: Global, rows: Vec<DieRows>) -> Result<(Vec<Feed>, Vec<Li
     let mut feeds = Vec::new(alloc);
     let mut lines = Vec::new(alloc);
     for die in rows {
-        let (feed, line) = split_rows(alloc, die)?;
+        let (feed, line) = die.into_parts();
         match feeds.push(feed) {
             Ok(()) => {}
             Err(_) => return Err(Refusal::NoMemory),

@@ -1,15 +1,13 @@
 //! The rows of a script, by die.
 
-ghost use Rattle.std.specs.Prelude.{◌≡◌, ◌∷◌, ◌++◌, [], length, replicate, IfOk, IfErr, OnOk};
+ghost use Rattle.std.specs.Prelude.{◌≡◌, [], length, replicate, IfOk, IfErr};
 ghost use Rattle.task_script.specs.Feeds.{AreFeedsOf, RefusesScript};
 
-use slot_types::{Items, Refusal, StorePlan};
+use crate::rows::DieRows;
+use slot_types::{Refusal, StorePlan};
 use std::alloc::Global;
 use std::io::Read;
-use task_texts::{ScriptItem, ScriptReader};
-
-/// The rows of a die, in their order.
-pub type DieRows = Items<ScriptItem>;
+use task_texts::ScriptReader;
 
 /// By die no row.
 fn no_feeds(alloc: Global, dies: usize) -> Result<Vec<DieRows>, Refusal>
@@ -24,15 +22,6 @@ fn no_feeds(alloc: Global, dies: usize) -> Result<Vec<DieRows>, Refusal>
         }
     }
     Ok(feeds)
-}
-
-/// Adds a row.
-fn add(feed: &mut DieRows, item: ScriptItem) -> Result<(), Refusal>
-    ensures ok { OnOk result (feed.new ≡ feed.old ++ item ∷ []) }
-    ensures refused { IfErr result (λ refusal. refusal ≡ Refusal.NoMemory) }
-{
-    feed.push(item)?;
-    Ok(())
 }
 
 /// By die its rows of a script.
@@ -51,7 +40,7 @@ pub fn read_feeds<R: Read + Drop>(
         match script.next() {
             Ok(Some(item)) => {
                 let die = item.die as usize;
-                match add(&mut feeds[die], item) {
+                match feeds[die].add(item) {
                     Ok(()) => {}
                     Err(refusal) => return Err(refusal),
                 }

@@ -5,6 +5,7 @@ mod die_reports;
 mod die_runs;
 mod feeds;
 mod laws;
+mod rows;
 mod run_counts;
 mod text_runs;
 

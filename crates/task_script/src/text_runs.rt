@@ -10,8 +10,9 @@ ghost use Rattle.task_script.specs.TextRuns.{HaveRun, RefusesText, RunsText, wit
 ghost use Rattle.task_texts.specs.Writing.{IsNotWhole};
 
 use crate::die_reports::die_report;
-use crate::die_runs::{Lines, run_store, split_all};
-use crate::feeds::{DieRows, read_feeds};
+use crate::die_runs::{run_store, split_all};
+use crate::feeds::read_feeds;
+use crate::rows::{DieRows, Lines};
 use crate::run_counts::{RowEnd, RowEnds, RunCount, count};
 use die_service::{DieEnd, RefusedEvent};
 use flash_die::MemoryNand;

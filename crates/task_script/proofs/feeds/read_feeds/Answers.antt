@@ -1,5 +1,5 @@
 use Rattle.std.proofs.Common.{◌∙◌, refl}
-use Rattle.task_script.proofs.Dealing.{deals_none, deals_more, deals_all, deals_fault}
+use Rattle.task_script.proofs.Dealing.{dealt_own, deals_none, deals_more, deals_all, deals_fault}
 use Rattle.task_script.proofs.feeds.read_feeds.Goals as goal
 
 pub loop-init : goal.loop-init
@@ -25,3 +25,8 @@ loop-preserved g c =
       slots = c.next.ensures.slots ∙ c.loop.invariant.slots;
       dealt = deals_more _ _ _ _ _ _ _ c.in-Ok-Some.item _ _ (rw (c.loop.invariant.dies, c.loop.invariant.slots) at row) paged c.index_mut.ensures.value c.in-Ok.ensures.ok refl step c.loop.invariant.dealt;
     }
+
+pub add-requires : goal.add-requires
+add-requires g c =
+    let row = rw c.in-Ok-Some.field-0-is at c.in-Ok-Some.ensures.row in
+    record { one_die = dealt_own _ _ _ _ _ c.in-Ok-Some.item _ (rw (c.loop.invariant.dies, c.loop.invariant.slots) at row) c.index_mut.ensures.value c.loop.invariant.dealt }

@@ -1,0 +1,72 @@
+//! The rows of a die, as its run needs them.
+
+ghost use Rattle.std.specs.Prelude.{◌≡◌, ◌∷◌, ◌++◌, [], All, IfErr, OnOk};
+ghost use Rattle.task_script.specs.RowEnds.{arrivals_of, lines_of};
+
+use die_service::{Arrival, Feed};
+use slot_types::{Items, Refusal};
+use std::alloc::Global;
+use std::marker::Model;
+use task_texts::ScriptItem;
+
+/// The lines of rows, in their order.
+pub type Lines = Items<u32>;
+
+/// Rows of one die, in their order: they are parted into its feed and the lines of their records as they come, so that
+/// no row is kept twice.
+#[derive(Drop)]
+pub struct DieRows {
+    feed: Feed,
+    lines: Vec<u32>,
+    // The die of the row that came last, which is that of all.
+    die: u32,
+}
+
+impl Model for DieRows {
+    ghost use Rattle.std.specs.Prelude.{◌≡◌, List, length};
+    ghost use Rattle.task_texts.specs.declared.items.ScriptItem.{ScriptItem};
+    ghost use Rattle.task_script.specs.RowEnds.{rows_of};
+
+    ghost Value = { List ScriptItem };
+
+    ghost view = { λ r. rows_of r.die r.lines.items r.feed };
+
+    ghost invariant = { λ r. length r.lines.items ≡ length r.feed };
+}
+
+impl DieRows {
+    /// No row. It takes no memory.
+    pub fn new(alloc: Global) -> DieRows
+        ensures { result ≡ [] }
+    {
+        DieRows {
+            feed: Feed::new(alloc),
+            lines: Vec::new(alloc),
+            die: 0,
+        }
+    }
+
+    /// Adds a row of the same die. The only refusal is for want of memory.
+    pub fn add(&mut self, item: ScriptItem) -> Result<(), Refusal>
+        requires one_die { All (λ row. row.die ≡ item.die) self.old }
+        ensures ok { OnOk result (self.new ≡ self.old ++ item ∷ []) }
+        ensures refused { IfErr result (λ refusal. refusal ≡ Refusal.NoMemory) }
+    {
+        self.lines.reserve(1)?;
+        self.feed.push(Arrival {
+            at: item.at,
+            event: item.event,
+        })?;
+        self.lines.push_reserved(item.line);
+        self.die = item.die;
+        Ok(())
+    }
+
+    /// The rows as their feed and the lines of their records.
+    pub fn into_parts(self) -> (Feed, Lines)
+        ensures feed { result.0 ≡ arrivals_of self }
+        ensures lines { result.1 ≡ lines_of self }
+    {
+        (self.feed, Lines::from_vec(self.lines))
+    }
+}
