@@ -5,6 +5,7 @@ pub mod Passing
 pub mod Making
 pub mod LastPasses
 pub mod Joining
+pub mod Feeding
 pub mod Driving
 pub mod Bringing
 pub mod Clocking

@@ -3,6 +3,7 @@ use Rattle.std.specs.Prelude.{◌≡◌, ◌≢◌, ℕ, ◌+◌, ◌<◌, ◌�
 use Rattle.slot_types.specs.declared.plans.DiePlan.{DiePlan}
 use Rattle.slot_types.specs.declared.events.Event.{Event}
 use Rattle.slot_types.specs.declared.events.Event.TheVariants as events
+use Rattle.slot_types.specs.declared.events.Op.{Op}
 use Rattle.slot_types.specs.declared.replies.Reply.{Reply}
 use Rattle.slot_types.specs.declared.replies.Reply.TheVariants as replies
 use Rattle.slot_types.specs.declared.replies.SlotReply.{SlotReply}
@@ -18,15 +19,16 @@ use Rattle.slot_types.specs.Arrivals.{IsArrival}
 use Rattle.die_service.specs.Runs.{Said, said, due_by, later_than, AreAsked, accepted_by, slots_in, place_behind, refused_from, stop_of, IsReasoned, HasRun}
 use Rattle.die_service.specs.Stores.{DiePass}
 
--- The events of a feed that are still to come, how many came, and those of them that were refused
+-- The events of a feed that are still to come, how many came, the operations of the last of these, and those of them that were refused
 pub record Course : Type 0 where
   pub rest : List Arrival
   pub place : ℕ
+  pub ops : List Op
   pub refused : List RefusedEvent
 
 -- a feed of which nothing came
 abbrev pub whole_course : List Arrival → Course
-whole_course feed = record { rest = feed; place = 0; refused = [] }
+whole_course feed = record { rest = feed; place = 0; ops = []; refused = [] }
 
 -- How far a worker is with a die
 pub record Standing : Type 0 where

@@ -4,14 +4,16 @@ ghost use Rattle.std.specs.Prelude.{◌≡◌, true, false, IfOk, IfErr, OnErr};
 ghost use Rattle.std.specs.Box.{box_value};
 ghost use Rattle.die_log.specs.Answers.{answer, IsAccepted};
 ghost use Rattle.slot_core.specs.Core.{with_entry};
+ghost use Rattle.die_service.specs.Feeds.{with_ops};
 ghost use Rattle.die_service.specs.Replies.{MayRefuse, noted};
 
+use crate::heads::EventHead;
 use crate::queries::{Answer, Query};
 use crate::refused::RefusedAt;
 use crate::reply_note::ReplyNote;
 use flash_die::Nand;
 use slot_core::DieCore;
-use slot_types::{DiePlan, Event, Refusal, Reply};
+use slot_types::{DiePlan, Event, Op, Refusal, Reply};
 use std::alloc::Global;
 use std::marker::Model;
 use turn_lock::Book;
@@ -86,33 +88,39 @@ impl<N: Nand> DieBook<N> {
             },
         }
     }
-    /// What the die says to an event, of which no more than a note is kept.
-    fn perform_noted(&mut self, caller: u32, event: Event) -> Result<ReplyNote, Refusal>
+
+    /// What the die says to an event whose operations are lent; no more than a note of it is kept.
+    fn perform_noted(
+        &mut self,
+        caller: u32,
+        head: EventHead,
+        ops: &[Op],
+    ) -> Result<ReplyNote, Refusal>
         ensures plan { self.new.plan ≡ self.old.plan }
-        ensures answered { IfOk result (λ note. answer self.old.plan self.old.log event ≡ noted note) }
+        ensures answered { IfOk result (λ note. answer self.old.plan self.old.log (with_ops head ops.now) ≡ noted note) }
         ensures accepted { IfOk result (λ note. IsAccepted (noted note)) }
-        ensures logged { IfOk result (λ note. self.new.log ≡ with_entry caller event (noted note) self.old.log) }
-        ensures refused { IfErr result (MayRefuse N.never_fails self.old.plan self.old.log event) }
+        ensures logged { IfOk result (λ note. self.new.log ≡ with_entry caller (with_ops head ops.now) (noted note) self.old.log) }
+        ensures refused { IfErr result (MayRefuse N.never_fails self.old.plan self.old.log (with_ops head ops.now)) }
         ensures log_stays { OnErr result (self.new.log ≡ self.old.log) }
     {
         let alloc = self.alloc;
-        match event {
-            Event::Submit {
-                task,
-                release,
-                due,
-                ops,
-            } => match self.core.submit(alloc, caller, task, release, due, ops) {
-                Ok(number) => Ok(ReplyNote::Taken(number)),
-                Err(refusal) => Err(refusal),
-            },
-            Event::Collect { task, release, due } => {
+        match head {
+            EventHead::Submit { task, release, due } => {
+                match self
+                    .core
+                    .submit_lent(alloc, caller, task, release, due, ops)
+                {
+                    Ok(number) => Ok(ReplyNote::Taken(number)),
+                    Err(refusal) => Err(refusal),
+                }
+            }
+            EventHead::Collect { task, release, due } => {
                 match self.core.collect(alloc, caller, task, release, due) {
                     Ok(number) => Ok(ReplyNote::Taken(number)),
                     Err(refusal) => Err(refusal),
                 }
             }
-            Event::Slot => match self.core.note_slot(alloc, caller) {
+            EventHead::Slot => match self.core.note_slot(alloc, caller) {
                 Ok(slot) => Ok(ReplyNote::Slot(slot)),
                 Err(refusal) => Err(refusal),
             },
@@ -125,12 +133,17 @@ impl<N: Nand> Book for DieBook<N> {
     ghost use Rattle.die_service.specs.Logs.{calls_of};
     ghost use Rattle.die_service.specs.Replies.{HasExactLog, MayReply, result_noted};
     ghost use Rattle.die_service.specs.Answers.{MayAnswer};
+    ghost use Rattle.die_service.specs.Feeds.{with_ops};
 
     type Event = Event;
 
     type Reply = Result<Reply, RefusedAt>;
 
     type Note = Result<ReplyNote, RefusedAt>;
+
+    type Head = EventHead;
+
+    type Part = Op;
 
     type Query = Query;
 
@@ -146,6 +159,8 @@ impl<N: Nand> Book for DieBook<N> {
 
     ghost noted = { result_noted };
 
+    ghost whole = { with_ops };
+
     ghost gives = { λ plan calls _ event reply. MayReply N.never_fails plan calls event reply };
 
     ghost tells = { MayAnswer };
@@ -160,9 +175,9 @@ impl<N: Nand> Book for DieBook<N> {
         }
     }
 
-    fn note(&mut self, caller: u32, event: Event) -> Result<ReplyNote, RefusedAt> {
+    fn note(&mut self, caller: u32, head: EventHead, ops: &[Op]) -> Result<ReplyNote, RefusedAt> {
         let before = self.core.len();
-        match self.perform_noted(caller, event) {
+        match self.perform_noted(caller, head, ops) {
             Ok(note) => Ok(note),
             Err(refusal) => Err(RefusedAt {
                 entries: before,

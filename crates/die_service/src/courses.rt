@@ -1,39 +1,43 @@
 //! A feed on its way to its die.
 
 ghost use Rattle.std.specs.Prelude.{◌≡◌, ◌<◌, ◌++◌, ◌∷◌, ◌-◌, [], length, IfOk, IfErr, IfSome, IfNone};
+ghost use Rattle.die_service.specs.Feeds.{with_ops};
 ghost use Rattle.die_service.specs.Runs.{AllArrive};
 ghost use Rattle.die_service.specs.Drives.{Comes, NoneDue, whole_course};
 
 use crate::ends::{RefusedEvent, RefusedList};
-use crate::feeds::{Arrival, Feed};
+use crate::feeds::Feed;
+use crate::heads::EventHead;
 use crate::refused::RefusedAt;
-use slot_types::{Event, Refusal};
+use slot_types::{Op, Refusal};
 use std::alloc::Global;
-use std::collections::VecDeque;
 use std::marker::Model;
 
-/// A feed, the events of which come one after the other, with room to note each of them that is refused.
+/// A feed, the events of which come one after the other, with room for the operations of one and to note each that is
+/// refused. So no event takes memory, and none is given back before the run ends.
 #[derive(Drop)]
 pub(crate) struct Course {
-    rest: VecDeque<Arrival>,
+    feed: Feed,
     // How many events came.
     place: usize,
+    // The operations of the event that came last.
+    ops: Vec<Op>,
     refused: Vec<RefusedEvent>,
 }
 
 impl Model for Course {
-    ghost use Rattle.std.specs.Prelude.{◌+◌, ◌≤◌, length, vec_capacity};
-    ghost use Rattle.std.specs.List.{AllByRecursion};
-    ghost use Rattle.slot_types.specs.Arrivals.{IsArrival};
+    ghost use Rattle.std.specs.Prelude.{◌≤◌, drop, length, vec_capacity};
+    ghost use Rattle.die_service.specs.Feeds.{HaveAtMost};
+    ghost use Rattle.die_service.specs.Runs.{AllArrive};
     ghost use Rattle.die_service.specs.Drives as drives;
 
     ghost Value = { drives.Course };
 
-    ghost view = { λ c. record { rest = c.rest.items; place = c.place; refused = c.refused.items } };
+    ghost view = { λ c. record { rest = drop c.place c.feed; place = c.place; ops = c.ops.items; refused = c.refused.items } };
 
     ghost invariant = { λ c.
-        AllByRecursion (λ arrival. IsArrival arrival.event) c.rest.items
-        × (length c.refused.items ≤ c.place) × (c.place + length c.rest.items ≤ vec_capacity c.refused) };
+        AllArrive c.feed × HaveAtMost (vec_capacity c.ops) c.feed
+        × (length c.refused.items ≤ c.place) × (c.place ≤ length c.feed) × (length c.feed ≤ vec_capacity c.refused) };
 }
 
 impl Course {
@@ -44,26 +48,35 @@ impl Course {
         ensures refused { IfErr result (λ refusal. refusal ≡ Refusal.NoMemory) }
     {
         let refused = Vec::with_capacity(alloc, feed.len())?;
+        let ops = Vec::with_capacity(alloc, feed.most_ops())?;
         Ok(Course {
-            rest: VecDeque::from_vec(feed.into_vec()),
+            feed,
             place: 0,
+            ops,
             refused,
         })
     }
 
-    /// Takes the next event out, if it comes by this slot.
-    pub(crate) fn next_due(&mut self, clock: u32) -> Option<Event>
-        ensures due { IfSome result (λ event. Comes clock self.old event self.new) }
+    /// Goes on to the next event, if it comes by this slot. Its operations are then those of the course.
+    pub(crate) fn next_due(&mut self, clock: u32) -> Option<EventHead>
+        ensures due { IfSome result (λ head. Comes clock self.old (with_ops head self.new.ops) self.new) }
         ensures room { IfSome result (λ _. length self.new.refused < self.new.place) }
         ensures none { IfNone result (NoneDue clock self.old.rest) }
         ensures stays { IfNone result (self.new ≡ self.old) }
     {
-        if self.rest.front()?.at > clock {
+        let place = self.place;
+        if place >= self.feed.len() || self.feed.at(place) > clock {
             return None;
         }
-        let arrival = self.rest.pop_front()?;
-        self.place = self.place + 1;
-        Some(arrival.event)
+        self.place = place + 1;
+        Some(self.feed.read(place, &mut self.ops))
+    }
+
+    /// The operations of the event that came last.
+    pub(crate) fn ops(&self) -> &[Op]
+        ensures { result.now ≡ self.now.ops }
+    {
+        self.ops.as_slice()
     }
 
     /// Notes that the event that came last was refused.

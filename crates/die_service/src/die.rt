@@ -7,18 +7,20 @@ ghost use Rattle.slot_core.specs.Outcomes.{worst_of};
 ghost use Rattle.turn_lock.specs.Log.{calls_by};
 ghost use Rattle.turn_lock.specs.Views.{IsLive, IsSamePass};
 ghost use Rattle.turn_lock.specs.Passes.{Parts, IsFull, Joined, IsOut};
+ghost use Rattle.die_service.specs.Feeds.{with_ops};
 ghost use Rattle.die_service.specs.Replies.{HasExactLog, noted};
 ghost use Rattle.die_service.specs.Answers.{TellsOutcome, TellsCertificate};
 ghost use Rattle.die_service.specs.Passes.{HasGrown, AddsEntry, AddsNone, Sees, IsTaken, IsSlotReply};
 
 use crate::book::DieBook;
+use crate::heads::EventHead;
 use crate::queries::{Answer, Query};
 use crate::refused::RefusedAt;
 use crate::reply_note::ReplyNote;
 use flash_die::Nand;
 use late_cert::Certificate;
 use slot_core::{Outcome, SlotNote, Worst};
-use slot_types::{Event, JobNo, OpList, Refusal, Reply, SlotReply, TaskNo};
+use slot_types::{Event, JobNo, Op, OpList, Refusal, Reply, SlotReply, TaskNo};
 use std::marker::Model;
 use std::sync::Wait;
 use turn_lock::{Pass, Turned};
@@ -90,20 +92,21 @@ impl<N: Nand> Die<N> {
         self.turned.apply(rt, pass, event)
     }
 
-    /// Carries out an event for the pass, and hands back no more than a note of the reply.
+    /// Carries out an event, whose operations are lent, for the pass, and hands back no more than a note of the reply.
     pub(crate) fn note<R: Wait>(
         &self,
         rt: &R,
         pass: &mut DiePass<N>,
-        event: Event,
+        head: EventHead,
+        ops: &[Op],
     ) -> Result<ReplyNote, RefusedAt>
         requires { pass.old.lock ≡ self.now }
         ensures same { IsSamePass pass.old pass.new }
         ensures accepted { IfOk result (λ note. IsAccepted (noted note)) }
-        ensures added { IfOk result (λ note. AddsEntry pass.old.view event (noted note) pass.new.view) }
-        ensures refused { IfErr result (λ refused. AddsNone N.never_fails pass.old.view event refused pass.new.view) }
+        ensures added { IfOk result (λ note. AddsEntry pass.old.view (with_ops head ops.now) (noted note) pass.new.view) }
+        ensures refused { IfErr result (λ refused. AddsNone N.never_fails pass.old.view (with_ops head ops.now) refused pass.new.view) }
     {
-        self.turned.note(rt, pass, event)
+        self.turned.note(rt, pass, head, ops)
     }
 
     /// Accepts a job of the task, to run from slot `release` on and to be done by `due`, and answers its number. May
@@ -194,7 +197,7 @@ impl<N: Nand> Die<N> {
         ensures answered { IfOk result (λ reply. AddsEntry pass.old.view Event.Slot (Reply.Slot reply) pass.new.view) }
         ensures refused { IfErr result (λ refused. AddsNone N.never_fails pass.old.view Event.Slot refused pass.new.view) }
     {
-        match self.note(rt, pass, Event::Slot) {
+        match self.note(rt, pass, EventHead::Slot, &[]) {
             Ok(note) => Ok(slot_note(note)),
             Err(refused) => Err(refused),
         }

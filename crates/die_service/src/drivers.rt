@@ -86,11 +86,11 @@ impl<'a, N: Nand> Driver<'a, N> {
         ensures brought { IsTrue result → BringsOne N.never_fails clock self.old self.new }
         ensures none { result ≡ false → NoneDue clock self.old.course.rest × (self.new ≡ self.old) }
     {
-        let Some(event) = self.course.next_due(clock) else {
+        let Some(head) = self.course.next_due(clock) else {
             return false;
         };
         let die = self.die;
-        match die.note(rt, &mut self.pass, event) {
+        match die.note(rt, &mut self.pass, head, self.course.ops()) {
             Ok(_) => {}
             Err(refused) => self.course.note(refused),
         }

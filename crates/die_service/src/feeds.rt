@@ -1,6 +1,13 @@
 //! The events that a run brings to a die.
 
-use slot_types::{Event, Items};
+ghost use Rattle.std.specs.Prelude.{◌≡◌, ◌<◌, ◌∷◌, ◌++◌, [], Some, length, slice_get, option_map, vec_capacity, vec_len, ◌+◌, ◌≤◌, IfOk, IfErr, OnOk, OnErr};
+ghost use Rattle.slot_types.specs.declared.events.Event.TheVariants as events;
+ghost use Rattle.die_service.specs.Feeds.{with_ops, HaveAtMost};
+
+use crate::heads::EventHead;
+use slot_types::{Event, Op, Refusal, TaskNo};
+use std::alloc::Global;
+use std::marker::Model;
 
 /// An event, and the slot before which it comes.
 #[derive(Clone, PartialEq, Eq, Debug, Drop)]
@@ -9,5 +16,171 @@ pub struct Arrival {
     pub event: Event,
 }
 
-/// The events that come to a die in a run, in their order.
-pub type Feed = Items<Arrival>;
+/// A job or a collection that comes, flat. A job's operations are `op_count` of the feed's from `first_op` on.
+#[derive(Clone, Copy, Debug, Drop)]
+pub(crate) struct FeedRow {
+    pub(crate) at: u32,
+    pub(crate) task: TaskNo,
+    pub(crate) release: u32,
+    pub(crate) due: u32,
+    pub(crate) first_op: u32,
+    pub(crate) op_count: u32,
+    pub(crate) collects: bool,
+}
+
+/// The events that come to a die in a run, in their order. Contracts see the list of these.
+#[derive(Drop)]
+pub struct Feed {
+    rows: Vec<FeedRow>,
+    /// The operations of all jobs, one behind another.
+    ops: Vec<Op>,
+    /// The most operations that a job has.
+    most: u32,
+}
+
+impl Model for Feed {
+    ghost use Rattle.std.specs.Prelude.{List};
+    ghost use Rattle.die_service.specs.declared.feeds.Arrival.{Arrival};
+    ghost use Rattle.die_service.specs.Feeds.{feed_at, AreRowsOf};
+
+    ghost Value = { List Arrival };
+
+    ghost view = { λ f. feed_at f.ops.items f.rows.items };
+
+    ghost invariant = { λ f. AreRowsOf f.ops.items f.most f.rows.items };
+}
+
+/// A number of operations as a row keeps it. What 32 bits can't count finds no memory.
+fn count_in_row(len: usize) -> Result<u32, Refusal>
+    ensures ok { IfOk result (λ count. count ≡ len) }
+    ensures refused { IfErr result (λ refusal. refusal ≡ Refusal.NoMemory) }
+{
+    if len > u32::MAX as usize {
+        return Err(Refusal::NoMemory);
+    }
+    Ok(len as u32)
+}
+
+/// Adds operations, in room that was made.
+fn push_ops(list: &mut Vec<Op>, ops: &[Op])
+    requires room { vec_len list.old + length ops.now ≤ vec_capacity list.old }
+    ensures ops { list.new.items ≡ list.old.items ++ ops.now }
+    ensures room { vec_capacity list.new ≡ vec_capacity list.old }
+{
+    for op in ops {
+        list.push_reserved(*op);
+    }
+}
+
+impl Feed {
+    /// No event. It takes no memory.
+    pub fn new(alloc: Global) -> Feed
+        ensures { result ≡ [] }
+    {
+        Feed {
+            rows: Vec::new(alloc),
+            ops: Vec::new(alloc),
+            most: 0,
+        }
+    }
+
+    /// How many events there are.
+    pub fn len(&self) -> usize
+        ensures { result ≡ length self.now }
+    {
+        self.rows.len()
+    }
+
+    /// Adds a job that comes before slot `at`. Refused with `NoMemory`, the feed stays as it was.
+    pub fn push_job(
+        &mut self,
+        at: u32,
+        task: TaskNo,
+        release: u32,
+        due: u32,
+        ops: &[Op],
+    ) -> Result<(), Refusal>
+        ensures ok { OnOk result (self.new ≡ self.old ++ record { at = at; event = events.Submit task release due ops.now } ∷ []) }
+        ensures refused { IfErr result (λ refusal. refusal ≡ Refusal.NoMemory) }
+        ensures err { OnErr result (self.new ≡ self.old) }
+    {
+        let first_op = count_in_row(self.ops.len())?;
+        let op_count = count_in_row(ops.len())?;
+        self.rows.reserve(1)?;
+        self.ops.extend_from_slice(ops)?;
+        self.most = self.most.max(op_count);
+        self.rows.push_reserved(FeedRow {
+            at,
+            task,
+            release,
+            due,
+            first_op,
+            op_count,
+            collects: false,
+        });
+        Ok(())
+    }
+
+    /// Adds a collection that comes before slot `at`. Refused with `NoMemory`, the feed stays as it was.
+    pub fn push_collection(
+        &mut self,
+        at: u32,
+        task: TaskNo,
+        release: u32,
+        due: u32,
+    ) -> Result<(), Refusal>
+        ensures ok { OnOk result (self.new ≡ self.old ++ record { at = at; event = events.Collect task release due } ∷ []) }
+        ensures refused { IfErr result (λ refusal. refusal ≡ Refusal.NoMemory) }
+        ensures err { OnErr result (self.new ≡ self.old) }
+    {
+        self.rows.reserve(1)?;
+        self.rows.push_reserved(FeedRow {
+            at,
+            task,
+            release,
+            due,
+            first_op: 0,
+            op_count: 0,
+            collects: true,
+        });
+        Ok(())
+    }
+
+    /// The most operations that a job of the feed has.
+    pub(crate) fn most_ops(&self) -> usize
+        ensures { HaveAtMost result self.now }
+    {
+        self.most as usize
+    }
+
+    /// The slot before which the event of a place comes.
+    pub(crate) fn at(&self, place: usize) -> u32
+        requires { place < length self.now }
+        ensures { option_map (λ arrival. arrival.at) (slice_get self.now place) ≡ Some result }
+    {
+        self.rows[place].at
+    }
+
+    /// The event of a place, whose operations take the place of those that a list has, in room that was made.
+    pub(crate) fn read(&self, place: usize, ops: &mut Vec<Op>) -> EventHead
+        requires there { place < length self.now }
+        requires room { HaveAtMost (vec_capacity ops.old) self.now }
+        ensures event { option_map (λ arrival. arrival.event) (slice_get self.now place) ≡ Some (with_ops result ops.new.items) }
+        ensures room { vec_capacity ops.new ≡ vec_capacity ops.old }
+    {
+        let row = self.rows[place];
+        let FeedRow {
+            task,
+            release,
+            due,
+            ..
+        } = row;
+        ops.clear();
+        if row.collects {
+            return EventHead::Collect { task, release, due };
+        }
+        let first = row.first_op as usize;
+        push_ops(ops, &self.ops[first..first + row.op_count as usize]);
+        EventHead::Submit { task, release, due }
+    }
+}

@@ -13,7 +13,7 @@ use crate::jobs::Job;
 use crate::queues::Queues;
 use crate::stages::Stage;
 use crate::worst::worse_of;
-use slot_types::{JobNo, MAX_JOBS, OpList, PageData, Refusal, TaskNo, Waived};
+use slot_types::{JobNo, MAX_JOBS, Op, PageData, Refusal, TaskNo, Waived};
 use std::alloc::Global;
 use std::marker::Model;
 
@@ -135,17 +135,17 @@ impl JobTable {
         task: TaskNo,
         release: u32,
         due: u32,
-        ops: OpList,
+        ops: &[Op],
     ) -> Result<JobNo, Refusal>
         requires running { self.old.ended ≡ false }
         requires few { length self.old.jobs < MAX_JOBS }
-        ensures ok { OnOk result (self.new ≡ with_job self.old (new_job task release due ops)) }
+        ensures ok { OnOk result (self.new ≡ with_job self.old (new_job task release due ops.now)) }
         ensures number { IfOk result (λ number. number ≡ length self.old.jobs) }
         ensures refused { IfErr result (λ refusal. refusal ≡ Refusal.NoMemory) }
         ensures err { OnErr result (self.new ≡ self.old) }
     {
         self.queues.reserve()?;
-        let number = self.jobs.push_job(task, release, due, ops.as_slice())?;
+        let number = self.jobs.push_job(task, release, due, ops)?;
         self.queues.enter(self.clock, number, release, due);
         Ok(JobNo(number))
     }

@@ -6,7 +6,7 @@ use crate::job_table::JobTable;
 use crate::jobs::Job;
 use crate::rows::Row;
 use crate::stages::Stage;
-use slot_types::{JobNo, MAX_JOBS, Op, OpList, PageData, Refusal, TaskNo, Waived};
+use slot_types::{JobNo, MAX_JOBS, Op, PageData, Refusal, TaskNo, Waived};
 use std::alloc::Global;
 use std::mem::size_of;
 use std::test::Fail;
@@ -22,7 +22,6 @@ fn add_ops(
     if table.ended() || table.len() >= MAX_JOBS {
         return Ok(None);
     }
-    let ops = OpList::from_vec(Vec::from_slice(alloc, ops)?);
     let number = table.add_job(alloc, TaskNo(0), release, due, ops)?;
     Ok(Some(number.0))
 }

@@ -58,7 +58,7 @@ fn accept(
     jobs.reserve(1)?;
     let release = table.clock().saturating_add(draw(seed) % 4);
     let due = release.saturating_add(draw(seed) % 9);
-    let _number = table.add_job(alloc, TaskNo(0), release, due, ops)?;
+    let _number = table.add_job(alloc, TaskNo(0), release, due, ops.as_slice())?;
     jobs.push_reserved(plain);
     Ok(())
 }

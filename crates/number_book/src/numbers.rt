@@ -65,6 +65,10 @@ impl Book for Numbers {
 
     type Note = NumberReply;
 
+    type Head = u64;
+
+    type Part = ();
+
     type Query = usize;
 
     type Answer = Option<u64>;
@@ -78,6 +82,8 @@ impl Book for Numbers {
     ghost accepts = { is_added };
 
     ghost noted = { λ reply. reply };
+
+    ghost whole = { λ number _. number };
 
     ghost gives = { λ _ log _ number reply. Gives log number reply };
 
@@ -104,8 +110,8 @@ impl Book for Numbers {
         reply
     }
 
-    fn note(&mut self, caller: u32, event: u64) -> NumberReply {
-        self.apply(caller, event)
+    fn note(&mut self, caller: u32, head: u64, _parts: &[()]) -> NumberReply {
+        self.apply(caller, head)
     }
 
     fn ask(&self, query: usize) -> Option<u64> {

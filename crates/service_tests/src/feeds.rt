@@ -1,48 +1,26 @@
 //! Jobs as rows of a table, and the feeds that are made of them.
 
 ghost use Rattle.std.specs.Prelude.{All, IfOk};
-ghost use Rattle.slot_types.specs.Arrivals.{IsArrival};
 ghost use Rattle.die_service.specs.Runs.{AllArrive};
 
-use die_service::{Arrival, Feed};
-use slot_types::{Event, Op, OpList, Refusal, TaskNo};
+use die_service::Feed;
+use slot_types::{Op, Refusal, TaskNo};
 use std::alloc::Global;
 
 /// A job of one operation of task 0: its release, which is also the slot before which it comes, its due and its operation.
 #[derive(Clone, Copy)]
 pub(crate) struct Job(pub(crate) u32, pub(crate) u32, pub(crate) Op);
 
-// The arrival of a job.
-fn arrival(alloc: Global, job: Job) -> Result<Arrival, Refusal>
-    ensures { IfOk result (λ arrival. IsArrival arrival.event) }
-{
-    let Job(release, due, op) = job;
-    let ops = OpList::from_vec(Vec::from_slice(alloc, &[op])?);
-    Ok(Arrival {
-        at: release,
-        event: Event::Submit {
-            task: TaskNo(0),
-            release,
-            due,
-            ops,
-        },
-    })
-}
-
-// The feed of one job or two.
+// The feed of these jobs.
 fn feed(alloc: Global, jobs: &[Job]) -> Result<Feed, Refusal>
     ensures { IfOk result AllArrive }
 {
-    let mut events = Vec::with_capacity(alloc, 2)?;
-    match jobs {
-        [only] => events.push_reserved(arrival(alloc, *only)?),
-        [first, second] => {
-            events.push_reserved(arrival(alloc, *first)?);
-            events.push_reserved(arrival(alloc, *second)?);
-        }
-        _ => return Err(Refusal::TooManyOps),
+    let mut feed = Feed::new(alloc);
+    for job in jobs {
+        let Job(release, due, op) = *job;
+        feed.push_job(release, TaskNo(0), release, due, &[op])?;
     }
-    Ok(Feed::from_vec(events))
+    Ok(feed)
 }
 
 /// The feeds of three dies.

@@ -14,7 +14,7 @@ use crate::operations::{bad_page, count_writes};
 use event_log::{Deed, EventLog};
 use flash_die::Nand;
 use job_table::JobTable;
-use slot_types::{Event, JobNo, MAX_JOBS, MAX_OPS, MAX_SLOT, OpList, Refusal, Reply, TaskNo};
+use slot_types::{Event, JobNo, MAX_JOBS, MAX_OPS, MAX_SLOT, Op, OpList, Refusal, Reply, TaskNo};
 use std::alloc::Global;
 
 /// Enters an accepted job into the table and the log, or finds no memory and changes neither.
@@ -26,14 +26,14 @@ fn enter_job(
     task: TaskNo,
     release: u32,
     due: u32,
-    ops: OpList,
+    ops: &[Op],
     reserved: u32,
 ) -> Result<JobNo, Refusal>
     requires running { table.old.ended ≡ false }
     requires few { length table.old.jobs < MAX_JOBS }
     requires few_events { length events.old.notes + 1 < 2 ^ 32 }
     requires reserved { reserved ≤ events.old.room }
-    ensures table { OnOk result (table.new ≡ with_job table.old (new_job task release due ops)) }
+    ensures table { OnOk result (table.new ≡ with_job table.old (new_job task release due ops.now)) }
     ensures number { IfOk result (λ number. number ≡ length table.old.jobs) }
     ensures logged { IfOk result (λ number. events.new.notes ≡ record { caller = caller; deed = Deed.Submit number; waived = [] } ∷ events.old.notes) }
     ensures refused { IfErr result (λ refusal. refusal ≡ Refusal.NoMemory) }
@@ -84,7 +84,7 @@ fn enter_collection(
 
 impl<N: Nand> DieCore<N> {
     /// Why a job is refused by a die that isn't stopped, if it is.
-    fn submit_refusal(&self, task: TaskNo, release: u32, due: u32, ops: &OpList) -> Option<Refusal>
+    fn submit_refusal(&self, task: TaskNo, release: u32, due: u32, ops: &[Op]) -> Option<Refusal>
         requires { self.now.stopped ≡ false }
         ensures { result ≡ refusal_of self.now.plan self.now.log (Event.Submit task release due ops.now) }
     {
@@ -98,7 +98,7 @@ impl<N: Nand> DieCore<N> {
         if ops.len() > MAX_OPS as usize {
             return Some(Refusal::TooManyOps);
         }
-        match bad_page(ops.as_slice(), plan.logical) {
+        match bad_page(ops, plan.logical) {
             Some(page) => return Some(Refusal::BadPage { page }),
             None => {}
         }
@@ -112,7 +112,7 @@ impl<N: Nand> DieCore<N> {
             return Some(Refusal::JobsFull);
         }
         let have = self.volume.balance(task);
-        let need = count_writes(ops.as_slice()) as u32;
+        let need = count_writes(ops) as u32;
         if have < need {
             return Some(Refusal::NoTokens { have, need });
         }
@@ -143,14 +143,33 @@ impl<N: Nand> DieCore<N> {
         ensures refused { self.old.stopped ≡ false → IfErr result (RefusedBy self.old.plan self.old.log (Event.Submit task release due ops)) }
         ensures unchanged { OnErr result (self.new ≡ self.old) }
     {
+        self.submit_lent(alloc, caller, task, release, due, ops.as_slice())
+    }
+
+    /// As `submit`, of operations that the caller keeps.
+    pub fn submit_lent(
+        &mut self,
+        alloc: Global,
+        caller: u32,
+        task: TaskNo,
+        release: u32,
+        due: u32,
+        ops: &[Op],
+    ) -> Result<JobNo, Refusal>
+        ensures stopped { (result ≡ Err Refusal.DieStopped) ↔ (self.old.stopped ≡ true) }
+        ensures taken { IfOk result (λ number. answer self.old.plan self.old.log (Event.Submit task release due ops.now) ≡ Reply.Taken number) }
+        ensures logged { IfOk result (λ number. self.new ≡ record self.old { log = with_entry caller (Event.Submit task release due ops.now) (Reply.Taken number) self.old.log }) }
+        ensures refused { self.old.stopped ≡ false → IfErr result (RefusedBy self.old.plan self.old.log (Event.Submit task release due ops.now)) }
+        ensures unchanged { OnErr result (self.new ≡ self.old) }
+    {
         if self.volume.failed() {
             return Err(Refusal::DieStopped);
         }
-        match self.submit_refusal(task, release, due, &ops) {
+        match self.submit_refusal(task, release, due, ops) {
             Some(refusal) => return Err(refusal),
             None => {}
         }
-        let writes = count_writes(ops.as_slice()) as u32;
+        let writes = count_writes(ops) as u32;
         match enter_job(
             alloc,
             &mut self.table,

@@ -1,10 +1,11 @@
 //! The rows of a die, as its run needs them.
 
-ghost use Rattle.std.specs.Prelude.{◌≡◌, ◌∷◌, ◌++◌, [], All, IfErr, OnOk};
+ghost use Rattle.std.specs.Prelude.{◌≡◌, ◌∷◌, ◌++◌, [], All, IfErr, OnErr, OnOk};
+ghost use Rattle.slot_types.specs.Arrivals.{IsArrival};
 ghost use Rattle.task_script.specs.RowEnds.{arrivals_of, lines_of};
 
-use die_service::{Arrival, Feed};
-use slot_types::{Items, Refusal};
+use die_service::Feed;
+use slot_types::{Event, Items, Refusal};
 use std::alloc::Global;
 use std::marker::Model;
 use task_texts::ScriptItem;
@@ -12,8 +13,7 @@ use task_texts::ScriptItem;
 /// The lines of rows, in their order.
 pub type Lines = Items<u32>;
 
-/// Rows of one die, in their order: they are parted into its feed and the lines of their records as they come, so that
-/// no row is kept twice.
+/// Rows of one die, in their order: they are parted into its feed and the lines of their records as they come.
 #[derive(Drop)]
 pub struct DieRows {
     feed: Feed,
@@ -34,6 +34,25 @@ impl Model for DieRows {
     ghost invariant = { λ r. length r.lines.items ≡ length r.feed };
 }
 
+/// Adds an event that comes before slot `at`. The only refusal is for want of memory.
+fn add_event(feed: &mut Feed, at: u32, event: Event) -> Result<(), Refusal>
+    requires arrives { IsArrival event }
+    ensures ok { OnOk result (feed.new ≡ feed.old ++ record { at = at; event = event } ∷ []) }
+    ensures refused { IfErr result (λ refusal. refusal ≡ Refusal.NoMemory) }
+    ensures err { OnErr result (feed.new ≡ feed.old) }
+{
+    match event {
+        Event::Submit {
+            task,
+            release,
+            due,
+            ops,
+        } => feed.push_job(at, task, release, due, ops.as_slice()),
+        Event::Collect { task, release, due } => feed.push_collection(at, task, release, due),
+        Event::Slot => unreachable!(),
+    }
+}
+
 impl DieRows {
     /// No row. It takes no memory.
     pub fn new(alloc: Global) -> DieRows
@@ -48,15 +67,13 @@ impl DieRows {
 
     /// Adds a row of the same die. The only refusal is for want of memory.
     pub fn add(&mut self, item: ScriptItem) -> Result<(), Refusal>
+        requires arrives { IsArrival item.event }
         requires one_die { All (λ row. row.die ≡ item.die) self.old }
         ensures ok { OnOk result (self.new ≡ self.old ++ item ∷ []) }
         ensures refused { IfErr result (λ refusal. refusal ≡ Refusal.NoMemory) }
     {
         self.lines.reserve(1)?;
-        self.feed.push(Arrival {
-            at: item.at,
-            event: item.event,
-        })?;
+        add_event(&mut self.feed, item.at, item.event)?;
         self.lines.push_reserved(item.line);
         self.die = item.die;
         Ok(())

@@ -118,19 +118,26 @@ impl<B: Book> Turned<B> {
         reply
     }
 
-    /// As `apply`, and hands back no more than the book's note of the reply. May wait for the turn.
-    pub fn note<R: Wait>(&self, rt: &R, pass: &mut Pass<B>, event: B::Event) -> B::Note
+    /// As `apply`, of an event whose parts are lent, and hands back no more than the book's note of the reply. May wait for
+    /// the turn.
+    pub fn note<R: Wait>(
+        &self,
+        rt: &R,
+        pass: &mut Pass<B>,
+        head: B::Head,
+        parts: &[B::Part],
+    ) -> B::Note
         requires { pass.old.lock ≡ self.now }
         ensures same { IsSamePass pass.old pass.new }
-        ensures reply { Replies B.accepts B.fits B.gives pass.old.view event (B.noted result) pass.new.view }
+        ensures reply { Replies B.accepts B.fits B.gives pass.old.view (B.whole head parts.now) (B.noted result) pass.new.view }
         ensures own { let own = calls_by pass.old.view.number in
-            let call = entry pass.old.view.number event (B.noted result) in
+            let call = entry pass.old.view.number (B.whole head parts.now) (B.noted result) in
             own pass.new.view.seen
             ≡ own pass.old.view.seen ++ (if B.accepts (B.noted result) then call ∷ [] else []) }
     {
         let shared = &self.table.shared;
         let mut kept = take(rt, shared, &mut pass.seat, pass.free_word);
-        let note = kept.book.note(pass.number, event);
+        let note = kept.book.note(pass.number, head, parts);
         pass.free_word = release(shared, &mut pass.seat, kept);
         note
     }

@@ -29,4 +29,7 @@ loop-preserved g c =
 pub add-requires : goal.add-requires
 add-requires g c =
     let row = rw c.in-Ok-Some.field-0-is at c.in-Ok-Some.ensures.row in
-    record { one_die = dealt_own _ _ _ _ _ c.in-Ok-Some.item _ (rw (c.loop.invariant.dies, c.loop.invariant.slots) at row) c.index_mut.ensures.value c.loop.invariant.dealt }
+    record {
+      arrives = row.1.1;
+      one_die = dealt_own _ _ _ _ _ c.in-Ok-Some.item _ (rw (c.loop.invariant.dies, c.loop.invariant.slots) at row) c.index_mut.ensures.value c.loop.invariant.dealt;
+    }

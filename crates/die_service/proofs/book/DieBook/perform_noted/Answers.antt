@@ -4,13 +4,13 @@ use Rattle.die_service.proofs.Replying.{may_refuse, may_refuse_slot}
 use Rattle.die_service.proofs.book.DieBook.perform_noted.Goals.{in-Ok, in-Err, in-Ok-collect, in-Err-collect, in-Ok-note_slot, in-Err-note_slot}
 use Rattle.die_service.proofs.book.DieBook.perform_noted.Goals as goal
 
-pub returns-after-submit-clause-refused : goal.returns-after-submit-clause-refused
-returns-after-submit-clause-refused g c =
+pub returns-after-submit_lent-clause-refused : goal.returns-after-submit_lent-clause-refused
+returns-after-submit_lent-clause-refused g c =
     let never = g.N.Nand.never_fails in
     let die = c.deref_mut.result.now in
     let same : die ≡ c.args.self.now = c.deref_mut.ensures.value ∙ c.self.view_is in
     let runs : never ≡ true → die.stopped ≡ false = λ yes. ap (λ (k : Core g.row.N.Denot). k.stopped) c.deref_mut.ensures.value ∙ c.self.invariant yes in
-    elim c.match-submit.branch [
+    elim c.match-submit_lent.branch [
       | in-Ok w ↦ rw w.result-is tt
       | in-Err w ↦ rw (w.result-is, c.in-Submit.is, ← same) (may_refuse never die.stopped die.plan die.log _ w.in-Err.refusal runs w.in-Err.ensures.stopped w.in-Err.ensures.refused)
     ]

@@ -8,11 +8,11 @@ use Rattle.job_table.proofs.job_table.JobTable.add_job.Goals as goal
 
 pub invariant_of-self-2 : goal.invariant_of-self-2
 invariant_of-self-2 c =
-    let job : JobRecord = new_job c.args.task c.args.release c.args.due c.args.ops in
+    let job : JobRecord = new_job c.args.task c.args.release c.args.due c.args.ops.now in
     let few = subst (λ (t : Table). length t.jobs < MAX_JOBS) (sym c.self.view_is) c.requires.few in
     let waiting = rw (c.in_ok-number.ensures.number, c.in_ok-reserve.ensures.waiting) at c.enter.ensures.waiting in
     let ready = rw (c.in_ok-number.ensures.number, c.in_ok-reserve.ensures.ready) at c.enter.ensures.ready in
-    rw (c.in_ok-number.ensures.ok, c.as_slice.ensures)
+    rw c.in_ok-number.ensures.ok
     (job_sound c.self.inside.jobs job c.self.inside.clock c.self.inside.ended c.self.inside.collecting.items c.self.inside.queues c.enter.new.self c.self.inside.worst
     few refl refl
     (λ runs. let r = c.self.invariant.running runs in
