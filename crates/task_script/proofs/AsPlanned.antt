@@ -39,7 +39,6 @@ use Rattle.task_script.specs.DieReports.{row_as, report_row_of}
 use Rattle.task_script.specs.DieRuns.{Call, Row, Slot, DieRun, Accepts, Ends, IsRun, Runs, end_of, fresh_run}
 use Rattle.task_script.specs.Feeds.{AllArrive, AreFeedsOf, feed_of}
 use Rattle.task_script.specs.PlannedRuns.{event_of, events_of, KeepsItsPlan, IsOnTime, AreTakenUntilMemory, GoesAsPlanned, AreAsPlanned, RunsAsPlanned}
-use Rattle.task_script.specs.RunCounts.{count_of}
 use Rattle.task_script.specs.TextRuns.{AreRuns, HaveRun, RunsText}
 use Rattle.task_script.specs.declared.run_counts.RowEnd.{RowEnd}
 use Rattle.task_script.specs.declared.run_counts.RunCount.{RunCount}
@@ -158,11 +157,11 @@ all_as_planned slots feed die (plan ∷ plans) (run ∷ runs) arrive bound h = (
 )
 
 -- what is written of a run of dealt rows
-pub runs_as_planned : (text : Option (List ℕ)) (plans : List DiePlan) (slots : ℕ) (feeds : List (List ScriptItem)) (report : List DieReport) (ends : List RowEnd) (count : RunCount) (old new : Option (List ℕ))
-    → All MeetsBound plans → AreFeedsOf text (length plans) slots feeds → HaveRun slots feeds plans report ends → count ≡ count_of ends → Appends old new (report_text report) → RunsAsPlanned text plans slots count old new
+pub runs_as_planned : (text : Option (List ℕ)) (plans : List DiePlan) (slots : ℕ) (feeds : List (List ScriptItem)) (report : List DieReport) (count : RunCount) (old new : Option (List ℕ))
+    → All MeetsBound plans → AreFeedsOf text (length plans) slots feeds → HaveRun slots feeds plans report count → Appends old new (report_text report) → RunsAsPlanned text plans slots count old new
 unfolding runs_text
-runs_as_planned text plans slots feeds report ends count old new bound fed h counted written =
-    let ran : RunsText text plans slots count old new = runs_text text plans slots feeds report ends count old new fed h counted written in
+runs_as_planned text plans slots feeds report count old new bound fed h written =
+    let ran : RunsText text plans slots count old new = runs_text text plans slots feeds report count old new fed h written in
     record {
       ran = ran;
       planned = all_as_planned slots (feed_of fed.0) 0 plans h.runs

@@ -1,8 +1,9 @@
 -- How the runs of dies are gathered.
 use Rattle.std.proofs.Common.{◌≡◌, ℕ, suc, ◌+◌, ◌<◌, ◌≤◌, Bool, true, false, List, [], ◌∷◌, ◌++◌, refl, ap, sym, ◌∙◌, subst, length, map, drop, get_or, append_assoc, cond, All, Some, None, arith, ◌==◌, Option}
-use Rattle.std.specs.Prelude.{IfSome}
+use Rattle.std.specs.Prelude.{IfSome, count_by, if◌then◌else◌}
 use Rattle.std.specs.Io.KnownBytes.{Appends}
-use Rattle.std.proofs.lemmas.List.{drop_more}
+use Rattle.std.proofs.lemmas.List.{drop_more, drop_all}
+use Rattle.std.proofs.lemmas.List.Sums.{sum_by-cons}
 use Rattle.std.specs.List.{AllByRecursion}
 use Rattle.std.proofs.lemmas.List.Elements.{All-get_or, recursion_from_All}
 use Rattle.slot_types.specs.declared.limits.TheConstants.{MAX_SLOT}
@@ -19,7 +20,7 @@ use Rattle.task_texts.specs.declared.reports.DieReport.{DieReport}
 use Rattle.task_script.specs.DieReports.{die_report_of}
 use Rattle.task_script.specs.DieRuns.{DieRun, IsRun, run_at}
 use Rattle.task_script.specs.Feeds.{AllArrive, AreFeedsOf, feed_of}
-use Rattle.task_script.specs.RunCounts.{count_of}
+use Rattle.task_script.specs.RunCounts.{count_of, counted_with, counted_behind, first_behind, first_refused, was_accepted, was_refused}
 use Rattle.task_script.specs.TextRuns.{AreRuns, HaveRun, RunsText, ends_of, feed_at, reports_from, with_rows}
 use Rattle.task_script.specs.RowEnds.{arrivals_of, lines_of, ends_from, row_end, taken_at}
 use Rattle.task_script.specs.StoreRuns.{RanFeeds, reports_of, all_ends}
@@ -32,27 +33,78 @@ rows_behind made rest true e = rw e refl
 rows_behind made rest false e = rw e refl
 
 -- the report so far, and those of the dies that are left
-pub report_more : {N : Type 0} (die : ℕ) (dies : List (Core N)) (core : Core N) (report report2 all : List DieReport) (made : DieReport) → die < length dies → core ≡ get_or dies die core
-    → made ≡ die_report_of core.plan core.log die → report2 ≡ report ++ with_rows made [] → report ++ reports_of die (drop die dies) ≡ all → report2 ++ reports_of (die + 1) (drop (die + 1) dies) ≡ all
-report_more die dies core report report2 all made below at is added so_far =
-    let here : drop die dies ≡ core ∷ drop (die + 1) dies = drop_more dies die core below ∙ ap (λ c. c ∷ drop (die + 1) dies) (sym at) in
-    let rest = reports_of (die + 1) (drop (die + 1) dies) in
+pub report_more : {N : Type 0} (die : ℕ) (core : Core N) (dies : List (Core N)) (report report2 all : List DieReport) (made : DieReport)
+    → made ≡ die_report_of core.plan core.log die → report2 ≡ report ++ with_rows made [] → report ++ reports_of die (core ∷ dies) ≡ all
+    → report2 ++ reports_of (die + 1) dies ≡ all
+report_more die core dies report report2 all made is added so_far =
+    let rest = reports_of (die + 1) dies in
     ap (λ (xs : List DieReport). xs ++ rest) added
     ∙ (append_assoc report (with_rows made []) rest
-    ∙ (ap (λ (xs : List DieReport). report ++ xs) (sym (rows_behind made rest _ refl) ∙ ap (λ (m : DieReport). with_rows m rest) is)
-    ∙ (ap (λ xs. report ++ reports_of die xs) (sym here) ∙ so_far)))
+    ∙ (ap (λ (xs : List DieReport). report ++ xs) (sym (rows_behind made rest _ refl) ∙ ap (λ (m : DieReport). with_rows m rest) is) ∙ so_far))
 
--- what became of the rows so far, and of those of the dies that are left
-pub ends_more : (die : ℕ) (lines : List (List ℕ)) (ends : List DieEnd) (line : List ℕ) (end : DieEnd) (rows rows2 all : List RowEnd) → die < length lines → die < length ends
-    → line ≡ get_or lines die line → end ≡ get_or ends die end → rows2 ≡ rows ++ ends_from 0 line end.refused
-    → rows ++ all_ends (drop die lines) (drop die ends) ≡ all → rows2 ++ all_ends (drop (die + 1) lines) (drop (die + 1) ends) ≡ all
-ends_more die lines ends line end rows rows2 all below below2 at at2 added so_far =
+-- Counts
+
+counted_in_parts : (count : RunCount) (xs ys : List RowEnd) → counted_behind count (xs ++ ys) ≡ counted_behind (counted_behind count xs) ys
+counted_in_parts count [] ys = refl
+counted_in_parts count (x ∷ xs) ys = counted_in_parts (counted_with count x) xs ys
+
+accepted_more : (n : ℕ) (end : RowEnd) (ends : List RowEnd)
+    → (n + (if was_accepted end then 1 else 0)) + count_by was_accepted ends ≡ n + count_by was_accepted (end ∷ ends)
+accepted_more n end ends =
+    let c : count_by was_accepted (end ∷ ends) ≡ (if was_accepted end then 1 else 0) + count_by was_accepted ends =
+    sum_by-cons (λ (e : RowEnd). if was_accepted e then 1 else 0) end ends in
+    omega (arith, c)
+
+refused_more : (n : ℕ) (end : RowEnd) (ends : List RowEnd)
+    → (n + (if was_refused end then 1 else 0)) + count_by was_refused ends ≡ n + count_by was_refused (end ∷ ends)
+refused_more n end ends =
+    let c : count_by was_refused (end ∷ ends) ≡ (if was_refused end then 1 else 0) + count_by was_refused ends =
+    sum_by-cons (λ (e : RowEnd). if was_refused e then 1 else 0) end ends in
+    omega (arith, c)
+
+counted_from : (count : RunCount) (ends : List RowEnd) → counted_behind count ends ≡ record {
+  accepted = count.accepted + count_by was_accepted ends;
+  refused = count.refused + count_by was_refused ends;
+  first = first_behind count.first ends;
+}
+counted_from count [] = λ i. record { accepted = sym (plus_none count.accepted) i; refused = sym (plus_none count.refused) i; first = count.first }
+  where
+    plus_none : (n : ℕ) → n + 0 ≡ n
+    plus_none n = omega arith
+counted_from count (end ∷ ends) =
+    counted_from (counted_with count end) ends
+    ∙ λ i. record {
+      accepted = accepted_more count.accepted end ends i;
+      refused = refused_more count.refused end ends i;
+      first = first_behind count.first (end ∷ ends);
+    }
+
+-- rows that are counted one by one are counted
+pub counted_is : (ends : List RowEnd) → counted_behind (count_of []) ends ≡ count_of ends
+counted_is ends = counted_from (count_of []) ends ∙ λ i. record { accepted = none_plus (count_by was_accepted ends) i; refused = none_plus (count_by was_refused ends) i; first = first_refused ends }
+  where
+    none_plus : (n : ℕ) → 0 + n ≡ n
+    none_plus n = omega arith
+
+-- the rows of a die are counted, and those of the dies that are left are counted behind them
+pub ends_more : (die : ℕ) (lines : List (List ℕ)) (ends : List DieEnd) (line : List ℕ) (end : DieEnd) (count count2 all : RunCount) → die < length lines → die < length ends
+    → line ≡ get_or lines die line → end ≡ get_or ends die end → count2 ≡ counted_behind count (ends_from 0 line end.refused)
+    → counted_behind count (all_ends (drop die lines) (drop die ends)) ≡ all → counted_behind count2 (all_ends (drop (die + 1) lines) (drop (die + 1) ends)) ≡ all
+ends_more die lines ends line end count count2 all below below2 at at2 added so_far =
     let here : drop die lines ≡ line ∷ drop (die + 1) lines = drop_more lines die line below ∙ ap (λ (l : List ℕ). l ∷ drop (die + 1) lines) (sym at) in
     let here2 : drop die ends ≡ end ∷ drop (die + 1) ends = drop_more ends die end below2 ∙ ap (λ (e : DieEnd). e ∷ drop (die + 1) ends) (sym at2) in
     let rest = all_ends (drop (die + 1) lines) (drop (die + 1) ends) in
-    ap (λ (xs : List RowEnd). xs ++ rest) added
-    ∙ (append_assoc rows (ends_from 0 line end.refused) rest
-    ∙ (ap (λ (x : List (List ℕ) × List DieEnd). rows ++ all_ends x.0 x.1) (λ i. (sym here i, sym here2 i)) ∙ so_far))
+    ap (λ (c : RunCount). counted_behind c rest) added
+    ∙ (sym (counted_in_parts count (ends_from 0 line end.refused) rest)
+    ∙ (ap (λ (x : List (List ℕ) × List DieEnd). counted_behind count (all_ends x.0 x.1)) (λ i. (sym here i, sym here2 i)) ∙ so_far))
+
+-- where no die is left all rows are counted
+pub all_counted : (die : ℕ) (lines : List (List ℕ)) (ends : List DieEnd) (count : RunCount) → length lines ≤ die → length ends ≤ die
+    → counted_behind count (all_ends (drop die lines) (drop die ends)) ≡ counted_behind (count_of []) (all_ends lines ends)
+    → count ≡ count_of (all_ends lines ends)
+all_counted die lines ends count below below2 so_far =
+    ap (λ (x : List (List ℕ) × List DieEnd). counted_behind count (all_ends x.0 x.1)) (λ i. (sym (drop_all die lines below) i, sym (drop_all die ends below2) i))
+    ∙ (so_far ∙ counted_is (all_ends lines ends))
 
 -- one row more
 taken_is : (place line : ℕ) (lines : List ℕ) (refused : List RefusedEvent)
@@ -66,16 +118,15 @@ taken_is place line lines (r ∷ refused) = by (r.place == place)
     by true = refl
     by false = refl
 
-pub row_more : (place line : ℕ) (lines : List ℕ) (refused later : List RefusedEvent) (refusal : Option Refusal) (rows rows2 all : List RowEnd) → place < length lines → line ≡ get_or lines place line
-    → refusal ≡ (taken_at place refused).0 → later ≡ (taken_at place refused).1 → rows2 ≡ rows ++ row_end line refusal ∷ []
-    → rows ++ ends_from place (drop place lines) refused ≡ all → rows2 ++ ends_from (place + 1) (drop (place + 1) lines) later ≡ all
-row_more place line lines refused later refusal rows rows2 all below at is rest added so_far =
+pub row_more : (place line : ℕ) (lines : List ℕ) (refused later : List RefusedEvent) (refusal : Option Refusal) (count count2 all : RunCount) → place < length lines → line ≡ get_or lines place line
+    → refusal ≡ (taken_at place refused).0 → later ≡ (taken_at place refused).1 → count2 ≡ counted_with count (row_end line refusal)
+    → counted_behind count (ends_from place (drop place lines) refused) ≡ all → counted_behind count2 (ends_from (place + 1) (drop (place + 1) lines) later) ≡ all
+row_more place line lines refused later refusal count count2 all below at is rest added so_far =
     let here : drop place lines ≡ line ∷ drop (place + 1) lines = drop_more lines place line below ∙ ap (λ (l : ℕ). l ∷ drop (place + 1) lines) (sym at) in
-    ap (λ (xs : List RowEnd). xs ++ ends_from (place + 1) (drop (place + 1) lines) later) added
-    ∙ (append_assoc rows (row_end line refusal ∷ []) _
-    ∙ (ap (λ (x : Option Refusal × List RefusedEvent). rows ++ row_end line x.0 ∷ ends_from (place + 1) (drop (place + 1) lines) x.1) (λ i. (is i, rest i))
-    ∙ (ap (λ (xs : List RowEnd). rows ++ xs) (sym (taken_is place line (drop (place + 1) lines) refused))
-    ∙ (ap (λ (xs : List ℕ). rows ++ ends_from place xs refused) (sym here) ∙ so_far))))
+    ap (λ (c : RunCount). counted_behind c (ends_from (place + 1) (drop (place + 1) lines) later)) added
+    ∙ (ap (λ (x : Option Refusal × List RefusedEvent). counted_behind (counted_with count (row_end line x.0)) (ends_from (place + 1) (drop (place + 1) lines) x.1)) (λ i. (is i, rest i))
+    ∙ (ap (counted_behind count) (sym (taken_is place line (drop (place + 1) lines) refused))
+    ∙ (ap (λ (xs : List ℕ). counted_behind count (ends_from place xs refused)) (sym here) ∙ so_far)))
 
 -- The runs of dies that were closed
 
@@ -107,12 +158,12 @@ gathered slots number feed (plan ∷ plans) [] ends dies own arrive none ran = a
 gathered slots number feed (plan ∷ plans) (items ∷ rows) [] dies own arrive none ran = absurd ran
 gathered slots number feed (plan ∷ plans) (items ∷ rows) (end ∷ ends) [] own arrive none ran = absurd ran
 
-pub have_run : {N : Type 0} (slots : ℕ) (plans : List DiePlan) (rows : List (List ScriptItem)) (ends : List DieEnd) (dies : List (Core N)) (report : List DieReport) (made : List RowEnd)
-    → All (AllArrive slots) rows → All (λ end. end.stop ≡ None) ends → RanFeeds slots plans (map arrivals_of rows) ends dies → report ≡ reports_of 0 dies → made ≡ all_ends (map lines_of rows) ends
+pub have_run : {N : Type 0} (slots : ℕ) (plans : List DiePlan) (rows : List (List ScriptItem)) (ends : List DieEnd) (dies : List (Core N)) (report : List DieReport) (made : RunCount)
+    → All (AllArrive slots) rows → All (λ end. end.stop ≡ None) ends → RanFeeds slots plans (map arrivals_of rows) ends dies → report ≡ reports_of 0 dies → made ≡ count_of (all_ends (map lines_of rows) ends)
     → HaveRun slots rows plans report made
-have_run slots plans rows ends dies report made arrive none ran reported ended =
+have_run slots plans rows ends dies report made arrive none ran reported counted =
     let g = gathered slots 0 (feed_at rows) plans rows ends dies (λ k below. ap (feed_at rows) (omega arith)) (recursion_from_All (AllArrive slots) rows arrive) (recursion_from_All (λ end. end.stop ≡ None) ends none) ran in
-    record { runs = g.runs; ran = g.ran; reported = reported ∙ g.reported; ended = ended ∙ g.ended }
+    record { runs = g.runs; ran = g.ran; reported = reported ∙ g.reported; counted = counted ∙ ap count_of g.ended }
 
 -- where the run of a die ended early, memory was refused
 abbrev pub StopsForMemory : DieEnd → Type 0
@@ -145,14 +196,14 @@ same_feeds slots one two die (p ∷ plans) (r ∷ runs) same are = (
   same_feeds slots one two (die + 1) plans runs (λ d below. same d (omega (arith, below))) are.1,
 )
 
-unfoldable pub runs_text : (text : Option (List ℕ)) (plans : List DiePlan) (slots : ℕ) (feeds : List (List ScriptItem)) (report : List DieReport) (ends : List RowEnd) (count : RunCount) (old new : Option (List ℕ))
-    → AreFeedsOf text (length plans) slots feeds → HaveRun slots feeds plans report ends → count ≡ count_of ends → Appends old new (report_text report) → RunsText text plans slots count old new
-runs_text text plans slots feeds report ends count old new fed h counted written = record {
+unfoldable pub runs_text : (text : Option (List ℕ)) (plans : List DiePlan) (slots : ℕ) (feeds : List (List ScriptItem)) (report : List DieReport) (count : RunCount) (old new : Option (List ℕ))
+    → AreFeedsOf text (length plans) slots feeds → HaveRun slots feeds plans report count → Appends old new (report_text report) → RunsText text plans slots count old new
+runs_text text plans slots feeds report count old new fed h written = record {
   items = fed.0;
   script = fed.1;
   pages = λ d below. subst RowsHavePages (fed.2.rows d (omega (arith, below))) (All-get_or RowsHavePages feeds d [] (omega (arith, below, fed.2.all)) fed.2.pages);
   runs = h.runs;
   ran = same_feeds slots (feed_at feeds) (feed_of fed.0) 0 plans h.runs (λ d below. fed.2.rows d (omega (arith, below))) h.ran;
-  counted = counted ∙ ap count_of h.ended;
+  counted = h.counted;
   written = subst (λ (r : List DieReport). Appends old new (report_text r)) h.reported written;
 }

@@ -1,5 +1,5 @@
 -- What became of the rows of a script, and their counts.
-use Rattle.std.specs.Prelude.{ℕ, nat_lt, Bool, if◌then◌else◌, List, [], ◌∷◌, Option, Some, None, is_none, is_some, count_by}
+use Rattle.std.specs.Prelude.{ℕ, ◌+◌, nat_lt, Bool, if◌then◌else◌, List, [], ◌∷◌, Option, Some, None, is_none, is_some, count_by}
 use Rattle.slot_types.specs.Refusal.{number_of}
 use Rattle.slot_types.specs.declared.refusals.Refusal.{Refusal}
 use Rattle.task_script.specs.declared.run_counts.RowEnd.{RowEnd}
@@ -31,3 +31,18 @@ first_refused ends = first_behind None ends
 -- how many rows were accepted and refused, and the first refused one
 abbrev pub count_of : List RowEnd → RunCount
 count_of ends = record { accepted = count_by was_accepted ends; refused = count_by was_refused ends; first = first_refused ends }
+
+-- Row by row
+
+-- one row more is counted
+abbrev pub counted_with : RunCount → RowEnd → RunCount
+counted_with count end = record {
+  accepted = count.accepted + (if was_accepted end then 1 else 0);
+  refused = count.refused + (if was_refused end then 1 else 0);
+  first = first_by end.line end.refusal count.first;
+}
+
+-- these rows are counted besides
+abbrev pub counted_behind : RunCount → List RowEnd → RunCount
+counted_behind count [] = count
+counted_behind count (end ∷ ends) = counted_behind (counted_with count end) ends

@@ -54,9 +54,9 @@ RefusesText text dies slots refusal = RefusesScript text dies slots refusal ⊎ 
 abbrev pub feed_at : List (List ScriptItem) → ℕ → List ScriptItem
 feed_at feeds die = get_or feeds die []
 
--- these dies ran, and these are their reports and what became of their rows
-pub record HaveRun (slots : ℕ) (feeds : List (List ScriptItem)) (plans : List DiePlan) (report : List DieReport) (ends : List RowEnd) : Type 0 where
+-- these dies ran, these are their reports, and so many of their rows were accepted and refused
+pub record HaveRun (slots : ℕ) (feeds : List (List ScriptItem)) (plans : List DiePlan) (report : List DieReport) (count : RunCount) : Type 0 where
   pub runs : List DieRun
   pub ran : AreRuns slots (feed_at feeds) 0 plans runs
   pub reported : report ≡ reports_from 0 plans runs
-  pub ended : ends ≡ ends_of runs
+  pub counted : count ≡ count_of (ends_of runs)

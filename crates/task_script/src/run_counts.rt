@@ -1,9 +1,9 @@
 //! What became of the rows of a script, and their counts.
 
-ghost use Rattle.std.specs.Prelude.{◌≡◌};
-ghost use Rattle.task_script.specs.RunCounts.{count_of, first_by};
+ghost use Rattle.std.specs.Prelude.{◌≡◌, ◌+◌, [], IfOk, IfErr, OnOk};
+ghost use Rattle.task_script.specs.RunCounts.{count_of, counted_with, first_by};
 
-use slot_types::{Items, Refusal};
+use slot_types::Refusal;
 
 /// What became of a row.
 #[derive(Clone, Copy, PartialEq, Eq, Debug, Drop)]
@@ -13,9 +13,6 @@ pub struct RowEnd {
     /// Why its die refused it, if it did.
     pub refusal: Option<Refusal>,
 }
-
-/// What became of rows, in the order in which their dies were asked.
-pub type RowEnds = Items<RowEnd>;
 
 /// How many rows of a script were accepted and refused.
 #[derive(Clone, Copy, PartialEq, Eq, Debug, Drop)]
@@ -39,23 +36,36 @@ fn first_by(end: &RowEnd, first: Option<(u32, u8)>) -> Option<(u32, u8)>
     }
 }
 
-/// Counts what became of rows.
-pub fn count(ends: &[RowEnd]) -> RunCount
-    ensures { result ≡ count_of ends.now }
+/// A count with one row more, or none where there are more than can be counted.
+fn one_more(count: u64) -> Result<u64, Refusal>
+    ensures ok { IfOk result (λ more. more ≡ count + 1) }
+    ensures refused { IfErr result (λ refusal. refusal ≡ Refusal.NoMemory) }
 {
-    let mut accepted = 0;
-    let mut refused = 0;
-    let mut first = None;
-    for end in ends {
-        match end.refusal {
-            None => accepted += 1,
-            Some(_) => refused += 1,
+    count.checked_add(1).ok_or(Refusal::NoMemory)
+}
+
+impl RunCount {
+    /// No row was counted.
+    pub fn none() -> RunCount
+        ensures { result ≡ count_of [] }
+    {
+        RunCount {
+            accepted: 0,
+            refused: 0,
+            first: None,
         }
-        first = first_by(end, first);
     }
-    RunCount {
-        accepted,
-        refused,
-        first,
+
+    /// Counts a row. `NoMemory` only where there are more rows than 64 bits count.
+    pub(crate) fn add(&mut self, end: RowEnd) -> Result<(), Refusal>
+        ensures ok { OnOk result (self.new ≡ counted_with self.old end) }
+        ensures refused { IfErr result (λ refusal. refusal ≡ Refusal.NoMemory) }
+    {
+        match end.refusal {
+            None => self.accepted = one_more(self.accepted)?,
+            Some(_) => self.refused = one_more(self.refused)?,
+        }
+        self.first = first_by(&end, self.first);
+        Ok(())
     }
 }

@@ -2,9 +2,11 @@
 
 ghost use Rattle.std.specs.Prelude.{◌≡◌, ◌≤◌, ◌++◌, [], None, All, length, map, IfOk, IfErr, IfSome, OnErr, OnOk};
 ghost use Rattle.plan_rules.specs.Bound.{MeetsBound};
+ghost use Rattle.task_script.specs.DieReports.{die_report_of};
 ghost use Rattle.task_script.specs.Feeds.{AllArrive};
 ghost use Rattle.task_script.specs.PlannedRuns.{RunsAsPlanned, RunsSo};
 ghost use Rattle.task_script.specs.RowEnds.{ends_from, taken_at};
+ghost use Rattle.task_script.specs.RunCounts.{count_of, counted_behind};
 ghost use Rattle.task_script.specs.StoreRuns.{all_ends, reports_of};
 ghost use Rattle.task_script.specs.TextRuns.{HaveRun, RefusesText, RunsText, with_rows};
 ghost use Rattle.task_texts.specs.Writing.{IsNotWhole};
@@ -13,7 +15,7 @@ use crate::die_reports::die_report;
 use crate::die_runs::{run_store, split_all};
 use crate::feeds::read_feeds;
 use crate::rows::{DieRows, Lines};
-use crate::run_counts::{RowEnd, RowEnds, RunCount, count};
+use crate::run_counts::{RowEnd, RunCount};
 use die_service::{DieEnd, RefusedEvent};
 use flash_die::MemoryNand;
 use slot_core::DieCore;
@@ -24,11 +26,11 @@ use std::sync::Wait;
 use std::thread::Threads;
 use task_texts::{DieReport, Report, write_report};
 
-/// Dies that carried out their slots: their report, and what became of their rows.
+/// Dies that carried out their slots: their report, and how many of their rows were accepted and refused.
 #[derive(Drop)]
 struct RanStore {
     report: Report,
-    ends: RowEnds,
+    count: RunCount,
 }
 
 /// Why the event of a place was refused, if it was, and the refused events behind it.
@@ -42,21 +44,16 @@ fn take_refused(refused: &[RefusedEvent], place: usize) -> (Option<Refusal>, &[R
     }
 }
 
-/// Adds what became of the rows with these lines, by the events that were refused.
-fn add_ends(lines: &[u32], refused: &[RefusedEvent], ends: &mut RowEnds) -> Result<(), Refusal>
-    ensures ok { OnOk result (ends.new ≡ ends.old ++ ends_from 0 lines.now refused.now) }
+/// Counts the rows with these lines, by the events that were refused.
+fn add_rows(lines: &[u32], refused: &[RefusedEvent], count: &mut RunCount) -> Result<(), Refusal>
+    ensures ok { OnOk result (count.new ≡ counted_behind count.old (ends_from 0 lines.now refused.now)) }
     ensures refused { IfErr result (λ refusal. refusal ≡ Refusal.NoMemory) }
 {
     let mut rest = refused;
     for place in 0..lines.len() {
         let (refusal, later) = take_refused(rest, place);
-        match ends.push(RowEnd {
-            line: lines[place],
-            refusal,
-        }) {
-            Ok(()) => {}
-            Err(_) => return Err(Refusal::NoMemory),
-        }
+        let line = lines[place];
+        count.add(RowEnd { line, refusal })?;
         rest = later;
     }
     Ok(())
@@ -89,37 +86,40 @@ fn none_stopped(ends: &[DieEnd]) -> Result<(), Refusal>
     Ok(())
 }
 
-/// The report of dies, by number, and what became of their rows, die by die. The only refusal is NoMemory.
+/// The report of a die, which is given up.
+fn last_report(alloc: Global, number: u32, die: DieCore<MemoryNand>) -> Result<DieReport, Refusal>
+    ensures ok { IfOk result (λ report. report ≡ die_report_of die.plan die.log number) }
+    ensures refused { IfErr result (λ refusal. refusal ≡ Refusal.NoMemory) }
+{
+    die_report(alloc, number, &die)
+}
+
+/// The report of dies, by number, and the count of their rows. Each die is given up once its report is made. The only
+/// refusal is NoMemory.
 fn gather(
     alloc: Global,
     lines: &[Lines],
     ends: &[DieEnd],
-    dies: &[DieCore<MemoryNand>],
+    dies: Vec<DieCore<MemoryNand>>,
 ) -> Result<RanStore, Refusal>
-    requires few { length dies.now ≤ 8 }
-    requires lines { length lines.now ≡ length dies.now }
-    requires ends { length ends.now ≡ length dies.now }
-    ensures report { IfOk result (λ ran. ran.report ≡ reports_of 0 dies.now) }
-    ensures ends { IfOk result (λ ran. ran.ends ≡ all_ends lines.now ends.now) }
+    requires few { length dies.items ≤ 8 }
+    requires lines { length lines.now ≡ length dies.items }
+    requires ends { length ends.now ≡ length dies.items }
+    ensures report { IfOk result (λ ran. ran.report ≡ reports_of 0 dies.items) }
+    ensures count { IfOk result (λ ran. ran.count ≡ count_of (all_ends lines.now ends.now)) }
     ensures refused { IfErr result (λ refusal. refusal ≡ Refusal.NoMemory) }
 {
     let mut ran = RanStore {
         report: Report::new(alloc),
-        ends: RowEnds::new(alloc),
+        count: RunCount::none(),
     };
-    for die in 0..dies.len() {
-        let refused = ends[die].refused.as_slice();
-        match add_ends(lines[die].as_slice(), refused, &mut ran.ends) {
-            Ok(()) => {}
-            Err(refusal) => return Err(refusal),
-        }
-        match die_report(alloc, die as u32, &dies[die]) {
-            Ok(made) => match add_report(&mut ran.report, made) {
-                Ok(()) => {}
-                Err(refusal) => return Err(refusal),
-            },
-            Err(refusal) => return Err(refusal),
-        }
+    let mut number = 0;
+    for die in dies {
+        let refused = ends[number].refused.as_slice();
+        add_rows(lines[number].as_slice(), refused, &mut ran.count)?;
+        let made = last_report(alloc, number as u32, die)?;
+        add_report(&mut ran.report, made)?;
+        number += 1;
     }
     Ok(ran)
 }
@@ -140,13 +140,13 @@ fn run_dies<R: Threads + Wait + Sync>(
     requires arrive { All (AllArrive slots) rows.items }
     requires slots { slots ≤ MAX_SLOT }
     requires workers { (1 ≤ workers) × (workers ≤ 16) }
-    ensures ran { IfOk result (λ ran. HaveRun slots rows.items plans.now ran.report ran.ends) }
+    ensures ran { IfOk result (λ ran. HaveRun slots rows.items plans.now ran.report ran.count) }
     ensures refused { IfErr result (λ refusal. refusal ≡ Refusal.NoMemory) }
 {
     let (feeds, lines) = split_all(alloc, rows)?;
     let (dies, ends) = run_store(rt, alloc, plans, feeds, slots, workers)?;
     none_stopped(ends.as_slice())?;
-    gather(alloc, &lines, ends.as_slice(), &dies)
+    gather(alloc, &lines, ends.as_slice(), dies)
 }
 
 /// Runs a script on a store of 1 to 8 dies in memory by 1 to 16 workers, and writes the report of what became of it. Each
@@ -186,7 +186,7 @@ pub fn run_text<R: Threads + Wait + Sync, S: Read + Drop, W: Write>(
     let rows = read_feeds(alloc, script, plan, slots)?;
     let ran = run_dies(rt, alloc, plan.as_slice(), rows, slots, workers)?;
     match write_report(alloc, writer, &ran.report) {
-        Ok(()) => Ok(count(ran.ends.as_slice())),
+        Ok(()) => Ok(ran.count),
         Err(refusal) => Err(refusal),
     }
 }
