@@ -2,3 +2,4 @@ mod KindLemmas
 mod Endings
 mod Unopened
 mod Told
+mod Judging

@@ -1,5 +1,6 @@
 -- What a command prints, and its status; and what it leaves where it is refused.
-use Rattle.std.specs.Prelude.{◌≡◌, ⊤, ℕ, List, Option, Some, IfSome, Ok, Err, ◌⊎◌}
+use Rattle.std.specs.Prelude.{◌≡◌, ◌≢◌, ◌↔◌, ◌++◌, ⊤, ℕ, true, List, Option, Some, IfSome, Ok, Err, ◌⊎◌}
+use Rattle.std.specs.List.{list_any}
 use Rattle.std.specs.Io.KnownBytes.{Appends}
 use Rattle.slot_types.specs.declared.plans.DiePlan.{DiePlan}
 use Rattle.slot_types.specs.declared.refusals.Refusal.{Refusal}
@@ -11,7 +12,7 @@ use Rattle.task_texts.specs.ReportOf.{report_of}
 use Rattle.task_texts.specs.Stores.{RefusesPlan}
 use Rattle.task_texts.specs.Writing.{IsNotWhole}
 use Rattle.task_texts.specs.declared.reports.DieReport.{DieReport}
-use Rattle.flash_commands.specs.Audit.{audit_status, audit_text}
+use Rattle.flash_commands.specs.Audit.{audit_status, audit_text, is_refused}
 use Rattle.flash_commands.specs.Figures.{plan_text}
 use Rattle.task_script.specs.PlannedRuns.{RunsAsPlanned}
 use Rattle.task_script.specs.TextRuns.{RefusesText}
@@ -100,3 +101,17 @@ IsFaultOf is (Refused refusal) = is refusal
 IsFaultOf is (Words error) = ⊥
 IsFaultOf is NotText = ⊥
 IsFaultOf is Certificate = ⊤
+
+-- the report that a text has is read, its audit is behind what was there, whole, and a certificate of it is refused
+abbrev pub FindsRefused : (text old new : List ℕ) → Type 0
+FindsRefused text old new = (report : List DieReport) × (report_of text ≡ Ok report) × (new ≡ old ++ audit_text report) × (list_any is_refused report ≡ true)
+
+-- where the report's text is known, and what was written, the status is 3 exactly where that is so
+abbrev pub TellsRefused : Option (List ℕ) → Option (List ℕ) → Option (List ℕ) → ℕ → Type 0
+TellsRefused (Some text) (Some old) (Some new) status = (status ≡ 3) ↔ FindsRefused text old new
+TellsRefused _ _ _ status = ⊤
+
+-- so it is of an audit; no other command ends with 3
+abbrev pub HasThree : Command → Option (List ℕ) → Option (List ℕ) → Option (List ℕ) → ℕ → Type 0
+HasThree (command.Audit report) first old new status = TellsRefused first old new status
+HasThree _ first old new status = status ≢ 3

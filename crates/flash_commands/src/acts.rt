@@ -1,7 +1,7 @@
 //! Commands that are carried out.
 
 ghost use Rattle.std.specs.Prelude.{◌≡◌, ◌≤◌, ◌⊎◌, IfOk, IfErr, OnErr, OnOk, if◌then◌else◌};
-ghost use Rattle.flash_commands.specs.Acts.{AuditsSome, IsFaultOf, IsRefused, IsRefusedFor, IsUnwritten, Prints, PrintsAudit, PrintsFigures, PrintsRun, RefusesAudit, RefusesFigures, RefusesRun};
+ghost use Rattle.flash_commands.specs.Acts.{AuditsSome, HasThree, IsFaultOf, IsRefused, IsRefusedFor, IsUnwritten, Prints, PrintsAudit, PrintsFigures, PrintsRun, RefusesAudit, RefusesFigures, RefusesRun};
 ghost use Rattle.flash_commands.specs.Commands.{FitsRun};
 ghost use Rattle.flash_commands.specs.Faults.{outcome_status};
 ghost use Rattle.task_texts.specs.Writing.{IsNotWhole};
@@ -169,7 +169,7 @@ pub fn carry_out<R: Threads + Wait + Sync, F: Read + Drop, S: Read + Drop, W: Wr
 ///
 /// `audit` prints for each die of the report the lateness and the job of its certificate, and whether it holds, as
 /// `die 0 worst -1 job 0 holds` or `die 0 worst 0 job 1 refused 5 EarlyRelease`, or that it has none, as
-/// `die 0 no lateness`; the status is 3 where some certificate is refused.
+/// `die 0 no lateness`; the status is 3 exactly where this is written whole and some certificate is refused.
 ///
 /// `plan` prints for each die the figures of its plan, as `die 0 fmax 7 closed 6 live 18 logical 12 accepted`; no more
 /// of the plan is read than 1,048,577 bytes.
@@ -188,6 +188,7 @@ pub fn act<R: Threads + Wait + Sync, F: Read + Drop, S: Read + Drop, W: Write, E
 ) -> u8
     requires { FitsRun command }
     ensures printed { (result ≡ 1) ⊎ Prints command.entry (F.remaining first) (S.remaining second) (W.contents out.old) (W.contents out.new) result }
+    ensures three { HasThree command.entry (F.remaining first) (W.contents out.old) (W.contents out.new) result }
     ensures refused { result ≡ 1 → IsRefused W.contents command.entry (F.remaining first) (S.remaining second) out.old out.new }
 {
     let done = carry_out(rt, alloc, command, first, second, out, err);

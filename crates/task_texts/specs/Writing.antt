@@ -1,5 +1,5 @@
 -- How much of a text a writer took.
-use Rattle.std.specs.Prelude.{◌≡◌, ℕ, ◌<◌, List, [], ◌++◌, length, take, Option, Some}
+use Rattle.std.specs.Prelude.{◌≡◌, ◌⊎◌, ℕ, ◌<◌, List, [], ◌++◌, length, take, Option, Some}
 use Rattle.std.specs.Io.KnownBytes.{Appends}
 
 -- known bytes grew by a front of a text that isn't the whole of it
@@ -13,3 +13,7 @@ AppendsUpTo old new text left = (front : List ℕ) × (text ≡ front ++ left) �
 -- of what prints so behind nothing a front was written, and not the whole
 abbrev pub InPart : (Option (List ℕ) → Option (List ℕ) → Type 0) → Option (List ℕ) → Option (List ℕ) → Type 0
 InPart prints old new = (whole : List ℕ) × prints (Some []) (Some whole) × AppendsPart old new whole
+
+-- nothing was written, or not the whole
+abbrev pub IsNotWhole : {W : Type 0} → (W → Option (List ℕ)) → (Option (List ℕ) → Option (List ℕ) → Type 0) → W → W → Type 0
+IsNotWhole contents prints old new = (new ≡ old) ⊎ InPart prints (contents old) (contents new)

@@ -10,7 +10,7 @@ use slot_types::Refusal;
 use std::io::{ErrorKind, Write};
 
 /// The most calls of a writer, beside one for each byte of its text. They are for calls that are interrupted.
-const MORE_CALLS: usize = 67_108_865;
+const MORE_CALLS: usize = 1_048_576;
 
 /// What is left of a text after one call of a writer: all of it where the call was interrupted. A writer that takes
 /// nothing, and says so, has failed.
@@ -31,7 +31,7 @@ fn write_some<'a, W: Write>(writer: &mut W, text: &'a [u8]) -> Result<&'a [u8], 
 /// Writes a text by as many calls of its writer as it takes. Each goes on where the one before it stopped, and one that
 /// is interrupted is made again.
 ///
-/// WriteFault comes where a call fails or takes nothing, or behind so many calls as the text has bytes and 67,108,865
+/// WriteFault comes where a call fails or takes nothing, or behind so many calls as the text has bytes and 1,048,576
 /// more. A front of the text was then written that isn't the whole. The writer isn't flushed.
 pub fn write_whole<W: Write>(writer: &mut W, text: &[u8]) -> Result<(), Refusal>
     ensures whole { OnOk result (Appends (W.contents writer.old) (W.contents writer.new) text.now) }
