@@ -1,10 +1,11 @@
 //! The events that a run brings to a die.
 
-ghost use Rattle.std.specs.Prelude.{◌≡◌, ◌<◌, ◌∷◌, ◌++◌, [], Some, length, slice_get, option_map, vec_capacity, vec_len, ◌+◌, ◌≤◌, IfOk, IfErr, OnOk, OnErr};
+ghost use Rattle.std.specs.Prelude.{◌≡◌, ◌<◌, ◌∷◌, ◌++◌, [], Some, length, slice_get, option_map, vec_capacity, IfOk, IfErr, OnOk, OnErr};
 ghost use Rattle.slot_types.specs.declared.events.Event.TheVariants as events;
 ghost use Rattle.die_service.specs.Feeds.{with_ops, HaveAtMost};
 
 use crate::heads::EventHead;
+use crate::packed_ops::PackedOps;
 use slot_types::{Event, Op, Refusal, TaskNo};
 use std::alloc::Global;
 use std::marker::Model;
@@ -33,7 +34,7 @@ pub(crate) struct FeedRow {
 pub struct Feed {
     rows: Vec<FeedRow>,
     /// The operations of all jobs, one behind another.
-    ops: Vec<Op>,
+    ops: PackedOps,
     /// The most operations that a job has.
     most: u32,
 }
@@ -45,9 +46,9 @@ impl Model for Feed {
 
     ghost Value = { List Arrival };
 
-    ghost view = { λ f. feed_at f.ops.items f.rows.items };
+    ghost view = { λ f. feed_at f.ops f.rows.items };
 
-    ghost invariant = { λ f. AreRowsOf f.ops.items f.most f.rows.items };
+    ghost invariant = { λ f. AreRowsOf f.ops f.most f.rows.items };
 }
 
 /// A number of operations as a row keeps it. What 32 bits can't count finds no memory.
@@ -61,17 +62,6 @@ fn count_in_row(len: usize) -> Result<u32, Refusal>
     Ok(len as u32)
 }
 
-/// Adds operations, in room that was made.
-fn push_ops(list: &mut Vec<Op>, ops: &[Op])
-    requires room { vec_len list.old + length ops.now ≤ vec_capacity list.old }
-    ensures ops { list.new.items ≡ list.old.items ++ ops.now }
-    ensures room { vec_capacity list.new ≡ vec_capacity list.old }
-{
-    for op in ops {
-        list.push_reserved(*op);
-    }
-}
-
 impl Feed {
     /// No event. It takes no memory.
     pub fn new(alloc: Global) -> Feed
@@ -79,7 +69,7 @@ impl Feed {
     {
         Feed {
             rows: Vec::new(alloc),
-            ops: Vec::new(alloc),
+            ops: PackedOps::new(alloc),
             most: 0,
         }
     }
@@ -107,7 +97,7 @@ impl Feed {
         let first_op = count_in_row(self.ops.len())?;
         let op_count = count_in_row(ops.len())?;
         self.rows.reserve(1)?;
-        self.ops.extend_from_slice(ops)?;
+        self.ops.push_all(ops)?;
         self.most = self.most.max(op_count);
         self.rows.push_reserved(FeedRow {
             at,
@@ -179,8 +169,7 @@ impl Feed {
         if row.collects {
             return EventHead::Collect { task, release, due };
         }
-        let first = row.first_op as usize;
-        push_ops(ops, &self.ops[first..first + row.op_count as usize]);
+        self.ops.copy_to(row.first_op, row.op_count, ops);
         EventHead::Submit { task, release, due }
     }
 }

@@ -21,6 +21,7 @@ pub mod ends;
 pub mod feeds;
 pub mod gate;
 pub mod heads;
+mod packed_ops;
 pub mod promised;
 pub mod queries;
 pub mod refused;

@@ -1,6 +1,6 @@
 use Rattle.std.proofs.Common.{◌≡◌, ◌+◌, ◌-◌, ◌<◌, ◌++◌, ℕ, List, Some, length, take, drop, slice_get, vec_len, vec_capacity, rules, arith, refl, sym, ap, ◌∙◌, subst}
 use Rattle.std.specs.Prelude.{option_map}
-use Rattle.std.proofs.lemmas.List.{length-map, length-take}
+use Rattle.std.proofs.lemmas.List.{length-map}
 use Rattle.std.proofs.lemmas.Option.{slice_get_read}
 use Rattle.slot_types.specs.declared.events.Event.TheVariants as events
 use Rattle.slot_types.specs.declared.events.Op.{Op}
@@ -9,19 +9,19 @@ use Rattle.die_service.specs.Feeds.{HaveAtMost, arrival_at}
 use Rattle.die_service.proofs.Feeding.{row_at, place_at, room_at, job_at}
 use Rattle.die_service.proofs.feeds.Feed.read.Goals as goal
 
-pub push_ops-requires : goal.push_ops-requires
-push_ops-requires c =
+pub copy_to-requires : goal.copy_to-requires
+copy_to-requires c =
     let f = c.self.inside in
     let row = c.index-row.result.now in
     let len = ap length c.self.view_is in
     let there = c.requires.there in
-    let within : c.args.place < length f.rows.items = omega (arith, len, there, length-map f.rows.items (arrival_at f.ops.items)) in
+    let within : c.args.place < length f.rows.items = omega (arith, len, there, length-map f.rows.items (arrival_at f.ops)) in
     let at_n = slice_get_read f.rows.items (length f.rows.items) c.args.place row refl within c.index-row.ensures in
-    let is = row_at f.ops.items f.most f.rows.items c.args.place row at_n c.self.invariant in
-    let few = room_at f.ops.items f.most (vec_capacity c.args.ops.now) f.rows.items c.args.place row at_n c.if-row.false is (subst (HaveAtMost (vec_capacity c.args.ops.now)) (sym c.self.view_is) c.requires.room) in
+    let is = row_at f.ops f.most f.rows.items c.args.place row at_n c.self.invariant in
+    let few = room_at f.ops f.most (vec_capacity c.args.ops.now) f.rows.items c.args.place row at_n c.if-row.false is (subst (HaveAtMost (vec_capacity c.args.ops.now)) (sym c.self.view_is) c.requires.room) in
     let none = c.clear.ensures.len in
     let same = c.clear.ensures.capacity in
-    record { room = omega (arith, few, none, same, length-take (row.first_op + row.op_count - row.first_op) (drop row.first_op c.deref.result.now)) }
+    record { there = is.there; room = omega (arith, few, none, same) }
 
 pub returns-clause-event : goal.returns-clause-event
 returns-clause-event c =
@@ -29,12 +29,10 @@ returns-clause-event c =
     let row = c.index-row.result.now in
     let len = ap length c.self.view_is in
     let there = c.requires.there in
-    let within : c.args.place < length f.rows.items = omega (arith, len, there, length-map f.rows.items (arrival_at f.ops.items)) in
+    let within : c.args.place < length f.rows.items = omega (arith, len, there, length-map f.rows.items (arrival_at f.ops)) in
     let at_n = slice_get_read f.rows.items (length f.rows.items) c.args.place row refl within c.index-row.ensures in
-    let count : row.first_op + row.op_count - row.first_op ≡ row.op_count = omega arith in
     sym (ap (λ (l : List Arrival). option_map (λ (a : Arrival). a.event) (slice_get l c.args.place)) c.self.view_is)
-    ∙ ap (option_map (λ (a : Arrival). a.event)) (place_at f.ops.items f.rows.items c.args.place row at_n)
-    ∙ ap Some (job_at f.ops.items row c.if-row.false)
+    ∙ ap (option_map (λ (a : Arrival). a.event)) (place_at f.ops f.rows.items c.args.place row at_n)
+    ∙ ap Some (job_at f.ops row c.if-row.false)
     ∙ ap (λ (l : List Op). Some (events.Submit row.task row.release row.due l))
-    (sym (c.push_ops.ensures.ops ∙ ap (λ (l : List Op). l ++ take (row.first_op + row.op_count - row.first_op) (drop row.first_op c.deref.result.now)) c.clear.ensures.items
-    ∙ ap (λ (n : ℕ). take n (drop row.first_op c.deref.result.now)) count ∙ ap (λ (l : List Op). take row.op_count (drop row.first_op l)) c.deref.ensures.value))
+    (sym (c.copy_to.ensures.ops ∙ ap (λ (l : List Op). l ++ take row.op_count (drop row.first_op f.ops)) c.clear.ensures.items))
