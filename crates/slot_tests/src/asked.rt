@@ -1,22 +1,10 @@
 //! Jobs and collections that are asked of a die, and whether it answers as it is to.
 
+use crate::again::{collect, submit};
 use flash_die::Nand;
 use slot_core::DieCore;
-use slot_types::{JobNo, Op, OpList, Refusal, TaskNo};
+use slot_types::{JobNo, Op, Refusal};
 use std::alloc::Global;
-
-/// What becomes of a job of the task: its number, or why it is refused.
-pub(crate) fn submit<N: Nand>(
-    die: &mut DieCore<N>,
-    alloc: Global,
-    task: u32,
-    release: u32,
-    due: u32,
-    ops: &[Op],
-) -> Result<JobNo, Refusal> {
-    let ops = OpList::from_vec(Vec::from_slice(alloc, ops)?);
-    die.submit(alloc, 0, TaskNo(task), release, due, ops)
-}
 
 fn is_number(answer: Result<JobNo, Refusal>, wanted: u32) -> bool {
     match answer {
@@ -82,7 +70,7 @@ pub(crate) fn collects<N: Nand>(
     due: u32,
     number: u32,
 ) -> bool {
-    is_number(die.collect(alloc, 0, TaskNo(0), release, due), number)
+    is_number(collect(die, alloc, release, due), number)
 }
 
 /// Whether a collection for task 0 is refused, and with this refusal.
@@ -93,5 +81,5 @@ pub(crate) fn collects_not<N: Nand>(
     due: u32,
     refusal: Refusal,
 ) -> bool {
-    is_refusal(die.collect(alloc, 0, TaskNo(0), release, due), refusal)
+    is_refusal(collect(die, alloc, release, due), refusal)
 }

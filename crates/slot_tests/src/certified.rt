@@ -1,5 +1,6 @@
 //! The certificate of a die, and whether it is what it is to be.
 
+use crate::again::{certificate_of, rows_of};
 use flash_die::Nand;
 use late_cert::{Carried, Certificate, Verdict, build, check};
 use slot_core::DieCore;
@@ -30,7 +31,7 @@ fn is_of(certificate: &Certificate, bounds: Bounds, jobs: &[u32]) -> bool {
 
 /// Whether the die answers that it has no certificate.
 pub(crate) fn has_none<N: Nand>(die: &DieCore<N>, alloc: Global) -> bool {
-    matches!(die.certificate(alloc), Ok(None))
+    matches!(certificate_of(die, alloc), Ok(None))
 }
 
 /// Whether the die's certificate is this one.
@@ -40,7 +41,7 @@ pub(crate) fn is_certified<N: Nand>(
     bounds: Bounds,
     jobs: &[u32],
 ) -> bool {
-    match die.certificate(alloc) {
+    match certificate_of(die, alloc) {
         Ok(Some(certificate)) => is_of(&certificate, bounds, jobs),
         _ => false,
     }
@@ -48,7 +49,7 @@ pub(crate) fn is_certified<N: Nand>(
 
 /// Whether the die's certificate holds over its rows.
 pub(crate) fn holds<N: Nand>(die: &DieCore<N>, alloc: Global) -> bool {
-    match (die.certificate(alloc), die.rows(alloc)) {
+    match (certificate_of(die, alloc), rows_of(die, alloc)) {
         (Ok(Some(certificate)), Ok(rows)) => check(&rows, &certificate) == Verdict::Holds,
         _ => false,
     }
@@ -69,7 +70,7 @@ fn built<N: Nand>(
     slots: &[u32],
 ) -> Result<Option<Certificate>, Refusal> {
     let carried = carried_of(alloc, slots)?;
-    let rows = die.rows(alloc)?;
+    let rows = rows_of(die, alloc)?;
     build(alloc, &rows, &carried, JobNo(job))
 }
 
@@ -81,7 +82,11 @@ pub(crate) fn is_built<N: Nand>(
     bounds: Bounds,
     jobs: &[u32],
 ) -> bool {
-    match built(die, alloc, bounds.0, slots) {
+    let made = match built(die, alloc, bounds.0, slots) {
+        Err(Refusal::NoMemory) => built(die, alloc, bounds.0, slots),
+        answer => answer,
+    };
+    match made {
         Ok(Some(certificate)) => is_of(&certificate, bounds, jobs),
         _ => false,
     }

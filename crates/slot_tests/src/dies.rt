@@ -57,18 +57,46 @@ fn plays<N: Nand>(
     Ok(())
 }
 
+/// Plays a table on a new die of this shape, behind a history.
+fn plays_once(
+    rt: &impl Abort,
+    alloc: Global,
+    shape: Shape,
+    logical: u32,
+    history: &[Step],
+    steps: &[Step],
+) -> Result<(), Refusal> {
+    let device = MemoryNand::new(alloc, shape)?;
+    plays(rt, alloc, device, logical, history, steps)
+}
+
+/// Plays a table on a new die of this shape, behind a history. Where memory is refused for the die, another one is made.
+fn plays_anew(
+    rt: &impl Abort,
+    alloc: Global,
+    shape: Shape,
+    logical: u32,
+    history: &[Step],
+    steps: &[Step],
+) -> Result<(), Refusal> {
+    match plays_once(rt, alloc, shape, logical, history, steps) {
+        Err(Refusal::NoMemory) => plays_once(rt, alloc, shape, logical, history, steps),
+        answer => answer,
+    }
+}
+
 /// Plays a table on a new die with pages to spare: 8 blocks, and 12 logical pages.
 pub(crate) fn plays_wide(rt: &impl Abort, alloc: Global, steps: &[Step]) -> Result<(), Refusal> {
-    plays(rt, alloc, MemoryNand::new(alloc, WIDE)?, 12, &[], steps)
+    plays_anew(rt, alloc, WIDE, 12, &[], steps)
 }
 
 /// Plays a table on a new die of 8 blocks, with as many logical pages as its plan's bound allows: 17.
 pub(crate) fn plays_dense(rt: &impl Abort, alloc: Global, steps: &[Step]) -> Result<(), Refusal> {
-    plays(rt, alloc, MemoryNand::new(alloc, WIDE)?, 17, &[], steps)
+    plays_anew(rt, alloc, WIDE, 17, &[], steps)
 }
 
-/// Plays a table on a wide die whose device fails behind so many calls.
-pub(crate) fn plays_fused(
+/// Plays a table on a new wide die whose device fails behind so many calls.
+fn plays_fused_once(
     rt: &impl Abort,
     alloc: Global,
     calls: u64,
@@ -78,6 +106,20 @@ pub(crate) fn plays_fused(
     plays(rt, alloc, device, 12, &[], steps)
 }
 
+/// Plays a table on a wide die whose device fails behind so many calls. Where memory is refused for the die, another one is
+/// made.
+pub(crate) fn plays_fused(
+    rt: &impl Abort,
+    alloc: Global,
+    calls: u64,
+    steps: &[Step],
+) -> Result<(), Refusal> {
+    match plays_fused_once(rt, alloc, calls, steps) {
+        Err(Refusal::NoMemory) => plays_fused_once(rt, alloc, calls, steps),
+        answer => answer,
+    }
+}
+
 /// Plays a table behind a history, on a new die of 4 blocks and 5 logical pages, of which 2 blocks can be collected.
 pub(crate) fn plays_tight(
     rt: &impl Abort,
@@ -85,5 +127,5 @@ pub(crate) fn plays_tight(
     history: &[Step],
     steps: &[Step],
 ) -> Result<(), Refusal> {
-    plays(rt, alloc, MemoryNand::new(alloc, TIGHT)?, 5, history, steps)
+    plays_anew(rt, alloc, TIGHT, 5, history, steps)
 }

@@ -1,5 +1,6 @@
 //! What stands of a die: what became of its jobs, its worst job, its certificate and its counts.
 
+use crate::again::rows_of;
 use crate::certified::{Bounds, has_none, holds, is_built, is_certified};
 use crate::outcomes::{is_collected, is_done, is_unknown, is_waiting, is_waived};
 use flash_die::Nand;
@@ -37,6 +38,8 @@ pub(crate) enum Fact<'a> {
     Records(u64),
     /// The present slot is this one.
     Now(u32),
+    /// Memory is reserved for so many slots.
+    Reserved(u32),
 }
 
 /// Whether this is the worst job, with this lateness.
@@ -53,7 +56,7 @@ fn is_nothing_done<N: Nand>(die: &DieCore<N>, alloc: Global) -> bool {
 
 /// Whether the jobs take so many slots together.
 fn is_work<N: Nand>(die: &DieCore<N>, alloc: Global, work: u32) -> bool {
-    match die.rows(alloc) {
+    match rows_of(die, alloc) {
         Ok(rows) => {
             let mut sum: u32 = 0;
             for row in rows.as_slice() {
@@ -86,5 +89,6 @@ pub(crate) fn stands<N: Nand>(die: &DieCore<N>, alloc: Global, fact: &Fact) -> b
         Fact::Entries(count) => die.len() == *count,
         Fact::Records(count) => die.records() == *count,
         Fact::Now(slot) => die.now() == *slot,
+        Fact::Reserved(slots) => die.reserved() == *slots,
     }
 }

@@ -1,6 +1,6 @@
 //! The long history of a die whose device fails at one of its calls, beside the same history without a fault.
 
-use crate::asked::submit;
+use crate::again::submit;
 use crate::certified::{has_none, holds};
 use crate::collections::{COPIES_AND_ERASES, HISTORY};
 use crate::dies::{TIGHT, plan_of};

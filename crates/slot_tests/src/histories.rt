@@ -1,7 +1,7 @@
 //! Random histories of a die with as many logical pages as its bound allows, on which a collection copies as a rule: each read gives the page's
 //! last finished write, or blank behind its trim.
 
-use crate::asked::submit;
+use crate::again::submit;
 use crate::dies::plays_dense;
 use crate::facts::Fact::Holds;
 use crate::pages::BLANK;

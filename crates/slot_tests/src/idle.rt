@@ -1,5 +1,6 @@
 //! Idle slots, one at a time and in runs, and slots that only pass.
 
+use crate::again::carry;
 use flash_die::Nand;
 use slot_core::DieCore;
 use slot_types::{Event, Items, Refusal, Reply, SlotReply};
@@ -12,7 +13,7 @@ fn is_idle(reply: &SlotReply, slot: u32) -> bool {
 
 /// Whether the present slot has this number and is idle.
 pub(crate) fn idles<N: Nand>(die: &mut DieCore<N>, alloc: Global, slot: u32) -> bool {
-    match die.slot(alloc, 0) {
+    match carry(die, alloc) {
         Ok(reply) => is_idle(&reply, slot),
         Err(_) => false,
     }
@@ -51,7 +52,11 @@ fn run_of<N: Nand>(
 /// Whether a run of so many slots is answered, and each is idle.
 pub(crate) fn runs<N: Nand>(die: &mut DieCore<N>, alloc: Global, count: u32) -> bool {
     let first = die.now();
-    match run_of(die, alloc, count) {
+    let replies = match run_of(die, alloc, count) {
+        Err(Refusal::NoMemory) => run_of(die, alloc, count),
+        answer => answer,
+    };
+    match replies {
         Ok(replies) => { (replies.len() == count as usize) & are_idle(replies.as_slice(), first) }
         Err(_) => false,
     }
@@ -60,7 +65,7 @@ pub(crate) fn runs<N: Nand>(die: &mut DieCore<N>, alloc: Global, count: u32) -> 
 /// Whether so many slots pass.
 pub(crate) fn passes<N: Nand>(die: &mut DieCore<N>, alloc: Global, count: u32) -> bool {
     for _ in 0..count {
-        if die.slot(alloc, 0).is_err() {
+        if carry(die, alloc).is_err() {
             return false;
         }
     }

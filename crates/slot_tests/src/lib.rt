@@ -2,6 +2,8 @@
 #![tactic(auto)]
 
 #[cfg(test)]
+mod again;
+#[cfg(test)]
 mod asked;
 #[cfg(test)]
 mod certified;
@@ -31,6 +33,8 @@ mod pages;
 mod planned;
 #[cfg(test)]
 mod refusals;
+#[cfg(test)]
+mod reserved;
 #[cfg(test)]
 mod slotted;
 #[cfg(test)]

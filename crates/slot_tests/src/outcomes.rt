@@ -1,8 +1,9 @@
 //! What became of the jobs of a die, and whether it is what it is to be.
 
+use crate::again::outcome_of;
 use flash_die::Nand;
 use slot_core::{DieCore, Outcome};
-use slot_types::{JobNo, PageData, Refusal};
+use slot_types::{PageData, Refusal};
 use std::alloc::Global;
 
 fn is_end(
@@ -37,7 +38,7 @@ pub(crate) fn is_done<N: Nand>(
     lateness: i64,
     reads: &[PageData],
 ) -> bool {
-    match die.outcome(alloc, JobNo(number)) {
+    match outcome_of(die, alloc, number) {
         Ok(outcome) => is_end(&outcome, completion, lateness, 0, reads),
         Err(_) => false,
     }
@@ -52,7 +53,7 @@ pub(crate) fn is_collected<N: Nand>(
     lateness: i64,
     given: u32,
 ) -> bool {
-    match die.outcome(alloc, JobNo(number)) {
+    match outcome_of(die, alloc, number) {
         Ok(outcome) => is_end(&outcome, completion, lateness, given, &[]),
         Err(_) => false,
     }
@@ -65,7 +66,7 @@ pub(crate) fn is_waived<N: Nand>(
     number: u32,
     wanted_given: u32,
 ) -> bool {
-    match die.outcome(alloc, JobNo(number)) {
+    match outcome_of(die, alloc, number) {
         Ok(Outcome::Waived { given }) => given == wanted_given,
         _ => false,
     }
@@ -73,10 +74,10 @@ pub(crate) fn is_waived<N: Nand>(
 
 /// Whether a job is neither done nor waived.
 pub(crate) fn is_waiting<N: Nand>(die: &DieCore<N>, alloc: Global, number: u32) -> bool {
-    matches!(die.outcome(alloc, JobNo(number)), Ok(Outcome::Waiting))
+    matches!(outcome_of(die, alloc, number), Ok(Outcome::Waiting))
 }
 
 /// Whether the die has no job of this number.
 pub(crate) fn is_unknown<N: Nand>(die: &DieCore<N>, alloc: Global, number: u32) -> bool {
-    matches!(die.outcome(alloc, JobNo(number)), Err(Refusal::UnknownJob))
+    matches!(outcome_of(die, alloc, number), Err(Refusal::UnknownJob))
 }

@@ -1,5 +1,6 @@
 //! Slots of a die, and whether each does what it is to.
 
+use crate::again::carry;
 use flash_die::Nand;
 use slot_core::DieCore;
 use slot_types::{Act, JobNo, Refusal, SlotReply};
@@ -7,7 +8,7 @@ use std::alloc::Global;
 
 /// Whether the present slot carries this number out.
 fn carries<N: Nand>(die: &mut DieCore<N>, alloc: Global, number: u32) -> bool {
-    match die.slot(alloc, 0) {
+    match carry(die, alloc) {
         Ok(reply) => match reply.ran {
             Some((carried, _)) => carried.0 == number,
             None => false,
@@ -28,7 +29,7 @@ pub(crate) fn carries_each<N: Nand>(die: &mut DieCore<N>, alloc: Global, numbers
 
 /// Whether the present slot carries out this act of this number.
 fn does<N: Nand>(die: &mut DieCore<N>, alloc: Global, number: u32, act: Act) -> bool {
-    match die.slot(alloc, 0) {
+    match carry(die, alloc) {
         Ok(reply) => match reply.ran {
             Some((carried, done)) => (carried.0 == number) & (done == act),
             None => false,
@@ -71,7 +72,7 @@ pub(crate) fn waives<N: Nand>(
     number: u32,
     given: u32,
 ) -> bool {
-    match die.slot(alloc, 0) {
+    match carry(die, alloc) {
         Ok(reply) => is_waiver(&reply, number, given),
         Err(_) => false,
     }
@@ -79,8 +80,18 @@ pub(crate) fn waives<N: Nand>(
 
 /// Whether the present slot is refused, and with this refusal.
 pub(crate) fn refuses_slot<N: Nand>(die: &mut DieCore<N>, alloc: Global, refusal: Refusal) -> bool {
-    match die.slot(alloc, 0) {
+    match carry(die, alloc) {
         Ok(_) => false,
         Err(answered) => answered == refusal,
     }
+}
+
+/// Whether so many slots are carried out, each when it is asked for the first time.
+pub(crate) fn carries_at_once<N: Nand>(die: &mut DieCore<N>, alloc: Global, count: u32) -> bool {
+    for _ in 0..count {
+        if die.slot(alloc, 0).is_err() {
+            return false;
+        }
+    }
+    true
 }

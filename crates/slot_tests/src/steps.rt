@@ -1,10 +1,11 @@
 //! A test as a table of steps: each says what is asked of a die, and what comes of it.
 
+use crate::again::reserve;
 use crate::asked::{are_accepted, collects, collects_not, is_accepted, is_refused};
 use crate::facts::{Fact, stands};
 use crate::histories::agrees;
 use crate::idle::{idles, passes, runs};
-use crate::slotted::{carries_each, does_each, refuses_slot, waives};
+use crate::slotted::{carries_at_once, carries_each, does_each, refuses_slot, waives};
 use flash_die::Nand;
 use slot_core::DieCore;
 use slot_types::{Act, Op, Refusal};
@@ -28,6 +29,10 @@ pub(crate) enum Step<'a> {
     Idles(u32),
     /// A run of so many slots is answered, and each is idle.
     Runs(u32),
+    /// So many slots are reserved.
+    Reserves(u32),
+    /// So many slots are carried out, each when it is asked for the first time.
+    AtOnce(u32),
     /// The next slots carry out these numbers.
     Carries(&'a [u32]),
     /// The next slots carry out these acts of this number.
@@ -61,6 +66,8 @@ fn goes<N: Nand>(die: &mut DieCore<N>, alloc: Global, step: &Step) -> bool {
         Step::Passes(count) => passes(die, alloc, *count),
         Step::Idles(slot) => idles(die, alloc, *slot),
         Step::Runs(count) => runs(die, alloc, *count),
+        Step::Reserves(count) => reserve(die, *count).is_ok(),
+        Step::AtOnce(count) => carries_at_once(die, alloc, *count),
         Step::Carries(numbers) => carries_each(die, alloc, *numbers),
         Step::Acts(number, acts) => does_each(die, alloc, *number, *acts),
         Step::Waives(number, given) => waives(die, alloc, *number, *given),
