@@ -30,6 +30,12 @@ mod outcomes;
 #[cfg(test)]
 mod pages;
 #[cfg(test)]
+mod plain_accounts;
+#[cfg(test)]
+mod plain_die;
+#[cfg(test)]
+mod plain_flash;
+#[cfg(test)]
 mod planned;
 #[cfg(test)]
 mod refusals;
@@ -39,3 +45,5 @@ mod reserved;
 mod slotted;
 #[cfg(test)]
 mod steps;
+#[cfg(test)]
+mod tight;
