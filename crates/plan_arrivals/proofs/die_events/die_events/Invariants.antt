@@ -1,0 +1,12 @@
+use Rattle.std.proofs.Common.{◌≡◌, ◌≤◌, length}
+use Rattle.std.specs.Prelude.{option_map}
+use Rattle.task_texts.specs.Left.{dies_of, script_left, slots_of}
+use Rattle.task_texts.specs.Script.{script_of}
+use Rattle.plan_arrivals.proofs.Reading.{HasCome}
+use Rattle.plan_arrivals.proofs.die_events.die_events.Given as goal
+
+abbrev pub invariant-loop : goal.invariant-loop
+invariant-loop g l = record {
+  within : l.now ≤ l.slots;
+  come : HasCome (option_map (script_of (length l.plan) l.slots) (g.R.Read.remaining l.fn.reader)) (script_left g.R.Read.remaining l.script) l.slots l.now l.die l.events;
+}

@@ -1,0 +1,10 @@
+-- What is left of a run.
+use Rattle.std.specs.Prelude.{ℕ, ◌-◌, List, map}
+use Rattle.slot_types.specs.declared.events.Event.{Event}
+use Rattle.task_texts.specs.declared.items.ScriptItem.{ScriptItem}
+use Rattle.task_script.specs.DieRuns.{calls_from}
+use Rattle.task_script.specs.PlannedRuns.{event_of}
+
+-- the events of a run of so many slots from this slot on, with these rows left
+abbrev pub later_events : ℕ → ℕ → List ScriptItem → List Event
+later_events slots now rows = map event_of (calls_from now (slots - now) rows)
