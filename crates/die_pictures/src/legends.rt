@@ -58,11 +58,29 @@ fn put_worst(text: &mut Vec<u8>, worst: &Worst) -> io::Result<()> {
     )
 }
 
+/// A noun, as it stands behind a number.
+fn noun(count: u32, one: &'static str, many: &'static str) -> &'static str {
+    if count == 1 { one } else { many }
+}
+
+/// Adds the counts of the whole run.
+fn put_counts(text: &mut Vec<u8>, scene: &Scene<'_>) -> io::Result<()> {
+    let slots = scene.slots;
+    let (written, copied, erased) = (scene.tally.written, scene.tally.copied, scene.tally.erased);
+    let in_slots = noun(slots, "slot", "slots");
+    let pages = noun(written, "page", "pages");
+    let blocks = noun(erased, "block", "blocks");
+    writeln!(
+        text,
+        "<text x=\"10\" y=\"44\">In all {slots} {in_slots}: {written} {pages} written by jobs, \
+         {copied} copied by collections, {erased} {blocks} erased.</text>"
+    )
+}
+
 /// Adds what the picture is of, and the counts of the whole run.
 pub fn put_head(text: &mut Vec<u8>, scene: &Scene<'_>) -> io::Result<()> {
     let (die, slots) = (scene.die, scene.slots);
     let (from, to) = (scene.window.from, scene.window.to);
-    let (written, copied, erased) = (scene.tally.written, scene.tally.copied, scene.tally.erased);
     writeln!(
         text,
         "<title>Die {die}, slots {from} to {to} of {slots}</title>"
@@ -71,11 +89,7 @@ pub fn put_head(text: &mut Vec<u8>, scene: &Scene<'_>) -> io::Result<()> {
         text,
         "<text class=\"h\" x=\"10\" y=\"24\">Die {die}, slots {from} to {to} of {slots}</text>"
     )?;
-    writeln!(
-        text,
-        "<text x=\"10\" y=\"44\">In all {slots} slots: {written} pages written by jobs, {copied} copied by collections, \
-         {erased} blocks erased.</text>"
-    )?;
+    put_counts(text, scene)?;
     match &scene.worst {
         Some(worst) => put_worst(text, worst),
         None => writeln!(text, "<text x=\"10\" y=\"62\">Nothing is done.</text>"),
