@@ -13,16 +13,19 @@ use Rattle.flashplan.specs.declared.commands.Command.TheVariants as command
 -- a command, with the names of its files as texts
 pub data Task : Type 0 where
   Explain : (plan : Text) → Task
+  Arrivals : (plan : Text) (slots seed : ℕ) → Task
   Wear : (plan script : Text) (slots : ℕ) → Task
   Draw : (plan script : Text) (slots die first end : ℕ) → Task
 
 abbrev pub task_of : Command → Task
 task_of (command.Explain plan) = Explain plan.now
+task_of (command.Arrivals plan slots seed) = Arrivals plan.now slots seed
 task_of (command.Wear plan script slots) = Wear plan.now script.now slots
 task_of (command.Draw plan script slots die first end) = Draw plan.now script.now slots die first end
 
 -- a run has at most 1,048,576 slots
 abbrev pub FitsRun : Command → Type 0
+FitsRun (command.Arrivals plan slots seed) = slots ≤ 1048576
 FitsRun (command.Wear plan script slots) = slots ≤ 1048576
 FitsRun (command.Draw plan script slots die first end) = slots ≤ 1048576
 FitsRun _ = ⊤
@@ -40,6 +43,13 @@ abbrev pub explain_of : List Row → Option Task
 explain_of rows = do
   plan ← first_of (codes "PLAN") rows
   Some (Explain plan)
+
+abbrev pub arrivals_of : List Row → Option Task
+arrivals_of rows = do
+  plan ← first_of (codes "PLAN") rows
+  slots ← first_of (codes "slots") rows >>= number_upto
+  seed ← first_of (codes "seed") rows >>= number_upto
+  Some (Arrivals plan slots seed)
 
 abbrev pub wear_of : List Row → Option Task
 wear_of rows = do
@@ -61,6 +71,7 @@ draw_of rows = do
 abbrev pub named : Text → List Row → Option Task
 named name rows =
     if bytes_eq name (codes "explain") then explain_of rows
+    else if bytes_eq name (codes "arrivals") then arrivals_of rows
     else if bytes_eq name (codes "wear") then wear_of rows
     else if bytes_eq name (codes "draw") then draw_of rows
     else None

@@ -24,8 +24,18 @@ from_rule = record (new_rule (codes "from")) { long = Some (codes "from"); value
 abbrev pub to_rule : Rule
 to_rule = record (new_rule (codes "to")) { long = Some (codes "to"); value_names = 1; defaults = codes "1048576" ∷ [] }
 
+-- `--seed S`, which is 0 where it isn't there
+abbrev pub seed_rule : Rule
+seed_rule = record (new_rule (codes "seed")) { long = Some (codes "seed"); value_names = 1; defaults = codes "0" ∷ [] }
+
 abbrev pub explain_app : App
 explain_app = with_rule (new_app (codes "explain")) (needed (codes "PLAN"))
+
+abbrev pub arrivals_run_app : App
+arrivals_run_app = with_rule (with_rule (new_app (codes "arrivals")) (needed (codes "PLAN"))) slots_rule
+
+abbrev pub arrivals_app : App
+arrivals_app = with_rule arrivals_run_app seed_rule
 
 abbrev pub wear_files_app : App
 wear_files_app = with_rule (with_rule (new_app (codes "wear")) (needed (codes "PLAN"))) (needed (codes "SCRIPT"))
@@ -42,9 +52,13 @@ draw_run_app = with_rule (with_rule draw_files_app slots_rule) die_rule
 abbrev pub draw_app : App
 draw_app = with_rule (with_rule draw_run_app from_rule) to_rule
 
+-- the program alone, which has a version
+abbrev pub named_app : App
+named_app = let app = new_app (codes "flashplan") in record app { top = record app.top { has_version = true } }
+
 -- the program's command line
 abbrev pub flashplan_app : App
-flashplan_app = with_subcommand (with_subcommand (with_subcommand (new_app (codes "flashplan")) explain_app.top) wear_app.top) draw_app.top
+flashplan_app = with_subcommand (with_subcommand (with_subcommand (with_subcommand named_app explain_app.top) arrivals_app.top) wear_app.top) draw_app.top
 
 -- whether a command has an argument that is global
 abbrev pub has_globals : Command → Bool

@@ -2,11 +2,12 @@
 
 ghost use Rattle.std.specs.Prelude.{◌≡◌, ◌≤◌, IfErr, IfOk, OnOk, true};
 ghost use Rattle.std.specs.Io.KnownBytes.{Appends};
-ghost use Rattle.flashplan.specs.Acts.{IsExplained, IsHostFault, SaysOf};
+ghost use Rattle.flashplan.specs.Acts.{IsDone, IsHostFault, IsUnwritten, PrintsArrivals, SaysOf};
 ghost use Rattle.flashplan.specs.Commands.{FitsRun};
 
 use crate::commands::Command;
 use flash_commands::{Fault, end};
+use plan_arrivals::{Fault as Unplanned, arrivals};
 use plan_design::explain;
 use slot_types::{MAX_SLOT, Refusal};
 use std::alloc::Global;
@@ -38,6 +39,46 @@ fn print_explained<R: Read + Drop, W: Write>(
     let explained = explain(alloc, &text)?;
     put(out, &explained.text)?;
     Ok(explained.is_accepted)
+}
+
+/// What is told beside a plan that has no arrivals.
+const WANTED: &str =
+    "arrivals wants a plan with times (version 2) that is accepted: flashplan explain says more";
+
+/// Prints the script of a plan's arrivals, which is made whole before its first byte.
+fn print_arrivals<R: Read + Drop, W: Write>(
+    alloc: Global,
+    plan: R,
+    slots: u32,
+    seed: u32,
+    out: &mut W,
+) -> Result<(), Unplanned>
+    requires slots { slots ≤ MAX_SLOT }
+    ensures printed { OnOk result (PrintsArrivals (R.remaining plan) slots (W.contents out.old) (W.contents out.new)) }
+    ensures unwritten { IfErr result (IsUnwritten out.old out.new) }
+{
+    let store = read_plan_from(alloc, plan)?;
+    let script = arrivals(alloc, &store, slots, seed)?;
+    put(out, &script)?;
+    Ok(())
+}
+
+/// Tells why no script was made, and answers the status. A writer that fails is passed over.
+fn end_unplanned<E: Write>(err: &mut E, fault: Unplanned) -> u8
+    ensures { result ≡ 1 }
+{
+    match fault {
+        Unplanned::Refused(refusal) => {
+            let _ = end(err, Err(Fault::Refused(refusal)));
+            if refusal == Refusal::BadPlan {
+                let _ = writeln!(err, "{WANTED}");
+            }
+        }
+        _ => {
+            let _ = writeln!(err, "error: {fault}");
+        }
+    }
+    1
 }
 
 /// Prints what a run wore.
@@ -91,9 +132,12 @@ fn end_run<E: Write>(err: &mut E, ran: Result<RefusedRows, Refusal>) -> u8 {
 /// Carries a command out, with `plan` and `script` in place of its files. Answers the status.
 ///
 /// `explain` prints what [`explain`](plan_design::explain) says of the plan, whole; the status is 0 where the plan is accepted,
-/// and 1 where it isn't. `wear` prints what [`wear`](watched_runs::wear) tells of the run of the script, and `draw` what
-/// [`draw`](watched_runs::draw) draws of it, each whole; the status is 0, and where rows were refused, `err` gets a line, as
-/// `refused 1 first line 6 with 6`.
+/// and 1 where it isn't. `arrivals` prints the script of what the plan's tasks ask for, as
+/// [`arrivals`](plan_arrivals::arrivals) makes it: its rows keep the plan of each die, so that a run of it refuses none and
+/// is never late. A plan without times that pass their test is told as `error 3 BadPlan`; then, and where more slots are
+/// asked for than a script may have, nothing is printed, and the status is 1. `wear` prints what
+/// [`wear`](watched_runs::wear) tells of the run of the script, and `draw` what [`draw`](watched_runs::draw) draws of it,
+/// each whole; the status is 0, and where rows were refused, `err` gets a line, as `refused 1 first line 6 with 6`.
 ///
 /// No more of the plan is read than 1,048,577 bytes. Where a text is refused, memory runs out, or a reader or `out`
 /// fails, that is told in a line to `err`, as `error 21 ReadFault`, and the status is 1. Where `err` fails, that is passed over.
@@ -106,7 +150,7 @@ pub fn act<P: Read + Drop, S: Read + Drop, W: Write, E: Write>(
     err: &mut E,
 ) -> u8
     requires { FitsRun command }
-    ensures { result ≡ 0 → IsExplained command.entry (P.remaining plan) }
+    ensures { result ≡ 0 → IsDone command.entry (P.remaining plan) (W.contents out.old) (W.contents out.new) }
 {
     match command {
         Command::Explain { .. } => match print_explained(alloc, plan, out) {
@@ -114,6 +158,12 @@ pub fn act<P: Read + Drop, S: Read + Drop, W: Write, E: Write>(
             Ok(false) => 1,
             Err(refusal) => end(err, Err(Fault::Refused(refusal))),
         },
+        Command::Arrivals { slots, seed, .. } => {
+            match print_arrivals(alloc, plan, slots, seed, out) {
+                Ok(()) => 0,
+                Err(fault) => end_unplanned(err, fault),
+            }
+        }
         Command::Wear { slots, .. } => {
             let ran = print_wear(alloc, plan, script, slots, out);
             end_run(err, ran)

@@ -27,7 +27,7 @@ fn act_on<D: Folder, W: Write, E: Write>(
     requires { FitsRun command }
 {
     match command {
-        Command::Explain { plan } => {
+        Command::Explain { plan } | Command::Arrivals { plan, .. } => {
             let plan = folder.open(plan)?;
             Ok(act(alloc, command, plan, io::empty(), out, err))
         }

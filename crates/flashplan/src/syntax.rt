@@ -1,11 +1,21 @@
 //! The words that the program takes.
 
 ghost use Rattle.std.specs.Prelude.{◌≡◌, false, codes, IfOk};
-ghost use Rattle.clap.specs.Words.{app_of, new_app, rule_of, with_subcommand};
-ghost use Rattle.flashplan.specs.Syntax.{die_rule, draw_app, draw_files_app, draw_run_app, explain_app, from_rule, flashplan_app, has_globals, needed, slots_rule, to_rule, wear_app, wear_files_app};
+ghost use Rattle.clap.specs.Words.{app_of, rule_of, with_subcommand};
+ghost use Rattle.flashplan.specs.Syntax.{arrivals_app, arrivals_run_app, die_rule, draw_app, draw_files_app, draw_run_app, explain_app, from_rule, flashplan_app, has_globals, named_app, needed, seed_rule, slots_rule, to_rule, wear_app, wear_files_app};
 
 use clap::{Arg, Command};
 use std::alloc::{AllocError, Global};
+
+/// What the script of arrivals has in it.
+const ARRIVALS_HELP: &str = "The plan has to have times (version 2), and to pass their test.
+A collection of each task comes at each multiple of its collect_period, a job at each multiple of its period.
+A job has `work` operations, of which `writes` are writes; the seed draws which, and their pages.
+Of a task that writes one in eight of the others is a trim, the rest are reads.
+The pages of task t of n tasks are t, t + n, t + 2n and so on; a task beyond the last page has page t modulo `logical`.
+What is written tells where it comes from: slot, task, page and place in the job, each in 8 digits.
+
+Example: flashplan arrivals plan.toml --slots 1000 > script.csv";
 
 /// The file that has the plan.
 fn plan_file<'a>(alloc: Global) -> Arg<'a>
@@ -75,6 +85,18 @@ fn end<'a>(alloc: Global) -> Arg<'a>
         .help("The slot before which the picture ends, at most that of the run")
 }
 
+/// What is left to chance.
+fn seed<'a>(alloc: Global) -> Arg<'a>
+    ensures rule { rule_of result ≡ seed_rule }
+    ensures local { result.global ≡ false }
+{
+    Arg::new(alloc, "seed")
+        .long("seed")
+        .value_name("S")
+        .default_value("0")
+        .help("Another one draws other pages and operations, from 0 to 1048576")
+}
+
 /// The command `explain`.
 fn explain_words<'a>(alloc: Global) -> Result<Command<'a>, AllocError>
     ensures app { IfOk result (λ c. app_of c ≡ explain_app) }
@@ -84,6 +106,28 @@ fn explain_words<'a>(alloc: Global) -> Result<Command<'a>, AllocError>
         .about("Tell in sentences whether a store's plan is accepted, and what would mend it")
         .after_help("Example: flashplan explain plan.toml")
         .arg(plan_file(alloc))
+}
+
+/// The command `arrivals`, with what it makes.
+fn arrivals_run<'a>(alloc: Global) -> Result<Command<'a>, AllocError>
+    ensures app { IfOk result (λ c. app_of c ≡ arrivals_run_app) }
+    ensures local { IfOk result (λ c. has_globals c ≡ false) }
+{
+    Command::new(alloc, "arrivals")
+        .about(
+            "Write the script of all that a plan's tasks may ask for, none of which is then late or refused",
+        )
+        .after_help(ARRIVALS_HELP)
+        .arg(plan_file(alloc))?
+        .arg(slots(alloc))
+}
+
+/// The command `arrivals`.
+fn arrivals_words<'a>(alloc: Global) -> Result<Command<'a>, AllocError>
+    ensures app { IfOk result (λ c. app_of c ≡ arrivals_app) }
+    ensures local { IfOk result (λ c. has_globals c ≡ false) }
+{
+    arrivals_run(alloc)?.arg(seed(alloc))
 }
 
 /// The command `wear`, with its files.
@@ -136,11 +180,12 @@ fn draw_words<'a>(alloc: Global) -> Result<Command<'a>, AllocError>
     draw_run(alloc)?.arg(first(alloc))?.arg(end(alloc))
 }
 
-/// The program's name and what it is about.
+/// The program's name and version, and what it is about.
 fn name<'a>(alloc: Global) -> Command<'a>
-    ensures { app_of result ≡ new_app (codes "flashplan") }
+    ensures { app_of result ≡ named_app }
 {
     Command::new(alloc, "flashplan")
+        .version("0.1.0")
         .about("Helps to design the plan of a real-time flash store")
         .after_help("Example: flashplan explain plan.toml")
 }
@@ -160,7 +205,9 @@ pub fn program_words<'a>(alloc: Global) -> Result<Command<'a>, AllocError>
     let explain = explain_words(alloc)?;
     let wear = wear_words(alloc)?;
     let with_explain = with_command(name(alloc), explain)?;
+    let arrivals = arrivals_words(alloc)?;
+    let with_arrivals = with_command(with_explain, arrivals)?;
     let draw = draw_words(alloc)?;
-    let with_wear = with_command(with_explain, wear)?;
+    let with_wear = with_command(with_arrivals, wear)?;
     with_command(with_wear, draw)
 }

@@ -1,0 +1,14 @@
+use Rattle.std.proofs.Common.{◌≡◌, ◌∙◌, ap, subst}
+use Rattle.std.specs.Prelude.{IfOk}
+use Rattle.clap.specs.Words.{App, app_of, with_subcommand}
+use Rattle.flashplan.proofs.syntax.program_words.Goals as goal
+
+with_both : (p q c d : App) → p ≡ q → c ≡ d → with_subcommand p c.top ≡ with_subcommand q d.top
+with_both p q c d e f = ap (λ x. with_subcommand x c.top) e ∙ ap (λ (x : App). with_subcommand q x.top) f
+
+pub returns : goal.returns
+returns c =
+    let explained = c.in_ok-with_explain.ensures ∙ with_both _ _ _ _ c.name.ensures c.in_ok-explain.ensures.app in
+    let arriving = c.in_ok-with_arrivals.ensures ∙ with_both _ _ _ _ explained c.in_ok-arrivals.ensures.app in
+    let wearing = c.in_ok-with_wear.ensures ∙ with_both _ _ _ _ arriving c.in_ok-wear.ensures.app in
+    subst (λ (a : App). IfOk c.with_command-4.result (λ c'. app_of c' ≡ a)) (with_both _ _ _ _ wearing c.in_ok-draw.ensures.app) c.with_command-4.ensures
