@@ -1,6 +1,8 @@
-//! What no clause says of watched runs: their texts and pictures.
+//! What no clause says of watched runs, of what they print, and of the arrivals that are run.
 #![tactic(auto)]
 
+#[cfg(test)]
+mod arriving;
 #[cfg(test)]
 mod drawing;
 #[cfg(test)]

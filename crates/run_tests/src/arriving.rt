@@ -1,0 +1,189 @@
+//! The arrivals of plans that are drawn by chance, run: none is refused, and nothing is late.
+
+use plan_arrivals::{Fault, arrivals};
+use rand_core::utils::NextWord;
+use rand_pcg::Pcg32;
+use slot_types::Refusal;
+use std::alloc::Global;
+use std::io;
+use std::io::Write;
+use std::sync::Wait;
+use std::test::Fail;
+use std::thread::Threads;
+use task_script::{read_plan, read_report, run_text};
+use task_texts::Report;
+
+/// How many plans are tried.
+const PLANS: u32 = 10;
+
+/// How many draws may be refused before them.
+const DRAWS: u32 = 1_000;
+
+const SLOTS: u32 = 1_500;
+
+/// Periods, each of which divides this number of slots.
+const COMMON: u32 = 1_200;
+
+const PERIODS: [u32; 8] = [20, 24, 30, 40, 60, 80, 100, 120];
+
+const COLLECT_PERIODS: [u32; 8] = [300, 240, 200, 120, 80, 60, 40, 30];
+
+/// A number from one to before another.
+fn drawn(words: &mut Pcg32, from: u32, to: u32) -> u32 {
+    from.saturating_add(words.next_word() % to.saturating_sub(from).max(1))
+}
+
+/// One of these numbers.
+fn one_of(words: &mut Pcg32, numbers: &[u32]) -> u32 {
+    let place = words.next_word() as usize;
+    let one = place % numbers.len().max(1);
+    match numbers.get(one) {
+        Some(number) => *number,
+        None => 0,
+    }
+}
+
+/// Adds a task with times, whose cap covers two of its jobs and two collections.
+fn put_task(text: &mut Vec<u8>, words: &mut Pcg32, die: u32, alpha: u32) -> io::Result<()> {
+    let work = drawn(words, 1, 6);
+    let writes = drawn(words, 0, work.saturating_add(1));
+    let cap = writes.saturating_add(alpha).saturating_mul(2);
+    let period = one_of(words, &PERIODS);
+    let collect_period = one_of(words, &COLLECT_PERIODS);
+    writeln!(
+        text,
+        "[[task]]\ndie = {die}\ncap = {cap}\nperiod = {period}"
+    )?;
+    writeln!(
+        text,
+        "collect_period = {collect_period}\nwork = {work}\nwrites = {writes}"
+    )
+}
+
+/// Adds what stands on top of a plan.
+fn put_top(text: &mut Vec<u8>, words: &mut Pcg32, dies: u32, alpha: u32) -> io::Result<()> {
+    let blocks = drawn(words, 10, 30);
+    let pages = drawn(words, alpha.max(2), 9);
+    let erase_slots = drawn(words, 1, 6);
+    let logical = drawn(words, 1, 40);
+    writeln!(
+        text,
+        "version = 2\ndies = {dies}\nblocks = {blocks}\npages = {pages}"
+    )?;
+    writeln!(
+        text,
+        "erase_slots = {erase_slots}\nlogical = {logical}\nalpha = {alpha}\ncommon = {COMMON}"
+    )
+}
+
+/// The text of a plan with times, which may pass its test or not.
+fn plan_text(alloc: Global, words: &mut Pcg32) -> io::Result<Vec<u8>> {
+    let mut text = Vec::new(alloc);
+    let dies = drawn(words, 1, 3);
+    let alpha = drawn(words, 1, 5);
+    put_top(&mut text, words, dies, alpha)?;
+    for die in 0..dies {
+        for _ in 0..drawn(words, 1, 4) {
+            put_task(&mut text, words, die, alpha)?;
+        }
+    }
+    Ok(text)
+}
+
+/// Whether no row of a report has a lateness above 0.
+fn is_on_time(report: &Report) -> bool {
+    for die in report.as_slice() {
+        for row in die.rows.as_slice() {
+            if row.lateness.unwrap_or(0) > 0 {
+                return false;
+            }
+        }
+    }
+    true
+}
+
+/// Whether the arrivals of a plan are run without a refused row, and nothing is late; nothing is said where the text makes
+/// no plan that is accepted.
+fn goes_as_planned<R: Threads + Wait + Sync>(
+    rt: &R,
+    alloc: Global,
+    plan: &[u8],
+    seed: u32,
+) -> Result<Option<bool>, Fail> {
+    let plan = match read_plan(alloc, plan) {
+        Ok(plan) => plan,
+        Err(Refusal::BadPlan) => return Ok(None),
+        Err(refusal) => return Err(Fail::from(refusal)),
+    };
+    let script = arrivals(alloc, &plan, SLOTS, seed)?;
+    let mut text = Vec::new(alloc);
+    let count = run_text(rt, alloc, &plan, script.as_slice(), &mut text, SLOTS, 2)?;
+    let report = read_report(alloc, text.as_slice())?;
+    Ok(Some(count.refused == 0 && count.accepted > 10 && is_on_time(&report)))
+}
+
+/// How many plans' arrivals went as planned before one didn't.
+fn count_planned<R: Threads + Wait + Sync>(rt: &R, alloc: Global) -> Result<u32, Fail> {
+    let mut words = Pcg32::new(2, 7);
+    let mut planned: u32 = 0;
+    for seed in 0..DRAWS {
+        if planned == PLANS {
+            break;
+        }
+        let plan = plan_text(alloc, &mut words)?;
+        match goes_as_planned(rt, alloc, &plan, seed)? {
+            None => {}
+            Some(true) => planned = planned.saturating_add(1),
+            Some(false) => break,
+        }
+    }
+    Ok(planned)
+}
+
+#[test]
+fn arrivals_of_ten_plans_are_taken_and_never_late(rt: HostRuntime) -> Result<(), Fail> {
+    assert_eq!(rt; count_planned(&rt, rt.alloc())?, PLANS);
+    Ok(())
+}
+
+/// A plan that passes its test: of each 20 slots its jobs take at most 4, and its collections 7.
+const TIMED: &str = "version = 2
+dies = 1
+blocks = 4
+pages = 4
+erase_slots = 3
+logical = 2
+alpha = 2
+common = 20
+
+[[task]]
+die = 0
+cap = 6
+period = 10
+collect_period = 20
+work = 2
+writes = 1
+";
+
+/// What comes of a plan with a change, for so many slots.
+fn made(alloc: Global, old: &str, new: &str, slots: u32) -> Result<Result<usize, Fault>, Fail> {
+    let text = TIMED.replace(alloc, old, new)?;
+    let plan = read_plan(alloc, text.as_bytes())?;
+    match arrivals(alloc, &plan, slots, 0) {
+        Ok(script) => Ok(Ok(script.len())),
+        Err(fault) => Ok(Err(fault)),
+    }
+}
+
+#[test]
+fn a_plan_without_times_and_too_many_slots_have_no_script(rt: HostRuntime) -> Result<(), Fail> {
+    let alloc = rt.alloc();
+    let bad = Err(Fault::Refused(Refusal::BadPlan));
+    let untimed =
+        "version = 1\ndies = 1\nblocks = 4\npages = 4\nerase_slots = 3\nlogical = 2\nalpha = 2\n[[task]]\ndie = 0\ncap = 6\n";
+    assert_eq!(rt; made(alloc, TIMED, untimed, 20)?, bad);
+    assert_eq!(rt; made(alloc, "", "", 0)?, Ok(33));
+    // 43,691 jobs, and 21,846 collections.
+    assert_eq!(rt; made(alloc, "", "", 436_901)?, Err(Fault::TooMany(0)));
+    Ok(())
+}
