@@ -73,8 +73,6 @@ fn play_only<N: Nand, R: Wait>(
 pub(crate) enum End {
     /// It is closed: so many dies, and how many entries the first has, and its present slot.
     Closed(usize, u64, u32),
-    /// It is closed at the second time, with so many dies: at the first, memory was refused.
-    ClosedLater(usize),
     /// It stays open: why, how many dies and passes are handed back, and the number of the first pass.
     Kept(Refusal, u32, usize, u32),
 }
@@ -117,18 +115,26 @@ fn close_again<N: Nand, R: Wait>(rt: &R, still: StillOpen<N>) -> Option<End>
     requires { map (λ pass. pass.lock) still.passes.items ≡ still.store }
 {
     match close(rt, still.store, still.passes) {
-        Ok(dies) => Some(End::ClosedLater(dies.len())),
+        Ok(dies) => closed(dies.as_slice()),
         Err(still) => kept(&still),
     }
 }
 
-/// Plays a table on a new store of one die: its first wrong step, and what becomes of the store that is closed then.
-pub(crate) fn play_one<R: Wait>(
-    rt: &R,
-    alloc: Global,
-    steps: &[Step],
-) -> Result<(Option<usize>, Option<End>), Refusal> {
+/// A table's first wrong step, and what becomes of the store that is closed then.
+pub(crate) type Played = (Option<usize>, Option<End>);
+
+// Plays a table on a new store of one die.
+fn play_once<R: Wait>(rt: &R, alloc: Global, steps: &[Step]) -> Result<Played, Refusal> {
     let (store, mut passes) = one_die(alloc)?;
     let wrong = play_only(rt, alloc, &store, passes.as_mut_slice(), steps);
     Ok((wrong, close_store(rt, store, passes)))
+}
+
+/// Plays a table on a new store of one die: its first wrong step, and what becomes of the store that is closed then. Where memory
+/// is refused for the store, another one is made.
+pub(crate) fn play_one<R: Wait>(rt: &R, alloc: Global, steps: &[Step]) -> Result<Played, Refusal> {
+    match play_once(rt, alloc, steps) {
+        Err(Refusal::NoMemory) => play_once(rt, alloc, steps),
+        answer => answer,
+    }
 }

@@ -176,13 +176,29 @@ const FAULTY: [Course; 2] = [
 ];
 
 // Runs two dies, the device of the first of which fails from its second call on.
-fn run_faulty<R: Threads + Wait + Sync>(rt: &R, alloc: Global) -> Result<bool, Refusal> {
+fn run_faulty<R: Threads + Wait + Sync>(
+    rt: &R,
+    alloc: Global,
+    workers: u32,
+) -> Result<bool, Refusal>
+    requires { (1 ≤ workers) × (workers ≤ 16) }
+{
     let (store, mut passes) = faulty_dies(alloc)?;
-    run_courses(rt, alloc, &store, &mut passes, &FAULTY, 3, 2, &FreeGate)
+    run_courses(
+        rt,
+        alloc,
+        &store,
+        &mut passes,
+        &FAULTY,
+        3,
+        workers,
+        &FreeGate,
+    )
 }
 
 #[test]
 fn a_fault_ends_one_die_alone(rt: HostRuntime) -> Result<(), Fail> {
-    assert!(rt; run_faulty(&rt, rt.alloc())?);
+    assert!(rt; run_faulty(&rt, rt.alloc(), 1)?);
+    assert!(rt; run_faulty(&rt, rt.alloc(), 2)?);
     Ok(())
 }

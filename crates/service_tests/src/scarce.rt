@@ -1,13 +1,13 @@
 //! What a store does where memory is refused. Run both tests with each allocation made to fail in turn.
 
-ghost use Rattle.std.specs.Prelude.{◌≡◌, map};
+ghost use Rattle.std.specs.Prelude.{◌≡◌, ◌≤◌, map};
 
 use crate::courses::{WRITE_AND_READ, run};
 use crate::feeds::both;
 use crate::made::two_dies;
 use crate::played::{End, play_both, play_one};
-use crate::steps::{Step, carry, submit};
-use die_service::{Die, DieEnd, DiePass, FreeGate, Store};
+use crate::steps::{Step, carry_once, submit_once};
+use die_service::{Die, DieEnd, DieEnds, DiePass, FreeGate, Store};
 use flash_die::Nand;
 use slot_types::{Op, Refusal};
 use std::alloc::Global;
@@ -33,8 +33,8 @@ fn read_and_slot<N: Nand, R: Wait>(
     requires { pass.old.lock ≡ die.now }
     ensures { pass.new.lock ≡ pass.old.lock }
 {
-    let read = submit(rt, alloc, die, pass, 99, 199, Op::Read(0)).err();
-    let slot = match carry(rt, die, pass) {
+    let read = submit_once(rt, alloc, die, pass, 99, 199, Op::Read(0)).err();
+    let slot = match carry_once(rt, die, pass) {
         Ok(_) => None,
         Err(refused) => Some(refused.refusal),
     };
@@ -67,7 +67,7 @@ pub(crate) fn grows_or_stays<N: Nand, R: Wait>(
 // Whether a store of one die grows or stays, and closes with that die, at the second time where memory is refused.
 fn grows_and_closes<R: Wait>(rt: &R, alloc: Global) -> Result<bool, Refusal> {
     match play_one(rt, alloc, &[Step::Grows])? {
-        (None, Some(End::Closed(dies, _, _) | End::ClosedLater(dies))) => Ok(dies == 1),
+        (None, Some(End::Closed(dies, _, _))) => Ok(dies == 1),
         _ => Ok(false),
     }
 }
@@ -103,17 +103,34 @@ fn are_right(ends: &[DieEnd]) -> bool {
     }
 }
 
+// Runs a store by so many workers.
+fn run_fed<N: Nand + Send, R: Threads + Wait + Sync>(
+    rt: &R,
+    alloc: Global,
+    store: &Store<N>,
+    passes: &mut Vec<DiePass<N>>,
+    workers: u32,
+) -> Result<DieEnds, Refusal>
+    requires own { map (λ pass. pass.lock) passes.old.items ≡ store.now }
+    requires workers { (1 ≤ workers) × (workers ≤ 16) }
+    ensures own { map (λ pass. pass.lock) passes.new.items ≡ store.now }
+{
+    let feeds = both(alloc, &WRITE_AND_READ, &WRITE_AND_READ)?;
+    run(rt, store, passes, feeds, 2, workers, &FreeGate)
+}
+
 // Runs a store once, and says whether it ended right, or found no memory and asked nothing.
 fn runs_or_asks_nothing<N: Nand + Send, R: Threads + Wait + Sync>(
     rt: &R,
     alloc: Global,
     store: &Store<N>,
     passes: &mut Vec<DiePass<N>>,
+    workers: u32,
 ) -> Result<bool, Refusal>
-    requires { map (λ pass. pass.lock) passes.old.items ≡ store.now }
+    requires own { map (λ pass. pass.lock) passes.old.items ≡ store.now }
+    requires workers { (1 ≤ workers) × (workers ≤ 16) }
 {
-    let feeds = both(alloc, &WRITE_AND_READ, &WRITE_AND_READ)?;
-    match run(rt, store, passes, feeds, 2, 2, &FreeGate) {
+    match run_fed(rt, alloc, store, passes, workers) {
         Ok(ends) => Ok(are_right(ends.as_slice())),
         Err(refusal) => {
             let untouched = [Step::Look(0)];
@@ -131,15 +148,27 @@ fn runs_or_asks_nothing<N: Nand + Send, R: Threads + Wait + Sync>(
 }
 
 // Makes two dies, and runs them so.
-fn run_scarce<R: Threads + Wait + Sync>(rt: &R, alloc: Global) -> Result<bool, Refusal> {
+fn run_scarce<R: Threads + Wait + Sync>(
+    rt: &R,
+    alloc: Global,
+    workers: u32,
+) -> Result<bool, Refusal>
+    requires { (1 ≤ workers) × (workers ≤ 16) }
+{
     let (store, mut passes) = two_dies(alloc)?;
-    runs_or_asks_nothing(rt, alloc, &store, &mut passes)
+    runs_or_asks_nothing(rt, alloc, &store, &mut passes, workers)
+}
+
+// As it is right, also where memory is refused for the dies.
+fn is_right_run(answer: Result<bool, Refusal>) -> bool {
+    match answer {
+        Ok(right) => right,
+        Err(refusal) => refusal == Refusal::NoMemory,
+    }
 }
 
 #[test]
 fn a_run_that_finds_no_memory_starts_no_worker(rt: HostRuntime) {
-    match run_scarce(&rt, rt.alloc()) {
-        Ok(right) => assert!(rt; right),
-        Err(refusal) => assert_eq!(rt; refusal, Refusal::NoMemory),
-    }
+    assert!(rt; is_right_run(run_scarce(&rt, rt.alloc(), 1)));
+    assert!(rt; is_right_run(run_scarce(&rt, rt.alloc(), 2)));
 }

@@ -2,6 +2,7 @@
 
 ghost use Rattle.std.specs.Prelude.{◌≡◌};
 
+use crate::again::{carry, certificate_of, outcome_of, submit};
 use crate::scarce::grows_or_stays;
 use die_service::{Die, DiePass, RefusedAt};
 use flash_die::Nand;
@@ -46,8 +47,8 @@ pub(crate) enum Step {
     Grows,
 }
 
-/// The number of a job of one operation of task 0.
-pub(crate) fn submit<N: Nand, R: Wait>(
+/// The number of a job of one operation of task 0, which is asked for once.
+pub(crate) fn submit_once<N: Nand, R: Wait>(
     rt: &R,
     alloc: Global,
     die: &Die<N>,
@@ -66,8 +67,8 @@ pub(crate) fn submit<N: Nand, R: Wait>(
     }
 }
 
-/// The number that is done with the present slot.
-pub(crate) fn carry<N: Nand, R: Wait>(
+/// The number that is done with the present slot, which is asked for once.
+pub(crate) fn carry_once<N: Nand, R: Wait>(
     rt: &R,
     die: &Die<N>,
     pass: &mut DiePass<N>,
@@ -109,7 +110,7 @@ fn tells<N: Nand, R: Wait>(
     requires { pass.old.lock ≡ die.now }
     ensures { pass.new.lock ≡ pass.old.lock }
 {
-    match die.outcome(rt, pass, JobNo(job)) {
+    match outcome_of(rt, die, pass, job) {
         Ok(outcome) => is_told(&outcome, told),
         Err(_) => false,
     }
@@ -152,7 +153,7 @@ fn certifies<N: Nand, R: Wait>(
     requires { pass.old.lock ≡ die.now }
     ensures { pass.new.lock ≡ pass.old.lock }
 {
-    match die.certificate(rt, pass) {
+    match certificate_of(rt, die, pass) {
         Ok(Some(found)) => is_of(&found, job, start, due, completion),
         _ => false,
     }

@@ -1,0 +1,81 @@
+//! Calls on a die of a store that may need memory. Where memory is refused, each is asked again, and has to be answered then as
+//! without the refusal. So the tables may be played with each allocation made to fail in turn.
+
+ghost use Rattle.std.specs.Prelude.{◌≡◌};
+
+use crate::steps::{carry_once, submit_once};
+use die_service::{Die, DiePass, RefusedAt};
+use flash_die::Nand;
+use late_cert::Certificate;
+use slot_core::Outcome;
+use slot_types::{JobNo, Op, Refusal};
+use std::alloc::Global;
+use std::sync::Wait;
+
+/// The number of a job of one operation of task 0.
+pub(crate) fn submit<N: Nand, R: Wait>(
+    rt: &R,
+    alloc: Global,
+    die: &Die<N>,
+    pass: &mut DiePass<N>,
+    release: u32,
+    due: u32,
+    op: Op,
+) -> Result<u32, Refusal>
+    requires { pass.old.lock ≡ die.now }
+    ensures { pass.new.lock ≡ pass.old.lock }
+{
+    match submit_once(rt, alloc, die, pass, release, due, op) {
+        Err(Refusal::NoMemory) => submit_once(rt, alloc, die, pass, release, due, op),
+        answer => answer,
+    }
+}
+
+/// The number that is done with the present slot.
+pub(crate) fn carry<N: Nand, R: Wait>(
+    rt: &R,
+    die: &Die<N>,
+    pass: &mut DiePass<N>,
+) -> Result<Option<u32>, RefusedAt>
+    requires { pass.old.lock ≡ die.now }
+    ensures { pass.new.lock ≡ pass.old.lock }
+{
+    let first = carry_once(rt, die, pass);
+    if let Err(refused) = first {
+        if refused.refusal == Refusal::NoMemory {
+            return carry_once(rt, die, pass);
+        }
+    }
+    first
+}
+
+/// What became of a job.
+pub(crate) fn outcome_of<N: Nand, R: Wait>(
+    rt: &R,
+    die: &Die<N>,
+    pass: &mut DiePass<N>,
+    job: u32,
+) -> Result<Outcome, Refusal>
+    requires { pass.old.lock ≡ die.now }
+    ensures { pass.new.lock ≡ pass.old.lock }
+{
+    match die.outcome(rt, pass, JobNo(job)) {
+        Err(Refusal::NoMemory) => die.outcome(rt, pass, JobNo(job)),
+        answer => answer,
+    }
+}
+
+/// The certificate of the die's worst job.
+pub(crate) fn certificate_of<N: Nand, R: Wait>(
+    rt: &R,
+    die: &Die<N>,
+    pass: &mut DiePass<N>,
+) -> Result<Option<Certificate>, Refusal>
+    requires { pass.old.lock ≡ die.now }
+    ensures { pass.new.lock ≡ pass.old.lock }
+{
+    match die.certificate(rt, pass) {
+        Err(Refusal::NoMemory) => die.certificate(rt, pass),
+        answer => answer,
+    }
+}
