@@ -1,12 +1,13 @@
-//! Readers and writers that fail, and texts without an end.
+//! Readers that fail, an error writer that does, and texts without an end.
 
 ghost use Rattle.flash_commands.specs.Commands.{FitsRun};
 
 use crate::printed::{AUDIT, PLAN, PLAN_COMMAND, REPORT};
+use crate::writers::{End, Slow};
 use flash_commands::{Command, act};
 use std::alloc::Global;
 use std::io;
-use std::io::{Read, Write};
+use std::io::Read;
 use std::sync::Wait;
 use std::test::Fail;
 use std::thread::Threads;
@@ -26,28 +27,6 @@ impl Read for FailingReader<'_> {
         self.calls_left -= 1;
         let most = buf.len().min(16);
         self.text.read(&mut buf[..most])
-    }
-}
-
-/// Takes 16 bytes at a call, and fails at the call of a number.
-#[derive(Drop)]
-struct FailingWriter {
-    text: Vec<u8>,
-    calls_left: usize,
-}
-
-impl Write for FailingWriter {
-    fn write(&mut self, buf: &[u8]) -> io::Result<usize> {
-        if self.calls_left == 0 {
-            return Err(io::Error::from(io::ErrorKind::BrokenPipe));
-        }
-        self.calls_left -= 1;
-        let most = buf.len().min(16);
-        self.text.write(&buf[..most])
-    }
-
-    fn flush(&mut self) -> io::Result<()> {
-        Ok(())
     }
 }
 
@@ -105,39 +84,14 @@ fn a_reader_that_fails_is_told(rt: HostRuntime) {
 }
 
 #[test]
-fn a_writer_that_fails_is_told(rt: HostRuntime) {
-    let alloc = rt.alloc();
-    for calls in 0..5 {
-        let mut out = FailingWriter {
-            text: Vec::new(alloc),
-            calls_left: calls,
-        };
-        let mut err = Vec::new(alloc);
-        let status = act(
-            &rt,
-            alloc,
-            AUDIT,
-            REPORT.as_bytes(),
-            io::empty(),
-            &mut out,
-            &mut err,
-        );
-        let (line, told) = (err.as_slice(), b"error 22 WriteFault\n".as_slice());
-        if calls < 4 {
-            assert!(rt; status == 1 && line == told, "at call {calls}");
-        } else {
-            assert!(rt; status == 0 && line.is_empty());
-        }
-    }
-}
-
-#[test]
 fn a_fault_of_the_error_writer_is_passed_over(rt: HostRuntime) {
     let alloc = rt.alloc();
     let mut out = Vec::new(alloc);
-    let mut err = FailingWriter {
+    let mut err = Slow {
         text: Vec::new(alloc),
+        most: 16,
         calls_left: 0,
+        end: End::Fails,
     };
     let status = act(
         &rt,

@@ -16,3 +16,5 @@ mod printed;
 mod running;
 #[cfg(test)]
 mod words;
+#[cfg(test)]
+mod writers;
