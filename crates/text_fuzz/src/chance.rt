@@ -1,5 +1,7 @@
 //! Numbers by chance, the same for the same seed.
 
+ghost use Rattle.std.specs.Prelude.{◌≡◌, ◌<◌};
+
 /// A row of numbers, each of which follows from the one before (splitmix64).
 #[derive(Clone, Copy, Drop)]
 pub struct Chance {
@@ -25,7 +27,10 @@ impl Chance {
     }
 
     /// A number below this one; 0 where there is none.
-    pub fn below(&mut self, bound: usize) -> usize {
+    pub fn below(&mut self, bound: usize) -> usize
+        ensures below { 0 < bound → result < bound }
+        ensures none { bound ≡ 0 → result ≡ 0 }
+    {
         let next = self.next();
         if bound == 0 {
             return 0;

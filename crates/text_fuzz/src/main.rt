@@ -2,6 +2,10 @@
 //! say, read a second time without `task_texts`. It stops at the first text that is answered otherwise.
 //!
 //! `text_fuzz COUNT SEED`: so many texts, the same for the same seed.
+//!
+//! The second reading has no contracts: were it tied to the definitions that `task_texts` is proved against, it would
+//! be the first one again, and could no longer show a definition that is wrong. A fault of its own shows as a text that
+//! is answered otherwise. So the only wrong body is of the numbers by chance.
 #![tactic(auto)]
 
 mod chance;
