@@ -38,15 +38,19 @@ pub waivers_plan : (past : Log) (ws : List Waived) (a : Accounts) → (after_wai
 waivers_plan past [] a = refl
 waivers_plan past (w ∷ ws) a = waivers_plan past ws (after_waiver (job_at past w.number) a) ∙ waiver_plan (job_at past w.number) a
 
-entry_plan : (plan : DiePlan) (past : Log) (event : Event) (reply : Reply) (a : Accounts) → (after_entry plan past event reply a).plan ≡ a.plan
+entry_plan : (plan : DiePlan) (past : Log) (event : Event) (reply : Reply) (a : Accounts) → (after_entry plan past event reply a).plan
+    ≡ a.plan
 entry_plan plan past (events.Submit task release due ops) (replies.Taken number) a = refl
-entry_plan plan past (events.Submit task release due ops) (replies.Slot s) a = carried_plan plan past s.ran (after_waivers past s.waived a) ∙ waivers_plan past s.waived a
+entry_plan plan past (events.Submit task release due ops) (replies.Slot s) a = carried_plan plan past s.ran (after_waivers past s.waived a)
+    ∙ waivers_plan past s.waived a
 entry_plan plan past (events.Submit task release due ops) (replies.Refused r) a = refl
 entry_plan plan past (events.Collect task release due) (replies.Taken number) a = refl
-entry_plan plan past (events.Collect task release due) (replies.Slot s) a = carried_plan plan past s.ran (after_waivers past s.waived a) ∙ waivers_plan past s.waived a
+entry_plan plan past (events.Collect task release due) (replies.Slot s) a = carried_plan plan past s.ran (after_waivers past s.waived a)
+    ∙ waivers_plan past s.waived a
 entry_plan plan past (events.Collect task release due) (replies.Refused r) a = refl
 entry_plan plan past events.Slot (replies.Taken number) a = refl
-entry_plan plan past events.Slot (replies.Slot s) a = carried_plan plan past s.ran (after_waivers past s.waived a) ∙ waivers_plan past s.waived a
+entry_plan plan past events.Slot (replies.Slot s) a = carried_plan plan past s.ran (after_waivers past s.waived a)
+    ∙ waivers_plan past s.waived a
 entry_plan plan past events.Slot (replies.Refused r) a = refl
 
 pub accounts_plan : (plan : DiePlan) (log : Log) → (accounts plan log).plan ≡ plan

@@ -1,5 +1,6 @@
 -- Which tasks have a collection, after one more was taken.
-use Rattle.std.proofs.Common.{◌≡◌, ℕ, ◌<◌, ◌==◌, ◌||◌, ◌&&◌, not, Bool, true, false, List, [], ◌∷◌, Some, None, refl, ap, ◌∙◌, arith, length}
+use Rattle.std.proofs.Common.{◌≡◌, ℕ, ◌<◌, ◌==◌, ◌||◌, ◌&&◌, not, Bool, true, false, List, [], ◌∷◌, Some, None, refl, ap, ◌∙◌, arith}
+use Rattle.std.proofs.Common.{length}
 use Rattle.std.specs.List.{AllByRecursion, filter_map, list_any}
 use Rattle.std.proofs.lemmas.List.Folds.{list_any-append}
 use Rattle.std.proofs.lemmas.Bool.Decides.{nat_tests}
@@ -47,8 +48,10 @@ last_test false true = refl
 last_test false false = refl
 
 -- a collect that was taken makes its task busy, and no other
-pub collecting-collect : (plan : DiePlan) (past : Log) (caller : ℕ) (task : ℕ) (release due : ℕ) (t : ℕ) → IsExact plan past → 0 < plan.shape.erase_slots
-    → is_collecting plan (entry caller (events.Collect task release due) (replies.Taken (length (jobs past))) ∷ past) t ≡ (is_collecting plan past t || (task == t))
+pub collecting-collect : (plan : DiePlan) (past : Log) (caller : ℕ) (task : ℕ) (release due : ℕ) (t : ℕ) → IsExact plan past → 0
+    < plan.shape.erase_slots
+    → is_collecting plan (entry caller (events.Collect task release due) (replies.Taken (length (jobs past))) ∷ past) t
+    ≡ (is_collecting plan past t || (task == t))
 collecting-collect plan past caller task release due t exact erases =
     let test : Job → Bool = λ j. j.collects && (j.task == t) && not (is_done plan past j) && not (is_waived past j.number) in
     let j = collection (length (jobs past)) task release due in

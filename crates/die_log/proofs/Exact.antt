@@ -17,7 +17,8 @@ same_entry : (k l : ℕ) (v w : Event) (r s : Reply) → k ≡ l → v ≡ w →
 same_entry k l v w r s p q t = cc
 
 -- the callers and events of two exact logs determine both
-pub same_calls_lem : (plan : DiePlan) (first second : Log) → IsExact plan first → IsExact plan second → calls first ≡ calls second → first ≡ second
+pub same_calls_lem : (plan : DiePlan) (first second : Log) → IsExact plan first → IsExact plan second → calls first ≡ calls second → first
+    ≡ second
 same_calls_lem plan [] [] x y e = refl
 same_calls_lem plan [] (d ∷ qs) x y e = absurd cc
 same_calls_lem plan (c ∷ ps) [] x y e = absurd cc

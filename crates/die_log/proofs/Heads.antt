@@ -1,5 +1,6 @@
 -- The head of a slot has the least key of those that wait and aren't waived; without a head all are waived.
-use Rattle.std.proofs.Common.{◌≡◌, ℕ, zero, suc, ◌+◌, ◌<◌, ◌≤◌, ◌==◌, ◌||◌, ◌⊎◌, not, Bool, true, false, cond, List, [], ◌∷◌, Option, Some, None, refl, ap, ◌∙◌, inl, inr, fold, length, arith}
+use Rattle.std.proofs.Common.{◌≡◌, ℕ, zero, suc, ◌+◌, ◌<◌, ◌≤◌, ◌==◌, ◌||◌, ◌⊎◌, not, Bool, true, false, cond, List, [], ◌∷◌, Option, Some}
+use Rattle.std.proofs.Common.{None, refl, ap, ◌∙◌, inl, inr, fold, length, arith}
 use Rattle.std.specs.List.{AllByRecursion, list_any}
 use Rattle.std.proofs.lemmas.Bool.Decides.{nat_tests}
 use Rattle.slot_types.specs.declared.plans.DiePlan.{DiePlan}
@@ -34,7 +35,8 @@ lesser_second : (best x : Job) (b : Bool) → goes_first x best ≡ b → goes_f
 lesser_second best x true e = self_key x
 lesser_second best x false e = e
 
-fold_least : (best : Job) (xs : List Job) → (goes_first best (fold lesser best xs) ≡ false) × AllByRecursion (λ i. goes_first i (fold lesser best xs) ≡ false) xs
+fold_least : (best : Job) (xs : List Job) → (goes_first best (fold lesser best xs) ≡ false)
+    × AllByRecursion (λ i. goes_first i (fold lesser best xs) ≡ false) xs
 fold_least best [] = (self_key best, tt)
 fold_least best (x ∷ xs) =
     let rest = fold_least (lesser best x) xs in
@@ -73,7 +75,8 @@ lesser_among : (best x : Job) (xs : List Job) (c : Bool)
     → list_any (has_number (fold lesser (cond c x best) xs)) (best ∷ x ∷ xs) ≡ true
 lesser_among best x xs true h = or_right (has_number (fold lesser x xs) best) (list_any (has_number (fold lesser x xs)) (x ∷ xs)) h
 lesser_among best x xs false h =
-    or_middle (has_number (fold lesser best xs) best) (has_number (fold lesser best xs) x) (list_any (has_number (fold lesser best xs)) xs) h
+    or_middle (has_number (fold lesser best xs) best) (has_number (fold lesser best xs) x) (list_any (has_number (fold lesser best xs)) xs)
+    h
 
 fold_among : (best : Job) (xs : List Job) → list_any (has_number (fold lesser best xs)) (best ∷ xs) ≡ true
 fold_among best [] = or_left (has_number best best) false (same_number best)
@@ -87,7 +90,8 @@ without_le : (j : Job) (xs : List Job) → length (without j xs) ≤ length xs
 without_le j [] = omega arith
 without_le j (x ∷ xs) = omega (arith, kept_length (not (has_number j x)) x (without j xs) (length xs) (without_le j xs))
 
-shorter_by : (j x : Job) (xs : List Job) (b : Bool) → has_number j x ≡ b → (b || list_any (has_number j) xs) ≡ true → (list_any (has_number j) xs ≡ true → length (without j xs) < length xs)
+shorter_by : (j x : Job) (xs : List Job) (b : Bool) → has_number j x ≡ b → (b || list_any (has_number j) xs) ≡ true
+    → (list_any (has_number j) xs ≡ true → length (without j xs) < length xs)
     → length (cond (not b) (x ∷ without j xs) (without j xs)) < length xs + 1
 shorter_by j x xs true is h ih = omega (arith, without_le j xs)
 shorter_by j x xs false is h ih = omega (arith, ih h)
@@ -126,11 +130,13 @@ passed_case w rest j x xs true e is h ih =
     (inl (or_left (w.number == x.number) (is_among x.number rest.waived) (ap (λ (n : ℕ). n == x.number) e ∙ number_is x j is)), ih h)
 passed_case w rest j x xs false e is h ih = (more_passed w rest x h.0, ih h.1)
 
-passed_with : (w : Waived) (rest : Choice) (j : Job) (xs : List Job) → w.number ≡ j.number → AllByRecursion (IsPassed rest) (without j xs) → AllByRecursion (IsPassed (with_waiver w rest)) xs
+passed_with : (w : Waived) (rest : Choice) (j : Job) (xs : List Job) → w.number ≡ j.number → AllByRecursion (IsPassed rest) (without j xs)
+    → AllByRecursion (IsPassed (with_waiver w rest)) xs
 passed_with w rest j [] e h = tt
 passed_with w rest j (x ∷ xs) e h = passed_case w rest j x xs (x.number == j.number) e refl h (passed_with w rest j xs e)
 
-passed_all : (c : Choice) (j : Job) (xs : List Job) → c.head ≡ Some j → AllByRecursion (λ i. goes_first i j ≡ false) xs → AllByRecursion (IsPassed c) xs
+passed_all : (c : Choice) (j : Job) (xs : List Job) → c.head ≡ Some j → AllByRecursion (λ i. goes_first i j ≡ false) xs
+    → AllByRecursion (IsPassed c) xs
 passed_all c j [] e h = tt
 passed_all c j (x ∷ xs) e h = (inr (rw e h.0), passed_all c j xs e h.1)
 
@@ -141,10 +147,12 @@ passed_weighed : (a : Accounts) (xs : List Job) (again : Accounts → List Job �
     → AllByRecursion (λ i. goes_first i j ≡ false) xs
     → ((a' : Accounts) → AllByRecursion (IsPassed (again a' (without j xs))) (without j xs))
     → AllByRecursion (IsPassed (weighed a xs again j b)) xs
-passed_weighed a xs again j true least ih = passed_with (waiver j.number (given_of a j.task)) (again (waived a j.task) (without j xs)) j xs refl (ih (waived a j.task))
+passed_weighed a xs again j true least ih = passed_with (waiver j.number (given_of a j.task)) (again (waived a j.task) (without j xs)) j xs
+    refl (ih (waived a j.task))
 passed_weighed a xs again j false least ih = passed_all (weighed a xs again j false) j xs refl least
 
-passed_chosen : (plan : DiePlan) (past : Log) (turns : ℕ) (a : Accounts) (xs : List Job) (again : Accounts → List Job → Choice) (o : Option Job) → least xs ≡ o → length xs ≤ turns + 1
+passed_chosen : (plan : DiePlan) (past : Log) (turns : ℕ) (a : Accounts) (xs : List Job) (again : Accounts → List Job → Choice)
+    (o : Option Job) → least xs ≡ o → length xs ≤ turns + 1
     → OfSome (λ j. AllByRecursion (λ i. goes_first i j ≡ false) xs) o → OfSome (λ j. length (without j xs) < length xs) o
     → ((a' : Accounts) (ys : List Job) → length ys ≤ turns → AllByRecursion (IsPassed (again a' ys)) ys)
     → AllByRecursion (IsPassed (chosen plan past a xs again o)) xs
@@ -154,8 +162,10 @@ passed_chosen plan past turns a xs again (Some j) e le h k ih =
     passed_weighed a xs again j (is_waivable plan past a j) h (λ a'. ih a' (without j xs) (omega arith))
 
 -- all that wait are waived, or not before the head
-pub all_passed : (plan : DiePlan) (past : Log) (turns : ℕ) (a : Accounts) (xs : List Job) → length xs ≤ turns → AllByRecursion (IsPassed (choice_among plan past turns a xs)) xs
+pub all_passed : (plan : DiePlan) (past : Log) (turns : ℕ) (a : Accounts) (xs : List Job) → length xs ≤ turns
+    → AllByRecursion (IsPassed (choice_among plan past turns a xs)) xs
 all_passed plan past zero a [] le = tt
 all_passed plan past zero a (x ∷ xs) le = absurd (omega arith)
 all_passed plan past (suc turns) a xs le =
-    passed_chosen plan past turns a xs (choice_among plan past turns) (least xs) refl (omega arith) (none_before xs) (least_less xs) (all_passed plan past turns)
+    passed_chosen plan past turns a xs (choice_among plan past turns) (least xs) refl (omega arith) (none_before xs) (least_less xs)
+    (all_passed plan past turns)

@@ -67,11 +67,13 @@ taken_known past j is k =
 waiver_known : (n : ℕ) (w : Waived) → OfWaived (IsBelow n) w → WaivedBelow n w
 waiver_known n w (j, p, e) = omega arith
 
-ran_act : (plan : DiePlan) (past : Log) (ws : List Waived) (j : Job) (o : Option Act) (n : ℕ) → j.number < n → CarriedBelow n (reply_with plan past ws j o).ran
+ran_act : (plan : DiePlan) (past : Log) (ws : List Waived) (j : Job) (o : Option Act) (n : ℕ) → j.number < n
+    → CarriedBelow n (reply_with plan past ws j o).ran
 ran_act plan past ws j None n p = tt
 ran_act plan past ws j (Some act) n p = p
 
-ran_known : (plan : DiePlan) (past : Log) (ws : List Waived) (o : Option Job) (n : ℕ) → OfSome (IsBelow n) o → CarriedBelow n (slot_reply plan past ws o).ran
+ran_known : (plan : DiePlan) (past : Log) (ws : List Waived) (o : Option Job) (n : ℕ) → OfSome (IsBelow n) o
+    → CarriedBelow n (slot_reply plan past ws o).ran
 ran_known plan past ws None n p = tt
 ran_known plan past ws (Some j) n p = ran_act plan past ws j (act_for plan past j) n p
 
@@ -87,15 +89,21 @@ waived_is plan past ws (Some j) = waived_act plan past ws j (act_for plan past j
 pub known : (plan : DiePlan) (log : Log) → IsExact plan log → AreKnown log
 known plan = exact_induction plan AreKnown (record { of_jobs = tt; of_waived = tt; of_carried = tt }) step
   where
-    step : (past : Log) (caller : ℕ) (event : Event) → IsExact plan past → AreKnown past → AllByRecursion (λ c. c.0 ≡ false) (refusals plan past event) → AreKnown (entry caller event (accepted plan past event) ∷ past)
-    step past caller (events.Submit task release due ops) x k h = let t = taken_known past _ refl k in record { of_jobs = t.0; of_waived = t.1; of_carried = t.2 }
-    step past caller (events.Collect task release due) x k h = let t = taken_known past _ refl k in record { of_jobs = t.0; of_waived = t.1; of_carried = t.2 }
+    step : (past : Log) (caller : ℕ) (event : Event) → IsExact plan past → AreKnown past
+        → AllByRecursion (λ c. c.0 ≡ false) (refusals plan past event) → AreKnown (entry caller event (accepted plan past event) ∷ past)
+    step past caller (events.Submit task release due ops) x k h = let t = taken_known past _ refl k in record
+        { of_jobs = t.0; of_waived = t.1; of_carried = t.2 }
+    step past caller (events.Collect task release due) x k h = let t = taken_known past _ refl k in record
+        { of_jobs = t.0; of_waived = t.1; of_carried = t.2 }
     step past caller events.Slot x k h =
         let n = length (jobs past) in
         let c = choice plan past in
-        let names : Names (IsBelow n) c = names_waiting (IsBelow n) plan past (length (ready plan past)) (accounts plan past) (ready plan past) (all_kept (IsBelow n) (is_ready plan past) (jobs past) k.of_jobs) in
+        let names : Names (IsBelow n) c = names_waiting (IsBelow n) plan past (length (ready plan past)) (accounts plan past)
+        (ready plan past) (all_kept (IsBelow n) (is_ready plan past) (jobs past) k.of_jobs) in
         record {
           of_jobs = k.of_jobs;
-          of_waived = all_append (WaivedBelow n) (waived past) (slot_reply plan past c.waived c.head).waived k.of_waived (rw (waived_is plan past c.waived c.head) (all_map (OfWaived (IsBelow n)) (WaivedBelow n) (waiver_known n) c.waived names.waived));
+          of_waived = all_append (WaivedBelow n) (waived past) (slot_reply plan past c.waived c.head).waived k.of_waived
+              (rw (waived_is plan past c.waived c.head) (all_map (OfWaived (IsBelow n)) (WaivedBelow n) (waiver_known n) c.waived
+              names.waived));
           of_carried = all_append (CarriedBelow n) (carried past) _ k.of_carried (ran_known plan past c.waived c.head n names.head, tt);
         }

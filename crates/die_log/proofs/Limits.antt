@@ -1,5 +1,6 @@
 -- An exact log keeps to the limits of its die.
-use Rattle.std.proofs.Common.{◌≡◌, ℕ, zero, suc, ◌+◌, ◌<◌, ◌≤◌, ◌==◌, nat_le, Bool, true, false, cond, List, [], ◌∷◌, ◌++◌, length, Option, Some, None, option_map, is_some, find, get_or, set, replicate, refl, ap, inl, inr, arith}
+use Rattle.std.proofs.Common.{◌≡◌, ℕ, zero, suc, ◌+◌, ◌<◌, ◌≤◌, ◌==◌, nat_le, Bool, true, false, cond, List, [], ◌∷◌, ◌++◌, length, Option}
+use Rattle.std.proofs.Common.{Some, None, option_map, is_some, find, get_or, set, replicate, refl, ap, inl, inr, arith}
 use Rattle.std.specs.List.{AllByRecursion, cons_option, filter_map}
 use Rattle.std.proofs.lemmas.Bool.{cases_eq, cases_lt, leb-false, ltb-false}
 use Rattle.std.proofs.lemmas.List.{length_push, get_or-set_same, get_or-set_other, set_past}
@@ -40,8 +41,10 @@ no_bad_page : (plan : DiePlan) (ops : List Op) → is_some (bad_page plan ops) �
 no_bad_page plan [] e = tt
 no_bad_page plan (op ∷ ops) e = by_test (nat_le plan.logical (page_of op)) refl e (no_bad_page plan ops)
   where
-    by_test : (b : Bool) → nat_le plan.logical (page_of op) ≡ b → is_some (option_map page_of (cond b (Some op) (find (λ o. nat_le plan.logical (page_of o)) ops))) ≡ false
-        → (is_some (bad_page plan ops) ≡ false → AllByRecursion (λ o. page_of o < plan.logical) ops) → AllByRecursion (λ o. page_of o < plan.logical) (op ∷ ops)
+    by_test : (b : Bool) → nat_le plan.logical (page_of op) ≡ b
+        → is_some (option_map page_of (cond b (Some op) (find (λ o. nat_le plan.logical (page_of o)) ops))) ≡ false
+        → (is_some (bad_page plan ops) ≡ false → AllByRecursion (λ o. page_of o < plan.logical) ops)
+        → AllByRecursion (λ o. page_of o < plan.logical) (op ∷ ops)
     by_test true is none rest = absurd cc
     by_test false is none rest = (leb-false plan.logical (page_of op) is, rest none)
 
@@ -55,7 +58,9 @@ AreWithin plan log = AllByRecursion (IsWithinLimits plan) (jobs log)
 all_within : (plan : DiePlan) (log : Log) → IsExact plan log → AreWithin plan log
 all_within plan = exact_induction plan (AreWithin plan) tt step
   where
-    step : (past : Log) (caller : ℕ) (event : Event) → IsExact plan past → AreWithin plan past → AllByRecursion (λ c. c.0 ≡ false) (refusals plan past event) → AreWithin plan (entry caller event (accepted plan past event) ∷ past)
+    step : (past : Log) (caller : ℕ) (event : Event) → IsExact plan past → AreWithin plan past
+        → AllByRecursion (λ c. c.0 ≡ false) (refusals plan past event)
+        → AreWithin plan (entry caller event (accepted plan past event) ∷ past)
     step past caller (events.Submit task release due ops) exact h none =
         let time = in_time plan past (events.Submit task release due ops) none in
         let pages = All-from_recursion (λ op. page_of op < plan.logical) ops (no_bad_page plan ops none.1.1.1.0) in
@@ -90,11 +95,18 @@ all_within plan = exact_induction plan (AreWithin plan) tt step
 few_slots : (plan : DiePlan) (log : Log) → IsExact plan log → now log ≤ MAX_SLOT
 few_slots plan = exact_induction plan (λ log. now log ≤ MAX_SLOT) (omega arith) step
   where
-    step : (past : Log) (caller : ℕ) (event : Event) → IsExact plan past → now past ≤ MAX_SLOT → AllByRecursion (λ c. c.0 ≡ false) (refusals plan past event) → now (entry caller event (accepted plan past event) ∷ past) ≤ MAX_SLOT
+    step : (past : Log) (caller : ℕ) (event : Event) → IsExact plan past → now past ≤ MAX_SLOT
+        → AllByRecursion (λ c. c.0 ≡ false) (refusals plan past event) → now (entry caller event (accepted plan past event) ∷ past)
+        ≤ MAX_SLOT
     step past caller (events.Submit task release due ops) exact h none = h
     step past caller (events.Collect task release due) exact h none = h
     step past caller events.Slot exact h none =
-        omega (arith, length_push (carried past) (slot_reply plan past (choice plan past).waived (choice plan past).head).ran, leb-false MAX_SLOT (now past) none.0)
+        omega (
+          arith,
+          length_push (carried past) (slot_reply plan past (choice plan past).waived (choice plan past).head).ran,
+          leb-false
+              MAX_SLOT (now past) none.0,
+        )
 
 one_more : (js : List Job) (j : Job) → nat_le MAX_JOBS (length js) ≡ false → length (js ++ j ∷ []) ≤ MAX_JOBS
 one_more js j h = omega (arith, length_push js j, leb-false MAX_JOBS (length js) h)
@@ -102,14 +114,17 @@ one_more js j h = omega (arith, length_push js j, leb-false MAX_JOBS (length js)
 few_jobs : (plan : DiePlan) (log : Log) → IsExact plan log → length (jobs log) ≤ MAX_JOBS
 few_jobs plan = exact_induction plan (λ log. length (jobs log) ≤ MAX_JOBS) (omega arith) step
   where
-    step : (past : Log) (caller : ℕ) (event : Event) → IsExact plan past → length (jobs past) ≤ MAX_JOBS → AllByRecursion (λ c. c.0 ≡ false) (refusals plan past event) → length (jobs (entry caller event (accepted plan past event) ∷ past)) ≤ MAX_JOBS
+    step : (past : Log) (caller : ℕ) (event : Event) → IsExact plan past → length (jobs past) ≤ MAX_JOBS
+        → AllByRecursion (λ c. c.0 ≡ false) (refusals plan past event)
+        → length (jobs (entry caller event (accepted plan past event) ∷ past)) ≤ MAX_JOBS
     step past caller (events.Submit task release due ops) exact h none = one_more (jobs past) _ none.1.1.1.1.1.1.0
     step past caller (events.Collect task release due) exact h none = one_more (jobs past) _ none.1.1.1.1.0
     step past caller events.Slot exact h none = h
 
 -- Erases: at most one a slot, of any log
 
-set_erases : (blocks : List Block) (b a : ℕ) (s : Block) → s.erases ≤ (get_or blocks b free_block).erases + 1 → (get_or (set blocks b s) a free_block).erases ≤ (get_or blocks a free_block).erases + 1
+set_erases : (blocks : List Block) (b a : ℕ) (s : Block) → s.erases ≤ (get_or blocks b free_block).erases + 1
+    → (get_or (set blocks b s) a free_block).erases ≤ (get_or blocks a free_block).erases + 1
 set_erases blocks b a s le = elim (cases_lt b (length blocks)) [
   | inl lt ↦ elim (cases_eq a b) [
     | inl e ↦ rw e (omega (arith, le, ap (λ (x : Block). x.erases) (get_or-set_same blocks b s free_block lt)))
@@ -118,29 +133,34 @@ set_erases blocks b a s le = elim (cases_lt b (length blocks)) [
   | inr past ↦ omega (arith, ap (λ (bs : List Block). (get_or bs a free_block).erases) (set_past blocks b s past))
 ]
 
-program_erases : (plan : DiePlan) (page : ℕ) (c : Cells) (o : Option ℕ) (a : ℕ) → (block_at (programmed_in page o c) a).erases ≤ (block_at c a).erases + 1
+program_erases : (plan : DiePlan) (page : ℕ) (c : Cells) (o : Option ℕ) (a : ℕ) → (block_at (programmed_in page o c) a).erases
+    ≤ (block_at c a).erases + 1
 program_erases plan page c None a = omega arith
 program_erases plan page c (Some b) a = set_erases c.blocks b a (record (block_at c b) { filled = (block_at c b).filled + 1 }) (omega arith)
 
-once_erases : (s : Block) (b : Bool) → (cond b (record { filled = 0; erasing = 0; erases = s.erases + 1 }) (record s { erasing = s.erasing + 1 })).erases ≤ s.erases + 1
+once_erases : (s : Block) (b : Bool) → (cond b (record { filled = 0; erasing = 0; erases = s.erases + 1 })
+    (record s { erasing = s.erasing + 1 })).erases ≤ s.erases + 1
 once_erases s true = omega arith
 once_erases s false = omega arith
 
-step_erases : (plan : DiePlan) (ran : Carried) (c : Cells) (a : ℕ) → (block_at (cells_after plan ran c) a).erases ≤ (block_at c a).erases + 1
+step_erases : (plan : DiePlan) (ran : Carried) (c : Cells) (a : ℕ) → (block_at (cells_after plan ran c) a).erases
+    ≤ (block_at c a).erases + 1
 step_erases plan None c a = omega arith
 step_erases plan (Some (n, does.Read page bytes)) c a = omega arith
 step_erases plan (Some (n, does.Write page bytes)) c a = program_erases plan page c (open_block plan c) a
 step_erases plan (Some (n, does.Trim page)) c a = omega arith
 step_erases plan (Some (n, does.CopyRead page)) c a = omega arith
 step_erases plan (Some (n, does.CopyProgram page)) c a = program_erases plan page c (open_block plan c) a
-step_erases plan (Some (n, does.Erase b)) c a = set_erases c.blocks b a (erased_once plan (block_at c b)) (once_erases (block_at c b) ((block_at c b).erasing + 1 == plan.shape.erase_slots))
+step_erases plan (Some (n, does.Erase b)) c a = set_erases c.blocks b a (erased_once plan (block_at c b))
+    (once_erases (block_at c b) ((block_at c b).erasing + 1 == plan.shape.erase_slots))
 
 fresh_erases : (n a : ℕ) → (get_or (replicate n free_block) a free_block).erases ≡ 0
 fresh_erases zero a = refl
 fresh_erases (suc n) zero = refl
 fresh_erases (suc n) (suc a) = fresh_erases n a
 
-entry_erases : (plan : DiePlan) (past : Log) (r : Reply) (a : ℕ) → (block_at (cells plan past) a).erases ≤ now past → (block_at (cells_after plan (ran_by r) (cells plan past)) a).erases ≤ length (with_slot r (carried past))
+entry_erases : (plan : DiePlan) (past : Log) (r : Reply) (a : ℕ) → (block_at (cells plan past) a).erases ≤ now past
+    → (block_at (cells_after plan (ran_by r) (cells plan past)) a).erases ≤ length (with_slot r (carried past))
 entry_erases plan past (replies.Taken number) a h = h
 entry_erases plan past (replies.Refused refusal) a h = h
 entry_erases plan past (replies.Slot s) a h = omega (arith, h, step_erases plan s.ran (cells plan past) a, length_push (carried past) s.ran)
@@ -153,6 +173,7 @@ pub keeps_limits : (plan : DiePlan) (log : Log) → IsExact plan log → KeepsLi
 keeps_limits plan log exact = record {
   slots = few_slots plan log exact;
   few_jobs = few_jobs plan log exact;
-  each = λ j h. All-contains (IsWithinLimits plan) (jobs log) j (All-from_recursion (IsWithinLimits plan) (jobs log) (all_within plan log exact)) h;
+  each = λ j h. All-contains (IsWithinLimits plan) (jobs log) j
+      (All-from_recursion (IsWithinLimits plan) (jobs log) (all_within plan log exact)) h;
   erases = few_erases plan log;
 }

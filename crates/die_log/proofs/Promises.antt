@@ -33,10 +33,12 @@ legal_behind plan (e ∷ later) moment h = legal_behind plan later moment h.0
 legal_entry : (plan : DiePlan) (log : Log) (e : Entry) (past : Log) → IsLegal plan log → HasEntry log e past → IsLegalEntry plan past e
 legal_entry plan log e past h has = (legal_behind plan has.0 (e ∷ past) (subst (IsLegal plan) has.1 h)).1
 
-legal_slot : (plan : DiePlan) (log : Log) (s : SlotReply) (past : Log) → IsLegal plan log → HasSlot log s past → IsLegalReply plan past (replies.Slot s)
+legal_slot : (plan : DiePlan) (log : Log) (s : SlotReply) (past : Log) → IsLegal plan log → HasSlot log s past
+    → IsLegalReply plan past (replies.Slot s)
 legal_slot plan log s past h has = subst (IsLegalReply plan past) has.1 (legal_entry plan log has.0 past h has.2).slot
 
-legal_act : (plan : DiePlan) (log : Log) (s : SlotReply) (past : Log) (number : ℕ) (act : Act) → IsLegal plan log → HasSlot log s past → s.ran ≡ Some (number, act)
+legal_act : (plan : DiePlan) (log : Log) (s : SlotReply) (past : Log) (number : ℕ) (act : Act) → IsLegal plan log → HasSlot log s past
+    → s.ran ≡ Some (number, act)
     → (j : Job) × IsLegalAct plan past (waived past ++ s.waived) j number act
 legal_act plan log s past number act h has ran = subst (IsLegalRun plan past s.waived) ran (legal_slot plan log s past h has).1
 
@@ -49,7 +51,8 @@ legal_moment plan log moment h has = legal_behind plan has.0 moment (subst (IsLe
 
 -- The certificate
 
-of_worst : (plan : DiePlan) (log : Log) (c : Certificate) → MeetsBound plan → IsExact plan log → certificate plan log ≡ Some c → IsOfWorst plan log c
+of_worst : (plan : DiePlan) (log : Log) (c : Certificate) → MeetsBound plan → IsExact plan log → certificate plan log ≡ Some c
+    → IsOfWorst plan log c
 of_worst plan log c bound exact is = by_worst (worst plan log) refl
   where
     by_worst : (o : Option Job) → worst plan log ≡ o → IsOfWorst plan log c
@@ -58,7 +61,8 @@ of_worst plan log c bound exact is = by_worst (worst plan log) refl
         let d = worst_certified plan log j bound exact e in
         (j, e, subst (IsCertified plan log j) (same_Some d.0 c (sym d.1 ∙ is)) d.2)
 
-said : (plan : DiePlan) (log : Log) (c : Certificate) → IsOfWorst plan log c → IsOfWorst plan log c × HoldsOver plan log c × BindsAll plan log c
+said : (plan : DiePlan) (log : Log) (c : Certificate) → IsOfWorst plan log c → IsOfWorst plan log c × HoldsOver plan log c
+    × BindsAll plan log c
 said plan log c own = (
   own,
   certificate-verdict (rows plan log) c.start c.due c.completion c.jobs own.2.own.holds,

@@ -7,7 +7,8 @@ use Rattle.slot_types.specs.declared.replies.Reply.TheVariants as replies
 use Rattle.die_log.specs.Log.{Log}
 use Rattle.die_log.specs.Answers.{IsExact, answer, with_answer, after_call, run}
 
-with_exact : (plan : DiePlan) (past : Log) (caller : ℕ) (event : Event) (r : Reply) → answer plan past event ≡ r → IsExact plan past → IsExact plan (with_answer caller event r past)
+with_exact : (plan : DiePlan) (past : Log) (caller : ℕ) (event : Event) (r : Reply) → answer plan past event ≡ r → IsExact plan past
+    → IsExact plan (with_answer caller event r past)
 with_exact plan past caller event (replies.Taken number) e h = (h, sym e, tt)
 with_exact plan past caller event (replies.Slot s) e h = (h, sym e, tt)
 with_exact plan past caller event (replies.Refused refusal) e h = h

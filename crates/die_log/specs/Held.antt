@@ -1,5 +1,7 @@
--- What the jobs of each task are held, and what its collector is lent, counted over the log with no account in it; and accounts that agree with it.
-use Rattle.std.specs.Prelude.{◌≡◌, ℕ, ◌<◌, ◌≤◌, ◌==◌, ◌&&◌, not, Bool, true, if◌then◌else◌, List, [], length, drop, sum_by, count_by, ◌+◌, ◌-◌, sum, slice_index}
+-- What the jobs of each task are held, and what its collector is lent, counted over the log with no account in it; and accounts that agree
+-- with it.
+use Rattle.std.specs.Prelude.{◌≡◌, ℕ, ◌<◌, ◌≤◌, ◌==◌, ◌&&◌, not, Bool, true, if◌then◌else◌, List, [], length, drop, sum_by, count_by, ◌+◌}
+use Rattle.std.specs.Prelude.{◌-◌, sum, slice_index}
 use Rattle.std.specs.List.{AllByRecursion}
 use Rattle.slot_types.specs.declared.plans.DiePlan.{DiePlan}
 use Rattle.slot_types.specs.declared.acts.Act.{Act}
@@ -65,9 +67,11 @@ pub record IsTaken (plan : DiePlan) (j : Job) : Type 0 where
   pub task : j.task < length plan.caps
   pub none : j.collects ≡ true → j.ops ≡ []
 
--- the accounts at the end of a log come to what the log says; each task has at most one collection that is neither done nor waived, and no waived one has an act
+-- the accounts at the end of a log come to what the log says; each task has at most one collection that is neither done nor waived, and no
+-- waived one has an act
 pub record AreTrue (plan : DiePlan) (log : Log) : Type 0 where
-  pub agree : Agree plan (accounts plan log) (held_of (λ n. acts n log) (jobs log)) (lent_to plan (λ n. acts n log) (is_waived log) (jobs log)) (owed log) (free plan log)
+  pub agree : Agree plan (accounts plan log) (held_of (λ n. acts n log) (jobs log))
+      (lent_to plan (λ n. acts n log) (is_waived log) (jobs log)) (owed log) (free plan log)
   pub taken : AllByRecursion (IsTaken plan) (jobs log)
   pub one_each : (task : ℕ) → pending_of plan (λ n. acts n log) (is_waived log) (jobs log) task ≤ 1
   pub idle_waived : (number : ℕ) → is_waived log number ≡ true → acts number log ≡ []

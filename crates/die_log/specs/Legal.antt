@@ -1,5 +1,6 @@
 -- Which logs are legal: said entry by entry, without the rules that choose the head, the victim or the waivers.
-use Rattle.std.specs.Prelude.{◌≡◌, ◌≢◌, ℕ, ◌<◌, ◌≤◌, ◌==◌, ◌||◌, Bool, true, false, if◌then◌else◌, List, [], ◌∷◌, ◌++◌, length, Some, None, slice_get, count_by, Contains, MatchBool, MatchOption, IsTrue, IsFalse}
+use Rattle.std.specs.Prelude.{◌≡◌, ◌≢◌, ℕ, ◌<◌, ◌≤◌, ◌==◌, ◌||◌, Bool, true, false, if◌then◌else◌, List, [], ◌∷◌, ◌++◌, length, Some, None}
+use Rattle.std.specs.Prelude.{slice_get, count_by, Contains, MatchBool, MatchOption, IsTrue, IsFalse}
 use Rattle.std.specs.List.{list_any, last_or}
 use Rattle.slot_types.specs.declared.plans.DiePlan.{DiePlan}
 use Rattle.slot_types.specs.declared.limits.TheConstants.{MAX_SLOT}
@@ -86,7 +87,8 @@ pub record MayErase (plan : DiePlan) (past : Log) (number b block : ℕ) : Type 
   pub left : erases_of number past < plan.shape.erase_slots
   pub closed : erases_of number past ≡ 0 → (block_at (cells plan past) b).filled ≡ plan.shape.pages
   pub unplaced : erases_of number past ≡ 0 → valid (cells plan past) b ≡ 0
-  pub alone : (i : Job) → Contains (jobs past) i → i.number ≢ number → Contains (acts i.number past) (does.Erase b) → IsTrue (is_done plan past i)
+  pub alone : (i : Job) → Contains (jobs past) i → i.number ≢ number → Contains (acts i.number past) (does.Erase b)
+      → IsTrue (is_done plan past i)
 
 abbrev pub IsCollectAct : DiePlan → Log → ℕ → ℕ → Act → Type 0
 IsCollectAct plan past number b (does.CopyRead page) = MayCopyRead plan past number b page
@@ -151,7 +153,8 @@ IsLegalRun plan past ws None = NothingWaits plan past ws
 IsLegalRun plan past ws (Some (number, act)) = (j : Job) × IsLegalAct plan past (waived past ++ ws) j number act
 
 abbrev pub IsLegalReply : DiePlan → Log → Reply → Type 0
-IsLegalReply plan past (replies.Slot s) = AreWaivers plan past (waived past) (accounts plan past) s.waived × IsLegalRun plan past s.waived s.ran
+IsLegalReply plan past (replies.Slot s) = AreWaivers plan past (waived past) (accounts plan past) s.waived
+    × IsLegalRun plan past s.waived s.ran
 IsLegalReply plan past _ = Unit {0}
 
 -- Logs

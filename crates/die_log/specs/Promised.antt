@@ -43,14 +43,18 @@ pub record KeepsPromises (plan : DiePlan) (log : Log) : Type 0 where
   pub exact : IsExact plan log
   pub legal : IsLegal plan log
   pub arrivals : (e : Entry) (past : Log) → HasEntry log e past → ArrivesInTime past e.event
-  pub reads : (s : SlotReply) (past : Log) (number page : ℕ) (bytes : PageData) → HasSlot log s past → s.ran ≡ Some (number, does.Read page bytes) → bytes ≡ content plan past page
-  pub programs : (s : SlotReply) (past : Log) (number : ℕ) (act : Act) → HasSlot log s past → s.ran ≡ Some (number, act) → FindsFree plan past act
+  pub reads : (s : SlotReply) (past : Log) (number page : ℕ) (bytes : PageData) → HasSlot log s past → s.ran
+      ≡ Some (number, does.Read page bytes) → bytes ≡ content plan past page
+  pub programs : (s : SlotReply) (past : Log) (number : ℕ) (act : Act) → HasSlot log s past → s.ran ≡ Some (number, act)
+      → FindsFree plan past act
   pub room : (moment : Log) → HasMoment log moment → owed moment ≤ free plan moment
   pub never_idle : (s : SlotReply) (past : Log) → HasSlot log s past → s.ran ≡ None → NothingWaits plan past s.waived
   pub waivers : (s : SlotReply) (past : Log) → HasSlot log s past → AreWaivers plan past (waived past) (accounts plan past) s.waived
   pub least_keys : (moment : Log) → HasMoment log moment → CarriesLeastKeys (rows plan moment) (carried_numbers moment)
   pub least_late : (moment : Log) → HasMoment log moment → IsLeastLate (rows plan moment) (carried_numbers moment)
-  pub few_copies : (j : Job) → Contains (jobs log) j → j.collects ≡ true → count_by is_copy_program (acts j.number log) ≤ plan.shape.pages - plan.alpha
-  pub few_slots : (j : Job) → Contains (jobs log) j → j.collects ≡ true → work j.number log ≤ 2 * (plan.shape.pages - plan.alpha) + plan.shape.erase_slots
+  pub few_copies : (j : Job) → Contains (jobs log) j → j.collects ≡ true → count_by is_copy_program (acts j.number log)
+      ≤ plan.shape.pages - plan.alpha
+  pub few_slots : (j : Job) → Contains (jobs log) j → j.collects ≡ true → work j.number log
+      ≤ 2 * (plan.shape.pages - plan.alpha) + plan.shape.erase_slots
   pub uncertified : (certificate plan log ≡ None) ↔ NothingDone plan log
   pub certified : (c : Certificate) → certificate plan log ≡ Some c → IsOfWorst plan log c × HoldsOver plan log c × BindsAll plan log c

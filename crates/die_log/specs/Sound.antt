@@ -27,9 +27,11 @@ pub record AreSound (plan : DiePlan) (c : Cells) : Type 0 where
   pub places : length c.places ≡ plan.logical
   pub within : (b : ℕ) → (block_at c b).filled ≤ plan.shape.pages
   pub placed : (page : ℕ) (q : Place) → place_of c.places page ≡ Some q → q.page < (block_at c q.block).filled
-  pub apart : (page other : ℕ) (q r : Place) → place_of c.places page ≡ Some q → place_of c.places other ≡ Some r → q.block ≡ r.block → q.page ≡ r.page → page ≡ other
+  pub apart : (page other : ℕ) (q r : Place) → place_of c.places page ≡ Some q → place_of c.places other ≡ Some r → q.block ≡ r.block
+      → q.page ≡ r.page → page ≡ other
   pub one_open : (a b : ℕ) → IsOpen plan c a → IsOpen plan c b → a ≡ b
-  pub erasing : (b : ℕ) → 0 < (block_at c b).erasing → ((block_at c b).erasing < plan.shape.erase_slots) × IsClosed plan c b × IsUnplaced c b
+  pub erasing : (b : ℕ) → 0 < (block_at c b).erasing → ((block_at c b).erasing < plan.shape.erase_slots) × IsClosed plan c b
+      × IsUnplaced c b
 
 -- a block with room, and the one that is open if any is
 pub record TakesNext (plan : DiePlan) (c : Cells) (b : ℕ) : Type 0 where
@@ -46,7 +48,8 @@ pub record IsProgram (plan : DiePlan) (page b : ℕ) (c d : Cells) : Type 0 wher
   pub filled : (block_at d b).filled ≡ (block_at c b).filled + 1
   pub erasing : (block_at d b).erasing ≡ (block_at c b).erasing
   pub others : (a : ℕ) → a ≢ b → block_at d a ≡ block_at c a
-  pub moved : (p : ℕ) (q : Place) → place_of d.places p ≡ Some q → ((p ≡ page) × (q.block ≡ b) × (q.page ≡ (block_at c b).filled)) ⊎ ((p ≢ page) × (place_of c.places p ≡ Some q))
+  pub moved : (p : ℕ) (q : Place) → place_of d.places p ≡ Some q → ((p ≡ page) × (q.block ≡ b) × (q.page ≡ (block_at c b).filled))
+      ⊎ ((p ≢ page) × (place_of c.places p ≡ Some q))
 
 -- one slot of the erase of block b
 pub record IsEraseSlot (plan : DiePlan) (b : ℕ) (c d : Cells) : Type 0 where
@@ -54,7 +57,8 @@ pub record IsEraseSlot (plan : DiePlan) (b : ℕ) (c d : Cells) : Type 0 where
   pub places : d.places ≡ c.places
   pub others : (a : ℕ) → a ≢ b → block_at d a ≡ block_at c a
   pub slot : (((block_at c b).erasing + 1 ≡ plan.shape.erase_slots) × ((block_at d b).filled ≡ 0) × ((block_at d b).erasing ≡ 0))
-      ⊎ (((block_at c b).erasing + 1 ≢ plan.shape.erase_slots) × ((block_at d b).filled ≡ (block_at c b).filled) × ((block_at d b).erasing ≡ (block_at c b).erasing + 1))
+      ⊎ (((block_at c b).erasing + 1 ≢ plan.shape.erase_slots) × ((block_at d b).filled ≡ (block_at c b).filled)
+      × ((block_at d b).erasing ≡ (block_at c b).erasing + 1))
 
 -- the page has no cell any longer
 pub record IsTrim (page : ℕ) (c d : Cells) : Type 0 where

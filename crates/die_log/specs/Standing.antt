@@ -29,7 +29,8 @@ pub record KeepsToOps (log : Log) (j : Job) : Type 0 where
 pub record Collects (plan : DiePlan) (log : Log) : Type 0 where
   pub sound : AreSound plan (cells plan log)
   pub shown : (j : Job) → Contains (jobs log) j → is_running plan log j ≡ true → (b : ℕ) × Runs plan log j b
-  pub collecting : (j : Job) (b : ℕ) → Runs plan log j b → IsCollecting plan (cells plan log) (acts j.number log) (λ page. changed_since j.number page log) b
+  pub collecting : (j : Job) (b : ℕ) → Runs plan log j b
+      → IsCollecting plan (cells plan log) (acts j.number log) (λ page. changed_since j.number page log) b
   pub different : (i j : Job) (b : ℕ) → Runs plan log i b → Runs plan log j b → i.number ≡ j.number
   pub owned : (b : ℕ) → 0 < (block_at (cells plan log) b).erasing → (j : Job) × Runs plan log j b
 

@@ -10,7 +10,8 @@ use Rattle.die_log.specs.Held.{is_pending, copied_of, AreTrue}
 
 -- what a pending collection copied, and the pages still placed in its block, fit its collector's reserve
 pub record FewCopies (plan : DiePlan) (log : Log) : Type 0 where
-  pub few : (j : Job) (b : ℕ) → job_at log j.number ≡ Some j → is_pending plan (λ n. acts n log) (is_waived log) j ≡ true → victim_of plan j.number log ≡ Some b
+  pub few : (j : Job) (b : ℕ) → job_at log j.number ≡ Some j → is_pending plan (λ n. acts n log) (is_waived log) j ≡ true
+      → victim_of plan j.number log ≡ Some b
       → copied_of (λ n. acts n log) j + valid (cells plan log) b ≤ reserve_full plan
 
 -- the accounts are true, each collection copies no more than its reserve, and the log is legal

@@ -1,5 +1,6 @@
 -- What is done, what waits, and who is late.
-use Rattle.std.specs.Prelude.{ℕ, ◌+◌, ◌&&◌, ◌||◌, ◌==◌, not, nat_lt, nat_le, Bool, true, false, if◌then◌else◌, List, [], ◌∷◌, length, drop, Option, Some, None, filter, count_by, sum_by, ℤ, int_lt, ◌≤◌, ◌≤ℤ◌, Contains, IsTrue}
+use Rattle.std.specs.Prelude.{ℕ, ◌+◌, ◌&&◌, ◌||◌, ◌==◌, not, nat_lt, nat_le, Bool, true, false, if◌then◌else◌, List, [], ◌∷◌, length, drop}
+use Rattle.std.specs.Prelude.{Option, Some, None, filter, count_by, sum_by, ℤ, int_lt, ◌≤◌, ◌≤ℤ◌, Contains, IsTrue}
 use Rattle.std.specs.List.{list_any, reduce}
 use Rattle.slot_types.specs.declared.plans.DiePlan.{DiePlan}
 use Rattle.slot_types.specs.declared.acts.Act.{Act}
@@ -80,8 +81,10 @@ pub record IsWorst (plan : DiePlan) (log : Log) (j : Job) : Type 0 where
   pub stands : Contains (jobs log) j
   pub done : IsTrue (is_done plan log j)
   pub latest : (i : Job) → Contains (jobs log) i → IsTrue (is_done plan log i) → lateness_of log i ≤ℤ lateness_of log j
-  pub first : (i : Job) → Contains (jobs log) i → IsTrue (is_done plan log i) → lateness_of log j ≤ℤ lateness_of log i → completion j.number log ≤ completion i.number log
-  pub least : (i : Job) → Contains (jobs log) i → IsTrue (is_done plan log i) → lateness_of log j ≤ℤ lateness_of log i → completion i.number log ≤ completion j.number log → j.number ≤ i.number
+  pub first : (i : Job) → Contains (jobs log) i → IsTrue (is_done plan log i) → lateness_of log j ≤ℤ lateness_of log i
+      → completion j.number log ≤ completion i.number log
+  pub least : (i : Job) → Contains (jobs log) i → IsTrue (is_done plan log i) → lateness_of log j ≤ℤ lateness_of log i
+      → completion i.number log ≤ completion j.number log → j.number ≤ i.number
 
 -- Collections
 

@@ -1,6 +1,7 @@
 //! What holds of every exact log. Each law is a function that does nothing.
 
-ghost use Rattle.std.specs.Prelude.{◌≡◌, ◌++◌, ◌↔◌, ◌∷◌, ◌+◌, ◌-◌, ◌*◌, ◌<◌, ◌≤◌, Some, None, true, ℕ, List, [], length, map, Contains, IsFalse, count_by};
+ghost use Rattle.std.specs.Prelude.{◌≡◌, ◌++◌, ◌↔◌, ◌∷◌, ◌+◌, ◌-◌, ◌*◌, ◌<◌, ◌≤◌, Some, None, true, ℕ, List, [], length, map, Contains};
+ghost use Rattle.std.specs.Prelude.{IsFalse, count_by};
 ghost use Rattle.slot_types.specs.declared.plans.DiePlan.{DiePlan};
 ghost use Rattle.slot_types.specs.declared.events.Event.{Event};
 ghost use Rattle.slot_types.specs.declared.plans.Times.{Times};
@@ -25,7 +26,8 @@ ghost use Rattle.die_log.specs.Promised.{KeepsPromises};
 
 /// Two exact logs of one plan with the same calls are one log.
 pub fn same_calls()
-    ensures { (plan : DiePlan) (first second : Log) → IsExact plan first → IsExact plan second → calls first ≡ calls second → first ≡ second }
+    ensures { (plan : DiePlan) (first second : Log) → IsExact plan first → IsExact plan second → calls first ≡ calls second → first
+        ≡ second }
 {}
 
 /// What an exact log was at an earlier moment is an exact log.
@@ -55,7 +57,8 @@ pub fn exact_stands()
 /// ones the one completed first, of these the one with the smallest number; there is none exactly
 /// where nothing is done.
 pub fn worst_is_worst()
-    ensures none { (plan : DiePlan) (log : Log) → (worst plan log ≡ None) ↔ ((j : Job) → Contains (jobs log) j → IsFalse (is_done plan log j)) }
+    ensures none { (plan : DiePlan) (log : Log) → (worst plan log ≡ None)
+        ↔ ((j : Job) → Contains (jobs log) j → IsFalse (is_done plan log j)) }
     ensures some { (plan : DiePlan) (log : Log) (j : Job) → worst plan log ≡ Some j → IsWorst plan log j }
 {}
 
@@ -69,27 +72,33 @@ pub fn exact_carries_least_keys()
 /// no schedule that respects releases, and gives what is done by then as many slots as it took, has
 /// a smaller one.
 pub fn exact_is_least_late()
-    ensures { (plan : DiePlan) → MeetsBound plan → (later moment : Log) → IsExact plan (later ++ moment) → IsLeastLate (rows plan moment) (carried_numbers moment) }
+    ensures { (plan : DiePlan) → MeetsBound plan → (later moment : Log) → IsExact plan (later ++ moment)
+        → IsLeastLate (rows plan moment) (carried_numbers moment) }
 {}
 
 /// The certificate of an exact log of a plan within its bound: none where nothing is done, and else
 /// that of its worst job, which holds over the log's rows.
 pub fn exact_is_certified()
-    ensures none { (plan : DiePlan) → MeetsBound plan → (log : Log) → IsExact plan log → (certificate plan log ≡ None) ↔ ((j : Job) → Contains (jobs log) j → IsFalse (is_done plan log j)) }
-    ensures worst { (plan : DiePlan) → MeetsBound plan → (log : Log) → IsExact plan log → (j : Job) → worst plan log ≡ Some j → (c : Certificate) × (certificate plan log ≡ Some c) × IsCertified plan log j c }
+    ensures none { (plan : DiePlan) → MeetsBound plan → (log : Log) → IsExact plan log → (certificate plan log ≡ None)
+        ↔ ((j : Job) → Contains (jobs log) j → IsFalse (is_done plan log j)) }
+    ensures worst { (plan : DiePlan) → MeetsBound plan → (log : Log) → IsExact plan log → (j : Job) → worst plan log ≡ Some j
+        → (c : Certificate) × (certificate plan log ≡ Some c) × IsCertified plan log j c }
 {}
 
 /// In an exact log of a plan within its bound a collection copies at most the pages that its collector
 /// keeps in reserve, and takes at most two slots for each of these beside those of its erase.
 pub fn collections_are_bounded()
-    ensures copies { (plan : DiePlan) → MeetsBound plan → (log : Log) → IsExact plan log → (j : Job) → Contains (jobs log) j → j.collects ≡ true → count_by is_copy_program (acts j.number log) ≤ plan.shape.pages - plan.alpha }
-    ensures slots { (plan : DiePlan) → MeetsBound plan → (log : Log) → IsExact plan log → (j : Job) → Contains (jobs log) j → j.collects ≡ true → work j.number log ≤ 2 * (plan.shape.pages - plan.alpha) + plan.shape.erase_slots }
+    ensures copies { (plan : DiePlan) → MeetsBound plan → (log : Log) → IsExact plan log → (j : Job) → Contains (jobs log) j → j.collects
+        ≡ true → count_by is_copy_program (acts j.number log) ≤ plan.shape.pages - plan.alpha }
+    ensures slots { (plan : DiePlan) → MeetsBound plan → (log : Log) → IsExact plan log → (j : Job) → Contains (jobs log) j → j.collects
+        ≡ true → work j.number log ≤ 2 * (plan.shape.pages - plan.alpha) + plan.shape.erase_slots }
 {}
 
 /// An exact log of a plan within its bound keeps all that is promised of a log, and so did it at each earlier moment.
 pub fn exact_keeps_promises()
     ensures log { (plan : DiePlan) → MeetsBound plan → (log : Log) → IsExact plan log → KeepsPromises plan log }
-    ensures moments { (plan : DiePlan) → MeetsBound plan → (later moment : Log) → IsExact plan (later ++ moment) → KeepsPromises plan moment }
+    ensures moments { (plan : DiePlan) → MeetsBound plan → (later moment : Log) → IsExact plan (later ++ moment)
+        → KeepsPromises plan moment }
 {}
 
 /// What an exact log of a plan within its bound holds for a task is what the task's accepted jobs still owe: those of

@@ -1,5 +1,6 @@
 -- What a worker has asked of its die, event by event and slot by slot.
-use Rattle.std.proofs.Common.{◌≡◌, ℕ, suc, ◌+◌, ◌-◌, ◌<◌, ◌≤◌, Bool, true, false, nat_le, List, [], ◌∷◌, ◌++◌, map, drop, cond, Option, Some, None, Result, Ok, Err, if◌then◌else◌, refl, ap, sym, ◌∙◌, subst, arith, append_assoc}
+use Rattle.std.proofs.Common.{◌≡◌, ℕ, suc, ◌+◌, ◌-◌, ◌<◌, ◌≤◌, Bool, true, false, nat_le, List, [], ◌∷◌, ◌++◌, map, drop, cond, Option}
+use Rattle.std.proofs.Common.{Some, None, Result, Ok, Err, if◌then◌else◌, refl, ap, sym, ◌∙◌, subst, arith, append_assoc}
 use Rattle.std.proofs.lemmas.Bool.{le-leb, leb-false}
 use Rattle.std.proofs.lemmas.List.{append-nil}
 use Rattle.std.specs.List.{prefix_len}
@@ -21,7 +22,8 @@ use Rattle.die_service.specs.declared.feeds.Arrival.{Arrival}
 use Rattle.die_service.specs.declared.refused.RefusedAt.{RefusedAt}
 use Rattle.die_service.specs.Passes.{AddsEntry, AddsNone}
 use Rattle.slot_types.specs.Arrivals.{IsArrival}
-use Rattle.die_service.specs.Runs.{Said, said, is_due, due_by, later_than, AreAsked, place_behind, noted, slots_in, slot_counted, stop_of, stop_or}
+use Rattle.die_service.specs.Runs.{Said, said, is_due, due_by, later_than, AreAsked, place_behind, noted, slots_in, slot_counted, stop_of}
+use Rattle.die_service.specs.Runs.{stop_or}
 use Rattle.die_service.specs.Stores.{DiePass}
 use Rattle.die_service.specs.Drives.{Course, Standing, Asks, IsFit, Comes, NoneDue, BringsOne, Brings, TakesSlot, IsStopped}
 use Rattle.die_service.proofs.Driving.{far_accepts, far_refuses, asks_joins, asks_none, slots_more, stop_more}
@@ -38,7 +40,8 @@ none_noted events.Slot n reply = refl
 none_noted (events.Submit task release due ops) n reply = refl
 none_noted (events.Collect task release due) n reply = refl
 
-one_noted : (e : Event) (n : ℕ) (refused : RefusedAt) → IsArrival e → noted n e (Err refused) [] ≡ record { place = n; refused = refused } ∷ []
+one_noted : (e : Event) (n : ℕ) (refused : RefusedAt) → IsArrival e → noted n e (Err refused) [] ≡ record { place = n; refused = refused }
+    ∷ []
 one_noted events.Slot n refused arrives = absurd arrives
 one_noted (events.Submit task release due ops) n refused arrives = refl
 one_noted (events.Collect task release due) n refused arrives = refl
@@ -47,10 +50,12 @@ abbrev at : DiePass → Course → ℕ → Option RefusedAt → Standing
 at p c slots stop = record { pass = p; course = c; slots = slots; stop = stop }
 
 module _ (never : Bool) (clock : ℕ) (p q : DiePass) (c d : Course) (event : Event) (slots : ℕ) (stop : Option RefusedAt) where
-  pub brings_accepted : (reply : Reply) → Comes clock c event d → IsSamePass p q → AddsEntry p.view event reply q.view → BringsOne never clock (at p c slots stop) (at q d slots stop)
+  pub brings_accepted : (reply : Reply) → Comes clock c event d → IsSamePass p q → AddsEntry p.view event reply q.view
+      → BringsOne never clock (at p c slots stop) (at q d slots stop)
   brings_accepted reply comes same added =
       let arrives : IsArrival comes.arrival.event = subst IsArrival comes.event_is comes.arrives in
-      let adds : AddsEntry p.view comes.arrival.event reply q.view = subst (λ (e : Event). AddsEntry p.view e reply q.view) comes.event_is added in record {
+      let adds : AddsEntry p.view comes.arrival.event reply q.view = subst (λ (e : Event). AddsEntry p.view e reply q.view) comes.event_is
+      added in record {
         arrival = comes.arrival;
         by = comes.by;
         arrives = arrives;
@@ -61,17 +66,21 @@ module _ (never : Bool) (clock : ℕ) (p q : DiePass) (c d : Course) (event : Ev
           plan = adds.grown.topic;
           far = far_accepts never p.view q.view comes.arrival.event reply adds;
           place = comes.place ∙ sym (behind_arrival comes.arrival.event c.place arrives);
-          refused = comes.refused ∙ (sym (append-nil c.refused) ∙ ap (λ l. c.refused ++ l) (sym (none_noted comes.arrival.event c.place reply)));
+          refused = comes.refused ∙ (sym (append-nil c.refused)
+              ∙ ap (λ l. c.refused ++ l) (sym (none_noted comes.arrival.event c.place reply)));
         };
         slots = refl;
         stop = refl;
       }
 
-  pub brings_refused : (refused : RefusedAt) (e : Course) → Comes clock c event d → IsSamePass p q → AddsNone never p.view event refused q.view
-      → e.rest ≡ d.rest → e.place ≡ d.place → e.refused ≡ d.refused ++ record { place = d.place - 1; refused = refused } ∷ [] → BringsOne never clock (at p c slots stop) (at q e slots stop)
+  pub brings_refused : (refused : RefusedAt) (e : Course) → Comes clock c event d → IsSamePass p q
+      → AddsNone never p.view event refused q.view
+      → e.rest ≡ d.rest → e.place ≡ d.place → e.refused ≡ d.refused ++ record { place = d.place - 1; refused = refused } ∷ []
+      → BringsOne never clock (at p c slots stop) (at q e slots stop)
   brings_refused refused e comes same left rest place notes =
       let arrives : IsArrival comes.arrival.event = subst IsArrival comes.event_is comes.arrives in
-      let none : AddsNone never p.view comes.arrival.event refused q.view = subst (λ (x : Event). AddsNone never p.view x refused q.view) comes.event_is left in
+      let none : AddsNone never p.view comes.arrival.event refused q.view = subst (λ (x : Event). AddsNone never p.view x refused q.view)
+      comes.event_is left in
       let here : d.place - 1 ≡ c.place = omega (arith, comes.place) in record {
         arrival = comes.arrival;
         by = comes.by;
@@ -84,7 +93,8 @@ module _ (never : Bool) (clock : ℕ) (p q : DiePass) (c d : Course) (event : Ev
           far = far_refuses never p.view q.view comes.arrival.event refused none;
           place = place ∙ (comes.place ∙ sym (behind_arrival comes.arrival.event c.place arrives));
           refused = notes ∙ (ap (λ l. l ++ record { place = d.place - 1; refused = refused } ∷ []) comes.refused
-              ∙ ap (λ l. c.refused ++ l) (ap (λ n. record { place = n; refused = refused } ∷ []) here ∙ sym (one_noted comes.arrival.event c.place refused arrives)));
+              ∙ ap (λ l. c.refused ++ l) (ap (λ n. record { place = n; refused = refused } ∷ []) here
+              ∙ sym (one_noted comes.arrival.event c.place refused arrives)));
         };
         slots = refl;
         stop = refl;
@@ -92,7 +102,8 @@ module _ (never : Bool) (clock : ℕ) (p q : DiePass) (c d : Course) (event : Ev
 
 -- One slot
 
-pub slot_below : (plan : DiePlan) (past : Log) (reply : SlotReply) → answer plan past events.Slot ≡ replies.Slot reply → reply.slot < 1048576
+pub slot_below : (plan : DiePlan) (past : Log) (reply : SlotReply) → answer plan past events.Slot ≡ replies.Slot reply → reply.slot
+    < 1048576
 unfolding answer
 slot_below plan past reply is = by (nat_le MAX_SLOT (now past)) refl is
   where
@@ -102,15 +113,18 @@ slot_below plan past reply is = by (nat_le MAX_SLOT (now past)) refl is
     no_slot : (refusal : Refusal) (a : SlotReply) → replies.Refused refusal ≡ replies.Slot a → ⊥
     no_slot refusal a e = cc
 
-    by : (b : Bool) → nat_le MAX_SLOT (now past) ≡ b → answer_by plan past events.Slot (if b then Some ClockEnd else None) ≡ replies.Slot reply → reply.slot < 1048576
+    by : (b : Bool) → nat_le MAX_SLOT (now past) ≡ b → answer_by plan past events.Slot (if b then Some ClockEnd else None)
+        ≡ replies.Slot reply → reply.slot < 1048576
     by true e h = absurd (no_slot ClockEnd reply h)
     by false e h =
         let below = leb-false MAX_SLOT (now past) e in
-        let is_now : reply.slot ≡ now past = ap (λ r. r.slot) (sym (same_slot _ reply h)) ∙ slot_is plan past (choice plan past).waived (choice plan past).head in
+        let is_now : reply.slot ≡ now past = ap (λ r. r.slot) (sym (same_slot _ reply h))
+        ∙ slot_is plan past (choice plan past).waived (choice plan past).head in
         omega (arith, below, is_now)
 
 module _ (never : Bool) (p q : DiePass) (c : Course) (slots : ℕ) (stop : Option RefusedAt) where
-  pub slot_taken : (reply : SlotReply) → IsSamePass p q → AddsEntry p.view events.Slot (replies.Slot reply) q.view → TakesSlot never (at p c slots stop) reply.slot (at q c (slots + 1) stop)
+  pub slot_taken : (reply : SlotReply) → IsSamePass p q → AddsEntry p.view events.Slot (replies.Slot reply) q.view
+      → TakesSlot never (at p c slots stop) reply.slot (at q c (slots + 1) stop)
   slot_taken reply same added = record {
     reply = reply;
     slot_is = refl;
@@ -126,7 +140,8 @@ module _ (never : Bool) (p q : DiePass) (c : Course) (slots : ℕ) (stop : Optio
     stop = refl;
   }
 
-  pub slot_stopped : (refused : RefusedAt) → IsSamePass p q → AddsNone never p.view events.Slot refused q.view → IsStopped never (at p c slots stop) (at q c slots (Some refused))
+  pub slot_stopped : (refused : RefusedAt) → IsSamePass p q → AddsNone never p.view events.Slot refused q.view
+      → IsStopped never (at p c slots stop) (at q c slots (Some refused))
   slot_stopped refused same left = record {
     refused = refused;
     asks = record {
@@ -147,7 +162,8 @@ one_less : (a : Arrival) (n : ℕ) (rest : List Arrival) → drop (1 + n) (a ∷
 one_less a n rest = ap (λ k. drop k (a ∷ rest)) (let more : 1 + n ≡ suc n = omega arith in more)
 
 due_one : (clock : ℕ) (a : Arrival) (rest : List Arrival) → a.at ≤ clock → due_by clock (a ∷ rest) ≡ a ∷ due_by clock rest
-due_one clock a rest by = take_while-cons (is_due clock) a rest ∙ ap (λ (b : Bool). cond b (a ∷ due_by clock rest) []) (le-leb a.at clock by)
+due_one clock a rest by = take_while-cons (is_due clock) a rest
+    ∙ ap (λ (b : Bool). cond b (a ∷ due_by clock rest) []) (le-leb a.at clock by)
 
 later_one : (clock : ℕ) (a : Arrival) (rest : List Arrival) → a.at ≤ clock → later_than clock (a ∷ rest) ≡ later_than clock rest
 later_one clock a rest by = rw (le-leb a.at clock by) (one_less a (prefix_len (is_due clock) rest) rest)
@@ -191,8 +207,11 @@ module _ (never : Bool) (clock : ℕ) where
       let last = said one.arrival.event one.reply in record {
         fed = b.fed ++ last ∷ [];
         asks = asks_joins never s.pass t.pass u.pass s.course t.course u.course b.fed (last ∷ []) b.asks one.asks;
-        asked = λ more asked. subst (AreAsked (due_by clock s.course.rest)) (sym (append_assoc b.fed (last ∷ []) more)) (b.asked (last ∷ more)
-            (subst (λ (l : List Arrival). AreAsked l (last ∷ more)) (sym (ap (due_by clock) one.rest ∙ due_one clock one.arrival u.course.rest one.by)) (ap (λ l. one.arrival.event ∷ l) asked)));
+        asked = λ more asked. subst (AreAsked (due_by clock s.course.rest)) (sym (append_assoc b.fed (last ∷ []) more))
+            (b.asked (last ∷ more)
+            (subst (λ (l : List Arrival). AreAsked l (last ∷ more))
+            (sym (ap (due_by clock) one.rest ∙ due_one clock one.arrival u.course.rest one.by))
+            (ap (λ l. one.arrival.event ∷ l) asked)));
         rest = b.rest ∙ (ap (later_than clock) one.rest ∙ later_one clock one.arrival u.course.rest one.by);
         no_slot = slots_more b.fed (last ∷ []) ∙ omega (arith, b.no_slot, no_slot_of one.arrival.event one.reply one.arrives);
         no_stop = stop_more b.fed (last ∷ []) b.no_stop ∙ no_stop_of one.arrival.event one.reply one.arrives;
@@ -204,7 +223,8 @@ module _ (never : Bool) (clock : ℕ) where
   brings_all s t b none = record {
     fed = b.fed;
     asks = b.asks;
-    asked = subst (AreAsked (due_by clock s.course.rest)) (append-nil b.fed) (b.asked [] (ap (map (λ (a : Arrival). a.event)) (sym none.0)));
+    asked = subst (AreAsked (due_by clock s.course.rest)) (append-nil b.fed)
+        (b.asked [] (ap (map (λ (a : Arrival). a.event)) (sym none.0)));
     rest = sym (b.rest ∙ none.1);
     no_slot = b.no_slot;
     no_stop = b.no_stop;

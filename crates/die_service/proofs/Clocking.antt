@@ -1,5 +1,6 @@
 -- Slots by their clock, and what a die is at when its run ends.
-use Rattle.std.proofs.Common.{◌≡◌, ℕ, zero, suc, ◌+◌, ◌-◌, ◌<◌, Bool, List, [], ◌∷◌, ◌++◌, Some, None, Ok, Err, inl, inr, refl, ap, sym, ◌∙◌, subst, arith, append_assoc}
+use Rattle.std.proofs.Common.{◌≡◌, ℕ, zero, suc, ◌+◌, ◌-◌, ◌<◌, Bool, List, [], ◌∷◌, ◌++◌, Some, None, Ok, Err, inl, inr, refl, ap, sym}
+use Rattle.std.proofs.Common.{◌∙◌, subst, arith, append_assoc}
 use Rattle.slot_types.specs.declared.events.Event.TheVariants as events
 use Rattle.slot_types.specs.declared.replies.Reply.TheVariants as replies
 use Rattle.die_service.specs.declared.feeds.Arrival.{Arrival}
@@ -30,11 +31,13 @@ pub record IsOver (never : Bool) (slots : ℕ) (s t : Standing) : Type 0 where
   pub whole : stop_of saids ≡ None → slots_in saids ≡ slots
 
 module _ (never : Bool) (slots : ℕ) where
-  pub starts : (s t : Standing) → Asks never s.pass s.course [] t.pass t.course → t.course ≡ s.course → t.slots ≡ 0 → t.stop ≡ None → IsOnTime never slots 0 0 s t
+  pub starts : (s t : Standing) → Asks never s.pass s.course [] t.pass t.course → t.course ≡ s.course → t.slots ≡ 0 → t.stop ≡ None
+      → IsOnTime never slots 0 0 s t
   starts s t asks same none running = record {
     saids = [];
     asks = asks;
-    order = λ more order. subst (λ (c : Course). InClockOrder slots 0 c.rest more) same (subst (λ (n : ℕ). InClockOrder n 0 t.course.rest more) minus order);
+    order = λ more order. subst (λ (c : Course). InClockOrder slots 0 c.rest more) same
+        (subst (λ (n : ℕ). InClockOrder n 0 t.course.rest more) minus order);
     counted = refl;
     no_stop = refl;
     slots_are = none;
@@ -45,7 +48,8 @@ module _ (never : Bool) (slots : ℕ) where
       minus = omega arith
 
   -- a slot more
-  pub goes_on : (done clock next : ℕ) (slot : ℕ) (s t u w : Standing) → done < slots → IsOnTime never slots done clock s t → Brings never clock t u → TakesSlot never u slot w → next ≡ slot + 1 → IsOnTime never slots (done + 1) next s w
+  pub goes_on : (done clock next : ℕ) (slot : ℕ) (s t u w : Standing) → done < slots → IsOnTime never slots done clock s t
+      → Brings never clock t u → TakesSlot never u slot w → next ≡ slot + 1 → IsOnTime never slots (done + 1) next s w
   goes_on done clock next slot s t u w below i b k is =
       let last = said events.Slot (Ok (replies.Slot k.reply)) in
       let front = i.saids ++ b.fed in
@@ -54,7 +58,8 @@ module _ (never : Bool) (slots : ℕ) where
         saids = front ++ last ∷ [];
         asks = asks_joins never s.pass u.pass w.pass s.course u.course w.course front (last ∷ [])
             (asks_joins never s.pass t.pass u.pass s.course t.course u.course i.saids b.fed i.asks b.asks) k.asks;
-        order = λ more order. subst (InClockOrder slots 0 s.course.rest) (sym (append_assoc front (last ∷ []) more ∙ append_assoc i.saids b.fed (last ∷ more)))
+        order = λ more order. subst (InClockOrder slots 0 s.course.rest)
+            (sym (append_assoc front (last ∷ []) more ∙ append_assoc i.saids b.fed (last ∷ more)))
             (i.order (b.fed ++ last ∷ more) (subst (λ (n : ℕ). InClockOrder n clock t.course.rest (b.fed ++ last ∷ more)) (sym one_left) (
               b.fed,
               last ∷ more,
@@ -75,13 +80,16 @@ module _ (never : Bool) (slots : ℕ) where
       }
 
   -- a slot was refused
-  pub gives_up : (done clock : ℕ) (s t u w : Standing) → done < slots → IsOnTime never slots done clock s t → Brings never clock t u → IsStopped never u w → IsOver never slots s w
+  pub gives_up : (done clock : ℕ) (s t u w : Standing) → done < slots → IsOnTime never slots done clock s t → Brings never clock t u
+      → IsStopped never u w → IsOver never slots s w
   gives_up done clock s t u w below i b k =
       let last = said events.Slot (Err k.refused) in
       let front = i.saids ++ b.fed in
       let one_left : slots - done ≡ suc (slots - (done + 1)) = omega (arith, below) in
-      let stop_is : stop_of (front ++ last ∷ []) ≡ Some k.refused = stop_more front (last ∷ []) (stop_more i.saids b.fed i.no_stop ∙ b.no_stop) in
-      let count : slots_in (front ++ last ∷ []) ≡ done = slots_more front (last ∷ []) ∙ omega (arith, slots_more i.saids b.fed, i.counted, b.no_slot) in record {
+      let stop_is : stop_of (front ++ last ∷ []) ≡ Some k.refused = stop_more front (last ∷ []) (stop_more i.saids b.fed i.no_stop
+      ∙ b.no_stop) in
+      let count : slots_in (front ++ last ∷ []) ≡ done = slots_more front (last ∷ [])
+      ∙ omega (arith, slots_more i.saids b.fed, i.counted, b.no_slot) in record {
         saids = front ++ last ∷ [];
         asks = asks_joins never s.pass u.pass w.pass s.course u.course w.course front (last ∷ [])
             (asks_joins never s.pass t.pass u.pass s.course t.course u.course i.saids b.fed i.asks b.asks) k.asks;
@@ -97,7 +105,8 @@ module _ (never : Bool) (slots : ℕ) where
       some_none r e = cc
 
   -- all slots were carried out
-  pub ends : (done clock : ℕ) (s t u : Standing) → slots ≡ done → IsOnTime never slots done clock s t → Brings never clock t u → IsOver never slots s u
+  pub ends : (done clock : ℕ) (s t u : Standing) → slots ≡ done → IsOnTime never slots done clock s t → Brings never clock t u
+      → IsOver never slots s u
   ends done clock s t u all i b =
       let none_left : slots - done ≡ zero = omega (arith, all) in
       let count : slots_in (i.saids ++ b.fed) ≡ done = slots_more i.saids b.fed ∙ omega (arith, i.counted, b.no_slot) in record {
@@ -113,7 +122,8 @@ module _ (never : Bool) (slots : ℕ) where
   drives s t live first o =
       let place : s.course.place ≡ 0 = ap (λ x. x.course.place) first in
       let none : s.course.refused ≡ [] = ap (λ x. x.course.refused) first in
-      let noted : t.course.refused ≡ refused_from 0 o.saids = o.asks.refused ∙ (ap (λ l. l ++ refused_from s.course.place o.saids) none ∙ ap (λ n. refused_from n o.saids) place) in (
+      let noted : t.course.refused ≡ refused_from 0 o.saids = o.asks.refused
+      ∙ (ap (λ l. l ++ refused_from s.course.place o.saids) none ∙ ap (λ n. refused_from n o.saids) place) in (
         o.asks.same,
         record {
           saids = o.saids;

@@ -1,5 +1,6 @@
 -- What a pass knows once calls were made, and what was noted of them.
-use Rattle.std.proofs.Common.{◌≡◌, ℕ, ◌+◌, ◌<◌, ◌≤◌, ◌⊎◌, inl, inr, Bool, List, [], ◌∷◌, ◌++◌, length, take, Some, None, Result, Ok, Err, refl, ap, sym, ◌∙◌, subst, arith, append_assoc, length-append}
+use Rattle.std.proofs.Common.{◌≡◌, ℕ, ◌+◌, ◌<◌, ◌≤◌, ◌⊎◌, inl, inr, Bool, List, [], ◌∷◌, ◌++◌, length, take, Some, None, Result, Ok, Err}
+use Rattle.std.proofs.Common.{refl, ap, sym, ◌∙◌, subst, arith, append_assoc, length-append}
 use Rattle.std.proofs.lemmas.List.{append-nil, take-append-le, take_all}
 use Rattle.slot_types.specs.declared.plans.DiePlan.{DiePlan}
 use Rattle.slot_types.specs.declared.events.Event.{Event}
@@ -11,7 +12,8 @@ use Rattle.die_service.specs.declared.refused.RefusedAt.{RefusedAt}
 use Rattle.die_service.specs.Logs.{Call, log_of}
 use Rattle.die_service.specs.Passes.{DieView, HasGrown, AddsEntry, AddsNone}
 use Rattle.die_service.specs.Replies.{MayRefuse}
-use Rattle.die_service.specs.Runs.{Said, said, accepted_by, slots_in, slot_counted, place_behind, noted, refused_from, stop_or, stop_of, IsReasoned}
+use Rattle.die_service.specs.Runs.{Said, said, accepted_by, slots_in, slot_counted, place_behind, noted, refused_from, stop_or, stop_of}
+use Rattle.die_service.specs.Runs.{IsReasoned}
 use Rattle.die_service.specs.Stores.{DiePass}
 use Rattle.die_service.specs.Drives.{Course, place_after, Far, Asks, IsFit}
 use Rattle.die_service.proofs.LastPasses.{same_plan}
@@ -46,7 +48,8 @@ module _ {A : Type 0} where
       same = head_is x b (xs ++ ys) (before ++ s ∷ after) is
 
       further : ((more : List A) × (xs ≡ before ++ s ∷ more)) ⊎ ((more : List A) × (before ≡ xs ++ more) × (ys ≡ more ++ s ∷ after))
-          → ((more : List A) × (x ∷ xs ≡ b ∷ before ++ s ∷ more)) ⊎ ((more : List A) × (b ∷ before ≡ (x ∷ xs) ++ more) × (ys ≡ more ++ s ∷ after))
+          → ((more : List A) × (x ∷ xs ≡ b ∷ before ++ s ∷ more))
+          ⊎ ((more : List A) × (b ∷ before ≡ (x ∷ xs) ++ more) × (ys ≡ more ++ s ∷ after))
       further (inl h) = inl (h.0, rw (same, h.1) refl)
       further (inr h) = inr (h.0, rw (same, h.1) refl, h.2)
 
@@ -57,7 +60,8 @@ accepted_more n [] ys = refl
 accepted_more n (x ∷ xs) ys = one x.reply (accepted_more n xs ys)
   where
     one : (r : Result Reply RefusedAt) → accepted_by n (xs ++ ys) ≡ accepted_by n xs ++ accepted_by n ys
-        → accepted_by n (record { event = x.event; reply = r } ∷ xs ++ ys) ≡ accepted_by n (record { event = x.event; reply = r } ∷ xs) ++ accepted_by n ys
+        → accepted_by n (record { event = x.event; reply = r } ∷ xs ++ ys) ≡ accepted_by n (record { event = x.event; reply = r } ∷ xs)
+        ++ accepted_by n ys
     one (Ok reply) more = ap (λ rest. entry n x.event (Ok reply) ∷ rest) more
     one (Err refused) more = more
 
@@ -65,7 +69,8 @@ pub slots_more : (xs ys : List Said) → slots_in (xs ++ ys) ≡ slots_in xs + s
 slots_more [] ys = omega arith
 slots_more (x ∷ xs) ys = ap (slot_counted x.event x.reply) (slots_more xs ys) ∙ one x.event x.reply
   where
-    one : (e : Event) (r : Result Reply RefusedAt) → slot_counted e r (slots_in xs + slots_in ys) ≡ slot_counted e r (slots_in xs) + slots_in ys
+    one : (e : Event) (r : Result Reply RefusedAt) → slot_counted e r (slots_in xs + slots_in ys)
+        ≡ slot_counted e r (slots_in xs) + slots_in ys
     one events.Slot (Ok reply) = omega arith
     one events.Slot (Err refused) = refl
     one (events.Submit task release due ops) r = refl
@@ -78,7 +83,8 @@ stop_more (x ∷ xs) ys none = one x.event x.reply (stop_more xs ys) none
     some_none : (r : RefusedAt) → Some r ≡ None → ⊥
     some_none r e = cc
 
-    one : (e : Event) (r : Result Reply RefusedAt) → (stop_of xs ≡ None → stop_of (xs ++ ys) ≡ stop_of ys) → stop_or e r (stop_of xs) ≡ None → stop_or e r (stop_of (xs ++ ys)) ≡ stop_of ys
+    one : (e : Event) (r : Result Reply RefusedAt) → (stop_of xs ≡ None → stop_of (xs ++ ys) ≡ stop_of ys) → stop_or e r (stop_of xs) ≡ None
+        → stop_or e r (stop_of (xs ++ ys)) ≡ stop_of ys
     one events.Slot (Ok reply) more h = more h
     one events.Slot (Err refused) more h = absurd (some_none refused h)
     one (events.Submit task release due ops) r more h = more h
@@ -88,7 +94,8 @@ pub place_more : (place : ℕ) (xs ys : List Said) → place_after place (xs ++ 
 place_more place [] ys = refl
 place_more place (x ∷ xs) ys = place_more (place_behind x.event place) xs ys
 
-pub refused_more : (place : ℕ) (xs ys : List Said) → refused_from place (xs ++ ys) ≡ refused_from place xs ++ refused_from (place_after place xs) ys
+pub refused_more : (place : ℕ) (xs ys : List Said) → refused_from place (xs ++ ys) ≡ refused_from place xs
+    ++ refused_from (place_after place xs) ys
 refused_more place [] ys = refl
 refused_more place (x ∷ xs) ys = ap (noted place x.event x.reply) (refused_more (place_behind x.event place) xs ys) ∙ one x.event x.reply
   where
@@ -106,9 +113,11 @@ refused_more place (x ∷ xs) ys = ap (noted place x.event x.reply) (refused_mor
     one (events.Collect task release due) (Err refused) = refl
 
 -- the accepted calls behind others
-own_more : (n : ℕ) (a b c : List Call) (xs ys : List Said) → a ≡ b ++ accepted_by n ys → b ≡ c ++ accepted_by n xs → a ≡ c ++ accepted_by n (xs ++ ys)
+own_more : (n : ℕ) (a b c : List Call) (xs ys : List Said) → a ≡ b ++ accepted_by n ys → b ≡ c ++ accepted_by n xs → a ≡ c
+    ++ accepted_by n (xs ++ ys)
 own_more n a b c xs ys second first =
-    second ∙ (ap (λ l. l ++ accepted_by n ys) first ∙ (append_assoc c (accepted_by n xs) (accepted_by n ys) ∙ ap (λ l. c ++ l) (sym (accepted_more n xs ys))))
+    second ∙ (ap (λ l. l ++ accepted_by n ys) first ∙ (append_assoc c (accepted_by n xs) (accepted_by n ys)
+    ∙ ap (λ l. c ++ l) (sym (accepted_more n xs ys))))
 
 module _ (never : Bool) (plan : DiePlan) where
   -- a reason stands when more was seen
@@ -117,7 +126,8 @@ module _ (never : Bool) (plan : DiePlan) where
   reasoned_later v w x before event refused starts r =
       let within : refused.entries ≤ length w.seen = r.within in
       let longer = length-append w.seen starts.0 in
-      let same : take refused.entries x.seen ≡ take refused.entries w.seen = ap (take refused.entries) starts.1 ∙ take-append-le refused.entries w.seen starts.0 within in record {
+      let same : take refused.entries x.seen ≡ take refused.entries w.seen = ap (take refused.entries) starts.1
+      ∙ take-append-le refused.entries w.seen starts.0 within in record {
         within = omega (arith, within, longer, ap length starts.1);
         reason = subst (λ (l : List Call). MayRefuse never plan (log_of l) event refused.refusal) (sym same) r.reason;
         own = ap (calls_by v.number) same ∙ r.own;
@@ -130,16 +140,19 @@ module _ (never : Bool) (plan : DiePlan) where
   reasoned_behind v w x xs more event refused same own r = record {
     within = r.within;
     reason = r.reason;
-    own = own_more v.number _ _ _ xs more (subst (λ (n : ℕ). calls_by n (take refused.entries x.seen) ≡ calls_by n w.seen ++ accepted_by n more) same r.own) own;
+    own = own_more v.number _ _ _ xs more (subst (λ (n : ℕ). calls_by n (take refused.entries x.seen) ≡ calls_by n w.seen
+        ++ accepted_by n more) same r.own) own;
   }
 
-  pub far_joins : (v w x : DieView) (xs ys : List Said) → w.number ≡ v.number → w.joined ≡ v.joined → Far never plan v xs w → Far never plan w ys x → Far never plan v (xs ++ ys) x
+  pub far_joins : (v w x : DieView) (xs ys : List Said) → w.number ≡ v.number → w.joined ≡ v.joined → Far never plan v xs w
+      → Far never plan w ys x → Far never plan v (xs ++ ys) x
   far_joins v w x xs ys same joined f g = record {
     about_is = f.about_is;
     starts = (f.starts.0 ++ g.starts.0, g.starts.1 ∙ (ap (λ l. l ++ g.starts.0) f.starts.1 ∙ append_assoc v.seen f.starts.0 g.starts.0));
     exact = g.exact;
     joined = λ live p mine other.
-        g.joined (f.live ∙ live) p (subst (λ (l : List ℕ). 0 < times p l) (sym joined) mine) (λ e. other (e ∙ same)) ∙ f.joined live p mine other;
+        g.joined (f.live ∙ live) p (subst (λ (l : List ℕ). 0 < times p l) (sym joined) mine) (λ e. other (e ∙ same))
+        ∙ f.joined live p mine other;
     live = g.live ∙ f.live;
     later = omega (arith, f.later, g.later);
     sole = λ h. g.sole (f.sole h);
@@ -148,7 +161,8 @@ module _ (never : Bool) (plan : DiePlan) where
   }
     where
       by : (before after : List Said) (event : Event) (refused : RefusedAt)
-          → ((more : List Said) × (xs ≡ before ++ said event (Err refused) ∷ more)) ⊎ ((more : List Said) × (before ≡ xs ++ more) × (ys ≡ more ++ said event (Err refused) ∷ after))
+          → ((more : List Said) × (xs ≡ before ++ said event (Err refused) ∷ more))
+          ⊎ ((more : List Said) × (before ≡ xs ++ more) × (ys ≡ more ++ said event (Err refused) ∷ after))
           → IsReasoned never plan v before event refused x
       by before after event refused (inl h) = reasoned_later v w x before event refused g.starts (f.refused before h.0 event refused h.1)
       by before after event refused (inr h) = subst (λ (l : List Said). IsReasoned never plan v l event refused x) (sym h.1)
@@ -156,7 +170,8 @@ module _ (never : Bool) (plan : DiePlan) where
 
 -- One call
 
-pub far_looks : (never : Bool) (v w : DieView) (g : HasGrown v w) → calls_by v.number w.seen ≡ calls_by v.number v.seen → Far never g.topic v [] w
+pub far_looks : (never : Bool) (v w : DieView) (g : HasGrown v w) → calls_by v.number w.seen ≡ calls_by v.number v.seen
+    → Far never g.topic v [] w
 far_looks never v w g own = record {
   about_is = g.about_is;
   starts = (g.more, ap (λ u. u.seen) g.view_is);
@@ -175,12 +190,14 @@ no_error event other reply refused is = ok_err (ap (λ s. s.reply) is)
     ok_err : ◌≡◌ {A = Result Reply RefusedAt} (Ok reply) (Err refused) → ⊥
     ok_err e = cc
 
-pub far_accepts : (never : Bool) (v w : DieView) (event : Event) (reply : Reply) (a : AddsEntry v event reply w) → Far never a.grown.topic v (said event (Ok reply) ∷ []) w
+pub far_accepts : (never : Bool) (v w : DieView) (event : Event) (reply : Reply) (a : AddsEntry v event reply w)
+    → Far never a.grown.topic v (said event (Ok reply) ∷ []) w
 far_accepts never v w event reply a = record {
   about_is = a.grown.about_is;
   starts = (
     a.grown.more ++ entry v.number event (Ok reply) ∷ [],
-    ap (λ u. u.seen) a.view_is ∙ (ap (λ u. u.seen ++ entry v.number event (Ok reply) ∷ []) a.grown.view_is ∙ append_assoc v.seen a.grown.more (entry v.number event (Ok reply) ∷ [])),
+    ap (λ u. u.seen) a.view_is ∙ (ap (λ u. u.seen ++ entry v.number event (Ok reply) ∷ []) a.grown.view_is
+        ∙ append_assoc v.seen a.grown.more (entry v.number event (Ok reply) ∷ [])),
   );
   exact = a.exact;
   joined = λ live p mine other. added_joined v p live mine other event reply w a;
@@ -188,10 +205,12 @@ far_accepts never v w event reply a = record {
   later = subst (λ (n : ℕ). v.made ≤ n) (sym (ap (λ u. u.made) a.view_is)) (made_later v a.before a.grown);
   sole = λ h. ap (λ u. u.sole) a.view_is ∙ (ap (λ u. u.sole) a.grown.view_is ∙ a.grown.stays_sole h);
   own = a.own;
-  refused = λ before after other refused is. absurd (no_error event other reply refused (alone (said event (Ok reply)) (said other (Err refused)) before after is).1);
+  refused = λ before after other refused is. absurd (no_error event other reply refused
+      (alone (said event (Ok reply)) (said other (Err refused)) before after is).1);
 }
 
-pub far_refuses : (never : Bool) (v w : DieView) (event : Event) (refused : RefusedAt) (a : AddsNone never v event refused w) → Far never a.grown.topic v (said event (Err refused) ∷ []) w
+pub far_refuses : (never : Bool) (v w : DieView) (event : Event) (refused : RefusedAt) (a : AddsNone never v event refused w)
+    → Far never a.grown.topic v (said event (Err refused) ∷ []) w
 far_refuses never v w event refused a = record {
   about_is = a.grown.about_is;
   starts = (a.grown.more, ap (λ u. u.seen) a.grown.view_is);
@@ -217,21 +236,25 @@ far_refuses never v w event refused a = record {
     err_is : (x y : RefusedAt) → ◌≡◌ {A = Result Reply RefusedAt} (Err x) (Err y) → x ≡ y
     err_is x y e = cc
 
-    reason : (before : List Said) (other : Event) (by : RefusedAt) → (before ≡ []) × (said event (Err refused) ≡ said other (Err by)) → IsReasoned never a.grown.topic v before other by w
+    reason : (before : List Said) (other : Event) (by : RefusedAt) → (before ≡ []) × (said event (Err refused) ≡ said other (Err by))
+        → IsReasoned never a.grown.topic v before other by w
     reason before other by h = subst (λ (l : List Said). IsReasoned never a.grown.topic v l other by w) (sym h.0)
         (subst (λ (e : Event). IsReasoned never a.grown.topic v [] e by w) (ap (λ s. s.event) h.1)
         (subst (λ (r : RefusedAt). IsReasoned never a.grown.topic v [] event r w) (err_is refused by (ap (λ s. s.reply) h.1)) here))
 
 -- And what was noted
 
-pub asks_joins : (never : Bool) (p q r : DiePass) (c d e : Course) (xs ys : List Said) → Asks never p c xs q d → Asks never q d ys r e → Asks never p c (xs ++ ys) r e
+pub asks_joins : (never : Bool) (p q r : DiePass) (c d e : Course) (xs ys : List Said) → Asks never p c xs q d → Asks never q d ys r e
+    → Asks never p c (xs ++ ys) r e
 asks_joins never p q r c d e xs ys a b =
     let plan_is : b.plan ≡ a.plan = same_plan b.plan a.plan (sym b.far.about_is ∙ (a.same.3 ∙ a.far.about_is)) in record {
       same = (b.same.0 ∙ a.same.0, b.same.1 ∙ a.same.1, b.same.2 ∙ a.same.2, b.same.3 ∙ a.same.3);
       plan = a.plan;
-      far = far_joins never a.plan p.view q.view r.view xs ys a.same.1 a.same.2 a.far (subst (λ (plan : DiePlan). Far never plan q.view ys r.view) plan_is b.far);
+      far = far_joins never a.plan p.view q.view r.view xs ys a.same.1 a.same.2 a.far
+          (subst (λ (plan : DiePlan). Far never plan q.view ys r.view) plan_is b.far);
       place = b.place ∙ (ap (λ n. place_after n ys) a.place ∙ sym (place_more c.place xs ys));
-      refused = b.refused ∙ (ap (λ l. l ++ refused_from d.place ys) a.refused ∙ (append_assoc c.refused (refused_from c.place xs) (refused_from d.place ys)
+      refused = b.refused ∙ (ap (λ l. l ++ refused_from d.place ys) a.refused
+          ∙ (append_assoc c.refused (refused_from c.place xs) (refused_from d.place ys)
           ∙ ap (λ l. c.refused ++ l) (ap (λ n. refused_from c.place xs ++ refused_from n ys) a.place ∙ sym (refused_more c.place xs ys))));
     }
 

@@ -1,5 +1,6 @@
 -- Entries with a number that was joined into a pass are those that it had seen.
-use Rattle.std.proofs.Common.{◌≡◌, ◌≢◌, ℕ, ◌+◌, ◌<◌, ◌≤◌, Bool, true, List, [], ◌∷◌, ◌++◌, Result, Ok, cond, eqb, ne_eqb, refl, ap, sym, ◌∙◌, subst, arith}
+use Rattle.std.proofs.Common.{◌≡◌, ◌≢◌, ℕ, ◌+◌, ◌<◌, ◌≤◌, Bool, true, List, [], ◌∷◌, ◌++◌, Result, Ok, cond, eqb, ne_eqb, refl, ap, sym}
+use Rattle.std.proofs.Common.{◌∙◌, subst, arith}
 use Rattle.std.proofs.lemmas.List.{append-nil}
 use Rattle.slot_types.specs.declared.events.Event.{Event}
 use Rattle.slot_types.specs.declared.replies.Reply.{Reply}
@@ -20,7 +21,8 @@ made_later v w g = subst (λ (n : ℕ). v.made ≤ n) (sym (ap (λ (u : DieView)
 pub live_after : (v w : DieView) → IsLive v → w.live ≡ v.live → w.number ≡ v.number → w.joined ≡ v.joined → v.made ≤ w.made → IsLive w
 live_after v w live same number joined later = (
   same ∙ live.0,
-  λ p stands. let below = live.1 p (subst (λ (x : ℕ × List ℕ). 0 < times p (x.0 ∷ x.1)) (λ i. (number i, joined i)) stands) in omega (arith, below, later),
+  λ p stands. let below = live.1 p (subst (λ (x : ℕ × List ℕ). 0 < times p (x.0 ∷ x.1)) (λ i. (number i, joined i)) stands) in omega
+      (arith, below, later),
 )
 
 module _ (v : DieView) (p : ℕ) (live : v.live ≡ true) (mine : 0 < times p v.joined) (other : p ≢ v.number) where
@@ -33,7 +35,8 @@ module _ (v : DieView) (p : ℕ) (live : v.live ≡ true) (mine : 0 < times p v.
       ∙ (calls_append p v.seen g.more ∙ (ap (λ (l : List Call). calls_by p v.seen ++ l) none ∙ append-nil (calls_by p v.seen)))
 
   -- a call of the pass is of another number
-  not_own : (event : Event) (reply : Reply) → calls_by {E = Event} {R = Result Reply RefusedAt} p (entry v.number event (Ok reply) ∷ []) ≡ []
+  not_own : (event : Event) (reply : Reply) → calls_by {E = Event} {R = Result Reply RefusedAt} p (entry v.number event (Ok reply) ∷ [])
+      ≡ []
   not_own event reply = rw (ne_eqb v.number p (λ e. other (sym e))) refl
 
   pub added_joined : (event : Event) (reply : Reply) (w : DieView) → AddsEntry v event reply w → calls_by p w.seen ≡ calls_by p v.seen

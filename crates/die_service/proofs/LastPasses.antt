@@ -1,5 +1,6 @@
 -- Closing the dies of a store.
-use Rattle.std.proofs.Common.{◌≡◌, ◌≤◌, ◌+◌, ℕ, suc, inl, inr, Bool, true, false, List, [], ◌∷◌, ◌++◌, length, map, take, drop, Some, refl, ap, sym, subst, ◌∙◌, arith}
+use Rattle.std.proofs.Common.{◌≡◌, ◌≤◌, ◌+◌, ℕ, suc, inl, inr, Bool, true, false, List, [], ◌∷◌, ◌++◌, length, map, take, drop, Some, refl}
+use Rattle.std.proofs.Common.{ap, sym, subst, ◌∙◌, arith}
 use Rattle.std.proofs.lemmas.List.{append-nil}
 use Rattle.std.specs.List.{AllByRecursion, AllZip}
 use Rattle.slot_types.specs.declared.plans.DiePlan.{DiePlan}
@@ -19,7 +20,8 @@ told_length (p ∷ ps) out [] told = absurd told
 told_length (p ∷ ps) out (q ∷ qs) (inl told) = ap suc (told_length ps out qs told.1)
 told_length (p ∷ ps) out (q ∷ qs) (inr told) = ap suc (ap length told.2)
 
-pub told_locks : (ps : List DiePass) (out : ℕ) (qs : List DiePass) → AreTold ps out qs → map (λ (p : DiePass). p.lock) qs ≡ map (λ (p : DiePass). p.lock) ps
+pub told_locks : (ps : List DiePass) (out : ℕ) (qs : List DiePass) → AreTold ps out qs → map (λ (p : DiePass). p.lock) qs
+    ≡ map (λ (p : DiePass). p.lock) ps
 told_locks [] out [] told = refl
 told_locks [] out (q ∷ qs) told = absurd told
 told_locks (p ∷ ps) out [] told = absurd told
@@ -34,7 +36,8 @@ told_sole (p ∷ ps) (q ∷ qs) (inl told) = (told.0.1.2 refl, told_sole ps qs t
 told_sole (p ∷ ps) (q ∷ qs) (inr told) = absurd (omega (arith, told.0))
 
 -- where each pass knew that no other is left, none is out
-pub sole_none_out : (ps : List DiePass) (out : ℕ) (qs : List DiePass) → AreTold ps out qs → AllByRecursion (λ (p : DiePass). p.view.sole ≡ true) ps → out ≡ 0
+pub sole_none_out : (ps : List DiePass) (out : ℕ) (qs : List DiePass) → AreTold ps out qs
+    → AllByRecursion (λ (p : DiePass). p.view.sole ≡ true) ps → out ≡ 0
 sole_none_out [] out [] told sole = told
 sole_none_out [] out (q ∷ qs) told sole = absurd told
 sole_none_out (p ∷ ps) out [] told sole = absurd told
@@ -74,7 +77,8 @@ module _ {N : Type 0} (never : Bool) where
       later : p.view.made ≤ q.view.made
       later = subst (λ (n : ℕ). p.view.made ≤ n) (sym (ap (λ (v : DieView). v.made) told.1.0.view_is)) told.1.0.later
 
-  pub closed_each : (ps qs : List DiePass) (dies : List (Core N)) → AreTold ps 0 qs → AllZip (HasLogOf never) qs dies → AllZip IsClosed ps dies
+  pub closed_each : (ps qs : List DiePass) (dies : List (Core N)) → AreTold ps 0 qs → AllZip (HasLogOf never) qs dies
+      → AllZip IsClosed ps dies
   closed_each [] [] [] told has = tt
   closed_each [] [] (die ∷ dies) told has = has
   closed_each [] (q ∷ qs) dies told has = absurd told
@@ -83,20 +87,23 @@ module _ {N : Type 0} (never : Bool) where
   closed_each (p ∷ ps) (q ∷ qs) (die ∷ dies) (inl told) has = (closed_after p q die told.0 has.0, closed_each ps qs dies told.1 has.1)
   closed_each (p ∷ ps) (q ∷ qs) (die ∷ dies) (inr told) has = absurd (omega (arith, told.0))
 
-  pub one_closed : (qs : List DiePass) (dies : List (Core N)) (q : DiePass) (die : Core N) → AllZip (HasLogOf never) qs dies → HasLogOf never q die → AllZip (HasLogOf never) (qs ++ q ∷ []) (dies ++ die ∷ [])
+  pub one_closed : (qs : List DiePass) (dies : List (Core N)) (q : DiePass) (die : Core N) → AllZip (HasLogOf never) qs dies
+      → HasLogOf never q die → AllZip (HasLogOf never) (qs ++ q ∷ []) (dies ++ die ∷ [])
   one_closed [] [] q die has last = (last, tt)
   one_closed [] (d ∷ dies) q die has last = absurd has
   one_closed (p ∷ qs) [] q die has last = absurd has
   one_closed (p ∷ qs) (d ∷ dies) q die has last = (has.0, one_closed qs dies q die has.1 last)
 
   -- where no device fails, no die is stopped
-  pub none_stopped : (qs : List DiePass) (dies : List (Core N)) → never ≡ true → AllZip (HasLogOf never) qs dies → AllByRecursion (λ (die : Core N). die.stopped ≡ false) dies
+  pub none_stopped : (qs : List DiePass) (dies : List (Core N)) → never ≡ true → AllZip (HasLogOf never) qs dies
+      → AllByRecursion (λ (die : Core N). die.stopped ≡ false) dies
   none_stopped [] [] well has = tt
   none_stopped [] (d ∷ dies) well has = absurd has
   none_stopped (q ∷ qs) [] well has = absurd has
   none_stopped (q ∷ qs) (d ∷ dies) well has = (has.0.runs well, none_stopped qs dies well has.1)
 
-pub next_own : {A : Type 0} {B : Type 0} (f : A → B) (all rest : List A) (dies later : List B) (p : A) (die : B) → map f all ≡ dies → all ≡ p ∷ rest → dies ≡ die ∷ later → map f rest ≡ later
+pub next_own : {A : Type 0} {B : Type 0} (f : A → B) (all rest : List A) (dies later : List B) (p : A) (die : B) → map f all ≡ dies → all
+    ≡ p ∷ rest → dies ≡ die ∷ later → map f rest ≡ later
 next_own f all rest dies later p die own at is = tail (f p) die (map f rest) later (sym (ap (map f) at) ∙ (own ∙ is))
   where
     tail : {B : Type 0} (x y : B) (xs ys : List B) → x ∷ xs ≡ y ∷ ys → xs ≡ ys

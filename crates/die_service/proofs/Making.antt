@@ -18,7 +18,8 @@ module _ {N : Type 0} (shape_of : N → Shape) (blocks : N → List Block) (fail
     pub fits : shape_of nand ≡ plan.shape
     pub bound : MeetsBound plan
 
-  ready_by : (plans : List DiePlan) (nands : List N) → length nands ≡ length plans → AllByRecursion (λ nand. IsFresh (shape_of nand) (blocks nand) (failures nand)) nands
+  ready_by : (plans : List DiePlan) (nands : List N) → length nands ≡ length plans
+      → AllByRecursion (λ nand. IsFresh (shape_of nand) (blocks nand) (failures nand)) nands
       → Fit plans (map shape_of nands) → AllByRecursion MeetsBound plans → AllZip IsReady plans nands
   ready_by [] [] same fresh fit bound = tt
   ready_by [] (nand ∷ nands) same fresh fit bound = absurd (omega (arith, same))
@@ -26,10 +27,12 @@ module _ {N : Type 0} (shape_of : N → Shape) (blocks : N → List Block) (fail
   ready_by (plan ∷ plans) (nand ∷ nands) same fresh fit bound =
       (record { fresh = fresh.0; fits = fit.0; bound = bound.0 }, ready_by plans nands (omega (arith, same)) fresh.1 fit.1 bound.1)
 
-  pub all_ready : (plans : List DiePlan) (nands : List N) → All (λ nand. IsFresh (shape_of nand) (blocks nand) (failures nand)) nands → Fit plans (map shape_of nands)
+  pub all_ready : (plans : List DiePlan) (nands : List N) → All (λ nand. IsFresh (shape_of nand) (blocks nand) (failures nand)) nands
+      → Fit plans (map shape_of nands)
       → IsServed plans (length nands) → AllZip IsReady plans nands
   all_ready plans nands fresh fit served =
-      ready_by plans nands served.one_each (recursion_from_All (λ nand. IsFresh (shape_of nand) (blocks nand) (failures nand)) nands fresh) fit (recursion_from_All MeetsBound plans served.bound)
+      ready_by plans nands served.one_each (recursion_from_All (λ nand. IsFresh (shape_of nand) (blocks nand) (failures nand)) nands fresh)
+      fit (recursion_from_All MeetsBound plans served.bound)
 
 -- First passes are live
 
@@ -43,7 +46,8 @@ below_one (suc p) stands = absurd (omega (arith, stands, only_zero p))
 first_is_live : (plan : DiePlan) (v : DieView) → v ≡ first_view plan → IsLive v
 first_is_live plan v is = subst (λ (u : DieView). IsLive u) (sym is) (refl, below_one)
 
-pub first_live : (ps : List DiePass) (plans : List DiePlan) → map (λ (p : DiePass). p.view) ps ≡ map first_view plans → AllByRecursion (λ (p : DiePass). IsLive p.view) ps
+pub first_live : (ps : List DiePass) (plans : List DiePlan) → map (λ (p : DiePass). p.view) ps ≡ map first_view plans
+    → AllByRecursion (λ (p : DiePass). IsLive p.view) ps
 first_live [] plans is = tt
 first_live (p ∷ ps) [] is = absurd (omega (arith, ap length is))
 first_live (p ∷ ps) (plan ∷ plans) is =

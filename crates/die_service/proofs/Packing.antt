@@ -1,5 +1,6 @@
 -- Packed operations under writes that grow.
-use Rattle.std.proofs.Common.{◌≡◌, ℕ, zero, suc, ◌+◌, ◌<◌, ◌≤◌, List, [], ◌∷◌, ◌++◌, Some, refl, sym, ap, ◌∙◌, subst, arith, length, take, drop, map, slice_get, get_or, append_assoc, length-append}
+use Rattle.std.proofs.Common.{◌≡◌, ℕ, zero, suc, ◌+◌, ◌<◌, ◌≤◌, List, [], ◌∷◌, ◌++◌, Some, refl, sym, ap, ◌∙◌, subst, arith, length, take}
+use Rattle.std.proofs.Common.{drop, map, slice_get, get_or, append_assoc, length-append}
 use Rattle.std.specs.Prelude.{All}
 use Rattle.std.specs.List.{AllByRecursion}
 use Rattle.std.proofs.lemmas.List.{map-append, append-nil, length-drop}
@@ -21,17 +22,21 @@ get_or_end [] x = refl
 get_or_end (y ∷ xs) x = get_or_end xs x
 
 -- the write that came last
-pub new_write : (old new : List PageWrite) (write : PageWrite) (place : ℕ) → new ≡ old ++ write ∷ [] → place ≡ length old → unpacked new (packed.Write place) ≡ write_of write
-new_write old new write place is at = ap (λ l. write_of (get_or l place blank)) is ∙ ap (λ n. write_of (get_or (old ++ write ∷ []) n blank)) at ∙ ap write_of (get_or_end old write)
+pub new_write : (old new : List PageWrite) (write : PageWrite) (place : ℕ) → new ≡ old ++ write ∷ [] → place ≡ length old
+    → unpacked new (packed.Write place) ≡ write_of write
+new_write old new write place is at = ap (λ l. write_of (get_or l place blank)) is
+    ∙ ap (λ n. write_of (get_or (old ++ write ∷ []) n blank)) at ∙ ap write_of (get_or_end old write)
 
 one_stays : (writes more : List PageWrite) (p : PackedOp) → IsPacked (length writes) p → unpacked (writes ++ more) p ≡ unpacked writes p
 one_stays writes more (packed.Read page) is = refl
 one_stays writes more (packed.Trim page) is = refl
 one_stays writes more (packed.Write place) is = ap write_of (get_or_before writes more place is)
 
-all_stay : (writes more : List PageWrite) (list : List PackedOp) → AllByRecursion (IsPacked (length writes)) list → all_unpacked (writes ++ more) list ≡ all_unpacked writes list
+all_stay : (writes more : List PageWrite) (list : List PackedOp) → AllByRecursion (IsPacked (length writes)) list
+    → all_unpacked (writes ++ more) list ≡ all_unpacked writes list
 all_stay writes more [] are = refl
-all_stay writes more (p ∷ list) are = ap (λ op. op ∷ all_unpacked (writes ++ more) list) (one_stays writes more p are.0) ∙ ap (λ l. unpacked writes p ∷ l) (all_stay writes more list are.1)
+all_stay writes more (p ∷ list) are = ap (λ op. op ∷ all_unpacked (writes ++ more) list) (one_stays writes more p are.0)
+    ∙ ap (λ l. unpacked writes p ∷ l) (all_stay writes more list are.1)
 
 still_packed : (writes more : List PageWrite) (p : PackedOp) → IsPacked (length writes) p → IsPacked (length (writes ++ more)) p
 still_packed writes more (packed.Read page) is = tt
@@ -39,7 +44,8 @@ still_packed writes more (packed.Trim page) is = tt
 still_packed writes more (packed.Write place) is = omega (arith, is, length-append writes more)
 
 -- one operation more
-pub packed_more : (writes writes2 : List PageWrite) (list list2 : List PackedOp) (p : PackedOp) → GoesOn writes writes2 → list2 ≡ list ++ p ∷ [] → All (IsPacked (length writes)) list → IsPacked (length writes2) p
+pub packed_more : (writes writes2 : List PageWrite) (list list2 : List PackedOp) (p : PackedOp) → GoesOn writes writes2 → list2 ≡ list ++ p
+    ∷ [] → All (IsPacked (length writes)) list → IsPacked (length writes2) p
     → All (IsPacked (length writes2)) list2
 packed_more writes writes2 list list2 p on list_is are is =
     subst (All (IsPacked (length writes2))) (sym list_is)
@@ -53,12 +59,15 @@ take_next (y ∷ xs) (suc n) x at =
     let next : suc n + 1 ≡ suc (n + 1) = omega arith in
     ap (λ (k : ℕ). take k (y ∷ xs)) next ∙ ap (λ ys. y ∷ ys) (take_next xs n x at)
 
-pub unpacked_more : (old : List Op) (writes writes2 : List PageWrite) (list list2 : List PackedOp) (p : PackedOp) (ops : List Op) (n : ℕ) (op : Op) → GoesOn writes writes2 → list2 ≡ list ++ p ∷ []
-    → All (IsPacked (length writes)) list → unpacked writes2 p ≡ op → slice_get ops n ≡ Some op → all_unpacked writes list ≡ old ++ take n ops → all_unpacked writes2 list2 ≡ old ++ take (n + 1) ops
+pub unpacked_more : (old : List Op) (writes writes2 : List PageWrite) (list list2 : List PackedOp) (p : PackedOp) (ops : List Op) (n : ℕ)
+    (op : Op) → GoesOn writes writes2 → list2 ≡ list ++ p ∷ []
+    → All (IsPacked (length writes)) list → unpacked writes2 p ≡ op → slice_get ops n ≡ Some op → all_unpacked writes list ≡ old
+    ++ take n ops → all_unpacked writes2 list2 ≡ old ++ take (n + 1) ops
 unpacked_more old writes writes2 list list2 p ops n op on list_is are is at so_far =
     ap (all_unpacked writes2) list_is
     ∙ map-append (unpacked writes2) list (p ∷ [])
-    ∙ ap (λ l. l ++ unpacked writes2 p ∷ []) (ap (λ w. all_unpacked w list) on.1 ∙ all_stay writes on.0 list (recursion_from_All (IsPacked (length writes)) list are) ∙ so_far)
+    ∙ ap (λ l. l ++ unpacked writes2 p ∷ []) (ap (λ w. all_unpacked w list) on.1
+    ∙ all_stay writes on.0 list (recursion_from_All (IsPacked (length writes)) list are) ∙ so_far)
     ∙ ap (λ x. (old ++ take n ops) ++ x ∷ []) is
     ∙ append_assoc old (take n ops) (op ∷ [])
     ∙ ap (λ l. old ++ l) (sym (take_next ops n op at))
@@ -66,10 +75,12 @@ unpacked_more old writes writes2 list list2 p ops n op on list_is are is at so_f
 slice_get_drop : {A : Type 0} (xs : List A) (first n : ℕ) → slice_get (drop first xs) n ≡ slice_get xs (first + n)
 slice_get_drop xs zero n = ap (slice_get xs) (let same : n ≡ zero + n = omega arith in same)
 slice_get_drop [] (suc first) n = refl
-slice_get_drop (x ∷ xs) (suc first) n = slice_get_drop xs first n ∙ ap (slice_get (x ∷ xs)) (let same : suc (first + n) ≡ suc first + n = omega arith in same)
+slice_get_drop (x ∷ xs) (suc first) n = slice_get_drop xs first n
+    ∙ ap (slice_get (x ∷ xs)) (let same : suc (first + n) ≡ suc first + n = omega arith in same)
 
 -- one operation more that was copied
-pub copied_more : (old l l2 ops : List Op) (first n : ℕ) (op : Op) → l ≡ old ++ take n (drop first ops) → l2 ≡ l ++ op ∷ [] → slice_get ops (first + n) ≡ Some op → l2 ≡ old ++ take (n + 1) (drop first ops)
+pub copied_more : (old l l2 ops : List Op) (first n : ℕ) (op : Op) → l ≡ old ++ take n (drop first ops) → l2 ≡ l ++ op ∷ []
+    → slice_get ops (first + n) ≡ Some op → l2 ≡ old ++ take (n + 1) (drop first ops)
 copied_more old l l2 ops first n op so_far is at =
     is ∙ ap (λ k. k ++ op ∷ []) so_far ∙ append_assoc old (take n (drop first ops)) (op ∷ [])
     ∙ ap (λ k. old ++ k) (sym (take_next (drop first ops) n op (slice_get_drop ops first n ∙ at)))

@@ -1,5 +1,6 @@
 -- What a call in the die's turn tells its pass.
-use Rattle.std.proofs.Common.{◌≡◌, ℕ, Bool, List, [], ◌∷◌, ◌++◌, Result, Ok, Err, IfOk, IfErr, Option, Some, None, if◌then◌else◌, sym, ◌∙◌, subst}
+use Rattle.std.proofs.Common.{◌≡◌, ℕ, Bool, List, [], ◌∷◌, ◌++◌, Result, Ok, Err, IfOk, IfErr, Option, Some, None, if◌then◌else◌, sym, ◌∙◌}
+use Rattle.std.proofs.Common.{subst}
 use Rattle.std.proofs.lemmas.List.{append-nil}
 use Rattle.std.specs.Prelude.{is_ok}
 use Rattle.slot_types.specs.declared.plans.DiePlan.{DiePlan}
@@ -19,31 +20,53 @@ use Rattle.die_service.specs.Passes.{DieView, AddsEntry, AddsNone, IsTaken, IsSl
 
 -- what the lock says of a call
 abbrev Said : Bool → DieView → Event → Result Reply RefusedAt → DieView → Type 0
-Said never v event result w = Replies is_ok HasExactLog (λ plan calls caller event reply. MayReply never plan calls event reply) v event result w
+Said never v event result w = Replies is_ok HasExactLog (λ plan calls caller event reply. MayReply never plan calls event reply) v event
+    result w
 
 -- and of the pass's own calls
 abbrev Owns : DieView → Event → Result Reply RefusedAt → DieView → Type 0
-Owns v event result w = calls_by v.number w.seen ≡ calls_by v.number v.seen ++ (if is_ok result then entry v.number event result ∷ [] else [])
+Owns v event result w = calls_by v.number w.seen ≡ calls_by v.number v.seen
+    ++ (if is_ok result then entry v.number event result ∷ [] else [])
 
-pub added : (never : Bool) (v : DieView) (event : Event) (result : Result Reply RefusedAt) (w : DieView) → Said never v event result w → Owns v event result w → IfOk result (λ reply. AddsEntry v event reply w)
-added never v event (Ok reply) w said own = record { before = said.0; grown = said.1; view_is = said.2; answered = said.3.0; exact = said.4; own = own }
+pub added : (never : Bool) (v : DieView) (event : Event) (result : Result Reply RefusedAt) (w : DieView) → Said never v event result w
+    → Owns v event result w → IfOk result (λ reply. AddsEntry v event reply w)
+added never v event (Ok reply) w said own = record {
+  before = said.0;
+  grown = said.1;
+  view_is = said.2;
+  answered = said.3.0;
+  exact = said.4;
+  own = own;
+}
 added never v event (Err refused) w said own = tt
 
-pub left : (never : Bool) (v : DieView) (event : Event) (result : Result Reply RefusedAt) (w : DieView) → Said never v event result w → Owns v event result w → IfErr result (λ refused. AddsNone never v event refused w)
+pub left : (never : Bool) (v : DieView) (event : Event) (result : Result Reply RefusedAt) (w : DieView) → Said never v event result w
+    → Owns v event result w → IfErr result (λ refused. AddsNone never v event refused w)
 left never v event (Ok reply) w said own = tt
-left never v event (Err refused) w said own = record { grown = said.0; entries = said.1.0; reason = said.1.1; own = own ∙ append-nil (calls_by v.number v.seen) }
+left never v event (Err refused) w said own = record {
+  grown = said.0;
+  entries = said.1.0;
+  reason = said.1.1;
+  own = own
+      ∙ append-nil (calls_by v.number v.seen);
+}
 
 -- .. where no more than a note of the reply is kept
 
-pub noted_accepted : (never : Bool) (v : DieView) (event : Event) (result : Result ReplyNote RefusedAt) (w : DieView) → Said never v event (result_noted result) w → IfOk result (λ note. IsAccepted (noted note))
+pub noted_accepted : (never : Bool) (v : DieView) (event : Event) (result : Result ReplyNote RefusedAt) (w : DieView)
+    → Said never v event (result_noted result) w → IfOk result (λ note. IsAccepted (noted note))
 noted_accepted never v event (Ok note) w said = said.3.1
 noted_accepted never v event (Err refused) w said = tt
 
-pub noted_added : (never : Bool) (v : DieView) (event : Event) (result : Result ReplyNote RefusedAt) (w : DieView) → Said never v event (result_noted result) w → Owns v event (result_noted result) w → IfOk result (λ note. AddsEntry v event (noted note) w)
+pub noted_added : (never : Bool) (v : DieView) (event : Event) (result : Result ReplyNote RefusedAt) (w : DieView)
+    → Said never v event (result_noted result) w → Owns v event (result_noted result) w
+    → IfOk result (λ note. AddsEntry v event (noted note) w)
 noted_added never v event (Ok note) w said own = added never v event (Ok (noted note)) w said own
 noted_added never v event (Err refused) w said own = tt
 
-pub noted_left : (never : Bool) (v : DieView) (event : Event) (result : Result ReplyNote RefusedAt) (w : DieView) → Said never v event (result_noted result) w → Owns v event (result_noted result) w → IfErr result (λ refused. AddsNone never v event refused w)
+pub noted_left : (never : Bool) (v : DieView) (event : Event) (result : Result ReplyNote RefusedAt) (w : DieView)
+    → Said never v event (result_noted result) w → Owns v event (result_noted result) w
+    → IfErr result (λ refused. AddsNone never v event refused w)
 noted_left never v event (Ok note) w said own = tt
 noted_left never v event (Err refused) w said own = left never v event (Err refused) w said own
 
@@ -59,17 +82,22 @@ collected_where : (plan : DiePlan) (past : Log) (task release due : ℕ) (o : Op
 collected_where plan past task release due None reply is accepted = subst IsTaken is tt
 collected_where plan past task release due (Some refusal) reply is accepted = absurd (subst IsAccepted (sym is) accepted)
 
-slot_where : (plan : DiePlan) (past : Log) (o : Option Refusal) (reply : Reply) → answer_by plan past Slot o ≡ reply → IsAccepted reply → IsSlotReply reply
+slot_where : (plan : DiePlan) (past : Log) (o : Option Refusal) (reply : Reply) → answer_by plan past Slot o ≡ reply → IsAccepted reply
+    → IsSlotReply reply
 slot_where plan past None reply is accepted = subst IsSlotReply is tt
 slot_where plan past (Some refusal) reply is accepted = absurd (subst IsAccepted (sym is) accepted)
 
-pub submit_taken : (plan : DiePlan) (past : Log) (task release due : ℕ) (ops : List Op) (reply : Reply) → answer plan past (Submit task release due ops) ≡ reply → IsAccepted reply → IsTaken reply
+pub submit_taken : (plan : DiePlan) (past : Log) (task release due : ℕ) (ops : List Op) (reply : Reply)
+    → answer plan past (Submit task release due ops) ≡ reply → IsAccepted reply → IsTaken reply
 unfolding answer
-submit_taken plan past task release due ops reply is accepted = taken_where plan past task release due ops (refusal_of plan past (Submit task release due ops)) reply is accepted
+submit_taken plan past task release due ops reply is accepted = taken_where plan past task release due ops
+    (refusal_of plan past (Submit task release due ops)) reply is accepted
 
-pub collect_taken : (plan : DiePlan) (past : Log) (task release due : ℕ) (reply : Reply) → answer plan past (Collect task release due) ≡ reply → IsAccepted reply → IsTaken reply
+pub collect_taken : (plan : DiePlan) (past : Log) (task release due : ℕ) (reply : Reply) → answer plan past (Collect task release due)
+    ≡ reply → IsAccepted reply → IsTaken reply
 unfolding answer
-collect_taken plan past task release due reply is accepted = collected_where plan past task release due (refusal_of plan past (Collect task release due)) reply is accepted
+collect_taken plan past task release due reply is accepted = collected_where plan past task release due
+    (refusal_of plan past (Collect task release due)) reply is accepted
 
 pub slot_answered : (plan : DiePlan) (past : Log) (reply : Reply) → answer plan past Slot ≡ reply → IsAccepted reply → IsSlotReply reply
 unfolding answer

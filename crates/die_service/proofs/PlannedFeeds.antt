@@ -1,5 +1,6 @@
 -- A feed that keeps to its die's plan is not refused but for want of memory, and nothing is late.
-use Rattle.std.proofs.Common.{◌≡◌, ◌⊎◌, ℕ, zero, suc, ◌+◌, ◌<◌, ◌≤◌, Bool, true, false, cond, List, [], ◌∷◌, ◌++◌, map, Option, Some, None, Result, Ok, Err, refl, ap, sym, subst, ◌∙◌, append_assoc, inl, inr, arith, All}
+use Rattle.std.proofs.Common.{◌≡◌, ◌⊎◌, ℕ, zero, suc, ◌+◌, ◌<◌, ◌≤◌, Bool, true, false, cond, List, [], ◌∷◌, ◌++◌, map, Option, Some, None}
+use Rattle.std.proofs.Common.{Result, Ok, Err, refl, ap, sym, subst, ◌∙◌, append_assoc, inl, inr, arith, All}
 use Rattle.std.specs.Prelude.{IfSome}
 use Rattle.std.specs.List.{AllByRecursion, prefix_len}
 use Rattle.std.proofs.lemmas.List.{append-nil, map-append}
@@ -34,9 +35,11 @@ use Rattle.die_service.specs.declared.ends.DieEnd.{DieEnd}
 use Rattle.die_service.specs.declared.ends.RefusedEvent.{RefusedEvent}
 use Rattle.die_service.specs.declared.feeds.Arrival.{Arrival}
 use Rattle.die_service.specs.declared.refused.RefusedAt.{RefusedAt}
-use Rattle.die_service.specs.PlannedRuns.{events_in, events_from, events_of, KeepsItsPlan, RanAlone, IsForMemory, IsForMemoryOrFault, AreTakenUntilMemory, GoesAsPlanned}
+use Rattle.die_service.specs.PlannedRuns.{events_in, events_from, events_of, KeepsItsPlan, RanAlone, IsForMemory, IsForMemoryOrFault}
+use Rattle.die_service.specs.PlannedRuns.{AreTakenUntilMemory, GoesAsPlanned}
 use Rattle.die_service.specs.Replies.{MayRefuse}
-use Rattle.die_service.specs.Runs.{Said, said, AllArrive, is_due, due_by, later_than, AreAsked, InClockOrder, noted, place_behind, refused_from, stop_or, stop_of}
+use Rattle.die_service.specs.Runs.{Said, said, AllArrive, is_due, due_by, later_than, AreAsked, InClockOrder, noted, place_behind}
+use Rattle.die_service.specs.Runs.{refused_from, stop_or, stop_of}
 use Rattle.die_service.proofs.Passing.{slot_answered}
 use Rattle.die_service.specs.Passes.{IsSlotReply}
 use Rattle.die_service.proofs.RunAlone.{saids, plan_is, said_is, said_exact, are_told}
@@ -74,10 +77,12 @@ asked_none s fed are = absurd cc
 asked_some : (arrival : Arrival) (feed : List Arrival) → AreAsked (arrival ∷ feed) [] → ⊥
 asked_some arrival feed are = absurd cc
 
-asked_first : (arrival : Arrival) (feed : List Arrival) (s : Said) (fed : List Said) → AreAsked (arrival ∷ feed) (s ∷ fed) → s.event ≡ arrival.event
+asked_first : (arrival : Arrival) (feed : List Arrival) (s : Said) (fed : List Said) → AreAsked (arrival ∷ feed) (s ∷ fed) → s.event
+    ≡ arrival.event
 asked_first arrival feed s fed are = cc
 
-asked_rest : (arrival : Arrival) (feed : List Arrival) (s : Said) (fed : List Said) → AreAsked (arrival ∷ feed) (s ∷ fed) → AreAsked feed fed
+asked_rest : (arrival : Arrival) (feed : List Arrival) (s : Said) (fed : List Said) → AreAsked (arrival ∷ feed) (s ∷ fed)
+    → AreAsked feed fed
 asked_rest arrival feed s fed are = cc
 
 all_fed : (feed : List Arrival) (fed : List Said) → AreAsked feed fed → AllArrive feed → AllFed fed
@@ -85,8 +90,11 @@ all_fed [] [] are arrive = tt
 all_fed [] (s ∷ fed) are arrive = absurd (asked_none s fed are)
 all_fed (arrival ∷ feed) [] are arrive = absurd (asked_some arrival feed are)
 all_fed (arrival ∷ feed) (s ∷ fed) are arrive =
-    let A : Arrival → Type 0 = λ a. IsArrival a.event in
-    (subst IsArrival (sym (asked_first arrival feed s fed are)) (All-head A arrival feed arrive), all_fed feed fed (asked_rest arrival feed s fed are) (All-tail A arrival feed arrive))
+    let A : Arrival → Type 0 = λ a. IsArrival a.event in (
+      subst IsArrival (sym (asked_first arrival feed s fed are)) (All-head A arrival feed arrive),
+      all_fed feed fed
+          (asked_rest arrival feed s fed are) (All-tail A arrival feed arrive),
+    )
 
 due_arrive : (clock : ℕ) (feed : List Arrival) → AllArrive feed → AllArrive (due_by clock feed)
 due_arrive clock feed h = All-take (λ a. IsArrival a.event) (prefix_len (is_due clock) feed) feed h
@@ -97,12 +105,14 @@ later_arrive clock feed h = All-drop (λ a. IsArrival a.event) (prefix_len (is_d
 split_one : (before after : List Said) (s : Said) → before ++ s ∷ after ≡ (before ++ s ∷ []) ++ after
 split_one before after s = sym (append_assoc before (s ∷ []) after)
 
-behind_first : (all before fed after : List Said) (s : Said) → all ≡ before ++ ((s ∷ fed) ++ after) → all ≡ (before ++ s ∷ []) ++ (fed ++ after)
+behind_first : (all before fed after : List Said) (s : Said) → all ≡ before ++ ((s ∷ fed) ++ after) → all ≡ (before ++ s ∷ [])
+    ++ (fed ++ after)
 behind_first all before fed after s is = is ∙ split_one before (fed ++ after) s
 
 -- all that was said is `front`, or a slot was refused behind it, with which the events begin that are left over
 abbrev Ends : List Said → List Event → List Said → Type 0
-Ends front over rest = (rest ≡ front) ⊎ ((refused : RefusedAt) × (more : List Event) × (rest ≡ front ++ said events.Slot (Err refused) ∷ []) × (over ≡ events.Slot ∷ more))
+Ends front over rest = (rest ≡ front) ⊎ ((refused : RefusedAt) × (more : List Event) × (rest ≡ front ++ said events.Slot (Err refused) ∷ [])
+    × (over ≡ events.Slot ∷ more))
 
 -- `front` was asked of what a run asks for, and this is left over
 record Parts (all : List Event) (rest : List Said) : Type 0 where
@@ -115,12 +125,20 @@ record Parts (all : List Event) (rest : List Said) : Type 0 where
 abbrev carried : SlotReply → Said
 carried slot = said events.Slot (Ok (replies.Slot slot))
 
-more_ends : (fed : List Said) (s : Said) (front : List Said) (over : List Event) (rest more : List Said) → rest ≡ fed ++ s ∷ more → Ends front over more → Ends (fed ++ s ∷ front) over rest
+more_ends : (fed : List Said) (s : Said) (front : List Said) (over : List Event) (rest more : List Said) → rest ≡ fed ++ s ∷ more
+    → Ends front over more → Ends (fed ++ s ∷ front) over rest
 more_ends fed s front over rest more is (inl same) = inl (is ∙ ap (λ (xs : List Said). fed ++ s ∷ xs) same)
 more_ends fed s front over rest more is (inr (refused, later, last, left)) =
-    inr (refused, later, is ∙ (ap (λ (xs : List Said). fed ++ s ∷ xs) last ∙ sym (append_assoc fed (s ∷ front) (said events.Slot (Err refused) ∷ []))), left)
+    inr (
+      refused,
+      later,
+      is ∙ (ap (λ (xs : List Said). fed ++ s ∷ xs) last
+          ∙ sym (append_assoc fed (s ∷ front) (said events.Slot (Err refused) ∷ []))),
+      left,
+    )
 
-more_events : (due later over : List Event) (fed front : List Said) (slot : SlotReply) → asked fed ≡ due → later ≡ asked front ++ over → due ++ events.Slot ∷ later ≡ asked (fed ++ carried slot ∷ front) ++ over
+more_events : (due later over : List Event) (fed front : List Said) (slot : SlotReply) → asked fed ≡ due → later ≡ asked front ++ over → due
+    ++ events.Slot ∷ later ≡ asked (fed ++ carried slot ∷ front) ++ over
 more_events due later over fed front slot are is =
     (λ i. sym are i ++ events.Slot ∷ is i)
     ∙ (sym (append_assoc (asked fed) (events.Slot ∷ asked front) over)
@@ -128,14 +146,16 @@ more_events due later over fed front slot are is =
 
 module _ (never : Bool) (plan : DiePlan) (all : List Said) (known : AreTold never plan all) where
   -- the feed's events take no slot
-  fed_stay : (fed before after : List Said) → all ≡ before ++ (fed ++ after) → AllFed fed → now (said_log (before ++ fed)) ≡ now (said_log before)
+  fed_stay : (fed before after : List Said) → all ≡ before ++ (fed ++ after) → AllFed fed → now (said_log (before ++ fed))
+      ≡ now (said_log before)
   fed_stay [] before after is h = ap (λ (b : List Said). now (said_log b)) (append-nil before)
   fed_stay (s ∷ fed) before after is h =
       ap (λ (b : List Said). now (said_log b)) (split_one before fed s)
       ∙ (fed_stay fed (before ++ s ∷ []) after (behind_first all before fed after s is) h.1
       ∙ stays_at never plan all before (fed ++ after) s.event s.reply known is h.0)
 
-  parts : (left clock : ℕ) (feed : List Arrival) (before rest : List Said) → all ≡ before ++ rest → InClockOrder left clock feed rest → now (said_log before) ≡ clock → AllArrive feed → Parts (events_from left clock feed) rest
+  parts : (left clock : ℕ) (feed : List Arrival) (before rest : List Said) → all ≡ before ++ rest → InClockOrder left clock feed rest
+      → now (said_log before) ≡ clock → AllArrive feed → Parts (events_from left clock feed) rest
   parts zero clock feed before rest is ordered at_now arrive = record {
     front = rest;
     over = [];
@@ -160,24 +180,30 @@ module _ (never : Bool) (plan : DiePlan) (all : List Said) (known : AreTold neve
       let still : now (said_log (before ++ fed)) ≡ clock = fed_stay fed before (carried slot ∷ more) here fed_all ∙ at_now in
       let number : slot.slot ≡ clock = numbered plan (said_log (before ++ fed)) slot answered.0 ∙ still in
       let counted : now (said_log ((before ++ fed) ++ carried slot ∷ [])) ≡ clock + 1 =
-      ap now (said_accepted (before ++ fed) events.Slot (replies.Slot slot)) ∙ (slot_counted (said_log (before ++ fed)) _ slot refl ∙ ap (λ (n : ℕ). n + 1) still) in
-      let m = parts left (clock + 1) later ((before ++ fed) ++ carried slot ∷ []) more (at_slot ∙ split_one (before ++ fed) more (carried slot))
+      ap now (said_accepted (before ++ fed) events.Slot (replies.Slot slot))
+      ∙ (slot_counted (said_log (before ++ fed)) _ slot refl ∙ ap (λ (n : ℕ). n + 1) still) in
+      let m = parts left (clock + 1) later ((before ++ fed) ++ carried slot ∷ []) more (at_slot
+      ∙ split_one (before ++ fed) more (carried slot))
       (subst (λ (n : ℕ). InClockOrder left (n + 1) later more) number ordered) counted (later_arrive clock feed arrive) in
       record {
         front = fed ++ carried slot ∷ m.front;
         over = m.over;
         heard = all_append (λ (s : Said). IsHeard s.event s.reply) fed (carried slot ∷ m.front) (heard_fed fed fed_all) (tt, m.heard);
-        events_are = more_events (events_in (due_by clock feed)) (events_from left (clock + 1) later) m.over fed m.front slot are m.events_are;
+        events_are = more_events (events_in (due_by clock feed)) (events_from left (clock + 1) later) m.over fed m.front slot are
+            m.events_are;
         ends = more_ends fed (carried slot) m.front m.over rest more rest_is m.ends;
       }
 
   -- The log of `front` is what its events leave
 
   enters_one : (before : List Said) (event : Event) (reply : Result Reply RefusedAt) → IsHeard event reply
-      → Adds event (said_log before) (said_log (before ++ said event reply ∷ [])) ⊎ (IsArrival event × (said_log (before ++ said event reply ∷ []) ≡ said_log before))
+      → Adds event (said_log before) (said_log (before ++ said event reply ∷ []))
+      ⊎ (IsArrival event × (said_log (before ++ said event reply ∷ []) ≡ said_log before))
   enters_one before event (Ok reply) h = inl (0, reply, said_accepted before event reply)
-  enters_one before (events.Submit task release due ops) (Err refused) h = inr (tt, said_refused before (events.Submit task release due ops) refused)
-  enters_one before (events.Collect task release due) (Err refused) h = inr (tt, said_refused before (events.Collect task release due) refused)
+  enters_one before (events.Submit task release due ops) (Err refused) h = inr
+      (tt, said_refused before (events.Submit task release due ops) refused)
+  enters_one before (events.Collect task release due) (Err refused) h = inr
+      (tt, said_refused before (events.Collect task release due) refused)
   enters_one before events.Slot (Err refused) h = absurd h
 
   enters : (front before : List Said) → AreHeard front → AreEntered (asked front) (said_log before) (said_log (before ++ front))
@@ -185,12 +211,14 @@ module _ (never : Bool) (plan : DiePlan) (all : List Said) (known : AreTold neve
   enters (s ∷ front) before h = (
     said_log (before ++ s ∷ []),
     enters_one before s.event s.reply h.0,
-    subst (λ (xs : List Said). AreEntered (asked front) (said_log (before ++ s ∷ [])) (said_log xs)) (append_assoc before (s ∷ []) front) (enters front (before ++ s ∷ []) h.1),
+    subst (λ (xs : List Said). AreEntered (asked front) (said_log (before ++ s ∷ [])) (said_log xs)) (append_assoc before (s ∷ []) front)
+        (enters front (before ++ s ∷ []) h.1),
   )
 
   -- and has at most as many slots
 
-  counts_slot : (before after : List Said) (reply : Reply) → all ≡ before ++ said events.Slot (Ok reply) ∷ after → now (said_log (before ++ said events.Slot (Ok reply) ∷ [])) ≡ now (said_log before) + 1
+  counts_slot : (before after : List Said) (reply : Reply) → all ≡ before ++ said events.Slot (Ok reply) ∷ after
+      → now (said_log (before ++ said events.Slot (Ok reply) ∷ [])) ≡ now (said_log before) + 1
   counts_slot before after reply is =
       let t = known.accepted before after events.Slot reply is in
       by reply (slot_answered plan (said_log before) reply t.0 t.1)
@@ -200,20 +228,26 @@ module _ (never : Bool) (plan : DiePlan) (all : List Said) (known : AreTold neve
       by (replies.Taken number) h = absurd h
       by (replies.Refused refusal) h = absurd h
 
-  counts_one : (before after : List Said) (event : Event) (reply : Result Reply RefusedAt) → IsHeard event reply → all ≡ before ++ said event reply ∷ after
+  counts_one : (before after : List Said) (event : Event) (reply : Result Reply RefusedAt) → IsHeard event reply → all ≡ before
+      ++ said event reply ∷ after
       → now (said_log (before ++ said event reply ∷ [])) ≡ now (said_log before) + cond (is_slot event) 1 0
   counts_one before after events.Slot (Ok reply) h is = counts_slot before after reply is
   counts_one before after events.Slot (Err refused) h is = absurd h
-  counts_one before after (events.Submit task release due ops) reply h is = omega (arith, stays_at never plan all before after (events.Submit task release due ops) reply known is tt)
-  counts_one before after (events.Collect task release due) reply h is = omega (arith, stays_at never plan all before after (events.Collect task release due) reply known is tt)
+  counts_one before after (events.Submit task release due ops) reply h is = omega
+      (arith, stays_at never plan all before after (events.Submit task release due ops) reply known is tt)
+  counts_one before after (events.Collect task release due) reply h is = omega
+      (arith, stays_at never plan all before after (events.Collect task release due) reply known is tt)
 
-  counts : (front before after : List Said) → AreHeard front → all ≡ before ++ (front ++ after) → now (said_log (before ++ front)) ≡ now (said_log before) + slots (asked front)
+  counts : (front before after : List Said) → AreHeard front → all ≡ before ++ (front ++ after) → now (said_log (before ++ front))
+      ≡ now (said_log before) + slots (asked front)
   counts [] before after h is = omega (arith, ap (λ (b : List Said). now (said_log b)) (append-nil before))
   counts (s ∷ front) before after h is =
       let one = counts_one before (front ++ after) s.event s.reply h.0 is in
       let more = counts front (before ++ s ∷ []) after h.1 (behind_first all before front after s is) in
-      let same : now (said_log (before ++ s ∷ front)) ≡ now (said_log ((before ++ s ∷ []) ++ front)) = ap (λ (b : List Said). now (said_log b)) (split_one before front s) in
-      let counted : slots (asked (s ∷ front)) ≡ cond (is_slot s.event) 1 0 + slots (asked front) = sum_by-cons (λ e. cond (is_slot e) 1 0) s.event (asked front) in
+      let same : now (said_log (before ++ s ∷ front)) ≡ now (said_log ((before ++ s ∷ []) ++ front)) = ap
+      (λ (b : List Said). now (said_log b)) (split_one before front s) in
+      let counted : slots (asked (s ∷ front)) ≡ cond (is_slot s.event) 1 0 + slots (asked front) = sum_by-cons (λ e. cond (is_slot e) 1 0)
+      s.event (asked front) in
       omega (arith, one, more, same, counted)
 
 -- What is left over could be entered
@@ -221,7 +255,8 @@ module _ (never : Bool) (plan : DiePlan) (all : List Said) (known : AreTold neve
 slots_more : (es over : List Event) → slots (es ++ over) ≡ slots es + slots over
 slots_more es over = sum_by-append (λ e. cond (is_slot e) 1 0) es over
 
-entered_on : (es over : List Event) (past mid log : Log) → AreEntered es past mid → AreEntered over mid log → AreEntered (es ++ over) past log
+entered_on : (es over : List Event) (past mid log : Log) → AreEntered es past mid → AreEntered over mid log
+    → AreEntered (es ++ over) past log
 entered_on [] over past mid log is more = subst (λ (l : Log). AreEntered over l log) is more
 entered_on (e ∷ es) over past mid log h more = (h.0, h.1, entered_on es over h.0 mid log h.2 more)
 
@@ -232,74 +267,111 @@ events_back : (over : List Event) → running.events_of (calls_for over) ≡ ove
 events_back [] = refl
 events_back (e ∷ over) = ap (λ (es : List Event). e ∷ es) (events_back over)
 
-answered_longer : (caller : ℕ) (event : Event) (reply : Reply) (past log : Log) → ((later : Log) × (log ≡ later ++ with_answer caller event reply past)) → (later : Log) × (log ≡ later ++ past)
+answered_longer : (caller : ℕ) (event : Event) (reply : Reply) (past log : Log)
+    → ((later : Log) × (log ≡ later ++ with_answer caller event reply past)) → (later : Log) × (log ≡ later ++ past)
 answered_longer caller event (replies.Refused refusal) past log h = h
-answered_longer caller event (replies.Taken number) past log h = (h.0 ++ with_entry caller event (replies.Taken number) [], h.1 ∙ sym (append_assoc h.0 (with_entry caller event (replies.Taken number) []) past))
-answered_longer caller event (replies.Slot slot) past log h = (h.0 ++ with_entry caller event (replies.Slot slot) [], h.1 ∙ sym (append_assoc h.0 (with_entry caller event (replies.Slot slot) []) past))
+answered_longer caller event (replies.Taken number) past log h = (
+  h.0 ++ with_entry caller event (replies.Taken number) [],
+  h.1
+      ∙ sym (append_assoc h.0 (with_entry caller event (replies.Taken number) []) past),
+)
+answered_longer caller event (replies.Slot slot) past log h = (
+  h.0 ++ with_entry caller event (replies.Slot slot) [],
+  h.1
+      ∙ sym (append_assoc h.0 (with_entry caller event (replies.Slot slot) []) past),
+)
 
 run_longer : (plan : DiePlan) (calls : List (ℕ × Event)) (past : Log) → (later : Log) × (run plan past calls ≡ later ++ past)
 run_longer plan [] past = ([], refl)
-run_longer plan (call ∷ calls) past = answered_longer call.0 call.1 (answer plan past call.1) past (run plan past (call ∷ calls)) (run_longer plan calls (after_call plan past call))
+run_longer plan (call ∷ calls) past = answered_longer call.0 call.1 (answer plan past call.1) past (run plan past (call ∷ calls))
+    (run_longer plan calls (after_call plan past call))
 
 -- What keeps the plan
 
 -- the event of an entry is told behind those before it
-pub told_more : (past log : Log) (event : Event) (reply : Reply) (rest : List Event) → log ≡ with_entry 0 event reply past → told past ++ event ∷ rest ≡ told log ++ rest
+pub told_more : (past log : Log) (event : Event) (reply : Reply) (rest : List Event) → log ≡ with_entry 0 event reply past → told past
+    ++ event ∷ rest ≡ told log ++ rest
 told_more past log event reply rest is = sym (append_assoc (told past) (event ∷ []) rest) ∙ ap (λ (l : Log). told l ++ rest) (sym is)
 
-pub not_refused : (plan : DiePlan) (past : Log) (event : Event) (refusal : Refusal) → refusal_of plan past event ≡ None → answer plan past event ≡ replies.Refused refusal → ⊥
-not_refused plan past event refusal none is = subst IsAccepted (sym (accepted_answer plan past event none) ∙ is) (entered plan past 0 event).0
+pub not_refused : (plan : DiePlan) (past : Log) (event : Event) (refusal : Refusal) → refusal_of plan past event ≡ None
+    → answer plan past event ≡ replies.Refused refusal → ⊥
+not_refused plan past event refusal none is = subst IsAccepted (sym (accepted_answer plan past event none) ∙ is)
+    (entered plan past 0 event).0
 
 no_slot : (event : Event) → IsArrival event → event ≡ events.Slot → ⊥
 no_slot event h is = subst IsArrival is h
 
-module _ (never : Bool) (plan : DiePlan) (times : Times) (bound : MeetsBound plan) (passes : Passes plan times) (all : List Said) (known : AreTold never plan all) (exact : IsExact plan (said_log all)) where
+module _ (never : Bool) (plan : DiePlan) (times : Times) (bound : MeetsBound plan) (passes : Passes plan times) (all : List Said)
+    (known : AreTold never plan all) (exact : IsExact plan (said_log all)) where
   -- an event of the feed that keeps the plan is refused for want of memory alone
-  by_memory : (past : Log) (event : Event) (rest : List Event) (refusal : Refusal) → IsArrival event → IsExact plan past → KeepsPlan plan times (told past ++ event ∷ rest) → MayRefuse never plan past event refusal → IsForMemory never refusal
-  by_memory past event rest refusal fed is keeps (inl (inl own)) = absurd (not_refused plan past event refusal (unrefused plan times bound passes past event rest is keeps) own)
+  by_memory : (past : Log) (event : Event) (rest : List Event) (refusal : Refusal) → IsArrival event → IsExact plan past
+      → KeepsPlan plan times (told past ++ event ∷ rest) → MayRefuse never plan past event refusal → IsForMemory never refusal
+  by_memory past event rest refusal fed is keeps (inl (inl own)) = absurd
+      (not_refused plan past event refusal (unrefused plan times bound passes past event rest is keeps) own)
   by_memory past event rest refusal fed is keeps (inl (inr memory)) = inl memory.1
   by_memory past event rest refusal fed is keeps (inr (inl fault)) = absurd (no_slot event fed fault.1)
   by_memory past event rest refusal fed is keeps (inr (inr stopped)) = inr stopped
 
-  taken_from : (front before after : List Said) (over : List Event) (place : ℕ) → all ≡ before ++ (front ++ after) → AreHeard front → KeepsPlan plan times (told (said_log before) ++ (asked front ++ over)) → AreTakenUntilMemory never (refused_from place front)
+  taken_from : (front before after : List Said) (over : List Event) (place : ℕ) → all ≡ before ++ (front ++ after) → AreHeard front
+      → KeepsPlan plan times (told (said_log before) ++ (asked front ++ over)) → AreTakenUntilMemory never (refused_from place front)
   taken_from [] before after over place is h keeps = tt
-  taken_from (s ∷ front) before after over place is h keeps = by s.event s.reply is h.0 keeps (λ n. taken_from front (before ++ s ∷ []) after over n (behind_first all before front after s is) h.1)
+  taken_from (s ∷ front) before after over place is h keeps = by s.event s.reply is h.0 keeps
+      (λ n. taken_from front (before ++ s ∷ []) after over n (behind_first all before front after s is) h.1)
     where
-      by : (event : Event) (reply : Result Reply RefusedAt) → all ≡ before ++ ((said event reply ∷ front) ++ after) → IsHeard event reply → KeepsPlan plan times (told (said_log before) ++ (event ∷ asked front ++ over))
-          → ((n : ℕ) → KeepsPlan plan times (told (said_log (before ++ said event reply ∷ [])) ++ (asked front ++ over)) → AreTakenUntilMemory never (refused_from n front))
+      by : (event : Event) (reply : Result Reply RefusedAt) → all ≡ before ++ ((said event reply ∷ front) ++ after) → IsHeard event reply
+          → KeepsPlan plan times (told (said_log before) ++ (event ∷ asked front ++ over))
+          → ((n : ℕ) → KeepsPlan plan times (told (said_log (before ++ said event reply ∷ [])) ++ (asked front ++ over))
+          → AreTakenUntilMemory never (refused_from n front))
           → AreTakenUntilMemory never (noted place event reply (refused_from (place_behind event place) front))
-      by events.Slot (Ok reply) at heard keep more = more place (subst (KeepsPlan plan times) (told_more (said_log before) _ events.Slot reply (asked front ++ over) (said_accepted before events.Slot reply)) keep)
+      by events.Slot (Ok reply) at heard keep more = more place
+          (subst (KeepsPlan plan times) (told_more (said_log before) _ events.Slot reply (asked front ++ over)
+          (said_accepted before events.Slot reply)) keep)
       by events.Slot (Err refused) at heard keep more = absurd heard
       by (events.Submit task release due ops) (Ok reply) at heard keep more =
-          more (suc place) (subst (KeepsPlan plan times) (told_more (said_log before) _ (events.Submit task release due ops) reply (asked front ++ over) (said_accepted before (events.Submit task release due ops) reply)) keep)
+          more (suc place) (subst (KeepsPlan plan times)
+          (told_more (said_log before) _ (events.Submit task release due ops) reply (asked front ++ over)
+          (said_accepted before (events.Submit task release due ops) reply)) keep)
       by (events.Submit task release due ops) (Err refused) at heard keep more =
-          by_memory (said_log before) (events.Submit task release due ops) (asked front ++ over) refused.refusal tt (front_exact plan all before _ exact at) keep (known.refused before (front ++ after) (events.Submit task release due ops) refused at)
+          by_memory (said_log before) (events.Submit task release due ops) (asked front ++ over) refused.refusal tt
+          (front_exact plan all before _ exact at) keep
+          (known.refused before (front ++ after) (events.Submit task release due ops) refused at)
       by (events.Collect task release due) (Ok reply) at heard keep more =
-          more (suc place) (subst (KeepsPlan plan times) (told_more (said_log before) _ (events.Collect task release due) reply (asked front ++ over) (said_accepted before (events.Collect task release due) reply)) keep)
+          more (suc place) (subst (KeepsPlan plan times)
+          (told_more (said_log before) _ (events.Collect task release due) reply (asked front ++ over)
+          (said_accepted before (events.Collect task release due) reply)) keep)
       by (events.Collect task release due) (Err refused) at heard keep more =
-          by_memory (said_log before) (events.Collect task release due) (asked front ++ over) refused.refusal tt (front_exact plan all before _ exact at) keep (known.refused before (front ++ after) (events.Collect task release due) refused at)
+          by_memory (said_log before) (events.Collect task release due) (asked front ++ over) refused.refusal tt
+          (front_exact plan all before _ exact at) keep
+          (known.refused before (front ++ after) (events.Collect task release due) refused at)
 
   -- what was heard is in time, since what is left over could be entered behind it
-  in_time : (front after : List Said) (over : List Event) → all ≡ front ++ after → AreHeard front → KeepsPlan plan times (asked front ++ over) → IsInTime plan (said_log front)
+  in_time : (front after : List Said) (over : List Event) → all ≡ front ++ after → AreHeard front
+      → KeepsPlan plan times (asked front ++ over) → IsInTime plan (said_log front)
   in_time front after over is h keeps =
       let calls = calls_for over in
       let later = run_longer plan calls (said_log front) in
       let none : now (said_log []) ≡ 0 = refl in
-      let few : now (said_log front) + slots over ≤ MAX_SLOT = omega (arith, none, counts never plan all known front [] after h is, slots_more (asked front) over, keeps.few_slots) in
-      let on : AreEntered over (said_log front) (run plan (said_log front) calls) = subst (λ (es : List Event). AreEntered es (said_log front) (run plan (said_log front) calls)) (events_back over)
-      (run_enters plan calls (said_log front) (subst (λ (es : List Event). now (said_log front) + slots es ≤ MAX_SLOT) (sym (events_back over)) few)) in
-      let whole = entered_on (asked front) over [] (said_log front) (run plan (said_log front) calls) (enters never plan all known front [] h) on in
+      let few : now (said_log front) + slots over ≤ MAX_SLOT = omega
+      (arith, none, counts never plan all known front [] after h is, slots_more (asked front) over, keeps.few_slots) in
+      let on : AreEntered over (said_log front) (run plan (said_log front) calls) = subst
+      (λ (es : List Event). AreEntered es (said_log front) (run plan (said_log front) calls)) (events_back over)
+      (run_enters plan calls (said_log front) (subst (λ (es : List Event). now (said_log front) + slots es ≤ MAX_SLOT)
+      (sym (events_back over)) few)) in
+      let whole = entered_on (asked front) over [] (said_log front) (run plan (said_log front) calls)
+      (enters never plan all known front [] h) on in
       planned_in_time plan times bound passes (asked front ++ over) keeps later.0 (said_log front)
       (subst (IsExact plan) later.1 (run_exact plan (said_log front) calls (front_exact plan all front after exact is)))
       (subst (AreEntered (asked front ++ over) []) later.1 whole)
 
 -- A slot that is refused
 
-refused_last : (front : List Said) (refused : RefusedAt) (place : ℕ) → refused_from place (front ++ said events.Slot (Err refused) ∷ []) ≡ refused_from place front
+refused_last : (front : List Said) (refused : RefusedAt) (place : ℕ) → refused_from place (front ++ said events.Slot (Err refused) ∷ [])
+    ≡ refused_from place front
 refused_last [] refused place = refl
 refused_last (s ∷ front) refused place = ap (noted place s.event s.reply) (refused_last front refused (place_behind s.event place))
 
-heard_on : (event : Event) (reply : Result Reply RefusedAt) (later : Option RefusedAt) → IsHeard event reply → stop_or event reply later ≡ later
+heard_on : (event : Event) (reply : Result Reply RefusedAt) (later : Option RefusedAt) → IsHeard event reply → stop_or event reply later
+    ≡ later
 heard_on events.Slot (Ok reply) later h = refl
 heard_on events.Slot (Err refused) later h = absurd h
 heard_on (events.Submit task release due ops) reply later h = refl
@@ -309,7 +381,8 @@ stops_behind : (front rest : List Said) → AreHeard front → stop_of (front ++
 stops_behind [] rest h = refl
 stops_behind (s ∷ front) rest h = heard_on s.event s.reply (stop_of (front ++ rest)) h.0 ∙ stops_behind front rest h.1
 
-stops_for_memory : (never : Bool) (plan : DiePlan) (past : Log) (refusal : Refusal) → now past < MAX_SLOT → MayRefuse never plan past events.Slot refusal → IsForMemoryOrFault never refusal
+stops_for_memory : (never : Bool) (plan : DiePlan) (past : Log) (refusal : Refusal) → now past < MAX_SLOT
+    → MayRefuse never plan past events.Slot refusal → IsForMemoryOrFault never refusal
 stops_for_memory never plan past refusal few (inl own) = inl (inl (slot_refused plan past refusal few own))
 stops_for_memory never plan past refusal few (inr (inl fault)) = inr (fault.0, fault.3)
 stops_for_memory never plan past refusal few (inr (inr stopped)) = inl (inr stopped)
@@ -321,7 +394,8 @@ record Goes (never : Bool) (plan : DiePlan) (all : List Said) : Type 0 where
   taken_is : AreTakenUntilMemory never (refused_from 0 all)
   carried_is : IfSome (stop_of all) (λ stop. IsForMemoryOrFault never stop.refusal)
 
-module _ (never : Bool) (plan : DiePlan) (times : Times) (bound : MeetsBound plan) (passes : Passes plan times) (all : List Said) (known : AreTold never plan all) (exact : IsExact plan (said_log all)) where
+module _ (never : Bool) (plan : DiePlan) (times : Times) (bound : MeetsBound plan) (passes : Passes plan times) (all : List Said)
+    (known : AreTold never plan all) (exact : IsExact plan (said_log all)) where
   goes : (es : List Event) (p : Parts es all) → KeepsPlan plan times es → Goes never plan all
   goes es p keeps = by p.ends
     where
@@ -332,30 +406,46 @@ module _ (never : Bool) (plan : DiePlan) (times : Times) (bound : MeetsBound pla
       by (inl same) =
           let here : all ≡ p.front ++ [] = same ∙ sym (append-nil p.front) in
           record {
-            in_time_is = subst (λ (xs : List Said). IsInTime plan (said_log xs)) (sym same) (in_time never plan times bound passes all known exact p.front [] p.over here p.heard kept);
-            taken_is = subst (λ (xs : List Said). AreTakenUntilMemory never (refused_from 0 xs)) (sym same) (taken_from never plan times bound passes all known exact p.front [] [] p.over 0 here p.heard kept);
-            carried_is = subst (λ (o : Option RefusedAt). IfSome o (λ stop. IsForMemoryOrFault never stop.refusal)) (sym (ap stop_of here ∙ stops_behind p.front [] p.heard)) tt;
+            in_time_is = subst (λ (xs : List Said). IsInTime plan (said_log xs)) (sym same)
+                (in_time never plan times bound passes all known exact p.front [] p.over here p.heard kept);
+            taken_is = subst (λ (xs : List Said). AreTakenUntilMemory never (refused_from 0 xs)) (sym same)
+                (taken_from never plan times bound passes all known exact p.front [] [] p.over 0 here p.heard kept);
+            carried_is = subst (λ (o : Option RefusedAt). IfSome o (λ stop. IsForMemoryOrFault never stop.refusal))
+                (sym (ap stop_of here ∙ stops_behind p.front [] p.heard)) tt;
           }
       by (inr (refused, more, last, left)) =
           let s : Said = said events.Slot (Err refused) in
           let at_slot : slots p.over ≡ 1 + slots more = ap slots left ∙ sum_by-cons (λ e. cond (is_slot e) 1 0) events.Slot more in
           let none : now (said_log []) ≡ 0 = refl in
-          let few : now (said_log p.front) < MAX_SLOT = omega (arith, none, counts never plan all known p.front [] (s ∷ []) p.heard last, slots_more (asked p.front) p.over, kept.few_slots, at_slot) in
+          let few : now (said_log p.front) < MAX_SLOT = omega (
+            arith,
+            none,
+            counts never plan all known p.front [] (s ∷ []) p.heard last,
+            slots_more (asked p.front) p.over,
+            kept.few_slots,
+            at_slot,
+          ) in
           record {
-            in_time_is = subst (IsInTime plan) (sym (ap said_log last ∙ said_refused p.front events.Slot refused)) (in_time never plan times bound passes all known exact p.front (s ∷ []) p.over last p.heard kept);
-            taken_is = subst (AreTakenUntilMemory never) (sym (ap (refused_from 0) last ∙ refused_last p.front refused 0)) (taken_from never plan times bound passes all known exact p.front [] (s ∷ []) p.over 0 last p.heard kept);
-            carried_is = subst (λ (o : Option RefusedAt). IfSome o (λ stop. IsForMemoryOrFault never stop.refusal)) (sym (ap stop_of last ∙ stops_behind p.front (s ∷ []) p.heard))
+            in_time_is = subst (IsInTime plan) (sym (ap said_log last ∙ said_refused p.front events.Slot refused))
+                (in_time never plan times bound passes all known exact p.front (s ∷ []) p.over last p.heard kept);
+            taken_is = subst (AreTakenUntilMemory never) (sym (ap (refused_from 0) last ∙ refused_last p.front refused 0))
+                (taken_from never plan times bound passes all known exact p.front [] (s ∷ []) p.over 0 last p.heard kept);
+            carried_is = subst (λ (o : Option RefusedAt). IfSome o (λ stop. IsForMemoryOrFault never stop.refusal))
+                (sym (ap stop_of last ∙ stops_behind p.front (s ∷ []) p.heard))
                 (stops_for_memory never plan (said_log p.front) refused.refusal few (known.refused p.front [] events.Slot refused last));
           }
 
-pub go_as_planned : (never : Bool) (plan : DiePlan) (count : ℕ) (feed : List Arrival) (end : DieEnd) (log : Log) → AllArrive feed → KeepsItsPlan plan count feed → RanAlone never plan count feed end log → GoesAsPlanned never plan end log
+pub go_as_planned : (never : Bool) (plan : DiePlan) (count : ℕ) (feed : List Arrival) (end : DieEnd) (log : Log) → AllArrive feed
+    → KeepsItsPlan plan count feed → RanAlone never plan count feed end log → GoesAsPlanned never plan end log
 go_as_planned never plan count feed end log arrive k r =
     let all : List Said = saids never count plan feed end log r in
     let known = are_told never count plan feed end log r in
     let bound : MeetsBound plan = subst MeetsBound (plan_is never count plan feed end log r) r.ran.exact.bound in
-    let g = goes never plan k.times bound k.passes all known (said_exact never count plan feed end log r) (events_of count feed) (parts never plan all known count 0 feed [] all refl r.ran.ordered refl arrive) k.keeps in
+    let g = goes never plan k.times bound k.passes all known (said_exact never count plan feed end log r) (events_of count feed)
+    (parts never plan all known count 0 feed [] all refl r.ran.ordered refl arrive) k.keeps in
     record {
       in_time = subst (IsInTime plan) (sym (said_is never count plan feed end log r)) g.in_time_is;
       taken = subst (AreTakenUntilMemory never) (sym (ap (λ (e : DieEnd). e.refused) r.ran.end_is)) g.taken_is;
-      carried = subst (λ (o : Option RefusedAt). IfSome o (λ stop. IsForMemoryOrFault never stop.refusal)) (sym (ap (λ (e : DieEnd). e.stop) r.ran.end_is)) g.carried_is;
+      carried = subst (λ (o : Option RefusedAt). IfSome o (λ stop. IsForMemoryOrFault never stop.refusal))
+          (sym (ap (λ (e : DieEnd). e.stop) r.ran.end_is)) g.carried_is;
     }

@@ -18,7 +18,8 @@ log_of_more : (first later : List Call) → log_of (first ++ later) ≡ log_of l
 log_of_more first later = ap reverse (map-append entry_of first later) ∙ reverse-append (map entry_of first) (map entry_of later)
 
 pub beginning_promised : (plan : DiePlan) (first later : List Call) → HasExactLog plan (first ++ later) → KeepsPromises plan (log_of first)
-beginning_promised plan first later h = moment_promises plan h.bound (log_of later) (log_of first) (subst (IsExact plan) (log_of_more first later) h.exact)
+beginning_promised plan first later h = moment_promises plan h.bound (log_of later) (log_of first)
+    (subst (IsExact plan) (log_of_more first later) h.exact)
 
 pub sees_promised : (v : DieView) → SeesFitting HasExactLog v → SeesPromised v
 sees_promised v fits = record { plan = fits.0; about_is = fits.1; exact = fits.2; promised = seen_promised fits.0 v.seen fits.2 }

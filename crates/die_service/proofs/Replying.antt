@@ -23,11 +23,23 @@ Counted plan log = length log ≡ length (jobs log) + now log
 counted : (plan : DiePlan) (log : Log) → IsExact plan log → Counted plan log
 counted plan = exact_induction plan (Counted plan) refl step
   where
-    step : (past : Log) (caller : ℕ) (event : Event) → IsExact plan past → Counted plan past → AllByRecursion (λ c. c.0 ≡ false) (refusals plan past event) → Counted plan (with_entry caller event (accepted plan past event) past)
+    step : (past : Log) (caller : ℕ) (event : Event) → IsExact plan past → Counted plan past
+        → AllByRecursion (λ c. c.0 ≡ false) (refusals plan past event)
+        → Counted plan (with_entry caller event (accepted plan past event) past)
     step past caller (events.Submit task release due ops) exact h none =
-        omega (arith, h, length_push (jobs past) (record { number = length (jobs past); collects = false; task = task; release = release; due = due; ops = ops }))
+        omega (
+          arith,
+          h,
+          length_push (jobs past) (record
+              { number = length (jobs past); collects = false; task = task; release = release; due = due; ops = ops }),
+        )
     step past caller (events.Collect task release due) exact h none =
-        omega (arith, h, length_push (jobs past) (record { number = length (jobs past); collects = true; task = task; release = release; due = due; ops = [] }))
+        omega (
+          arith,
+          h,
+          length_push (jobs past) (record
+              { number = length (jobs past); collects = true; task = task; release = release; due = due; ops = [] }),
+        )
     step past caller events.Slot exact h none =
         omega (arith, h, length_push (carried past) (slot_reply plan past (choice plan past).waived (choice plan past).head).ran)
 
@@ -44,24 +56,29 @@ no_fault true stopped runs is = absurd (false≢true (sym (runs refl) ∙ is))
 err_is : {T : Type 0} (r s : Refusal) → ◌≡◌ {A = Result T Refusal} (Err r) (Err s) → r ≡ s
 err_is r s e = cc
 
-pub may_refuse : {T : Type 0} (never stopped : Bool) (plan : DiePlan) (log : Log) (event : Event) (refusal : Refusal) → (never ≡ true → stopped ≡ false)
+pub may_refuse : {T : Type 0} (never stopped : Bool) (plan : DiePlan) (log : Log) (event : Event) (refusal : Refusal)
+    → (never ≡ true → stopped ≡ false)
     → (◌≡◌ {A = Result T Refusal} (Err refusal) (Err DieStopped) ↔ (stopped ≡ true)) → (stopped ≡ false → RefusedBy plan log event refusal)
     → MayRefuse never plan log event refusal
 may_refuse never false plan log event refusal runs why by_log = inl (by_log refl)
-may_refuse never true plan log event refusal runs why by_log = inr (inr (no_fault never true runs refl, err_is refusal DieStopped (why.1 refl)))
+may_refuse never true plan log event refusal runs why by_log = inr
+    (inr (no_fault never true runs refl, err_is refusal DieStopped (why.1 refl)))
 
-pub may_refuse_slot : {T : Type 0} (never stopped : Bool) (plan : DiePlan) (log : Log) (refusal : Refusal) → (never ≡ true → stopped ≡ false)
+pub may_refuse_slot : {T : Type 0} (never stopped : Bool) (plan : DiePlan) (log : Log) (refusal : Refusal)
+    → (never ≡ true → stopped ≡ false)
     → (◌≡◌ {A = Result T Refusal} (Err refusal) (Err DieStopped) ↔ (stopped ≡ true))
     → (stopped ≡ false → RefusedBy plan log events.Slot refusal ⊎ (IsAccepted (answer plan log events.Slot) × (refusal ≡ DeviceFault)))
     → (never ≡ true → ◌≡◌ {A = Result T Refusal} (Err refusal) (Err DeviceFault) → ⊥)
     → MayRefuse never plan log events.Slot refusal
-may_refuse_slot never true plan log refusal runs why by_log never_faults = inr (inr (no_fault never true runs refl, err_is refusal DieStopped (why.1 refl)))
+may_refuse_slot never true plan log refusal runs why by_log never_faults = inr
+    (inr (no_fault never true runs refl, err_is refusal DieStopped (why.1 refl)))
 may_refuse_slot never false plan log refusal runs why by_log never_faults = by (by_log refl)
   where
     well : (b : Bool) → (b ≡ true → refusal ≡ DeviceFault → ⊥) → refusal ≡ DeviceFault → b ≡ false
     well false h is = refl
     well true h is = absurd (h refl is)
 
-    by : RefusedBy plan log events.Slot refusal ⊎ (IsAccepted (answer plan log events.Slot) × (refusal ≡ DeviceFault)) → MayRefuse never plan log events.Slot refusal
+    by : RefusedBy plan log events.Slot refusal ⊎ (IsAccepted (answer plan log events.Slot) × (refusal ≡ DeviceFault))
+        → MayRefuse never plan log events.Slot refusal
     by (inl h) = inl h
     by (inr h) = inr (inl (well never (λ yes is. never_faults yes (ap Err is)) h.1, refl, h.0, h.1))

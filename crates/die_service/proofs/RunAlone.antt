@@ -13,7 +13,8 @@ use Rattle.die_service.specs.Runs.{Said, accepted_by}
 use Rattle.die_service.proofs.LastPasses.{same_plan}
 use Rattle.die_service.proofs.Transcripts.{AreTold, said_log, told_accepted, own_of_log, front_own}
 
-module _ (never_fails : Bool) (slots : ℕ) (plan : DiePlan) (feed : List Arrival) (end : DieEnd) (log : Log) (r : RanAlone never_fails plan slots feed end log) where
+module _ (never_fails : Bool) (slots : ℕ) (plan : DiePlan) (feed : List Arrival) (end : DieEnd) (log : Log)
+    (r : RanAlone never_fails plan slots feed end log) where
   abbrev pub saids : List Said
   saids = r.ran.saids
 
@@ -24,7 +25,8 @@ module _ (never_fails : Bool) (slots : ℕ) (plan : DiePlan) (feed : List Arriva
   number_is = ap (λ v. v.number) r.fresh
 
   all_mine : AllBy (0 ∷ []) (calls_of (log_of r.last.view.seen))
-  all_mine = subst (λ (x : List ℕ × List Call). AllBy x.0 x.1) (λ i. ((r.same.1 ∙ number_is) i ∷ (r.same.2 ∙ ap (λ v. v.joined) r.fresh) i, calls_of (r.log_is i))) r.by_own
+  all_mine = subst (λ (x : List ℕ × List Call). AllBy x.0 x.1)
+      (λ i. ((r.same.1 ∙ number_is) i ∷ (r.same.2 ∙ ap (λ v. v.joined) r.fresh) i, calls_of (r.log_is i))) r.by_own
 
   mine : calls_by 0 r.last.view.seen ≡ r.last.view.seen
   mine = own_of_log 0 r.last.view.seen all_mine
@@ -44,7 +46,8 @@ module _ (never_fails : Bool) (slots : ℕ) (plan : DiePlan) (feed : List Arriva
     accepted = λ before after event reply is. told_accepted plan saids before after event reply said_exact is;
     refused = λ before after event refused is.
         let why = r.ran.refused before after event refused is in
-        let these : take refused.entries r.last.view.seen ≡ accepted_by 0 before = sym (front_own 0 refused.entries r.last.view.seen all_mine)
+        let these : take refused.entries r.last.view.seen
+        ≡ accepted_by 0 before = sym (front_own 0 refused.entries r.last.view.seen all_mine)
         ∙ (ap (λ n. calls_by n (take refused.entries r.last.view.seen)) (sym number_is) ∙ (why.own
         ∙ λ i. calls_by (number_is i) (ap (λ v. v.seen) r.fresh i) ++ accepted_by (number_is i) before)) in
         subst (λ (x : DiePlan × Log). MayRefuse never_fails x.0 x.1 event refused.refusal) (λ i. (plan_is i, log_of (these i))) why.reason;

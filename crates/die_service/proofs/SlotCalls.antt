@@ -1,5 +1,6 @@
 -- What a call does to the present slot, and why a slot is refused.
-use Rattle.std.proofs.Common.{◌≡◌, ◌+◌, ◌<◌, Bool, List, [], ◌∷◌, ◌++◌, ap, ◌∙◌, sym, subst, inl, inr, refl, Option, Some, None, Result, Ok, Err}
+use Rattle.std.proofs.Common.{◌≡◌, ◌+◌, ◌<◌, Bool, List, [], ◌∷◌, ◌++◌, ap, ◌∙◌, sym, subst, inl, inr, refl, Option, Some, None, Result, Ok}
+use Rattle.std.proofs.Common.{Err}
 use Rattle.std.proofs.lemmas.Bool.{lt-leb}
 use Rattle.std.proofs.lemmas.List.{length_push}
 use Rattle.slot_types.specs.Arrivals.{IsArrival}
@@ -39,7 +40,8 @@ no_refusal : (r : Reply) (refusal : Refusal) → IsAccepted r → r ≡ replies.
 no_refusal r refusal taken is = subst IsAccepted is taken
 
 -- below the clock's end a slot is refused for want of memory alone, unless its device fails
-pub slot_refused : (plan : DiePlan) (past : Log) (refusal : Refusal) → now past < MAX_SLOT → RefusedBy plan past events.Slot refusal → refusal ≡ because.NoMemory
+pub slot_refused : (plan : DiePlan) (past : Log) (refusal : Refusal) → now past < MAX_SLOT → RefusedBy plan past events.Slot refusal
+    → refusal ≡ because.NoMemory
 slot_refused plan past refusal few (inl is) = absurd (no_refusal _ refusal (accepted_slot plan past few) is)
 slot_refused plan past refusal few (inr h) = h.1
 
@@ -47,7 +49,8 @@ same_slot : (s t : SlotReply) → replies.Slot s ≡ replies.Slot t → s ≡ t
 same_slot s t e = cc
 
 -- a slot's reply has its number
-numbered_by : (plan : DiePlan) (past : Log) (slot : SlotReply) (o : Option Refusal) → answer_by plan past events.Slot o ≡ replies.Slot slot → slot.slot ≡ now past
+numbered_by : (plan : DiePlan) (past : Log) (slot : SlotReply) (o : Option Refusal) → answer_by plan past events.Slot o ≡ replies.Slot slot
+    → slot.slot ≡ now past
 numbered_by plan past slot None e =
     let c = choice plan past in
     ap (λ (s : SlotReply). s.slot) (sym (same_slot (slot_reply plan past c.waived c.head) slot e)) ∙ slot_is plan past c.waived c.head
@@ -60,14 +63,17 @@ numbered plan past slot is = numbered_by plan past slot (refusal_of plan past ev
 -- Jobs and collections
 
 -- an accepted one takes no slot
-taken_stays : (plan : DiePlan) (past : Log) (event : Event) (reply : Reply) → IsArrival event → answer plan past event ≡ reply → IsAccepted reply → now (with_entry 0 event reply past) ≡ now past
-taken_stays plan past (events.Submit task release due ops) reply h is taken = by reply (submit_taken plan past task release due ops reply is taken)
+taken_stays : (plan : DiePlan) (past : Log) (event : Event) (reply : Reply) → IsArrival event → answer plan past event ≡ reply
+    → IsAccepted reply → now (with_entry 0 event reply past) ≡ now past
+taken_stays plan past (events.Submit task release due ops) reply h is taken = by reply
+    (submit_taken plan past task release due ops reply is taken)
   where
     by : (r : Reply) → IsTaken r → now (with_entry 0 (events.Submit task release due ops) r past) ≡ now past
     by (replies.Taken number) t = refl
     by (replies.Slot slot) t = absurd t
     by (replies.Refused refusal) t = absurd t
-taken_stays plan past (events.Collect task release due) reply h is taken = by reply (collect_taken plan past task release due reply is taken)
+taken_stays plan past (events.Collect task release due) reply h is taken = by reply
+    (collect_taken plan past task release due reply is taken)
   where
     by : (r : Reply) → IsTaken r → now (with_entry 0 (events.Collect task release due) r past) ≡ now past
     by (replies.Taken number) t = refl
@@ -75,7 +81,8 @@ taken_stays plan past (events.Collect task release due) reply h is taken = by re
     by (replies.Refused refusal) t = absurd t
 taken_stays plan past events.Slot reply h is taken = absurd h
 
-pub stays_at : (never_fails : Bool) (plan : DiePlan) (saids before after : List Said) (event : Event) (reply : Result Reply RefusedAt) → AreTold never_fails plan saids → saids ≡ before ++ said event reply ∷ after → IsArrival event
+pub stays_at : (never_fails : Bool) (plan : DiePlan) (saids before after : List Said) (event : Event) (reply : Result Reply RefusedAt)
+    → AreTold never_fails plan saids → saids ≡ before ++ said event reply ∷ after → IsArrival event
     → now (said_log (before ++ said event reply ∷ [])) ≡ now (said_log before)
 stays_at never_fails plan saids before after event (Ok reply) told is h =
     let t = told.accepted before after event reply is in

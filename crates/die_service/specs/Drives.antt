@@ -16,7 +16,8 @@ use Rattle.die_service.specs.declared.refused.RefusedAt.{RefusedAt}
 use Rattle.die_service.specs.Passes.{DieView}
 use Rattle.die_service.specs.Replies.{HasExactLog}
 use Rattle.slot_types.specs.Arrivals.{IsArrival}
-use Rattle.die_service.specs.Runs.{Said, said, due_by, later_than, AreAsked, accepted_by, slots_in, place_behind, refused_from, stop_of, IsReasoned, HasRun}
+use Rattle.die_service.specs.Runs.{Said, said, due_by, later_than, AreAsked, accepted_by, slots_in, place_behind, refused_from, stop_of}
+use Rattle.die_service.specs.Runs.{IsReasoned, HasRun}
 use Rattle.die_service.specs.Stores.{DiePass}
 
 -- The events of a feed that are still to come, how many came, the operations of the last of these, and those of them that were refused

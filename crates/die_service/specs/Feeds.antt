@@ -28,7 +28,8 @@ abbrev pub ops_at : List Op → FeedRow → List Op
 ops_at ops row = take row.op_count (drop row.first_op ops)
 
 abbrev pub event_at : List Op → FeedRow → Event
-event_at ops row = if row.collects then events.Collect row.task row.release row.due else events.Submit row.task row.release row.due (ops_at ops row)
+event_at ops row = if row.collects then events.Collect row.task row.release row.due else events.Submit row.task row.release row.due
+    (ops_at ops row)
 
 -- what a row stands for
 abbrev pub arrival_at : List Op → FeedRow → Arrival

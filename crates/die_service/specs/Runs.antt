@@ -1,5 +1,6 @@
 -- A run of slots on a die: what a pass asked of it in which order, what it was replied, and what came of it.
-use Rattle.std.specs.Prelude.{true, ◌≡◌, ◌≢◌, ℕ, zero, suc, ◌+◌, ◌<◌, ◌≤◌, ◌⊎◌, nat_le, Bool, List, [], ◌∷◌, ◌++◌, length, map, filter, take, drop, All, Option, Some, None, Result, Ok, Err, is_ok}
+use Rattle.std.specs.Prelude.{true, ◌≡◌, ◌≢◌, ℕ, zero, suc, ◌+◌, ◌<◌, ◌≤◌, ◌⊎◌, nat_le, Bool, List, [], ◌∷◌, ◌++◌, length, map, filter}
+use Rattle.std.specs.Prelude.{take, drop, All, Option, Some, None, Result, Ok, Err, is_ok}
 use Rattle.std.specs.List.{prefix_len, take_while}
 use Rattle.slot_types.specs.declared.plans.DiePlan.{DiePlan}
 use Rattle.slot_types.specs.declared.events.Event.{Event}
@@ -53,7 +54,8 @@ AreAsked feed saids = map (λ (s : Said). s.event) saids ≡ map (λ (arrival : 
 abbrev pub InClockOrder : ℕ → ℕ → List Arrival → List Said → Type 0
 InClockOrder zero clock feed saids = AreAsked (due_by clock feed) saids
 InClockOrder (suc left) clock feed saids = (fed : List Said) × (rest : List Said) × (saids ≡ fed ++ rest) × AreAsked (due_by clock feed) fed
-    × (((slot : SlotReply) × (more : List Said) × (rest ≡ said events.Slot (Ok (replies.Slot slot)) ∷ more) × InClockOrder left (slot.slot + 1) (later_than clock feed) more)
+    × (((slot : SlotReply) × (more : List Said) × (rest ≡ said events.Slot (Ok (replies.Slot slot)) ∷ more)
+    × InClockOrder left (slot.slot + 1) (later_than clock feed) more)
     ⊎ ((refused : RefusedAt) × (rest ≡ said events.Slot (Err refused) ∷ [])))
 
 -- What came of it
@@ -102,7 +104,8 @@ end_of saids = record { slots = slots_in saids; refused = refused_from 0 saids; 
 
 -- A call was refused behind so many entries of those that the pass `w` has seen: a die with these may refuse it so, and
 -- of the pass's own entries they are the ones from before the call.
-pub record IsReasoned (never_fails : Bool) (plan : DiePlan) (v : DieView) (before : List Said) (event : Event) (refused : RefusedAt) (w : DieView) : Type 0 where
+pub record IsReasoned (never_fails : Bool) (plan : DiePlan) (v : DieView) (before : List Said) (event : Event) (refused : RefusedAt)
+    (w : DieView) : Type 0 where
   pub within : refused.entries ≤ length w.seen
   pub reason : MayRefuse never_fails plan (log_of (take refused.entries w.seen)) event refused.refusal
   pub own : calls_by v.number (take refused.entries w.seen) ≡ calls_by v.number v.seen ++ accepted_by v.number before

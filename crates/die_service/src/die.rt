@@ -128,8 +128,10 @@ impl<N: Nand> Die<N> {
     ) -> Result<JobNo, RefusedAt>
         requires { pass.old.lock ≡ self.now }
         ensures same { IsSamePass pass.old pass.new }
-        ensures taken { IfOk result (λ number. AddsEntry pass.old.view (Event.Submit task release due ops) (Reply.Taken number) pass.new.view) }
-        ensures refused { IfErr result (λ refused. AddsNone N.never_fails pass.old.view (Event.Submit task release due ops) refused pass.new.view) }
+        ensures taken { IfOk result (λ number. AddsEntry pass.old.view (Event.Submit task release due ops) (Reply.Taken number)
+            pass.new.view) }
+        ensures refused { IfErr result (λ refused. AddsNone N.never_fails pass.old.view (Event.Submit task release due ops) refused
+            pass.new.view) }
     {
         let event = Event::Submit {
             task,
@@ -161,7 +163,8 @@ impl<N: Nand> Die<N> {
         requires { pass.old.lock ≡ self.now }
         ensures same { IsSamePass pass.old pass.new }
         ensures taken { IfOk result (λ number. AddsEntry pass.old.view (Event.Collect task release due) (Reply.Taken number) pass.new.view) }
-        ensures refused { IfErr result (λ refused. AddsNone N.never_fails pass.old.view (Event.Collect task release due) refused pass.new.view) }
+        ensures refused { IfErr result (λ refused. AddsNone N.never_fails pass.old.view (Event.Collect task release due) refused
+            pass.new.view) }
     {
         match self.apply(rt, pass, Event::Collect { task, release, due }) {
             Ok(reply) => Ok(taken_number(&reply)),

@@ -1,7 +1,8 @@
 //! A die with its pass and its feed, as one worker has them.
 
 ghost use Rattle.std.specs.Prelude.{◌≡◌, ◌<◌, [], false, IsTrue, IfSome, IfNone};
-ghost use Rattle.die_service.specs.Drives.{first_standing, end_at, Asks, IsFit, IsFirst, NoneDue, BringsOne, Brings, TakesSlot, IsStopped, Drives};
+ghost use Rattle.die_service.specs.Drives.{first_standing, end_at, Asks, IsFit, IsFirst, NoneDue, BringsOne, Brings, TakesSlot, IsStopped};
+ghost use Rattle.die_service.specs.Drives.{Drives};
 
 use crate::courses::Course;
 use crate::die::{Die, DiePass};

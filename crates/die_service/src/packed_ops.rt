@@ -1,6 +1,7 @@
 //! Operations in little room.
 
-ghost use Rattle.std.specs.Prelude.{◌≡◌, ◌+◌, ◌<◌, ◌≤◌, ◌^◌, ◌++◌, [], Some, All, length, take, drop, slice_get, vec_len, vec_capacity, IfErr, OnErr, OnOk};
+ghost use Rattle.std.specs.Prelude.{◌≡◌, ◌+◌, ◌<◌, ◌≤◌, ◌^◌, ◌++◌, [], Some, All, length, take, drop, slice_get, vec_len, vec_capacity};
+ghost use Rattle.std.specs.Prelude.{IfErr, OnErr, OnOk};
 ghost use Rattle.die_service.specs.PackedOps.{GoesOn, IsPacked, all_unpacked, unpacked};
 
 use slot_types::{Op, PageData, Refusal};

@@ -28,7 +28,8 @@ pub fn promises<N: Nand>(pass: &DiePass<N>)
 /// each beginning of it.
 pub fn seen_keeps_promises()
     ensures seen { (plan : DiePlan) (seen : List Call) → HasExactLog plan seen → KeepsPromises plan (log_of seen) }
-    ensures beginnings { (plan : DiePlan) (first later : List Call) → HasExactLog plan (first ++ later) → KeepsPromises plan (log_of first) }
+    ensures beginnings { (plan : DiePlan) (first later : List Call) → HasExactLog plan (first ++ later)
+        → KeepsPromises plan (log_of first) }
 {}
 
 /// Whatever [`run_slots`](crate::run_slots) did on a new die, where the events of its feed keep the die's plan, whose times

@@ -67,7 +67,8 @@ fn do_fit<N: Nand>(plans: &[DiePlan], nands: &[N]) -> bool
 fn refusal_of<N: Nand>(plans: &[DiePlan], nands: &[N]) -> Result<(), Refusal>
     ensures ok { IsOk result ↔ (IsShaped plans.now (map N.shape_of nands.now) × IsServed plans.now (length nands.now)) }
     ensures bad_shape { (result ≡ Err Refusal.BadShape) ↔ ¬ IsShaped plans.now (map N.shape_of nands.now) }
-    ensures bad_plan { (result ≡ Err Refusal.BadPlan) ↔ (IsShaped plans.now (map N.shape_of nands.now) × ¬ IsServed plans.now (length nands.now)) }
+    ensures bad_plan { (result ≡ Err Refusal.BadPlan) ↔ (IsShaped plans.now (map N.shape_of nands.now)
+        × ¬ IsServed plans.now (length nands.now)) }
     ensures refused { IfErr result (λ refusal. (refusal ≡ Refusal.BadShape) ⊎ (refusal ≡ Refusal.BadPlan)) }
 {
     if plans.is_empty()
@@ -147,7 +148,8 @@ impl<N: Nand> Store<N> {
         ensures live { IfOk result (λ made. All (λ pass. IsLive pass.view) made.1.items) }
         ensures bad_shape { (result ≡ Err Refusal.BadShape) ↔ ¬ IsShaped plan (map N.shape_of nands.items) }
         ensures bad_plan { (result ≡ Err Refusal.BadPlan) ↔ (IsShaped plan (map N.shape_of nands.items) × ¬ IsServed plan (vec_len nands)) }
-        ensures refused { IfErr result (λ refusal. (refusal ≡ Refusal.BadShape) ⊎ (refusal ≡ Refusal.BadPlan) ⊎ (refusal ≡ Refusal.NoMemory)) }
+        ensures refused { IfErr result (λ refusal. (refusal ≡ Refusal.BadShape) ⊎ (refusal ≡ Refusal.BadPlan)
+            ⊎ (refusal ≡ Refusal.NoMemory)) }
     {
         refusal_of(plan.as_slice(), nands.as_slice())?;
         let (dies, passes) = new_dies(alloc, plan.into_vec(), nands)?;

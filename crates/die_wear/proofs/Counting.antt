@@ -1,5 +1,6 @@
 -- What a slot adds to the counts of a log, and how great they are at most.
-use Rattle.std.proofs.Common.{◌≡◌, ◌∙◌, ap, sym, ℕ, ◌+◌, ◌<◌, ◌≤◌, Bool, true, false, List, [], ◌∷◌, ◌++◌, length, get_or, refl, arith, add_comm}
+use Rattle.std.proofs.Common.{◌≡◌, ◌∙◌, ap, sym, ℕ, ◌+◌, ◌<◌, ◌≤◌, Bool, true, false, List, [], ◌∷◌, ◌++◌, length, get_or, refl, arith}
+use Rattle.std.proofs.Common.{add_comm}
 use Rattle.std.specs.Prelude.{◌==◌, cond, count_by, is_some, slice_set, Some}
 use Rattle.std.proofs.lemmas.List.Sums.{sum_by-cons}
 use Rattle.std.proofs.lemmas.Grind.{common_steps}
@@ -38,7 +39,8 @@ one_slot is only (replies.Refused r) n earlier h = rw (only.refused r) (omega (a
 -- at most as many as slots
 pub at_most_now : (is : Reply → Bool) → CountsSlots is → (log : Log) → slots_of is log ≤ now log
 at_most_now is only [] = omega arith
-at_most_now is only (e ∷ past) = rw (count_step is e past) (one_slot is only e.reply (slots_of is past) (carried past) (at_most_now is only past))
+at_most_now is only (e ∷ past) = rw (count_step is e past)
+    (one_slot is only e.reply (slots_of is past) (carried past) (at_most_now is only past))
 
 counts_writes : CountsSlots does_write
 counts_writes = record { taken = λ _. refl; refused = λ _. refl }
@@ -78,7 +80,8 @@ set_step : (items : List ℕ) (b j : ℕ) → j < length items
     → get_or (slice_set items b (get_or items b 0 + 1)) j 0 ≡ cond (b == j) 1 0 + get_or items j 0
 set_step items b j is = grind (arith, common_steps)
 
-ended_of : (reply : SlotReply) (did : ℕ × Act) (block : ℕ) → reply.ran ≡ Some did → (deed_of did.1).kind ≡ kind.Erase → is_some reply.finished ≡ true
+ended_of : (reply : SlotReply) (did : ℕ × Act) (block : ℕ) → reply.ran ≡ Some did → (deed_of did.1).kind ≡ kind.Erase
+    → is_some reply.finished ≡ true
     → ends_erase_of block (replies.Slot reply) ≡ ((deed_of did.1).of == block)
 ended_of reply did block ran erases done = rw (done, ran, erases) refl
 
@@ -86,10 +89,12 @@ ended : (reply : SlotReply) (did : ℕ × Act) → reply.ran ≡ Some did → (d
     → ends_erase (replies.Slot reply) ≡ true
 ended reply did ran erases done = rw (done, ran, erases) refl
 
-no_write : (reply : SlotReply) (did : ℕ × Act) → reply.ran ≡ Some did → (deed_of did.1).kind ≡ kind.Erase → does_write (replies.Slot reply) ≡ false
+no_write : (reply : SlotReply) (did : ℕ × Act) → reply.ran ≡ Some did → (deed_of did.1).kind ≡ kind.Erase → does_write (replies.Slot reply)
+    ≡ false
 no_write reply did ran erases = rw (ran, erases) refl
 
-no_copy : (reply : SlotReply) (did : ℕ × Act) → reply.ran ≡ Some did → (deed_of did.1).kind ≡ kind.Erase → does_copy (replies.Slot reply) ≡ false
+no_copy : (reply : SlotReply) (did : ℕ × Act) → reply.ran ≡ Some did → (deed_of did.1).kind ≡ kind.Erase → does_copy (replies.Slot reply)
+    ≡ false
 no_copy reply did ran erases = rw (ran, erases) refl
 
 counted : (is : Reply → Bool) (reply : SlotReply) (past : Log) (b : Bool) → is (replies.Slot reply) ≡ b
@@ -124,10 +129,12 @@ after_erase_by blocks past old new reply job act deed ran is erases done items e
 
 -- What an accepted job or collection leaves
 
-unless_slot : (is : Reply → Bool) → CountsSlots is → (e : Entry) (n : ℕ) (past : Log) → e.reply ≡ replies.Taken n → slots_of is (e ∷ past) ≡ slots_of is past
+unless_slot : (is : Reply → Bool) → CountsSlots is → (e : Entry) (n : ℕ) (past : Log) → e.reply ≡ replies.Taken n → slots_of is (e ∷ past)
+    ≡ slots_of is past
 unless_slot is only e n past taken = omega (arith, count_step is e past, ap {B = ℕ} (λ b. cond b 1 0) (ap is taken ∙ only.taken n))
 
-pub after_taken : (blocks : ℕ) (past : Log) (t : Tally) (e : Entry) (n : ℕ) → e.reply ≡ replies.Taken n → IsWearOf blocks past t → IsWearOf blocks (e ∷ past) t
+pub after_taken : (blocks : ℕ) (past : Log) (t : Tally) (e : Entry) (n : ℕ) → e.reply ≡ replies.Taken n → IsWearOf blocks past t
+    → IsWearOf blocks (e ∷ past) t
 after_taken blocks past t e n taken worn = record {
   all = worn.all;
   by_block = λ block is. omega (arith, worn.by_block block is, unless_slot (ends_erase_of block) (counts_ends_of block) e n past taken);

@@ -20,7 +20,8 @@ die_record die tally =
     die_counts die tally.erased tally.written tally.copied ++ amplification tally.written tally.copied ++ 10 ∷ []
 
 abbrev pub block_record : ℕ → ℕ → ℕ → List ℕ
-block_record die block erases = codes "block," ++ decimal die ++ codes "," ++ decimal block ++ codes "," ++ decimal erases ++ codes ",,," ++ 10 ∷ []
+block_record die block erases = codes "block," ++ decimal die ++ codes "," ++ decimal block ++ codes "," ++ decimal erases ++ codes ",,,"
+    ++ 10 ∷ []
 
 -- the records of blocks, numbered from 0
 abbrev pub block_records : ℕ → List ℕ → List ℕ

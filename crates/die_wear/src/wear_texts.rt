@@ -1,7 +1,8 @@
 //! What dies wore, as a text.
 
 ghost use Rattle.std.specs.Prelude.{◌≡◌, ◌++◌, IfErr, IfOk, OnOk};
-ghost use Rattle.die_wear.specs.WearText.{amplification, block_record, block_records, die_counts, die_record, header, records_of, wear_text};
+ghost use Rattle.die_wear.specs.WearText.{amplification, block_record, block_records, die_counts, die_record, header, records_of};
+ghost use Rattle.die_wear.specs.WearText.{wear_text};
 
 use crate::tallies::Tally;
 use slot_types::Refusal;

@@ -1,5 +1,6 @@
 -- Lists that insertion makes, under an order that tells any two keys apart.
-use Rattle.std.proofs.Common.{◌≡◌, ℕ, zero, suc, ◌<◌, Bool, true, false, cond, refl, sym, ap, ◌∙◌, arith, List, [], ◌∷◌, length, get_or, Contains, ⊎_elim, IsPermutation}
+use Rattle.std.proofs.Common.{◌≡◌, ℕ, zero, suc, ◌<◌, Bool, true, false, cond, refl, sym, ap, ◌∙◌, arith, List, [], ◌∷◌, length, get_or}
+use Rattle.std.proofs.Common.{Contains, ⊎_elim, IsPermutation}
 use Rattle.std.proofs.Math.ListN.{set}
 use Rattle.std.proofs.lemmas.Bool.{cases_Bool}
 use Rattle.std.proofs.lemmas.List.Sorted.{IsPermutation-keeps}
@@ -24,7 +25,8 @@ length-in_order is_before [] = refl
 length-in_order is_before (x ∷ xs) = length-inserted is_before x (in_order is_before xs) ∙ ap suc (length-in_order is_before xs)
 
 -- what holds of a key and of each of the list holds of each of the list with it
-pub every-inserted : {K : Type 0} (is_before : K → K → Bool) (P : K → Type 0) (x : K) (zs : List K) → P x → AllByRecursion P zs → AllByRecursion P (inserted is_before x zs)
+pub every-inserted : {K : Type 0} (is_before : K → K → Bool) (P : K → Type 0) (x : K) (zs : List K) → P x → AllByRecursion P zs
+    → AllByRecursion P (inserted is_before x zs)
 every-inserted is_before P x [] here all = (here, tt)
 every-inserted is_before P x (z ∷ zs) here all =
     elim (is_before x z) as (λ v. AllByRecursion P (cond v (x ∷ z ∷ zs) (z ∷ inserted is_before x zs)))
@@ -52,7 +54,8 @@ module _ {K : Type 0} (is_before : K → K → Bool) (order : IsStrict is_before
       (λ (e : is_before x y ≡ false).
       ⊎_elim
       (λ (f : is_before y x ≡ true). rw (e, f) refl)
-      (λ (f : is_before y x ≡ false). rw (e, f) (let same = order.apart x y e f in ap (λ k. k ∷ x ∷ zs) (sym same) ∙ ap (λ k. x ∷ k ∷ zs) same))
+      (λ (f : is_before y x ≡ false). rw (e, f) (let same = order.apart x y e f in ap (λ k. k ∷ x ∷ zs) (sym same)
+      ∙ ap (λ k. x ∷ k ∷ zs) same))
       (cases_Bool (is_before y x)))
       (cases_Bool (is_before x y))
 
@@ -64,7 +67,8 @@ module _ {K : Type 0} (is_before : K → K → Bool) (order : IsStrict is_before
       (λ (g : is_before y x ≡ false). g)
       (cases_Bool (is_before y x))
 
-  pub inserted_comm : (x y : K) (zs : List K) → inserted is_before x (inserted is_before y zs) ≡ inserted is_before y (inserted is_before x zs)
+  pub inserted_comm : (x y : K) (zs : List K) → inserted is_before x (inserted is_before y zs)
+      ≡ inserted is_before y (inserted is_before x zs)
   inserted_comm x y [] = front x y []
   inserted_comm x y (z ∷ zs) =
       ⊎_elim
@@ -100,7 +104,8 @@ module _ {K : Type 0} (is_before : K → K → Bool) (order : IsStrict is_before
       (cases_Bool (is_before x z))
 
   -- another key in the place of one
-  in_order-set : (xs : List K) (i : ℕ) (v d : K) → i < length xs → inserted is_before (get_or xs i d) (in_order is_before (set xs i v)) ≡ inserted is_before v (in_order is_before xs)
+  in_order-set : (xs : List K) (i : ℕ) (v d : K) → i < length xs → inserted is_before (get_or xs i d) (in_order is_before (set xs i v))
+      ≡ inserted is_before v (in_order is_before xs)
   in_order-set [] i v d h = absurd (omega arith)
   in_order-set (x ∷ xs) zero v d h = inserted_comm x v (in_order is_before xs)
   in_order-set (x ∷ xs) (suc i) v d h =
@@ -108,7 +113,8 @@ module _ {K : Type 0} (is_before : K → K → Bool) (order : IsStrict is_before
       ∙ ap (inserted is_before x) (in_order-set xs i v d (omega arith))
       ∙ inserted_comm x v (in_order is_before xs)
 
-  in_order-exchange : (xs : List K) (i j : ℕ) (d : K) → i < length xs → j < length xs → in_order is_before (set (set xs i (get_or xs j d)) j (get_or xs i d)) ≡ in_order is_before xs
+  in_order-exchange : (xs : List K) (i j : ℕ) (d : K) → i < length xs → j < length xs
+      → in_order is_before (set (set xs i (get_or xs j d)) j (get_or xs i d)) ≡ in_order is_before xs
   in_order-exchange [] i j d p q = absurd (omega arith)
   in_order-exchange (x ∷ xs) zero zero d p q = refl
   in_order-exchange (x ∷ xs) zero (suc j) d p q = in_order-set xs j x d (omega arith)
@@ -121,4 +127,5 @@ module _ {K : Type 0} (is_before : K → K → Bool) (order : IsStrict is_before
 
   -- the order in which the keys lay says nothing
   pub in_order-IsPermutation : (xs ys : List K) → IsPermutation xs ys → in_order is_before ys ≡ in_order is_before xs
-  in_order-IsPermutation xs ys = IsPermutation-keeps xs (λ l. in_order is_before l ≡ in_order is_before xs) refl (λ l i j p q h. in_order-swap l i j p q ∙ h) ys
+  in_order-IsPermutation xs ys = IsPermutation-keeps xs (λ l. in_order is_before l ≡ in_order is_before xs) refl
+      (λ l i j p q h. in_order-swap l i j p q ∙ h) ys

@@ -1,4 +1,5 @@
--- The orders of keys tell any two apart, for the crates above: with these the lemmas on lists that insertion makes hold of both queues' keys.
+-- The orders of keys tell any two apart, for the crates above: with these the lemmas on lists that insertion makes hold of both queues'
+-- keys.
 use Rattle.std.proofs.Common.{ap}
 use Rattle.due_queue.specs.Keys.{is_due_before, is_released_before, key_of, wait_key_of}
 use Rattle.due_queue.proofs.Orders.{IsStrict, pairs_strict}

@@ -57,7 +57,8 @@ spread-take (q ∷ qs) (suc i) r h e =
     ∙ sym (append_assoc (replicate q.count q.item) (spread (take i qs)) (replicate r.count r.item))
 
 slots-take : (rs : List (Run Deed)) (i : ℕ) (r : Run Deed) → i < length rs → r ≡ get_or rs i r
-    → filter_map slot_by (spread (take (i + 1) rs)) ≡ filter_map slot_by (spread (take i rs)) ++ filter_map slot_by (replicate r.count r.item)
+    → filter_map slot_by (spread (take (i + 1) rs)) ≡ filter_map slot_by (spread (take i rs))
+    ++ filter_map slot_by (replicate r.count r.item)
 slots-take rs i r h e =
     rw (add-one i) (ap (λ (ds : List Deed). filter_map slot_by ds) (spread-take rs i r h e)
     ∙ filter_map-append slot_by (spread (take i rs)) (replicate r.count r.item))

@@ -6,7 +6,8 @@ use Rattle.std.proofs.lemmas.List.{reverse-append, length-reverse}
 use Rattle.std.proofs.lemmas.List.Elements.{filter_map-append}
 use Rattle.slot_types.specs.declared.replies.Waived.{Waived}
 use Rattle.event_log.specs.declared.deeds.Deed.{Deed}
-use Rattle.event_log.specs.declared.deeds.Deed.TheVariants.{Submit, Collect, Idle, Operation, LastOperation, CopyRead, CopyProgram, EraseSlot, LastEraseSlot}
+use Rattle.event_log.specs.declared.deeds.Deed.TheVariants.{Submit, Collect, Idle, Operation, LastOperation, CopyRead, CopyProgram}
+use Rattle.event_log.specs.declared.deeds.Deed.TheVariants.{EraseSlot, LastEraseSlot}
 use Rattle.event_log.specs.declared.waivers.Waiver.{Waiver}
 use Rattle.event_log.specs.Spread.{last_of}
 use Rattle.event_log.specs.Waivers.{waiver_of}
@@ -220,7 +221,8 @@ pub record GoesOnIdle (deeds : List Deed) (callers : List ℕ) (waivers : List W
 
 goes_on_by_last : (deeds : List Deed) (callers : List ℕ) (waivers : List Waiver) (c : ℕ) (ws : List Waived) (last : Option Deed)
     → last_of deeds ≡ last → length callers ≡ length deeds
-    → goes_on (record { caller = c; deed = Idle; waived = ws }) (notes_in deeds callers waivers) ≡ true → GoesOnIdle deeds callers waivers c ws
+    → goes_on (record { caller = c; deed = Idle; waived = ws }) (notes_in deeds callers waivers) ≡ true
+    → GoesOnIdle deeds callers waivers c ws
 goes_on_by_last deeds callers waivers c ws None last n on =
     let no : goes_on (record { caller = c; deed = Idle; waived = ws }) (notes_in deeds callers waivers) ≡ false =
     goes_on_first deeds callers waivers (record { caller = c; deed = Idle; waived = ws }) last in
@@ -239,12 +241,14 @@ goes_on_by_last deeds callers waivers c ws (Some d) last n on =
     }
 
 pub idle_goes_on : (deeds : List Deed) (callers : List ℕ) (waivers : List Waiver) (c : ℕ) (ws : List Waived) → length callers ≡ length deeds
-    → goes_on (record { caller = c; deed = Idle; waived = ws }) (notes_in deeds callers waivers) ≡ true → GoesOnIdle deeds callers waivers c ws
+    → goes_on (record { caller = c; deed = Idle; waived = ws }) (notes_in deeds callers waivers) ≡ true
+    → GoesOnIdle deeds callers waivers c ws
 idle_goes_on deeds callers waivers c ws n on = goes_on_by_last deeds callers waivers c ws (last_of deeds) refl n on
 
 -- one more idle slot
 pub idle_push : (deeds : List Deed) (callers : List ℕ) (n : ℕ) (waivers : List Waiver) (c : ℕ) → n ≡ length deeds → AreBefore n waivers
-    → notes_in (deeds ++ Idle ∷ []) (callers ++ c ∷ []) waivers ≡ record { caller = c; deed = Idle; waived = [] } ∷ notes_in deeds callers waivers
+    → notes_in (deeds ++ Idle ∷ []) (callers ++ c ∷ []) waivers ≡ record { caller = c; deed = Idle; waived = [] }
+    ∷ notes_in deeds callers waivers
 idle_push deeds callers n waivers c e b =
     ap (λ (ws : List Waiver). notes_in (deeds ++ Idle ∷ []) (callers ++ c ∷ []) ws) (sym (append-nil waivers))
     ∙ notes_push deeds callers n waivers c Idle [] e b

@@ -9,7 +9,8 @@ use Rattle.flash_commands.specs.declared.faults.Fault.{Fault}
 use Rattle.flash_commands.specs.declared.faults.Fault.TheVariants.{Certificate, NotText, Refused, Words}
 
 -- what is said of it
-pub refusal-of : (P : Refusal → Type 0) (done : Result (Unit {0}) Fault) → IfErr done (IsFaultOf P) → outcome_status done ≡ 1 → (refusal : Refusal) × P refusal
+pub refusal-of : (P : Refusal → Type 0) (done : Result (Unit {0}) Fault) → IfErr done (IsFaultOf P) → outcome_status done ≡ 1
+    → (refusal : Refusal) × P refusal
 refusal-of P (Ok x) p ends = absurd (omega (arith, ends))
 refusal-of P (Err (Refused refusal)) p ends = (refusal, p)
 refusal-of P (Err (Words error)) p ends = absurd p
@@ -23,7 +24,8 @@ not-whole-as contents P Q old new turn (inr (whole, prints, part)) = inr (whole,
 
 -- the refusal of a command, of which three things are said
 pub refused-for : {W : Type 0} (contents : W → Option (List ℕ)) (c : Command) (first second : Option (List ℕ)) (old new : W)
-    (P : Option (List ℕ) → Option (List ℕ) → Type 0) (done : Result (Unit {0}) Fault) → ((a b : Option (List ℕ)) → P a b → PrintsSome c first second a b)
+    (P : Option (List ℕ) → Option (List ℕ) → Type 0) (done : Result (Unit {0}) Fault)
+    → ((a b : Option (List ℕ)) → P a b → PrintsSome c first second a b)
     → IfErr done (IsFaultOf (Refuses c first second)) → IfErr done (IsFaultOf (IsUnwritten old new))
     → IfErr done (IsFaultOf (λ _. IsNotWhole contents P old new)) → IfErr done (IsFaultOf (IsRefusedFor contents c first second old new))
 refused-for contents c first second old new P (Ok x) turn why unwritten part = tt

@@ -1,5 +1,6 @@
 -- The status of an audit is 3 exactly where its text was written whole and a certificate is refused.
-use Rattle.std.proofs.Common.{◌≡◌, ◌≢◌, ◌<◌, ◌⊎◌, ℕ, Bool, true, false, List, [], ◌∷◌, ◌++◌, length, take, Option, Some, None, Result, Ok, Err, refl, sym, ap, ◌∙◌, inl, inr, arith, length-append, length-take}
+use Rattle.std.proofs.Common.{◌≡◌, ◌≢◌, ◌<◌, ◌⊎◌, ℕ, Bool, true, false, List, [], ◌∷◌, ◌++◌, length, take, Option, Some, None, Result, Ok}
+use Rattle.std.proofs.Common.{Err, refl, sym, ap, ◌∙◌, inl, inr, arith, length-append, length-take}
 use Rattle.std.specs.Prelude.{if◌then◌else◌}
 use Rattle.std.specs.List.{list_any}
 use Rattle.std.proofs.lemmas.Option.{same_Some}
@@ -43,11 +44,14 @@ status-three : (b : Bool) → ◌≡◌ {A = ℕ} (if b then 3 else 0) 3 → b �
 status-three true three = refl
 status-three false three = absurd (omega (arith, three))
 
-finds : (text old new : List ℕ) (status : ℕ) → (status ≡ 1) ⊎ PrintsAudit (Some text) (Some old) (Some new) status → status ≡ 3 → FindsRefused text old new
+finds : (text old new : List ℕ) (status : ℕ) → (status ≡ 1) ⊎ PrintsAudit (Some text) (Some old) (Some new) status → status ≡ 3
+    → FindsRefused text old new
 finds text old new status (inl one) three = absurd (omega (arith, one, three))
-finds text old new status (inr (report, read, wrote, is)) three = (report, read, wrote, status-three (list_any is_refused report) (sym is ∙ three))
+finds text old new status (inr (report, read, wrote, is)) three =
+    (report, read, wrote, status-three (list_any is_refused report) (sym is ∙ three))
 
-cut-none : (text old new : List ℕ) → (Some new ≡ Some old) ⊎ InPart (λ a b. (status : ℕ) × PrintsAudit (Some text) a b status) (Some old) (Some new) → FindsRefused text old new → ⊥
+cut-none : (text old new : List ℕ) → (Some new ≡ Some old)
+    ⊎ InPart (λ a b. (status : ℕ) × PrintsAudit (Some text) a b status) (Some old) (Some new) → FindsRefused text old new → ⊥
 cut-none text old new (inl same) (report, read, wrote, refused) =
     let front = audit-front report refused in
     not-none old (audit_text report) front.0 front.1 (sym (same_Some new old same) ∙ wrote)
@@ -57,7 +61,8 @@ cut-none text old new (inr (whole, (status, (other, reads, prints, is)), (n, few
     not-all old whole n few (sym takes ∙ wrote ∙ ap (λ l. old ++ l) (sym all))
 
 ends-so : (text old new : List ℕ) (status : ℕ) → (status ≡ 1) ⊎ PrintsAudit (Some text) (Some old) (Some new) status
-    → (status ≡ 1 → (Some new ≡ Some old) ⊎ InPart (λ a b. (s : ℕ) × PrintsAudit (Some text) a b s) (Some old) (Some new)) → FindsRefused text old new → status ≡ 3
+    → (status ≡ 1 → (Some new ≡ Some old) ⊎ InPart (λ a b. (s : ℕ) × PrintsAudit (Some text) a b s) (Some old) (Some new))
+    → FindsRefused text old new → status ≡ 3
 ends-so text old new status (inl one) cut found = absurd (cut-none text old new (cut one) found)
 ends-so text old new status (inr (other, reads, wrote, is)) cut (report, read, written, refused) =
     let same : other ≡ report = ap the-report (sym reads ∙ read) in
@@ -68,7 +73,8 @@ tells-refused : (text old new : Option (List ℕ)) (status : ℕ) → (status �
 tells-refused None old new status printed cut = tt
 tells-refused (Some text) None new status printed cut = tt
 tells-refused (Some text) (Some old) None status printed cut = tt
-tells-refused (Some text) (Some old) (Some new) status printed cut = (finds text old new status printed, ends-so text old new status printed cut)
+tells-refused (Some text) (Some old) (Some new) status printed cut =
+    (finds text old new status printed, ends-so text old new status printed cut)
 
 -- Commands
 
@@ -76,7 +82,8 @@ not-three : (A : Type 0) (status : ℕ) → (status ≡ 1) ⊎ (A × (status ≡
 not-three A status (inl one) three = omega (arith, one, three)
 not-three A status (inr (a, zero)) three = omega (arith, zero, three)
 
-seen-by : {W : Type 0} (contents : W → Option (List ℕ)) (P : Option (List ℕ) → Option (List ℕ) → Type 0) (old new : W) → IsNotWhole contents P old new
+seen-by : {W : Type 0} (contents : W → Option (List ℕ)) (P : Option (List ℕ) → Option (List ℕ) → Type 0) (old new : W)
+    → IsNotWhole contents P old new
     → (contents new ≡ contents old) ⊎ InPart P (contents old) (contents new)
 seen-by contents P old new (inl same) = inl (ap contents same)
 seen-by contents P old new (inr part) = inr part
@@ -85,7 +92,8 @@ pub has-three : {W : Type 0} (contents : W → Option (List ℕ)) (c : Command) 
     → (status ≡ 1) ⊎ Prints c first second (contents old) (contents new) status → (status ≡ 1 → IsRefused contents c first second old new)
     → HasThree c first (contents old) (contents new) status
 has-three contents (command.Audit report) first second old new status printed refused =
-    tells-refused first (contents old) (contents new) status printed (λ one. seen-by contents (PrintsSome (command.Audit report) first second) old new (refused one).1.part)
+    tells-refused first (contents old) (contents new) status printed
+    (λ one. seen-by contents (PrintsSome (command.Audit report) first second) old new (refused one).1.part)
 has-three contents (command.Plan plan) first second old new status printed refused = not-three _ status printed
 has-three contents (command.Run plan script slots workers) first second old new status printed refused = not-three _ status printed
 has-three contents command.Alone first second old new status printed refused = not-three _ status printed

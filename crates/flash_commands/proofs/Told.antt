@@ -5,6 +5,7 @@ use Rattle.task_texts.specs.ReportOf.{Tells, report_of}
 use Rattle.task_texts.specs.declared.reports.DieReport.{DieReport}
 use Rattle.flash_commands.specs.Acts.{IsReportOf}
 
-pub told-report : (text : Option (List ℕ)) (report : List DieReport) → Tells (option_map report_of text) (Ok report) → IsReportOf text report
+pub told-report : (text : Option (List ℕ)) (report : List DieReport) → Tells (option_map report_of text) (Ok report)
+    → IsReportOf text report
 told-report None report told = tt
 told-report (Some bytes) report told = told

@@ -32,7 +32,8 @@ of-files contents held c out refusal is =
       record { why = host-fault c first second refusal (inl (inr is)); unwritten = λ _. refl; part = inl refl },
     )
 
-pub unopened : {W : Type 0} (contents : W → Option (List ℕ)) (held : Held) (c : Command) (out : W) (refusal : Refusal) (r : Result (Unit {0}) Fault) → refusal ≡ ReadFault
+pub unopened : {W : Type 0} (contents : W → Option (List ℕ)) (held : Held) (c : Command) (out : W) (refusal : Refusal)
+    (r : Result (Unit {0}) Fault) → refusal ≡ ReadFault
     → IsErrAnd r (λ fault. fault ≡ Refused refusal)
     → IfErr r (IsFaultOf (λ refusal. OfFiles held c (λ first second. IsRefusedFor contents c first second out out refusal)))
 unopened contents held c out refusal (Ok done) is told = tt

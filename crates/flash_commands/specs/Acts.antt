@@ -41,7 +41,8 @@ RefusesFigures text refusal = IsHostFault refusal ⊎ IfSome text (λ bytes. Ref
 
 -- the audit of the report that was read is printed, and this is its status
 abbrev pub PrintsAudit : Option (List ℕ) → Option (List ℕ) → Option (List ℕ) → ℕ → Type 0
-PrintsAudit text old new status = (report : List DieReport) × IsReportOf text report × Appends old new (audit_text report) × (status ≡ audit_status report)
+PrintsAudit text old new status = (report : List DieReport) × IsReportOf text report × Appends old new (audit_text report)
+    × (status ≡ audit_status report)
 
 -- so it is, whatever the status
 abbrev pub AuditsSome : Option (List ℕ) → Option (List ℕ) → Option (List ℕ) → Type 0
@@ -87,7 +88,8 @@ abbrev pub PrintsSome : Command → Option (List ℕ) → Option (List ℕ) → 
 PrintsSome c first second old new = (status : ℕ) × Prints c first second old new status
 
 -- why a command is refused, and that nothing was written, or not the whole
-pub record IsRefusedFor {W : Type 0} (contents : W → Option (List ℕ)) (c : Command) (first second : Option (List ℕ)) (old new : W) (refusal : Refusal) : Type 0 where
+pub record IsRefusedFor {W : Type 0} (contents : W → Option (List ℕ)) (c : Command) (first second : Option (List ℕ)) (old new : W)
+    (refusal : Refusal) : Type 0 where
   pub why : Refuses c first second refusal
   pub unwritten : IsUnwritten old new refusal
   pub part : IsNotWhole contents (PrintsSome c first second) old new
@@ -104,7 +106,8 @@ IsFaultOf is Certificate = ⊤
 
 -- the report that a text has is read, its audit is behind what was there, whole, and a certificate of it is refused
 abbrev pub FindsRefused : (text old new : List ℕ) → Type 0
-FindsRefused text old new = (report : List DieReport) × (report_of text ≡ Ok report) × (new ≡ old ++ audit_text report) × (list_any is_refused report ≡ true)
+FindsRefused text old new = (report : List DieReport) × (report_of text ≡ Ok report) × (new ≡ old ++ audit_text report)
+    × (list_any is_refused report ≡ true)
 
 -- where the report's text is known, and what was written, the status is 3 exactly where that is so
 abbrev pub TellsRefused : Option (List ℕ) → Option (List ℕ) → Option (List ℕ) → ℕ → Type 0

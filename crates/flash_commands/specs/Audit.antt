@@ -25,7 +25,8 @@ verdict_text verdict = fault_text (fault_number verdict) (name_of verdict)
 
 -- the lateness and the job that a certificate speaks of
 abbrev pub worst_text : ℕ → Certificate → List ℕ
-worst_text die cert = codes "die " ++ decimal die ++ codes " worst " ++ signed_decimal (lateness_of cert.completion cert.due) ++ codes " job " ++ decimal cert.job ++ codes " "
+worst_text die cert = codes "die " ++ decimal die ++ codes " worst " ++ signed_decimal (lateness_of cert.completion cert.due)
+    ++ codes " job " ++ decimal cert.job ++ codes " "
 
 abbrev pub cert_line : ℕ → List ReportRow → Option Certificate → List ℕ
 cert_line die rows None = codes "die " ++ decimal die ++ codes " no lateness" ++ 10 ∷ []

@@ -8,7 +8,8 @@ use Rattle.slot_types.specs.declared.plans.Times.{Times}
 
 -- the line of a die, from its figures
 abbrev pub figures_line : (die fmax closed live logical : ℕ) → List ℕ
-figures_line die fmax closed live logical = codes "die " ++ decimal die ++ codes " fmax " ++ decimal fmax ++ codes " closed " ++ decimal closed
+figures_line die fmax closed live logical = codes "die " ++ decimal die ++ codes " fmax " ++ decimal fmax ++ codes " closed "
+    ++ decimal closed
     ++ codes " live " ++ decimal live ++ codes " logical " ++ decimal logical ++ codes " accepted" ++ 10 ∷ []
 
 -- the line of a die

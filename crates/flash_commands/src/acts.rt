@@ -1,7 +1,8 @@
 //! Commands that are carried out.
 
 ghost use Rattle.std.specs.Prelude.{◌≡◌, ◌≤◌, ◌⊎◌, IfOk, IfErr, OnErr, OnOk, if◌then◌else◌};
-ghost use Rattle.flash_commands.specs.Acts.{AuditsSome, HasThree, IsFaultOf, IsRefused, IsRefusedFor, IsUnwritten, Prints, PrintsAudit, PrintsFigures, PrintsRun, RefusesAudit, RefusesFigures, RefusesRun};
+ghost use Rattle.flash_commands.specs.Acts.{AuditsSome, HasThree, IsFaultOf, IsRefused, IsRefusedFor, IsUnwritten, Prints, PrintsAudit};
+ghost use Rattle.flash_commands.specs.Acts.{PrintsFigures, PrintsRun, RefusesAudit, RefusesFigures, RefusesRun};
 ghost use Rattle.flash_commands.specs.Commands.{FitsRun};
 ghost use Rattle.flash_commands.specs.Faults.{outcome_status};
 ghost use Rattle.task_texts.specs.Writing.{IsNotWhole};
@@ -41,7 +42,8 @@ fn print_audit<R: Read + Drop, W: Write>(
     first: R,
     out: &mut W,
 ) -> Result<bool, Refusal>
-    ensures printed { IfOk result (λ refused. PrintsAudit (R.remaining first) (W.contents out.old) (W.contents out.new) (if refused then 3 else 0)) }
+    ensures printed { IfOk result (λ refused. PrintsAudit (R.remaining first) (W.contents out.old) (W.contents out.new)
+        (if refused then 3 else 0)) }
     ensures refused { IfErr result (RefusesAudit (R.remaining first)) }
     ensures unwritten { IfErr result (IsUnwritten out.old out.new) }
     ensures part { OnErr result (IsNotWhole W.contents (AuditsSome (R.remaining first)) out.old out.new) }
@@ -94,10 +96,12 @@ fn run<R: Threads + Wait + Sync, F: Read + Drop, S: Read + Drop, W: Write, E: Wr
 ) -> Result<(), Fault>
     requires slots { slots ≤ MAX_SLOT }
     requires workers { (1 ≤ workers) × (workers ≤ 16) }
-    ensures printed { (outcome_status result ≡ 1) ⊎ (PrintsRun (F.remaining first) (S.remaining second) slots (W.contents out.old) (W.contents out.new) × (outcome_status result ≡ 0)) }
+    ensures printed { (outcome_status result ≡ 1) ⊎ (PrintsRun (F.remaining first) (S.remaining second) slots (W.contents out.old)
+        (W.contents out.new) × (outcome_status result ≡ 0)) }
     ensures refused { IfErr result (IsFaultOf (RefusesRun (F.remaining first) (S.remaining second) slots)) }
     ensures unwritten { IfErr result (IsFaultOf (IsUnwritten out.old out.new)) }
-    ensures part { IfErr result (IsFaultOf (λ _. IsNotWhole W.contents (PrintsRun (F.remaining first) (S.remaining second) slots) out.old out.new)) }
+    ensures part { IfErr result (IsFaultOf (λ _. IsNotWhole W.contents (PrintsRun (F.remaining first) (S.remaining second) slots) out.old
+        out.new)) }
 {
     let count = print_run(rt, alloc, first, second, slots, workers, out)?;
     tell_refused(err, &count);
@@ -106,7 +110,8 @@ fn run<R: Threads + Wait + Sync, F: Read + Drop, S: Read + Drop, W: Write, E: Wr
 
 /// Shows the figures of a plan, or says why not.
 fn figures<R: Read + Drop, W: Write>(alloc: Global, first: R, out: &mut W) -> Result<(), Fault>
-    ensures printed { (outcome_status result ≡ 1) ⊎ (PrintsFigures (R.remaining first) (W.contents out.old) (W.contents out.new) × (outcome_status result ≡ 0)) }
+    ensures printed { (outcome_status result ≡ 1) ⊎ (PrintsFigures (R.remaining first) (W.contents out.old) (W.contents out.new)
+        × (outcome_status result ≡ 0)) }
     ensures refused { IfErr result (IsFaultOf (RefusesFigures (R.remaining first))) }
     ensures unwritten { IfErr result (IsFaultOf (IsUnwritten out.old out.new)) }
     ensures part { IfErr result (IsFaultOf (λ _. IsNotWhole W.contents (PrintsFigures (R.remaining first)) out.old out.new)) }
@@ -117,7 +122,8 @@ fn figures<R: Read + Drop, W: Write>(alloc: Global, first: R, out: &mut W) -> Re
 
 /// Audits a report, or says why not.
 fn audit<R: Read + Drop, W: Write>(alloc: Global, first: R, out: &mut W) -> Result<(), Fault>
-    ensures printed { (outcome_status result ≡ 1) ⊎ PrintsAudit (R.remaining first) (W.contents out.old) (W.contents out.new) (outcome_status result) }
+    ensures printed { (outcome_status result ≡ 1) ⊎ PrintsAudit (R.remaining first) (W.contents out.old) (W.contents out.new)
+        (outcome_status result) }
     ensures refused { IfErr result (IsFaultOf (RefusesAudit (R.remaining first))) }
     ensures unwritten { IfErr result (IsFaultOf (IsUnwritten out.old out.new)) }
     ensures part { IfErr result (IsFaultOf (λ _. IsNotWhole W.contents (AuditsSome (R.remaining first)) out.old out.new)) }
@@ -144,8 +150,10 @@ pub fn carry_out<R: Threads + Wait + Sync, F: Read + Drop, S: Read + Drop, W: Wr
     err: &mut E,
 ) -> Result<(), Fault>
     requires { FitsRun command }
-    ensures printed { (outcome_status result ≡ 1) ⊎ Prints command.entry (F.remaining first) (S.remaining second) (W.contents out.old) (W.contents out.new) (outcome_status result) }
-    ensures refused { IfErr result (IsFaultOf (IsRefusedFor W.contents command.entry (F.remaining first) (S.remaining second) out.old out.new)) }
+    ensures printed { (outcome_status result ≡ 1) ⊎ Prints command.entry (F.remaining first) (S.remaining second) (W.contents out.old)
+        (W.contents out.new) (outcome_status result) }
+    ensures refused { IfErr result (IsFaultOf (IsRefusedFor W.contents command.entry (F.remaining first) (S.remaining second) out.old
+        out.new)) }
 {
     match command {
         Command::Alone => {
@@ -187,7 +195,8 @@ pub fn act<R: Threads + Wait + Sync, F: Read + Drop, S: Read + Drop, W: Write, E
     err: &mut E,
 ) -> u8
     requires { FitsRun command }
-    ensures printed { (result ≡ 1) ⊎ Prints command.entry (F.remaining first) (S.remaining second) (W.contents out.old) (W.contents out.new) result }
+    ensures printed { (result ≡ 1) ⊎ Prints command.entry (F.remaining first) (S.remaining second) (W.contents out.old) (W.contents out.new)
+        result }
     ensures three { HasThree command.entry (F.remaining first) (W.contents out.old) (W.contents out.new) result }
     ensures refused { result ≡ 1 → IsRefused W.contents command.entry (F.remaining first) (S.remaining second) out.old out.new }
 {

@@ -66,8 +66,10 @@ fn carry_out_on<R: Threads + Wait + Sync, D: Folder, W: Write, E: Write>(
     err: &mut E,
 ) -> Result<(), Fault>
     requires { FitsRun command }
-    ensures printed { (outcome_status result ≡ 1) ⊎ OfFiles (D.held folder.now) command.entry (λ first second. Prints command.entry first second (W.contents out.old) (W.contents out.new) (outcome_status result)) }
-    ensures refused { IfErr result (IsFaultOf (λ refusal. OfFiles (D.held folder.now) command.entry (λ first second. IsRefusedFor W.contents command.entry first second out.old out.new refusal))) }
+    ensures printed { (outcome_status result ≡ 1) ⊎ OfFiles (D.held folder.now) command.entry
+        (λ first second. Prints command.entry first second (W.contents out.old) (W.contents out.new) (outcome_status result)) }
+    ensures refused { IfErr result (IsFaultOf (λ refusal. OfFiles (D.held folder.now) command.entry
+        (λ first second. IsRefusedFor W.contents command.entry first second out.old out.new refusal))) }
 {
     match command {
         Command::Alone => carry_out(rt, alloc, command, io::empty(), io::empty(), out, err),
@@ -98,8 +100,10 @@ pub fn act_on<R: Threads + Wait + Sync, D: Folder, W: Write, E: Write>(
     err: &mut E,
 ) -> u8
     requires { FitsRun command }
-    ensures printed { (result ≡ 1) ⊎ OfFiles (D.held folder.now) command.entry (λ first second. Prints command.entry first second (W.contents out.old) (W.contents out.new) result) }
-    ensures refused { result ≡ 1 → OfFiles (D.held folder.now) command.entry (λ first second. IsRefused W.contents command.entry first second out.old out.new) }
+    ensures printed { (result ≡ 1) ⊎ OfFiles (D.held folder.now) command.entry
+        (λ first second. Prints command.entry first second (W.contents out.old) (W.contents out.new) result) }
+    ensures refused { result ≡ 1 → OfFiles (D.held folder.now) command.entry
+        (λ first second. IsRefused W.contents command.entry first second out.old out.new) }
 {
     let done = carry_out_on(rt, alloc, folder, command, out, err);
     end(err, done)

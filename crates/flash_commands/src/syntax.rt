@@ -2,7 +2,8 @@
 
 ghost use Rattle.std.specs.Prelude.{◌≡◌, false, codes, IfOk};
 ghost use Rattle.clap.specs.Words.{app_of, rule_of, with_subcommand};
-ghost use Rattle.flash_commands.specs.Syntax.{audit_app, files_app, flashrec_app, has_globals, named_app, needed, plan_app, run_app, slots_rule, workers_rule};
+ghost use Rattle.flash_commands.specs.Syntax.{audit_app, files_app, flashrec_app, has_globals, named_app, needed, plan_app, run_app};
+ghost use Rattle.flash_commands.specs.Syntax.{slots_rule, workers_rule};
 
 use clap::{Arg, Command};
 use std::alloc::{AllocError, Global};

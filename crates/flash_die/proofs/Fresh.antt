@@ -12,11 +12,13 @@ use Rattle.flash_die.specs.Memory.{IsMemory, block_of, blocks_of, laid}
 use Rattle.flash_die.proofs.Erase.{block_with}
 use Rattle.flash_die.proofs.Laid.{length-laid}
 
-pub blocks_fresh : (shape : Shape) (cells : List PageData) → blocks_of shape.pages cells (replicate shape.blocks 0) (replicate shape.blocks 0) (replicate shape.blocks 0) ≡ fresh_blocks shape
+pub blocks_fresh : (shape : Shape) (cells : List PageData)
+    → blocks_of shape.pages cells (replicate shape.blocks 0) (replicate shape.blocks 0) (replicate shape.blocks 0) ≡ fresh_blocks shape
 blocks_fresh shape cells =
     let zeros : List ℕ = replicate shape.blocks 0 in
     let len : length zeros ≡ shape.blocks = length-replicate shape.blocks 0 in
-    sym (fill_by_all (block_of shape.pages cells zeros zeros zeros) (fresh_blocks shape) (length zeros) free_block (length-replicate shape.blocks free_block ∙ sym len) (λ k h.
+    sym (fill_by_all (block_of shape.pages cells zeros zeros zeros) (fresh_blocks shape) (length zeros) free_block
+    (length-replicate shape.blocks free_block ∙ sym len) (λ k h.
     let below : k < shape.blocks = omega (arith, h, len) in
     let F : ℕ → Block = λ n. block_with shape.pages cells k n n n in
     get_or-replicate shape.blocks k free_block free_block below ∙ ap F (sym (get_or-replicate shape.blocks k 0 0 below))))
@@ -29,7 +31,9 @@ zero_at counts n i are =
     ]
 
 -- no cell of it is laid down
-pub memory_fresh : (shape : Shape) (cells : List PageData) (filled erasing erases : List ℕ) → IsShape shape → cells ≡ [] → filled ≡ replicate shape.blocks 0 → erasing ≡ replicate shape.blocks 0 → erases ≡ replicate shape.blocks 0 → IsMemory shape (laid (shape.blocks * shape.pages) cells) filled erasing erases
+pub memory_fresh : (shape : Shape) (cells : List PageData) (filled erasing erases : List ℕ) → IsShape shape → cells ≡ [] → filled
+    ≡ replicate shape.blocks 0 → erasing ≡ replicate shape.blocks 0 → erases ≡ replicate shape.blocks 0
+    → IsMemory shape (laid (shape.blocks * shape.pages) cells) filled erasing erases
 memory_fresh shape cells filled erasing erases is no_cells no_filled no_erasing no_erases = record {
   limits = is;
   filled_len = ap length no_filled ∙ length-replicate shape.blocks 0;

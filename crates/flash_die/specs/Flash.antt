@@ -8,7 +8,8 @@ use Rattle.slot_types.specs.declared.plans.Shape.{Shape}
 abbrev pub blank : PageData
 blank = record { 0 = replicate 16 255 }
 
--- a block: the pages programmed since its last erase, in order, the others being free; how many slots its running erase has had; how many erases it has had
+-- a block: the pages programmed since its last erase, in order, the others being free; how many slots its running erase has had; how many
+-- erases it has had
 pub record Block : Type 0 where
   pub pages : List PageData
   pub erasing : ℕ

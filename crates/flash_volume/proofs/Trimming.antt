@@ -21,20 +21,26 @@ use Rattle.flash_volume.proofs.Counting.{here, left_counted, left_len}
 use Rattle.flash_volume.proofs.Collections.{runs_kept, picks_kept}
 
 -- what lies somewhere is another page, which lay there
-lay_there : (places : List (Option Place)) (page p : ℕ) (q : Place) → page < length places → place_of (set places page None) p ≡ Some q → place_of places p ≡ Some q
+lay_there : (places : List (Option Place)) (page p : ℕ) (q : Place) → page < length places → place_of (set places page None) p ≡ Some q
+    → place_of places p ≡ Some q
 lay_there places page p q below lies =
     elim (cases_eq p page) [
       | inl same ↦
-          let nowhere : place_of (set places page None) p ≡ None = ap (λ (j : ℕ). place_of (set places page None) j) same ∙ get_or-set_same places page None None below in
+          let nowhere : place_of (set places page None) p ≡ None = ap (λ (j : ℕ). place_of (set places page None) j) same
+          ∙ get_or-set_same places page None None below in
           absurd (cc)
       | inr other ↦ sym (get_or-set_other places page p None None other) ∙ lies
     ]
 
 -- the pages that lie in a block, before and after
-leaves : (block page : ℕ) (places : List (Option Place)) → page < length places → count_by (is_in block) (set places page None) + here block (place_of places page) ≡ count_by (is_in block) places
+leaves : (block page : ℕ) (places : List (Option Place)) → page < length places
+    → count_by (is_in block) (set places page None) + here block (place_of places page) ≡ count_by (is_in block) places
 leaves block page places below = omega (arith, sum_by-set (here block) places page None None below)
 
-pub stands_trimmed : {shape : Shape} {failures : ℕ} {blocks : List Block} {placing : Placing} {fills worn : List ℕ} {writing : Option ℕ} {candidates : Candidates} (page : ℕ) → Stands shape failures blocks placing fills worn writing candidates → page < length placing.places → Stands shape failures blocks (unbound placing page) fills worn writing (record candidates { counts = left (place_of placing.places page) candidates.counts })
+pub stands_trimmed : {shape : Shape} {failures : ℕ} {blocks : List Block} {placing : Placing} {fills worn : List ℕ} {writing : Option ℕ}
+    {candidates : Candidates} (page : ℕ) → Stands shape failures blocks placing fills worn writing candidates → page < length placing.places
+    → Stands shape failures blocks (unbound placing page) fills worn writing
+    (record candidates { counts = left (place_of placing.places page) candidates.counts })
 stands_trimmed {placing = placing} {candidates = candidates} page stands below = record {
   limits = stands.limits;
   map_shape = stands.map_shape;
@@ -59,10 +65,12 @@ stands_trimmed {placing = placing} {candidates = candidates} page stands below =
 }
 
 -- the page is blank, and every other one as before
-pub contents_trimmed : (blocks : List Block) (places : List (Option Place)) (page : ℕ) → contents blocks (set places page None) ≡ set (contents blocks places) page blank
+pub contents_trimmed : (blocks : List Block) (places : List (Option Place)) (page : ℕ) → contents blocks (set places page None)
+    ≡ set (contents blocks places) page blank
 contents_trimmed blocks places page = map-set (content_at blocks) places page None
 
-run_trimmed : {accounts : Accounts} {pages : ℕ} {blocks : List Block} {places : List (Option Place)} {task : ℕ} {c : Collection} (page : ℕ) → RunWell accounts pages blocks places task c → page < length places → RunWell accounts pages blocks (set places page None) task c
+run_trimmed : {accounts : Accounts} {pages : ℕ} {blocks : List Block} {places : List (Option Place)} {task : ℕ} {c : Collection} (page : ℕ)
+    → RunWell accounts pages blocks places task c → page < length places → RunWell accounts pages blocks (set places page None) task c
 run_trimmed {places = places} {c = c} page run below = record {
   in_range = run.in_range;
   closed = run.closed;
@@ -72,13 +80,19 @@ run_trimmed {places = places} {c = c} page run below = record {
   bytes = λ k holds lies. run.bytes k holds (lay_there places page k.page k.source below lies);
 }
 
-pub sound_trimmed : {accounts : Accounts} {shape : Shape} {failures : ℕ} {blocks : List Block} {placing placing_then : Placing} {candidates candidates_then : Candidates} {running : List (Option Collection)} (page : ℕ) → IsSound accounts shape failures blocks placing candidates running → page < length placing.places → Sound shape failures blocks placing_then candidates_then → placing_then ≡ unbound placing page → ((block : ℕ) → is_some (count_of candidates_then.counts block) ≡ is_some (count_of candidates.counts block)) → IsSound accounts shape failures blocks placing_then candidates_then running
+pub sound_trimmed : {accounts : Accounts} {shape : Shape} {failures : ℕ} {blocks : List Block} {placing placing_then : Placing}
+    {candidates candidates_then : Candidates} {running : List (Option Collection)} (page : ℕ)
+    → IsSound accounts shape failures blocks placing candidates running → page < length placing.places
+    → Sound shape failures blocks placing_then candidates_then → placing_then ≡ unbound placing page
+    → ((block : ℕ) → is_some (count_of candidates_then.counts block) ≡ is_some (count_of candidates.counts block))
+    → IsSound accounts shape failures blocks placing_then candidates_then running
 sound_trimmed {accounts} {blocks = blocks} {placing = placing} {candidates_then = candidates_then} page sound below stands is same = record {
   stands = stands;
   bound = sound.bound;
   shape_is = sound.shape_is;
   map_len = ap (λ (m : Placing). length m.places) is ∙ length-set placing.places page None ∙ sound.map_len;
   total = sound.total;
-  runs = rw is (runs_kept accounts blocks (set placing.places page None) sound.runs refl refl (λ t c run as_before. run_trimmed page run below));
+  runs = rw is (runs_kept accounts blocks (set placing.places page None) sound.runs refl refl
+      (λ t c run as_before. run_trimmed page run below));
   picks = picks_kept candidates_then.counts sound.picks same;
 }

@@ -38,7 +38,8 @@ DoesBegin blocks old task (starts.Begun victim) new = Begins blocks old task vic
 
 -- the page in the buffer no longer lies in the victim
 abbrev pub HasDropped : List (Option Place) → Collection → Type 0
-HasDropped places c = (copied : Copied) (place : Place) → c.buffer ≡ Some copied → place_of places copied.page ≡ Some place → place.block ≢ c.victim
+HasDropped places c = (copied : Copied) (place : Place) → c.buffer ≡ Some copied → place_of places copied.page ≡ Some place → place.block
+    ≢ c.victim
 
 -- the page in the buffer no longer lies where it was read
 abbrev pub HasLeft : List (Option Place) → Collection → Type 0
@@ -56,32 +57,35 @@ pub record IsFirst (places : List (Option Place)) (block page : ℕ) (source : P
   pub first : (earlier : ℕ) → earlier < source.page → owner_of places (record { block = block; page = earlier }) ≡ None
 
 -- it reads the first page of its victim into its buffer
-pub record Reads {N : Type 0} (blocks : N → List Block) (old : State N) (task : ℕ) (c : Collection) (page : ℕ) (new : State N) : Type 0 where
-  pub source : Place
-  pub dropped : HasDropped old.places c
-  pub left : HasLeft old.places c
-  pub first : IsFirst old.places c.victim page source
-  pub cells : blocks new.device ≡ blocks old.device
-  pub places : new.places ≡ old.places
-  pub pages : new.pages ≡ old.pages
-  pub accounts : new.accounts ≡ old.accounts
-  pub running : new.running ≡ slice_set old.running task (Some (with_buffer c (Some (copied_of (blocks old.device) page source))))
-  pub well : new.failed ≡ false
+pub record Reads {N : Type 0} (blocks : N → List Block) (old : State N) (task : ℕ) (c : Collection) (page : ℕ) (new : State N) : Type 0
+  where
+    pub source : Place
+    pub dropped : HasDropped old.places c
+    pub left : HasLeft old.places c
+    pub first : IsFirst old.places c.victim page source
+    pub cells : blocks new.device ≡ blocks old.device
+    pub places : new.places ≡ old.places
+    pub pages : new.pages ≡ old.pages
+    pub accounts : new.accounts ≡ old.accounts
+    pub running : new.running ≡ slice_set old.running task (Some (with_buffer c (Some (copied_of (blocks old.device) page source))))
+    pub well : new.failed ≡ false
 
 -- it programs the page in its buffer, which still lies where it was read, and spends a page of its reserve
-pub record Programs {N : Type 0} (blocks : N → List Block) (old : State N) (task : ℕ) (c : Collection) (page : ℕ) (new : State N) : Type 0 where
-  pub copied : Copied
-  pub holds : c.buffer ≡ Some copied
-  pub page_is : copied.page ≡ page
-  pub here : copied.source.block ≡ c.victim
-  pub lies : place_of old.places page ≡ Some copied.source
-  pub finds : IsSome (open_in old.accounts.plan.shape.pages (blocks old.device))
-  pub cells : blocks new.device ≡ programmed (blocks old.device) (next_cell old.accounts.plan.shape.pages (blocks old.device)).block copied.bytes
-  pub places : new.places ≡ slice_set old.places page (Some (next_cell old.accounts.plan.shape.pages (blocks old.device)))
-  pub pages : new.pages ≡ old.pages
-  pub accounts : new.accounts ≡ reserve_spent old.accounts task
-  pub running : new.running ≡ slice_set old.running task (Some (with_buffer c None))
-  pub well : new.failed ≡ false
+pub record Programs {N : Type 0} (blocks : N → List Block) (old : State N) (task : ℕ) (c : Collection) (page : ℕ) (new : State N) : Type 0
+  where
+    pub copied : Copied
+    pub holds : c.buffer ≡ Some copied
+    pub page_is : copied.page ≡ page
+    pub here : copied.source.block ≡ c.victim
+    pub lies : place_of old.places page ≡ Some copied.source
+    pub finds : IsSome (open_in old.accounts.plan.shape.pages (blocks old.device))
+    pub cells : blocks new.device ≡ programmed (blocks old.device) (next_cell old.accounts.plan.shape.pages (blocks old.device)).block
+        copied.bytes
+    pub places : new.places ≡ slice_set old.places page (Some (next_cell old.accounts.plan.shape.pages (blocks old.device)))
+    pub pages : new.pages ≡ old.pages
+    pub accounts : new.accounts ≡ reserve_spent old.accounts task
+    pub running : new.running ≡ slice_set old.running task (Some (with_buffer c None))
+    pub well : new.failed ≡ false
 
 -- it does one slot of the erase of its victim
 pub record Erases {N : Type 0} (blocks : N → List Block) (old : State N) (c : Collection) (block : ℕ) (new : State N) : Type 0 where
@@ -93,22 +97,25 @@ pub record Erases {N : Type 0} (blocks : N → List Block) (old : State N) (c : 
   pub well : new.failed ≡ false
 
 -- which is not the last
-pub record Goes {N : Type 0} (blocks : N → List Block) (old : State N) (task : ℕ) (c : Collection) (block : ℕ) (new : State N) : Type 0 where
-  pub dropped : HasDropped old.places c
-  pub left : HasLeft old.places c
-  pub erases : Erases blocks old c block new
-  pub going : (block_at (blocks old.device) block).erasing + 1 ≢ old.accounts.plan.shape.erase_slots
-  pub accounts : new.accounts ≡ old.accounts
-  pub running : new.running ≡ slice_set old.running task (Some (with_buffer c None))
+pub record Goes {N : Type 0} (blocks : N → List Block) (old : State N) (task : ℕ) (c : Collection) (block : ℕ) (new : State N) : Type 0
+  where
+    pub dropped : HasDropped old.places c
+    pub left : HasLeft old.places c
+    pub erases : Erases blocks old c block new
+    pub going : (block_at (blocks old.device) block).erasing + 1 ≢ old.accounts.plan.shape.erase_slots
+    pub accounts : new.accounts ≡ old.accounts
+    pub running : new.running ≡ slice_set old.running task (Some (with_buffer c None))
 
 -- which is the last, and settles: what was copied is what its reserve lacks
-pub record Finishes {N : Type 0} (blocks : N → List Block) (old : State N) (task : ℕ) (c : Collection) (block gift : ℕ) (new : State N) : Type 0 where
+pub record Finishes {N : Type 0} (blocks : N → List Block) (old : State N) (task : ℕ) (c : Collection) (block gift : ℕ) (new : State N) :
+    Type 0 where
   pub dropped : HasDropped old.places c
   pub left : HasLeft old.places c
   pub erases : Erases blocks old c block new
   pub last : (block_at (blocks old.device) block).erasing + 1 ≡ old.accounts.plan.shape.erase_slots
   pub given : gift ≡ given_of old.accounts task
-  pub accounts : new.accounts ≡ settled old.accounts task (old.accounts.plan.shape.pages - old.accounts.plan.alpha - slice_index old.accounts.reserves task)
+  pub accounts : new.accounts ≡ settled old.accounts task
+      (old.accounts.plan.shape.pages - old.accounts.plan.alpha - slice_index old.accounts.reserves task)
   pub running : new.running ≡ slice_set old.running task None
 
 abbrev pub Does : {N : Type 0} → (N → List Block) → State N → ℕ → Collection → Collected → State N → Type 0

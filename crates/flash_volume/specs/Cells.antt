@@ -1,5 +1,6 @@
 -- What the cells of a device mean to an array of pages that is kept on it.
-use Rattle.std.specs.Prelude.{◌==◌, ℕ, ◌-◌, ◌&&◌, nat_lt, Bool, if◌then◌else◌, List, length, map, sum_by, position, Option, Some, None, unwrap_or}
+use Rattle.std.specs.Prelude.{◌==◌, ℕ, ◌-◌, ◌&&◌, nat_lt, Bool, if◌then◌else◌, List, length, map, sum_by, position, Option, Some, None}
+use Rattle.std.specs.Prelude.{unwrap_or}
 use Rattle.slot_types.specs.declared.pages.Place.{Place}
 use Rattle.slot_types.specs.declared.pages.PageData.{PageData}
 use Rattle.flash_die.specs.Flash.{Block, blank, block_at, cell_at}

@@ -15,11 +15,14 @@ pub record IsCandidate (pages : ℕ) (blocks : List Block) (running : List (Opti
   pub alone : (task : ℕ) (c : Collection) → running_of running task ≡ Some c → c.victim ≢ block
 
 -- of these the one in which the fewest pages lie, of equal ones the one with the fewest erases, and of these the first
-pub record IsVictim (pages : ℕ) (blocks : List Block) (places : List (Option Place)) (running : List (Option Collection)) (block : ℕ) : Type 0 where
+pub record IsVictim (pages : ℕ) (blocks : List Block) (places : List (Option Place)) (running : List (Option Collection)) (block : ℕ) : Type
+    0 where
   pub candidate : IsCandidate pages blocks running block
   pub fewest : (other : ℕ) → IsCandidate pages blocks running other → count_by (is_in block) places ≤ count_by (is_in other) places
-  pub least_worn : (other : ℕ) → IsCandidate pages blocks running other → count_by (is_in other) places ≡ count_by (is_in block) places → (block_at blocks block).erases ≤ (block_at blocks other).erases
-  pub first : (other : ℕ) → IsCandidate pages blocks running other → count_by (is_in other) places ≡ count_by (is_in block) places → (block_at blocks other).erases ≡ (block_at blocks block).erases → block ≤ other
+  pub least_worn : (other : ℕ) → IsCandidate pages blocks running other → count_by (is_in other) places ≡ count_by (is_in block) places
+      → (block_at blocks block).erases ≤ (block_at blocks other).erases
+  pub first : (other : ℕ) → IsCandidate pages blocks running other → count_by (is_in other) places ≡ count_by (is_in block) places
+      → (block_at blocks other).erases ≡ (block_at blocks block).erases → block ≤ other
 
 -- a collection works on the block
 pub record IsTaken (running : List (Option Collection)) (block : ℕ) : Type 0 where
@@ -31,4 +34,5 @@ pub record IsTaken (running : List (Option Collection)) (block : ℕ) : Type 0 w
 -- the candidates are the closed blocks that no collection works on
 pub record PicksWell (pages : ℕ) (blocks : List Block) (counts : List (Option ℕ)) (running : List (Option Collection)) : Type 0 where
   pub taken : (task : ℕ) (c : Collection) → running_of running task ≡ Some c → count_of counts c.victim ≡ None
-  pub closed : (block : ℕ) → block < length blocks → filled_of (block_at blocks block) ≡ pages → count_of counts block ≡ None → IsTaken running block
+  pub closed : (block : ℕ) → block < length blocks → filled_of (block_at blocks block) ≡ pages → count_of counts block ≡ None
+      → IsTaken running block

@@ -19,18 +19,24 @@ with_buffer collection buffer = record collection { buffer = buffer }
 abbrev pub copied_of : List Block → ℕ → Place → Copied
 copied_of blocks page source = record { page = page; source = source; bytes = cell_at blocks source }
 
--- what is true of a task's running collection: its victim is closed, no more pages lie in it than are in reserve, and its buffer holds a page of the victim as it stands there
-pub record RunWell (accounts : Accounts) (pages : ℕ) (blocks : List Block) (places : List (Option Place)) (task : ℕ) (c : Collection) : Type 0 where
+-- what is true of a task's running collection: its victim is closed, no more pages lie in it than are in reserve, and its buffer holds a
+-- page of the victim as it stands there
+pub record RunWell (accounts : Accounts) (pages : ℕ) (blocks : List Block) (places : List (Option Place)) (task : ℕ) (c : Collection) : Type
+    0 where
   pub in_range : c.victim < length blocks
   pub closed : filled_of (block_at blocks c.victim) ≡ pages
   pub lent : count_by (is_in c.victim) places ≤ slice_index accounts.reserves task
   pub source : (k : Copied) → c.buffer ≡ Some k → k.source.block ≡ c.victim
-  pub home : (k : Copied) (place : Place) → c.buffer ≡ Some k → place_of places k.page ≡ Some place → place.block ≡ c.victim → place ≡ k.source
+  pub home : (k : Copied) (place : Place) → c.buffer ≡ Some k → place_of places k.page ≡ Some place → place.block ≡ c.victim → place
+      ≡ k.source
   pub bytes : (k : Copied) → c.buffer ≡ Some k → place_of places k.page ≡ Some k.source → k.bytes ≡ cell_at blocks k.source
 
 -- of all of them: no two have one victim, and who runs none has its whole reserve
-pub record RunsWell (accounts : Accounts) (pages : ℕ) (blocks : List Block) (places : List (Option Place)) (running : List (Option Collection)) : Type 0 where
+pub record RunsWell (accounts : Accounts) (pages : ℕ) (blocks : List Block) (places : List (Option Place))
+    (running : List (Option Collection)) : Type 0 where
   pub len : length running ≡ length accounts.plan.caps
   pub each : (task : ℕ) (c : Collection) → running_of running task ≡ Some c → RunWell accounts pages blocks places task c
-  pub apart : (task other : ℕ) (c d : Collection) → running_of running task ≡ Some c → running_of running other ≡ Some d → c.victim ≡ d.victim → task ≡ other
-  pub idle : (task : ℕ) → task < length accounts.plan.caps → running_of running task ≡ None → slice_index accounts.reserves task ≡ pages - accounts.plan.alpha
+  pub apart : (task other : ℕ) (c d : Collection) → running_of running task ≡ Some c → running_of running other ≡ Some d → c.victim
+      ≡ d.victim → task ≡ other
+  pub idle : (task : ℕ) → task < length accounts.plan.caps → running_of running task ≡ None → slice_index accounts.reserves task
+      ≡ pages - accounts.plan.alpha

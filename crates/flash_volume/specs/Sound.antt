@@ -13,7 +13,8 @@ use Rattle.flash_volume.specs.Picks.{PicksWell}
 use Rattle.flash_volume.specs.declared.collection.Collection.{Collection}
 
 -- of one that has not failed: its device is the plan's, and its accounts hold the free cells
-pub record IsSound (accounts : Accounts) (shape : Shape) (failures : ℕ) (blocks : List Block) (placing : Placing) (candidates : Candidates) (running : List (Option Collection)) : Type 0 where
+pub record IsSound (accounts : Accounts) (shape : Shape) (failures : ℕ) (blocks : List Block) (placing : Placing) (candidates : Candidates)
+    (running : List (Option Collection)) : Type 0 where
   pub stands : Stands shape failures blocks placing (fills_of blocks) (erases_in blocks) (opened_in shape.pages blocks) candidates
   pub bound : MeetsBound accounts.plan
   pub shape_is : shape ≡ accounts.plan.shape

@@ -7,7 +7,8 @@ use Rattle.plan_rules.specs.Accounts.{Accounts, opening}
 use Rattle.flash_die.specs.Flash.{blank}
 use Rattle.flash_volume.specs.declared.collection.Collection.{Collection}
 
--- whether it has failed, its array of pages, its accounts with their plan, its device, where each page lies, and by task the collection that runs
+-- whether it has failed, its array of pages, its accounts with their plan, its device, where each page lies, and by task the collection
+-- that runs
 pub record State (N : Type 0) : Type 0 where
   pub failed : Bool
   pub pages : List PageData

@@ -1,6 +1,7 @@
 //! An array of pages on a flash device.
 
-ghost use Rattle.std.specs.Prelude.{◌≡◌, ◌≢◌, ◌==◌, ◌+◌, ◌<◌, ◌≤◌, ◌↔◌, ◌^◌, ℕ, true, false, Some, None, List, length, replicate, count_by, slice_set, is_err, is_ok, is_some, IsOk, IsSome, IfOk, IfErr, IfSome, IfNone, OnOk, OnErr, position};
+ghost use Rattle.std.specs.Prelude.{◌≡◌, ◌≢◌, ◌==◌, ◌+◌, ◌<◌, ◌≤◌, ◌↔◌, ◌^◌, ℕ, true, false, Some, None, List, length, replicate, count_by};
+ghost use Rattle.std.specs.Prelude.{slice_set, is_err, is_ok, is_some, IsOk, IsSome, IfOk, IfErr, IfSome, IfNone, OnOk, OnErr, position};
 ghost use Rattle.slot_types.specs.declared.pages.Place.{Place};
 ghost use Rattle.slot_types.specs.Places.{is_in, place_of, owner_of};
 ghost use Rattle.slot_types.specs.Shapes.{IsShape};
@@ -55,7 +56,13 @@ impl<N: Nand> PageArray<N> {
     pub(crate) fn new(alloc: Global, device: N, logical: u32) -> Result<Self, Refusal>
         requires limits { IsShape (N.shape_of device) }
         requires fresh { IsFresh (N.shape_of device) (N.blocks device) (N.failures device) }
-        ensures ok { IfOk result (λ array. array ≡ record { failed = false; device = device; placing = blank_map (N.shape_of device) logical; candidates = no_candidates (N.shape_of device) }) }
+        ensures ok { IfOk result (λ array. array ≡ record {
+          failed = false;
+          device = device;
+          placing = blank_map (N.shape_of device) logical;
+          candidates = no_candidates
+              (N.shape_of device);
+        }) }
         ensures sound { IfOk result (IsSoundArray N.shape_of N.failures N.blocks) }
         ensures err { IfErr result (λ refusal. refusal ≡ Refusal.NoMemory) }
     {
@@ -91,7 +98,8 @@ impl<N: Nand> PageArray<N> {
         requires page { page < length self.old.placing.places }
         ensures page { IfOk result (λ bytes. bytes ≡ content_at (N.blocks self.old.device) (place_of self.old.placing.places page)) }
         ensures unwritten { place_of self.old.placing.places page ≡ None → (result ≡ Ok blank) × (self.new ≡ self.old) }
-        ensures once { (place : Place) → place_of self.old.placing.places page ≡ Some place → N.ends self.old.device (is_ok result) self.new.device }
+        ensures once { (place : Place) → place_of self.old.placing.places page ≡ Some place
+            → N.ends self.old.device (is_ok result) self.new.device }
         ensures cells { OnOk result (N.blocks self.new.device ≡ N.blocks self.old.device) }
         ensures placing { self.new.placing ≡ self.old.placing }
         ensures candidates { self.new.candidates ≡ self.old.candidates }
@@ -119,12 +127,20 @@ impl<N: Nand> PageArray<N> {
         requires free { 0 < free_cells (N.shape_of self.old.device).pages (N.blocks self.old.device) }
         ensures once { N.ends self.old.device (is_ok result) self.new.device }
         ensures finds { IsSome (open_in (N.shape_of self.old.device).pages (N.blocks self.old.device)) }
-        ensures cells { OnOk result (N.blocks self.new.device ≡ programmed (N.blocks self.old.device) (next_cell (N.shape_of self.old.device).pages (N.blocks self.old.device)).block bytes) }
-        ensures placing { OnOk result (self.new.placing ≡ bound self.old.placing page (next_cell (N.shape_of self.old.device).pages (N.blocks self.old.device))) }
-        ensures candidates { OnOk result ((block : ℕ) → block ≢ (next_cell (N.shape_of self.old.device).pages (N.blocks self.old.device)).block → is_some (count_of self.new.candidates.counts block) ≡ is_some (count_of self.old.candidates.counts block)) }
-        ensures closes { OnOk result (filled_of (block_at (N.blocks self.new.device) (next_cell (N.shape_of self.old.device).pages (N.blocks self.old.device)).block) ≡ (N.shape_of self.old.device).pages → IsSome (count_of self.new.candidates.counts (next_cell (N.shape_of self.old.device).pages (N.blocks self.old.device)).block)) }
-        ensures free { OnOk result (free_cells (N.shape_of self.old.device).pages (N.blocks self.new.device) + 1 ≡ free_cells (N.shape_of self.old.device).pages (N.blocks self.old.device)) }
-        ensures contents { OnOk result (contents (N.blocks self.new.device) self.new.placing.places ≡ slice_set (contents (N.blocks self.old.device) self.old.placing.places) page bytes) }
+        ensures cells { OnOk result (N.blocks self.new.device
+            ≡ programmed (N.blocks self.old.device) (next_cell (N.shape_of self.old.device).pages (N.blocks self.old.device)).block bytes) }
+        ensures placing { OnOk result (self.new.placing ≡ bound self.old.placing page
+            (next_cell (N.shape_of self.old.device).pages (N.blocks self.old.device))) }
+        ensures candidates { OnOk result ((block : ℕ) → block
+            ≢ (next_cell (N.shape_of self.old.device).pages (N.blocks self.old.device)).block
+            → is_some (count_of self.new.candidates.counts block) ≡ is_some (count_of self.old.candidates.counts block)) }
+        ensures closes { OnOk result (filled_of (block_at (N.blocks self.new.device)
+            (next_cell (N.shape_of self.old.device).pages (N.blocks self.old.device)).block) ≡ (N.shape_of self.old.device).pages
+            → IsSome (count_of self.new.candidates.counts (next_cell (N.shape_of self.old.device).pages (N.blocks self.old.device)).block)) }
+        ensures free { OnOk result (free_cells (N.shape_of self.old.device).pages (N.blocks self.new.device) + 1
+            ≡ free_cells (N.shape_of self.old.device).pages (N.blocks self.old.device)) }
+        ensures contents { OnOk result (contents (N.blocks self.new.device) self.new.placing.places
+            ≡ slice_set (contents (N.blocks self.old.device) self.old.placing.places) page bytes) }
         ensures sound { IsSoundArray N.shape_of N.failures N.blocks self.new }
         ensures stays { OnErr result (self.new.placing ≡ self.old.placing) }
         ensures failed { self.new.failed ≡ is_err result }
@@ -163,8 +179,10 @@ impl<N: Nand> PageArray<N> {
         requires page { page < length self.old.placing.places }
         ensures device { self.new.device ≡ self.old.device }
         ensures placing { self.new.placing ≡ unbound self.old.placing page }
-        ensures candidates { (block : ℕ) → is_some (count_of self.new.candidates.counts block) ≡ is_some (count_of self.old.candidates.counts block) }
-        ensures contents { contents (N.blocks self.new.device) self.new.placing.places ≡ slice_set (contents (N.blocks self.old.device) self.old.placing.places) page blank }
+        ensures candidates { (block : ℕ) → is_some (count_of self.new.candidates.counts block)
+            ≡ is_some (count_of self.old.candidates.counts block) }
+        ensures contents { contents (N.blocks self.new.device) self.new.placing.places
+            ≡ slice_set (contents (N.blocks self.old.device) self.old.placing.places) page blank }
         ensures sound { IsSoundArray N.shape_of N.failures N.blocks self.new }
         ensures failed { self.new.failed ≡ false }
     {
@@ -179,17 +197,23 @@ impl<N: Nand> PageArray<N> {
         requires alive { self.old.failed ≡ false }
         requires block { block < length (N.blocks self.old.device) }
         requires closed { filled_of (block_at (N.blocks self.old.device) block) ≡ (N.shape_of self.old.device).pages }
-        requires unplaced { (page : ℕ) → page < (N.shape_of self.old.device).pages → owner_of self.old.placing.places (record { block = block; page = page }) ≡ None }
+        requires unplaced { (page : ℕ) → page < (N.shape_of self.old.device).pages
+            → owner_of self.old.placing.places (record { block = block; page = page }) ≡ None }
         requires taken { count_of self.old.candidates.counts block ≡ None }
         requires few_erases { (block_at (N.blocks self.old.device) block).erases < 4294967295 }
         ensures once { N.ends self.old.device (is_ok result) self.new.device }
-        ensures last { IfOk result (λ last. last ≡ ((block_at (N.blocks self.old.device) block).erasing + 1 == (N.shape_of self.old.device).erase_slots)) }
-        ensures cells { OnOk result (N.blocks self.new.device ≡ erased (N.blocks self.old.device) (N.shape_of self.old.device).erase_slots block) }
+        ensures last { IfOk result (λ last. last ≡ ((block_at (N.blocks self.old.device) block).erasing + 1 ==
+            (N.shape_of self.old.device).erase_slots)) }
+        ensures cells { OnOk result (N.blocks self.new.device
+            ≡ erased (N.blocks self.old.device) (N.shape_of self.old.device).erase_slots block) }
         ensures placing { self.new.placing ≡ self.old.placing }
         ensures candidates { self.new.candidates ≡ self.old.candidates }
-        ensures goes_on { result ≡ Ok false → free_cells (N.shape_of self.old.device).pages (N.blocks self.new.device) ≡ free_cells (N.shape_of self.old.device).pages (N.blocks self.old.device) }
-        ensures ends { result ≡ Ok true → free_cells (N.shape_of self.old.device).pages (N.blocks self.new.device) ≡ free_cells (N.shape_of self.old.device).pages (N.blocks self.old.device) + (N.shape_of self.old.device).pages }
-        ensures contents { OnOk result (contents (N.blocks self.new.device) self.new.placing.places ≡ contents (N.blocks self.old.device) self.old.placing.places) }
+        ensures goes_on { result ≡ Ok false → free_cells (N.shape_of self.old.device).pages (N.blocks self.new.device)
+            ≡ free_cells (N.shape_of self.old.device).pages (N.blocks self.old.device) }
+        ensures ends { result ≡ Ok true → free_cells (N.shape_of self.old.device).pages (N.blocks self.new.device)
+            ≡ free_cells (N.shape_of self.old.device).pages (N.blocks self.old.device) + (N.shape_of self.old.device).pages }
+        ensures contents { OnOk result (contents (N.blocks self.new.device) self.new.placing.places
+            ≡ contents (N.blocks self.old.device) self.old.placing.places) }
         ensures sound { IsSoundArray N.shape_of N.failures N.blocks self.new }
         ensures failed { self.new.failed ≡ is_err result }
         ensures well { OnOk result (N.failures self.new.device ≡ N.failures self.old.device) }
@@ -235,7 +259,8 @@ impl<N: Nand> PageArray<N> {
     pub(crate) fn first_page(&self, block: u32) -> Option<(u32, Place)>
         requires { block < self.now.placing.shape.blocks }
         ensures some { IfSome result (λ first. IsFirst self.now.placing.places block first.0 first.1) }
-        ensures none { IfNone result ((page : ℕ) → page < self.now.placing.shape.pages → owner_of self.now.placing.places (record { block = block; page = page }) ≡ None) }
+        ensures none { IfNone result ((page : ℕ) → page < self.now.placing.shape.pages
+            → owner_of self.now.placing.places (record { block = block; page = page }) ≡ None) }
     {
         match self.map.next_valid(block, 0) {
             None => None,

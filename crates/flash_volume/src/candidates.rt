@@ -33,7 +33,11 @@ pub(crate) fn close_when_filled(
     requires in_range { block < length victims.old.counts }
     requires open { count_of victims.old.counts block ≡ None }
     requires fits { valid ≤ victims.old.pages }
-    ensures { victims.new ≡ record victims.old { counts = closed_when_filled pages block filled valid victims.old.counts; erases = closed_when_filled pages block filled erases victims.old.erases } }
+    ensures { victims.new ≡ record victims.old {
+      counts = closed_when_filled pages block filled valid victims.old.counts;
+      erases =
+          closed_when_filled pages block filled erases victims.old.erases;
+    } }
 {
     if filled >= pages {
         victims.close(block, valid, erases);

@@ -1,6 +1,7 @@
 //! Collections: a block is chosen, its pages are copied elsewhere, and it is erased.
 
-ghost use Rattle.std.specs.Prelude.{◌≡◌, ◌≢◌, ◌+◌, ◌<◌, ◌↔◌, ◌⊎◌, ℕ, true, false, Some, None, length, is_err, is_ok, IsOk, IsSome, IfOk, IfErr, IfSome, IfNone, OnOk, OnErr};
+ghost use Rattle.std.specs.Prelude.{◌≡◌, ◌≢◌, ◌+◌, ◌<◌, ◌↔◌, ◌⊎◌, ℕ, true, false, Some, None, length, is_err, is_ok, IsOk, IsSome, IfOk};
+ghost use Rattle.std.specs.Prelude.{IfErr, IfSome, IfNone, OnOk, OnErr};
 ghost use Rattle.slot_types.specs.Places.{place_of, owner_of};
 ghost use Rattle.flash_die.specs.Flash.{block_at};
 ghost use Rattle.flash_volume.specs.declared.collection.Collection.{Collection};
@@ -58,9 +59,11 @@ impl<N: Nand> Volume<N> {
     pub fn collect_slot(&mut self, task: TaskNo) -> Result<Collected, Refusal>
         requires task { task < length self.old.accounts.plan.caps }
         requires runs { IsSome (running_of self.old.running task) }
-        requires few_erases { (c : Collection) → running_of self.old.running task ≡ Some c → (block_at (N.blocks self.old.device) c.victim).erases < 4294967295 }
+        requires few_erases { (c : Collection) → running_of self.old.running task ≡ Some c
+            → (block_at (N.blocks self.old.device) c.victim).erases < 4294967295 }
         ensures once { self.old.failed ≡ false → N.ends self.old.device (is_ok result) self.new.device }
-        ensures did { (c : Collection) → running_of self.old.running task ≡ Some c → IfOk result (λ did. Does N.blocks self.old task c did self.new) }
+        ensures did { (c : Collection) → running_of self.old.running task ≡ Some c
+            → IfOk result (λ did. Does N.blocks self.old task c did self.new) }
         ensures places_stay { OnErr result (self.new.places ≡ self.old.places) }
         ensures accounts_stay { OnErr result (self.new.accounts ≡ self.old.accounts) }
         ensures running_stay { OnErr result (self.new.running ≡ self.old.running) }
@@ -92,7 +95,8 @@ impl<N: Nand> Volume<N> {
 
     /// The page in a collection's buffer, if it still lies where it was read.
     fn live_copy(&self, collection: Collection) -> Option<Copied>
-        ensures some { IfSome result (λ copied. (collection.buffer ≡ Some copied) × (place_of self.now.places copied.page ≡ Some copied.source)) }
+        ensures some { IfSome result (λ copied. (collection.buffer ≡ Some copied)
+            × (place_of self.now.places copied.page ≡ Some copied.source)) }
         ensures none { IfNone result (HasLeft self.now.places collection) }
     {
         match collection.buffer {
@@ -183,7 +187,8 @@ impl<N: Nand> Volume<N> {
         requires task { task < length self.old.accounts.plan.caps }
         requires runs { running_of self.old.running task ≡ Some collection }
         requires left { HasLeft self.old.places collection }
-        requires unplaced { (page : ℕ) → page < self.old.accounts.plan.shape.pages → owner_of self.old.places (record { block = collection.victim; page = page }) ≡ None }
+        requires unplaced { (page : ℕ) → page < self.old.accounts.plan.shape.pages
+            → owner_of self.old.places (record { block = collection.victim; page = page }) ≡ None }
         requires few_erases { (block_at (N.blocks self.old.device) collection.victim).erases < 4294967295 }
         ensures once { N.ends self.old.device (is_ok result) self.new.device }
         ensures did { IfOk result (λ did. Does N.blocks self.old task collection did self.new) }

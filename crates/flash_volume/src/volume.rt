@@ -1,6 +1,7 @@
 //! A volume: an array of pages on a flash device, and the accounts of its free pages.
 
-ghost use Rattle.std.specs.Prelude.{◌≡◌, ◌+◌, ◌-◌, ◌<◌, ◌≤◌, ◌↔◌, ◌⊎◌, ℕ, true, false, Some, None, length, slice_index, slice_index_or, slice_set, is_ok, IsOk, IsSome, IfOk, IfErr, OnOk, OnErr};
+ghost use Rattle.std.specs.Prelude.{◌≡◌, ◌+◌, ◌-◌, ◌<◌, ◌≤◌, ◌↔◌, ◌⊎◌, ℕ, true, false, Some, None, length, slice_index, slice_index_or};
+ghost use Rattle.std.specs.Prelude.{slice_set, is_ok, IsOk, IsSome, IfOk, IfErr, OnOk, OnErr};
 ghost use Rattle.slot_types.specs.declared.pages.Place.{Place};
 ghost use Rattle.slot_types.specs.Places.{place_of};
 ghost use Rattle.plan_rules.specs.Bound.{MeetsBound};
@@ -79,7 +80,8 @@ impl<N: Nand> Volume<N> {
     pub fn device(&self) -> &N
         ensures device { result.now ≡ self.now.device }
         ensures pages { self.now.pages ≡ contents (N.blocks self.now.device) self.now.places }
-        ensures placed { self.now.failed ≡ false → (page : ℕ) (place : Place) → place_of self.now.places page ≡ Some place → IsProgrammed (N.blocks self.now.device) place }
+        ensures placed { self.now.failed ≡ false → (page : ℕ) (place : Place) → place_of self.now.places page ≡ Some place
+            → IsProgrammed (N.blocks self.now.device) place }
         ensures shape { self.now.failed ≡ false → N.shape_of self.now.device ≡ self.now.accounts.plan.shape }
         ensures well { self.now.failed ≡ false → N.failures self.now.device ≡ 0 }
     {
@@ -118,7 +120,8 @@ impl<N: Nand> Volume<N> {
         requires { task < length self.old.accounts.plan.caps }
         ensures stopped { (result ≡ Err Refusal.DieStopped) ↔ (self.old.failed ≡ true) }
         ensures accepted { self.old.failed ≡ false → (IsOk result ↔ writes ≤ slice_index self.old.accounts.balances task) }
-        ensures refused { self.old.failed ≡ false → IfErr result (λ refusal. refusal ≡ Refusal.NoTokens (slice_index self.old.accounts.balances task) writes) }
+        ensures refused { self.old.failed ≡ false → IfErr result (λ refusal. refusal
+            ≡ Refusal.NoTokens (slice_index self.old.accounts.balances task) writes) }
         ensures ok { OnOk result (self.new ≡ record self.old { accounts = admitted self.old.accounts task writes }) }
         ensures err { OnErr result (self.new ≡ self.old) }
     {
@@ -135,7 +138,8 @@ impl<N: Nand> Volume<N> {
     pub fn read(&mut self, page: u32) -> Result<PageData, Refusal>
         requires { page < length self.old.pages }
         ensures page { IfOk result (λ bytes. bytes ≡ slice_index_or self.old.pages page blank) }
-        ensures once { self.old.failed ≡ false → (place : Place) → place_of self.old.places page ≡ Some place → N.ends self.old.device (is_ok result) self.new.device }
+        ensures once { self.old.failed ≡ false → (place : Place) → place_of self.old.places page ≡ Some place
+            → N.ends self.old.device (is_ok result) self.new.device }
         ensures unwritten { place_of self.old.places page ≡ None → self.new ≡ self.old }
         ensures cells { OnOk result (N.blocks self.new.device ≡ N.blocks self.old.device) }
         ensures places { self.new.places ≡ self.old.places }
@@ -166,8 +170,10 @@ impl<N: Nand> Volume<N> {
         requires held { 0 < slice_index self.old.accounts.holds task }
         ensures once { self.old.failed ≡ false → N.ends self.old.device (is_ok result) self.new.device }
         ensures finds { self.old.failed ≡ false → IsSome (open_in self.old.accounts.plan.shape.pages (N.blocks self.old.device)) }
-        ensures cells { OnOk result (N.blocks self.new.device ≡ programmed (N.blocks self.old.device) (next_cell self.old.accounts.plan.shape.pages (N.blocks self.old.device)).block bytes) }
-        ensures places { OnOk result (self.new.places ≡ slice_set self.old.places page (Some (next_cell self.old.accounts.plan.shape.pages (N.blocks self.old.device)))) }
+        ensures cells { OnOk result (N.blocks self.new.device
+            ≡ programmed (N.blocks self.old.device) (next_cell self.old.accounts.plan.shape.pages (N.blocks self.old.device)).block bytes) }
+        ensures places { OnOk result (self.new.places ≡ slice_set self.old.places page
+            (Some (next_cell self.old.accounts.plan.shape.pages (N.blocks self.old.device)))) }
         ensures pages { OnOk result (self.new.pages ≡ slice_set self.old.pages page bytes) }
         ensures accounts { OnOk result (self.new.accounts ≡ hold_spent self.old.accounts task) }
         ensures running { self.new.running ≡ self.old.running }

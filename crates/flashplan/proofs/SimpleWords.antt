@@ -13,6 +13,7 @@ pub free_words : is_simple_and_free flashplan_app ≡ true
 free_words = refl
 
 -- an error that is handed on has its kind still
-pub fails_still : {T : Type 0} (kinds : Kinds) (e : Error) (r : Result T Error) → HasKind kinds e → IsErrAnd r (λ x. x ≡ e) → FailsBy kinds r
+pub fails_still : {T : Type 0} (kinds : Kinds) (e : Error) (r : Result T Error) → HasKind kinds e → IsErrAnd r (λ x. x ≡ e)
+    → FailsBy kinds r
 fails_still kinds e (Ok x) h same = absurd same
 fails_still kinds e (Err x) h same = subst (HasKind kinds) (sym same) h

@@ -58,7 +58,8 @@ named_app = let app = new_app (codes "flashplan") in record app { top = record a
 
 -- the program's command line
 abbrev pub flashplan_app : App
-flashplan_app = with_subcommand (with_subcommand (with_subcommand (with_subcommand named_app explain_app.top) arrivals_app.top) wear_app.top) draw_app.top
+flashplan_app = with_subcommand (with_subcommand (with_subcommand (with_subcommand named_app explain_app.top) arrivals_app.top)
+    wear_app.top) draw_app.top
 
 -- whether a command has an argument that is global
 abbrev pub has_globals : Command → Bool

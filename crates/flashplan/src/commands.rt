@@ -4,7 +4,8 @@ ghost use Rattle.std.specs.Prelude.{◌≡◌, ◌≤◌, IfOk, IfSome, Some, No
 ghost use Rattle.clap.specs.Words.{app_of, first_of, found_of, rows_of, subcommand_rows_of};
 ghost use Rattle.clap.specs.Kinds.{FailsBy, HasKind};
 ghost use Rattle.clap.specs.Faults.{fault_of};
-ghost use Rattle.flashplan.specs.Commands.{FitsRun, arrivals_of, asked, asked_by, draw_of, named, number_upto, range_fault, task_of, wear_of, words_fault};
+ghost use Rattle.flashplan.specs.Commands.{FitsRun, arrivals_of, asked, asked_by, draw_of, named, number_upto, range_fault, task_of};
+ghost use Rattle.flashplan.specs.Commands.{wear_of, words_fault};
 ghost use Rattle.flashplan.specs.Syntax.{flashplan_app};
 
 use crate::syntax::program_words;

@@ -2,7 +2,9 @@
 
 ghost use Rattle.std.specs.Prelude.{◌≡◌, false, codes, IfOk};
 ghost use Rattle.clap.specs.Words.{app_of, rule_of, with_subcommand};
-ghost use Rattle.flashplan.specs.Syntax.{arrivals_app, arrivals_run_app, die_rule, draw_app, draw_files_app, draw_run_app, explain_app, from_rule, flashplan_app, has_globals, named_app, needed, seed_rule, slots_rule, to_rule, wear_app, wear_files_app};
+ghost use Rattle.flashplan.specs.Syntax.{arrivals_app, arrivals_run_app, die_rule, draw_app, draw_files_app, draw_run_app, explain_app};
+ghost use Rattle.flashplan.specs.Syntax.{from_rule, flashplan_app, has_globals, named_app, needed, seed_rule, slots_rule, to_rule};
+ghost use Rattle.flashplan.specs.Syntax.{wear_app, wear_files_app};
 
 use clap::{Arg, Command};
 use std::alloc::{AllocError, Global};

@@ -1,5 +1,6 @@
 -- A list of jobs with one of them changed, or with one more.
-use Rattle.std.proofs.Common.{◌≡◌, ◌≢◌, ℕ, zero, suc, ◌+◌, ◌<◌, Bool, true, false, cond, refl, sym, ap, ◌∙◌, arith, List, [], ◌∷◌, ◌++◌, length, get_or, set, slice_get, Some, option_map, count_by, ◌||◌, ◌⊎◌, inl, inr}
+use Rattle.std.proofs.Common.{◌≡◌, ◌≢◌, ℕ, zero, suc, ◌+◌, ◌<◌, Bool, true, false, cond, refl, sym, ap, ◌∙◌, arith, List, [], ◌∷◌, ◌++◌}
+use Rattle.std.proofs.Common.{length, get_or, set, slice_get, Some, option_map, count_by, ◌||◌, ◌⊎◌, inl, inr}
 use Rattle.std.specs.List.{list_any}
 use Rattle.std.proofs.lemmas.List.Sums.{sum_by-cons}
 use Rattle.std.proofs.lemmas.Option.{get_or_from_slice_get}
@@ -12,13 +13,15 @@ length-changed_at (job ∷ jobs) zero change = refl
 length-changed_at (job ∷ jobs) (suc n) change = ap suc (length-changed_at jobs n change)
 
 -- the changed job
-pub changed_here : (jobs : List JobRecord) (n : ℕ) (change : JobRecord → JobRecord) → slice_get (changed_at jobs n change) n ≡ option_map change (slice_get jobs n)
+pub changed_here : (jobs : List JobRecord) (n : ℕ) (change : JobRecord → JobRecord) → slice_get (changed_at jobs n change) n
+    ≡ option_map change (slice_get jobs n)
 changed_here [] n change = refl
 changed_here (job ∷ jobs) zero change = refl
 changed_here (job ∷ jobs) (suc n) change = changed_here jobs n change
 
 -- every other
-pub changed_elsewhere : (jobs : List JobRecord) (n : ℕ) (change : JobRecord → JobRecord) (m : ℕ) → m ≢ n → slice_get (changed_at jobs n change) m ≡ slice_get jobs m
+pub changed_elsewhere : (jobs : List JobRecord) (n : ℕ) (change : JobRecord → JobRecord) (m : ℕ) → m ≢ n
+    → slice_get (changed_at jobs n change) m ≡ slice_get jobs m
 changed_elsewhere [] n change m other = refl
 changed_elsewhere (job ∷ jobs) zero change zero other = absurd (other refl)
 changed_elsewhere (job ∷ jobs) zero change (suc m) other = refl
@@ -26,7 +29,8 @@ changed_elsewhere (job ∷ jobs) (suc n) change zero other = refl
 changed_elsewhere (job ∷ jobs) (suc n) change (suc m) other = changed_elsewhere jobs n change m (λ e. other (ap suc e))
 
 -- what a write leaves
-pub changed_at-set : (jobs : List JobRecord) (n : ℕ) (change : JobRecord → JobRecord) (job : JobRecord) → slice_get jobs n ≡ Some job → set jobs n (change job) ≡ changed_at jobs n change
+pub changed_at-set : (jobs : List JobRecord) (n : ℕ) (change : JobRecord → JobRecord) (job : JobRecord) → slice_get jobs n ≡ Some job
+    → set jobs n (change job) ≡ changed_at jobs n change
 changed_at-set [] n change job e = absurd cc
 changed_at-set (j ∷ jobs) zero change job e = let same : j ≡ job = cc in ap (λ x. change x ∷ jobs) (sym same)
 changed_at-set (j ∷ jobs) (suc n) change job e = ap (λ l. j ∷ l) (changed_at-set jobs n change job e)
@@ -36,18 +40,22 @@ abbrev pub one_if : (JobRecord → Bool) → JobRecord → ℕ
 one_if p job = cond (p job) 1 0
 
 -- what a write at a job leaves
-pub written : (jobs : List JobRecord) (n : ℕ) (change : JobRecord → JobRecord) (head job x : JobRecord) → slice_get jobs n ≡ Some head → job ≡ get_or jobs n job → x ≡ change job → set jobs n x ≡ changed_at jobs n change
+pub written : (jobs : List JobRecord) (n : ℕ) (change : JobRecord → JobRecord) (head job x : JobRecord) → slice_get jobs n ≡ Some head → job
+    ≡ get_or jobs n job → x ≡ change job → set jobs n x ≡ changed_at jobs n change
 written jobs n change head job x at_n read is =
     let same : job ≡ head = read ∙ get_or_from_slice_get jobs n head job at_n in
     ap (set jobs n) (is ∙ ap change same) ∙ changed_at-set jobs n change head at_n
 
 -- a table seen before and after
-pub viewed : (old view : Table) (jobs : List JobRecord) (n m : ℕ) (change : JobRecord → JobRecord) → view ≡ old → m ≡ n → jobs ≡ changed_at view.jobs m change → ◌≡◌ {A = Table} (record view { jobs = jobs }) (with_change old n change)
+pub viewed : (old view : Table) (jobs : List JobRecord) (n m : ℕ) (change : JobRecord → JobRecord) → view ≡ old → m ≡ n → jobs
+    ≡ changed_at view.jobs m change → ◌≡◌ {A = Table} (record view { jobs = jobs }) (with_change old n change)
 viewed old view jobs n m change view_is number_is jobs_is =
-    ap (λ (l : List JobRecord). record view { jobs = l }) (jobs_is ∙ ap (λ k. changed_at view.jobs k change) number_is) ∙ ap (λ (t : Table). with_change t n change) view_is
+    ap (λ (l : List JobRecord). record view { jobs = l }) (jobs_is ∙ ap (λ k. changed_at view.jobs k change) number_is)
+    ∙ ap (λ (t : Table). with_change t n change) view_is
 
 -- a count loses the job as it was, and gains it as it is
-pub count_by-changed_at : (p : JobRecord → Bool) (jobs : List JobRecord) (n : ℕ) (change : JobRecord → JobRecord) (job : JobRecord) → slice_get jobs n ≡ Some job
+pub count_by-changed_at : (p : JobRecord → Bool) (jobs : List JobRecord) (n : ℕ) (change : JobRecord → JobRecord) (job : JobRecord)
+    → slice_get jobs n ≡ Some job
     → count_by p (changed_at jobs n change) + one_if p job ≡ count_by p jobs + one_if p (change job)
 count_by-changed_at p [] n change job e = absurd cc
 count_by-changed_at p (j ∷ jobs) zero change job e =
@@ -74,7 +82,8 @@ list_any-some p (j ∷ jobs) h =
 
 -- One more
 
-pub push_before : (jobs : List JobRecord) (job : JobRecord) (n : ℕ) (other : JobRecord) → slice_get jobs n ≡ Some other → slice_get (jobs ++ job ∷ []) n ≡ Some other
+pub push_before : (jobs : List JobRecord) (job : JobRecord) (n : ℕ) (other : JobRecord) → slice_get jobs n ≡ Some other
+    → slice_get (jobs ++ job ∷ []) n ≡ Some other
 push_before [] job n other e = absurd cc
 push_before (j ∷ jobs) job zero other e = e
 push_before (j ∷ jobs) job (suc n) other e = push_before jobs job n other e
@@ -93,5 +102,6 @@ push_cases (j ∷ jobs) job (suc n) other e =
     elim (push_cases jobs job n other e) [ inl h ↦ inl h | inr h ↦ inr (ap suc h.0, h.1) ]
 
 -- jobs are equal that are equal by number
-pub same_at : (n m : ℕ) (jobs : List JobRecord) (job other : JobRecord) → n ≡ m → slice_get jobs n ≡ Some job → slice_get jobs m ≡ Some other → job ≡ other
+pub same_at : (n m : ℕ) (jobs : List JobRecord) (job other : JobRecord) → n ≡ m → slice_get jobs n ≡ Some job → slice_get jobs m
+    ≡ Some other → job ≡ other
 same_at n m jobs job other same e f = let g : slice_get jobs n ≡ slice_get jobs m = ap (slice_get jobs) same in cc

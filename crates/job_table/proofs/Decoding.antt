@@ -1,5 +1,7 @@
 -- What words and bytes stand for.
-use Rattle.std.proofs.Common.{◌≡◌, ℕ, zero, suc, ◌+◌, ◌-◌, ◌*◌, ◌/◌, ◌%◌, ◌<◌, ◌≤◌, Bool, true, false, cond, refl, sym, ap, ◌∙◌, arith, eq-eqb, add-one, List, [], ◌∷◌, ◌++◌, length, get_or, take, drop, map, slice_get, Some, count_by, length-append}
+use Rattle.std.proofs.Common.{◌≡◌, ℕ, zero, suc, ◌+◌, ◌-◌, ◌*◌, ◌/◌, ◌%◌, ◌<◌, ◌≤◌, Bool, true, false, cond, refl, sym, ap, ◌∙◌, arith}
+use Rattle.std.proofs.Common.{eq-eqb, add-one, List, [], ◌∷◌, ◌++◌, length, get_or, take, drop, map, slice_get, Some, count_by}
+use Rattle.std.proofs.Common.{length-append}
 use Rattle.std.proofs.Math.Seq.{take-add}
 use Rattle.std.proofs.lemmas.List.{length-take, length-drop, nil_from_length}
 use Rattle.std.proofs.lemmas.List.Sums.{sum_by-cons, sum_by-append, sum_by-take-drop, count_by-le-length}
@@ -8,7 +10,8 @@ use Rattle.slot_types.specs.declared.events.Op.{Op}
 use Rattle.slot_types.specs.declared.events.Op.TheVariants.{Read, Write, Trim}
 use Rattle.slot_types.specs.declared.pages.PageData.{PageData}
 use Rattle.job_table.specs.Jobs.{is_read}
-use Rattle.job_table.specs.Words.{word_of, page_in, is_read_in, is_trim_in, bytes_of, blank, changing_in, op_in, bytes_behind, ops_of, HasBytes}
+use Rattle.job_table.specs.Words.{word_of, page_in, is_read_in, is_trim_in, bytes_of, blank, changing_in, op_in, bytes_behind, ops_of}
+use Rattle.job_table.specs.Words.{HasBytes}
 
 abbrev read_word : ℕ → ℕ
 read_word word = cond (is_read_in word) 1 0
@@ -31,16 +34,25 @@ is_read-op_in word bytes =
     [ true ↦ refl | false ↦ is_read-changing_in word (get_or bytes 0 blank) ]
 
 -- reads are counted by their words
-pub count_words : (words : List ℕ) (bytes : List PageData) (n : ℕ) → count_by is_read (take n (ops_of words bytes)) ≡ count_by is_read_in (take n words)
+pub count_words : (words : List ℕ) (bytes : List PageData) (n : ℕ) → count_by is_read (take n (ops_of words bytes))
+    ≡ count_by is_read_in (take n words)
 count_words words bytes zero = refl
 count_words [] bytes (suc n) = refl
 count_words (word ∷ words) bytes (suc n) =
     let h = count_words words (bytes_behind word bytes) n in
     let e : read_op (op_in word bytes) ≡ read_word word = ap (λ (v : Bool). cond v 1 0) (is_read-op_in word bytes) in
-    omega (arith, h, e, sum_by-cons read_op (op_in word bytes) (take n (ops_of words (bytes_behind word bytes))), sum_by-cons read_word word (take n words))
+    omega (
+      arith,
+      h,
+      e,
+      sum_by-cons read_op (op_in word bytes) (take n (ops_of words (bytes_behind word bytes))),
+      sum_by-cons read_word word
+          (take n words),
+    )
 
 -- a word that is a read
-pub read_at : (words : List ℕ) (bytes : List PageData) (n word : ℕ) → slice_get words n ≡ Some word → is_read_in word ≡ true → slice_get (ops_of words bytes) n ≡ Some (Read (page_in word))
+pub read_at : (words : List ℕ) (bytes : List PageData) (n word : ℕ) → slice_get words n ≡ Some word → is_read_in word ≡ true
+    → slice_get (ops_of words bytes) n ≡ Some (Read (page_in word))
 read_at [] bytes n word e is = absurd cc
 read_at (w ∷ words) bytes zero word e is =
     let same : w ≡ word = cc in
@@ -57,13 +69,17 @@ get_or-drop_one (b ∷ bytes) k = refl
 
 -- of a list of bytes whose first is behind
 changing_behind : (words : List ℕ) (bytes : List PageData) (n word k : ℕ)
-    → ((k : ℕ) → k + count_by is_read_in (take n words) ≡ n → slice_get (ops_of words (drop 1 bytes)) n ≡ Some (changing_in word (get_or (drop 1 bytes) k blank)))
-    → k + count_by is_read_in (take n words) ≡ suc n → slice_get (ops_of words (drop 1 bytes)) n ≡ Some (changing_in word (get_or bytes k blank))
+    → ((k : ℕ) → k + count_by is_read_in (take n words) ≡ n → slice_get (ops_of words (drop 1 bytes)) n
+    ≡ Some (changing_in word (get_or (drop 1 bytes) k blank)))
+    → k + count_by is_read_in (take n words) ≡ suc n → slice_get (ops_of words (drop 1 bytes)) n
+    ≡ Some (changing_in word (get_or bytes k blank))
 changing_behind words bytes n word zero rest rank = absurd (omega (arith, count_take_le words n))
-changing_behind words bytes n word (suc k) rest rank = rest k (omega arith) ∙ ap (λ (b : PageData). Some (changing_in word b)) (get_or-drop_one bytes k)
+changing_behind words bytes n word (suc k) rest rank = rest k (omega arith)
+    ∙ ap (λ (b : PageData). Some (changing_in word b)) (get_or-drop_one bytes k)
 
 -- a word that isn't: its bytes have as many before them as there are such words before it
-pub changing_at : (words : List ℕ) (bytes : List PageData) (n word k : ℕ) → slice_get words n ≡ Some word → is_read_in word ≡ false → k + count_by is_read_in (take n words) ≡ n
+pub changing_at : (words : List ℕ) (bytes : List PageData) (n word k : ℕ) → slice_get words n ≡ Some word → is_read_in word ≡ false
+    → k + count_by is_read_in (take n words) ≡ n
     → slice_get (ops_of words bytes) n ≡ Some (changing_in word (get_or bytes k blank))
 changing_at [] bytes n word k e isnt rank = absurd cc
 changing_at (w ∷ words) bytes zero word k e isnt rank =
@@ -85,7 +101,8 @@ pub is_written : (word : ℕ) (b : PageData) → is_trim_in word ≡ false → c
 is_written word b isnt = ap (λ (v : Bool). cond v (Trim (page_in word)) (Write (page_in word) b)) isnt
 
 -- behind a word that isn't a read stand all reads that stand from it on
-no_read : (words : List ℕ) (n word : ℕ) → slice_get words n ≡ Some word → is_read_in word ≡ false → count_by is_read_in (drop n words) ≡ count_by is_read_in (drop (suc n) words)
+no_read : (words : List ℕ) (n word : ℕ) → slice_get words n ≡ Some word → is_read_in word ≡ false → count_by is_read_in (drop n words)
+    ≡ count_by is_read_in (drop (suc n) words)
 no_read [] n word e isnt = absurd cc
 no_read (w ∷ words) zero word e isnt =
     let same : w ≡ word = cc in
@@ -94,7 +111,8 @@ no_read (w ∷ words) zero word e isnt =
 no_read (w ∷ words) (suc n) word e isnt = no_read words n word e isnt
 
 -- the bytes of a word that isn't a read are there
-pub bytes_there : (words : List ℕ) (bytes : List PageData) (n word reads : ℕ) → slice_get words n ≡ Some word → is_read_in word ≡ false → reads ≡ count_by is_read_in (take n words) → n < length words
+pub bytes_there : (words : List ℕ) (bytes : List PageData) (n word reads : ℕ) → slice_get words n ≡ Some word → is_read_in word ≡ false
+    → reads ≡ count_by is_read_in (take n words) → n < length words
     → HasBytes words bytes → n - reads < length bytes
 bytes_there words bytes n word reads e isnt rank within has =
     let all = has.each in
@@ -133,7 +151,8 @@ page_trimmed page = omega arith
 
 op_read : (page : ℕ) (bytes : List PageData) → op_in (4 * page) bytes ≡ Read page
 op_read page bytes =
-    ap (λ (v : Bool). cond v (Read (page_in (4 * page))) (changing_in (4 * page) (get_or bytes 0 blank))) (read_is_read page) ∙ ap Read (page_read page)
+    ap (λ (v : Bool). cond v (Read (page_in (4 * page))) (changing_in (4 * page) (get_or bytes 0 blank))) (read_is_read page)
+    ∙ ap Read (page_read page)
 
 op_written : (page : ℕ) (b : PageData) (bytes : List PageData) → op_in (4 * page + 1) (b ∷ bytes) ≡ Write page b
 op_written page b bytes =
@@ -171,21 +190,26 @@ words_read (Trim page ∷ ops) =
 
 -- one that isn't a read before the others
 changing_pushed : (words : List ℕ) (bytes : List PageData) (word : ℕ) (ops : List Op)
-    → ((bytes : List PageData) → HasBytes words bytes → ops_of (words ++ map word_of ops) (bytes ++ bytes_of ops) ≡ ops_of words bytes ++ ops)
+    → ((bytes : List PageData) → HasBytes words bytes → ops_of (words ++ map word_of ops) (bytes ++ bytes_of ops) ≡ ops_of words bytes
+    ++ ops)
     → length bytes + count_by is_read_in words ≡ suc (length words)
-    → changing_in word (get_or (bytes ++ bytes_of ops) 0 blank) ∷ ops_of (words ++ map word_of ops) (drop 1 (bytes ++ bytes_of ops)) ≡ changing_in word (get_or bytes 0 blank) ∷ (ops_of words (drop 1 bytes) ++ ops)
+    → changing_in word (get_or (bytes ++ bytes_of ops) 0 blank) ∷ ops_of (words ++ map word_of ops) (drop 1 (bytes ++ bytes_of ops))
+    ≡ changing_in word (get_or bytes 0 blank) ∷ (ops_of words (drop 1 bytes) ++ ops)
 changing_pushed words [] word ops rest has = absurd (omega (arith, count_by-le-length is_read_in words))
-changing_pushed words (b ∷ bytes) word ops rest has = ap (λ (l : List Op). changing_in word b ∷ l) (rest bytes (record { each = omega arith }))
+changing_pushed words (b ∷ bytes) word ops rest has = ap (λ (l : List Op). changing_in word b ∷ l)
+    (rest bytes (record { each = omega arith }))
 
 -- the operations of words that are added behind
-pub ops_pushed : (words : List ℕ) (bytes : List PageData) (ops : List Op) → HasBytes words bytes → ops_of (words ++ map word_of ops) (bytes ++ bytes_of ops) ≡ ops_of words bytes ++ ops
+pub ops_pushed : (words : List ℕ) (bytes : List PageData) (ops : List Op) → HasBytes words bytes
+    → ops_of (words ++ map word_of ops) (bytes ++ bytes_of ops) ≡ ops_of words bytes ++ ops
 ops_pushed [] bytes ops has =
     let none : bytes ≡ [] = nil_from_length bytes (let h = has.each in omega arith) in
     rw none (words_read ops)
 ops_pushed (w ∷ words) bytes ops has =
     let all = has.each in
     elim (is_read_in w) as (λ (v : Bool). cond v 1 0 + count_by is_read_in words ≡ count_by is_read_in (w ∷ words) →
-    cond v (Read (page_in w)) (changing_in w (get_or (bytes ++ bytes_of ops) 0 blank)) ∷ ops_of (words ++ map word_of ops) (cond v (bytes ++ bytes_of ops) (drop 1 (bytes ++ bytes_of ops)))
+    cond v (Read (page_in w)) (changing_in w (get_or (bytes ++ bytes_of ops) 0 blank))
+    ∷ ops_of (words ++ map word_of ops) (cond v (bytes ++ bytes_of ops) (drop 1 (bytes ++ bytes_of ops)))
     ≡ cond v (Read (page_in w)) (changing_in w (get_or bytes 0 blank)) ∷ (ops_of words (cond v bytes (drop 1 bytes)) ++ ops)) [
       | true ↦ λ c. ap (λ (l : List Op). Read (page_in w) ∷ l) (ops_pushed words bytes ops (record { each = omega arith }))
       | false ↦ λ c. changing_pushed words bytes w ops (λ bs h. ops_pushed words bs ops h) (omega arith)
@@ -206,32 +230,43 @@ words_have (Trim page ∷ ops) =
     let e : read_word (4 * page + 2) ≡ 0 = ap (λ (v : Bool). cond v 1 0) (trim_is_none page) in
     omega (arith, h, e, sum_by-cons read_word (4 * page + 2) (map word_of ops))
 
-pub has_pushed : (words : List ℕ) (bytes : List PageData) (ops : List Op) → HasBytes words bytes → HasBytes (words ++ map word_of ops) (bytes ++ bytes_of ops)
+pub has_pushed : (words : List ℕ) (bytes : List PageData) (ops : List Op) → HasBytes words bytes
+    → HasBytes (words ++ map word_of ops) (bytes ++ bytes_of ops)
 has_pushed words bytes ops has = record {
   each =
       let h = has.each in
       let more = words_have ops in
-      omega (arith, length-append bytes (bytes_of ops), length-append words (map word_of ops), sum_by-append read_word words (map word_of ops));
+      omega (
+        arith,
+        length-append bytes (bytes_of ops),
+        length-append words (map word_of ops),
+        sum_by-append read_word words
+            (map word_of ops),
+      );
 }
 
 -- Reads between two places
 
-pub words_between : (words : List ℕ) (bytes : List PageData) (from to count : ℕ) → from ≤ to → count ≡ count_by is_read_in (take (to - from) (drop from words))
+pub words_between : (words : List ℕ) (bytes : List PageData) (from to count : ℕ) → from ≤ to → count
+    ≡ count_by is_read_in (take (to - from) (drop from words))
     → count_by is_read (take from (ops_of words bytes)) + count ≡ count_by is_read (take to (ops_of words bytes))
 words_between words bytes from to count up is =
     let before = count_words words bytes from in
     let after = count_words words bytes to in
-    let on = ap (count_by is_read_in) (take-add from (to - from) words) ∙ sum_by-append read_word (take from words) (take (to - from) (drop from words)) in
+    let on = ap (count_by is_read_in) (take-add from (to - from) words)
+    ∙ sum_by-append read_word (take from words) (take (to - from) (drop from words)) in
     let end : from + (to - from) ≡ to = omega arith in
     let whole = ap (λ (n : ℕ). count_by is_read_in (take n words)) end in
     omega arith
 
 -- One operation more of a list
 
-pub bytes_more : (ops : List Op) (n : ℕ) (op : Op) → slice_get ops n ≡ Some op → bytes_of (take (n + 1) ops) ≡ bytes_of (take n ops) ++ bytes_of (op ∷ [])
+pub bytes_more : (ops : List Op) (n : ℕ) (op : Op) → slice_get ops n ≡ Some op → bytes_of (take (n + 1) ops) ≡ bytes_of (take n ops)
+    ++ bytes_of (op ∷ [])
 bytes_more ops n op e = rw add-one (by_op ops n op e)
   where
-    by_op : (ops : List Op) (n : ℕ) (op : Op) → slice_get ops n ≡ Some op → bytes_of (take (suc n) ops) ≡ bytes_of (take n ops) ++ bytes_of (op ∷ [])
+    by_op : (ops : List Op) (n : ℕ) (op : Op) → slice_get ops n ≡ Some op → bytes_of (take (suc n) ops) ≡ bytes_of (take n ops)
+        ++ bytes_of (op ∷ [])
     by_op [] n op e = absurd cc
     by_op (o ∷ ops) zero op e = let same : o ≡ op = cc in ap (λ (x : Op). bytes_of (x ∷ [])) same
     by_op (Read p ∷ ops) (suc n) op e = by_op ops n op e
@@ -239,10 +274,12 @@ bytes_more ops n op e = rw add-one (by_op ops n op e)
     by_op (Trim p ∷ ops) (suc n) op e = ap (λ (l : List PageData). blank ∷ l) (by_op ops n op e)
 
 -- the reads that are left from a place on
-pub reads_left : (ops : List Op) (n : ℕ) (op : Op) → slice_get ops n ≡ Some op → count_by is_read (drop n ops) ≡ read_op op + count_by is_read (drop (n + 1) ops)
+pub reads_left : (ops : List Op) (n : ℕ) (op : Op) → slice_get ops n ≡ Some op → count_by is_read (drop n ops)
+    ≡ read_op op + count_by is_read (drop (n + 1) ops)
 reads_left ops n op e = rw add-one (by_op ops n op e)
   where
-    by_op : (ops : List Op) (n : ℕ) (op : Op) → slice_get ops n ≡ Some op → count_by is_read (drop n ops) ≡ read_op op + count_by is_read (drop (suc n) ops)
+    by_op : (ops : List Op) (n : ℕ) (op : Op) → slice_get ops n ≡ Some op → count_by is_read (drop n ops)
+        ≡ read_op op + count_by is_read (drop (suc n) ops)
     by_op [] n op e = absurd cc
     by_op (o ∷ ops) zero op e = let same : o ≡ op = cc in sum_by-cons read_op o ops ∙ ap (λ (x : Op). read_op x + count_by is_read ops) same
     by_op (o ∷ ops) (suc n) op e = by_op ops n op e

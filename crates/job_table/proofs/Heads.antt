@@ -1,5 +1,6 @@
 -- The first of the queue is the head, and the head is the first of the queue.
-use Rattle.std.proofs.Common.{◌≡◌, ℕ, ◌<◌, ◌≤◌, Bool, true, false, refl, sym, ap, ◌∙◌, arith, ◌&&◌, nat_le, List, [], ◌∷◌, slice_get, Some, None, option_map, inl, inr}
+use Rattle.std.proofs.Common.{◌≡◌, ℕ, ◌<◌, ◌≤◌, Bool, true, false, refl, sym, ap, ◌∙◌, arith, ◌&&◌, nat_le, List, [], ◌∷◌, slice_get, Some}
+use Rattle.std.proofs.Common.{None, option_map, inl, inr}
 use Rattle.std.proofs.lemmas.Bool.Decides.{nat_tests}
 use Rattle.due_queue.specs.declared.keys.Key.{Key}
 use Rattle.due_queue.specs.declared.keys.WaitKey.{WaitKey}
@@ -24,17 +25,20 @@ pub ready_by : (clock : ℕ) (job : JobRecord) → job.release ≤ clock → is_
 ready_by clock job h g = grind (arith, nat_tests)
 
 -- a ready job has its key among the released ones
-pub ready_among : (table : Table) (waiting : List WaitKey) (ready : List Key) → AreQueued table.jobs table.clock waiting ready → AreLater table.clock waiting
+pub ready_among : (table : Table) (waiting : List WaitKey) (ready : List Key) → AreQueued table.jobs table.clock waiting ready
+    → AreLater table.clock waiting
     → (n : ℕ) (job : JobRecord) → slice_get table.jobs n ≡ Some job → is_ready table.clock job ≡ true → IsAmong (due_key n job) ready
 ready_among table waiting ready q later n job at_n ready_n =
     elim (q.each n job at_n (ready_pending table.clock job ready_n)) [
       | inl h ↦
-          absurd (let lt : table.clock < job.release = at_member (λ (w : WaitKey). table.clock < w.release) (release_key n job) waiting later h in
+          absurd (let lt : table.clock < job.release = at_member (λ (w : WaitKey). table.clock < w.release) (release_key n job) waiting
+          later h in
           let le = ready_released table.clock job ready_n in omega arith)
       | inr h ↦ h
     ]
 
-pub first_is_head : (table : Table) (waiting : List WaitKey) (k : Key) (ks : List Key) → AreQueued table.jobs table.clock waiting (k ∷ ks) → AreLater table.clock waiting → IsRising is_due_before (k ∷ ks) → IsHead table k.number
+pub first_is_head : (table : Table) (waiting : List WaitKey) (k : Key) (ks : List Key) → AreQueued table.jobs table.clock waiting (k ∷ ks)
+    → AreLater table.clock waiting → IsRising is_due_before (k ∷ ks) → IsHead table k.number
 first_is_head table waiting k ks q later rising =
     let first : IsStanding table.jobs table.clock k = q.stands.0 in
     let key_is : k ≡ due_key k.number first.job = λ i. record { due = first.due_is i; number = k.number } in
@@ -46,11 +50,13 @@ first_is_head table waiting k ks q later rising =
           ap (λ l. is_due_before (due_key m other) l) (sym key_is)
           ∙ elim (ready_among table waiting (k ∷ ks) q later m other at_m ready_m) as (λ v. is_due_before (due_key m other) k ≡ false) [
             | inl e ↦ ap (λ l. is_due_before l k) (sym e) ∙ due_irreflexive k
-            | inr h ↦ due_strict.one_way k (due_key m other) (at_member (λ later. is_due_before k later ≡ true) (due_key m other) ks rising.0 h)
+            | inr h ↦ due_strict.one_way k (due_key m other)
+                (at_member (λ later. is_due_before k later ≡ true) (due_key m other) ks rising.0 h)
           ];
     }
 
-pub none_ready : (table : Table) (waiting : List WaitKey) → AreQueued table.jobs table.clock waiting [] → AreLater table.clock waiting → NothingReady table
+pub none_ready : (table : Table) (waiting : List WaitKey) → AreQueued table.jobs table.clock waiting [] → AreLater table.clock waiting
+    → NothingReady table
 none_ready table waiting q later n job at_n = by (is_ready table.clock job) refl
   where
     by : (b : Bool) → is_ready table.clock job ≡ b → is_ready table.clock job ≡ false
@@ -58,12 +64,15 @@ none_ready table waiting q later n job at_n = by (is_ready table.clock job) refl
     by false e = e
 
 -- the number that the queue answers, if it does, is the head's
-pub number_is_head : (table : Table) (waiting : List WaitKey) (ready : List Key) (n : ℕ) → AreQueued table.jobs table.clock waiting ready → AreLater table.clock waiting → IsRising is_due_before ready
+pub number_is_head : (table : Table) (waiting : List WaitKey) (ready : List Key) (n : ℕ) → AreQueued table.jobs table.clock waiting ready
+    → AreLater table.clock waiting → IsRising is_due_before ready
     → Some n ≡ option_map (λ (k : Key). k.number) (first_of ready) → IsHead table n
 number_is_head table waiting [] n q later rising e = absurd cc
-number_is_head table waiting (k ∷ ks) n q later rising e = let same : n ≡ k.number = cc in rw same (first_is_head table waiting k ks q later rising)
+number_is_head table waiting (k ∷ ks) n q later rising e = let same : n
+    ≡ k.number = cc in rw same (first_is_head table waiting k ks q later rising)
 
-pub no_number_ready : (table : Table) (waiting : List WaitKey) (ready : List Key) → AreQueued table.jobs table.clock waiting ready → AreLater table.clock waiting
+pub no_number_ready : (table : Table) (waiting : List WaitKey) (ready : List Key) → AreQueued table.jobs table.clock waiting ready
+    → AreLater table.clock waiting
     → None ≡ option_map (λ (k : Key). k.number) (first_of ready) → NothingReady table
 no_number_ready table waiting [] q later e = none_ready table waiting q later
 no_number_ready table waiting (k ∷ ks) q later e = absurd cc
@@ -75,12 +84,14 @@ pub record BeginsWith (number : ℕ) (ready : List Key) : Type 0 where
   pub ready_is : ready ≡ first ∷ rest
   pub number_is : first.number ≡ number
 
-pub head_is_first : (table : Table) (waiting : List WaitKey) (ready : List Key) (n : ℕ) → AreQueued table.jobs table.clock waiting ready → AreLater table.clock waiting → IsRising is_due_before ready → IsHead table n → BeginsWith n ready
+pub head_is_first : (table : Table) (waiting : List WaitKey) (ready : List Key) (n : ℕ) → AreQueued table.jobs table.clock waiting ready
+    → AreLater table.clock waiting → IsRising is_due_before ready → IsHead table n → BeginsWith n ready
 head_is_first table waiting [] n q later rising head = absurd (ready_among table waiting [] q later n head.head head.is_at head.ready)
 head_is_first table waiting (k ∷ ks) n q later rising head =
     let first : IsStanding table.jobs table.clock k = q.stands.0 in
     let key_is : k ≡ due_key k.number first.job = λ i. record { due = first.due_is i; number = k.number } in
-    let before : goes_before k.number first.job n head.head ≡ false = head.first k.number first.job first.is_at (ready_by table.clock first.job first.released first.pending_is) in
+    let before : goes_before k.number first.job n head.head
+    ≡ false = head.first k.number first.job first.is_at (ready_by table.clock first.job first.released first.pending_is) in
     record {
       first = k;
       rest = ks;
@@ -89,7 +100,9 @@ head_is_first table waiting (k ∷ ks) n q later rising head =
         | inl e ↦ ap (λ (l : Key). l.number) e
         | inr h ↦ absurd (
             let e = at_member (λ later. is_due_before k later ≡ true) (due_key n head.head) ks rising.0 h in
-            let f : is_due_before k (due_key n head.head) ≡ is_due_before (due_key k.number first.job) (due_key n head.head) = ap (λ l. is_due_before l (due_key n head.head)) key_is in
+            let f : is_due_before k (due_key n head.head)
+            ≡ is_due_before (due_key k.number first.job) (due_key n head.head) = ap (λ l. is_due_before l (due_key n head.head)) key_is
+            in
             cc)
       ];
     }
@@ -98,13 +111,18 @@ head_is_first table waiting (k ∷ ks) n q later rising head =
 pub one_head : (table : Table) (m n : ℕ) → IsHead table m → IsHead table n → m ≡ n
 one_head table m n first second =
     ap (λ (k : Key). k.number)
-    (due_strict.apart (due_key m first.head) (due_key n second.head) (second.first m first.head first.is_at first.ready) (first.first n second.head second.is_at second.ready))
+    (due_strict.apart (due_key m first.head) (due_key n second.head) (second.first m first.head first.is_at first.ready)
+    (first.first n second.head second.is_at second.ready))
 
 -- a head stays the head where its work goes on
-pub head_goes_on : (table : Table) (n : ℕ) (change : JobRecord → JobRecord) → IsQuiet change → IsHead table n → IsHead (record table { jobs = changed_at table.jobs n change }) n
+pub head_goes_on : (table : Table) (n : ℕ) (change : JobRecord → JobRecord) → IsQuiet change → IsHead table n
+    → IsHead (record table { jobs = changed_at table.jobs n change }) n
 head_goes_on table n change quiet head =
-    let ready_same : (job : JobRecord) → is_ready table.clock (change job) ≡ is_ready table.clock job = λ job. ap (λ r. nat_le r table.clock && is_pending (change job).stage) (quiet.release_is job) ∙ ap (λ s. nat_le job.release table.clock && is_pending s) (quiet.stage_is job) in
-    let key_same : (m : ℕ) (job : JobRecord) → due_key m (change job) ≡ due_key m job = λ m job i. record { due = quiet.due_is job i; number = m } in
+    let ready_same : (job : JobRecord) → is_ready table.clock (change job)
+    ≡ is_ready table.clock job = λ job. ap (λ r. nat_le r table.clock && is_pending (change job).stage) (quiet.release_is job)
+    ∙ ap (λ s. nat_le job.release table.clock && is_pending s) (quiet.stage_is job) in
+    let key_same : (m : ℕ) (job : JobRecord) → due_key m (change job)
+    ≡ due_key m job = λ m job i. record { due = quiet.due_is job i; number = m } in
     record {
       head = change head.head;
       is_at = changed_here table.jobs n change ∙ ap (λ o. option_map change o) head.is_at;

@@ -1,5 +1,6 @@
 -- The queues keep the keys of the pending jobs.
-use Rattle.std.proofs.Common.{◌≡◌, ◌≢◌, ℕ, zero, suc, ◌<◌, ◌≤◌, true, false, refl, sym, ap, ◌∙◌, arith, List, [], ◌∷◌, ◌++◌, length, slice_get, Some, Contains, ◌⊎◌, inl, inr}
+use Rattle.std.proofs.Common.{◌≡◌, ◌≢◌, ℕ, zero, suc, ◌<◌, ◌≤◌, true, false, refl, sym, ap, ◌∙◌, arith, List, [], ◌∷◌, ◌++◌, length}
+use Rattle.std.proofs.Common.{slice_get, Some, Contains, ◌⊎◌, inl, inr}
 use Rattle.std.specs.List.{AllByRecursion}
 use Rattle.std.proofs.lemmas.Option.{slice_get_within}
 use Rattle.due_queue.specs.declared.keys.Key.{Key}
@@ -17,19 +18,36 @@ use Rattle.job_table.proofs.Orders.{later_release, not_before_same, not_due_befo
 
 -- a key stays in order where its job stands in another list
 
-pub moved_wait : (jobs other : List JobRecord) (k : WaitKey) (h : IsWaiting jobs k) → slice_get other k.number ≡ Some h.job → IsWaiting other k
+pub moved_wait : (jobs other : List JobRecord) (k : WaitKey) (h : IsWaiting jobs k) → slice_get other k.number ≡ Some h.job
+    → IsWaiting other k
 moved_wait jobs other k h is_at = record { job = h.job; is_at = is_at; pending_is = h.pending_is; release_is = h.release_is }
 
-pub moved_stand : (jobs other : List JobRecord) (clock : ℕ) (k : Key) (h : IsStanding jobs clock k) → slice_get other k.number ≡ Some h.job → IsStanding other clock k
-moved_stand jobs other clock k h is_at = record { job = h.job; is_at = is_at; pending_is = h.pending_is; due_is = h.due_is; released = h.released }
+pub moved_stand : (jobs other : List JobRecord) (clock : ℕ) (k : Key) (h : IsStanding jobs clock k) → slice_get other k.number ≡ Some h.job
+    → IsStanding other clock k
+moved_stand jobs other clock k h is_at = record {
+  job = h.job;
+  is_at = is_at;
+  pending_is = h.pending_is;
+  due_is = h.due_is;
+  released =
+      h.released;
+}
 
 -- Time passes
 
-pub stand_on : (jobs : List JobRecord) (clock now : ℕ) (waiting : List WaitKey) (ready : List Key) → clock ≤ now → AreQueued jobs clock waiting ready → AreQueued jobs now waiting ready
+pub stand_on : (jobs : List JobRecord) (clock now : ℕ) (waiting : List WaitKey) (ready : List Key) → clock ≤ now
+    → AreQueued jobs clock waiting ready → AreQueued jobs now waiting ready
 stand_on jobs clock now waiting ready le q = record {
   waits = q.waits;
   stands = every (IsStanding jobs clock) (IsStanding jobs now)
-      (λ k s. record { job = s.job; is_at = s.is_at; pending_is = s.pending_is; due_is = s.due_is; released = let h : s.job.release ≤ clock = s.released in omega arith })
+      (λ k s. record {
+        job = s.job;
+        is_at = s.is_at;
+        pending_is = s.pending_is;
+        due_is = s.due_is;
+        released = let h : s.job.release
+            ≤ clock = s.released in omega arith;
+      })
       ready q.stands;
   each = q.each;
   apart = q.apart;
@@ -38,7 +56,9 @@ stand_on jobs clock now waiting ready le q = record {
 -- A job is released
 
 -- those that come behind a key have other numbers
-others_wait : (jobs : List JobRecord) (w : WaitKey) (ws : List WaitKey) → IsWaiting jobs w → AllByRecursion (λ later. is_released_before w later ≡ true) ws → AllByRecursion (IsWaiting jobs) ws → AllByRecursion (λ (v : WaitKey). v.number ≢ w.number) ws
+others_wait : (jobs : List JobRecord) (w : WaitKey) (ws : List WaitKey) → IsWaiting jobs w
+    → AllByRecursion (λ later. is_released_before w later ≡ true) ws → AllByRecursion (IsWaiting jobs) ws
+    → AllByRecursion (λ (v : WaitKey). v.number ≢ w.number) ws
 others_wait jobs w ws here rising waits =
     both (λ later. is_released_before w later ≡ true) (IsWaiting jobs) (λ (v : WaitKey). v.number ≢ w.number)
     (λ v before there same.
@@ -49,10 +69,12 @@ others_wait jobs w ws here rising waits =
     ws rising waits
 
 -- no key with its number stands among the released ones
-pub absent_key : (jobs : List JobRecord) (now : ℕ) (w : WaitKey) (ws : List WaitKey) (ready : List Key) (due : ℕ) → AreQueued jobs now (w ∷ ws) ready → Contains ready (record { due = due; number = w.number }) → ⊥
+pub absent_key : (jobs : List JobRecord) (now : ℕ) (w : WaitKey) (ws : List WaitKey) (ready : List Key) (due : ℕ)
+    → AreQueued jobs now (w ∷ ws) ready → Contains ready (record { due = due; number = w.number }) → ⊥
 absent_key jobs now w ws ready due q =
     not_contained (record { due = due; number = w.number }) ready
-    (every (λ (k : Key). w.number ≢ k.number) (λ k. k ≢ record { due = due; number = w.number }) (λ k other same. other (sym (ap (λ (k : Key). k.number) same))) ready q.apart.0)
+    (every (λ (k : Key). w.number ≢ k.number) (λ k. k ≢ record { due = due; number = w.number })
+    (λ k other same. other (sym (ap (λ (k : Key). k.number) same))) ready q.apart.0)
 
 pub release_one : (jobs : List JobRecord) (now : ℕ) (w : WaitKey) (ws : List WaitKey) (ready : List Key) (due : ℕ)
     → w.release ≤ now
@@ -68,7 +90,14 @@ release_one jobs now w ws ready due le due_is rising q =
     record {
       waits = q.waits.1;
       stands = every-inserted is_due_before (IsStanding jobs now) key ready
-          (record { job = here.job; is_at = here.is_at; pending_is = here.pending_is; due_is = same_due; released = let e = here.release_is in omega arith })
+          (record {
+            job = here.job;
+            is_at = here.is_at;
+            pending_is = here.pending_is;
+            due_is = same_due;
+            released = let e = here.release_is
+                in omega arith;
+          })
           q.stands;
       each = λ n job at_n pending_n.
           elim (q.each n job at_n pending_n) [
@@ -80,38 +109,50 @@ release_one jobs now w ws ready due le due_is rising q =
             | inl (inr h) ↦ inl h
             | inr h ↦ inr (inserted_keeps is_due_before key (due_key n job) ready h)
           ];
-      apart = both (λ (v : WaitKey). v.number ≢ w.number) (λ (v : WaitKey). AllByRecursion (λ (k : Key). v.number ≢ k.number) ready) (λ (v : WaitKey). AllByRecursion (λ (k : Key). v.number ≢ k.number) (inserted is_due_before key ready))
+      apart = both (λ (v : WaitKey). v.number ≢ w.number) (λ (v : WaitKey). AllByRecursion (λ (k : Key). v.number ≢ k.number) ready)
+          (λ (v : WaitKey). AllByRecursion (λ (k : Key). v.number ≢ k.number) (inserted is_due_before key ready))
           (λ v other rest. every-inserted is_due_before (λ (k : Key). v.number ≢ k.number) key ready other rest) ws others q.apart.1;
     }
 
 -- where the first is released later, all are
 pub all_later : (now : ℕ) (w : WaitKey) (ws : List WaitKey) → now < w.release → IsRising is_released_before (w ∷ ws) → AreLater now (w ∷ ws)
-all_later now w ws lt rising =
-    (lt, every (λ later. is_released_before w later ≡ true) (λ (v : WaitKey). now < v.release) (λ v before. let h = later_release w v before in omega arith) ws rising.0)
+all_later now w ws lt rising = (
+  lt,
+  every (λ later. is_released_before w later ≡ true) (λ (v : WaitKey). now < v.release)
+      (λ v before. let h = later_release w v before in omega arith) ws rising.0,
+)
 
 -- A job is accepted
 
-pub not_waiting : (jobs : List JobRecord) (clock : ℕ) (waiting : List WaitKey) (ready : List Key) (release : ℕ) → AreQueued jobs clock waiting ready → Contains waiting (record { release = release; number = length jobs }) → ⊥
+pub not_waiting : (jobs : List JobRecord) (clock : ℕ) (waiting : List WaitKey) (ready : List Key) (release : ℕ)
+    → AreQueued jobs clock waiting ready → Contains waiting (record { release = release; number = length jobs }) → ⊥
 not_waiting jobs clock waiting ready release q =
     not_contained (record { release = release; number = length jobs }) waiting
     (every (IsWaiting jobs) (λ k. k ≢ record { release = release; number = length jobs })
-    (λ k here same. let lt = slice_get_within jobs k.number here.job here.is_at in let e : k.number ≡ length jobs = ap (λ (v : WaitKey). v.number) same in omega arith)
+    (λ k here same. let lt = slice_get_within jobs k.number here.job here.is_at in let e : k.number
+    ≡ length jobs = ap (λ (v : WaitKey). v.number) same in omega arith)
     waiting q.waits)
 
-pub not_ready : (jobs : List JobRecord) (clock : ℕ) (waiting : List WaitKey) (ready : List Key) (due : ℕ) → AreQueued jobs clock waiting ready → Contains ready (record { due = due; number = length jobs }) → ⊥
+pub not_ready : (jobs : List JobRecord) (clock : ℕ) (waiting : List WaitKey) (ready : List Key) (due : ℕ)
+    → AreQueued jobs clock waiting ready → Contains ready (record { due = due; number = length jobs }) → ⊥
 not_ready jobs clock waiting ready due q =
     not_contained (record { due = due; number = length jobs }) ready
     (every (IsStanding jobs clock) (λ k. k ≢ record { due = due; number = length jobs })
-    (λ k here same. let lt = slice_get_within jobs k.number here.job here.is_at in let e : k.number ≡ length jobs = ap (λ (v : Key). v.number) same in omega arith)
+    (λ k here same. let lt = slice_get_within jobs k.number here.job here.is_at in let e : k.number
+    ≡ length jobs = ap (λ (v : Key). v.number) same in omega arith)
     ready q.stands)
 
-waits_on : (jobs : List JobRecord) (job : JobRecord) (waiting : List WaitKey) → AllByRecursion (IsWaiting jobs) waiting → AllByRecursion (IsWaiting (jobs ++ job ∷ [])) waiting
+waits_on : (jobs : List JobRecord) (job : JobRecord) (waiting : List WaitKey) → AllByRecursion (IsWaiting jobs) waiting
+    → AllByRecursion (IsWaiting (jobs ++ job ∷ [])) waiting
 waits_on jobs job waiting all =
-    every (IsWaiting jobs) (IsWaiting (jobs ++ job ∷ [])) (λ k h. moved_wait jobs (jobs ++ job ∷ []) k h (push_before jobs job k.number h.job h.is_at)) waiting all
+    every (IsWaiting jobs) (IsWaiting (jobs ++ job ∷ []))
+    (λ k h. moved_wait jobs (jobs ++ job ∷ []) k h (push_before jobs job k.number h.job h.is_at)) waiting all
 
-stands_on : (jobs : List JobRecord) (job : JobRecord) (clock : ℕ) (ready : List Key) → AllByRecursion (IsStanding jobs clock) ready → AllByRecursion (IsStanding (jobs ++ job ∷ []) clock) ready
+stands_on : (jobs : List JobRecord) (job : JobRecord) (clock : ℕ) (ready : List Key) → AllByRecursion (IsStanding jobs clock) ready
+    → AllByRecursion (IsStanding (jobs ++ job ∷ []) clock) ready
 stands_on jobs job clock ready all =
-    every (IsStanding jobs clock) (IsStanding (jobs ++ job ∷ []) clock) (λ k h. moved_stand jobs (jobs ++ job ∷ []) clock k h (push_before jobs job k.number h.job h.is_at)) ready all
+    every (IsStanding jobs clock) (IsStanding (jobs ++ job ∷ []) clock)
+    (λ k h. moved_stand jobs (jobs ++ job ∷ []) clock k h (push_before jobs job k.number h.job h.is_at)) ready all
 
 -- into the wait list
 pub enter_waiting : (jobs : List JobRecord) (job : JobRecord) (clock : ℕ) (waiting : List WaitKey) (ready : List Key)
@@ -122,7 +163,8 @@ enter_waiting jobs job clock waiting ready pending_job q =
     let key : WaitKey = release_key (length jobs) job in
     record {
       waits = every-inserted is_released_before (IsWaiting (jobs ++ job ∷ [])) key waiting
-          (record { job = job; is_at = push_here jobs job; pending_is = pending_job; release_is = refl }) (waits_on jobs job waiting q.waits);
+          (record { job = job; is_at = push_here jobs job; pending_is = pending_job; release_is = refl })
+          (waits_on jobs job waiting q.waits);
       stands = stands_on jobs job clock ready q.stands;
       each = λ n other at_n pending_n.
           elim (push_cases jobs job n other at_n) [
@@ -135,7 +177,8 @@ enter_waiting jobs job clock waiting ready pending_job q =
                 inl (rw (sym key_is) (inserted_member is_released_before key waiting))
           ];
       apart = every-inserted is_released_before (λ (w : WaitKey). AllByRecursion (λ (k : Key). w.number ≢ k.number) ready) key waiting
-          (every (IsStanding jobs clock) (λ (k : Key). length jobs ≢ k.number) (λ k h same. let lt = slice_get_within jobs k.number h.job h.is_at in omega arith) ready q.stands)
+          (every (IsStanding jobs clock) (λ (k : Key). length jobs ≢ k.number)
+          (λ k h same. let lt = slice_get_within jobs k.number h.job h.is_at in omega arith) ready q.stands)
           q.apart;
     }
 
@@ -149,7 +192,8 @@ enter_ready jobs job clock waiting ready pending_job le q =
     record {
       waits = waits_on jobs job waiting q.waits;
       stands = every-inserted is_due_before (IsStanding (jobs ++ job ∷ []) clock) key ready
-          (record { job = job; is_at = push_here jobs job; pending_is = pending_job; due_is = refl; released = le }) (stands_on jobs job clock ready q.stands);
+          (record { job = job; is_at = push_here jobs job; pending_is = pending_job; due_is = refl; released = le })
+          (stands_on jobs job clock ready q.stands);
       each = λ n other at_n pending_n.
           elim (push_cases jobs job n other at_n) [
             | inl h ↦ elim (q.each n other h pending_n) [
@@ -160,7 +204,8 @@ enter_ready jobs job clock waiting ready pending_job le q =
                 let key_is : key ≡ due_key n other = λ i. record { due = (h.1 i).due; number = (sym h.0) i } in
                 inr (rw (sym key_is) (inserted_member is_due_before key ready))
           ];
-      apart = both (IsWaiting jobs) (λ (w : WaitKey). AllByRecursion (λ (k : Key). w.number ≢ k.number) ready) (λ (w : WaitKey). AllByRecursion (λ (k : Key). w.number ≢ k.number) (inserted is_due_before key ready))
+      apart = both (IsWaiting jobs) (λ (w : WaitKey). AllByRecursion (λ (k : Key). w.number ≢ k.number) ready)
+          (λ (w : WaitKey). AllByRecursion (λ (k : Key). w.number ≢ k.number) (inserted is_due_before key ready))
           (λ w h rest. every-inserted is_due_before (λ (k : Key). w.number ≢ k.number) key ready
           (λ same. let lt = slice_get_within jobs w.number h.job h.is_at in omega arith) rest)
           waiting q.waits q.apart;
@@ -177,7 +222,8 @@ pub record IsQuiet (change : JobRecord → JobRecord) : Type 0 where
   pub task_is : (job : JobRecord) → (change job).task ≡ job.task
 
 -- a job of the changed list is one of the list, changed or not
-pub changed_cases : (jobs : List JobRecord) (n : ℕ) (change : JobRecord → JobRecord) (m : ℕ) (other : JobRecord) → slice_get (changed_at jobs n change) m ≡ Some other
+pub changed_cases : (jobs : List JobRecord) (n : ℕ) (change : JobRecord → JobRecord) (m : ℕ) (other : JobRecord)
+    → slice_get (changed_at jobs n change) m ≡ Some other
     → ((m ≢ n) × (slice_get jobs m ≡ Some other)) ⊎ ((m ≡ n) × ((job : JobRecord) × (slice_get jobs m ≡ Some job) × (change job ≡ other)))
 changed_cases [] n change m other e = absurd cc
 changed_cases (j ∷ jobs) zero change zero other e = inr (refl, (j, refl, cc))
@@ -191,7 +237,8 @@ changed_cases (j ∷ jobs) (suc n) change (suc m) other e =
 
 -- each job of the list is in the changed list, changed or not
 pub changed_image : (jobs : List JobRecord) (n : ℕ) (change : JobRecord → JobRecord) (m : ℕ) (job : JobRecord) → slice_get jobs m ≡ Some job
-    → ((m ≢ n) × (slice_get (changed_at jobs n change) m ≡ Some job)) ⊎ ((m ≡ n) × (slice_get (changed_at jobs n change) m ≡ Some (change job)))
+    → ((m ≢ n) × (slice_get (changed_at jobs n change) m ≡ Some job))
+    ⊎ ((m ≡ n) × (slice_get (changed_at jobs n change) m ≡ Some (change job)))
 changed_image [] n change m job e = absurd cc
 changed_image (j ∷ jobs) zero change zero job e = let same : j ≡ job = cc in inr (refl, ap (λ x. Some (change x)) same)
 changed_image (j ∷ jobs) zero change (suc m) job e = inl ((λ same. omega arith), e)
@@ -208,12 +255,25 @@ quiet_queues jobs n change clock waiting ready quiet q = record {
   waits = every (IsWaiting jobs) (IsWaiting (changed_at jobs n change))
       (λ k h. elim (changed_image jobs n change k.number h.job h.is_at) [
         | inl g ↦ moved_wait jobs (changed_at jobs n change) k h g.1
-        | inr g ↦ record { job = change h.job; is_at = g.1; pending_is = ap is_pending (quiet.stage_is h.job) ∙ h.pending_is; release_is = h.release_is ∙ sym (quiet.release_is h.job) }
+        | inr g ↦ record {
+          job = change h.job;
+          is_at = g.1;
+          pending_is = ap is_pending (quiet.stage_is h.job)
+              ∙ h.pending_is;
+          release_is = h.release_is ∙ sym (quiet.release_is h.job);
+        }
       ]) waiting q.waits;
   stands = every (IsStanding jobs clock) (IsStanding (changed_at jobs n change) clock)
       (λ k h. elim (changed_image jobs n change k.number h.job h.is_at) [
         | inl g ↦ moved_stand jobs (changed_at jobs n change) clock k h g.1
-        | inr g ↦ record { job = change h.job; is_at = g.1; pending_is = ap is_pending (quiet.stage_is h.job) ∙ h.pending_is; due_is = h.due_is ∙ sym (quiet.due_is h.job); released = rw (quiet.release_is h.job) h.released }
+        | inr g ↦ record {
+          job = change h.job;
+          is_at = g.1;
+          pending_is = ap is_pending (quiet.stage_is h.job)
+              ∙ h.pending_is;
+          due_is = h.due_is ∙ sym (quiet.due_is h.job);
+          released = rw (quiet.release_is h.job) h.released;
+        }
       ]) ready q.stands;
   each = λ m other at_m pending_m.
       elim (changed_cases jobs n change m other at_m) [
@@ -222,8 +282,10 @@ quiet_queues jobs n change clock waiting ready quiet q = record {
             let job : JobRecord = h.1.0 in
             let is : change job ≡ other = h.1.2 in
             let pending_job : is_pending job.stage ≡ true = ap is_pending (sym (quiet.stage_is job) ∙ ap (λ j. j.stage) is) ∙ pending_m in
-            let release_same : release_key m job ≡ release_key m other = λ i. record { release = (sym (quiet.release_is job) ∙ ap (λ j. j.release) is) i; number = m } in
-            let due_same : due_key m job ≡ due_key m other = λ i. record { due = (sym (quiet.due_is job) ∙ ap (λ j. j.due) is) i; number = m } in
+            let release_same : release_key m job ≡ release_key m other = λ i. record
+            { release = (sym (quiet.release_is job) ∙ ap (λ j. j.release) is) i; number = m } in
+            let due_same : due_key m job ≡ due_key m other = λ i. record
+            { due = (sym (quiet.due_is job) ∙ ap (λ j. j.due) is) i; number = m } in
             rw (sym release_same, sym due_same) (q.each m job h.1.1 pending_job)
       ];
   apart = q.apart;
@@ -231,7 +293,8 @@ quiet_queues jobs n change clock waiting ready quiet q = record {
 
 -- The first is over
 
-pub end_first : (jobs : List JobRecord) (n : ℕ) (change : JobRecord → JobRecord) (clock : ℕ) (waiting : List WaitKey) (k : Key) (ks : List Key)
+pub end_first : (jobs : List JobRecord) (n : ℕ) (change : JobRecord → JobRecord) (clock : ℕ) (waiting : List WaitKey) (k : Key)
+    (ks : List Key)
     → k.number ≡ n
     → ((job : JobRecord) → is_pending (change job).stage ≡ false)
     → IsRising is_due_before (k ∷ ks)
@@ -239,7 +302,8 @@ pub end_first : (jobs : List JobRecord) (n : ℕ) (change : JobRecord → JobRec
     → AreQueued (changed_at jobs n change) clock waiting ks
 end_first jobs n change clock waiting k ks number_is over rising q =
     let first : IsStanding jobs clock k = q.stands.0 in
-    let wait_else = every (λ (w : WaitKey). AllByRecursion (λ (l : Key). w.number ≢ l.number) (k ∷ ks)) (λ (w : WaitKey). w.number ≢ n) (λ w h same. h.0 (same ∙ sym number_is)) waiting q.apart in
+    let wait_else = every (λ (w : WaitKey). AllByRecursion (λ (l : Key). w.number ≢ l.number) (k ∷ ks)) (λ (w : WaitKey). w.number ≢ n)
+    (λ w h same. h.0 (same ∙ sym number_is)) waiting q.apart in
     let stand_else = both (λ later. is_due_before k later ≡ true) (IsStanding jobs clock) (λ (l : Key). l.number ≢ n)
     (λ l before there same.
     let e : there.job ≡ first.job = same_at l.number k.number jobs there.job first.job (same ∙ sym number_is) there.is_at first.is_at in
@@ -249,9 +313,11 @@ end_first jobs n change clock waiting k ks number_is over rising q =
     ks rising.0 q.stands.1 in
     record {
       waits = both (λ (w : WaitKey). w.number ≢ n) (IsWaiting jobs) (IsWaiting (changed_at jobs n change))
-          (λ w other h. moved_wait jobs (changed_at jobs n change) w h (changed_elsewhere jobs n change w.number other ∙ h.is_at)) waiting wait_else q.waits;
+          (λ w other h. moved_wait jobs (changed_at jobs n change) w h (changed_elsewhere jobs n change w.number other ∙ h.is_at)) waiting
+          wait_else q.waits;
       stands = both (λ (l : Key). l.number ≢ n) (IsStanding jobs clock) (IsStanding (changed_at jobs n change) clock)
-          (λ l other h. moved_stand jobs (changed_at jobs n change) clock l h (changed_elsewhere jobs n change l.number other ∙ h.is_at)) ks stand_else q.stands.1;
+          (λ l other h. moved_stand jobs (changed_at jobs n change) clock l h (changed_elsewhere jobs n change l.number other ∙ h.is_at)) ks
+          stand_else q.stands.1;
       each = λ m other at_m pending_m.
           elim (changed_cases jobs n change m other at_m) [
             | inl h ↦ elim (q.each m other h.1 pending_m) [
@@ -261,5 +327,6 @@ end_first jobs n change clock waiting k ks number_is over rising q =
             ]
             | inr h ↦ absurd (let e : is_pending other.stage ≡ false = ap (λ j. is_pending j.stage) (sym h.1.2) ∙ over h.1.0 in cc)
           ];
-      apart = every (λ (w : WaitKey). AllByRecursion (λ (l : Key). w.number ≢ l.number) (k ∷ ks)) (λ (w : WaitKey). AllByRecursion (λ (l : Key). w.number ≢ l.number) ks) (λ w h. h.1) waiting q.apart;
+      apart = every (λ (w : WaitKey). AllByRecursion (λ (l : Key). w.number ≢ l.number) (k ∷ ks))
+          (λ (w : WaitKey). AllByRecursion (λ (l : Key). w.number ≢ l.number) ks) (λ w h. h.1) waiting q.apart;
     }

@@ -12,7 +12,8 @@ at_member P x (k ∷ ks) all (inl e) = rw (sym e) all.0
 at_member P x (k ∷ ks) all (inr h) = at_member P x ks all.1 h
 
 -- what holds of each by one fact holds by another that follows at each
-pub both : {K : Type 0} (P Q R : K → Type 0) → ((k : K) → P k → Q k → R k) → (ks : List K) → AllByRecursion P ks → AllByRecursion Q ks → AllByRecursion R ks
+pub both : {K : Type 0} (P Q R : K → Type 0) → ((k : K) → P k → Q k → R k) → (ks : List K) → AllByRecursion P ks → AllByRecursion Q ks
+    → AllByRecursion R ks
 both P Q R follows [] p q = tt
 both P Q R follows (k ∷ ks) p q = (follows k p.0 q.0, both P Q R follows ks p.1 q.1)
 

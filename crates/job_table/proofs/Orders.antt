@@ -17,7 +17,8 @@ pub release_strict : IsStrict is_released_before
 release_strict = record {
   one_way = λ x y h. pairs_strict.one_way (x.release, x.number) (y.release, y.number) h;
   chain = λ x y z h g. pairs_strict.chain (x.release, x.number) (y.release, y.number) (z.release, z.number) h g;
-  apart = λ x y h g. let e = pairs_strict.apart (x.release, x.number) (y.release, y.number) h g in λ i. record { release = (e i).0; number = (e i).1 };
+  apart = λ x y h g. let e = pairs_strict.apart (x.release, x.number) (y.release, y.number) h g in λ i. record
+      { release = (e i).0; number = (e i).1 };
 }
 
 -- no key is before itself

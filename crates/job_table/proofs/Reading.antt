@@ -1,5 +1,6 @@
 -- How many reads stand before a place.
-use Rattle.std.proofs.Common.{◌≡◌, ℕ, zero, suc, ◌+◌, ◌<◌, ◌≤◌, Bool, true, cond, refl, sym, ap, ◌∙◌, arith, List, [], ◌∷◌, None, length, take, drop, slice_get, count_by}
+use Rattle.std.proofs.Common.{◌≡◌, ℕ, zero, suc, ◌+◌, ◌<◌, ◌≤◌, Bool, true, cond, refl, sym, ap, ◌∙◌, arith, List, [], ◌∷◌, None, length}
+use Rattle.std.proofs.Common.{take, drop, slice_get, count_by}
 use Rattle.std.proofs.Math.Seq.{take-add}
 use Rattle.std.proofs.lemmas.List.{take-take, length-take, length-drop}
 use Rattle.std.proofs.lemmas.List.Sums.{sum_by-cons, sum_by-append, sum_by-take-le, count_by-le-length}
@@ -17,21 +18,25 @@ none_taken zero = refl
 none_taken (suc n) = refl
 
 -- one more place
-pub one_more : (ops : List Op) (work : ℕ) (b : Bool) → is_some_read (slice_get ops work) ≡ b → count_by is_read (take (suc work) ops) ≡ count_by is_read (take work ops) + cond b 1 0
+pub one_more : (ops : List Op) (work : ℕ) (b : Bool) → is_some_read (slice_get ops work) ≡ b → count_by is_read (take (suc work) ops)
+    ≡ count_by is_read (take work ops) + cond b 1 0
 one_more [] work b e = rw (sym e) (omega (arith, none_taken work, none_taken (suc work)))
 one_more (op ∷ ops) zero b e = sum_by-cons read_of op [] ∙ ap (λ (v : Bool). cond v 1 0 + 0) e ∙ (omega arith)
 one_more (op ∷ ops) (suc work) b e =
     let h = one_more ops work b e in
     omega (arith, h, sum_by-cons read_of op (take (suc work) ops), sum_by-cons read_of op (take work ops))
 
-pub reads_on : (ops : List Op) (from more : ℕ) → count_by is_read (take from ops) + count_by is_read (take more (drop from ops)) ≡ count_by is_read (take (from + more) ops)
-reads_on ops from more = sym (ap (count_by is_read) (take-add from more ops) ∙ sum_by-append read_of (take from ops) (take more (drop from ops)))
+pub reads_on : (ops : List Op) (from more : ℕ) → count_by is_read (take from ops) + count_by is_read (take more (drop from ops))
+    ≡ count_by is_read (take (from + more) ops)
+reads_on ops from more = sym (ap (count_by is_read) (take-add from more ops)
+    ∙ sum_by-append read_of (take from ops) (take more (drop from ops)))
 
 pub reads_rise : (ops : List Op) (a b : ℕ) → a ≤ b → count_by is_read (take a ops) ≤ count_by is_read (take b ops)
 reads_rise ops a b up = rw (sym (ap (count_by is_read) (take-take a b ops up))) (sum_by-take-le read_of (take b ops) a)
 
 -- the reads of a row so far stand before its end
-pub done_within : (ops : List Op) (row : Row) → IsRowOf ops row → row.first_read + row.reads_done ≤ count_by is_read (take (row.first_op + row.op_count) ops)
+pub done_within : (ops : List Op) (row : Row) → IsRowOf ops row → row.first_read + row.reads_done
+    ≤ count_by is_read (take (row.first_op + row.op_count) ops)
 done_within ops row fits =
     let first = fits.first_read_is in
     let done = fits.reads_done_is in
@@ -40,7 +45,8 @@ done_within ops row fits =
     omega arith
 
 -- and where a read is next, one more
-pub next_within : (ops : List Op) (row : Row) → IsRowOf ops row → is_some_read (slice_get (ops_at ops row) row.work) ≡ true → row.first_read + row.reads_done < count_by is_read (take (row.first_op + row.op_count) ops)
+pub next_within : (ops : List Op) (row : Row) → IsRowOf ops row → is_some_read (slice_get (ops_at ops row) row.work) ≡ true
+    → row.first_read + row.reads_done < count_by is_read (take (row.first_op + row.op_count) ops)
 next_within ops row fits next =
     let first = fits.first_read_is in
     let done = fits.reads_done_is in
@@ -50,14 +56,16 @@ next_within ops row fits next =
     omega arith
 
 -- the places of the reads that a row carried
-pub reads_there : (ops : List Op) (reads : List PageData) (row : Row) → IsRowIn ops reads row → row.first_read + row.reads_done ≤ length reads
+pub reads_there : (ops : List Op) (reads : List PageData) (row : Row) → IsRowIn ops reads row → row.first_read + row.reads_done
+    ≤ length reads
 reads_there ops reads row in_table =
     let within = done_within ops row in_table.fits in
     let all = sum_by-take-le read_of ops (row.first_op + row.op_count) in
     let places = in_table.places.each in
     omega arith
 
-pub reads_count : (ops : List Op) (reads : List PageData) (row : Row) → IsRowIn ops reads row → length (reads_at reads row) ≡ count_by is_read (take row.work (ops_at ops row))
+pub reads_count : (ops : List Op) (reads : List PageData) (row : Row) → IsRowIn ops reads row → length (reads_at reads row)
+    ≡ count_by is_read (take row.work (ops_at ops row))
 reads_count ops reads row in_table =
     let there = reads_there ops reads row in_table in
     let done = in_table.fits.reads_done_is in
@@ -84,7 +92,8 @@ get_dropped (op ∷ ops) (suc from) n =
     let up : suc (from + n) ≡ suc from + n = omega arith in
     get_dropped ops from n ∙ ap (slice_get (op ∷ ops)) up
 
-pub op_in_row : (ops : List Op) (row : Row) (place : ℕ) → place < row.op_count → slice_get (ops_at ops row) place ≡ slice_get ops (row.first_op + place)
+pub op_in_row : (ops : List Op) (row : Row) (place : ℕ) → place < row.op_count → slice_get (ops_at ops row) place
+    ≡ slice_get ops (row.first_op + place)
 op_in_row ops row place within = get_taken (drop row.first_op ops) row.op_count place within ∙ get_dropped ops row.first_op place
 
 get_none : (ops : List Op) (count n : ℕ) → count ≤ n → slice_get (take count ops) n ≡ None
@@ -100,7 +109,8 @@ pub op_past : (ops : List Op) (row : Row) (place : ℕ) → row.op_count ≤ pla
 op_past ops row place past = get_none (drop row.first_op ops) row.op_count place past
 
 -- the reads before the next operation of a row
-pub reads_before_next : (ops : List Op) (row : Row) → IsRowOf ops row → row.work ≤ row.op_count → row.first_read + row.reads_done ≡ count_by is_read (take (row.first_op + row.work) ops)
+pub reads_before_next : (ops : List Op) (row : Row) → IsRowOf ops row → row.work ≤ row.op_count → row.first_read + row.reads_done
+    ≡ count_by is_read (take (row.first_op + row.work) ops)
 reads_before_next ops row fits within =
     let first = fits.first_read_is in
     let done = fits.reads_done_is in

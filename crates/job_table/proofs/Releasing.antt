@@ -1,5 +1,6 @@
 -- A step of letting the released ones go ahead, and its end.
-use Rattle.std.proofs.Common.{◌≡◌, ℕ, suc, ◌+◌, ◌<◌, ◌≤◌, Bool, true, false, cond, nat_le, refl, sym, ap, ◌∙◌, subst, arith, List, [], ◌∷◌, length, get_or, Some, None}
+use Rattle.std.proofs.Common.{◌≡◌, ℕ, suc, ◌+◌, ◌<◌, ◌≤◌, Bool, true, false, cond, nat_le, refl, sym, ap, ◌∙◌, subst, arith, List, [], ◌∷◌}
+use Rattle.std.proofs.Common.{length, get_or, Some, None}
 use Rattle.std.proofs.lemmas.Option.{get_or_from_slice_get}
 use Rattle.std.proofs.lemmas.Bool.Decides.{nat_tests}
 use Rattle.due_queue.specs.declared.keys.Key.{Key}
@@ -24,7 +25,8 @@ kept_key now k w e = by (nat_le k.release now) refl e
     by true f e = (cc, f)
     by false f e = absurd cc
 
-pub popped : (now : ℕ) (old rest : List WaitKey) (w : WaitKey) → Some w ≡ released_by now (first_of old) → rest ≡ rest_of old → IsPopped now old rest w
+pub popped : (now : ℕ) (old rest : List WaitKey) (w : WaitKey) → Some w ≡ released_by now (first_of old) → rest ≡ rest_of old
+    → IsPopped now old rest w
 popped now [] rest w e f = absurd cc
 popped now (k ∷ ks) rest w e f =
     let h = kept_key now k w e in
@@ -38,7 +40,8 @@ pub record IsStep (jobs : List JobRecord) (now : ℕ) (old rest : List WaitKey) 
   pub queued : AreQueued jobs now rest ready'
   pub fewer : length rest < length old
 
-pub release_step : (jobs : List JobRecord) (now : ℕ) (old rest : List WaitKey) (ready : List Key) (spare spare' : ℕ) (w : WaitKey) (job : JobRecord) (due : ℕ)
+pub release_step : (jobs : List JobRecord) (now : ℕ) (old rest : List WaitKey) (ready : List Key) (spare spare' : ℕ) (w : WaitKey)
+    (job : JobRecord) (due : ℕ)
     → Some w ≡ released_by now (first_of old) → rest ≡ rest_of old
     → job ≡ get_or jobs w.number job → due ≡ job.due
     → spare' + 1 ≡ spare
@@ -63,7 +66,8 @@ release_step jobs now old rest ready spare spare' w job due first_is rest_is rea
     }
 
 -- where none is popped, all are released later
-pub none_popped : (now : ℕ) (old : List WaitKey) → None ≡ released_by now (first_of old) → IsRising is_released_before old → AreLater now old
+pub none_popped : (now : ℕ) (old : List WaitKey) → None ≡ released_by now (first_of old) → IsRising is_released_before old
+    → AreLater now old
 none_popped now [] e rising = tt
 none_popped now (k ∷ ks) e rising = all_later now k ks (by (nat_le k.release now) refl e) rising
   where

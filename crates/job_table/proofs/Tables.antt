@@ -1,5 +1,7 @@
 -- What is always true of a table stays true.
-use Rattle.std.proofs.Common.{◌≡◌, ◌≢◌, ℕ, suc, ◌+◌, ◌<◌, ◌≤◌, Bool, true, false, cond, if◌then◌else◌, ◌&&◌, ◌==◌, nat_lt, refl, sym, ap, ◌∙◌, subst, arith, List, [], ◌∷◌, ◌++◌, length, get_or, set, slice_get, Option, Some, None, option_map, MatchOption, count_by, inl, inr, get_or-set_same, get_or-set_other, length-append}
+use Rattle.std.proofs.Common.{◌≡◌, ◌≢◌, ℕ, suc, ◌+◌, ◌<◌, ◌≤◌, Bool, true, false, cond, if◌then◌else◌, ◌&&◌, ◌==◌, nat_lt, refl, sym, ap}
+use Rattle.std.proofs.Common.{◌∙◌, subst, arith, List, [], ◌∷◌, ◌++◌, length, get_or, set, slice_get, Option, Some, None, option_map}
+use Rattle.std.proofs.Common.{MatchOption, count_by, inl, inr, get_or-set_same, get_or-set_other, length-append}
 use Rattle.std.proofs.Math.ListN.{length-set}
 use Rattle.std.proofs.lemmas.Bool.{cases_eq}
 use Rattle.std.proofs.lemmas.Bool.Decides.{nat_tests}
@@ -19,7 +21,8 @@ use Rattle.job_table.specs.Order.{due_key, IsHead}
 use Rattle.job_table.specs.Queued.{Lines, AreQueued, AreLater, release_key}
 use Rattle.job_table.specs.Worst.{IsWorst, NothingDone, IsDoneAt}
 use Rattle.job_table.specs.Kept.{unmarked, IsRunning, IsSound}
-use Rattle.job_table.proofs.Changed.{length-changed_at, changed_here, one_if, count_by-changed_at, list_any-none, list_any-some, push_cases, same_at}
+use Rattle.job_table.proofs.Changed.{length-changed_at, changed_here, one_if, count_by-changed_at, list_any-none, list_any-some, push_cases}
+use Rattle.job_table.proofs.Changed.{same_at}
 use Rattle.job_table.proofs.Keyed.{IsQuiet, changed_cases, quiet_queues, end_first, enter_waiting, enter_ready}
 use Rattle.job_table.proofs.Heads.{BeginsWith, head_is_first, ready_pending}
 use Rattle.job_table.proofs.Worsts.{undone_worst, pushed_worst}
@@ -52,7 +55,8 @@ same_task a b e = grind (arith, nat_tests)
 other_task : (a b : ℕ) → a ≢ b → one_of (a == b) ≡ 0
 other_task a b e = grind (arith, nat_tests)
 
-pub mark_is : (jobs : List JobRecord) (clock : ℕ) (collecting : List Bool) (waiting : List WaitKey) (ready : List Key) (task : ℕ) → IsRunning jobs clock collecting waiting ready → task < length collecting
+pub mark_is : (jobs : List JobRecord) (clock : ℕ) (collecting : List Bool) (waiting : List WaitKey) (ready : List Key) (task : ℕ)
+    → IsRunning jobs clock collecting waiting ready → task < length collecting
     → get_or collecting task false ≡ is_collecting jobs task
 mark_is jobs clock collecting waiting ready task running lt = by (get_or collecting task false) refl
   where
@@ -63,9 +67,17 @@ mark_is jobs clock collecting waiting ready task running lt = by (get_or collect
 -- A job goes on
 
 pub carried_quiet : IsQuiet carried
-carried_quiet = record { stage_is = λ job. refl; release_is = λ job. refl; due_is = λ job. refl; collects_is = λ job. refl; task_is = λ job. refl }
+carried_quiet = record {
+  stage_is = λ job. refl;
+  release_is = λ job. refl;
+  due_is = λ job. refl;
+  collects_is = λ job. refl;
+  task_is = λ job.
+      refl;
+}
 
-pub quiet_sound : (jobs : List JobRecord) (n : ℕ) (change : JobRecord → JobRecord) (job : JobRecord) (clock : ℕ) (ended : Bool) (collecting : List Bool) (lines : Lines) (worst : Option ℕ)
+pub quiet_sound : (jobs : List JobRecord) (n : ℕ) (change : JobRecord → JobRecord) (job : JobRecord) (clock : ℕ) (ended : Bool)
+    (collecting : List Bool) (lines : Lines) (worst : Option ℕ)
     → IsQuiet change → slice_get jobs n ≡ Some job → is_pending job.stage ≡ true
     → IsSound jobs clock ended collecting lines worst → IsSound (changed_at jobs n change) clock ended collecting lines worst
 quiet_sound jobs n change job clock ended collecting lines worst quiet at_n pending_n sound =
@@ -87,7 +99,8 @@ quiet_sound jobs n change job clock ended collecting lines worst quiet at_n pend
             ];
         marks = λ task lt.
             let p = is_collection_of task in
-            let same : is_collection_of task (change job) ≡ is_collection_of task job = rw (quiet.collects_is job, quiet.task_is job, quiet.stage_is job) refl in
+            let same : is_collection_of task (change job)
+            ≡ is_collection_of task job = rw (quiet.collects_is job, quiet.task_is job, quiet.stage_is job) refl in
             let one : one_if p (change job) ≡ one_if p job = ap (λ b. cond b 1 0) same in
             let count = count_by-changed_at p jobs n change job at_n in
             let was = r.marks task lt in
@@ -112,10 +125,12 @@ length-unmarked (Some job) collecting = by job.collects
     by false = refl
 
 -- the marks count the pending collections, of which one is over
-over_marks : (jobs : List JobRecord) (n : ℕ) (s : Stage) (job : JobRecord) (collecting : List Bool) (task : ℕ) → slice_get jobs n ≡ Some job → is_pending job.stage ≡ true → is_pending s ≡ false
+over_marks : (jobs : List JobRecord) (n : ℕ) (s : Stage) (job : JobRecord) (collecting : List Bool) (task : ℕ) → slice_get jobs n ≡ Some job
+    → is_pending job.stage ≡ true → is_pending s ≡ false
     → task < length collecting → count_by (is_collection_of task) jobs ≡ (if get_or collecting task false then 1 else 0)
     → (collects : Bool) → job.collects ≡ collects
-    → count_by (is_collection_of task) (changed_at jobs n (with_stage s)) ≡ (if get_or (if collects then set collecting job.task false else collecting) task false then 1 else 0)
+    → count_by (is_collection_of task) (changed_at jobs n (with_stage s))
+    ≡ (if get_or (if collects then set collecting job.task false else collecting) task false then 1 else 0)
 over_marks jobs n s job collecting task at_n pending_n over lt was false is =
     let p = is_collection_of task in
     let before : one_if p job ≡ 0 = ap (λ b. cond (b && (job.task == task) && is_pending job.stage) 1 0) is in
@@ -131,11 +146,14 @@ over_marks jobs n s job collecting task at_n pending_n over lt was true is =
       | inl same ↦
           let here = same_task job.task task (sym same) in
           let lt' : job.task < length collecting = omega arith in
-          let read : get_or (set collecting job.task false) task false ≡ false = ap (λ t. get_or (set collecting job.task false) t false) same ∙ get_or-set_same collecting job.task false false lt' in
+          let read : get_or (set collecting job.task false) task false
+          ≡ false = ap (λ t. get_or (set collecting job.task false) t false) same
+          ∙ get_or-set_same collecting job.task false false lt' in
           rw read (let small = at_most_one (get_or collecting task false) in omega arith)
       | inr differs ↦
           let here = other_task job.task task (λ e. differs (sym e)) in
-          let read : get_or (set collecting job.task false) task false ≡ get_or collecting task false = get_or-set_other collecting job.task task false false differs in
+          let read : get_or (set collecting job.task false) task false
+          ≡ get_or collecting task false = get_or-set_other collecting job.task task false false differs in
           rw read (omega arith)
     ]
 
@@ -148,7 +166,8 @@ over_running table n s collecting waiting ready head over rising r =
     let rest_is : rest_of ready ≡ b.rest = ap rest_of b.ready_is in
     let q = end_first table.jobs n (with_stage s) table.clock waiting b.first b.rest b.number_is (λ job. over)
     (subst (IsRising is_due_before) b.ready_is rising) (subst (λ l. AreQueued table.jobs table.clock waiting l) b.ready_is r.queued) in
-    let marks_len : length (unmarked (slice_get table.jobs n) collecting) ≡ length collecting = length-unmarked (slice_get table.jobs n) collecting in
+    let marks_len : length (unmarked (slice_get table.jobs n) collecting)
+    ≡ length collecting = length-unmarked (slice_get table.jobs n) collecting in
     record {
       queued = rw rest_is q;
       later = r.later;
@@ -164,11 +183,13 @@ over_running table n s collecting waiting ready head over rising r =
           ]);
       marks = λ task lt.
           let lt' : task < length collecting = rw marks_len at lt in
-          rw head.is_at (over_marks table.jobs n s head.head collecting task head.is_at (ready_pending table.clock head.head head.ready) over lt' (r.marks task lt') head.head.collects refl);
+          rw head.is_at (over_marks table.jobs n s head.head collecting task head.is_at (ready_pending table.clock head.head head.ready)
+          over lt' (r.marks task lt') head.head.collects refl);
     }
 
 -- everything but who is worst
-pub over_sound : (table : Table) (n : ℕ) (s : Stage) (ended : Bool) (collecting : List Bool) (lines lines' : Lines) (worst worst' : Option ℕ)
+pub over_sound : (table : Table) (n : ℕ) (s : Stage) (ended : Bool) (collecting : List Bool) (lines lines' : Lines)
+    (worst worst' : Option ℕ)
     → ended ≡ false → IsHead table n → is_pending s ≡ false → IsRising is_due_before lines.ready
     → lines'.waiting ≡ lines.waiting → lines'.ready ≡ rest_of lines.ready
     → IsSound table.jobs table.clock ended collecting lines worst
@@ -181,13 +202,15 @@ over_sound table n s ended collecting lines lines' worst worst' runs head over r
 }
 
 -- the head isn't done yet
-pub head_undone : (table : Table) (n : ℕ) → IsHead table n → (job : JobRecord) → slice_get table.jobs n ≡ Some job → is_done job.stage ≡ false
+pub head_undone : (table : Table) (n : ℕ) → IsHead table n → (job : JobRecord) → slice_get table.jobs n ≡ Some job → is_done job.stage
+    ≡ false
 head_undone table n head job at_n =
     let e : head.head ≡ job = same_at n n table.jobs head.head job refl head.is_at at_n in
     pending_undone job.stage (ap (λ j. is_pending j.stage) (sym e) ∙ ready_pending table.clock head.head head.ready)
 
 -- the head that was done
-pub head_done : (table : Table) (n : ℕ) (s : Stage) → IsHead table n → is_done s ≡ true → IsDoneAt (changed_at table.jobs n (with_stage s)) n
+pub head_done : (table : Table) (n : ℕ) (s : Stage) → IsHead table n → is_done s ≡ true
+    → IsDoneAt (changed_at table.jobs n (with_stage s)) n
 head_done table n s head done = record {
   job = with_stage s head.head;
   is_at = changed_here table.jobs n (with_stage s) ∙ ap (option_map (with_stage s)) head.is_at;
@@ -195,12 +218,20 @@ head_done table n s head done = record {
 }
 
 pub read_quiet : (bytes : PageData) → IsQuiet (λ job. with_read bytes (carried job))
-read_quiet bytes = record { stage_is = λ job. refl; release_is = λ job. refl; due_is = λ job. refl; collects_is = λ job. refl; task_is = λ job. refl }
+read_quiet bytes = record {
+  stage_is = λ job. refl;
+  release_is = λ job. refl;
+  due_is = λ job. refl;
+  collects_is = λ job. refl;
+  task_is = λ
+      job. refl;
+}
 
 -- A job is accepted
 
 -- the queues with the new key in one of them
-pub record HasEntered (jobs : List JobRecord) (job : JobRecord) (clock : ℕ) (waiting waiting' : List WaitKey) (ready ready' : List Key) : Type 0 where
+pub record HasEntered (jobs : List JobRecord) (job : JobRecord) (clock : ℕ) (waiting waiting' : List WaitKey) (ready ready' : List Key) :
+    Type 0 where
   pub queued : AreQueued (jobs ++ job ∷ []) clock waiting' ready'
   pub later : AreLater clock waiting'
   pub few_wait : length waiting' ≤ suc (length waiting)
@@ -211,7 +242,8 @@ pub has_entered : (jobs : List JobRecord) (job : JobRecord) (clock : ℕ) (waiti
     → ready' ≡ (if nat_lt clock job.release then ready else inserted is_due_before (due_key (length jobs) job) ready)
     → AreQueued jobs clock waiting ready → AreLater clock waiting
     → HasEntered jobs job clock waiting waiting' ready ready'
-has_entered jobs job clock waiting waiting' ready ready' pending_job waiting_is ready_is q later = by (nat_lt clock job.release) refl waiting_is ready_is
+has_entered jobs job clock waiting waiting' ready ready' pending_job waiting_is ready_is q later = by (nat_lt clock job.release) refl
+    waiting_is ready_is
   where
     by : (b : Bool) → nat_lt clock job.release ≡ b
         → waiting' ≡ (if b then inserted is_released_before (release_key (length jobs) job) waiting else waiting)
@@ -232,11 +264,13 @@ has_entered jobs job clock waiting waiting' ready ready' pending_job waiting_is 
           few_wait = omega arith;
         })
 
-count_push : (p : JobRecord → Bool) (jobs : List JobRecord) (job : JobRecord) → count_by p (jobs ++ job ∷ []) ≡ count_by p jobs + one_if p job
+count_push : (p : JobRecord → Bool) (jobs : List JobRecord) (job : JobRecord) → count_by p (jobs ++ job ∷ [])
+    ≡ count_by p jobs + one_if p job
 count_push p jobs job = sum_by_push (one_if p) jobs job
 
 -- a job that has not begun
-pub job_sound : (jobs : List JobRecord) (job : JobRecord) (clock : ℕ) (ended : Bool) (collecting : List Bool) (lines lines' : Lines) (worst : Option ℕ)
+pub job_sound : (jobs : List JobRecord) (job : JobRecord) (clock : ℕ) (ended : Bool) (collecting : List Bool) (lines lines' : Lines)
+    (worst : Option ℕ)
     → length jobs < MAX_JOBS → job.stage ≡ stages.Pending → job.collects ≡ false
     → (ended ≡ false → HasEntered jobs job clock lines.waiting lines'.waiting lines.ready lines'.ready)
     → IsSound jobs clock ended collecting lines worst → IsSound (jobs ++ job ∷ []) clock ended collecting lines' worst
@@ -264,7 +298,8 @@ job_sound jobs job clock ended collecting lines lines' worst few pending_is coll
     }
 
 -- a collection for a task that has none
-pub collection_sound : (jobs : List JobRecord) (job : JobRecord) (clock : ℕ) (ended : Bool) (collecting : List Bool) (lines lines' : Lines) (worst : Option ℕ)
+pub collection_sound : (jobs : List JobRecord) (job : JobRecord) (clock : ℕ) (ended : Bool) (collecting : List Bool) (lines lines' : Lines)
+    (worst : Option ℕ)
     → ended ≡ false → length jobs < MAX_JOBS → job.stage ≡ stages.Pending → job.collects ≡ true
     → job.task < length collecting → is_collecting jobs job.task ≡ false
     → HasEntered jobs job clock lines.waiting lines'.waiting lines.ready lines'.ready
@@ -293,13 +328,18 @@ collection_sound jobs job clock ended collecting lines lines' worst runs few pen
             elim (cases_eq task job.task) [
               | inl same ↦
                   let here = same_task job.task task (sym same) in
-                  let unmarked_is : get_or collecting task false ≡ false = mark_is jobs clock collecting lines.waiting lines.ready task r lt' ∙ ap (is_collecting jobs) same ∙ single in
+                  let unmarked_is : get_or collecting task false
+                  ≡ false = mark_is jobs clock collecting lines.waiting lines.ready task r lt' ∙ ap (is_collecting jobs) same
+                  ∙ single in
                   let none : count_by p jobs ≡ 0 = was ∙ ap (λ b. cond b 1 0) unmarked_is in
-                  let read : get_or (set collecting job.task true) task false ≡ true = ap (λ t. get_or (set collecting job.task true) t false) same ∙ get_or-set_same collecting job.task true false in_range in
+                  let read : get_or (set collecting job.task true) task false
+                  ≡ true = ap (λ t. get_or (set collecting job.task true) t false) same
+                  ∙ get_or-set_same collecting job.task true false in_range in
                   rw read (omega arith)
               | inr differs ↦
                   let here = other_task job.task task (λ e. differs (sym e)) in
-                  let read : get_or (set collecting job.task true) task false ≡ get_or collecting task false = get_or-set_other collecting job.task task true false differs in
+                  let read : get_or (set collecting job.task true) task false
+                  ≡ get_or collecting task false = get_or-set_other collecting job.task task true false differs in
                   rw read (omega arith)
             ];
       };

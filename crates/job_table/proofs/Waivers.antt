@@ -1,5 +1,6 @@
 -- Waivers that are taken back leave the jobs as they were.
-use Rattle.std.proofs.Common.{◌≡◌, ◌≢◌, ℕ, zero, suc, ◌<◌, Bool, true, false, not, subst, refl, sym, ap, ◌∙◌, arith, List, [], ◌∷◌, ◌++◌, slice_get, Option, Some, None, option_map, MatchOption, inl, inr, length, take, get_or, ◌+◌}
+use Rattle.std.proofs.Common.{◌≡◌, ◌≢◌, ℕ, zero, suc, ◌<◌, Bool, true, false, not, subst, refl, sym, ap, ◌∙◌, arith, List, [], ◌∷◌, ◌++◌}
+use Rattle.std.proofs.Common.{slice_get, Option, Some, None, option_map, MatchOption, inl, inr, length, take, get_or, ◌+◌}
 use Rattle.std.specs.List.{AllByRecursion}
 use Rattle.std.proofs.lemmas.Bool.{cases_eq}
 use Rattle.std.proofs.lemmas.List.{take_more}
@@ -11,7 +12,8 @@ use Rattle.job_table.specs.declared.stages.Stage.TheVariants as stages
 use Rattle.job_table.specs.Jobs.{JobRecord, is_pending, is_waived, is_done, with_stage}
 use Rattle.job_table.specs.Table.{Table, changed_at}
 use Rattle.job_table.specs.Order.{IsHead}
-use Rattle.job_table.specs.Waivers.{after_waiver, waived_in, IsPendingAt, WerePending, without_waiver, without_waivers, is_waived_one, AreWaived}
+use Rattle.job_table.specs.Waivers.{after_waiver, waived_in, IsPendingAt, WerePending, without_waiver, without_waivers, is_waived_one}
+use Rattle.job_table.specs.Waivers.{AreWaived}
 use Rattle.job_table.specs.Worst.{IsWorst, NothingDone}
 use Rattle.job_table.proofs.Changed.{changed_here, changed_elsewhere, length-changed_at, same_at}
 use Rattle.job_table.proofs.Heads.{ready_pending}
@@ -19,7 +21,12 @@ use Rattle.job_table.proofs.Worsts.{undone_worst}
 
 -- a head is pending
 pub head_pending : (table : Table) (n : ℕ) → IsHead table n → IsPendingAt table.jobs n
-head_pending table n head = record { job = head.head; is_at = head.is_at; pending_is = pending_stage head.head.stage (ready_pending table.clock head.head head.ready) }
+head_pending table n head = record {
+  job = head.head;
+  is_at = head.is_at;
+  pending_is = pending_stage head.head.stage
+      (ready_pending table.clock head.head head.ready);
+}
   where
     pending_stage : (s : Stage) → is_pending s ≡ true → s ≡ stages.Pending
     pending_stage stages.Pending h = refl
@@ -28,21 +35,25 @@ head_pending table n head = record { job = head.head; is_at = head.is_at; pendin
 
 -- one more waiver at the end
 
-pub waived_push : (jobs : List JobRecord) (ws : List Waived) (w : Waived) → waived_in jobs (ws ++ w ∷ []) ≡ after_waiver (waived_in jobs ws) w
+pub waived_push : (jobs : List JobRecord) (ws : List Waived) (w : Waived) → waived_in jobs (ws ++ w ∷ [])
+    ≡ after_waiver (waived_in jobs ws) w
 waived_push jobs [] w = refl
 waived_push jobs (v ∷ ws) w = waived_push (after_waiver jobs v) ws w
 
-pub WerePending-push : (jobs : List JobRecord) (ws : List Waived) (w : Waived) → WerePending jobs ws → IsPendingAt (waived_in jobs ws) w.number → WerePending jobs (ws ++ w ∷ [])
+pub WerePending-push : (jobs : List JobRecord) (ws : List Waived) (w : Waived) → WerePending jobs ws
+    → IsPendingAt (waived_in jobs ws) w.number → WerePending jobs (ws ++ w ∷ [])
 WerePending-push jobs [] w were here = (here, tt)
 WerePending-push jobs (v ∷ ws) w were here = (were.0, WerePending-push (after_waiver jobs v) ws w were.1 here)
 
 -- two changes of one job, and changes of two
-changed_twice : (jobs : List JobRecord) (n : ℕ) (f g : JobRecord → JobRecord) → changed_at (changed_at jobs n f) n g ≡ changed_at jobs n (λ job. g (f job))
+changed_twice : (jobs : List JobRecord) (n : ℕ) (f g : JobRecord → JobRecord) → changed_at (changed_at jobs n f) n g
+    ≡ changed_at jobs n (λ job. g (f job))
 changed_twice [] n f g = refl
 changed_twice (j ∷ jobs) zero f g = refl
 changed_twice (j ∷ jobs) (suc n) f g = ap (λ l. j ∷ l) (changed_twice jobs n f g)
 
-changed_comm : (jobs : List JobRecord) (m n : ℕ) (f g : JobRecord → JobRecord) → m ≢ n → changed_at (changed_at jobs m f) n g ≡ changed_at (changed_at jobs n g) m f
+changed_comm : (jobs : List JobRecord) (m n : ℕ) (f g : JobRecord → JobRecord) → m ≢ n → changed_at (changed_at jobs m f) n g
+    ≡ changed_at (changed_at jobs n g) m f
 changed_comm [] m n f g differs = refl
 changed_comm (j ∷ jobs) zero zero f g differs = absurd (differs refl)
 changed_comm (j ∷ jobs) zero (suc n) f g differs = refl
@@ -50,7 +61,8 @@ changed_comm (j ∷ jobs) (suc m) zero f g differs = refl
 changed_comm (j ∷ jobs) (suc m) (suc n) f g differs = ap (λ l. j ∷ l) (changed_comm jobs m n f g (λ e. differs (ap suc e)))
 
 -- a change that leaves a job as it is
-changed_same : (jobs : List JobRecord) (n : ℕ) (f : JobRecord → JobRecord) (job : JobRecord) → slice_get jobs n ≡ Some job → f job ≡ job → changed_at jobs n f ≡ jobs
+changed_same : (jobs : List JobRecord) (n : ℕ) (f : JobRecord → JobRecord) (job : JobRecord) → slice_get jobs n ≡ Some job → f job ≡ job
+    → changed_at jobs n f ≡ jobs
 changed_same [] n f job e same = refl
 changed_same (j ∷ jobs) zero f job e same = let h : j ≡ job = cc in ap (λ x. x ∷ jobs) (ap f h ∙ same ∙ sym h)
 changed_same (j ∷ jobs) (suc n) f job e same = ap (λ l. j ∷ l) (changed_same jobs n f job e same)
@@ -89,15 +101,18 @@ still_waived jobs n w differs waived = record {
 }
 
 -- taking one back goes before the others' waivers as well as behind them
-without_first : (jobs : List JobRecord) (v : Waived) (ws : List Waived) → IsWaivedAt jobs v.number → WerePending jobs ws → without_waiver (waived_in jobs ws) v ≡ waived_in (without_waiver jobs v) ws
+without_first : (jobs : List JobRecord) (v : Waived) (ws : List Waived) → IsWaivedAt jobs v.number → WerePending jobs ws
+    → without_waiver (waived_in jobs ws) v ≡ waived_in (without_waiver jobs v) ws
 without_first jobs v [] waived were = refl
 without_first jobs v (w ∷ ws) waived were =
     let differs : v.number ≢ w.number = apart jobs v.number w.number waived were.0 in
     without_first (after_waiver jobs w) v ws (still_waived jobs v.number w differs waived) were.1
-    ∙ ap (λ l. waived_in l ws) (changed_comm jobs w.number v.number (with_stage (stages.Waived w.given)) (with_stage stages.Pending) (λ e. differs (sym e)))
+    ∙ ap (λ l. waived_in l ws) (changed_comm jobs w.number v.number (with_stage (stages.Waived w.given)) (with_stage stages.Pending)
+    (λ e. differs (sym e)))
 
 -- those that were pending were pending also where one that is waived is taken back
-pending_after : (jobs : List JobRecord) (v : Waived) (ws : List Waived) → IsWaivedAt jobs v.number → WerePending jobs ws → WerePending (without_waiver jobs v) ws
+pending_after : (jobs : List JobRecord) (v : Waived) (ws : List Waived) → IsWaivedAt jobs v.number → WerePending jobs ws
+    → WerePending (without_waiver jobs v) ws
 pending_after jobs v [] waived were = tt
 pending_after jobs v (w ∷ ws) waived were =
     let differs : v.number ≢ w.number = apart jobs v.number w.number waived were.0 in (
@@ -106,12 +121,14 @@ pending_after jobs v (w ∷ ws) waived were =
         is_at = changed_elsewhere jobs v.number (with_stage stages.Pending) w.number (λ e. differs (sym e)) ∙ were.0.is_at;
         pending_is = were.0.pending_is;
       },
-      subst (λ l. WerePending l ws) (changed_comm jobs w.number v.number (with_stage (stages.Waived w.given)) (with_stage stages.Pending) (λ e. differs (sym e)))
+      subst (λ l. WerePending l ws) (changed_comm jobs w.number v.number (with_stage (stages.Waived w.given)) (with_stage stages.Pending)
+          (λ e. differs (sym e)))
           (pending_after (after_waiver jobs w) v ws (still_waived jobs v.number w differs waived) were.1),
     )
 
 -- what was waived and taken back is as it was
-pub without_waivers-waived_in : (jobs : List JobRecord) (ws : List Waived) → WerePending jobs ws → without_waivers (waived_in jobs ws) ws ≡ jobs
+pub without_waivers-waived_in : (jobs : List JobRecord) (ws : List Waived) → WerePending jobs ws → without_waivers (waived_in jobs ws) ws
+    ≡ jobs
 without_waivers-waived_in jobs [] were = refl
 without_waivers-waived_in jobs (w ∷ ws) were =
     let waived = waived_here jobs w were.0 in
@@ -124,15 +141,18 @@ without_waivers-waived_in jobs (w ∷ ws) were =
 one_waived : (jobs : List JobRecord) (n : ℕ) → IsWaivedAt jobs n → is_waived_one (slice_get jobs n) ≡ true
 one_waived jobs n waived = ap is_waived_one waived.is_at ∙ waived.waived_is
 
-last_waived : (jobs : List JobRecord) (v : Waived) (ws : List Waived) → IsWaivedAt jobs v.number → WerePending jobs ws → IsWaivedAt (waived_in jobs ws) v.number
+last_waived : (jobs : List JobRecord) (v : Waived) (ws : List Waived) → IsWaivedAt jobs v.number → WerePending jobs ws
+    → IsWaivedAt (waived_in jobs ws) v.number
 last_waived jobs v [] waived were = waived
 last_waived jobs v (w ∷ ws) waived were =
     last_waived (after_waiver jobs w) v ws (still_waived jobs v.number w (apart jobs v.number w.number waived were.0) waived) were.1
 
 pub AreWaived-waived_in : (jobs : List JobRecord) (ws : List Waived) → WerePending jobs ws → AreWaived (waived_in jobs ws) ws
 AreWaived-waived_in jobs [] were = tt
-AreWaived-waived_in jobs (w ∷ ws) were =
-    (one_waived (waived_in (after_waiver jobs w) ws) w.number (last_waived (after_waiver jobs w) w ws (waived_here jobs w were.0) were.1), AreWaived-waived_in (after_waiver jobs w) ws were.1)
+AreWaived-waived_in jobs (w ∷ ws) were = (
+  one_waived (waived_in (after_waiver jobs w) ws) w.number (last_waived (after_waiver jobs w) w ws (waived_here jobs w were.0) were.1),
+  AreWaived-waived_in (after_waiver jobs w) ws were.1,
+)
 
 -- Taking waivers back, for the table
 
@@ -153,10 +173,12 @@ waived_undone (Some job) h = stage_undone job.stage h
     stage_undone (stages.Done completion given) h = absurd cc
     stage_undone (stages.Waived given) h = refl
 
-undone_after : (jobs : List JobRecord) (w : Waived) (n : ℕ) → is_undone (slice_get jobs n) ≡ true → is_undone (slice_get (without_waiver jobs w) n) ≡ true
+undone_after : (jobs : List JobRecord) (w : Waived) (n : ℕ) → is_undone (slice_get jobs n) ≡ true
+    → is_undone (slice_get (without_waiver jobs w) n) ≡ true
 undone_after jobs w n h =
     elim (cases_eq n w.number) [
-      | inl same ↦ ap (λ m. is_undone (slice_get (without_waiver jobs w) m)) same ∙ ap is_undone (changed_here jobs w.number (with_stage stages.Pending)) ∙ pending_undone (slice_get jobs w.number)
+      | inl same ↦ ap (λ m. is_undone (slice_get (without_waiver jobs w) m)) same
+          ∙ ap is_undone (changed_here jobs w.number (with_stage stages.Pending)) ∙ pending_undone (slice_get jobs w.number)
       | inr differs ↦ ap is_undone (changed_elsewhere jobs w.number (with_stage stages.Pending) n differs) ∙ h
     ]
   where
@@ -170,34 +192,43 @@ pub without_worst : (jobs : List JobRecord) (ws : List Waived) (worst : Option �
 without_worst jobs [] worst undone kept = kept
 without_worst jobs (w ∷ ws) worst undone kept =
     without_worst (without_waiver jobs w) ws worst
-    (every (λ v. is_undone (slice_get jobs v.number) ≡ true) (λ v. is_undone (slice_get (without_waiver jobs w) v.number) ≡ true) (λ v h. undone_after jobs w v.number h) ws undone.1)
-    (undone_worst jobs w.number (with_stage stages.Pending) worst (λ job at_w. (not_done job (sym (ap is_undone at_w) ∙ undone.0), refl)) kept)
+    (every (λ v. is_undone (slice_get jobs v.number) ≡ true) (λ v. is_undone (slice_get (without_waiver jobs w) v.number) ≡ true)
+    (λ v h. undone_after jobs w v.number h) ws undone.1)
+    (undone_worst jobs w.number (with_stage stages.Pending) worst (λ job at_w. (not_done job (sym (ap is_undone at_w) ∙ undone.0), refl))
+    kept)
   where
     not_done : (job : JobRecord) → not (is_done job.stage) ≡ true → is_done job.stage ≡ false
     not_done job h = grind arith
 
 pub undone-waived : (jobs : List JobRecord) (ws : List Waived) → AreWaived jobs ws → AreUndone jobs ws
 undone-waived jobs ws waived =
-    every (λ w. is_waived_one (slice_get jobs w.number) ≡ true) (λ w. is_undone (slice_get jobs w.number) ≡ true) (λ w h. waived_undone (slice_get jobs w.number) h) ws waived
+    every (λ w. is_waived_one (slice_get jobs w.number) ≡ true) (λ w. is_undone (slice_get jobs w.number) ≡ true)
+    (λ w h. waived_undone (slice_get jobs w.number) h) ws waived
 
 pub length-without_waivers : (jobs : List JobRecord) (ws : List Waived) → length (without_waivers jobs ws) ≡ length jobs
 length-without_waivers jobs [] = refl
-length-without_waivers jobs (w ∷ ws) = length-without_waivers (without_waiver jobs w) ws ∙ length-changed_at jobs w.number (with_stage stages.Pending)
+length-without_waivers jobs (w ∷ ws) = length-without_waivers (without_waiver jobs w) ws
+    ∙ length-changed_at jobs w.number (with_stage stages.Pending)
 
 -- A loop over the waivers
 
-without_waivers-append : (jobs : List JobRecord) (ws vs : List Waived) → without_waivers jobs (ws ++ vs) ≡ without_waivers (without_waivers jobs ws) vs
+without_waivers-append : (jobs : List JobRecord) (ws vs : List Waived) → without_waivers jobs (ws ++ vs)
+    ≡ without_waivers (without_waivers jobs ws) vs
 without_waivers-append jobs [] vs = refl
 without_waivers-append jobs (w ∷ ws) vs = without_waivers-append (without_waiver jobs w) ws vs
 
-pub without_more : (jobs : List JobRecord) (ws : List Waived) (i : ℕ) (w : Waived) → i < length ws → w ≡ get_or ws i w → without_waivers jobs (take (i + 1) ws) ≡ without_waiver (without_waivers jobs (take i ws)) w
+pub without_more : (jobs : List JobRecord) (ws : List Waived) (i : ℕ) (w : Waived) → i < length ws → w ≡ get_or ws i w
+    → without_waivers jobs (take (i + 1) ws) ≡ without_waiver (without_waivers jobs (take i ws)) w
 without_more jobs ws i w lt read =
-    ap (without_waivers jobs) (take_more ws i w lt ∙ ap (λ v. take i ws ++ v ∷ []) (sym read)) ∙ without_waivers-append jobs (take i ws) (w ∷ [])
+    ap (without_waivers jobs) (take_more ws i w lt ∙ ap (λ v. take i ws ++ v ∷ []) (sym read))
+    ∙ without_waivers-append jobs (take i ws) (w ∷ [])
 
 -- each waiver that may be taken back is of a job that is there
-pub waived_in_range : (jobs : List JobRecord) (ws : List Waived) (i : ℕ) (w : Waived) → AreWaived jobs ws → i < length ws → w ≡ get_or ws i w → w.number < length jobs
+pub waived_in_range : (jobs : List JobRecord) (ws : List Waived) (i : ℕ) (w : Waived) → AreWaived jobs ws → i < length ws → w
+    ≡ get_or ws i w → w.number < length jobs
 waived_in_range jobs ws i w waived lt read =
-    there jobs w.number (rw (sym read) at (All-get_or (λ v. is_waived_one (slice_get jobs v.number) ≡ true) ws i w lt (All-from_recursion (λ v. is_waived_one (slice_get jobs v.number) ≡ true) ws waived)))
+    there jobs w.number (rw (sym read) at (All-get_or (λ v. is_waived_one (slice_get jobs v.number) ≡ true) ws i w lt
+    (All-from_recursion (λ v. is_waived_one (slice_get jobs v.number) ≡ true) ws waived)))
   where
     there : (jobs : List JobRecord) (n : ℕ) → is_waived_one (slice_get jobs n) ≡ true → n < length jobs
     there [] n h = absurd cc

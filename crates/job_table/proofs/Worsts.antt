@@ -1,5 +1,6 @@
 -- Who is worst, before and after somebody is done.
-use Rattle.std.proofs.Common.{◌≡◌, ◌≢◌, ℕ, Bool, true, false, refl, sym, ap, ◌∙◌, arith, ◌&&◌, ◌||◌, not, List, [], ◌∷◌, ◌++◌, slice_get, Option, Some, None, MatchOption, ◌⊎◌, inl, inr, ℤ, ◌<ℤ◌, int_lt}
+use Rattle.std.proofs.Common.{◌≡◌, ◌≢◌, ℕ, Bool, true, false, refl, sym, ap, ◌∙◌, arith, ◌&&◌, ◌||◌, not, List, [], ◌∷◌, ◌++◌, slice_get}
+use Rattle.std.proofs.Common.{Option, Some, None, MatchOption, ◌⊎◌, inl, inr, ℤ, ◌<ℤ◌, int_lt}
 use Rattle.std.proofs.lemmas.Bool.{cases_eq}
 use Rattle.std.proofs.lemmas.Bool.Decides.{nat_tests}
 use Rattle.std.proofs.lemmas.Int.{ints}
@@ -15,7 +16,8 @@ use Rattle.job_table.proofs.Keyed.{changed_cases}
 abbrev ranks_above : ℤ → ℤ → Bool → Bool
 ranks_above late other_late before = int_lt other_late late || (not (int_lt late other_late) && before)
 
-above_cases : (late other_late : ℤ) (before : Bool) → ranks_above late other_late before ≡ true → (other_late <ℤ late) ⊎ ((late ≡ other_late) × (before ≡ true))
+above_cases : (late other_late : ℤ) (before : Bool) → ranks_above late other_late before ≡ true → (other_late <ℤ late)
+    ⊎ ((late ≡ other_late) × (before ≡ true))
 above_cases late other_late before h = grind (arith, ints)
 
 above_by_lateness : (late other_late : ℤ) (before : Bool) → other_late <ℤ late → ranks_above late other_late before ≡ true
@@ -24,7 +26,8 @@ above_by_lateness late other_late before h = grind (arith, ints)
 above_by_test : (late other_late : ℤ) (before : Bool) → late ≡ other_late → before ≡ true → ranks_above late other_late before ≡ true
 above_by_test late other_late before h g = grind (arith, ints)
 
-chain : (a b c : ℤ) (p q r : ℕ × ℕ) → ranks_above a b (is_pair_before p q) ≡ true → ranks_above b c (is_pair_before q r) ≡ true → ranks_above a c (is_pair_before p r) ≡ true
+chain : (a b c : ℤ) (p q r : ℕ × ℕ) → ranks_above a b (is_pair_before p q) ≡ true → ranks_above b c (is_pair_before q r) ≡ true
+    → ranks_above a c (is_pair_before p r) ≡ true
 chain a b c p q r h g =
     elim (above_cases a b (is_pair_before p q) h) [
       | inl e ↦ elim (above_cases b c (is_pair_before q r) g) [
@@ -43,9 +46,11 @@ not_above_itself late completion n = grind (arith, ints, nat_tests)
 pub not_worse_itself : (n : ℕ) (job : JobRecord) → is_worse n job n job ≡ false
 not_worse_itself n job = not_above_itself (lateness_of job) (completion_in job.stage) n
 
-pub worse_chain : (k : ℕ) (a : JobRecord) (m : ℕ) (b : JobRecord) (n : ℕ) (c : JobRecord) → is_worse k a m b ≡ true → is_worse m b n c ≡ true → is_worse k a n c ≡ true
+pub worse_chain : (k : ℕ) (a : JobRecord) (m : ℕ) (b : JobRecord) (n : ℕ) (c : JobRecord) → is_worse k a m b ≡ true → is_worse m b n c
+    ≡ true → is_worse k a n c ≡ true
 worse_chain k a m b n c h g =
-    chain (lateness_of a) (lateness_of b) (lateness_of c) (completion_in a.stage, k) (completion_in b.stage, m) (completion_in c.stage, n) h g
+    chain (lateness_of a) (lateness_of b) (lateness_of c) (completion_in a.stage, k) (completion_in b.stage, m) (completion_in c.stage, n) h
+    g
 
 -- One has just been done
 
@@ -63,7 +68,8 @@ worst_alone jobs n here none = record {
       ];
 }
 
-pub worst_now : (jobs : List JobRecord) (n w : ℕ) (here : IsDoneAt jobs n) (beside : IsWorstBeside jobs n w) → is_worse n here.job w beside.worst ≡ true → IsWorst jobs n
+pub worst_now : (jobs : List JobRecord) (n w : ℕ) (here : IsDoneAt jobs n) (beside : IsWorstBeside jobs n w)
+    → is_worse n here.job w beside.worst ≡ true → IsWorst jobs n
 worst_now jobs n w here beside worse = record {
   worst = here.job;
   is_at = here.is_at;
@@ -77,12 +83,14 @@ worst_now jobs n w here beside worse = record {
       ];
 }
   where
-    not_above : (m : ℕ) (other : JobRecord) → m ≢ n → slice_get jobs m ≡ Some other → is_done other.stage ≡ true → (b : Bool) → is_worse m other n here.job ≡ b → is_worse m other n here.job ≡ false
+    not_above : (m : ℕ) (other : JobRecord) → m ≢ n → slice_get jobs m ≡ Some other → is_done other.stage ≡ true → (b : Bool)
+        → is_worse m other n here.job ≡ b → is_worse m other n here.job ≡ false
     not_above m other differs at_m done_m true e =
         absurd (let f = worse_chain m other n here.job w beside.worst e worse in let g = beside.most m other differs at_m done_m in cc)
     not_above m other differs at_m done_m false e = e
 
-pub worst_stays : (jobs : List JobRecord) (n w : ℕ) (here : IsDoneAt jobs n) (beside : IsWorstBeside jobs n w) → is_worse n here.job w beside.worst ≡ false → IsWorst jobs w
+pub worst_stays : (jobs : List JobRecord) (n w : ℕ) (here : IsDoneAt jobs n) (beside : IsWorstBeside jobs n w)
+    → is_worse n here.job w beside.worst ≡ false → IsWorst jobs w
 worst_stays jobs n w here beside not_worse = record {
   worst = beside.worst;
   is_at = beside.is_at;
@@ -102,7 +110,8 @@ one_worst jobs m n first second =
     same_rank (lateness_of first.worst) (lateness_of second.worst) (completion_in first.worst.stage) (completion_in second.worst.stage) m n
     (second.most m first.worst first.is_at first.done) (first.most n second.worst second.is_at second.done)
   where
-    same_rank : (a b : ℤ) (x y m n : ℕ) → ranks_above a b (is_pair_before (x, m) (y, n)) ≡ false → ranks_above b a (is_pair_before (y, n) (x, m)) ≡ false → m ≡ n
+    same_rank : (a b : ℤ) (x y m n : ℕ) → ranks_above a b (is_pair_before (x, m) (y, n)) ≡ false
+        → ranks_above b a (is_pair_before (y, n) (x, m)) ≡ false → m ≡ n
     same_rank a b x y m n h g = grind (arith, ints, nat_tests)
 
 -- A change that makes nobody done and changes nobody done
@@ -118,7 +127,8 @@ undone_worst jobs n change None undone none = λ m other at_m.
     ]
 undone_worst jobs n change (Some w) undone worst = record {
   worst = worst.worst;
-  is_at = changed_elsewhere jobs n change w (λ same. let e = (undone worst.worst (ap (slice_get jobs) (sym same) ∙ worst.is_at)).0 in let f = worst.done in absurd cc) ∙ worst.is_at;
+  is_at = changed_elsewhere jobs n change w (λ same. let e = (undone worst.worst (ap (slice_get jobs) (sym same) ∙ worst.is_at)).0 in let f
+      = worst.done in absurd cc) ∙ worst.is_at;
   done = worst.done;
   most = λ m other at_m done_m.
       elim (changed_cases jobs n change m other at_m) [
@@ -152,9 +162,11 @@ pub worst_of_others : (jobs : List JobRecord) (n : ℕ) (change : JobRecord → 
     → ((job : JobRecord) → slice_get jobs n ≡ Some job → is_done job.stage ≡ false)
     → MatchOption worst (NothingDone jobs) (IsWorst jobs)
     → MatchOption worst (NothingDoneBeside (changed_at jobs n change) n) (IsWorstBeside (changed_at jobs n change) n)
-worst_of_others jobs n change None undone none = λ m other differs at_m. none m other (sym (changed_elsewhere jobs n change m differs) ∙ at_m)
+worst_of_others jobs n change None undone none = λ m other differs at_m. none m other (sym (changed_elsewhere jobs n change m differs)
+    ∙ at_m)
 worst_of_others jobs n change (Some w) undone worst =
-    let differs : w ≢ n = λ same. absurd (let e = undone worst.worst (ap (slice_get jobs) (sym same) ∙ worst.is_at) in let f = worst.done in cc) in
+    let differs : w ≢ n = λ same. absurd (let e = undone worst.worst (ap (slice_get jobs) (sym same) ∙ worst.is_at) in let f = worst.done in
+    cc) in
     record {
       other_one = differs;
       worst = worst.worst;

@@ -46,5 +46,6 @@ pub record IsRowIn (ops : List Op) (reads : List PageData) (row : Row) : Type 0 
 -- the operations of a later row lie behind those of an earlier one
 pub record AreLaid (rows : List Row) (ops : List Op) (reads : List PageData) : Type 0 where
   pub each : (n : ℕ) (row : Row) → slice_get rows n ≡ Some row → IsRowOf ops row
-  pub apart : (n m : ℕ) (row other : Row) → slice_get rows n ≡ Some row → slice_get rows m ≡ Some other → n < m → row.first_op + row.op_count ≤ other.first_op
+  pub apart : (n m : ℕ) (row other : Row) → slice_get rows n ≡ Some row → slice_get rows m ≡ Some other → n < m
+      → row.first_op + row.op_count ≤ other.first_op
   pub places : HasPlaces ops reads

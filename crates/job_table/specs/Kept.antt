@@ -1,5 +1,6 @@
 -- What is always true of a table.
-use Rattle.std.specs.Prelude.{◌≡◌, ℕ, ◌<◌, ◌≤◌, Bool, true, false, if◌then◌else◌, List, Option, MatchOption, Some, None, slice_get, slice_set, slice_index_or, length, count_by}
+use Rattle.std.specs.Prelude.{◌≡◌, ℕ, ◌<◌, ◌≤◌, Bool, true, false, if◌then◌else◌, List, Option, MatchOption, Some, None, slice_get}
+use Rattle.std.specs.Prelude.{slice_set, slice_index_or, length, count_by}
 use Rattle.slot_types.specs.declared.limits.TheConstants.{MAX_JOBS}
 use Rattle.due_queue.specs.declared.keys.Key.{Key}
 use Rattle.due_queue.specs.declared.keys.WaitKey.{WaitKey}
@@ -24,9 +25,11 @@ pub record IsRunning (jobs : List JobRecord) (clock : ℕ) (collecting : List Bo
   pub later : AreLater clock waiting
   pub few_wait : length waiting ≤ length jobs
   pub tasks : AreOfTasks jobs (length collecting)
-  pub marks : (task : ℕ) → task < length collecting → count_by (is_collection_of task) jobs ≡ (if slice_index_or collecting task false then 1 else 0)
+  pub marks : (task : ℕ) → task < length collecting → count_by (is_collection_of task) jobs
+      ≡ (if slice_index_or collecting task false then 1 else 0)
 
-pub record IsSound (jobs : List JobRecord) (clock : ℕ) (ended : Bool) (collecting : List Bool) (lines : Lines) (worst : Option ℕ) : Type 0 where
-  pub few : length jobs ≤ MAX_JOBS
-  pub running : ended ≡ false → IsRunning jobs clock collecting lines.waiting lines.ready
-  pub worst_is : MatchOption worst (NothingDone jobs) (IsWorst jobs)
+pub record IsSound (jobs : List JobRecord) (clock : ℕ) (ended : Bool) (collecting : List Bool) (lines : Lines) (worst : Option ℕ) : Type 0
+  where
+    pub few : length jobs ≤ MAX_JOBS
+    pub running : ended ≡ false → IsRunning jobs clock collecting lines.waiting lines.ready
+    pub worst_is : MatchOption worst (NothingDone jobs) (IsWorst jobs)

@@ -22,7 +22,8 @@ pub record IsHead (table : Table) (number : ℕ) : Type 0 where
   pub head : JobRecord
   pub is_at : slice_get table.jobs number ≡ Some head
   pub ready : is_ready table.clock head ≡ true
-  pub first : (m : ℕ) (other : JobRecord) → slice_get table.jobs m ≡ Some other → is_ready table.clock other ≡ true → goes_before m other number head ≡ false
+  pub first : (m : ℕ) (other : JobRecord) → slice_get table.jobs m ≡ Some other → is_ready table.clock other ≡ true
+      → goes_before m other number head ≡ false
 
 abbrev pub NothingReady : Table → Type 0
 NothingReady table = (n : ℕ) (job : JobRecord) → slice_get table.jobs n ≡ Some job → is_ready table.clock job ≡ false

@@ -47,7 +47,8 @@ pub record IsStanding (jobs : List JobRecord) (clock : ℕ) (key : Key) : Type 0
 pub record AreQueued (jobs : List JobRecord) (clock : ℕ) (waiting : List WaitKey) (ready : List Key) : Type 0 where
   pub waits : AllByRecursion (IsWaiting jobs) waiting
   pub stands : AllByRecursion (IsStanding jobs clock) ready
-  pub each : (n : ℕ) (job : JobRecord) → slice_get jobs n ≡ Some job → is_pending job.stage ≡ true → IsAmong (release_key n job) waiting ⊎ IsAmong (due_key n job) ready
+  pub each : (n : ℕ) (job : JobRecord) → slice_get jobs n ≡ Some job → is_pending job.stage ≡ true → IsAmong (release_key n job) waiting
+      ⊎ IsAmong (due_key n job) ready
   pub apart : AllByRecursion (λ (w : WaitKey). AllByRecursion (λ (k : Key). w.number ≢ k.number) ready) waiting
 
 -- those that wait are released after this slot

@@ -1,5 +1,6 @@
 -- Operations as words, with the bytes of those that write beside them.
-use Rattle.std.specs.Prelude.{ℕ, ◌+◌, ◌*◌, ◌/◌, ◌%◌, ◌==◌, nat_lt, Bool, List, [], ◌∷◌, replicate, length, drop, count_by, slice_index_or, if◌then◌else◌, ◌≡◌}
+use Rattle.std.specs.Prelude.{ℕ, ◌+◌, ◌*◌, ◌/◌, ◌%◌, ◌==◌, nat_lt, Bool, List, [], ◌∷◌, replicate, length, drop, count_by, slice_index_or}
+use Rattle.std.specs.Prelude.{if◌then◌else◌, ◌≡◌}
 use Rattle.slot_types.specs.declared.events.Op.{Op}
 use Rattle.slot_types.specs.declared.events.Op.TheVariants.{Read, Write, Trim}
 use Rattle.slot_types.specs.declared.pages.PageData.{PageData}

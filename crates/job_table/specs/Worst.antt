@@ -1,5 +1,6 @@
 -- The job that was done with the greatest lateness.
-use Rattle.std.specs.Prelude.{◌≡◌, ◌≢◌, ℕ, nat_lt, ◌==◌, ◌&&◌, ◌||◌, not, Bool, true, false, List, Option, Some, slice_get, option_map, ℤ, int_lt}
+use Rattle.std.specs.Prelude.{◌≡◌, ◌≢◌, ℕ, nat_lt, ◌==◌, ◌&&◌, ◌||◌, not, Bool, true, false, List, Option, Some, slice_get, option_map, ℤ}
+use Rattle.std.specs.Prelude.{int_lt}
 use Rattle.job_table.specs.Jobs.{JobRecord, is_done, completion_in, lateness_of}
 
 -- later; or as late, and completed first; or completed in the same slot, under a smaller number
@@ -15,7 +16,8 @@ pub record IsWorst (jobs : List JobRecord) (number : ℕ) : Type 0 where
   pub worst : JobRecord
   pub is_at : slice_get jobs number ≡ Some worst
   pub done : is_done worst.stage ≡ true
-  pub most : (m : ℕ) (other : JobRecord) → slice_get jobs m ≡ Some other → is_done other.stage ≡ true → is_worse m other number worst ≡ false
+  pub most : (m : ℕ) (other : JobRecord) → slice_get jobs m ≡ Some other → is_done other.stage ≡ true → is_worse m other number worst
+      ≡ false
 
 abbrev pub NothingDone : List JobRecord → Type 0
 NothingDone jobs = (n : ℕ) (job : JobRecord) → slice_get jobs n ≡ Some job → is_done job.stage ≡ false
@@ -35,7 +37,8 @@ pub record IsWorstBeside (jobs : List JobRecord) (number w : ℕ) : Type 0 where
   pub worst : JobRecord
   pub is_at : slice_get jobs w ≡ Some worst
   pub done : is_done worst.stage ≡ true
-  pub most : (m : ℕ) (other : JobRecord) → m ≢ number → slice_get jobs m ≡ Some other → is_done other.stage ≡ true → is_worse m other w worst ≡ false
+  pub most : (m : ℕ) (other : JobRecord) → m ≢ number → slice_get jobs m ≡ Some other → is_done other.stage ≡ true
+      → is_worse m other w worst ≡ false
 
 abbrev pub NothingDoneBeside : List JobRecord → ℕ → Type 0
 NothingDoneBeside jobs number = (m : ℕ) (other : JobRecord) → m ≢ number → slice_get jobs m ≡ Some other → is_done other.stage ≡ false

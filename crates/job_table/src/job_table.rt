@@ -1,6 +1,7 @@
 //! The jobs and collections of a die by number.
 
-ghost use Rattle.std.specs.Prelude.{◌≡◌, ◌<◌, ◌≤◌, ◌+◌, ◌^◌, ◌==◌, List, true, false, length, slice_get, OnOk, IfOk, OnErr, IfErr, IfSome, IfNone};
+ghost use Rattle.std.specs.Prelude.{◌≡◌, ◌<◌, ◌≤◌, ◌+◌, ◌^◌, ◌==◌, List, true, false, length, slice_get, OnOk, IfOk, OnErr, IfErr, IfSome};
+ghost use Rattle.std.specs.Prelude.{IfNone};
 ghost use Rattle.job_table.specs.Jobs.{JobRecord, new_job, new_collection, carried, with_read, with_stage};
 ghost use Rattle.job_table.specs.Table.{empty_table, with_job, with_change, work_at, reads_next_at, is_collecting};
 ghost use Rattle.job_table.specs.Waivers.{AreWaived, WerePending, waived_in, stopped};
@@ -254,7 +255,8 @@ impl JobTable {
     pub fn stop(&mut self, waived: &[Waived])
         requires { AreWaived self.old.jobs waived.now }
         ensures stopped { self.new ≡ stopped self.old waived.now }
-        ensures as_before { (jobs : List JobRecord) → WerePending jobs waived.now → self.old.jobs ≡ waived_in jobs waived.now → self.new.jobs ≡ jobs }
+        ensures as_before { (jobs : List JobRecord) → WerePending jobs waived.now → self.old.jobs ≡ waived_in jobs waived.now
+            → self.new.jobs ≡ jobs }
     {
         self.ended = true;
         take_back(&mut self.jobs, waived);

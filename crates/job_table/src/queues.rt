@@ -59,8 +59,10 @@ impl Queues {
         requires room { 0 < self.old.room }
         requires not_waiting { ¬ Contains self.old.waiting (record { release = release; number = number }) }
         requires not_ready { ¬ Contains self.old.ready (record { due = due; number = number }) }
-        ensures waiting { self.new.waiting ≡ (if nat_lt clock release then inserted is_released_before (record { release = release; number = number }) self.old.waiting else self.old.waiting) }
-        ensures ready { self.new.ready ≡ (if nat_lt clock release then self.old.ready else inserted is_due_before (record { due = due; number = number }) self.old.ready) }
+        ensures waiting { self.new.waiting ≡ (if nat_lt clock release then inserted is_released_before
+            (record { release = release; number = number }) self.old.waiting else self.old.waiting) }
+        ensures ready { self.new.ready ≡ (if nat_lt clock release then self.old.ready else inserted is_due_before
+            (record { due = due; number = number }) self.old.ready) }
     {
         if clock < release {
             self.wait(WaitKey { release, number });

@@ -1,5 +1,6 @@
 -- A certificate binds every schedule.
-use Rattle.std.proofs.Common.{◌≡◌, ℕ, zero, suc, ◌-◌, ◌<◌, ◌≤◌, Bool, true, false, eqb, List, [], ◌∷◌, length, Option, Some, None, count_by, sum_by, arith, refl, sym, eq-eqb, ◌≤ℤ◌}
+use Rattle.std.proofs.Common.{◌≡◌, ℕ, zero, suc, ◌-◌, ◌<◌, ◌≤◌, Bool, true, false, eqb, List, [], ◌∷◌, length, Option, Some, None, count_by}
+use Rattle.std.proofs.Common.{sum_by, arith, refl, sym, eq-eqb, ◌≤ℤ◌}
 use Rattle.std.proofs.lemmas.Bool.{true≢false, or_left}
 use Rattle.std.proofs.lemmas.Int.{ints}
 use Rattle.std.proofs.lemmas.List.Kept.{AllPairs-from_increasing}

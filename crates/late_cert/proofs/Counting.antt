@@ -1,5 +1,7 @@
 -- Counting the slots of a schedule.
-use Rattle.std.proofs.Common.{◌≡◌, ℕ, zero, suc, ◌+◌, ◌-◌, ◌<◌, ◌≤◌, Bool, true, false, cond, eqb, ◌||◌, List, [], ◌∷◌, length, Option, Some, None, count_by, sum_by, arith, refl, sym, ap, ◌∙◌, subst, eqb-true, eq-eqb, ne_eqb, AllPairs, All, inl, inr}
+use Rattle.std.proofs.Common.{◌≡◌, ℕ, zero, suc, ◌+◌, ◌-◌, ◌<◌, ◌≤◌, Bool, true, false, cond, eqb, ◌||◌, List, [], ◌∷◌, length, Option}
+use Rattle.std.proofs.Common.{Some, None, count_by, sum_by, arith, refl, sym, ap, ◌∙◌, subst, eqb-true, eq-eqb, ne_eqb, AllPairs, All, inl}
+use Rattle.std.proofs.Common.{inr}
 use Rattle.std.proofs.lemmas.Bool.{true≢false, cases_Bool, false_from_ne_true, or_from, or_left, or_right, or_cases}
 use Rattle.std.proofs.lemmas.List.Sums.{sum_by-cons}
 use Rattle.std.proofs.lemmas.List.Elements.{All-tail}
@@ -89,9 +91,12 @@ pub count-cons : (j : ℕ) (js : List ℕ) (f : Slots) → is_listed js j ≡ fa
     → count_by (is_one_of (j ∷ js)) f ≡ count_by (is_named j) f + count_by (is_one_of js) f
 count-cons j js [] fails = omega arith
 count-cons j js (o ∷ f) fails =
-    let a : count_by (is_one_of (j ∷ js)) (o ∷ f) ≡ cond (is_one_of (j ∷ js) o) 1 0 + count_by (is_one_of (j ∷ js)) f = sum_by-cons (λ y. cond (is_one_of (j ∷ js) y) 1 0) o f in
-    let b : count_by (is_named j) (o ∷ f) ≡ cond (is_named j o) 1 0 + count_by (is_named j) f = sum_by-cons (λ y. cond (is_named j y) 1 0) o f in
-    let c : count_by (is_one_of js) (o ∷ f) ≡ cond (is_one_of js o) 1 0 + count_by (is_one_of js) f = sum_by-cons (λ y. cond (is_one_of js y) 1 0) o f in
+    let a : count_by (is_one_of (j ∷ js)) (o ∷ f) ≡ cond (is_one_of (j ∷ js) o) 1 0 + count_by (is_one_of (j ∷ js)) f = sum_by-cons
+    (λ y. cond (is_one_of (j ∷ js) y) 1 0) o f in
+    let b : count_by (is_named j) (o ∷ f) ≡ cond (is_named j o) 1 0 + count_by (is_named j) f = sum_by-cons (λ y. cond (is_named j y) 1 0) o
+    f in
+    let c : count_by (is_one_of js) (o ∷ f) ≡ cond (is_one_of js o) 1 0 + count_by (is_one_of js) f = sum_by-cons
+    (λ y. cond (is_one_of js y) 1 0) o f in
     omega (arith, a, b, c, apart-slot j js o fails, count-cons j js f fails)
 
 pub count-nil : (f : Slots) → count_by (is_one_of []) f ≡ 0

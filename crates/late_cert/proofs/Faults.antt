@@ -1,5 +1,6 @@
 -- The verdict is that a certificate holds just where it is one.
-use Rattle.std.proofs.Common.{◌≡◌, ℕ, ◌+◌, ◌<◌, ◌≤◌, Bool, true, false, eqb, ltb, ◌||◌, List, [], ◌∷◌, Option, Some, None, is_none, is_some, sum_by, arith, refl, sym, ap, subst, inl, inr, eq-eqb, eqb-true, ne_eqb, le-ltb, ltb-false}
+use Rattle.std.proofs.Common.{◌≡◌, ℕ, ◌+◌, ◌<◌, ◌≤◌, Bool, true, false, eqb, ltb, ◌||◌, List, [], ◌∷◌, Option, Some, None, is_none, is_some}
+use Rattle.std.proofs.Common.{sum_by, arith, refl, sym, ap, subst, inl, inr, eq-eqb, eqb-true, ne_eqb, le-ltb, ltb-false}
 use Rattle.std.proofs.lemmas.Bool.{true≢false, or_left, or_right, or_cases, or_parts, or_from, cases_Bool, eqb-false}
 use Rattle.std.proofs.lemmas.Option.{none-some}
 use Rattle.late_cert.specs.declared.rows.JobRow.{JobRow}
@@ -148,5 +149,6 @@ certificate-verdict rows start due completion (j ∷ js) c =
     no-first-fault rows start due (j ∷ js) (λ k l.
     let e = c.each k l in
     record { done = e.done; works = e.works; released = e.released; due_by = e.due_by }) in
-    let fits : eqb (sum_by (work_of rows) (j ∷ js) + start) completion ≡ true = eq-eqb (sum_by (work_of rows) (j ∷ js) + start) completion c.sum in
+    let fits : eqb (sum_by (work_of rows) (j ∷ js) + start) completion
+    ≡ true = eq-eqb (sum_by (work_of rows) (j ∷ js) + start) completion c.sum in
     rw (rises, none, fits) refl

@@ -1,5 +1,6 @@
 -- Keys and rows.
-use Rattle.std.proofs.Common.{◌≡◌, ℕ, ◌<◌, ◌≤◌, Bool, true, eqb, ltb, leb, ◌&&◌, List, [], ◌∷◌, map, Option, Some, None, is_some, filter, arith, refl, sym, ap, inl, inr, eq-eqb, eqb-true, ltb-true, leb-true, lt-ltb, le-leb}
+use Rattle.std.proofs.Common.{◌≡◌, ℕ, ◌<◌, ◌≤◌, Bool, true, eqb, ltb, leb, ◌&&◌, List, [], ◌∷◌, map, Option, Some, None, is_some, filter}
+use Rattle.std.proofs.Common.{arith, refl, sym, ap, inl, inr, eq-eqb, eqb-true, ltb-true, leb-true, lt-ltb, le-leb}
 use Rattle.std.proofs.lemmas.Bool.{true≢false, or_left, or_right, or_cases, and_parts, and_from, cases_Bool, cases_lt}
 use Rattle.std.proofs.lemmas.Bool.Decides.{nat_tests}
 use Rattle.late_cert.specs.declared.rows.JobRow.{JobRow}

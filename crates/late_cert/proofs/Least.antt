@@ -1,5 +1,6 @@
 -- Slots that carried least keys have least lateness.
-use Rattle.std.proofs.Common.{◌≡◌, ℕ, zero, suc, ◌+◌, ◌-◌, ◌<◌, ◌≤◌, Bool, true, cond, List, [], ◌∷◌, length, map, Option, Some, None, count_by, sum_by, arith, refl, sym, ap, ◌∙◌, subst, inl, inr, ne_eqb}
+use Rattle.std.proofs.Common.{◌≡◌, ℕ, zero, suc, ◌+◌, ◌-◌, ◌<◌, ◌≤◌, Bool, true, cond, List, [], ◌∷◌, length, map, Option, Some, None}
+use Rattle.std.proofs.Common.{count_by, sum_by, arith, refl, sym, ap, ◌∙◌, subst, inl, inr, ne_eqb}
 use Rattle.std.proofs.lemmas.Bool.{false≢true, cases_Bool, cases_lt, both_ways}
 use Rattle.std.proofs.lemmas.List.Kept.{AllPairs-from_increasing}
 use Rattle.std.proofs.lemmas.List.Sums.{sum_by-cons}

@@ -1,5 +1,6 @@
 -- The marks of the rows that a stretch carries.
-use Rattle.std.proofs.Common.{◌≡◌, ℕ, zero, suc, ◌+◌, ◌<◌, ◌≤◌, Bool, true, false, cond, List, [], ◌∷◌, length, map, None, get_or, filter, take, ◌++◌, append-nil, replicate, arith, refl, sym, ap, ◌∙◌}
+use Rattle.std.proofs.Common.{◌≡◌, ℕ, zero, suc, ◌+◌, ◌<◌, ◌≤◌, Bool, true, false, cond, List, [], ◌∷◌, length, map, None, get_or, filter}
+use Rattle.std.proofs.Common.{take, ◌++◌, append-nil, replicate, arith, refl, sym, ap, ◌∙◌}
 use Rattle.std.proofs.lemmas.Bool.{lt-leb}
 use Rattle.std.proofs.lemmas.List.Elements.{filter_more}
 use Rattle.late_cert.specs.declared.rows.JobRow.{JobRow}
@@ -27,7 +28,8 @@ pub marks-start : (rows : List JobRow) (c : Slots) (s : ℕ) (marks : List Bool)
 marks-start rows c s marks e = record {
   as_many = ap length e ∙ length-replicate (length rows) false;
   each = λ i d l.
-      ap (λ (m : List Bool). get_or m i false) e ∙ replicate-false (length rows) i ∙ sym (carried-none c s s (get_or rows i d).number (omega arith));
+      ap (λ (m : List Bool). get_or m i false) e ∙ replicate-false (length rows) i
+      ∙ sym (carried-none c s s (get_or rows i d).number (omega arith));
 }
 
 -- one row more

@@ -1,6 +1,8 @@
 -- Slots that carried least keys go on doing so.
-use Rattle.std.proofs.Common.{◌≡◌, ℕ, zero, suc, ◌+◌, ◌<◌, ◌≤◌, Bool, true, false, cond, eqb, not, ◌⊎◌, List, [], ◌∷◌, ◌++◌, length, Option, Some, count_by, arith, refl, sym, ap, ◌∙◌, subst, inl, inr, eqb-true, ne_eqb, length-append}
-use Rattle.std.proofs.lemmas.Bool.{false≢true, cases_Bool, both_ways, or_right, or_cases, and_parts, and_from, cases_lt, false_from_ne_true, not_from_false}
+use Rattle.std.proofs.Common.{◌≡◌, ℕ, zero, suc, ◌+◌, ◌<◌, ◌≤◌, Bool, true, false, cond, eqb, not, ◌⊎◌, List, [], ◌∷◌, ◌++◌, length, Option}
+use Rattle.std.proofs.Common.{Some, count_by, arith, refl, sym, ap, ◌∙◌, subst, inl, inr, eqb-true, ne_eqb, length-append}
+use Rattle.std.proofs.lemmas.Bool.{false≢true, cases_Bool, both_ways, or_right, or_cases, and_parts, and_from, cases_lt, false_from_ne_true}
+use Rattle.std.proofs.lemmas.Bool.{not_from_false}
 use Rattle.std.proofs.lemmas.List.Sums.{sum_by_push, sum_by-cons}
 use Rattle.std.proofs.lemmas.Option.{none-some}
 use Rattle.late_cert.specs.declared.rows.JobRow.{JobRow}
@@ -77,11 +79,13 @@ none-carried rows c h t j k e idle same =
     let pos : 0 < work_in c j = count-some (is_named j) c t (at-length c t k e) at in
     omega arith
 
-pub accepted-known : (rows rows' : List JobRow) (c : Slots) (j : ℕ) → AcceptsJob rows rows' c j → (k : ℕ) → is_known rows k ≡ true → is_known rows' k ≡ true
+pub accepted-known : (rows rows' : List JobRow) (c : Slots) (j : ℕ) → AcceptsJob rows rows' c j → (k : ℕ) → is_known rows k ≡ true
+    → is_known rows' k ≡ true
 accepted-known rows rows' c j a k h = a.known k ∙ or_right (eqb j k) (is_known rows k) h
 
 -- after a job is accepted
-pub accepts-keeps : (rows rows' : List JobRow) (c : Slots) (j : ℕ) → CarriesLeastKeys rows c → AcceptsJob rows rows' c j → CarriesLeastKeys rows' c
+pub accepts-keeps : (rows rows' : List JobRow) (c : Slots) (j : ℕ) → CarriesLeastKeys rows c → AcceptsJob rows rows' c j
+    → CarriesLeastKeys rows' c
 accepts-keeps rows rows' c j h a = record {
   rising = a.rising;
   known = λ t k e. accepted-known rows rows' c j a k (h.known t k e);
@@ -130,7 +134,8 @@ carried-known rows rows' c j h w t k e =
     w.known k ∙ and_from (not (eqb j k)) (is_known rows k) (not_from_false (eqb j k) other) (h.known t k e)
 
 -- after a job is waived
-pub waives-keeps : (rows rows' : List JobRow) (c : Slots) (j : ℕ) → CarriesLeastKeys rows c → WaivesJob rows rows' j → CarriesLeastKeys rows' c
+pub waives-keeps : (rows rows' : List JobRow) (c : Slots) (j : ℕ) → CarriesLeastKeys rows c → WaivesJob rows rows' j
+    → CarriesLeastKeys rows' c
 waives-keeps rows rows' c j h w = record {
   rising = w.rising;
   known = carried-known rows rows' c j h w;

@@ -1,5 +1,6 @@
 -- A done job has one stretch.
-use Rattle.std.proofs.Common.{IsSome, is_some, ◌≡◌, ℕ, suc, ◌-◌, ◌<◌, ◌≤◌, true, eqb, List, [], ◌∷◌, Option, Some, arith, refl, sym, ap, ◌∙◌, subst, inl, inr, eq-eqb, eqb-true}
+use Rattle.std.proofs.Common.{IsSome, is_some, ◌≡◌, ℕ, suc, ◌-◌, ◌<◌, ◌≤◌, true, eqb, List, [], ◌∷◌, Option, Some, arith, refl, sym, ap}
+use Rattle.std.proofs.Common.{◌∙◌, subst, inl, inr, eq-eqb, eqb-true}
 use Rattle.std.proofs.lemmas.Bool.{false≢true, cases_Bool, cases_order, both_ways, or_left, or_right, or_cases}
 use Rattle.std.proofs.lemmas.List.Kept.{AllPairs-from_increasing}
 use Rattle.std.proofs.lemmas.Option.{none-some, same_Some}
@@ -99,7 +100,8 @@ own-stretch rows r c j done h = record {
   holds = verdict-certifies rows _ _ _ _ h;
 }
 
-pub own-built : (rows : List JobRow) → RowsRise rows → (c : Slots) (j : ℕ) (answer : Option Certificate) (built : Certificate) (verdict : Verdict)
+pub own-built : (rows : List JobRow) → RowsRise rows → (c : Slots) (j : ℕ) (answer : Option Certificate) (built : Certificate)
+    (verdict : Verdict)
     → answer ≡ stretch_if_done rows c j → answer ≡ Some built → verdict ≡ verdict_on rows built → verdict ≡ Holds
     → IsOwn rows c j built
 own-built rows r c j answer built verdict is some checked holds =
@@ -132,7 +134,8 @@ own-verdict rows r c j q own =
     (same-jobs rows c j n start q.start jobs q.jobs ours theirs)
     ∙ certificate-verdict rows q.start q.due q.completion q.jobs own.holds
 
-pub none-built : (rows : List JobRow) → RowsRise rows → (c : Slots) (j : ℕ) (answer : Option Certificate) (built q : Certificate) (verdict : Verdict)
+pub none-built : (rows : List JobRow) → RowsRise rows → (c : Slots) (j : ℕ) (answer : Option Certificate) (built q : Certificate)
+    (verdict : Verdict)
     → answer ≡ stretch_if_done rows c j → answer ≡ Some built → verdict ≡ verdict_on rows built → (verdict ≡ Holds → ⊥)
     → IsOwn rows c j q → ⊥
 none-built rows r c j answer built q verdict is some checked faulty own =

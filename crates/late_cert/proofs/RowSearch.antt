@@ -1,5 +1,7 @@
 -- Rows that rise by number, and lists that rise.
-use Rattle.std.proofs.Common.{◌≡◌, ℕ, zero, suc, ◌+◌, ◌-◌, ◌<◌, ◌≤◌, Bool, true, false, eqb, ltb, List, [], ◌∷◌, length, map, Some, None, get_or, arith, refl, sym, ap, ◌∙◌, inl, inr, eq-eqb, ne_eqb, add-one, lt-ltb, ltb-true, is_lt, is_le, nat_cmp, eqb-true}
+use Rattle.std.proofs.Common.{◌≡◌, ℕ, zero, suc, ◌+◌, ◌-◌, ◌<◌, ◌≤◌, Bool, true, false, eqb, ltb, List, [], ◌∷◌, length, map, Some, None}
+use Rattle.std.proofs.Common.{get_or, arith, refl, sym, ap, ◌∙◌, inl, inr, eq-eqb, ne_eqb, add-one, lt-ltb, ltb-true, is_lt, is_le, nat_cmp}
+use Rattle.std.proofs.Common.{eqb-true}
 use Rattle.std.proofs.lemmas.Bool.Decides.{nat_tests}
 use Rattle.std.proofs.lemmas.Bool.{and_parts, and_from, cases_order, cases_lt, eqb-false, false_from_ne_true}
 use Rattle.std.proofs.lemmas.List.Kept.{AllPairs-from_increasing}
@@ -28,7 +30,8 @@ rows-rise-le rows r i j d h k =
       | inl e ↦ let q : (get_or rows i d).number ≡ (get_or rows j d).number = ap (λ n. (get_or rows n d).number) e in omega arith
       | inr (inl lt) ↦
           let p : get_or (map number rows) i 0 < get_or (map number rows) j 0 =
-          AllPairs-from_increasing (map number rows) r i j 0 lt (let l : length (map number rows) ≡ length rows = map-length rows in omega arith) in
+          AllPairs-from_increasing (map number rows) r i j 0 lt (let l : length (map number rows)
+          ≡ length rows = map-length rows in omega arith) in
           let a : get_or (map number rows) i 0 ≡ (get_or rows i d).number = map-get rows i d 0 (omega arith) in
           let b : get_or (map number rows) j 0 ≡ (get_or rows j d).number = map-get rows j d 0 k in
           omega arith
@@ -40,7 +43,8 @@ pub rows-rise-lt : (rows : List JobRow) → RowsRise rows → (i j : ℕ) (d : J
     → (get_or rows i d).number < (get_or rows j d).number
 rows-rise-lt rows r i j d lt k =
     let p : get_or (map number rows) i 0 < get_or (map number rows) j 0 =
-    AllPairs-from_increasing (map number rows) r i j 0 lt (let l : length (map number rows) ≡ length rows = map-length rows in omega arith) in
+    AllPairs-from_increasing (map number rows) r i j 0 lt (let l : length (map number rows) ≡ length rows = map-length rows in omega arith)
+    in
     let a : get_or (map number rows) i 0 ≡ (get_or rows i d).number = map-get rows i d 0 (omega arith) in
     let b : get_or (map number rows) j 0 ≡ (get_or rows j d).number = map-get rows j d 0 k in
     omega arith
@@ -73,7 +77,8 @@ row-at (row ∷ rows) n (suc i) d h b e =
     let lt : row.number < n = b 0 (omega arith) in
     rw (ne_eqb row.number n (λ q. absurd (omega arith))) (row-at rows n i d (omega arith) (λ k l. b (suc k) (omega arith)) e)
 
-pub no-row : (rows : List JobRow) (n : ℕ) → ((k : ℕ) (d : JobRow) → k < length rows → (get_or rows k d).number ≡ n → ⊥) → row_of rows n ≡ None
+pub no-row : (rows : List JobRow) (n : ℕ) → ((k : ℕ) (d : JobRow) → k < length rows → (get_or rows k d).number ≡ n → ⊥) → row_of rows n
+    ≡ None
 no-row [] n h = refl
 no-row (row ∷ rows) n h =
     rw (ne_eqb row.number n (λ q. h 0 row (omega arith) q)) (no-row rows n (λ k d l q. h (suc k) d (omega arith) q))

@@ -1,5 +1,7 @@
 -- Runs and the slots that they stand for.
-use Rattle.std.proofs.Common.{◌≡◌, ℕ, zero, suc, ◌+◌, ◌-◌, ◌<◌, ◌≤◌, true, eqb, List, [], ◌∷◌, ◌++◌, length, Option, Some, None, get_or, set, take, drop, slice_get, arith, refl, sym, ap, ◌∙◌, append_assoc, append-nil, add-one, length-append, eqb-true}
+use Rattle.std.proofs.Common.{◌≡◌, ℕ, zero, suc, ◌+◌, ◌-◌, ◌<◌, ◌≤◌, true, eqb, List, [], ◌∷◌, ◌++◌, length, Option, Some, None, get_or}
+use Rattle.std.proofs.Common.{set, take, drop, slice_get, arith, refl, sym, ap, ◌∙◌, append_assoc, append-nil, add-one, length-append}
+use Rattle.std.proofs.Common.{eqb-true}
 use Rattle.std.specs.Prelude.{replicate}
 use Rattle.std.specs.Option.{option_eq}
 use Rattle.std.proofs.lemmas.Bool.{false≢true}
@@ -38,7 +40,8 @@ run-slot (q ∷ qs) zero d t h a b =
     ∙ get_or-replicate q.length t q.number None (omega arith)
 run-slot (q ∷ qs) (suc i) d t h a b =
     let l : length (slots_of (take (suc i) (q ∷ qs))) ≡ q.length + length (slots_of (take i qs)) =
-    length-append (replicate q.length q.number) (slots_of (take i qs)) ∙ ap (λ (n : ℕ). n + length (slots_of (take i qs))) (length-replicate q.length q.number) in
+    length-append (replicate q.length q.number) (slots_of (take i qs))
+    ∙ ap (λ (n : ℕ). n + length (slots_of (take i qs))) (length-replicate q.length q.number) in
     get_or-append_right (replicate q.length q.number) (slots_of qs) q.length t None (length-replicate q.length q.number) (omega (arith, l))
     ∙ run-slot qs i d (t - q.length) (omega arith) (omega (arith, l)) (omega (arith, l))
 

@@ -1,5 +1,6 @@
 -- One run further back.
-use Rattle.std.proofs.Common.{◌≡◌, ◌≢◌, ℕ, zero, suc, ◌+◌, ◌-◌, ◌<◌, ◌≤◌, Bool, true, false, List, length, Option, Some, None, get_or, set, take, arith, refl, sym, ap, ◌∙◌, inl, inr, get_or-set_same, get_or-set_other, length-set}
+use Rattle.std.proofs.Common.{◌≡◌, ◌≢◌, ℕ, zero, suc, ◌+◌, ◌-◌, ◌<◌, ◌≤◌, Bool, true, false, List, length, Option, Some, None, get_or, set}
+use Rattle.std.proofs.Common.{take, arith, refl, sym, ap, ◌∙◌, inl, inr, get_or-set_same, get_or-set_other, length-set}
 use Rattle.std.proofs.lemmas.Bool.{true≢false, cases_Bool, cases_order, cases_lt, false_from_ne_true}
 use Rattle.std.proofs.lemmas.Option.{same_Some}
 use Rattle.std.specs.Prelude.{IfSome}
@@ -69,7 +70,8 @@ marks-run rows r c b s n k p marks m h l all in_rows named = record {
             let name : (get_or rows i d).number ≡ k = rw same (named d) in
             let at : get_or (set marks p true) i false ≡ true =
             (rw same (get_or-set_same marks p true false (let q : length marks ≡ length rows = m.as_many in omega arith))) in
-            at ∙ sym (true-carried c b n (get_or rows i d).number b (omega arith) (omega arith) (all b (omega arith) h ∙ ap Some (sym name)))
+            at ∙ sym (true-carried c b n (get_or rows i d).number b (omega arith) (omega arith) (all b (omega arith) h
+            ∙ ap Some (sym name)))
         | inr (inl lt) ↦
             let ne : i ≢ p = omega arith in
             let below : (get_or rows i d).number < (get_or rows p d).number = rows-rise-lt rows r i p d lt in_rows in

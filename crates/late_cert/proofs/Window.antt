@@ -1,6 +1,8 @@
 -- The slots of a stretch, and their numbers.
-use Rattle.std.proofs.Common.{◌≡◌, ℕ, zero, suc, ◌+◌, ◌<◌, ◌≤◌, Bool, true, false, cond, leb, ◌&&◌, List, [], ◌∷◌, length, map, Option, Some, count_by, arith, refl, sym, ap, ◌∙◌, inl, inr, eq-eqb, leb-true, le-leb}
-use Rattle.std.proofs.lemmas.Bool.{false≢true, or_left, or_right, or_cases, and_parts, and_from, cases_Bool, false_from_ne_true, cases_order}
+use Rattle.std.proofs.Common.{◌≡◌, ℕ, zero, suc, ◌+◌, ◌<◌, ◌≤◌, Bool, true, false, cond, leb, ◌&&◌, List, [], ◌∷◌, length, map, Option}
+use Rattle.std.proofs.Common.{Some, count_by, arith, refl, sym, ap, ◌∙◌, inl, inr, eq-eqb, leb-true, le-leb}
+use Rattle.std.proofs.lemmas.Bool.{false≢true, or_left, or_right, or_cases, and_parts, and_from, cases_Bool, false_from_ne_true}
+use Rattle.std.proofs.lemmas.Bool.{cases_order}
 use Rattle.std.proofs.lemmas.List.Kept.{IsStrictlyIncreasing-filter}
 use Rattle.std.proofs.lemmas.List.Sums.{sum_by-cons}
 use Rattle.std.proofs.lemmas.Option.{same_Some}
@@ -120,12 +122,14 @@ stretch-is rows c j n rises =
       least = start-least rows c j n;
       rising = IsStrictlyIncreasing-filter (is_carried c s n) numbers rises;
       listed = λ k. (
-        (λ l. carried-true c s n k (and_parts (is_carried c s n k) (is_listed numbers k) (sym (filter-listed (is_carried c s n) numbers k) ∙ l)).0),
+        (λ l. carried-true c s n k (and_parts (is_carried c s n k) (is_listed numbers k) (sym (filter-listed (is_carried c s n) numbers k)
+            ∙ l)).0),
         (λ q.
             let w = within-true rows j (slot_at c q.0) (start-carries rows c j n q.0 q.1 q.2) in
             let e : w.number ≡ k = same_Some w.number k (sym w.carries ∙ q.3) in
             let known : is_known rows k ≡ true = ap (is_known rows) (sym e) ∙ w.known in
             filter-listed (is_carried c s n) numbers k
-            ∙ and_from (is_carried c s n k) (is_listed numbers k) (true-carried c s n k q.0 q.1 q.2 q.3) (sym (known-listed rows k) ∙ known)),
+            ∙ and_from (is_carried c s n k) (is_listed numbers k) (true-carried c s n k q.0 q.1 q.2 q.3) (sym (known-listed rows k)
+            ∙ known)),
       );
     }

@@ -1,8 +1,10 @@
 -- The verdict on a certificate: that it holds, or the first fault.
-use Rattle.std.specs.Prelude.{ℕ, ◌+◌, Bool, true, if◌then◌else◌, ◌==◌, nat_lt, ◌&&◌, ◌||◌, List, [], ◌∷◌, Option, Some, None, is_none, sum_by}
+use Rattle.std.specs.Prelude.{ℕ, ◌+◌, Bool, true, if◌then◌else◌, ◌==◌, nat_lt, ◌&&◌, ◌||◌, List, [], ◌∷◌, Option, Some, None, is_none}
+use Rattle.std.specs.Prelude.{sum_by}
 use Rattle.late_cert.specs.declared.rows.JobRow.{JobRow}
 use Rattle.late_cert.specs.declared.verdicts.Verdict.{Verdict}
-use Rattle.late_cert.specs.declared.verdicts.Verdict.TheVariants.{Holds, Empty, NotRising, UnknownJob, Unfinished, EarlyRelease, LateDue, WrongSum}
+use Rattle.late_cert.specs.declared.verdicts.Verdict.TheVariants.{Holds, Empty, NotRising, UnknownJob, Unfinished, EarlyRelease, LateDue}
+use Rattle.late_cert.specs.declared.verdicts.Verdict.TheVariants.{WrongSum}
 use Rattle.late_cert.specs.Rows.{row_of, work_of}
 
 -- each number is below the next one

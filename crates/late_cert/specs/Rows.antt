@@ -1,5 +1,6 @@
 -- What the rows say of a number.
-use Rattle.std.specs.Prelude.{◌≡◌, ℕ, slice_index_or, map, Bool, false, if◌then◌else◌, ◌==◌, List, [], ◌∷◌, Option, Some, None, is_some, unwrap_or}
+use Rattle.std.specs.Prelude.{◌≡◌, ℕ, slice_index_or, map, Bool, false, if◌then◌else◌, ◌==◌, List, [], ◌∷◌, Option, Some, None, is_some}
+use Rattle.std.specs.Prelude.{unwrap_or}
 use Rattle.std.specs.List.Sorted.{IsStrictlyIncreasing}
 use Rattle.late_cert.specs.declared.rows.JobRow.{JobRow}
 

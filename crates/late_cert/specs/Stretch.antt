@@ -1,5 +1,6 @@
 -- The stretch of slots before a completion that carried no greater key, and what makes its jobs a certificate.
-use Rattle.std.specs.Prelude.{◌≡◌, ℕ, zero, suc, ◌<◌, ◌≤◌, Bool, true, false, if◌then◌else◌, ◌==◌, nat_lt, nat_le, ◌&&◌, ◌||◌, ◌↔◌, List, length, map, Option, Some, None, filter}
+use Rattle.std.specs.Prelude.{◌≡◌, ℕ, zero, suc, ◌<◌, ◌≤◌, Bool, true, false, if◌then◌else◌, ◌==◌, nat_lt, nat_le, ◌&&◌, ◌||◌, ◌↔◌, List}
+use Rattle.std.specs.Prelude.{length, map, Option, Some, None, filter}
 use Rattle.std.specs.List.Sorted.{IsStrictlyIncreasing}
 use Rattle.late_cert.specs.declared.rows.JobRow.{JobRow}
 use Rattle.late_cert.specs.Schedule.{Slots, slot_at, is_named, work_in, completion_in}

@@ -1,7 +1,8 @@
 -- How a verdict is told.
 use Rattle.std.specs.Prelude.{ℕ, Bool, List, Option, Some, None, is_none, codes}
 use Rattle.late_cert.specs.declared.verdicts.Verdict.{Verdict}
-use Rattle.late_cert.specs.declared.verdicts.Verdict.TheVariants.{Holds, Empty, NotRising, UnknownJob, Unfinished, EarlyRelease, LateDue, WrongSum}
+use Rattle.late_cert.specs.declared.verdicts.Verdict.TheVariants.{Holds, Empty, NotRising, UnknownJob, Unfinished, EarlyRelease, LateDue}
+use Rattle.late_cert.specs.declared.verdicts.Verdict.TheVariants.{WrongSum}
 
 -- the number of the fault; a certificate that holds has none
 abbrev pub fault_number : Verdict → Option ℕ

@@ -1,6 +1,7 @@
 //! What the slots carried, kept in runs. Contracts see it as a list by slot.
 
-ghost use Rattle.std.specs.Prelude.{◌≡◌, ◌+◌, ◌<◌, ◌≤◌, ◌∷◌, ◌++◌, ◌==◌, [], length, replicate, OnOk, OnErr, IfErr, slice_get, vec_len, vec_capacity};
+ghost use Rattle.std.specs.Prelude.{◌≡◌, ◌+◌, ◌<◌, ◌≤◌, ◌∷◌, ◌++◌, ◌==◌, [], length, replicate, OnOk, OnErr, IfErr, slice_get, vec_len};
+ghost use Rattle.std.specs.Prelude.{vec_capacity};
 ghost use Rattle.late_cert.specs.Runs.{slots_of};
 
 use slot_types::{JobNo, Refusal};

@@ -1,6 +1,7 @@
 //! The ledger of a die.
 
-ghost use Rattle.std.specs.Prelude.{◌≡◌, ◌+◌, ◌-◌, ◌*◌, ◌≤◌, ◌<◌, ◌↔◌, ◌^◌, length, sum, slice_index, IsOk, IsNone, IfOk, IfErr, IfSome, IfNone, OnOk, OnErr, OnSome};
+ghost use Rattle.std.specs.Prelude.{◌≡◌, ◌+◌, ◌-◌, ◌*◌, ◌≤◌, ◌<◌, ◌↔◌, ◌^◌, length, sum, slice_index, IsOk, IsNone, IfOk, IfErr, IfSome};
+ghost use Rattle.std.specs.Prelude.{IfNone, OnOk, OnErr, OnSome};
 ghost use Rattle.plan_rules.specs.Bound.{MeetsBound, fmax_of};
 ghost use Rattle.plan_rules.specs.Accounts.{AreSound, total_of, given_of, opening, admitted, hold_spent, reserve_spent, settled, waived};
 

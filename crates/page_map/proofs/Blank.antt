@@ -25,13 +25,16 @@ none_here : (logical block : ℕ) → count_by (is_in block) (nowhere logical) �
 none_here zero block = refl
 none_here (suc logical) block = omega (arith, none_here logical block)
 
-pub tables_blank : (shape : Shape) (logical : ℕ) → logical < 2 ^ 32 → AreTables shape (replicate logical None) (replicate (shape.blocks * shape.pages) None) (replicate shape.blocks 0)
+pub tables_blank : (shape : Shape) (logical : ℕ) → logical < 2 ^ 32
+    → AreTables shape (replicate logical None) (replicate (shape.blocks * shape.pages) None) (replicate shape.blocks 0)
 tables_blank shape logical few = record {
   few = rw (length-replicate {A = Option Place} logical None) few;
   apart = record { apart = λ i j place at_i at_j. let none : place_of (nowhere logical) i ≡ None = lies_nowhere logical i in absurd (cc) };
   within = λ page place lies. let none : place_of (nowhere logical) page ≡ None = lies_nowhere logical page in absurd (cc);
   owners_len = length-replicate (shape.blocks * shape.pages) None;
-  owners_are = λ place cell. get_or-replicate (shape.blocks * shape.pages) (cell_index shape place) None None (in_table shape place cell) ∙ sym (no_owner (nowhere logical) place (λ page lies. let none : place_of (nowhere logical) page ≡ None = lies_nowhere logical page in absurd (cc)));
+  owners_are = λ place cell. get_or-replicate (shape.blocks * shape.pages) (cell_index shape place) None None (in_table shape place cell)
+      ∙ sym (no_owner (nowhere logical) place (λ page lies. let none : place_of (nowhere logical) page
+      ≡ None = lies_nowhere logical page in absurd (cc)));
   valid_len = length-replicate shape.blocks 0;
   valid_are = λ block below. get_or-replicate shape.blocks block 0 0 below ∙ sym (none_here logical block);
 }

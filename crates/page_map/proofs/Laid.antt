@@ -1,15 +1,22 @@
 -- Entries that are laid down as they are used.
-use Rattle.std.proofs.Common.{◌≡◌, ℕ, ◌+◌, ◌-◌, ◌<◌, ◌≤◌, List, [], Option, None, Some, ◌++◌, length, get_or, set, sym, ap, ◌∙◌, append_assoc, length-append, arith, inl, inr}
+use Rattle.std.proofs.Common.{◌≡◌, ℕ, ◌+◌, ◌-◌, ◌<◌, ◌≤◌, List, [], Option, None, Some, ◌++◌, length, get_or, set, sym, ap, ◌∙◌}
+use Rattle.std.proofs.Common.{append_assoc, length-append, arith, inl, inr}
 use Rattle.std.specs.Prelude.{replicate}
 use Rattle.std.proofs.lemmas.Bool.{cases_lt}
-use Rattle.std.proofs.lemmas.List.{append-nil, get_or-append-add, get_or_append_left, get_or-replicate, get_or_past, length-replicate, length-set, replicate-append-replicate, set-append_left}
+use Rattle.std.proofs.lemmas.List.{append-nil, get_or-append-add, get_or_append_left, get_or-replicate, get_or_past, length-replicate}
+use Rattle.std.proofs.lemmas.List.{length-set, replicate-append-replicate, set-append_left}
 use Rattle.page_map.specs.Tables.{laid}
 
 abbrev empties : (X : Type 0) → ℕ → List (Option X)
 empties X n = replicate n None
 
 length-more : (X : Type 0) (count : ℕ) (entries : List (Option X)) → length (laid count entries) ≡ length entries + (count - length entries)
-length-more X count entries = omega (arith, length-append entries (empties X (count - length entries)), length-replicate {A = Option X} (count - length entries) None)
+length-more X count entries = omega (
+  arith,
+  length-append entries (empties X (count - length entries)),
+  length-replicate {A = Option X}
+      (count - length entries) None,
+)
 
 laid-all : (X : Type 0) (count : ℕ) (entries : List (Option X)) → count ≤ length entries → laid count entries ≡ entries
 laid-all X count entries enough =
@@ -24,7 +31,8 @@ laid-none X count entries is =
 pub length-laid : {X : Type 0} (count : ℕ) (entries : List (Option X)) → length entries ≤ count → length (laid count entries) ≡ count
 length-laid {X} count entries few = omega (arith, length-more X count entries, few)
 
-pub some-laid : {X : Type 0} (count some : ℕ) (entries : List (Option X)) → some ≤ count → length entries ≤ count → length (laid some entries) ≤ count
+pub some-laid : {X : Type 0} (count some : ℕ) (entries : List (Option X)) → some ≤ count → length entries ≤ count
+    → length (laid some entries) ≤ count
 some-laid {X} count some entries few entries_few = omega (arith, length-more X some entries, few, entries_few)
 
 pub below-laid : {X : Type 0} (some i : ℕ) (entries : List (Option X)) → i < some → i < length (laid some entries)
@@ -44,11 +52,14 @@ read-laid {X} count entries i =
       | inl below ↦ get_or_append_left entries (empties X (count - length entries)) None i below
       | inr past ↦
           let at : i ≡ length entries + (i - length entries) = omega (arith, past) in
-          ap (λ (n : ℕ). get_or (laid count entries) n None) at ∙ get_or-append-add entries (empties X (count - length entries)) (i - length entries) None ∙ none_at X (count - length entries) (i - length entries) ∙ sym (get_or_past entries i None past)
+          ap (λ (n : ℕ). get_or (laid count entries) n None) at
+          ∙ get_or-append-add entries (empties X (count - length entries)) (i - length entries) None
+          ∙ none_at X (count - length entries) (i - length entries) ∙ sym (get_or_past entries i None past)
     ]
 
 -- to lay some down first changes nothing
-laid-laid : (X : Type 0) (count some : ℕ) (entries : List (Option X)) → some ≤ count → length entries ≤ count → laid count (laid some entries) ≡ laid count entries
+laid-laid : (X : Type 0) (count some : ℕ) (entries : List (Option X)) → some ≤ count → length entries ≤ count
+    → laid count (laid some entries) ≡ laid count entries
 laid-laid X count some entries few entries_few =
     elim (cases_lt some (length entries)) [
       | inl less ↦ ap (λ (l : List (Option X)). laid count l) (laid-all X some entries (omega (arith, less)))
@@ -63,17 +74,22 @@ laid-laid X count some entries few entries_few =
     ]
 
 -- a write into an entry that is laid down
-pub set-laid : {X : Type 0} (count : ℕ) (entries : List (Option X)) (i : ℕ) (entry : Option X) → i < length entries → laid count (set entries i entry) ≡ set (laid count entries) i entry
+pub set-laid : {X : Type 0} (count : ℕ) (entries : List (Option X)) (i : ℕ) (entry : Option X) → i < length entries
+    → laid count (set entries i entry) ≡ set (laid count entries) i entry
 set-laid {X} count entries i entry below =
-    ap (λ (k : ℕ). set entries i entry ++ empties X (count - k)) (length-set entries i entry) ∙ sym (set-append_left entries (empties X (count - length entries)) i entry below)
+    ap (λ (k : ℕ). set entries i entry ++ empties X (count - k)) (length-set entries i entry)
+    ∙ sym (set-append_left entries (empties X (count - length entries)) i entry below)
 
 -- a write into an entry that is laid down for it
-pub write-laid : {X : Type 0} (count some : ℕ) (entries : List (Option X)) (i : ℕ) (entry : Option X) → some ≤ count → i < some → length entries ≤ count → laid count (set (laid some entries) i entry) ≡ set (laid count entries) i entry
+pub write-laid : {X : Type 0} (count some : ℕ) (entries : List (Option X)) (i : ℕ) (entry : Option X) → some ≤ count → i < some
+    → length entries ≤ count → laid count (set (laid some entries) i entry) ≡ set (laid count entries) i entry
 write-laid {X} count some entries i entry few below entries_few =
-    set-laid count (laid some entries) i entry (below-laid some i entries below) ∙ ap (λ (l : List (Option X)). set l i entry) (laid-laid X count some entries few entries_few)
+    set-laid count (laid some entries) i entry (below-laid some i entries below)
+    ∙ ap (λ (l : List (Option X)). set l i entry) (laid-laid X count some entries few entries_few)
 
 -- an entry that has something is laid down
-pub laid_below : {X : Type 0} (count : ℕ) (entries : List (Option X)) (i : ℕ) (x : X) → get_or (laid count entries) i None ≡ Some x → i < length entries
+pub laid_below : {X : Type 0} (count : ℕ) (entries : List (Option X)) (i : ℕ) (x : X) → get_or (laid count entries) i None ≡ Some x → i
+    < length entries
 laid_below {X} count entries i x is =
     elim (cases_lt i (length entries)) [
       | inl below ↦ below

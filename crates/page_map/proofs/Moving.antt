@@ -1,6 +1,7 @@
 -- What the tables of a map keep while a page leaves its cell, or comes into one.
 use Rattle.std.specs.Prelude.{IfSome}
-use Rattle.std.proofs.Common.{◌≡◌, ◌≢◌, ℕ, ◌+◌, ◌-◌, ◌*◌, ◌<◌, ◌≤◌, cond, List, length, get_or, set, count_by, Option, Some, None, refl, sym, ap, ◌∙◌, subst, arith, inl, inr}
+use Rattle.std.proofs.Common.{◌≡◌, ◌≢◌, ℕ, ◌+◌, ◌-◌, ◌*◌, ◌<◌, ◌≤◌, cond, List, length, get_or, set, count_by, Option, Some, None, refl}
+use Rattle.std.proofs.Common.{sym, ap, ◌∙◌, subst, arith, inl, inr}
 use Rattle.std.proofs.lemmas.Bool.{cases_eq, cases_lt}
 use Rattle.std.proofs.lemmas.List.{get_or-set_same, get_or-set_other, length-set}
 use Rattle.std.proofs.lemmas.List.Sums.{sum_by-set}
@@ -61,21 +62,25 @@ here_other block place other =
 -- A page leaves its cell
 
 -- a page that still lies somewhere is another one, and lay there
-pub stays_without : (places : List (Option Place)) (page i : ℕ) (place : Place) → page < length places → place_of (set places page None) i ≡ Some place → (i ≢ page) × (place_of places i ≡ Some place)
+pub stays_without : (places : List (Option Place)) (page i : ℕ) (place : Place) → page < length places → place_of (set places page None) i
+    ≡ Some place → (i ≢ page) × (place_of places i ≡ Some place)
 stays_without places page i place below lies =
     elim (cases_eq i page) [
       | inl same ↦
-          let gone : get_or (set places page None) i None ≡ None = ap (λ (j : ℕ). get_or (set places page None) j None) same ∙ get_or-set_same places page None None below in
+          let gone : get_or (set places page None) i None ≡ None = ap (λ (j : ℕ). get_or (set places page None) j None) same
+          ∙ get_or-set_same places page None None below in
           absurd (cc)
       | inr other ↦ (other, sym (get_or-set_other places page i None None other) ∙ lies)
     ]
 
 pub apart_without : (places : List (Option Place)) (page : ℕ) → AreApart places → page < length places → AreApart (set places page None)
 apart_without places page are below = record {
-  apart = λ i j place at_i at_j. are.apart i j place (stays_without places page i place below at_i).1 (stays_without places page j place below at_j).1;
+  apart = λ i j place at_i at_j. are.apart i j place (stays_without places page i place below at_i).1
+      (stays_without places page j place below at_j).1;
 }
 
-owner_without : (places : List (Option Place)) (page : ℕ) (old place : Place) → AreApart places → page < length places → place_of places page ≡ Some old → place ≢ old → owner_of (set places page None) place ≡ owner_of places place
+owner_without : (places : List (Option Place)) (page : ℕ) (old place : Place) → AreApart places → page < length places
+    → place_of places page ≡ Some old → place ≢ old → owner_of (set places page None) place ≡ owner_of places place
 owner_without places page old place are below lay other =
     same_owner places (set places page None) place (apart_without places page are below)
     (λ i lies. elim (cases_eq i page) [
@@ -84,20 +89,27 @@ owner_without places page old place are below lay other =
     ])
     (λ i lies. (stays_without places page i place below lies).1)
 
-none_without : (places : List (Option Place)) (page : ℕ) (old : Place) → AreApart places → page < length places → place_of places page ≡ Some old → owner_of (set places page None) old ≡ None
+none_without : (places : List (Option Place)) (page : ℕ) (old : Place) → AreApart places → page < length places → place_of places page
+    ≡ Some old → owner_of (set places page None) old ≡ None
 none_without places page old are below lay =
-    no_owner (set places page None) old (λ i lies. (stays_without places page i old below lies).0 (are.apart i page old (stays_without places page i old below lies).1 lay))
+    no_owner (set places page None) old (λ i lies. (stays_without places page i old below lies).0
+    (are.apart i page old (stays_without places page i old below lies).1 lay))
 
 -- the page's block has one page less
-pub one_less : (places : List (Option Place)) (page : ℕ) (old : Place) → page < length places → place_of places page ≡ Some old → count_by (is_in old.block) (set places page None) + 1 ≡ count_by (is_in old.block) places
+pub one_less : (places : List (Option Place)) (page : ℕ) (old : Place) → page < length places → place_of places page ≡ Some old
+    → count_by (is_in old.block) (set places page None) + 1 ≡ count_by (is_in old.block) places
 one_less places page old below lay =
     omega (arith, sum_by-set (here old.block) places page None None below, ap (here old.block) lay, here_same old.block old refl)
 
-as_many : (places : List (Option Place)) (page block : ℕ) (old : Place) → page < length places → place_of places page ≡ Some old → block ≢ old.block → count_by (is_in block) (set places page None) ≡ count_by (is_in block) places
+as_many : (places : List (Option Place)) (page block : ℕ) (old : Place) → page < length places → place_of places page ≡ Some old → block
+    ≢ old.block → count_by (is_in block) (set places page None) ≡ count_by (is_in block) places
 as_many places page block old below lay other =
     omega (arith, sum_by-set (here block) places page None None below, ap (here block) lay, here_other block old other)
 
-pub tables_without : (shape : Shape) (places : List (Option Place)) (owners : List (Option ℕ)) (valid : List ℕ) (page count : ℕ) (old : Place) → AreTables shape places owners valid → page < length places → place_of places page ≡ Some old → count ≡ get_or valid old.block 0 → AreTables shape (set places page None) (set owners (cell_index shape old) None) (set valid old.block (count - 1))
+pub tables_without : (shape : Shape) (places : List (Option Place)) (owners : List (Option ℕ)) (valid : List ℕ) (page count : ℕ)
+    (old : Place) → AreTables shape places owners valid → page < length places → place_of places page ≡ Some old → count
+    ≡ get_or valid old.block 0 → AreTables shape (set places page None) (set owners (cell_index shape old) None)
+    (set valid old.block (count - 1))
 tables_without shape places owners valid page count old are below lay count_is =
     let cell : IsCell shape old = are.within page old lay in
     let in_owners : cell_index shape old < length owners = omega (arith, in_table shape old cell, are.owners_len) in
@@ -110,19 +122,26 @@ tables_without shape places owners valid page count old are below lay count_is =
       owners_are = λ place is. elim (cases_eq (cell_index shape place) (cell_index shape old)) [
         | inl same ↦
             let place_is : place ≡ old = same_cell shape place old is cell same in
-            ap (λ (n : ℕ). get_or (set owners (cell_index shape old) None) n None) same ∙ get_or-set_same owners (cell_index shape old) None None in_owners ∙ sym (none_without places page old are.apart below lay) ∙ ap (λ (q : Place). owner_of (set places page None) q) (sym place_is)
+            ap (λ (n : ℕ). get_or (set owners (cell_index shape old) None) n None) same
+            ∙ get_or-set_same owners (cell_index shape old) None None in_owners ∙ sym (none_without places page old are.apart below lay)
+            ∙ ap (λ (q : Place). owner_of (set places page None) q) (sym place_is)
         | inr other ↦
-            get_or-set_other owners (cell_index shape old) (cell_index shape place) None None other ∙ are.owners_are place is ∙ sym (owner_without places page old place are.apart below lay (λ same. other (ap (cell_index shape) same)))
+            get_or-set_other owners (cell_index shape old) (cell_index shape place) None None other ∙ are.owners_are place is
+            ∙ sym (owner_without places page old place are.apart below lay (λ same. other (ap (cell_index shape) same)))
       ];
       valid_len = length-set valid old.block (count - 1) ∙ are.valid_len;
       valid_are = λ block is. elim (cases_eq block old.block) [
         | inl same ↦
-            let now : get_or (set valid old.block (count - 1)) block 0 ≡ count - 1 = ap (λ (b : ℕ). get_or (set valid old.block (count - 1)) b 0) same ∙ get_or-set_same valid old.block (count - 1) 0 in_valid in
+            let now : get_or (set valid old.block (count - 1)) block 0
+            ≡ count - 1 = ap (λ (b : ℕ). get_or (set valid old.block (count - 1)) b 0) same
+            ∙ get_or-set_same valid old.block (count - 1) 0 in_valid in
             let was : count ≡ count_by (is_in old.block) places = count_is ∙ are.valid_are old.block cell.block in
-            let less : count_by (is_in old.block) (set places page None) + 1 ≡ count_by (is_in old.block) places = one_less places page old below lay in
+            let less : count_by (is_in old.block) (set places page None) + 1
+            ≡ count_by (is_in old.block) places = one_less places page old below lay in
             let less_is : count - 1 ≡ count_by (is_in old.block) (set places page None) = omega (arith, was, less) in
             now ∙ less_is ∙ ap (λ (b : ℕ). count_by (is_in b) (set places page None)) (sym same)
-        | inr other ↦ get_or-set_other valid old.block block (count - 1) 0 other ∙ are.valid_are block is ∙ sym (as_many places page block old below lay other)
+        | inr other ↦ get_or-set_other valid old.block block (count - 1) 0 other ∙ are.valid_are block is
+            ∙ sym (as_many places page block old below lay other)
       ];
     }
 
@@ -132,18 +151,23 @@ record Came (places : List (Option Place)) (page i : ℕ) (place q : Place) : Ty
   pub moved : i ≡ page → place ≡ q
   pub stayed : i ≢ page → place_of places i ≡ Some q
 
-came : (places : List (Option Place)) (page i : ℕ) (place q : Place) → page < length places → place_of (set places page (Some place)) i ≡ Some q → Came places page i place q
+came : (places : List (Option Place)) (page i : ℕ) (place q : Place) → page < length places → place_of (set places page (Some place)) i
+    ≡ Some q → Came places page i place q
 came places page i place q below lies = record {
   moved = λ same.
-      let there : Some place ≡ Some q = sym (get_or-set_same places page (Some place) None below) ∙ ap (λ (j : ℕ). place_of (set places page (Some place)) j) (sym same) ∙ lies in
+      let there : Some place ≡ Some q = sym (get_or-set_same places page (Some place) None below)
+      ∙ ap (λ (j : ℕ). place_of (set places page (Some place)) j) (sym same) ∙ lies in
       cc;
   stayed = λ other. sym (get_or-set_other places page i (Some place) None other) ∙ lies;
 }
 
-comes : (places : List (Option Place)) (page i : ℕ) (place : Place) → page < length places → i ≡ page → place_of (set places page (Some place)) i ≡ Some place
-comes places page i place below same = ap (λ (j : ℕ). place_of (set places page (Some place)) j) same ∙ get_or-set_same places page (Some place) None below
+comes : (places : List (Option Place)) (page i : ℕ) (place : Place) → page < length places → i ≡ page
+    → place_of (set places page (Some place)) i ≡ Some place
+comes places page i place below same = ap (λ (j : ℕ). place_of (set places page (Some place)) j) same
+    ∙ get_or-set_same places page (Some place) None below
 
-apart_with : (places : List (Option Place)) (page : ℕ) (place : Place) → AreApart places → page < length places → owner_of places place ≡ None → AreApart (set places page (Some place))
+apart_with : (places : List (Option Place)) (page : ℕ) (place : Place) → AreApart places → page < length places → owner_of places place
+    ≡ None → AreApart (set places page (Some place))
 apart_with places page place are below free = record {
   apart = λ i j q at_i at_j.
       let in_i = came places page i place q below at_i in
@@ -160,7 +184,8 @@ apart_with places page place are below free = record {
       ];
 }
 
-owner_with : (places : List (Option Place)) (page : ℕ) (place q : Place) → AreApart places → page < length places → owner_of places place ≡ None → place_of places page ≡ None → q ≢ place → owner_of (set places page (Some place)) q ≡ owner_of places q
+owner_with : (places : List (Option Place)) (page : ℕ) (place q : Place) → AreApart places → page < length places → owner_of places place
+    ≡ None → place_of places page ≡ None → q ≢ place → owner_of (set places page (Some place)) q ≡ owner_of places q
 owner_with places page place q are below free nowhere other =
     same_owner places (set places page (Some place)) q (apart_with places page place are below free)
     (λ i lies. elim (cases_eq i page) [
@@ -172,15 +197,20 @@ owner_with places page place q are below free nowhere other =
       | inr differs ↦ (came places page i place q below lies).stayed differs
     ])
 
-pub one_more_here : (places : List (Option Place)) (page block : ℕ) (place : Place) → page < length places → place_of places page ≡ None → block ≡ place.block → count_by (is_in block) (set places page (Some place)) ≡ count_by (is_in block) places + 1
+pub one_more_here : (places : List (Option Place)) (page block : ℕ) (place : Place) → page < length places → place_of places page ≡ None
+    → block ≡ place.block → count_by (is_in block) (set places page (Some place)) ≡ count_by (is_in block) places + 1
 one_more_here places page block place below nowhere same =
     omega (arith, sum_by-set (here block) places page (Some place) None below, ap (here block) nowhere, here_same block place same)
 
-none_more : (places : List (Option Place)) (page block : ℕ) (place : Place) → page < length places → place_of places page ≡ None → block ≢ place.block → count_by (is_in block) (set places page (Some place)) ≡ count_by (is_in block) places
+none_more : (places : List (Option Place)) (page block : ℕ) (place : Place) → page < length places → place_of places page ≡ None → block
+    ≢ place.block → count_by (is_in block) (set places page (Some place)) ≡ count_by (is_in block) places
 none_more places page block place below nowhere other =
     omega (arith, sum_by-set (here block) places page (Some place) None below, ap (here block) nowhere, here_other block place other)
 
-pub tables_with : (shape : Shape) (places : List (Option Place)) (owners : List (Option ℕ)) (valid : List ℕ) (page count : ℕ) (place : Place) → AreTables shape places owners valid → page < length places → IsCell shape place → owner_of places place ≡ None → place_of places page ≡ None → count ≡ get_or valid place.block 0 → AreTables shape (set places page (Some place)) (set owners (cell_index shape place) (Some page)) (set valid place.block (count + 1))
+pub tables_with : (shape : Shape) (places : List (Option Place)) (owners : List (Option ℕ)) (valid : List ℕ) (page count : ℕ)
+    (place : Place) → AreTables shape places owners valid → page < length places → IsCell shape place → owner_of places place ≡ None
+    → place_of places page ≡ None → count ≡ get_or valid place.block 0
+    → AreTables shape (set places page (Some place)) (set owners (cell_index shape place) (Some page)) (set valid place.block (count + 1))
 tables_with shape places owners valid page count place are below cell free nowhere count_is =
     let new : List (Option Place) = set places page (Some place) in
     let in_owners : cell_index shape place < length owners = omega (arith, in_table shape place cell, are.owners_len) in
@@ -197,34 +227,44 @@ tables_with shape places owners valid page count place are below cell free nowhe
       owners_are = λ q is. elim (cases_eq (cell_index shape q) (cell_index shape place)) [
         | inl same ↦
             let q_is : q ≡ place = same_cell shape q place is cell same in
-            ap (λ (n : ℕ). get_or (set owners (cell_index shape place) (Some page)) n None) same ∙ get_or-set_same owners (cell_index shape place) (Some page) None in_owners ∙ sym (owner_is new page place are_apart (comes places page page place below refl)) ∙ ap (λ (r : Place). owner_of new r) (sym q_is)
+            ap (λ (n : ℕ). get_or (set owners (cell_index shape place) (Some page)) n None) same
+            ∙ get_or-set_same owners (cell_index shape place) (Some page) None in_owners
+            ∙ sym (owner_is new page place are_apart (comes places page page place below refl))
+            ∙ ap (λ (r : Place). owner_of new r) (sym q_is)
         | inr other ↦
-            get_or-set_other owners (cell_index shape place) (cell_index shape q) (Some page) None other ∙ are.owners_are q is ∙ sym (owner_with places page place q are.apart below free nowhere (λ same. other (ap (cell_index shape) same)))
+            get_or-set_other owners (cell_index shape place) (cell_index shape q) (Some page) None other ∙ are.owners_are q is
+            ∙ sym (owner_with places page place q are.apart below free nowhere (λ same. other (ap (cell_index shape) same)))
       ];
       valid_len = length-set valid place.block (count + 1) ∙ are.valid_len;
       valid_are = λ block is. elim (cases_eq block place.block) [
         | inl same ↦
-            let now : get_or (set valid place.block (count + 1)) block 0 ≡ count + 1 = ap (λ (b : ℕ). get_or (set valid place.block (count + 1)) b 0) same ∙ get_or-set_same valid place.block (count + 1) 0 in_valid in
+            let now : get_or (set valid place.block (count + 1)) block 0
+            ≡ count + 1 = ap (λ (b : ℕ). get_or (set valid place.block (count + 1)) b 0) same
+            ∙ get_or-set_same valid place.block (count + 1) 0 in_valid in
             let was : get_or valid block 0 ≡ count_by (is_in block) places = are.valid_are block is in
             let count_was : get_or valid block 0 ≡ count = ap (λ (b : ℕ). get_or valid b 0) same ∙ sym count_is in
             omega (arith, now, was, count_was, one_more_here places page block place below nowhere same)
-        | inr other ↦ get_or-set_other valid place.block block (count + 1) 0 other ∙ are.valid_are block is ∙ sym (none_more places page block place below nowhere other)
+        | inr other ↦ get_or-set_other valid place.block block (count + 1) 0 other ∙ are.valid_are block is
+            ∙ sym (none_more places page block place below nowhere other)
       ];
     }
 
 -- A page that moves
 
 -- the new cell is free, also without the page
-pub still_free : (places : List (Option Place)) (page : ℕ) (place : Place) → page < length places → owner_of places place ≡ None → owner_of (set places page None) place ≡ None
+pub still_free : (places : List (Option Place)) (page : ℕ) (place : Place) → page < length places → owner_of places place ≡ None
+    → owner_of (set places page None) place ≡ None
 still_free places page place below free =
     no_owner (set places page None) place (λ i lies. unowned places i place free (stays_without places page i place below lies).1)
 
 -- what lies somewhere lies in a cell
-pub in_range : (shape : Shape) (o : Option Place) → ((place : Place) → o ≡ Some place → IsCell shape place) → IfSome o (λ place. IsCell shape place)
+pub in_range : (shape : Shape) (o : Option Place) → ((place : Place) → o ≡ Some place → IsCell shape place)
+    → IfSome o (λ place. IsCell shape place)
 in_range shape None cells = tt
 in_range shape (Some place) cells = cells place refl
 
 -- the owner that the table tells lies in the cell
-pub told : (places : List (Option Place)) (place : Place) (o : Option ℕ) → o ≡ owner_of places place → IfSome o (λ page. place_of places page ≡ Some place)
+pub told : (places : List (Option Place)) (place : Place) (o : Option ℕ) → o ≡ owner_of places place
+    → IfSome o (λ page. place_of places page ≡ Some place)
 told places place None is = tt
 told places place (Some page) is = owner_lies places page place (sym is)

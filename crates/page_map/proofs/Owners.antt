@@ -27,7 +27,8 @@ position_is : {X : Type 0} (p : X → Bool) (xs : List X) → position_or_len p 
 position_is p xs below = rw (lt-ltb _ _ below) refl
 
 -- where no place passes, none does
-pub fails_where_none : {X : Type 0} (p : X → Bool) (xs : List X) (i : ℕ) (d : X) → position p xs ≡ None → i < length xs → p (get_or xs i d) ≡ false
+pub fails_where_none : {X : Type 0} (p : X → Bool) (xs : List X) (i : ℕ) (d : X) → position p xs ≡ None → i < length xs → p (get_or xs i d)
+    ≡ false
 fails_where_none p xs i d none below =
     elim (cases_lt (position_or_len p xs) (length xs)) [
       | inl passes ↦ let found : position p xs ≡ Some (position_or_len p xs) = position_is p xs passes in cc
@@ -43,7 +44,8 @@ within places page place lies =
     ]
 
 -- nobody lies in a cell that has no owner
-pub unowned : (places : List (Option Place)) (page : ℕ) (place : Place) → owner_of places place ≡ None → place_of places page ≡ Some place → ⊥
+pub unowned : (places : List (Option Place)) (page : ℕ) (place : Place) → owner_of places place ≡ None → place_of places page ≡ Some place
+    → ⊥
 unowned places page place none lies =
     let below : page < length places = within places page place lies in
     let fails : is_at place (get_or places page None) ≡ false = fails_where_none (is_at place) places page None none below in
@@ -51,29 +53,39 @@ unowned places page place none lies =
     cc
 
 -- the owner of a cell lies in it
-pub owner_lies : (places : List (Option Place)) (page : ℕ) (place : Place) → owner_of places place ≡ Some page → place_of places page ≡ Some place
+pub owner_lies : (places : List (Option Place)) (page : ℕ) (place : Place) → owner_of places place ≡ Some page → place_of places page
+    ≡ Some place
 owner_lies places page place is = at_means place (get_or places page None) (position-Some (is_at place) places page None is).1
 
-no_owner_by : (places : List (Option Place)) (place : Place) (o : Option ℕ) → owner_of places place ≡ o → ((page : ℕ) → place_of places page ≡ Some place → ⊥) → owner_of places place ≡ None
+no_owner_by : (places : List (Option Place)) (place : Place) (o : Option ℕ) → owner_of places place ≡ o
+    → ((page : ℕ) → place_of places page ≡ Some place → ⊥) → owner_of places place ≡ None
 no_owner_by places place None is none = is
 no_owner_by places place (Some page) is none = absurd (none page (owner_lies places page place is))
 
 -- a cell in which nobody lies has no owner
-pub no_owner : (places : List (Option Place)) (place : Place) → ((page : ℕ) → place_of places page ≡ Some place → ⊥) → owner_of places place ≡ None
+pub no_owner : (places : List (Option Place)) (place : Place) → ((page : ℕ) → place_of places page ≡ Some place → ⊥) → owner_of places place
+    ≡ None
 no_owner places place none = no_owner_by places place (owner_of places place) refl none
 
-owner_is_by : (places : List (Option Place)) (page : ℕ) (place : Place) (o : Option ℕ) → owner_of places place ≡ o → AreApart places → place_of places page ≡ Some place → owner_of places place ≡ Some page
+owner_is_by : (places : List (Option Place)) (page : ℕ) (place : Place) (o : Option ℕ) → owner_of places place ≡ o → AreApart places
+    → place_of places page ≡ Some place → owner_of places place ≡ Some page
 owner_is_by places page place None is are lies = absurd (unowned places page place is lies)
-owner_is_by places page place (Some other) is are lies = is ∙ ap (λ (n : ℕ). Some n) (are.apart other page place (owner_lies places other place is) lies)
+owner_is_by places page place (Some other) is are lies = is
+    ∙ ap (λ (n : ℕ). Some n) (are.apart other page place (owner_lies places other place is) lies)
 
 -- who lies in a cell owns it
-pub owner_is : (places : List (Option Place)) (page : ℕ) (place : Place) → AreApart places → place_of places page ≡ Some place → owner_of places place ≡ Some page
+pub owner_is : (places : List (Option Place)) (page : ℕ) (place : Place) → AreApart places → place_of places page ≡ Some place
+    → owner_of places place ≡ Some page
 owner_is places page place are lies = owner_is_by places page place (owner_of places place) refl are lies
 
-same_owner_by : (old new : List (Option Place)) (place : Place) (o : Option ℕ) → owner_of old place ≡ o → AreApart new → ((page : ℕ) → place_of old page ≡ Some place → place_of new page ≡ Some place) → ((page : ℕ) → place_of new page ≡ Some place → place_of old page ≡ Some place) → owner_of new place ≡ o
+same_owner_by : (old new : List (Option Place)) (place : Place) (o : Option ℕ) → owner_of old place ≡ o → AreApart new
+    → ((page : ℕ) → place_of old page ≡ Some place → place_of new page ≡ Some place)
+    → ((page : ℕ) → place_of new page ≡ Some place → place_of old page ≡ Some place) → owner_of new place ≡ o
 same_owner_by old new place None is are on back = no_owner new place (λ page lies. unowned old page place is (back page lies))
 same_owner_by old new place (Some page) is are on back = owner_is new page place are (on page (owner_lies old page place is))
 
 -- a cell in which the same pages lie keeps its owner
-pub same_owner : (old new : List (Option Place)) (place : Place) → AreApart new → ((page : ℕ) → place_of old page ≡ Some place → place_of new page ≡ Some place) → ((page : ℕ) → place_of new page ≡ Some place → place_of old page ≡ Some place) → owner_of new place ≡ owner_of old place
+pub same_owner : (old new : List (Option Place)) (place : Place) → AreApart new
+    → ((page : ℕ) → place_of old page ≡ Some place → place_of new page ≡ Some place)
+    → ((page : ℕ) → place_of new page ≡ Some place → place_of old page ≡ Some place) → owner_of new place ≡ owner_of old place
 same_owner old new place are on back = same_owner_by old new place (owner_of old place) refl are on back

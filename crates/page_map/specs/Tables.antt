@@ -1,5 +1,6 @@
 -- The tables of a map, and what is true of them.
-use Rattle.std.specs.Prelude.{◌≡◌, ◌<◌, ◌≤◌, ◌^◌, ◌*◌, ◌-◌, ℕ, Option, Some, None, List, ◌++◌, length, replicate, count_by, slice_index, slice_index_or, vec_capacity}
+use Rattle.std.specs.Prelude.{◌≡◌, ◌<◌, ◌≤◌, ◌^◌, ◌*◌, ◌-◌, ℕ, Option, Some, None, List, ◌++◌, length, replicate, count_by, slice_index}
+use Rattle.std.specs.Prelude.{slice_index_or, vec_capacity}
 use Rattle.slot_types.specs.declared.pages.Place.{Place}
 use Rattle.slot_types.specs.declared.plans.Shape.{Shape}
 use Rattle.slot_types.specs.Places.{is_in, place_of, owner_of}

@@ -1,5 +1,6 @@
 -- How the rows of a script become the events of a die.
-use Rattle.std.proofs.Common.{◌≡◌, ℕ, ◌==◌, ◌-◌, Bool, true, false, cond, List, [], ◌∷◌, ◌++◌, refl, ap, sym, ◌∙◌, subst, filter, map, replicate, append_assoc, arith, Option, Some, None, Ok, Err}
+use Rattle.std.proofs.Common.{◌≡◌, ℕ, ◌==◌, ◌-◌, Bool, true, false, cond, List, [], ◌∷◌, ◌++◌, refl, ap, sym, ◌∙◌, subst, filter, map}
+use Rattle.std.proofs.Common.{replicate, append_assoc, arith, Option, Some, None, Ok, Err}
 use Rattle.std.specs.Prelude.{IfSome, option_map}
 use Rattle.std.proofs.lemmas.Bool.{eq-eqb, ne_eqb}
 use Rattle.std.proofs.lemmas.List.{append-nil}
@@ -16,13 +17,15 @@ use Rattle.plan_arrivals.proofs.Carrying.{rows_over}
 
 -- Rows of a die
 
-feed_one : (item : ScriptItem) (rest : List ScriptItem) (die : ℕ) (b : Bool) → (item.die == die) ≡ b → feed_of (item ∷ rest) die ≡ cond b (item ∷ feed_of rest die) (feed_of rest die)
+feed_one : (item : ScriptItem) (rest : List ScriptItem) (die : ℕ) (b : Bool) → (item.die == die) ≡ b → feed_of (item ∷ rest) die
+    ≡ cond b (item ∷ feed_of rest die) (feed_of rest die)
 feed_one item rest die b e = ap (λ (c : Bool). cond c (item ∷ feed_of rest die) (feed_of rest die)) e
 
 pub feed_own : (item : ScriptItem) (rest : List ScriptItem) (die : ℕ) → item.die ≡ die → feed_of (item ∷ rest) die ≡ item ∷ feed_of rest die
 feed_own item rest die is = feed_one item rest die true (eq-eqb item.die die is)
 
-pub feed_other : (item : ScriptItem) (rest : List ScriptItem) (die : ℕ) → (item.die ≡ die → ⊥) → feed_of (item ∷ rest) die ≡ feed_of rest die
+pub feed_other : (item : ScriptItem) (rest : List ScriptItem) (die : ℕ) → (item.die ≡ die → ⊥) → feed_of (item ∷ rest) die
+    ≡ feed_of rest die
 feed_other item rest die other = feed_one item rest die false (ne_eqb item.die die other)
 
 -- Reading
@@ -38,27 +41,32 @@ read_none None = tt
 read_none (Some (Ok items)) = refl
 read_none (Some (Err e)) = refl
 
-items_more : (items : List ScriptItem) (item : ScriptItem) (more : Script) → with_items items (with_front item more) ≡ with_items (items ++ item ∷ []) more
+items_more : (items : List ScriptItem) (item : ScriptItem) (more : Script) → with_items items (with_front item more)
+    ≡ with_items (items ++ item ∷ []) more
 items_more items item (Ok more) = ap (λ (xs : List ScriptItem). Ok xs) (sym (append_assoc items (item ∷ []) more))
 items_more items item (Err e) = refl
 
-read_more : (whole left new : Option Script) (items : List ScriptItem) (item : ScriptItem) → IsReadTo whole left items → Yields left new (Ok (Some item)) → IsReadTo whole new (items ++ item ∷ [])
+read_more : (whole left new : Option Script) (items : List ScriptItem) (item : ScriptItem) → IsReadTo whole left items
+    → Yields left new (Ok (Some item)) → IsReadTo whole new (items ++ item ∷ [])
 read_more None left new items item so_far step = tt
 read_more (Some all) None new items item so_far step = absurd so_far
 read_more (Some all) (Some more) new items item so_far step =
     subst (λ (o : Option Script). IsReadTo (Some all) o (items ++ item ∷ [])) (sym step.1)
     (so_far ∙ (ap (with_items items) step.2 ∙ items_more items item step.0))
 
-read_all : (whole left new : Option Script) (items : List ScriptItem) → IsReadTo whole left items → Yields left new (Ok None) → IfSome whole (λ all. all ≡ Ok items)
+read_all : (whole left new : Option Script) (items : List ScriptItem) → IsReadTo whole left items → Yields left new (Ok None)
+    → IfSome whole (λ all. all ≡ Ok items)
 read_all None left new items so_far step = tt
 read_all (Some all) None new items so_far step = absurd so_far
-read_all (Some all) (Some more) new items so_far step = so_far ∙ (ap (with_items items) step.0 ∙ ap (λ (xs : List ScriptItem). Ok xs) (append-nil items))
+read_all (Some all) (Some more) new items so_far step = so_far
+    ∙ (ap (with_items items) step.0 ∙ ap (λ (xs : List ScriptItem). Ok xs) (append-nil items))
 
 known_by : {A B : Type 0} (P : B → Type 0) (f : A → B) (o : Option A) → IfSome (option_map f o) P → IfSome o (λ a. P (f a))
 known_by P f None h = tt
 known_by P f (Some a) h = h
 
-pub come_none : (whole left : Option Script) (slots die : ℕ) (events : List Event) → left ≡ whole → events ≡ [] → HasCome whole left slots 0 die events
+pub come_none : (whole left : Option Script) (slots die : ℕ) (events : List Event) → left ≡ whole → events ≡ []
+    → HasCome whole left slots 0 die events
 come_none whole left slots die evs same is = record {
   items = [];
   read = subst (λ (o : Option Script). IsReadTo whole o []) (sym same) (read_none whole);
@@ -66,17 +74,22 @@ come_none whole left slots die evs same is = record {
       ∙ ap (λ (l : List Event). l ++ later_events slots 0 (feed_of rest die)) (sym is);
 }
 
-pub come_more : (whole left new : Option Script) (slots now after die : ℕ) (old evs : List Event) (item : ScriptItem) → Yields left new (Ok (Some item))
-    → ((rest : List ScriptItem) → old ++ later_events slots now (feed_of (item ∷ rest) die) ≡ evs ++ later_events slots after (feed_of rest die))
+pub come_more : (whole left new : Option Script) (slots now after die : ℕ) (old evs : List Event) (item : ScriptItem)
+    → Yields left new (Ok (Some item))
+    → ((rest : List ScriptItem) → old ++ later_events slots now (feed_of (item ∷ rest) die) ≡ evs
+    ++ later_events slots after (feed_of rest die))
     → HasCome whole left slots now die old → HasCome whole new slots after die evs
 come_more whole left new slots now after die old evs item step took h = record {
   items = h.items ++ item ∷ [];
   read = read_more whole left new h.items item h.read step;
-  come = λ rest. ap (λ (l : List ScriptItem). events_of slots (feed_of l die)) (append_assoc h.items (item ∷ []) rest) ∙ (h.come (item ∷ rest) ∙ took rest);
+  come = λ rest. ap (λ (l : List ScriptItem). events_of slots (feed_of l die)) (append_assoc h.items (item ∷ []) rest)
+      ∙ (h.come (item ∷ rest) ∙ took rest);
 }
 
-pub come_all : (text : Option (List ℕ)) (left new : Option Script) (dies slots now die : ℕ) (old evs : List Event) → Yields left new (Ok None)
-    → evs ≡ old ++ replicate (slots - now) events.Slot → HasCome (option_map (script_of dies slots) text) left slots now die old → AreEventsOf text dies slots die evs
+pub come_all : (text : Option (List ℕ)) (left new : Option Script) (dies slots now die : ℕ) (old evs : List Event)
+    → Yields left new (Ok None)
+    → evs ≡ old ++ replicate (slots - now) events.Slot → HasCome (option_map (script_of dies slots) text) left slots now die old
+    → AreEventsOf text dies slots die evs
 come_all text left new dies slots now die old evs step carried h = (
   h.items,
   known_by (λ (all : Script). all ≡ Ok h.items) (script_of dies slots) text (read_all _ left new h.items h.read step),

@@ -38,7 +38,8 @@ IsOwnFault _ = ⊤
 
 -- the events of a run of so many slots on a die, by its rows in a script
 abbrev pub AreEventsOf : Option (List ℕ) → ℕ → ℕ → ℕ → List Event → Type 0
-AreEventsOf text dies slots die events = (items : List ScriptItem) × AreItemsOf text dies slots items × (events ≡ events_of slots (feed_of items die))
+AreEventsOf text dies slots die events = (items : List ScriptItem) × AreItemsOf text dies slots items
+    × (events ≡ events_of slots (feed_of items die))
 
 -- events keep a plan, with times that pass their test
 pub record AreKept (plan : DiePlan) (events : List Event) : Type 0 where

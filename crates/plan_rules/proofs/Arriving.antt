@@ -1,5 +1,6 @@
 -- The jobs and the collections of a task come a period apart where events keep to the plan.
-use Rattle.std.proofs.Common.{◌≡◌, ℕ, suc, ◌+◌, ◌*◌, ◌/◌, ◌%◌, ◌<◌, ◌≤◌, ◌==◌, ◌&&◌, not, Bool, true, false, cond, List, [], ◌∷◌, length, count_by, AllPairs, refl, sym, ap, subst, ◌∙◌, inl, inr, arith}
+use Rattle.std.proofs.Common.{◌≡◌, ℕ, suc, ◌+◌, ◌*◌, ◌/◌, ◌%◌, ◌<◌, ◌≤◌, ◌==◌, ◌&&◌, not, Bool, true, false, cond, List, [], ◌∷◌, length}
+use Rattle.std.proofs.Common.{count_by, AllPairs, refl, sym, ap, subst, ◌∙◌, inl, inr, arith}
 use Rattle.std.specs.Prelude.{MatchBool}
 use Rattle.std.specs.List.{AllByRecursion}
 use Rattle.std.proofs.Math.Nat.{mul-le-mul_right}
@@ -13,7 +14,8 @@ use Rattle.slot_types.specs.declared.events.Event.{Event}
 use Rattle.slot_types.specs.declared.events.Event.TheVariants as events
 use Rattle.slot_types.specs.declared.plans.Times.{Times}
 use Rattle.plan_rules.specs.Times.{times_of}
-use Rattle.plan_rules.specs.Keeping.{Arrival, arrivals, slots, IsPlannedJob, IsPlannedCollection, IsPlanned, is_collection_at, IsCollectSlot, KeepsPlan}
+use Rattle.plan_rules.specs.Keeping.{Arrival, arrivals, slots, IsPlannedJob, IsPlannedCollection, IsPlanned, is_collection_at}
+use Rattle.plan_rules.specs.Keeping.{IsCollectSlot, KeepsPlan}
 use Rattle.plan_rules.specs.Keeping as keeping
 use Rattle.plan_rules.proofs.Windows as windows
 
@@ -33,13 +35,15 @@ due_of a = a.due
 
 -- What the tests and the plan say
 
-as_job : (plan : DiePlan) (times : Times) (end task : ℕ) (a : Arrival) → IsPlanned plan times end a → is_job_of task a ≡ true → (a.collects ≡ false) × (a.task ≡ task) × IsPlannedJob plan times a
+as_job : (plan : DiePlan) (times : Times) (end task : ℕ) (a : Arrival) → IsPlanned plan times end a → is_job_of task a ≡ true
+    → (a.collects ≡ false) × (a.task ≡ task) × IsPlannedJob plan times a
 as_job plan times end task a h is =
     let p = and_parts (not a.collects) (a.task == task) is in
     let kind : a.collects ≡ false = not-true a.collects p.0 in
     (kind, eqb-true a.task task p.1, subst (λ b. MatchBool b (IsPlannedCollection plan times end a) (IsPlannedJob plan times a)) kind h)
 
-as_collection : (plan : DiePlan) (times : Times) (end task : ℕ) (a : Arrival) → IsPlanned plan times end a → is_collection_of task a ≡ true → (a.collects ≡ true) × (a.task ≡ task) × IsPlannedCollection plan times end a
+as_collection : (plan : DiePlan) (times : Times) (end task : ℕ) (a : Arrival) → IsPlanned plan times end a → is_collection_of task a ≡ true
+    → (a.collects ≡ true) × (a.task ≡ task) × IsPlannedCollection plan times end a
 as_collection plan times end task a h is =
     let p = and_parts a.collects (a.task == task) is in
     (p.0, eqb-true a.task task p.1, subst (λ b. MatchBool b (IsPlannedCollection plan times end a) (IsPlannedJob plan times a)) p.0 h)
@@ -47,7 +51,8 @@ as_collection plan times end task a h is =
 -- Jobs
 
 module _ (plan : DiePlan) (times : Times) (end task : ℕ) where
-  jobs_behind : (a : Arrival) → (a.collects ≡ false) → a.task ≡ task → (rest : List Arrival) → AllByRecursion (IsPlanned plan times end) rest → AllByRecursion (keeping.AreApart times a) rest
+  jobs_behind : (a : Arrival) → (a.collects ≡ false) → a.task ≡ task → (rest : List Arrival)
+      → AllByRecursion (IsPlanned plan times end) rest → AllByRecursion (keeping.AreApart times a) rest
       → AllByRecursion (λ b. is_job_of task b ≡ true → a.release + (times_of times task).period ≤ b.release) rest
   jobs_behind a kind of [] planned apart = tt
   jobs_behind a kind of (b ∷ rest) planned apart = (
@@ -64,7 +69,8 @@ module _ (plan : DiePlan) (times : Times) (end task : ℕ) where
     (λ is.
         let k = as_job plan times end task a planned.0 is in (
           subst (λ i. a.due ≡ a.release + (times_of times i).period) k.1 k.2.due,
-          jobs_behind a k.0 k.1 rest planned.1 (recursion_from_All (keeping.AreApart times a) rest (λ i d lt. apart 0 (suc i) d (omega arith) (omega (arith, lt)))),
+          jobs_behind a k.0 k.1 rest planned.1 (recursion_from_All (keeping.AreApart times a) rest
+              (λ i d lt. apart 0 (suc i) d (omega arith) (omega (arith, lt)))),
         )),
     jobs_apart_in rest planned.1 (λ i j d lt below. apart (suc i) (suc j) d (omega (arith, lt)) (omega (arith, below))),
   )
@@ -129,18 +135,23 @@ module _ (plan : DiePlan) (times : Times) (end task : ℕ) where
   fewer a rest h slot at =
       omega (arith, sum_by-cons (λ b. cond (is_collection_at task slot b) 1 0) a rest, h slot at)
 
-  collections_behind : (a : Arrival) → a.release ≡ a.at → a.release % (times_of times task).collect_period ≡ 0 → (rest : List Arrival) → AllByRecursion (IsPlanned plan times end) rest
+  collections_behind : (a : Arrival) → a.release ≡ a.at → a.release % (times_of times task).collect_period ≡ 0 → (rest : List Arrival)
+      → AllByRecursion (IsPlanned plan times end) rest
       → AllByRecursion (λ b. a.at ≤ b.at) rest → AllByRecursion (λ b. is_collection_at task a.at b ≡ false) rest
       → AllByRecursion (λ b. is_collection_of task b ≡ true → a.release + (times_of times task).collect_period ≤ b.release) rest
   collections_behind a comes multiple [] planned later others = tt
-  collections_behind a comes multiple (b ∷ rest) planned later others = (here, collections_behind a comes multiple rest planned.1 later.1 others.1)
+  collections_behind a comes multiple (b ∷ rest) planned later others =
+      (here, collections_behind a comes multiple rest planned.1 later.1 others.1)
     where
       here : is_collection_of task b ≡ true → a.release + (times_of times task).collect_period ≤ b.release
       here is =
           let k = as_collection plan times end task b planned.0 is in
-          let own : b.release % (times_of times task).collect_period ≡ 0 = subst (λ i. b.release % (times_of times i).collect_period ≡ 0) k.1 k.2.slot.multiple in
-          let apart : b.at ≡ a.at → ⊥ = λ same. true≢false (sym (and_from (is_collection_of task b) (b.at == a.at) is (eq-eqb b.at a.at same)) ∙ others.0) in
-          let behind : a.at < b.at = elim (cases_lt a.at b.at) [ inl less ↦ less | inr more ↦ absurd (apart (omega (arith, more, later.0))) ] in
+          let own : b.release % (times_of times task).collect_period
+          ≡ 0 = subst (λ i. b.release % (times_of times i).collect_period ≡ 0) k.1 k.2.slot.multiple in
+          let apart : b.at ≡ a.at → ⊥ = λ same. true≢false
+          (sym (and_from (is_collection_of task b) (b.at == a.at) is (eq-eqb b.at a.at same)) ∙ others.0) in
+          let behind : a.at < b.at = elim (cases_lt a.at b.at)
+          [ inl less ↦ less | inr more ↦ absurd (apart (omega (arith, more, later.0))) ] in
           next_multiple a.release b.release (times_of times task).collect_period multiple own (omega (arith, behind, comes, k.2.comes))
 
   pub collections_apart_in : (all : List Arrival) → AllByRecursion (IsPlanned plan times end) all → ComesLater all → AtMostOne all
@@ -149,27 +160,44 @@ module _ (plan : DiePlan) (times : Times) (end task : ℕ) where
   collections_apart_in (a ∷ rest) planned later once = (here, collections_apart_in rest planned.1 later.1 (fewer a rest once))
     where
       here : is_collection_of task a ≡ true
-          → (a.due ≡ a.release + (times_of times task).collect_period) × AllByRecursion (λ b. is_collection_of task b ≡ true → a.release + (times_of times task).collect_period ≤ b.release) rest
+          → (a.due ≡ a.release + (times_of times task).collect_period)
+          × AllByRecursion (λ b. is_collection_of task b ≡ true → a.release + (times_of times task).collect_period ≤ b.release) rest
       here is =
           let k = as_collection plan times end task a planned.0 is in
-          let due : a.due ≡ a.release + (times_of times task).collect_period = subst (λ i. a.due ≡ a.release + (times_of times i).collect_period) k.1 k.2.due in
-          let multiple : a.release % (times_of times task).collect_period ≡ 0 = subst (λ i. a.release % (times_of times i).collect_period ≡ 0) k.1 k.2.slot.multiple in
-          let within : a.release + (times_of times task).collect_period ≤ MAX_SLOT = subst (λ i. a.release + (times_of times i).collect_period ≤ MAX_SLOT) k.1 k.2.slot.due_limit in
-          let at_release : a.at % (times_of times task).collect_period ≡ 0 = subst (λ n. n % (times_of times task).collect_period ≡ 0) k.2.comes multiple in
+          let due : a.due ≡ a.release + (times_of times task).collect_period = subst (λ i. a.due
+          ≡ a.release + (times_of times i).collect_period) k.1 k.2.due in
+          let multiple : a.release % (times_of times task).collect_period
+          ≡ 0 = subst (λ i. a.release % (times_of times i).collect_period ≡ 0) k.1 k.2.slot.multiple in
+          let within : a.release + (times_of times task).collect_period
+          ≤ MAX_SLOT = subst (λ i. a.release + (times_of times i).collect_period ≤ MAX_SLOT) k.1 k.2.slot.due_limit in
+          let at_release : a.at % (times_of times task).collect_period
+          ≡ 0 = subst (λ n. n % (times_of times task).collect_period ≡ 0) k.2.comes multiple in
           let counted = sum_by-cons (λ b. cond (is_collection_at task a.at b) 1 0) a rest in
-          let one : ◌≡◌ {A = ℕ} (cond (is_collection_at task a.at a) 1 0) 1 = ap (λ b. cond b 1 0) (and_from (is_collection_of task a) (a.at == a.at) is (eq-eqb a.at a.at refl)) in
-          let all = once a.at (record { multiple = at_release; before_end = omega (arith, k.2.comes, k.2.slot.before_end); due_limit = omega (arith, k.2.comes, within) }) in
-          (due, collections_behind a k.2.comes multiple rest planned.1 later.0 (none_counted (is_collection_at task a.at) rest (omega (arith, counted, one, all))))
+          let one : ◌≡◌ {A = ℕ} (cond (is_collection_at task a.at a) 1 0) 1 = ap (λ b. cond b 1 0)
+          (and_from (is_collection_of task a) (a.at == a.at) is (eq-eqb a.at a.at refl)) in
+          let all = once a.at (record {
+            multiple = at_release;
+            before_end = omega (arith, k.2.comes, k.2.slot.before_end);
+            due_limit = omega
+                (arith, k.2.comes, within);
+          }) in (
+            due,
+            collections_behind a k.2.comes multiple rest planned.1 later.0
+                (none_counted (is_collection_at task a.at) rest (omega (arith, counted, one, all))),
+          )
 
 -- Events that keep to the plan
 
 pub jobs_apart : (plan : DiePlan) (times : Times) (all : List Event) → KeepsPlan plan times all → (task : ℕ)
     → windows.AreApart release_of due_of (is_job_of task) (times_of times task).period (arrivals 0 all)
 jobs_apart plan times all keeps task =
-    jobs_apart_in plan times (slots all) task (arrivals 0 all) (recursion_from_All (IsPlanned plan times (slots all)) (arrivals 0 all) keeps.planned) keeps.apart
+    jobs_apart_in plan times (slots all) task (arrivals 0 all)
+    (recursion_from_All (IsPlanned plan times (slots all)) (arrivals 0 all) keeps.planned) keeps.apart
 
-pub collections_apart : (plan : DiePlan) (times : Times) (all : List Event) → KeepsPlan plan times all → (task : ℕ) → task < length plan.caps
+pub collections_apart : (plan : DiePlan) (times : Times) (all : List Event) → KeepsPlan plan times all → (task : ℕ) → task
+    < length plan.caps
     → windows.AreApart release_of due_of (is_collection_of task) (times_of times task).collect_period (arrivals 0 all)
 collections_apart plan times all keeps task lt =
-    collections_apart_in plan times (slots all) task (arrivals 0 all) (recursion_from_All (IsPlanned plan times (slots all)) (arrivals 0 all) keeps.planned) (come_later 0 all)
+    collections_apart_in plan times (slots all) task (arrivals 0 all)
+    (recursion_from_All (IsPlanned plan times (slots all)) (arrivals 0 all) keeps.planned) (come_later 0 all)
     (λ slot at. omega (arith, keeps.collected task slot lt at))

@@ -43,7 +43,8 @@ record AreFew (plan : DiePlan) (times : Times) (window : ℕ) (jobs collections 
   pub jobs_fit : (task : ℕ) → task < length plan.caps → jobs task * (times_of times task).period ≤ window
   pub collections_fit : (task : ℕ) → task < length plan.caps → collections task * (times_of times task).collect_period ≤ window
 
-sustained_at : (plan : DiePlan) (common : ℕ) (caps : List ℕ) (tasks : List TaskTimes) (i : ℕ) (d : TaskTimes) → AllZip (IsSustained plan common) caps tasks → i < length caps
+sustained_at : (plan : DiePlan) (common : ℕ) (caps : List ℕ) (tasks : List TaskTimes) (i : ℕ) (d : TaskTimes)
+    → AllZip (IsSustained plan common) caps tasks → i < length caps
     → (cap : ℕ) × IsSustained plan common cap (get_or tasks i d)
 sustained_at plan common [] tasks i d h lt = absurd (omega (arith, lt))
 sustained_at plan common (cap ∷ caps) [] i d h lt = absurd h
@@ -51,15 +52,19 @@ sustained_at plan common (cap ∷ caps) (t ∷ tasks) zero d h lt = (cap, h.0)
 sustained_at plan common (cap ∷ caps) (t ∷ tasks) (suc i) d h lt = sustained_at plan common caps tasks i d h.1 (omega (arith, lt))
 
 -- the slots of one task, counted as often as there are common slots
-one_task : (plan : DiePlan) (times : Times) (window : ℕ) (jobs collections : ℕ → ℕ) (task : ℕ) → Passes plan times → AreFew plan times window jobs collections → task < length plan.caps
-    → ((times_of times task).work * jobs task + collection_work plan * collections task) * times.common ≤ window * task_demand plan times.common (times_of times task)
+one_task : (plan : DiePlan) (times : Times) (window : ℕ) (jobs collections : ℕ → ℕ) (task : ℕ) → Passes plan times
+    → AreFew plan times window jobs collections → task < length plan.caps
+    → ((times_of times task).work * jobs task + collection_work plan * collections task) * times.common
+    ≤ window * task_demand plan times.common (times_of times task)
 one_task plan times window jobs collections task passes few lt =
     let t : TaskTimes = times_of times task in
-    let s = (sustained_at plan times.common plan.caps times.tasks task (record { period = 0; collect_period = 0; work = 0; writes = 0 }) passes.sustained lt).1 in
+    let s = (sustained_at plan times.common plan.caps times.tasks task (record { period = 0; collect_period = 0; work = 0; writes = 0 })
+    passes.sustained lt).1 in
     omega (
       arith,
       one_kind t.work (jobs task) t.period window times.common s.period_divides (few.jobs_fit task lt),
-      one_kind (collection_work plan) (collections task) t.collect_period window times.common s.collect_period_divides (few.collections_fit task lt),
+      one_kind (collection_work plan) (collections task) t.collect_period window times.common s.collect_period_divides
+          (few.collections_fit task lt),
       spread (t.work * jobs task) (collection_work plan * collections task) times.common,
       over window (t.work * (times.common / t.period)) (collection_work plan * (times.common / t.collect_period)),
     )
@@ -70,13 +75,15 @@ one_task plan times window jobs collections task passes few lt =
     over : (a b c : ℕ) → a * (b + c) ≡ a * b + a * c
     over a b c = grind arith
 
-first_tasks : (plan : DiePlan) (times : Times) (window : ℕ) (jobs collections : ℕ → ℕ) (n : ℕ) → Passes plan times → AreFew plan times window jobs collections → n ≤ length plan.caps
+first_tasks : (plan : DiePlan) (times : Times) (window : ℕ) (jobs collections : ℕ → ℕ) (n : ℕ) → Passes plan times
+    → AreFew plan times window jobs collections → n ≤ length plan.caps
     → taken_by plan times jobs collections n * times.common ≤ window * sum_by (task_demand plan times.common) (take n times.tasks)
 first_tasks plan times window jobs collections zero passes few le = omega arith
 first_tasks plan times window jobs collections (suc n) passes few le =
     let f : TaskTimes → ℕ = task_demand plan times.common in
     let here = one_task plan times window jobs collections n passes few (omega (arith, le)) in
-    let more = sum_by_more f times.tasks n (record { period = 0; collect_period = 0; work = 0; writes = 0 }) (omega (arith, le, passes.timed.one_each)) in
+    let more = sum_by_more f times.tasks n (record { period = 0; collect_period = 0; work = 0; writes = 0 })
+    (omega (arith, le, passes.timed.one_each)) in
     let next : suc n ≡ n + 1 = omega arith in
     omega (
       arith,
@@ -84,7 +91,8 @@ first_tasks plan times window jobs collections (suc n) passes few le =
       first_tasks plan times window jobs collections n passes few (omega (arith, le)),
       ap (λ (s : ℕ). window * s) more,
       ap (λ (k : ℕ). window * sum_by f (take k times.tasks)) next,
-      spread (taken_by plan times jobs collections n) ((times_of times n).work * jobs n + collection_work plan * collections n) times.common,
+      spread (taken_by plan times jobs collections n) ((times_of times n).work * jobs n + collection_work plan * collections n)
+          times.common,
       over window (sum_by f (take n times.tasks)) (f (times_of times n)),
     )
   where
@@ -105,4 +113,5 @@ load_fits plan times window jobs collections passes jobs_fit collections_fit =
     let counted = first_tasks plan times window jobs collections (length plan.caps) passes few (omega arith) in
     let all = take_all (length plan.caps) times.tasks (omega (arith, passes.timed.one_each)) in
     let within : window * demand plan times ≤ window * times.common = mul-le-mul_left window passes.fits in
-    le_of_mul-le-mul_right {k = times.common} (omega (arith, counted, within, ap (λ (ts : List TaskTimes). window * sum_by f ts) all)) (omega (arith, passes.timed.some_common))
+    le_of_mul-le-mul_right {k = times.common} (omega (arith, counted, within, ap (λ (ts : List TaskTimes). window * sum_by f ts) all))
+    (omega (arith, passes.timed.some_common))

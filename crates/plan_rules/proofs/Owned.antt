@@ -13,13 +13,22 @@ given_owned a task below owned = omega (arith, owned, get_or-set_same a.balances
 
 -- and leaves what others own
 pub settled_others : (a : Accounts) (task copied other : ℕ) → other ≢ task → owned_of (settled a task copied) other ≡ owned_of a other
-settled_others a task copied other apart = omega (arith, get_or-set_other a.balances task other (get_or a.balances task 0 + given_of a task) 0 apart)
+settled_others a task copied other apart = omega (
+  arith,
+  get_or-set_other a.balances task other (get_or a.balances task 0 + given_of a task)
+      0 apart,
+)
 
 pub waived_others : (a : Accounts) (task other : ℕ) → other ≢ task → owned_of (waived a task) other ≡ owned_of a other
-waived_others a task other apart = omega (arith, get_or-set_other a.balances task other (get_or a.balances task 0 + given_of a task) 0 apart)
+waived_others a task other apart = omega (
+  arith,
+  get_or-set_other a.balances task other (get_or a.balances task 0 + given_of a task) 0
+      apart,
+)
 
 -- an accepted job moves what its task owns
-pub admitted_owned : (a : Accounts) (task writes other : ℕ) → task < length a.balances → task < length a.holds → writes ≤ slice_index a.balances task
+pub admitted_owned : (a : Accounts) (task writes other : ℕ) → task < length a.balances → task < length a.holds → writes
+    ≤ slice_index a.balances task
     → owned_of (admitted a task writes) other ≡ owned_of a other
 admitted_owned a task writes other b h have = elim (cases_eq other task) [
   | inl e ↦
@@ -38,7 +47,8 @@ admitted_owned a task writes other b h have = elim (cases_eq other task) [
 ]
 
 -- a write takes one page of what its task owns
-pub spent_owned : (a : Accounts) (task : ℕ) → task < length a.holds → 0 < slice_index a.holds task → owned_of (hold_spent a task) task + 1 ≡ owned_of a task
+pub spent_owned : (a : Accounts) (task : ℕ) → task < length a.holds → 0 < slice_index a.holds task → owned_of (hold_spent a task) task + 1
+    ≡ owned_of a task
 spent_owned a task h some = omega (arith, some, get_or-set_same a.holds task (get_or a.holds task 0 - 1) 0 h)
 
 pub spent_others : (a : Accounts) (task other : ℕ) → other ≢ task → owned_of (hold_spent a task) other ≡ owned_of a other

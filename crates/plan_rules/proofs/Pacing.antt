@@ -1,5 +1,6 @@
 -- The collections of a task, where events keep a plan: how many have come by a slot.
-use Rattle.std.proofs.Common.{◌≡◌, ℕ, ◌+◌, ◌*◌, ◌/◌, ◌%◌, ◌<◌, ◌≤◌, ◌==◌, ◌&&◌, Bool, true, false, cond, List, [], ◌∷◌, ◌++◌, count_by, refl, ap, sym, ◌∙◌, ◌⊎◌, inl, inr, arith}
+use Rattle.std.proofs.Common.{◌≡◌, ℕ, ◌+◌, ◌*◌, ◌/◌, ◌%◌, ◌<◌, ◌≤◌, ◌==◌, ◌&&◌, Bool, true, false, cond, List, [], ◌∷◌, ◌++◌, count_by}
+use Rattle.std.proofs.Common.{refl, ap, sym, ◌∙◌, ◌⊎◌, inl, inr, arith}
 use Rattle.std.specs.List.{AllByRecursion}
 use Rattle.std.proofs.Math.Nat.{le_of_mul-le-mul_left, div-add-mod, mul-mod_right}
 use Rattle.std.proofs.lemmas.Bool.{cases_lt, and_parts}
@@ -57,13 +58,16 @@ paced_start period task = record {
 }
 
 -- no collection of the task comes
-pub paced_other : (period task : ℕ) (came : List Arrival) (now : ℕ) (a : Arrival) → is_collection_of task a ≡ false → ArePaced period task came now → ArePaced period task (came ++ a ∷ []) now
+pub paced_other : (period task : ℕ) (came : List Arrival) (now : ℕ) (a : Arrival) → is_collection_of task a ≡ false
+    → ArePaced period task came now → ArePaced period task (came ++ a ∷ []) now
 paced_other period task came now a other h =
-    let same : collections_in task (came ++ a ∷ []) ≡ collections_in task came = omega (arith, count_push (is_collection_of task) came a, ap one_if other) in
+    let same : collections_in task (came ++ a ∷ []) ≡ collections_in task came = omega
+    (arith, count_push (is_collection_of task) came a, ap one_if other) in
     record {
       few = rw same h.few;
       many = rw same h.many;
-      each = rw same (all_push (IsBefore task period (period * collections_in task came)) came a h.each (λ is. absurd (false_true other is)));
+      each = rw same (all_push (IsBefore task period (period * collections_in task came)) came a h.each
+          (λ is. absurd (false_true other is)));
       last = λ k e. omega (arith, h.last k (omega (arith, same, e)), count_push (is_collection_at task (period * k)) came a);
     }
   where
@@ -71,7 +75,8 @@ paced_other period task came now a other h =
     false_true p q = cc
 
 -- the multiple of the period that the next collection comes at
-next_multiple : (period count now m : ℕ) → 0 < period → now ≡ period * m → period * count ≤ now + period → now ≤ period * count → (count ≡ m) ⊎ (count ≡ m + 1)
+next_multiple : (period count now m : ℕ) → 0 < period → now ≡ period * m → period * count ≤ now + period → now ≤ period * count
+    → (count ≡ m) ⊎ (count ≡ m + 1)
 next_multiple period count now m some is few many =
     let least : m ≤ count = le_of_mul-le-mul_left (omega (arith, is, many)) some in
     let most : count ≤ m + 1 = le_of_mul-le-mul_left (omega (arith, is, few, times_suc period m)) some in
@@ -84,8 +89,10 @@ at_slot : (task slot : ℕ) (a : Arrival) → is_collection_of task a ≡ true �
 at_slot task slot a is e = grind (arith, nat_tests)
 
 -- a collection of the task comes, and none has come in this slot
-pub paced_collection : (period task : ℕ) (came : List Arrival) (now : ℕ) (a : Arrival) → 0 < period → is_collection_of task a ≡ true → a.at ≡ now → a.due ≡ now + period → now % period ≡ 0 → now + period ≤ MAX_SLOT
-    → count_by (is_collection_at task now) came ≡ 0 → ArePaced period task came now → (now ≡ period * collections_in task came) × ArePaced period task (came ++ a ∷ []) now
+pub paced_collection : (period task : ℕ) (came : List Arrival) (now : ℕ) (a : Arrival) → 0 < period → is_collection_of task a ≡ true → a.at
+    ≡ now → a.due ≡ now + period → now % period ≡ 0 → now + period ≤ MAX_SLOT
+    → count_by (is_collection_at task now) came ≡ 0 → ArePaced period task came now → (now ≡ period * collections_in task came)
+    × ArePaced period task (came ++ a ∷ []) now
 paced_collection period task came now a some is at due multiple within none h =
     let count : ℕ = collections_in task came in
     let m : ℕ = now / period in
@@ -96,26 +103,35 @@ paced_collection period task came now a some is at due multiple within none h =
       | inr e ↦ absurd (omega (arith, h.last m e, none, ap (λ n. count_by (is_collection_at task n) came) now_is))
     ] in
     let more : collections_in task (came ++ a ∷ []) ≡ count + 1 = omega (arith, count_push (is_collection_of task) came a, ap one_if is) in
-    let next : period * collections_in task (came ++ a ∷ []) ≡ now + period = ap (λ n. period * n) more ∙ omega (arith, times_suc period count, here) in (
+    let next : period * collections_in task (came ++ a ∷ []) ≡ now + period = ap (λ n. period * n) more
+    ∙ omega (arith, times_suc period count, here) in (
       here,
       record {
         few = omega (arith, next);
         many = inl (omega (arith, next));
         each = all_push (IsBefore task period (period * collections_in task (came ++ a ∷ []))) came a
-            (all_map (IsBefore task period (period * count)) (IsBefore task period (period * collections_in task (came ++ a ∷ []))) (λ b k is_one. let q = k is_one in (omega (arith, q.0, next, here), omega (arith, q.1, next, here))) came h.each)
+            (all_map (IsBefore task period (period * count)) (IsBefore task period (period * collections_in task (came ++ a ∷ [])))
+            (λ b k is_one. let q = k is_one in (omega (arith, q.0, next, here), omega (arith, q.1, next, here))) came h.each)
             (λ is_one. (omega (arith, at, next), omega (arith, due, next)));
         last = λ k e.
             let place : period * k ≡ now = ap (λ n. period * n) (omega (arith, e, more)) ∙ sym here in
-            omega (arith, count_push (is_collection_at task (period * k)) came a, ap one_if (at_slot task (period * k) a is (at ∙ sym place)));
+            omega (
+              arith,
+              count_push (is_collection_at task (period * k)) came a,
+              ap one_if
+                  (at_slot task (period * k) a is (at ∙ sym place)),
+            );
       },
     )
   where
-    by_reach : (now ≤ period * collections_in task came) ⊎ (MAX_SLOT < period * collections_in task came + period) → now + period ≤ MAX_SLOT → now ≤ period * collections_in task came
+    by_reach : (now ≤ period * collections_in task came) ⊎ (MAX_SLOT < period * collections_in task came + period) → now + period ≤ MAX_SLOT
+        → now ≤ period * collections_in task came
     by_reach (inl le) w = le
     by_reach (inr beyond) w = omega (arith, beyond, w)
 
 -- one of those that came passes
-some_of : {X : Type 0} (p : X → Bool) (P : X → Type 0) (xs : List X) → 1 ≤ count_by p xs → AllByRecursion P xs → (x : X) × (p x ≡ true) × P x
+some_of : {X : Type 0} (p : X → Bool) (P : X → Type 0) (xs : List X) → 1 ≤ count_by p xs → AllByRecursion P xs → (x : X) × (p x ≡ true)
+    × P x
 some_of p P [] h all = absurd (omega (arith, h))
 some_of {X = X} p P (x ∷ xs) h all = by_test (p x) refl (λ le. some_of p P xs le all.1)
   where
@@ -124,7 +140,8 @@ some_of {X = X} p P (x ∷ xs) h all = by_test (p x) refl (λ le. some_of p P xs
     by_test false e further = further (omega (arith, h, sum_by-cons (λ y. one_if (p y)) x xs, ap one_if e))
 
 -- a slot passes, in which the task's collection has come if one must
-pub paced_slot : (period task : ℕ) (came : List Arrival) (now : ℕ) → 0 < period → (now % period ≡ 0 → now + period ≤ MAX_SLOT → 1 ≤ count_by (is_collection_at task now) came)
+pub paced_slot : (period task : ℕ) (came : List Arrival) (now : ℕ) → 0 < period
+    → (now % period ≡ 0 → now + period ≤ MAX_SLOT → 1 ≤ count_by (is_collection_at task now) came)
     → ArePaced period task came now → ArePaced period task came (now + 1)
 paced_slot period task came now some comes h = record {
   few = omega (arith, h.few);
@@ -136,12 +153,14 @@ paced_slot period task came now some comes h = record {
     none_here : now ≡ period * collections_in task came → now + period ≤ MAX_SLOT → ⊥
     none_here e within =
         let multiple : now % period ≡ 0 = ap (λ n. n % period) e ∙ mul-mod_right period (collections_in task came) in
-        let one = some_of (is_collection_at task now) (IsBefore task period (period * collections_in task came)) came (comes multiple within) h.each in
+        let one = some_of (is_collection_at task now) (IsBefore task period (period * collections_in task came)) came
+        (comes multiple within) h.each in
         let parts = and_parts (is_collection_of task one.0) (one.0.at == now) one.1 in
         let at : one.0.at ≡ now = grind (arith, nat_tests, parts.1) in
         omega (arith, at, (one.2 parts.0).0, some, e)
 
-    by_reach : (now ≤ period * collections_in task came) ⊎ (MAX_SLOT < period * collections_in task came + period) → (now + 1 ≤ period * collections_in task came) ⊎ (MAX_SLOT < period * collections_in task came + period)
+    by_reach : (now ≤ period * collections_in task came) ⊎ (MAX_SLOT < period * collections_in task came + period)
+        → (now + 1 ≤ period * collections_in task came) ⊎ (MAX_SLOT < period * collections_in task came + period)
     by_reach (inr beyond) = inr beyond
     by_reach (inl le) = elim (cases_lt now (period * collections_in task came)) [
       | inl below ↦ inl (omega (arith, below))

@@ -1,5 +1,6 @@
 -- A pigeonhole over the blocks of a die.
-use Rattle.std.proofs.Common.{◌≡◌, ℕ, suc, ◌+◌, ◌-◌, ◌*◌, ◌/◌, ◌≤◌, Bool, true, false, cond, List, [], ◌∷◌, length, sum_by, count_by, ◌⊎◌, inl, inr, Any, refl, ap, ◌∙◌, arith}
+use Rattle.std.proofs.Common.{◌≡◌, ℕ, suc, ◌+◌, ◌-◌, ◌*◌, ◌/◌, ◌≤◌, Bool, true, false, cond, List, [], ◌∷◌, length, sum_by, count_by, ◌⊎◌}
+use Rattle.std.proofs.Common.{inl, inr, Any, refl, ap, ◌∙◌, arith}
 use Rattle.std.proofs.lemmas.Bool.{cases_lt, cases_Bool}
 use Rattle.std.proofs.lemmas.List.Sums.{sum_by-cons}
 use Rattle.std.proofs.lemmas.Bool.Decides.{nat_tests}
@@ -9,7 +10,8 @@ use Rattle.slot_types.specs.declared.plans.DiePlan.{DiePlan}
 use Rattle.plan_rules.specs.Bound.{MeetsBound, fmax_of, closed_of}
 use Rattle.plan_rules.specs.Blocks.{BlockUse, is_open, MayBegin, IsVictim}
 
--- some of the blocks are wholly free, and some are closed and collected by nobody; either one of these is a victim, or each has many valid pages
+-- some of the blocks are wholly free, and some are closed and collected by nobody; either one of these is a victim, or each has many valid
+-- pages
 pub record IsSplit (plan : DiePlan) (blocks : List BlockUse) : Type 0 where
   pub whole : ℕ
   pub alone : ℕ
@@ -30,12 +32,15 @@ one-more : (n k : ℕ) → (n + 1) * k ≡ n * k + k
 one-more n k = grind arith
 
 -- the head holds no victim: what was found further on, or a sum that is no smaller
-found-later : (plan : DiePlan) (n : ℕ) (b : BlockUse) (bs : List BlockUse) → Any (IsVictim plan) bs ⊎ (n ≤ sum_by (λ block. block.valid) bs) → Any (IsVictim plan) (b ∷ bs) ⊎ (n ≤ sum_by (λ block. block.valid) (b ∷ bs))
+found-later : (plan : DiePlan) (n : ℕ) (b : BlockUse) (bs : List BlockUse) → Any (IsVictim plan) bs ⊎ (n ≤ sum_by (λ block. block.valid) bs)
+    → Any (IsVictim plan) (b ∷ bs) ⊎ (n ≤ sum_by (λ block. block.valid) (b ∷ bs))
 found-later plan n b bs (inl any) = inl (Any-cons (IsVictim plan) b bs any)
 found-later plan n b bs (inr many) = inr (omega (arith, sum_by-cons (λ (block : BlockUse). block.valid) b bs))
 
 -- the head is closed and collected by nobody
-found-here : (plan : DiePlan) (n : ℕ) (b : BlockUse) (bs : List BlockUse) → b.free ≤ 0 → b.collected ≡ false → Any (IsVictim plan) bs ⊎ (n * (plan.shape.pages - plan.alpha + 1) ≤ sum_by (λ block. block.valid) bs) → Any (IsVictim plan) (b ∷ bs) ⊎ ((n + 1) * (plan.shape.pages - plan.alpha + 1) ≤ sum_by (λ block. block.valid) (b ∷ bs))
+found-here : (plan : DiePlan) (n : ℕ) (b : BlockUse) (bs : List BlockUse) → b.free ≤ 0 → b.collected ≡ false → Any (IsVictim plan) bs
+    ⊎ (n * (plan.shape.pages - plan.alpha + 1) ≤ sum_by (λ block. block.valid) bs) → Any (IsVictim plan) (b ∷ bs)
+    ⊎ ((n + 1) * (plan.shape.pages - plan.alpha + 1) ≤ sum_by (λ block. block.valid) (b ∷ bs))
 found-here plan n b bs none alone (inl any) = inl (Any-cons (IsVictim plan) b bs any)
 found-here plan n b bs none alone (inr many) =
     elim (cases_lt (plan.shape.pages - plan.alpha) b.valid) [
@@ -91,9 +96,17 @@ split plan (b ∷ bs) = step plan b bs (split plan bs)
 pub victim : (plan : DiePlan) (blocks : List BlockUse) → MeetsBound plan → MayBegin plan blocks → Any (IsVictim plan) blocks
 victim plan blocks bound begin =
     let s : IsSplit plan blocks = split plan blocks in
-    let few_whole : s.whole ≤ fmax_of plan / plan.shape.pages = le-div s.whole (fmax_of plan) plan.shape.pages (omega (arith, bound.shape.some_pages)) (omega (arith, s.whole_free, begin.few_free)) in
+    let few_whole : s.whole ≤ fmax_of plan / plan.shape.pages = le-div s.whole (fmax_of plan) plan.shape.pages
+    (omega (arith, bound.shape.some_pages)) (omega (arith, s.whole_free, begin.few_free)) in
     let many_alone : closed_of plan ≤ s.alone = omega (arith, s.rest, begin.count, begin.one_open, begin.others_collect, bound.closed) in
     elim s.found [
       | inl any ↦ any
-      | inr much ↦ absurd (omega (arith, much, begin.few_valid, bound.live, mul-le-mul_right (plan.shape.pages - plan.alpha + 1) many_alone))
+      | inr much ↦ absurd (omega (
+        arith,
+        much,
+        begin.few_valid,
+        bound.live,
+        mul-le-mul_right (plan.shape.pages - plan.alpha + 1)
+            many_alone,
+      ))
     ]

@@ -1,4 +1,5 @@
-use Rattle.std.specs.Prelude.{◌≡◌, ◌==◌, ℕ, ◌-◌, ◌<◌, ◌≤◌, ◌⊎◌, Bool, false, ◌&&◌, nat_lt, List, length, map, sum_by, count_by, Option, Some, None, Contains}
+use Rattle.std.specs.Prelude.{◌≡◌, ◌==◌, ℕ, ◌-◌, ◌<◌, ◌≤◌, ◌⊎◌, Bool, false, ◌&&◌, nat_lt, List, length, map, sum_by, count_by, Option}
+use Rattle.std.specs.Prelude.{Some, None, Contains}
 use Rattle.std.specs.List.{list_any, range_with_len}
 use Rattle.slot_types.specs.declared.pages.Place.{Place}
 use Rattle.slot_types.specs.Places.{is_in}
@@ -51,7 +52,8 @@ uses_of plan free places victims = map (use_of free places victims) (range_with_
 
 -- a die at which a task begins a collection with too few spare pages, by what its layers keep: the free pages of each
 -- block, the places of the logical pages, each task's victim (the beginning task has none yet), and the open block
-pub record BeginsShort (plan : DiePlan) (free : ℕ → ℕ) (places : List (Option Place)) (victims : List (Option ℕ)) (writing : Option ℕ) : Type 0 where
+pub record BeginsShort (plan : DiePlan) (free : ℕ → ℕ) (places : List (Option Place)) (victims : List (Option ℕ)) (writing : Option ℕ) :
+    Type 0 where
   pub places_len : length places ≡ plan.logical
   pub victims_len : length victims ≡ length plan.caps
   pub none_yet : Contains victims None

@@ -25,23 +25,27 @@ record Continues (plan : DiePlan) (times : Times) (before : Moment) (rest : List
   keeps : KeepsPlan plan times (told before.log ++ rest)
 
 -- one event further
-further : (plan : DiePlan) (times : Times) (event : Event) (rest : List Event) (reply : Reply) (before between : Moment) → MeetsBound plan → Passes plan times → Continues plan times before (event ∷ rest)
+further : (plan : DiePlan) (times : Times) (event : Event) (rest : List Event) (reply : Reply) (before between : Moment) → MeetsBound plan
+    → Passes plan times → Continues plan times before (event ∷ rest)
     → AnsweredByLog plan event reply before between → IsAccepted reply × Continues plan times between rest
 further plan times event rest reply before between bound passes c a =
     let log : Log = before.log in
     let none = unrefused plan times bound passes log event rest c.exact c.keeps in
     let is : answer plan log event ≡ accepted plan log event = accepted_answer plan log event none in
     let one = entered plan log 0 event in
-    let next : between.log ≡ entry 0 event (accepted plan log event) ∷ log = a.log_is ∙ (ap (λ r. with_answer 0 event r log) (a.reply_is ∙ is) ∙ one.1) in (
+    let next : between.log ≡ entry 0 event (accepted plan log event) ∷ log = a.log_is
+    ∙ (ap (λ r. with_answer 0 event r log) (a.reply_is ∙ is) ∙ one.1) in (
       subst IsAccepted (sym (a.reply_is ∙ is)) one.0,
       record {
         runs = a.runs;
         exact = subst (IsExact plan) (sym next) (c.exact, sym is, one.0);
-        keeps = subst (λ l. KeepsPlan plan times (told l ++ rest)) (sym next) (subst (KeepsPlan plan times) (sym (append_assoc (told log) (event ∷ []) rest)) c.keeps);
+        keeps = subst (λ l. KeepsPlan plan times (told l ++ rest)) (sym next)
+            (subst (KeepsPlan plan times) (sym (append_assoc (told log) (event ∷ []) rest)) c.keeps);
       },
     )
 
-continued : (plan : DiePlan) (times : Times) (all : List Event) (replies : List Reply) (before after : Moment) → MeetsBound plan → Passes plan times → Continues plan times before all → IsRun plan before all replies after → AllByRecursion FindsMemory replies
+continued : (plan : DiePlan) (times : Times) (all : List Event) (replies : List Reply) (before after : Moment) → MeetsBound plan
+    → Passes plan times → Continues plan times before all → IsRun plan before all replies after → AllByRecursion FindsMemory replies
     → AreAcceptedUntilFault replies
 continued plan times [] [] before after bound passes c run found = tt
 continued plan times [] (reply ∷ replies) before after bound passes c run found = absurd run
@@ -49,14 +53,16 @@ continued plan times (event ∷ rest) [] before after bound passes c run found =
 continued plan times (event ∷ rest) (reply ∷ replies) before after bound passes c (between, step, run) found =
     by_answer step.answered (λ next. continued plan times rest replies between after bound passes next run found.1)
   where
-    by_answer : AnsweredByLog plan event reply before between ⊎ FoundNoMemory plan event reply before between ⊎ StoppedByFault plan event reply before between ⊎ FoundStopped plan event reply before between
+    by_answer : AnsweredByLog plan event reply before between ⊎ FoundNoMemory plan event reply before between
+        ⊎ StoppedByFault plan event reply before between ⊎ FoundStopped plan event reply before between
         → (Continues plan times between rest → AreAcceptedUntilFault replies) → AreAcceptedUntilFault (reply ∷ replies)
     by_answer (inl a) ih = let f = further plan times event rest reply before between bound passes c a in inl (f.0, ih f.1)
     by_answer (inr (inl none)) ih = absurd (found.0 none.reply_is)
     by_answer (inr (inr (inl fault))) ih = inr fault.reply_is
     by_answer (inr (inr (inr stopped))) ih = absurd (true≢false (sym stopped.was_stopped ∙ c.runs))
 
-pub accepted_until_fault : (plan : DiePlan) (times : Times) → MeetsBound plan → Passes plan times → (all : List Event) → KeepsPlan plan times all → (replies : List Reply) (before after : Moment) → IsUnused before → IsRun plan before all replies after
+pub accepted_until_fault : (plan : DiePlan) (times : Times) → MeetsBound plan → Passes plan times → (all : List Event)
+    → KeepsPlan plan times all → (replies : List Reply) (before after : Moment) → IsUnused before → IsRun plan before all replies after
     → All FindsMemory replies → AreAcceptedUntilFault replies
 accepted_until_fault plan times bound passes all keeps replies before after unused run found =
     continued plan times all replies before after bound passes (record {

@@ -16,20 +16,23 @@ answered_calls event (replies.Refused refusal) log = refl
 answered_calls event (replies.Taken number) log = refl
 answered_calls event (replies.Slot s) log = refl
 
-answered_exact : (plan : DiePlan) (event : Event) (reply : Reply) (log : Log) → IsExact plan log → reply ≡ answer plan log event → IsExact plan (with_answer 0 event reply log)
+answered_exact : (plan : DiePlan) (event : Event) (reply : Reply) (log : Log) → IsExact plan log → reply ≡ answer plan log event
+    → IsExact plan (with_answer 0 event reply log)
 answered_exact plan event (replies.Refused refusal) log exact is = exact
 answered_exact plan event (replies.Taken number) log exact is = (exact, is, tt)
 answered_exact plan event (replies.Slot s) log exact is = (exact, is, tt)
 
 module _ (plan : DiePlan) (event : Event) (reply : Reply) (before after : Moment) where
   abbrev Answered : Type 0
-  Answered = AnsweredByLog plan event reply before after ⊎ FoundNoMemory plan event reply before after ⊎ StoppedByFault plan event reply before after ⊎ FoundStopped plan event reply before after
+  Answered = AnsweredByLog plan event reply before after ⊎ FoundNoMemory plan event reply before after
+      ⊎ StoppedByFault plan event reply before after ⊎ FoundStopped plan event reply before after
 
   step_calls : Answered → calls after.log ≡ with_call event reply (calls before.log)
   step_calls (inl a) = ap calls a.log_is ∙ answered_calls event reply before.log
   step_calls (inr (inl a)) = ap (λ (m : Moment). calls m.log) a.unchanged ∙ sym (ap (λ r. with_call event r (calls before.log)) a.reply_is)
   step_calls (inr (inr (inl a))) = ap calls a.log_stays ∙ sym (ap (λ r. with_call event r (calls before.log)) a.reply_is)
-  step_calls (inr (inr (inr a))) = ap (λ (m : Moment). calls m.log) a.unchanged ∙ sym (ap (λ r. with_call event r (calls before.log)) a.reply_is)
+  step_calls (inr (inr (inr a))) = ap (λ (m : Moment). calls m.log) a.unchanged
+      ∙ sym (ap (λ r. with_call event r (calls before.log)) a.reply_is)
 
   step_exact : IsExact plan before.log → Answered → IsExact plan after.log
   step_exact exact (inl a) = subst (IsExact plan) (sym a.log_is) (answered_exact plan event reply before.log exact a.reply_is)
@@ -39,7 +42,8 @@ module _ (plan : DiePlan) (event : Event) (reply : Reply) (before after : Moment
 
 -- A run
 
-pub run_calls : (plan : DiePlan) (before : Moment) (events : List Event) (replies : List Reply) (after : Moment) → IsRun plan before events replies after
+pub run_calls : (plan : DiePlan) (before : Moment) (events : List Event) (replies : List Reply) (after : Moment)
+    → IsRun plan before events replies after
     → calls after.log ≡ with_accepted events replies (calls before.log)
 run_calls plan before [] [] after h = ap (λ (m : Moment). calls m.log) h
 run_calls plan before [] (reply ∷ replies) after h = absurd h
@@ -47,7 +51,8 @@ run_calls plan before (event ∷ events) [] after h = absurd h
 run_calls plan before (event ∷ events) (reply ∷ replies) after h =
     run_calls plan h.0 events replies after h.2 ∙ ap (with_accepted events replies) (step_calls plan event reply before h.0 h.1.answered)
 
-run_exact : (plan : DiePlan) (before : Moment) (events : List Event) (replies : List Reply) (after : Moment) → IsExact plan before.log → IsRun plan before events replies after → IsExact plan after.log
+run_exact : (plan : DiePlan) (before : Moment) (events : List Event) (replies : List Reply) (after : Moment) → IsExact plan before.log
+    → IsRun plan before events replies after → IsExact plan after.log
 run_exact plan before [] [] after exact h = subst (λ (m : Moment). IsExact plan m.log) (sym h) exact
 run_exact plan before [] (reply ∷ replies) after exact h = absurd h
 run_exact plan before (event ∷ events) [] after exact h = absurd h
@@ -55,7 +60,8 @@ run_exact plan before (event ∷ events) (reply ∷ replies) after exact h =
     run_exact plan h.0 events replies after (step_exact plan event reply before h.0 exact h.1.answered) h.2
 
 -- behind no call
-pub only_run : (plan : DiePlan) (before : Moment) (events : List Event) (replies : List Reply) (after : Moment) → IsExact plan before.log → IsRun plan before events replies after
+pub only_run : (plan : DiePlan) (before : Moment) (events : List Event) (replies : List Reply) (after : Moment) → IsExact plan before.log
+    → IsRun plan before events replies after
     → before.log ≡ [] → (log : Log) → IsExact plan log → calls log ≡ with_accepted events replies [] → log ≡ after.log
 only_run plan before events replies after exact ran empty log other is =
     same_calls_lem plan log after.log other (run_exact plan before events replies after exact ran)

@@ -18,15 +18,19 @@ use Rattle.slot_core.specs.declared.outcomes.Worst.{Worst}
 use Rattle.slot_core.specs.Outcomes.{worst_from, worst_of}
 use Rattle.die_log.specs.Certified.{NothingDone, IsOfWorst, HoldsOver, BindsAll}
 
-worst_named : (plan : DiePlan) (log : Log) (w : Worst) (o : Option Job) → Some w ≡ option_map (worst_from log) o → certificate_for plan log o ≡ certificate_of (rows plan log) (carried_numbers log) w.job
+worst_named : (plan : DiePlan) (log : Log) (w : Worst) (o : Option Job) → Some w ≡ option_map (worst_from log) o
+    → certificate_for plan log o ≡ certificate_of (rows plan log) (carried_numbers log) w.job
 worst_named plan log w None e = absurd (none-some w (sym e))
-worst_named plan log w (Some j) e = ap (λ (v : Worst). certificate_of (rows plan log) (carried_numbers log) v.job) (sym (same_Some w (worst_from log j) e))
+worst_named plan log w (Some j) e = ap (λ (v : Worst). certificate_of (rows plan log) (carried_numbers log) v.job)
+    (sym (same_Some w (worst_from log j) e))
 
 -- what is built for the worst one is the log's
-pub built_is : (plan : DiePlan) (log : Log) (w : Worst) (made : List JobRow) (slots : Slots) (built : Option Certificate) → Some w ≡ worst_of plan log → made ≡ rows plan log → slots ≡ carried_numbers log
+pub built_is : (plan : DiePlan) (log : Log) (w : Worst) (made : List JobRow) (slots : Slots) (built : Option Certificate) → Some w
+    ≡ worst_of plan log → made ≡ rows plan log → slots ≡ carried_numbers log
     → built ≡ certificate_of made slots w.job → built ≡ certificate plan log
 built_is plan log w made slots built worst_is made_is slots_are is =
-    is ∙ (ap (λ (rs : List JobRow). certificate_of rs slots w.job) made_is ∙ (ap (λ (cs : Slots). certificate_of (rows plan log) cs w.job) slots_are ∙ sym (worst_named plan log w (worst plan log) worst_is)))
+    is ∙ (ap (λ (rs : List JobRow). certificate_of rs slots w.job) made_is
+    ∙ (ap (λ (cs : Slots). certificate_of (rows plan log) cs w.job) slots_are ∙ sym (worst_named plan log w (worst plan log) worst_is)))
 
 none_by : (plan : DiePlan) (log : Log) (o : Option Job) → None ≡ option_map (worst_from log) o → None ≡ certificate_for plan log o
 none_by plan log None e = refl
@@ -38,23 +42,28 @@ no_certificate plan log e = none_by plan log (worst plan log) e
 
 -- where there is a worst one, something is done
 pub some_done : (plan : DiePlan) (log : Log) (w : Worst) → Some w ≡ worst_of plan log → NothingDone plan log → ⊥
-some_done plan log w e nothing = none-some w (sym (e ∙ ap (λ (o : Option Job). option_map (worst_from log) o) (nothing_done plan log nothing)))
+some_done plan log w e nothing = none-some w (sym (e ∙ ap (λ (o : Option Job). option_map (worst_from log) o)
+    (nothing_done plan log nothing)))
 
 -- What is said of it
 
-pub none_said : (plan : DiePlan) (log : Log) (built : Option Certificate) → MeetsBound plan → IsExact plan log → built ≡ certificate plan log → (built ≡ None) ↔ NothingDone plan log
+pub none_said : (plan : DiePlan) (log : Log) (built : Option Certificate) → MeetsBound plan → IsExact plan log → built
+    ≡ certificate plan log → (built ≡ None) ↔ NothingDone plan log
 none_said plan log built bound exact is =
     subst (λ (o : Option Certificate). (o ≡ None) ↔ NothingDone plan log) (sym is) (keeps_promises plan bound log exact).uncertified
 
-pub worst_said : (plan : DiePlan) (log : Log) (built : Option Certificate) → MeetsBound plan → IsExact plan log → built ≡ certificate plan log → IfSome built (IsOfWorst plan log)
+pub worst_said : (plan : DiePlan) (log : Log) (built : Option Certificate) → MeetsBound plan → IsExact plan log → built
+    ≡ certificate plan log → IfSome built (IsOfWorst plan log)
 worst_said plan log None bound exact is = tt
 worst_said plan log (Some c) bound exact is = ((keeps_promises plan bound log exact).certified c (sym is)).0
 
-pub holds_said : (plan : DiePlan) (log : Log) (built : Option Certificate) → MeetsBound plan → IsExact plan log → built ≡ certificate plan log → IfSome built (HoldsOver plan log)
+pub holds_said : (plan : DiePlan) (log : Log) (built : Option Certificate) → MeetsBound plan → IsExact plan log → built
+    ≡ certificate plan log → IfSome built (HoldsOver plan log)
 holds_said plan log None bound exact is = tt
 holds_said plan log (Some c) bound exact is = ((keeps_promises plan bound log exact).certified c (sym is)).1
 
-pub binds_said : (plan : DiePlan) (log : Log) (built : Option Certificate) → MeetsBound plan → IsExact plan log → built ≡ certificate plan log → IfSome built (BindsAll plan log)
+pub binds_said : (plan : DiePlan) (log : Log) (built : Option Certificate) → MeetsBound plan → IsExact plan log → built
+    ≡ certificate plan log → IfSome built (BindsAll plan log)
 binds_said plan log None bound exact is = tt
 binds_said plan log (Some c) bound exact is = ((keeps_promises plan bound log exact).certified c (sym is)).2
 

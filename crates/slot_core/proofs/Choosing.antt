@@ -1,5 +1,6 @@
 -- A slot's choice, made step by step: while the head is waived, the choice goes on among the rest.
-use Rattle.std.proofs.Common.{◌≡◌, ℕ, zero, suc, ◌<◌, ◌≤◌, ◌==◌, ◌||◌, ◌&&◌, not, Bool, true, false, cond, List, [], ◌∷◌, ◌++◌, Option, Some, None, refl, ap, sym, ◌∙◌, subst, length, filter, arith, append_assoc}
+use Rattle.std.proofs.Common.{◌≡◌, ℕ, zero, suc, ◌<◌, ◌≤◌, ◌==◌, ◌||◌, ◌&&◌, not, Bool, true, false, cond, List, [], ◌∷◌, ◌++◌, Option}
+use Rattle.std.proofs.Common.{Some, None, refl, ap, sym, ◌∙◌, subst, length, filter, arith, append_assoc}
 use Rattle.slot_types.specs.declared.plans.DiePlan.{DiePlan}
 use Rattle.slot_types.specs.declared.replies.Waived.{Waived}
 use Rattle.plan_rules.specs.Accounts.{Accounts, given_of}
@@ -48,7 +49,8 @@ filter_twice p q [] = refl
 filter_twice p q (x ∷ xs) = by_case (p x) (filter_twice p q xs)
   where
     by_case : (a : Bool) → filter q (filter p xs) ≡ filter (λ y. p y && q y) xs
-        → filter q (cond a (x ∷ filter p xs) (filter p xs)) ≡ cond (a && q x) (x ∷ filter (λ y. p y && q y) xs) (filter (λ y. p y && q y) xs)
+        → filter q (cond a (x ∷ filter p xs) (filter p xs))
+        ≡ cond (a && q x) (x ∷ filter (λ y. p y && q y) xs) (filter (λ y. p y && q y) xs)
     by_case true again = ap (λ ys. cond (q x) (x ∷ ys) ys) again
     by_case false again = again
 
@@ -60,15 +62,18 @@ same_turned : (m n : ℕ) → (m == n) ≡ (n == m)
 same_turned m n = grind (arith)
 
 -- to waive one more is to leave it out
-pub unwaived_more : (ws : List Waived) (w : Waived) (j : Job) (waiting : List Job) → w.number ≡ j.number → unwaived (ws ++ w ∷ []) waiting ≡ without j (unwaived ws waiting)
+pub unwaived_more : (ws : List Waived) (w : Waived) (j : Job) (waiting : List Job) → w.number ≡ j.number → unwaived (ws ++ w ∷ []) waiting
+    ≡ without j (unwaived ws waiting)
 unwaived_more ws w j waiting e =
     sym (filter_twice (λ i. not (is_among i.number ws)) (λ i. not (i.number == j.number)) waiting
-    ∙ filter_same (λ i. not (is_among i.number ws) && not (i.number == j.number)) (λ i. not (is_among i.number (ws ++ w ∷ []))) same waiting)
+    ∙ filter_same (λ i. not (is_among i.number ws) && not (i.number == j.number)) (λ i. not (is_among i.number (ws ++ w ∷ []))) same
+    waiting)
   where
     same : (i : Job) → (not (is_among i.number ws) && not (i.number == j.number)) ≡ not (is_among i.number (ws ++ w ∷ []))
     same i =
         not_or (is_among i.number ws) (i.number == j.number)
-        ∙ ap not (ap (λ b. is_among i.number ws || b) (same_turned i.number j.number ∙ ap (λ n. n == i.number) (sym e)) ∙ sym (among_more i.number ws w))
+        ∙ ap not (ap (λ b. is_among i.number ws || b) (same_turned i.number j.number ∙ ap (λ n. n == i.number) (sym e))
+        ∙ sym (among_more i.number ws w))
 
 none_of_nil : (turns : ℕ) (xs : List Job) (j : Job) → least xs ≡ Some j → length xs ≤ turns → 0 < turns
 none_of_nil turns [] j e h = absurd cc
@@ -85,7 +90,8 @@ only : (ws : List Waived) (o : Option Job) → behind ws (record { waived = []; 
 only ws o = ap (λ (ys : List Waived). behind [] (record { waived = ys; head = o })) (append_none ws)
 
 -- the head is waived, and the choice goes on
-pub waives : (plan : DiePlan) (past : Log) (ws : List Waived) (a : Accounts) (j : Job) → GoesOn plan past ws a → least (unwaived ws (ready plan past)) ≡ Some j → is_waivable plan past a j ≡ true
+pub waives : (plan : DiePlan) (past : Log) (ws : List Waived) (a : Accounts) (j : Job) → GoesOn plan past ws a
+    → least (unwaived ws (ready plan past)) ≡ Some j → is_waivable plan past a j ≡ true
     → GoesOn plan past (ws ++ waiver_of a j ∷ []) (moves.waived a j.task)
 waives plan past ws a j g e yes_is = by_turns g.turns refl
   where
@@ -100,16 +106,20 @@ waives plan past ws a j g e yes_is = by_turns g.turns refl
     by_turns (suc n) is = record {
       turns = n;
       enough = rw (unwaived_more ws (waiver_of a j) j (ready plan past) refl) (omega (arith, less, g.enough));
-      rest = g.rest ∙ (ap (λ t. behind ws (choice_among plan past t a xs)) is ∙ (ap (λ o. behind ws (chosen plan past a xs (choice_among plan past n) o)) e
+      rest = g.rest ∙ (ap (λ t. behind ws (choice_among plan past t a xs)) is
+          ∙ (ap (λ o. behind ws (chosen plan past a xs (choice_among plan past n) o)) e
           ∙ (ap (λ b. behind ws (weighed a xs (choice_among plan past n) j b)) yes_is ∙ moved n)));
     }
       where
         moved : (n : ℕ) → behind ws (with_waiver (waiver_of a j) (choice_among plan past n (moves.waived a j.task) (without j xs)))
-            ≡ behind (ws ++ waiver_of a j ∷ []) (choice_among plan past n (moves.waived a j.task) (unwaived (ws ++ waiver_of a j ∷ []) (ready plan past)))
-        moved n = rw (unwaived_more ws (waiver_of a j) j (ready plan past) refl) (joined ws (waiver_of a j) (choice_among plan past n (moves.waived a j.task) (without j xs)))
+            ≡ behind (ws ++ waiver_of a j ∷ []) (choice_among plan past n (moves.waived a j.task)
+            (unwaived (ws ++ waiver_of a j ∷ []) (ready plan past)))
+        moved n = rw (unwaived_more ws (waiver_of a j) j (ready plan past) refl)
+            (joined ws (waiver_of a j) (choice_among plan past n (moves.waived a j.task) (without j xs)))
 
 -- the head is not waived: it has the slot
-pub begins : (plan : DiePlan) (past : Log) (ws : List Waived) (a : Accounts) (j : Job) → GoesOn plan past ws a → least (unwaived ws (ready plan past)) ≡ Some j → is_waivable plan past a j ≡ false
+pub begins : (plan : DiePlan) (past : Log) (ws : List Waived) (a : Accounts) (j : Job) → GoesOn plan past ws a
+    → least (unwaived ws (ready plan past)) ≡ Some j → is_waivable plan past a j ≡ false
     → choice plan past ≡ record { waived = ws; head = Some j }
 begins plan past ws a j g e no_is = by_turns g.turns refl
   where
@@ -119,11 +129,13 @@ begins plan past ws a j g e no_is = by_turns g.turns refl
     by_turns : (n : ℕ) → g.turns ≡ n → choice plan past ≡ record { waived = ws; head = Some j }
     by_turns zero is = absurd (omega (arith, none_of_nil g.turns xs j e g.enough))
     by_turns (suc n) is =
-        g.rest ∙ (ap (λ t. behind ws (choice_among plan past t a xs)) is ∙ (ap (λ o. behind ws (chosen plan past a xs (choice_among plan past n) o)) e
+        g.rest ∙ (ap (λ t. behind ws (choice_among plan past t a xs)) is
+        ∙ (ap (λ o. behind ws (chosen plan past a xs (choice_among plan past n) o)) e
         ∙ (ap (λ b. behind ws (weighed a xs (choice_among plan past n) j b)) no_is ∙ only ws (Some j))))
 
 -- nobody is left
-pub ends : (plan : DiePlan) (past : Log) (ws : List Waived) (a : Accounts) → GoesOn plan past ws a → least (unwaived ws (ready plan past)) ≡ None → choice plan past ≡ record { waived = ws; head = None }
+pub ends : (plan : DiePlan) (past : Log) (ws : List Waived) (a : Accounts) → GoesOn plan past ws a → least (unwaived ws (ready plan past))
+    ≡ None → choice plan past ≡ record { waived = ws; head = None }
 ends plan past ws a g e = by_turns g.turns refl
   where
     xs : List Job
@@ -132,4 +144,5 @@ ends plan past ws a g e = by_turns g.turns refl
     by_turns : (n : ℕ) → g.turns ≡ n → choice plan past ≡ record { waived = ws; head = None }
     by_turns zero is = g.rest ∙ (ap (λ t. behind ws (choice_among plan past t a xs)) is ∙ only ws None)
     by_turns (suc n) is =
-        g.rest ∙ (ap (λ t. behind ws (choice_among plan past t a xs)) is ∙ (ap (λ o. behind ws (chosen plan past a xs (choice_among plan past n) o)) e ∙ only ws None))
+        g.rest ∙ (ap (λ t. behind ws (choice_among plan past t a xs)) is
+        ∙ (ap (λ o. behind ws (chosen plan past a xs (choice_among plan past n) o)) e ∙ only ws None))

@@ -1,5 +1,6 @@
 -- What one more entry of a log does to the flash of its die.
-use Rattle.std.proofs.Common.{◌≡◌, ◌⊎◌, inl, inr, ℕ, zero, suc, ◌+◌, ◌==◌, Bool, true, false, cond, List, [], ◌∷◌, ◌++◌, Option, Some, None, refl, ap, sym, ◌∙◌, subst, length, map, slice_set, slice_index_or, get_or, replicate, arith}
+use Rattle.std.proofs.Common.{◌≡◌, ◌⊎◌, inl, inr, ℕ, zero, suc, ◌+◌, ◌==◌, Bool, true, false, cond, List, [], ◌∷◌, ◌++◌, Option, Some, None}
+use Rattle.std.proofs.Common.{refl, ap, sym, ◌∙◌, subst, length, map, slice_set, slice_index_or, get_or, replicate, arith}
 use Rattle.std.specs.Prelude.{Contains}
 use Rattle.std.proofs.lemmas.List.{map-set, length_push}
 use Rattle.std.proofs.lemmas.List.Elements.{Contains-append_left, Contains-push_cases}
@@ -44,32 +45,43 @@ fresh_state plan = record {
 }
 
 pub fresh_flash : (plan : DiePlan) → IsFlashOf plan [] (fresh_state plan)
-fresh_flash plan = record { accounts_are = refl; pages_are = refl; places_are = refl; blocks_are = map_replicate plan.shape.blocks; running_are = none_running plan }
+fresh_flash plan = record {
+  accounts_are = refl;
+  pages_are = refl;
+  places_are = refl;
+  blocks_are = map_replicate plan.shape.blocks;
+  running_are = none_running plan;
+}
 
 -- Arrivals
 
 -- what arrives has not begun
-running_taken : (plan : DiePlan) (e : Entry) (past : Log) (new : Job) (running : List (Option Collection)) → ran_by e.reply ≡ None → jobs (e ∷ past) ≡ jobs past ++ new ∷ [] → new.number ≡ length (jobs past)
+running_taken : (plan : DiePlan) (e : Entry) (past : Log) (new : Job) (running : List (Option Collection)) → ran_by e.reply ≡ None
+    → jobs (e ∷ past) ≡ jobs past ++ new ∷ [] → new.number ≡ length (jobs past)
     → acts (length (jobs past)) past ≡ [] → AreRunning plan past running → AreRunning plan (e ∷ past) running
 running_taken plan e past new running none same is nil r = running_quiet plan e past running none
     (λ j h. subst (λ (js : List Job). Contains js j) (sym same) (Contains-append_left (jobs past) (new ∷ []) j h))
     (λ j h runs. old_by_case j runs (Contains-push_cases (jobs past) new j (subst (λ (js : List Job). Contains js j) same h))) r
   where
     new_nil : (j : Job) → new ≡ j → acts j.number (e ∷ past) ≡ []
-    new_nil j it = acts_stay j.number e past (ap (act_of j.number) none) ∙ (ap (λ (n : ℕ). acts n past) (sym (ap (λ (x : Job). x.number) it) ∙ is) ∙ nil)
+    new_nil j it = acts_stay j.number e past (ap (act_of j.number) none)
+        ∙ (ap (λ (n : ℕ). acts n past) (sym (ap (λ (x : Job). x.number) it) ∙ is) ∙ nil)
 
     old_by_case : (j : Job) → is_running plan (e ∷ past) j ≡ true → Contains (jobs past) j ⊎ (new ≡ j) → Contains (jobs past) j
     old_by_case j runs (inl h) = h
     old_by_case j runs (inr it) = absurd (omega (arith, (runs_says plan j (acts j.number (e ∷ past)) runs).begun, ap length (new_nil j it)))
 
-pub flash-submit : (plan : DiePlan) (past : Log) (caller task release due : ℕ) (ops : List Op) (f : FlashState) → IsExact plan past → IsFlashOf plan past f
-    → IsFlashOf plan (entry caller (events.Submit task release due ops) (replies.Taken (length (jobs past))) ∷ past) (record f { tokens = admitted f.tokens task (writes ops) })
+pub flash-submit : (plan : DiePlan) (past : Log) (caller task release due : ℕ) (ops : List Op) (f : FlashState) → IsExact plan past
+    → IsFlashOf plan past f
+    → IsFlashOf plan (entry caller (events.Submit task release due ops) (replies.Taken (length (jobs past))) ∷ past)
+    (record f { tokens = admitted f.tokens task (writes ops) })
 flash-submit plan past caller task release due ops f exact h = record {
   accounts_are = ap (λ a. admitted a task (writes ops)) h.accounts_are;
   pages_are = h.pages_are;
   places_are = h.places_are;
   blocks_are = h.blocks_are;
-  running_are = running_taken plan (entry caller (events.Submit task release due ops) (replies.Taken (length (jobs past)))) past _ f.running refl refl refl (no_acts plan past exact) h.running_are;
+  running_are = running_taken plan (entry caller (events.Submit task release due ops) (replies.Taken (length (jobs past)))) past _ f.running
+      refl refl refl (no_acts plan past exact) h.running_are;
 }
 
 pub flash-collect : (plan : DiePlan) (past : Log) (caller task release due : ℕ) (f : FlashState) → IsExact plan past → IsFlashOf plan past f
@@ -79,45 +91,74 @@ flash-collect plan past caller task release due f exact h = record {
   pages_are = h.pages_are;
   places_are = h.places_are;
   blocks_are = h.blocks_are;
-  running_are = running_taken plan (entry caller (events.Collect task release due) (replies.Taken (length (jobs past)))) past _ f.running refl refl refl (no_acts plan past exact) h.running_are;
+  running_are = running_taken plan (entry caller (events.Collect task release due) (replies.Taken (length (jobs past)))) past _ f.running
+      refl refl refl (no_acts plan past exact) h.running_are;
 }
 
 -- Slots
 
 pub unwaived_flash : (plan : DiePlan) (past : Log) (f : FlashState) → IsFlashOf plan past f → IsWaivedFlash plan past [] f
-unwaived_flash plan past f h = record { accounts_are = h.accounts_are; pages_are = h.pages_are; places_are = h.places_are; blocks_are = h.blocks_are }
+unwaived_flash plan past f h = record {
+  accounts_are = h.accounts_are;
+  pages_are = h.pages_are;
+  places_are = h.places_are;
+  blocks_are =
+      h.blocks_are;
+}
 
-pub flash-idle : (plan : DiePlan) (past : Log) (caller slot : ℕ) (ws : List Waived) (f : FlashState) → IsWaivedFlash plan past ws f → AreRunning plan past f.running
+pub flash-idle : (plan : DiePlan) (past : Log) (caller slot : ℕ) (ws : List Waived) (f : FlashState) → IsWaivedFlash plan past ws f
+    → AreRunning plan past f.running
     → IsFlashOf plan (entry caller events.Slot (replies.Slot (record { slot = slot; waived = ws; ran = None; finished = None })) ∷ past) f
 flash-idle plan past caller slot ws f h r = record {
   accounts_are = h.accounts_are;
   pages_are = h.pages_are;
   places_are = h.places_are;
   blocks_are = h.blocks_are;
-  running_are = running_quiet plan (entry caller events.Slot (replies.Slot (record { slot = slot; waived = ws; ran = None; finished = None }))) past f.running refl (λ j h. h) (λ j h runs. h) r;
+  running_are = running_quiet plan (entry caller events.Slot
+      (replies.Slot (record { slot = slot; waived = ws; ran = None; finished = None }))) past f.running refl (λ j h. h) (λ j h runs. h) r;
 }
 
 abbrev pub slot_entry : ℕ → ℕ → List Waived → ℕ → Act → Option ℕ → Entry
-slot_entry caller slot ws number act finished = entry caller events.Slot (replies.Slot (record { slot = slot; waived = ws; ran = Some (number, act); finished = finished }))
+slot_entry caller slot ws number act finished = entry caller events.Slot
+    (replies.Slot (record { slot = slot; waived = ws; ran = Some (number, act); finished = finished }))
 
 abbrev pub slot_with : ℕ → ℕ → List Waived → ℕ → Act → Option ℕ → Log → Log
 slot_with caller slot ws number act finished past = slot_entry caller slot ws number act finished ∷ past
 
-pub flash-read : (plan : DiePlan) (past : Log) (caller slot : ℕ) (ws : List Waived) (j : Job) (page : ℕ) (bytes : PageData) (finished : Option ℕ) (f : FlashState)
-    → job_at past j.number ≡ Some j → IsWaivedFlash plan past ws f → AreRunning plan (slot_with caller slot ws j.number (does.Read page bytes) finished past) f.running
+pub flash-read : (plan : DiePlan) (past : Log) (caller slot : ℕ) (ws : List Waived) (j : Job) (page : ℕ) (bytes : PageData)
+    (finished : Option ℕ) (f : FlashState)
+    → job_at past j.number ≡ Some j → IsWaivedFlash plan past ws f
+    → AreRunning plan (slot_with caller slot ws j.number (does.Read page bytes) finished past) f.running
     → IsFlashOf plan (slot_with caller slot ws j.number (does.Read page bytes) finished past) f
 flash-read plan past caller slot ws j page bytes finished f at h r =
-    record { accounts_are = rw at h.accounts_are; pages_are = h.pages_are; places_are = h.places_are; blocks_are = h.blocks_are; running_are = r }
+    record {
+      accounts_are = rw at h.accounts_are;
+      pages_are = h.pages_are;
+      places_are = h.places_are;
+      blocks_are = h.blocks_are;
+      running_are
+          = r;
+    }
 
 -- a copy's read
-pub flash-copy_read : (plan : DiePlan) (past : Log) (caller slot : ℕ) (ws : List Waived) (j : Job) (page : ℕ) (finished : Option ℕ) (f : FlashState) (running : List (Option Collection))
-    → job_at past j.number ≡ Some j → IsWaivedFlash plan past ws f → AreRunning plan (slot_with caller slot ws j.number (does.CopyRead page) finished past) running
+pub flash-copy_read : (plan : DiePlan) (past : Log) (caller slot : ℕ) (ws : List Waived) (j : Job) (page : ℕ) (finished : Option ℕ)
+    (f : FlashState) (running : List (Option Collection))
+    → job_at past j.number ≡ Some j → IsWaivedFlash plan past ws f
+    → AreRunning plan (slot_with caller slot ws j.number (does.CopyRead page) finished past) running
     → IsFlashOf plan (slot_with caller slot ws j.number (does.CopyRead page) finished past) (record f { running = running })
 flash-copy_read plan past caller slot ws j page finished f running at h r =
-    record { accounts_are = rw at h.accounts_are; pages_are = h.pages_are; places_are = h.places_are; blocks_are = h.blocks_are; running_are = r }
+    record {
+      accounts_are = rw at h.accounts_are;
+      pages_are = h.pages_are;
+      places_are = h.places_are;
+      blocks_are = h.blocks_are;
+      running_are
+          = r;
+    }
 
 -- a block of the device, as the log counts it
-pub counted : (blocks : List device.Block) (b : ℕ) → counts_of (device.block_at blocks b) ≡ slice_index_or (map counts_of blocks) b free_block
+pub counted : (blocks : List device.Block) (b : ℕ) → counts_of (device.block_at blocks b)
+    ≡ slice_index_or (map counts_of blocks) b free_block
 counted blocks b = sym (by_get blocks b)
   where
     by_get : (bs : List device.Block) (k : ℕ) → get_or (map counts_of bs) k free_block ≡ counts_of (slice_index_or bs k device.free_block)
@@ -129,9 +170,12 @@ programmed_counts : (blocks : List device.Block) (b : ℕ) (bytes : PageData) (c
     → map counts_of (device.programmed blocks b bytes) ≡ slice_set c.blocks b (record (block_at c b) { filled = (block_at c b).filled + 1 })
 programmed_counts blocks b bytes c is =
     map-set counts_of blocks b _
-    ∙ (ap (λ n. slice_set (map counts_of blocks) b (record { filled = n; erasing = (device.block_at blocks b).erasing; erases = (device.block_at blocks b).erases })) (length_push (device.block_at blocks b).pages bytes)
+    ∙ (ap (λ n. slice_set (map counts_of blocks) b (record
+    { filled = n; erasing = (device.block_at blocks b).erasing; erases = (device.block_at blocks b).erases }))
+    (length_push (device.block_at blocks b).pages bytes)
     ∙ (ap (λ (s : Block). slice_set (map counts_of blocks) b (record s { filled = s.filled + 1 })) (counted blocks b)
-    ∙ ap (λ (bs : List Block). slice_set bs b (record (slice_index_or bs b free_block) { filled = (slice_index_or bs b free_block).filled + 1 })) is))
+    ∙ ap (λ (bs : List Block). slice_set bs b (record (slice_index_or bs b free_block)
+    { filled = (slice_index_or bs b free_block).filled + 1 })) is))
 
 -- a program of the open block of the log
 abbrev pub state_programmed : FlashState → Accounts → List PageData → ℕ → ℕ → PageData → List (Option Collection) → FlashState
@@ -144,27 +188,35 @@ state_programmed f tokens pages page b bytes running = record {
 }
 
 place_is : (plan : DiePlan) (past : Log) (page b : ℕ) (f : FlashState) → map counts_of f.blocks ≡ (cells plan past).blocks
-    → slice_set f.places page (Some (record { block = b; page = length (device.block_at f.blocks b).pages })) ≡ slice_set f.places page (Some (record { block = b; page = (block_at (cells plan past) b).filled }))
+    → slice_set f.places page (Some (record { block = b; page = length (device.block_at f.blocks b).pages }))
+    ≡ slice_set f.places page (Some (record { block = b; page = (block_at (cells plan past) b).filled }))
 place_is plan past page b f is =
     ap (λ (n : ℕ). slice_set f.places page (Some (record { block = b; page = n })))
     (ap (λ (s : Block). s.filled) (counted f.blocks b) ∙ ap (λ (bs : List Block). (slice_index_or bs b free_block).filled) is)
 
 -- a write
-pub flash-write : (plan : DiePlan) (past : Log) (caller slot : ℕ) (ws : List Waived) (j : Job) (page : ℕ) (bytes : PageData) (finished : Option ℕ) (f : FlashState) (b : ℕ)
-    → job_at past j.number ≡ Some j → open_block plan (cells plan past) ≡ Some b → IsWaivedFlash plan past ws f → AreRunning plan (slot_with caller slot ws j.number (does.Write page bytes) finished past) f.running
-    → IsFlashOf plan (slot_with caller slot ws j.number (does.Write page bytes) finished past) (state_programmed f (hold_spent f.tokens j.task) (slice_set f.pages page bytes) page b bytes f.running)
+pub flash-write : (plan : DiePlan) (past : Log) (caller slot : ℕ) (ws : List Waived) (j : Job) (page : ℕ) (bytes : PageData)
+    (finished : Option ℕ) (f : FlashState) (b : ℕ)
+    → job_at past j.number ≡ Some j → open_block plan (cells plan past) ≡ Some b → IsWaivedFlash plan past ws f
+    → AreRunning plan (slot_with caller slot ws j.number (does.Write page bytes) finished past) f.running
+    → IsFlashOf plan (slot_with caller slot ws j.number (does.Write page bytes) finished past)
+    (state_programmed f (hold_spent f.tokens j.task) (slice_set f.pages page bytes) page b bytes f.running)
 flash-write plan past caller slot ws j page bytes finished f b at opens h r = record {
   accounts_are = rw at (ap (λ a. hold_spent a j.task) h.accounts_are);
   pages_are = ap (λ ps. slice_set ps page bytes) h.pages_are;
-  places_are = rw opens (place_is plan past page b f h.blocks_are ∙ ap (λ ps. slice_set ps page (Some (record { block = b; page = (block_at (cells plan past) b).filled }))) h.places_are);
+  places_are = rw opens (place_is plan past page b f h.blocks_are
+      ∙ ap (λ ps. slice_set ps page (Some (record { block = b; page = (block_at (cells plan past) b).filled }))) h.places_are);
   blocks_are = rw opens (programmed_counts f.blocks b bytes (cells plan past) h.blocks_are);
   running_are = r;
 }
 
 -- a trim
-pub flash-trim : (plan : DiePlan) (past : Log) (caller slot : ℕ) (ws : List Waived) (j : Job) (page : ℕ) (finished : Option ℕ) (f : FlashState)
-    → job_at past j.number ≡ Some j → IsWaivedFlash plan past ws f → AreRunning plan (slot_with caller slot ws j.number (does.Trim page) finished past) f.running
-    → IsFlashOf plan (slot_with caller slot ws j.number (does.Trim page) finished past) (record f { pages = slice_set f.pages page device.blank; places = slice_set f.places page None })
+pub flash-trim : (plan : DiePlan) (past : Log) (caller slot : ℕ) (ws : List Waived) (j : Job) (page : ℕ) (finished : Option ℕ)
+    (f : FlashState)
+    → job_at past j.number ≡ Some j → IsWaivedFlash plan past ws f
+    → AreRunning plan (slot_with caller slot ws j.number (does.Trim page) finished past) f.running
+    → IsFlashOf plan (slot_with caller slot ws j.number (does.Trim page) finished past)
+    (record f { pages = slice_set f.pages page device.blank; places = slice_set f.places page None })
 flash-trim plan past caller slot ws j page finished f at h r = record {
   accounts_are = rw at h.accounts_are;
   pages_are = ap (λ ps. slice_set ps page device.blank) h.pages_are;
@@ -174,19 +226,24 @@ flash-trim plan past caller slot ws j page finished f at h r = record {
 }
 
 -- a copy's program
-pub flash-copy : (plan : DiePlan) (past : Log) (caller slot : ℕ) (ws : List Waived) (j : Job) (page : ℕ) (bytes : PageData) (finished : Option ℕ) (f : FlashState) (running : List (Option Collection)) (b : ℕ)
-    → job_at past j.number ≡ Some j → open_block plan (cells plan past) ≡ Some b → IsWaivedFlash plan past ws f → AreRunning plan (slot_with caller slot ws j.number (does.CopyProgram page) finished past) running
-    → IsFlashOf plan (slot_with caller slot ws j.number (does.CopyProgram page) finished past) (state_programmed f (reserve_spent f.tokens j.task) f.pages page b bytes running)
+pub flash-copy : (plan : DiePlan) (past : Log) (caller slot : ℕ) (ws : List Waived) (j : Job) (page : ℕ) (bytes : PageData)
+    (finished : Option ℕ) (f : FlashState) (running : List (Option Collection)) (b : ℕ)
+    → job_at past j.number ≡ Some j → open_block plan (cells plan past) ≡ Some b → IsWaivedFlash plan past ws f
+    → AreRunning plan (slot_with caller slot ws j.number (does.CopyProgram page) finished past) running
+    → IsFlashOf plan (slot_with caller slot ws j.number (does.CopyProgram page) finished past)
+    (state_programmed f (reserve_spent f.tokens j.task) f.pages page b bytes running)
 flash-copy plan past caller slot ws j page bytes finished f running b at opens h r = record {
   accounts_are = rw at (ap (λ a. reserve_spent a j.task) h.accounts_are);
   pages_are = h.pages_are;
-  places_are = rw opens (place_is plan past page b f h.blocks_are ∙ ap (λ ps. slice_set ps page (Some (record { block = b; page = (block_at (cells plan past) b).filled }))) h.places_are);
+  places_are = rw opens (place_is plan past page b f h.blocks_are
+      ∙ ap (λ ps. slice_set ps page (Some (record { block = b; page = (block_at (cells plan past) b).filled }))) h.places_are);
   blocks_are = rw opens (programmed_counts f.blocks b bytes (cells plan past) h.blocks_are);
   running_are = r;
 }
 
 -- a slot of an erase
-erased_counts : (slots : ℕ) (blocks : List device.Block) (b : ℕ) (plan : DiePlan) (c : Cells) → slots ≡ plan.shape.erase_slots → map counts_of blocks ≡ c.blocks
+erased_counts : (slots : ℕ) (blocks : List device.Block) (b : ℕ) (plan : DiePlan) (c : Cells) → slots ≡ plan.shape.erase_slots
+    → map counts_of blocks ≡ c.blocks
     → map counts_of (device.erased blocks slots b) ≡ slice_set c.blocks b (erased_once plan (block_at c b))
 erased_counts slots blocks b plan c slots_are is =
     map-set counts_of blocks b _
@@ -195,17 +252,28 @@ erased_counts slots blocks b plan c slots_are is =
     ∙ ap (λ (bs : List Block). slice_set bs b (erased_once plan (slice_index_or bs b free_block))) is))
   where
     by_test : (t : Bool) (s : device.Block)
-        → counts_of (cond t (record { pages = []; erasing = 0; erases = s.erases + 1 }) (record s { erasing = s.erasing + 1 })) ≡ cond t (record { filled = 0; erasing = 0; erases = s.erases + 1 }) (record (counts_of s) { erasing = s.erasing + 1 })
+        → counts_of (cond t (record { pages = []; erasing = 0; erases = s.erases + 1 }) (record s { erasing = s.erasing + 1 }))
+        ≡ cond t (record { filled = 0; erasing = 0; erases = s.erases + 1 }) (record (counts_of s) { erasing = s.erasing + 1 })
     by_test true s = refl
     by_test false s = refl
 
     once : (s : device.Block) (n : ℕ) → s.erasing ≡ n → counts_of (device.erased_once slots s) ≡ erased_once plan (counts_of s)
-    once s n e = by_test (s.erasing + 1 == slots) s ∙ ap (λ (t : ℕ). cond (s.erasing + 1 == t) (record { filled = 0; erasing = 0; erases = s.erases + 1 }) (record (counts_of s) { erasing = s.erasing + 1 })) slots_are
+    once s n e = by_test (s.erasing + 1 == slots) s ∙ ap
+        (λ (t : ℕ). cond (s.erasing + 1 == t) (record { filled = 0; erasing = 0; erases = s.erases + 1 })
+        (record (counts_of s) { erasing = s.erasing + 1 })) slots_are
 
 abbrev pub state_erased : FlashState → Accounts → ℕ → List (Option Collection) → FlashState
-state_erased f tokens b running = record { tokens = tokens; pages = f.pages; places = f.places; blocks = device.erased f.blocks f.tokens.plan.shape.erase_slots b; running = running }
+state_erased f tokens b running = record {
+  tokens = tokens;
+  pages = f.pages;
+  places = f.places;
+  blocks = device.erased f.blocks
+      f.tokens.plan.shape.erase_slots b;
+  running = running;
+}
 
-pub flash-erase : (plan : DiePlan) (past : Log) (caller slot : ℕ) (ws : List Waived) (j : Job) (b : ℕ) (finished : Option ℕ) (f : FlashState) (tokens : Accounts) (running : List (Option Collection))
+pub flash-erase : (plan : DiePlan) (past : Log) (caller slot : ℕ) (ws : List Waived) (j : Job) (b : ℕ) (finished : Option ℕ)
+    (f : FlashState) (tokens : Accounts) (running : List (Option Collection))
     → job_at past j.number ≡ Some j → f.tokens.plan ≡ plan → IsWaivedFlash plan past ws f
     → tokens ≡ after_act plan (Some j) (acts j.number past) (does.Erase b) (after_waivers past ws (accounts plan past))
     → AreRunning plan (slot_with caller slot ws j.number (does.Erase b) finished past) running
@@ -214,10 +282,12 @@ flash-erase plan past caller slot ws j b finished f tokens running at plan_is h 
   accounts_are = rw at tokens_are;
   pages_are = h.pages_are;
   places_are = h.places_are;
-  blocks_are = erased_counts f.tokens.plan.shape.erase_slots f.blocks b plan (cells plan past) (ap (λ (p : DiePlan). p.shape.erase_slots) plan_is) h.blocks_are;
+  blocks_are = erased_counts f.tokens.plan.shape.erase_slots f.blocks b plan (cells plan past)
+      (ap (λ (p : DiePlan). p.shape.erase_slots) plan_is) h.blocks_are;
   running_are = r;
 }
 
 -- what a read gives is the page's content
-pub content_is : (plan : DiePlan) (past : Log) (pages : List PageData) (page : ℕ) → pages ≡ contents plan past → slice_index_or pages page device.blank ≡ content plan past page
+pub content_is : (plan : DiePlan) (past : Log) (pages : List PageData) (page : ℕ) → pages ≡ contents plan past
+    → slice_index_or pages page device.blank ≡ content plan past page
 content_is plan past pages page is = ap (λ (ps : List PageData). slice_index_or ps page device.blank) is

@@ -1,5 +1,6 @@
 -- The head of a table is the least of those that are ready in its log.
-use Rattle.std.proofs.Common.{◌≡◌, ℕ, zero, suc, ◌<◌, ◌==◌, ◌||◌, ◌&&◌, not, nat_le, Bool, true, false, cond, List, [], ◌∷◌, ◌++◌, Option, Some, None, refl, ap, sym, ◌∙◌, subst, length, map, filter, slice_get, arith}
+use Rattle.std.proofs.Common.{◌≡◌, ℕ, zero, suc, ◌<◌, ◌==◌, ◌||◌, ◌&&◌, not, nat_le, Bool, true, false, cond, List, [], ◌∷◌, ◌++◌, Option}
+use Rattle.std.proofs.Common.{Some, None, refl, ap, sym, ◌∙◌, subst, length, map, filter, slice_get, arith}
 use Rattle.std.specs.Prelude.{Contains}
 use Rattle.std.specs.List.{AllByRecursion}
 use Rattle.std.proofs.lemmas.Bool.{true≢false}
@@ -28,14 +29,16 @@ use Rattle.slot_core.proofs.Choosing.{filter_twice}
 pub slice_get-map : {X Y : Type 0} (f : X → Y) (xs : List X) (n : ℕ) (x : X) → slice_get xs n ≡ Some x → slice_get (map f xs) n ≡ Some (f x)
 slice_get-map f xs n x at =
     let lt : n < length xs = slice_get_within xs n x at in
-    slice_get-get_or (map f xs) n (f x) (omega (arith, length-map xs f)) ∙ ap Some (get_or-map f xs n x (f x) lt ∙ ap f (get_or_from_slice_get xs n x x at))
+    slice_get-get_or (map f xs) n (f x) (omega (arith, length-map xs f))
+    ∙ ap Some (get_or-map f xs n x (f x) lt ∙ ap f (get_or_from_slice_get xs n x x at))
 
 nothing_within : {X : Type 0} (zs : List X) (k : ℕ) → slice_get zs k ≡ None → k < length zs → ⊥
 nothing_within [] k h lt = omega arith
 nothing_within (z ∷ zs) zero h lt = none-some z (sym h)
 nothing_within (z ∷ zs) (suc k) h lt = nothing_within zs k h (omega arith)
 
-pub slice_get-mapped : {X Y : Type 0} (f : X → Y) (xs : List X) (n : ℕ) (y : Y) → slice_get (map f xs) n ≡ Some y → (x : X) × (slice_get xs n ≡ Some x) × (f x ≡ y)
+pub slice_get-mapped : {X Y : Type 0} (f : X → Y) (xs : List X) (n : ℕ) (y : Y) → slice_get (map f xs) n ≡ Some y → (x : X)
+    × (slice_get xs n ≡ Some x) × (f x ≡ y)
 slice_get-mapped {X = X} {Y = Y} f xs n y at = by_found (slice_get xs n) refl
   where
     by_found : (o : Option X) → slice_get xs n ≡ o → (x : X) × (slice_get xs n ≡ Some x) × (f x ≡ y)
@@ -52,7 +55,8 @@ pub waiver_is : (n : ℕ) (ws : List Waived) → is_some_waiver (waiver_among n 
 waiver_is n [] = refl
 waiver_is n (w ∷ ws) = by_case (w.number == n) (waiver_is n ws)
   where
-    by_case : (b : Bool) → is_some_waiver (waiver_among n ws) ≡ is_among n ws → is_some_waiver (cond b (Some w) (waiver_among n ws)) ≡ (b || is_among n ws)
+    by_case : (b : Bool) → is_some_waiver (waiver_among n ws) ≡ is_among n ws → is_some_waiver (cond b (Some w) (waiver_among n ws))
+        ≡ (b || is_among n ws)
     by_case true h = refl
     by_case false h = h
 
@@ -63,7 +67,8 @@ pending_by None true c g = refl
 pending_by None false c g = refl
 
 -- a record is pending where the job is neither done nor among the waived
-pub pending_is : (plan : DiePlan) (past : Log) (ws : List Waived) (j : Job) → is_pending (record_with plan past ws j).stage ≡ (not (is_done plan past j) && not (is_among j.number ws))
+pub pending_is : (plan : DiePlan) (past : Log) (ws : List Waived) (j : Job) → is_pending (record_with plan past ws j).stage
+    ≡ (not (is_done plan past j) && not (is_among j.number ws))
 pending_is plan past ws j =
     pending_by (waiver_among j.number ws) (is_done plan past j) (completion j.number past) (given plan j.number past)
     ∙ ap (λ b. not (is_done plan past j) && not b) (waiver_is j.number ws)
@@ -72,7 +77,8 @@ pub among_both : (n : ℕ) (xs ys : List Waived) → is_among n (xs ++ ys) ≡ (
 among_both n [] ys = refl
 among_both n (x ∷ xs) ys = by_case (x.number == n) (among_both n xs ys)
   where
-    by_case : (b : Bool) → is_among n (xs ++ ys) ≡ (is_among n xs || is_among n ys) → (b || is_among n (xs ++ ys)) ≡ ((b || is_among n xs) || is_among n ys)
+    by_case : (b : Bool) → is_among n (xs ++ ys) ≡ (is_among n xs || is_among n ys) → (b || is_among n (xs ++ ys))
+        ≡ ((b || is_among n xs) || is_among n ys)
     by_case true h = refl
     by_case false h = h
 
@@ -92,9 +98,11 @@ tests_join true false false false = refl
 tests_join false b c d = refl
 
 -- a record is ready where its job is ready and stays
-pub ready_is : (plan : DiePlan) (past : Log) (ws : List Waived) (j : Job) → table.is_ready (now past) (record_with plan past (waived past ++ ws) j) ≡ stays plan past ws j
+pub ready_is : (plan : DiePlan) (past : Log) (ws : List Waived) (j : Job)
+    → table.is_ready (now past) (record_with plan past (waived past ++ ws) j) ≡ stays plan past ws j
 ready_is plan past ws j =
-    ap (λ b. nat_le j.release (now past) && b) (pending_is plan past (waived past ++ ws) j ∙ ap (λ b. not (is_done plan past j) && not b) (among_both j.number (waived past) ws))
+    ap (λ b. nat_le j.release (now past) && b) (pending_is plan past (waived past ++ ws) j
+    ∙ ap (λ b. not (is_done plan past j) && not b) (among_both j.number (waived past) ws))
     ∙ tests_join (nat_le j.release (now past)) (is_done plan past j) (is_waived past j.number) (is_among j.number ws)
 
 pub unwaived_is : (plan : DiePlan) (past : Log) (ws : List Waived) → unwaived ws (ready plan past) ≡ filter (stays plan past ws) (jobs past)
@@ -103,7 +111,8 @@ unwaived_is plan past ws = filter_twice (is_ready plan past) (λ i. not (is_amon
 -- The least
 
 -- what holds of all that are kept holds of one that passes
-of_kept : (Q : Job → Type 0) (t : Job → Bool) (js : List Job) (n : ℕ) (j : Job) → slice_get js n ≡ Some j → t j ≡ true → AllByRecursion Q (filter t js) → Q j
+of_kept : (Q : Job → Type 0) (t : Job → Bool) (js : List Job) (n : ℕ) (j : Job) → slice_get js n ≡ Some j → t j ≡ true
+    → AllByRecursion Q (filter t js) → Q j
 of_kept Q t [] n j at passes h = absurd (none-some j at)
 of_kept Q t (x ∷ js) zero j at passes h = by_head (t x) refl h
   where
@@ -127,12 +136,20 @@ least_none [] e = tt
 least_none (x ∷ xs) e = absurd cc
 
 abbrev pub table_at : ℕ → Bool → DiePlan → Log → List Waived → Table
-table_at tasks ended plan past ws = record { tasks = tasks; clock = now past; ended = ended; jobs = map (record_with plan past (waived past ++ ws)) (jobs past) }
+table_at tasks ended plan past ws = record {
+  tasks = tasks;
+  clock = now past;
+  ended = ended;
+  jobs = map
+      (record_with plan past (waived past ++ ws)) (jobs past);
+}
 
 -- the head of the table is the least of those that stay
-pub head_least : (plan : DiePlan) (past : Log) (ws : List Waived) (tasks n : ℕ) (ended : Bool) (j : Job) → AreNumbered 0 (jobs past) → slice_get (jobs past) n ≡ Some j
+pub head_least : (plan : DiePlan) (past : Log) (ws : List Waived) (tasks n : ℕ) (ended : Bool) (j : Job) → AreNumbered 0 (jobs past)
+    → slice_get (jobs past) n ≡ Some j
     → table.IsHead (table_at tasks ended plan past ws) n → least (unwaived ws (ready plan past)) ≡ Some j
-head_least plan past ws tasks n ended j numbered at h = rw (unwaived_is plan past ws) (by_least (least (filter (stays plan past ws) (jobs past))) refl)
+head_least plan past ws tasks n ended j numbered at h = rw (unwaived_is plan past ws)
+    (by_least (least (filter (stays plan past ws) (jobs past))) refl)
   where
     t : Job → Bool
     t = stays plan past ws
@@ -147,19 +164,23 @@ head_least plan past ws tasks n ended j numbered at h = rw (unwaived_is plan pas
     number_is = omega (arith, number_at 0 (jobs past) n j numbered at)
 
     by_least : (o : Option Job) → least (filter (stays plan past ws) (jobs past)) ≡ o → o ≡ Some j
-    by_least None e = absurd (of_kept (λ (i : Job). ⊥) (stays plan past ws) (jobs past) n j at passes (least_none (filter (stays plan past ws) (jobs past)) e))
+    by_least None e = absurd (of_kept (λ (i : Job). ⊥) (stays plan past ws) (jobs past) n j at passes
+        (least_none (filter (stays plan past ws) (jobs past)) e))
     by_least (Some m) e = ap Some (same_job (jobs past) m j numbered member.0 contained (same_key m j not_m not_j))
       where
         member : Contains (jobs past) m × (stays plan past ws m ≡ true)
         member = subst (OfSome (λ i. Contains (jobs past) i × (stays plan past ws i ≡ true))) e
-            (least_all (λ i. Contains (jobs past) i × (stays plan past ws i ≡ true)) (filter (stays plan past ws) (jobs past)) (kept_both (Contains (jobs past)) (stays plan past ws) (jobs past) (recursion_from_All (Contains (jobs past)) (jobs past) (All-contains_itself (jobs past)))))
+            (least_all (λ i. Contains (jobs past) i × (stays plan past ws i ≡ true)) (filter (stays plan past ws) (jobs past))
+            (kept_both (Contains (jobs past)) (stays plan past ws) (jobs past)
+            (recursion_from_All (Contains (jobs past)) (jobs past) (All-contains_itself (jobs past)))))
 
         contained : Contains (jobs past) j
         contained = (n, slice_get_within (jobs past) n j at, get_or_from_slice_get (jobs past) n j j at)
 
         not_j : goes_first j m ≡ false
         not_j = of_kept (λ i. goes_first i m ≡ false) (stays plan past ws) (jobs past) n j at passes
-            (subst (OfSome (λ k. AllByRecursion (λ i. goes_first i k ≡ false) (filter (stays plan past ws) (jobs past)))) e (none_before (filter (stays plan past ws) (jobs past))))
+            (subst (OfSome (λ k. AllByRecursion (λ i. goes_first i k ≡ false) (filter (stays plan past ws) (jobs past)))) e
+            (none_before (filter (stays plan past ws) (jobs past))))
 
         there : slice_get (jobs past) m.number ≡ Some m
         there = stands_at (jobs past) m numbered member.0
@@ -167,14 +188,18 @@ head_least plan past ws tasks n ended j numbered at h = rw (unwaived_is plan pas
         not_m : goes_first m j ≡ false
         not_m = subst (λ (k : ℕ). goes_first m (record j { number = k }) ≡ false) (sym number_is)
             (subst (λ (r : JobRecord). table.goes_before m.number (record_with plan past (waived past ++ ws) m) n r ≡ false) (sym head_is)
-            (h.first m.number (record_with plan past (waived past ++ ws) m) (slice_get-map (record_with plan past (waived past ++ ws)) (jobs past) m.number m there) (ready_is plan past ws m ∙ member.1)))
+            (h.first m.number (record_with plan past (waived past ++ ws) m)
+            (slice_get-map (record_with plan past (waived past ++ ws)) (jobs past) m.number m there) (ready_is plan past ws m
+            ∙ member.1)))
 
 none_kept : (t : Job → Bool) (js : List Job) → ((n : ℕ) (j : Job) → slice_get js n ≡ Some j → t j ≡ false) → filter t js ≡ []
 none_kept t [] h = refl
 none_kept t (x ∷ js) h = rw (h 0 x refl) (none_kept t js (λ n j e. h (suc n) j e))
 
 -- where no record is ready, nobody stays
-pub nothing_least : (plan : DiePlan) (past : Log) (ws : List Waived) (tasks : ℕ) (ended : Bool) → table.NothingReady (table_at tasks ended plan past ws) → least (unwaived ws (ready plan past)) ≡ None
+pub nothing_least : (plan : DiePlan) (past : Log) (ws : List Waived) (tasks : ℕ) (ended : Bool)
+    → table.NothingReady (table_at tasks ended plan past ws) → least (unwaived ws (ready plan past)) ≡ None
 nothing_least plan past ws tasks ended h =
     ap least (unwaived_is plan past ws
-    ∙ none_kept (stays plan past ws) (jobs past) (λ n j e. sym (ready_is plan past ws j) ∙ h n (record_with plan past (waived past ++ ws) j) (slice_get-map (record_with plan past (waived past ++ ws)) (jobs past) n j e)))
+    ∙ none_kept (stays plan past ws) (jobs past) (λ n j e. sym (ready_is plan past ws j)
+    ∙ h n (record_with plan past (waived past ++ ws) j) (slice_get-map (record_with plan past (waived past ++ ws)) (jobs past) n j e)))

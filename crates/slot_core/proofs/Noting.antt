@@ -1,5 +1,6 @@
 -- What a turn makes of the log that a die's jobs and events tell.
-use Rattle.std.proofs.Common.{◌≡◌, ℕ, ◌+◌, ◌==◌, subst, Bool, true, false, List, ◌∷◌, Some, refl, ap, sym, ◌∙◌, length, slice_get, take, count_by}
+use Rattle.std.proofs.Common.{◌≡◌, ℕ, ◌+◌, ◌==◌, subst, Bool, true, false, List, ◌∷◌, Some, refl, ap, sym, ◌∙◌, length, slice_get, take}
+use Rattle.std.proofs.Common.{count_by}
 use Rattle.slot_types.specs.declared.acts.Act.{Act}
 use Rattle.slot_types.specs.declared.acts.Act.TheVariants as does
 use Rattle.slot_types.specs.declared.events.Op.{Op}
@@ -49,8 +50,10 @@ turn_grew t n turn completion = by_last turn.last
     acted : Grew t.jobs (changed_at t.jobs n (λ job. after_read turn.act (jobs_table.carried job)))
     acted = grew_change t.jobs n (λ job. after_read turn.act (jobs_table.carried job)) (act_grown turn.act)
 
-    by_last : (b : Bool) → Grew t.jobs (finished b n completion turn.given (with_change t n (λ job. after_read turn.act (jobs_table.carried job)))).jobs
-    by_last true = grew_then _ _ _ acted (grew_change (changed_at t.jobs n (λ job. after_read turn.act (jobs_table.carried job))) n (with_stage (Done completion turn.given)) (stage_grown (Done completion turn.given)))
+    by_last : (b : Bool) → Grew t.jobs (finished b n completion turn.given
+        (with_change t n (λ job. after_read turn.act (jobs_table.carried job)))).jobs
+    by_last true = grew_then _ _ _ acted (grew_change (changed_at t.jobs n (λ job. after_read turn.act (jobs_table.carried job))) n
+        (with_stage (Done completion turn.given)) (stage_grown (Done completion turn.given)))
     by_last false = acted
 
 -- the head's record behind a turn has its operations, and its reads with what this one gave
@@ -60,7 +63,8 @@ pub record IsTurned (later : List JobRecord) (n : ℕ) (r : JobRecord) (act : Ac
   pub ops_are : moved.ops ≡ r.ops
   pub reads_are : moved.reads ≡ (after_read act r).reads
 
-turned_ops : (act : Act) (last : Bool) (completion given : ℕ) (r : JobRecord) → (turned (record { act = act; last = last; given = given }) completion r).ops ≡ r.ops
+turned_ops : (act : Act) (last : Bool) (completion given : ℕ) (r : JobRecord)
+    → (turned (record { act = act; last = last; given = given }) completion r).ops ≡ r.ops
 turned_ops (does.Read page bytes) true completion given r = refl
 turned_ops (does.Read page bytes) false completion given r = refl
 turned_ops (does.Write page bytes) true completion given r = refl
@@ -74,7 +78,8 @@ turned_ops (does.CopyProgram page) false completion given r = refl
 turned_ops (does.Erase block) true completion given r = refl
 turned_ops (does.Erase block) false completion given r = refl
 
-turned_reads : (act : Act) (last : Bool) (completion given : ℕ) (r : JobRecord) → (turned (record { act = act; last = last; given = given }) completion r).reads ≡ (after_read act r).reads
+turned_reads : (act : Act) (last : Bool) (completion given : ℕ) (r : JobRecord)
+    → (turned (record { act = act; last = last; given = given }) completion r).reads ≡ (after_read act r).reads
 turned_reads (does.Read page bytes) true completion given r = refl
 turned_reads (does.Read page bytes) false completion given r = refl
 turned_reads (does.Write page bytes) true completion given r = refl
@@ -88,7 +93,8 @@ turned_reads (does.CopyProgram page) false completion given r = refl
 turned_reads (does.Erase block) true completion given r = refl
 turned_reads (does.Erase block) false completion given r = refl
 
-turned_at : (t : Table) (n : ℕ) (turn : Turn) (completion : ℕ) (r : JobRecord) → slice_get t.jobs n ≡ Some r → IsTurned (after_turn t n turn completion).jobs n r turn.act
+turned_at : (t : Table) (n : ℕ) (turn : Turn) (completion : ℕ) (r : JobRecord) → slice_get t.jobs n ≡ Some r
+    → IsTurned (after_turn t n turn completion).jobs n r turn.act
 turned_at t n turn completion r at = record {
   moved = turned turn completion r;
   is_at = rw (turn_change t n turn completion, changed_here t.jobs n (turned turn completion), at) refl;
@@ -102,7 +108,8 @@ pub record Stands (later : List JobRecord) (n place : ℕ) (act : Act) : Type 0 
   pub act_is : act_at later n place ≡ act
   pub done : HasDone later n place
 
-read_stands : (later : List JobRecord) (n : ℕ) (r : JobRecord) (page : ℕ) (bytes : PageData) → IsTurned later n r (does.Read page bytes) → slice_get r.ops r.work ≡ Some (asks.Read page)
+read_stands : (later : List JobRecord) (n : ℕ) (r : JobRecord) (page : ℕ) (bytes : PageData) → IsTurned later n r (does.Read page bytes)
+    → slice_get r.ops r.work ≡ Some (asks.Read page)
     → length r.reads ≡ count_by is_read (take r.work r.ops) → Stands later n r.work (does.Read page bytes)
 read_stands later n r page bytes m next counted = record {
   act_is = rw (m.is_at, m.ops_are, next, m.reads_are, ← counted, get_here r.reads bytes) refl;
@@ -115,7 +122,8 @@ read_stands later n r page bytes m next counted = record {
   };
 }
 
-op_stands : (later : List JobRecord) (n : ℕ) (r : JobRecord) (f : FlashState) (op : Op) → IsTurned later n r (act_by f op) → slice_get r.ops r.work ≡ Some op → length r.reads ≡ count_by is_read (take r.work r.ops)
+op_stands : (later : List JobRecord) (n : ℕ) (r : JobRecord) (f : FlashState) (op : Op) → IsTurned later n r (act_by f op)
+    → slice_get r.ops r.work ≡ Some op → length r.reads ≡ count_by is_read (take r.work r.ops)
     → Stands later n r.work (act_by f op)
 op_stands later n r f (asks.Write page bytes) m next counted = record {
   act_is = rw (m.is_at, m.ops_are, next) refl;
@@ -130,51 +138,77 @@ op_stands later n r f (asks.Read page) m next counted = read_stands later n r pa
 -- What is noted of it
 
 -- the events with one more tell the log with this turn, and fit
-pub record Noted (later : List JobRecord) (notes : List Note) (log : Log) (caller present : ℕ) (ws : List Waived) (n place : ℕ) (turn : Turn) : Type 0 where
-  pub tells : entries_of later (record { caller = caller; deed = deed_by n place turn.last turn.act; waived = ws } ∷ notes) ≡ with_entry caller events.Slot (replies.Slot (turn_reply present ws n turn)) log
+pub record Noted (later : List JobRecord) (notes : List Note) (log : Log) (caller present : ℕ) (ws : List Waived) (n place : ℕ)
+    (turn : Turn) : Type 0 where
+  pub tells : entries_of later (record { caller = caller; deed = deed_by n place turn.last turn.act; waived = ws } ∷ notes)
+      ≡ with_entry caller events.Slot (replies.Slot (turn_reply present ws n turn)) log
   pub fits : Fits later (deed_by n place turn.last turn.act)
 
-op_noted : (later : List JobRecord) (notes : List Note) (log : Log) (caller present : ℕ) (ws : List Waived) (n place given : ℕ) (f : FlashState) (op : Op) (last : Bool) → Stands later n place (act_by f op)
-    → entries_of later notes ≡ log → slots_in notes ≡ present → Noted later notes log caller present ws n place (record { act = act_by f op; last = last; given = given })
-op_noted later notes log caller present ws n place given f (asks.Read page) true st told slot = record { tells = rw (st.act_is, told, slot) refl; fits = st.done }
-op_noted later notes log caller present ws n place given f (asks.Read page) false st told slot = record { tells = rw (st.act_is, told, slot) refl; fits = st.done }
-op_noted later notes log caller present ws n place given f (asks.Write page bytes) true st told slot = record { tells = rw (st.act_is, told, slot) refl; fits = st.done }
-op_noted later notes log caller present ws n place given f (asks.Write page bytes) false st told slot = record { tells = rw (st.act_is, told, slot) refl; fits = st.done }
-op_noted later notes log caller present ws n place given f (asks.Trim page) true st told slot = record { tells = rw (st.act_is, told, slot) refl; fits = st.done }
-op_noted later notes log caller present ws n place given f (asks.Trim page) false st told slot = record { tells = rw (st.act_is, told, slot) refl; fits = st.done }
+op_noted : (later : List JobRecord) (notes : List Note) (log : Log) (caller present : ℕ) (ws : List Waived) (n place given : ℕ)
+    (f : FlashState) (op : Op) (last : Bool) → Stands later n place (act_by f op)
+    → entries_of later notes ≡ log → slots_in notes ≡ present
+    → Noted later notes log caller present ws n place (record { act = act_by f op; last = last; given = given })
+op_noted later notes log caller present ws n place given f (asks.Read page) true st told slot = record
+    { tells = rw (st.act_is, told, slot) refl; fits = st.done }
+op_noted later notes log caller present ws n place given f (asks.Read page) false st told slot = record
+    { tells = rw (st.act_is, told, slot) refl; fits = st.done }
+op_noted later notes log caller present ws n place given f (asks.Write page bytes) true st told slot = record
+    { tells = rw (st.act_is, told, slot) refl; fits = st.done }
+op_noted later notes log caller present ws n place given f (asks.Write page bytes) false st told slot = record
+    { tells = rw (st.act_is, told, slot) refl; fits = st.done }
+op_noted later notes log caller present ws n place given f (asks.Trim page) true st told slot = record
+    { tells = rw (st.act_is, told, slot) refl; fits = st.done }
+op_noted later notes log caller present ws n place given f (asks.Trim page) false st told slot = record
+    { tells = rw (st.act_is, told, slot) refl; fits = st.done }
 
-did_noted : (later : List JobRecord) (notes : List Note) (log : Log) (caller present : ℕ) (ws : List Waived) (n place : ℕ) (did : Collected) → entries_of later notes ≡ log → slots_in notes ≡ present
+did_noted : (later : List JobRecord) (notes : List Note) (log : Log) (caller present : ℕ) (ws : List Waived) (n place : ℕ) (did : Collected)
+    → entries_of later notes ≡ log → slots_in notes ≡ present
     → Noted later notes log caller present ws n place (turn_by did)
 did_noted later notes log caller present ws n place (acts_of.CopyRead page) told slot = record { tells = rw (told, slot) refl; fits = tt }
-did_noted later notes log caller present ws n place (acts_of.CopyProgram page) told slot = record { tells = rw (told, slot) refl; fits = tt }
+did_noted later notes log caller present ws n place (acts_of.CopyProgram page) told slot = record
+    { tells = rw (told, slot) refl; fits = tt }
 did_noted later notes log caller present ws n place (acts_of.EraseSlot block) told slot = record { tells = rw (told, slot) refl; fits = tt }
-did_noted later notes log caller present ws n place (acts_of.Finished block given) told slot = record { tells = rw (told, slot) refl; fits = tt }
+did_noted later notes log caller present ws n place (acts_of.Finished block given) told slot = record
+    { tells = rw (told, slot) refl; fits = tt }
 
-turn_noted : {N : Type 0} (blocks_of : N → List device.Block) (later : List JobRecord) (notes : List Note) (log : Log) (caller present : ℕ) (ws : List Waived) (n : ℕ) (r : JobRecord) (v w : State N) (turn : Turn)
-    → IsTurned later n r turn.act → DidTurn blocks_of v r turn w → length r.reads ≡ count_by is_read (take r.work r.ops) → entries_of later notes ≡ log → slots_in notes ≡ present → Noted later notes log caller present ws n r.work turn
+turn_noted : {N : Type 0} (blocks_of : N → List device.Block) (later : List JobRecord) (notes : List Note) (log : Log) (caller present : ℕ)
+    (ws : List Waived) (n : ℕ) (r : JobRecord) (v w : State N) (turn : Turn)
+    → IsTurned later n r turn.act → DidTurn blocks_of v r turn w → length r.reads ≡ count_by is_read (take r.work r.ops)
+    → entries_of later notes ≡ log → slots_in notes ≡ present → Noted later notes log caller present ws n r.work turn
 turn_noted blocks_of later notes log caller present ws n r v w turn m did counted told slot = by_kind r.collects did
   where
     by_kind : (b : Bool) → DidBy blocks_of v r b turn w → Noted later notes log caller present ws n r.work turn
     by_kind false d =
         let moved = subst (λ (x : Turn). IsTurned later n r x.act) d.turn_is m in
-        subst (Noted later notes log caller present ws n r.work) (sym d.turn_is) (op_noted later notes log caller present ws n r.work 0 (flash_of blocks_of v) d.op (r.work + 1 == length r.ops) (op_stands later n r (flash_of blocks_of v) d.op moved d.next counted) told slot)
-    by_kind true d = subst (Noted later notes log caller present ws n r.work) (sym d.turn_is) (did_noted later notes log caller present ws n r.work d.did told slot)
+        subst (Noted later notes log caller present ws n r.work) (sym d.turn_is)
+        (op_noted later notes log caller present ws n r.work 0 (flash_of blocks_of v) d.op (r.work + 1 == length r.ops)
+        (op_stands later n r (flash_of blocks_of v) d.op moved d.next counted) told slot)
+    by_kind true d = subst (Noted later notes log caller present ws n r.work) (sym d.turn_is)
+        (did_noted later notes log caller present ws n r.work d.did told slot)
 
 -- as a slot finds it: js were the jobs before it, and t is the table before the turn
 pub record Told (js : List JobRecord) (notes after : List Note) (log : Log) (caller : ℕ) (u : Table) (reply : SlotReply) : Type 0 where
   pub tells : log_of u after ≡ with_entry caller events.Slot (replies.Slot reply) log
   pub fits : AllFit u.jobs after
 
-pub turn_told : {N : Type 0} (blocks_of : N → List device.Block) (js : List JobRecord) (notes after : List Note) (log : Log) (caller present place : ℕ) (ws : List Waived) (t u : Table) (n : ℕ) (r : JobRecord) (v w : State N) (turn : Turn) (deed : Deed) (reply : SlotReply)
-    → entries_of js notes ≡ log → AllFit js notes → Grew js t.jobs → present ≡ now log → slice_get t.jobs n ≡ Some r → DidTurn blocks_of v r turn w → length r.reads ≡ count_by is_read (take r.work r.ops) → place ≡ r.work
-    → u ≡ after_turn t n turn (present + 1) → deed ≡ deed_by n place turn.last turn.act → after ≡ record { caller = caller; deed = deed; waived = ws } ∷ notes → reply ≡ turn_reply present ws n turn
+pub turn_told : {N : Type 0} (blocks_of : N → List device.Block) (js : List JobRecord) (notes after : List Note) (log : Log)
+    (caller present place : ℕ) (ws : List Waived) (t u : Table) (n : ℕ) (r : JobRecord) (v w : State N) (turn : Turn) (deed : Deed)
+    (reply : SlotReply)
+    → entries_of js notes ≡ log → AllFit js notes → Grew js t.jobs → present ≡ now log → slice_get t.jobs n ≡ Some r
+    → DidTurn blocks_of v r turn w → length r.reads ≡ count_by is_read (take r.work r.ops) → place ≡ r.work
+    → u ≡ after_turn t n turn (present + 1) → deed ≡ deed_by n place turn.last turn.act → after
+    ≡ record { caller = caller; deed = deed; waived = ws } ∷ notes → reply ≡ turn_reply present ws n turn
     → Told js notes after log caller u reply
-turn_told blocks_of js notes after log caller present place ws t u n r v w turn deed reply told fits grew now_is at did counted place_is table_is deed_is after_is reply_is =
-    rw (after_is, deed_is, place_is, reply_is, table_is) (record { tells = noted.tells; fits = (noted.fits, all_fit_stay js (after_turn t n turn (present + 1)).jobs notes grown fits) })
+turn_told blocks_of js notes after log caller present place ws t u n r v w turn deed reply told fits grew now_is at did counted place_is
+    table_is deed_is after_is reply_is =
+    rw (after_is, deed_is, place_is, reply_is, table_is)
+    (record { tells = noted.tells; fits = (noted.fits, all_fit_stay js (after_turn t n turn (present + 1)).jobs notes grown fits) })
   where
     grown : Grew js (after_turn t n turn (present + 1)).jobs
     grown = grew_then js t.jobs (after_turn t n turn (present + 1)).jobs grew (turn_grew t n turn (present + 1))
 
     noted : Noted (after_turn t n turn (present + 1)).jobs notes log caller present ws n r.work turn
-    noted = turn_noted blocks_of (after_turn t n turn (present + 1)).jobs notes log caller present ws n r v w turn (turned_at t n turn (present + 1) r at) did counted
-        (entries_stay js (after_turn t n turn (present + 1)).jobs notes grown fits ∙ told) (sym (now_told js notes) ∙ ap now told ∙ sym now_is)
+    noted = turn_noted blocks_of (after_turn t n turn (present + 1)).jobs notes log caller present ws n r v w turn
+        (turned_at t n turn (present + 1) r at) did counted
+        (entries_stay js (after_turn t n turn (present + 1)).jobs notes grown fits ∙ told) (sym (now_told js notes) ∙ ap now told
+        ∙ sym now_is)

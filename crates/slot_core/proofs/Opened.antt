@@ -12,7 +12,8 @@ first_mapped : {X Y : Type 0} (p : Y → Bool) (f : X → Y) (xs : List X) → p
 first_mapped p f [] = refl
 first_mapped p f (x ∷ xs) = by_test (p (f x)) (first_mapped p f xs)
   where
-    by_test : (b : Bool) → position_or_len p (map f xs) ≡ position_or_len (λ y. p (f y)) xs → cond (not b) (1 + position_or_len p (map f xs)) 0 ≡ cond (not b) (1 + position_or_len (λ y. p (f y)) xs) 0
+    by_test : (b : Bool) → position_or_len p (map f xs) ≡ position_or_len (λ y. p (f y)) xs
+        → cond (not b) (1 + position_or_len p (map f xs)) 0 ≡ cond (not b) (1 + position_or_len (λ y. p (f y)) xs) 0
     by_test true h = refl
     by_test false h = ap (λ n. 1 + n) h
 
@@ -20,7 +21,9 @@ position_mapped : {X Y : Type 0} (p : Y → Bool) (f : X → Y) (xs : List X) �
 position_mapped p f xs = rw (first_mapped p f xs) (rw (length-map xs f) refl)
 
 -- a volume's open block is the log's
-pub opens_same : (plan : DiePlan) (c : flash.Cells) (blocks : List device.Block) → map counts_of blocks ≡ c.blocks → open_in plan.shape.pages blocks ≡ flash.open_block plan c
+pub opens_same : (plan : DiePlan) (c : flash.Cells) (blocks : List device.Block) → map counts_of blocks ≡ c.blocks
+    → open_in plan.shape.pages blocks ≡ flash.open_block plan c
 opens_same plan c blocks is =
     rw (position_mapped (is_open_with plan.shape.pages) filled_of blocks) (rw (position_mapped is_wholly_free filled_of blocks) (rw (← is)
-    (rw (position_mapped (flash.is_open plan) counts_of blocks) (rw (position_mapped (λ (s : flash.Block). s.filled == 0) counts_of blocks) refl))))
+    (rw (position_mapped (flash.is_open plan) counts_of blocks)
+    (rw (position_mapped (λ (s : flash.Block). s.filled == 0) counts_of blocks) refl))))

@@ -1,5 +1,6 @@
 -- What one more entry of a log does to the records of its jobs and collections.
-use Rattle.std.proofs.Common.{◌≡◌, ℕ, zero, suc, ◌+◌, ◌<◌, ◌==◌, Bool, true, false, cond, List, [], ◌∷◌, ◌++◌, Some, None, refl, ap, sym, ◌∙◌, subst, length, map, slice_get, if◌then◌else◌, append-nil, arith}
+use Rattle.std.proofs.Common.{◌≡◌, ℕ, zero, suc, ◌+◌, ◌<◌, ◌==◌, Bool, true, false, cond, List, [], ◌∷◌, ◌++◌, Some, None, refl, ap, sym}
+use Rattle.std.proofs.Common.{◌∙◌, subst, length, map, slice_get, if◌then◌else◌, append-nil, arith}
 use Rattle.std.specs.List.{cons_option, AllByRecursion}
 use Rattle.std.proofs.lemmas.Bool.Decides.{nat_tests}
 use Rattle.std.proofs.lemmas.Bool.{ne_eqb, eq-eqb}
@@ -28,7 +29,8 @@ use Rattle.die_log.proofs.Standing.Longer.{acts_stay, acts_grow, act_own, number
 use Rattle.die_log.proofs.Collecting.{no_acts, other_number}
 use Rattle.die_log.proofs.Known.{known, WaivedBelow}
 use Rattle.slot_core.specs.Turns.{after_read}
-use Rattle.slot_core.specs.Records.{record_from, record_with, records, waiver_among, stage_by, gift_by, gift_of, given, reads_of, bytes_read}
+use Rattle.slot_core.specs.Records.{record_from, record_with, records, waiver_among, stage_by, gift_by, gift_of, given, reads_of}
+use Rattle.slot_core.specs.Records.{bytes_read}
 
 map_push : {X Y : Type 0} (f : X → Y) (xs : List X) (x : X) → map f (xs ++ x ∷ []) ≡ map f xs ++ f x ∷ []
 map_push f [] x = refl
@@ -57,22 +59,42 @@ job_from number task release due ops = record { number = number; collects = fals
 
 -- an accepted job is one more record, which has not begun
 pub records-submit : (plan : DiePlan) (past : Log) (caller task release due : ℕ) (ops : List Op) → IsExact plan past → 0 < length ops
-    → records plan (entry caller (events.Submit task release due ops) (replies.Taken (length (jobs past))) ∷ past) ≡ records plan past ++ new_job task release due ops ∷ []
+    → records plan (entry caller (events.Submit task release due ops) (replies.Taken (length (jobs past))) ∷ past) ≡ records plan past
+    ++ new_job task release due ops ∷ []
 records-submit plan past caller task release due ops x some =
-    map_push (record_with plan past (waived past)) (jobs past) (record { number = length (jobs past); collects = false; task = task; release = release; due = due; ops = ops })
+    map_push (record_with plan past (waived past)) (jobs past)
+    (record { number = length (jobs past); collects = false; task = task; release = release; due = due; ops = ops })
     ∙ ap (λ r. records plan past ++ r ∷ []) fresh
   where
-    fresh : record_with plan past (waived past) (record { number = length (jobs past); collects = false; task = task; release = release; due = due; ops = ops }) ≡ new_job task release due ops
+    fresh : record_with plan past (waived past) (record {
+      number = length (jobs past);
+      collects = false;
+      task = task;
+      release = release;
+      due
+          = due;
+      ops = ops;
+    }) ≡ new_job task release due ops
     fresh = rw (no_acts plan past x) (rw (fresh_waiver plan past x) (rw (some_left ops some) refl))
 
 -- and so is an accepted collection
 pub records-collect : (plan : DiePlan) (past : Log) (caller task release due : ℕ) → IsExact plan past → 0 < plan.shape.erase_slots
-    → records plan (entry caller (events.Collect task release due) (replies.Taken (length (jobs past))) ∷ past) ≡ records plan past ++ new_collection task release due ∷ []
+    → records plan (entry caller (events.Collect task release due) (replies.Taken (length (jobs past))) ∷ past) ≡ records plan past
+    ++ new_collection task release due ∷ []
 records-collect plan past caller task release due x some =
-    map_push (record_with plan past (waived past)) (jobs past) (record { number = length (jobs past); collects = true; task = task; release = release; due = due; ops = [] })
+    map_push (record_with plan past (waived past)) (jobs past)
+    (record { number = length (jobs past); collects = true; task = task; release = release; due = due; ops = [] })
     ∙ ap (λ r. records plan past ++ r ∷ []) fresh
   where
-    fresh : record_with plan past (waived past) (record { number = length (jobs past); collects = true; task = task; release = release; due = due; ops = [] }) ≡ new_collection task release due
+    fresh : record_with plan past (waived past) (record {
+      number = length (jobs past);
+      collects = true;
+      task = task;
+      release = release;
+      due
+          = due;
+      ops = [];
+    }) ≡ new_collection task release due
     fresh = rw (no_acts plan past x) (rw (fresh_waiver plan past x) (rw (some_slots plan.shape.erase_slots some) refl))
 
 -- Slots
@@ -93,23 +115,34 @@ map_changed f g [] n change others here = refl
 map_changed {X = X} f g (x ∷ xs) zero change others here =
     rw (here x refl) (ap (λ ys. g x ∷ ys) (map_where f g xs (λ k y e. others (suc k) y e (λ h. absurd (omega (arith, h))))))
 map_changed f g (x ∷ xs) (suc n) change others here =
-    rw (others 0 x refl (λ h. absurd (omega (arith, h)))) (ap (λ ys. g x ∷ ys) (map_changed f g xs n change (λ k y e other. others (suc k) y e (λ h. other (omega (arith, h)))) here))
+    rw (others 0 x refl (λ h. absurd (omega (arith, h))))
+    (ap (λ ys. g x ∷ ys) (map_changed f g xs n change (λ k y e other. others (suc k) y e (λ h. other (omega (arith, h)))) here))
 
 abbrev pub slot_of : ℕ → SlotReply → Entry
 slot_of caller s = entry caller events.Slot (replies.Slot s)
 
 -- an idle slot changes no record but those of the collections that it waives
 pub records-idle : (plan : DiePlan) (past : Log) (caller : ℕ) (ws : List Waived)
-    → records plan (slot_of caller (record { slot = now past; waived = ws; ran = None; finished = None }) ∷ past) ≡ map (record_with plan past (waived past ++ ws)) (jobs past)
+    → records plan (slot_of caller (record { slot = now past; waived = ws; ran = None; finished = None }) ∷ past)
+    ≡ map (record_with plan past (waived past ++ ws)) (jobs past)
 records-idle plan past caller ws = map_same _ _ each (jobs past)
   where
-    each : (i : Job) → record_with plan (entry caller events.Slot (replies.Slot (record { slot = now past; waived = ws; ran = None; finished = None })) ∷ past) (waived past ++ ws) i ≡ record_with plan past (waived past ++ ws) i
+    each : (i : Job) → record_with plan (entry caller events.Slot
+        (replies.Slot (record { slot = now past; waived = ws; ran = None; finished = None })) ∷ past) (waived past ++ ws) i
+        ≡ record_with plan past (waived past ++ ws) i
     each i = ap (λ own. record_from plan own (completion i.number past) (given plan i.number past) (waived past ++ ws) i)
-        (acts_stay i.number (entry caller events.Slot (replies.Slot (record { slot = now past; waived = ws; ran = None; finished = None }))) past refl)
+        (acts_stay i.number (entry caller events.Slot (replies.Slot (record { slot = now past; waived = ws; ran = None; finished = None })))
+        past refl)
 
 -- the reply of a slot in which a job or collection acted
 abbrev pub acted_reply : Log → List Waived → ℕ → Act → Bool → SlotReply
-acted_reply past ws number act ends = record { slot = now past; waived = ws; ran = Some (number, act); finished = if ends then Some number else None }
+acted_reply past ws number act ends = record {
+  slot = now past;
+  waived = ws;
+  ran = Some (number, act);
+  finished = if ends then Some number
+      else None;
+}
 
 -- the record of the one that acted
 abbrev pub acted_record : DiePlan → Log → ℕ → List Waived → Job → Act → Bool → JobRecord
@@ -117,30 +150,42 @@ acted_record plan past caller ws j act ends =
     record_with plan (slot_of caller (acted_reply past ws j.number act ends) ∷ past) (waived past ++ ws) j
 
 -- a slot in which one acts changes its record, and those of the collections that it waives
-pub records-act : (plan : DiePlan) (past : Log) (caller : ℕ) (ws : List Waived) (j : Job) (act : Act) (ends : Bool) (change : JobRecord → JobRecord)
+pub records-act : (plan : DiePlan) (past : Log) (caller : ℕ) (ws : List Waived) (j : Job) (act : Act) (ends : Bool) (change : JobRecord
+    → JobRecord)
     → AreNumbered 0 (jobs past) → slice_get (jobs past) j.number ≡ Some j
     → change (record_with plan past (waived past ++ ws) j) ≡ acted_record plan past caller ws j act ends
     → changed_at (map (record_with plan past (waived past ++ ws)) (jobs past)) j.number change
     ≡ records plan (slot_of caller (acted_reply past ws j.number act ends) ∷ past)
 records-act plan past caller ws j act ends change numbered at own =
-    map_changed (record_with plan past (waived past ++ ws)) (record_with plan (slot_of caller (acted_reply past ws j.number act ends) ∷ past) (waived past ++ ws)) (jobs past) j.number change others mine
+    map_changed (record_with plan past (waived past ++ ws))
+    (record_with plan (slot_of caller (acted_reply past ws j.number act ends) ∷ past) (waived past ++ ws)) (jobs past) j.number change
+    others mine
   where
-    mine : (i : Job) → slice_get (jobs past) j.number ≡ Some i → change (record_with plan past (waived past ++ ws) i) ≡ record_with plan (slot_of caller (acted_reply past ws j.number act ends) ∷ past) (waived past ++ ws) i
-    mine i e = subst (λ (k : Job). change (record_with plan past (waived past ++ ws) k) ≡ record_with plan (slot_of caller (acted_reply past ws j.number act ends) ∷ past) (waived past ++ ws) k) (same_Some j i (sym at ∙ e)) own
+    mine : (i : Job) → slice_get (jobs past) j.number ≡ Some i → change (record_with plan past (waived past ++ ws) i)
+        ≡ record_with plan (slot_of caller (acted_reply past ws j.number act ends) ∷ past) (waived past ++ ws) i
+    mine i e = subst (λ (k : Job). change (record_with plan past (waived past ++ ws) k)
+        ≡ record_with plan (slot_of caller (acted_reply past ws j.number act ends) ∷ past) (waived past ++ ws) k)
+        (same_Some j i (sym at ∙ e)) own
 
-    other_given : (n : ℕ) → (j.number == n) ≡ false → (b : Bool) → gift_by plan past (acted_reply past ws j.number act ends) n (cond b (Some j.number) None) (given plan n past) ≡ given plan n past
+    other_given : (n : ℕ) → (j.number == n) ≡ false → (b : Bool)
+        → gift_by plan past (acted_reply past ws j.number act ends) n (cond b (Some j.number) None) (given plan n past) ≡ given plan n past
     other_given n differs true = rw differs refl
     other_given n differs false = refl
 
     others : (k : ℕ) (i : Job) → slice_get (jobs past) k ≡ Some i → (k ≡ j.number → ⊥)
-        → record_with plan past (waived past ++ ws) i ≡ record_with plan (slot_of caller (acted_reply past ws j.number act ends) ∷ past) (waived past ++ ws) i
+        → record_with plan past (waived past ++ ws) i ≡ record_with plan (slot_of caller (acted_reply past ws j.number act ends) ∷ past)
+        (waived past ++ ws) i
     others k i here other =
         let is : i.number ≡ 0 + k = number_at 0 (jobs past) k i numbered here in
         let differs : (j.number == i.number) ≡ false = ne_eqb j.number i.number (λ same. other (omega (arith, same, is))) in
         let none : act_of i.number (Some (j.number, act)) ≡ None = rw differs refl in
-        sym (ap (λ own. record_from plan own (completion i.number (slot_of caller (acted_reply past ws j.number act ends) ∷ past)) (given plan i.number (slot_of caller (acted_reply past ws j.number act ends) ∷ past)) (waived past ++ ws) i) (acts_stay i.number (slot_of caller (acted_reply past ws j.number act ends)) past none)
-        ∙ (ap (λ c. record_from plan (acts i.number past) (ended_by c (completion i.number past) (now past)) (given plan i.number (slot_of caller (acted_reply past ws j.number act ends) ∷ past)) (waived past ++ ws) i) none
-        ∙ ap (λ g. record_from plan (acts i.number past) (completion i.number past) g (waived past ++ ws) i) (other_given i.number differs ends)))
+        sym (ap (λ own. record_from plan own (completion i.number (slot_of caller (acted_reply past ws j.number act ends) ∷ past))
+        (given plan i.number (slot_of caller (acted_reply past ws j.number act ends) ∷ past)) (waived past ++ ws) i)
+        (acts_stay i.number (slot_of caller (acted_reply past ws j.number act ends)) past none)
+        ∙ (ap (λ c. record_from plan (acts i.number past) (ended_by c (completion i.number past) (now past))
+        (given plan i.number (slot_of caller (acted_reply past ws j.number act ends) ∷ past)) (waived past ++ ws) i) none
+        ∙ ap (λ g. record_from plan (acts i.number past) (completion i.number past) g (waived past ++ ws) i)
+        (other_given i.number differs ends)))
 
 -- The one that acted
 
@@ -150,26 +195,33 @@ stage_after ends completion given = stage_by None ends completion given
 reads_more : (own : List Act) (act : Act) → reads_of (own ++ act ∷ []) ≡ reads_of own ++ cons_option (bytes_read act) []
 reads_more own act = filter_map-append bytes_read own (act ∷ [])
 
-with_act : (plan : DiePlan) (own : List Act) (j : Job) (ws : List Waived) (act : Act) (c g c' g' : ℕ) (ends : Bool) → waiver_among j.number ws ≡ None → are_all plan j (own ++ act ∷ []) ≡ ends
-    → record_from plan (own ++ act ∷ []) c g ws j ≡ with_stage (stage_after ends c g) (after_read act (jobs_table.carried (record_from plan own c' g' ws j)))
+with_act : (plan : DiePlan) (own : List Act) (j : Job) (ws : List Waived) (act : Act) (c g c' g' : ℕ) (ends : Bool)
+    → waiver_among j.number ws ≡ None → are_all plan j (own ++ act ∷ []) ≡ ends
+    → record_from plan (own ++ act ∷ []) c g ws j ≡ with_stage (stage_after ends c g)
+    (after_read act (jobs_table.carried (record_from plan own c' g' ws j)))
 with_act plan own j ws (does.Read page bytes) c g c' g' ends none is =
     rw is (rw none (rw (length_push own (does.Read page bytes)) (rw (reads_more own (does.Read page bytes)) refl)))
 with_act plan own j ws (does.Write page bytes) c g c' g' ends none is =
-    rw is (rw none (rw (length_push own (does.Write page bytes)) (rw (reads_more own (does.Write page bytes)) (rw (append-nil (reads_of own)) refl))))
+    rw is (rw none (rw (length_push own (does.Write page bytes))
+    (rw (reads_more own (does.Write page bytes)) (rw (append-nil (reads_of own)) refl))))
 with_act plan own j ws (does.Trim page) c g c' g' ends none is =
     rw is (rw none (rw (length_push own (does.Trim page)) (rw (reads_more own (does.Trim page)) (rw (append-nil (reads_of own)) refl))))
 with_act plan own j ws (does.CopyRead page) c g c' g' ends none is =
-    rw is (rw none (rw (length_push own (does.CopyRead page)) (rw (reads_more own (does.CopyRead page)) (rw (append-nil (reads_of own)) refl))))
+    rw is (rw none (rw (length_push own (does.CopyRead page))
+    (rw (reads_more own (does.CopyRead page)) (rw (append-nil (reads_of own)) refl))))
 with_act plan own j ws (does.CopyProgram page) c g c' g' ends none is =
-    rw is (rw none (rw (length_push own (does.CopyProgram page)) (rw (reads_more own (does.CopyProgram page)) (rw (append-nil (reads_of own)) refl))))
+    rw is (rw none (rw (length_push own (does.CopyProgram page))
+    (rw (reads_more own (does.CopyProgram page)) (rw (append-nil (reads_of own)) refl))))
 with_act plan own j ws (does.Erase block) c g c' g' ends none is =
     rw is (rw none (rw (length_push own (does.Erase block)) (rw (reads_more own (does.Erase block)) (rw (append-nil (reads_of own)) refl))))
 
 -- its record: one slot more, perhaps one read more, and done if that was its last act
-pub acted_is : (plan : DiePlan) (past : Log) (caller : ℕ) (ws : List Waived) (j : Job) (act : Act) (ends : Bool) → job_at past j.number ≡ Some j → waiver_among j.number (waived past ++ ws) ≡ None
+pub acted_is : (plan : DiePlan) (past : Log) (caller : ℕ) (ws : List Waived) (j : Job) (act : Act) (ends : Bool) → job_at past j.number
+    ≡ Some j → waiver_among j.number (waived past ++ ws) ≡ None
     → are_all plan j (acts j.number past ++ act ∷ []) ≡ ends
     → acted_record plan past caller ws j act ends
-    ≡ with_stage (stage_after ends (now past + 1) (gift_of plan past (acted_reply past ws j.number act ends) (Some j))) (after_read act (jobs_table.carried (record_with plan past (waived past ++ ws) j)))
+    ≡ with_stage (stage_after ends (now past + 1) (gift_of plan past (acted_reply past ws j.number act ends) (Some j)))
+    (after_read act (jobs_table.carried (record_with plan past (waived past ++ ws) j)))
 acted_is plan past caller ws j act ends at none is = by_end ends is
   where
     grown : (b : Bool) → acts j.number (slot_of caller (acted_reply past ws j.number act b) ∷ past) ≡ acts j.number past ++ act ∷ []
@@ -180,8 +232,10 @@ acted_is plan past caller ws j act ends at none is = by_end ends is
 
     by_end : (b : Bool) → are_all plan j (acts j.number past ++ act ∷ []) ≡ b
         → acted_record plan past caller ws j act b
-        ≡ with_stage (stage_after b (now past + 1) (gift_of plan past (acted_reply past ws j.number act b) (Some j))) (after_read act (jobs_table.carried (record_with plan past (waived past ++ ws) j)))
+        ≡ with_stage (stage_after b (now past + 1) (gift_of plan past (acted_reply past ws j.number act b) (Some j)))
+        (after_read act (jobs_table.carried (record_with plan past (waived past ++ ws) j)))
     by_end true e =
-        rw (grown true) (rw (act_own j.number act) (rw (eq-eqb j.number j.number refl) (rw at (with_act plan (acts j.number past) j (waived past ++ ws) act _ _ _ _ true none e))))
+        rw (grown true) (rw (act_own j.number act) (rw (eq-eqb j.number j.number refl)
+        (rw at (with_act plan (acts j.number past) j (waived past ++ ws) act _ _ _ _ true none e))))
     by_end false e =
         rw (grown false) (rw (act_own j.number act) (with_act plan (acts j.number past) j (waived past ++ ws) act _ _ _ _ false none e))

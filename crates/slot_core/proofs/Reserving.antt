@@ -1,5 +1,6 @@
 -- Room for waivers: how many collections are neither done nor waived, as a die's jobs come and go.
-use Rattle.std.proofs.Common.{◌≡◌, ℕ, zero, suc, ◌+◌, ◌-◌, ◌≤◌, ◌&&◌, not, Bool, true, false, cond, List, [], ◌∷◌, ◌++◌, Some, refl, ap, sym, ◌∙◌, subst, length, map, filter, count_by, slice_get, arith}
+use Rattle.std.proofs.Common.{◌≡◌, ℕ, zero, suc, ◌+◌, ◌-◌, ◌≤◌, ◌&&◌, not, Bool, true, false, cond, List, [], ◌∷◌, ◌++◌, Some, refl, ap}
+use Rattle.std.proofs.Common.{sym, ◌∙◌, subst, length, map, filter, count_by, slice_get, arith}
 use Rattle.std.proofs.lemmas.Bool.{true≢false}
 use Rattle.std.proofs.lemmas.List.Sums.{sum_by-cons}
 use Rattle.std.proofs.lemmas.Option.{none-some, same_Some}
@@ -42,20 +43,23 @@ one_no_more r s h = by_kinds (is_open r) (is_open s) h where
   by_kinds false false h = omega arith
 
 -- a change that opens nothing
-pub open_changed : (js : List JobRecord) (n : ℕ) (f : JobRecord → JobRecord) → ((r : JobRecord) → is_open (f r) ≡ true → is_open r ≡ true) → open_collections (changed_at js n f) ≤ open_collections js
+pub open_changed : (js : List JobRecord) (n : ℕ) (f : JobRecord → JobRecord) → ((r : JobRecord) → is_open (f r) ≡ true → is_open r ≡ true)
+    → open_collections (changed_at js n f) ≤ open_collections js
 open_changed [] n f h = omega arith
 open_changed (r ∷ js) zero f h = omega (arith, open_more r js, open_more (f r) js, one_no_more r (f r) (h r))
 open_changed (r ∷ js) (suc n) f h = omega (arith, open_more r js, open_more r (changed_at js n f), open_changed js n f h)
 
 -- a change that closes one
-pub open_closed : (js : List JobRecord) (n : ℕ) (r : JobRecord) (f : JobRecord → JobRecord) → slice_get js n ≡ Some r → is_open r ≡ true → is_open (f r) ≡ false → open_collections (changed_at js n f) + 1 ≡ open_collections js
+pub open_closed : (js : List JobRecord) (n : ℕ) (r : JobRecord) (f : JobRecord → JobRecord) → slice_get js n ≡ Some r → is_open r ≡ true
+    → is_open (f r) ≡ false → open_collections (changed_at js n f) + 1 ≡ open_collections js
 open_closed [] n r f at opened closed = absurd (none-some r at)
 open_closed (x ∷ js) zero r f at opened closed =
     let it : x ≡ r = same_Some x r at in
     let one : one_if x ≡ 1 = ap {B = ℕ} (λ b. cond b 1 0) (ap is_open it ∙ opened) in
     let none : one_if (f x) ≡ 0 = ap {B = ℕ} (λ b. cond b 1 0) (ap (λ y. is_open (f y)) it ∙ closed) in
     omega (arith, open_more x js, open_more (f x) js, one, none)
-open_closed (x ∷ js) (suc n) r f at opened closed = omega (arith, open_more x js, open_more x (changed_at js n f), open_closed js n r f at opened closed)
+open_closed (x ∷ js) (suc n) r f at opened closed = omega
+    (arith, open_more x js, open_more x (changed_at js n f), open_closed js n r f at opened closed)
 
 -- A turn of the head
 
@@ -73,56 +77,71 @@ never_both false = refl
 
 turned_open : (turn : Turn) (completion : ℕ) (r : JobRecord) → is_open (turned turn completion r) ≡ true → is_open r ≡ true
 turned_open turn completion r = by_last turn.last where
-  by_last : (b : Bool) → is_open (cond b (with_stage (Done completion turn.given) (after_read turn.act (carried r))) (after_read turn.act (carried r))) ≡ true → is_open r ≡ true
+  by_last : (b : Bool) → is_open (cond b (with_stage (Done completion turn.given) (after_read turn.act (carried r)))
+      (after_read turn.act (carried r))) ≡ true → is_open r ≡ true
   by_last true e = absurd (true≢false (sym e ∙ never_both (after_read turn.act (carried r)).collects))
   by_last false e = sym (act_opens_nothing turn.act r) ∙ e
 
-pub turn_opens_nothing : (t : Table) (n : ℕ) (turn : Turn) (completion : ℕ) → open_collections (after_turn t n turn completion).jobs ≤ open_collections t.jobs
+pub turn_opens_nothing : (t : Table) (n : ℕ) (turn : Turn) (completion : ℕ) → open_collections (after_turn t n turn completion).jobs
+    ≤ open_collections t.jobs
 turn_opens_nothing t n turn completion =
-    subst (λ (x : Table). open_collections x.jobs ≤ open_collections t.jobs) (sym (turn_change t n turn completion)) (open_changed t.jobs n (turned turn completion) (turned_open turn completion))
+    subst (λ (x : Table). open_collections x.jobs ≤ open_collections t.jobs) (sym (turn_change t n turn completion))
+    (open_changed t.jobs n (turned turn completion) (turned_open turn completion))
 
 -- A collection is waived
 
-pub waiver_closes : (js : List JobRecord) (n given : ℕ) (r : JobRecord) → slice_get js n ≡ Some r → is_open r ≡ true → open_collections (changed_at js n (with_stage (Gone given))) + 1 ≡ open_collections js
+pub waiver_closes : (js : List JobRecord) (n given : ℕ) (r : JobRecord) → slice_get js n ≡ Some r → is_open r ≡ true
+    → open_collections (changed_at js n (with_stage (Gone given))) + 1 ≡ open_collections js
 waiver_closes js n given r at opened = open_closed js n r (with_stage (Gone given)) at opened (never_both r.collects)
 
 -- A job comes
 
-pub open_job : (js : List JobRecord) (task release due : ℕ) (ops : List Op) → open_collections (js ++ new_job task release due ops ∷ []) ≡ open_collections js
+pub open_job : (js : List JobRecord) (task release due : ℕ) (ops : List Op) → open_collections (js ++ new_job task release due ops ∷ [])
+    ≡ open_collections js
 open_job [] task release due ops = refl
-open_job (r ∷ js) task release due ops = open_more r (js ++ new_job task release due ops ∷ []) ∙ ap (λ n. one_if r + n) (open_job js task release due ops) ∙ sym (open_more r js)
+open_job (r ∷ js) task release due ops = open_more r (js ++ new_job task release due ops ∷ [])
+    ∙ ap (λ n. one_if r + n) (open_job js task release due ops) ∙ sym (open_more r js)
 
 -- At most one collection a task
 
-open_is : (plan : DiePlan) (log : Log) (j : Job) → is_open (record_with plan log (waived log) j) ≡ pending plan (λ n. acts n log) (is_waived log) j
+open_is : (plan : DiePlan) (log : Log) (j : Job) → is_open (record_with plan log (waived log) j)
+    ≡ pending plan (λ n. acts n log) (is_waived log) j
 open_is plan log j = by_kind j.collects where
-  by_kind : (c : Bool) → (c && is_pending (record_with plan log (waived log) j).stage) ≡ ((c && not (is_done plan log j)) && not (is_waived log j.number))
+  by_kind : (c : Bool) → (c && is_pending (record_with plan log (waived log) j).stage)
+      ≡ ((c && not (is_done plan log j)) && not (is_waived log j.number))
   by_kind true = pending_is plan log (waived log) j
   by_kind false = refl
 
-open_tasks : (plan : DiePlan) (log : Log) (js : List Job) → open_collections (map (record_with plan log (waived log)) js) ≡ length (tasks_of (pending plan (λ n. acts n log) (is_waived log)) js)
+open_tasks : (plan : DiePlan) (log : Log) (js : List Job) → open_collections (map (record_with plan log (waived log)) js)
+    ≡ length (tasks_of (pending plan (λ n. acts n log) (is_waived log)) js)
 open_tasks plan log [] = refl
 open_tasks plan log (j ∷ js) =
     open_more (record_with plan log (waived log) j) (map (record_with plan log (waived log)) js)
-    ∙ by_kind (is_open (record_with plan log (waived log) j)) (pending plan (λ n. acts n log) (is_waived log) j) (open_is plan log j) (open_tasks plan log js)
+    ∙ by_kind (is_open (record_with plan log (waived log) j)) (pending plan (λ n. acts n log) (is_waived log) j) (open_is plan log j)
+    (open_tasks plan log js)
   where
     rest : List Job
     rest = filter (pending plan (λ n. acts n log) (is_waived log)) js
 
     by_kind : (a b : Bool) → a ≡ b → open_collections (map (record_with plan log (waived log)) js) ≡ length (map (λ (i : Job). i.task) rest)
-        → cond a 1 0 + open_collections (map (record_with plan log (waived log)) js) ≡ length (map (λ (i : Job). i.task) (cond b (j ∷ rest) rest))
+        → cond a 1 0 + open_collections (map (record_with plan log (waived log)) js)
+        ≡ length (map (λ (i : Job). i.task) (cond b (j ∷ rest) rest))
     by_kind true true same h = omega (arith, h)
     by_kind true false same h = absurd (true≢false same)
     by_kind false true same h = absurd (true≢false (sym same))
     by_kind false false same h = omega (arith, h)
 
-pub few_open : (plan : DiePlan) (log : Log) (js : List JobRecord) → MeetsBound plan → IsExact plan log → js ≡ records plan log → open_collections js ≤ length plan.caps
+pub few_open : (plan : DiePlan) (log : Log) (js : List JobRecord) → MeetsBound plan → IsExact plan log → js ≡ records plan log
+    → open_collections js ≤ length plan.caps
 few_open plan log js bound exact is =
     subst (λ (xs : List JobRecord). open_collections xs ≤ length plan.caps) (sym is)
     (subst (λ (n : ℕ). n ≤ length plan.caps) (sym (open_tasks plan log (jobs log))) (few_pending plan log bound exact))
 
 -- so there is room for a waiver of each, where there is for one a task
-pub collect_room : (r : Result ℕ Refusal) (plan : DiePlan) (log : Log) (t u : Table) (before after : ℕ) → MeetsBound plan → IsExact plan log → u.jobs ≡ records plan log → t.tasks ≡ length plan.caps → OnOk r (t.tasks ≤ after) → OnErr r (u ≡ t)
+pub collect_room : (r : Result ℕ Refusal) (plan : DiePlan) (log : Log) (t u : Table) (before after : ℕ) → MeetsBound plan → IsExact plan log
+    → u.jobs ≡ records plan log → t.tasks ≡ length plan.caps → OnOk r (t.tasks ≤ after) → OnErr r (u ≡ t)
     → open_collections t.jobs ≤ before → before ≤ after → open_collections u.jobs ≤ after
-collect_room (Ok number) plan log t u before after bound exact jobs_are tasks_are made stays had more = omega (arith, few_open plan log u.jobs bound exact jobs_are, tasks_are, made)
-collect_room (Err refusal) plan log t u before after bound exact jobs_are tasks_are made stays had more = omega (arith, ap (λ (x : Table). open_collections x.jobs) stays, had, more)
+collect_room (Ok number) plan log t u before after bound exact jobs_are tasks_are made stays had more = omega
+    (arith, few_open plan log u.jobs bound exact jobs_are, tasks_are, made)
+collect_room (Err refusal) plan log t u before after bound exact jobs_are tasks_are made stays had more = omega
+    (arith, ap (λ (x : Table). open_collections x.jobs) stays, had, more)

@@ -1,5 +1,6 @@
 -- The rows of a table's records, one by one, are the rows of the log.
-use Rattle.std.proofs.Common.{◌≡◌, ℕ, zero, suc, ◌+◌, not, Bool, true, false, cond, List, [], ◌∷◌, ◌++◌, Option, Some, None, refl, ap, sym, ◌∙◌, length, map, filter, take, slice_get, arith}
+use Rattle.std.proofs.Common.{◌≡◌, ℕ, zero, suc, ◌+◌, not, Bool, true, false, cond, List, [], ◌∷◌, ◌++◌, Option, Some, None, refl, ap, sym}
+use Rattle.std.proofs.Common.{◌∙◌, length, map, filter, take, slice_get, arith}
 use Rattle.std.specs.Prelude.{is_some}
 use Rattle.std.specs.List.{cons_option}
 use Rattle.std.proofs.lemmas.Bool.{true≢false}
@@ -28,14 +29,17 @@ cons_append : (o : Option JobRow) (rows more : List JobRow) → cons_option o (r
 cons_append None rows more = refl
 cons_append (Some row) rows more = refl
 
-rows_push : (first : ℕ) (rs : List JobRecord) (r : JobRecord) → rows_in first (rs ++ r ∷ []) ≡ rows_in first rs ++ cons_option (row_in (first + length rs) r) []
+rows_push : (first : ℕ) (rs : List JobRecord) (r : JobRecord) → rows_in first (rs ++ r ∷ []) ≡ rows_in first rs
+    ++ cons_option (row_in (first + length rs) r) []
 rows_push first [] r = ap (λ (n : ℕ). cons_option (row_in n r) []) (omega arith)
 rows_push first (x ∷ rs) r =
     let next : (first + 1) + length rs ≡ first + suc (length rs) = omega arith in
-    ap (cons_option (row_in first x)) (rows_push (first + 1) rs r ∙ ap (λ (n : ℕ). rows_in (first + 1) rs ++ cons_option (row_in n r) []) next)
+    ap (cons_option (row_in first x)) (rows_push (first + 1) rs r
+    ∙ ap (λ (n : ℕ). rows_in (first + 1) rs ++ cons_option (row_in n r) []) next)
     ∙ cons_append (row_in first x) (rows_in (first + 1) rs) (cons_option (row_in (first + suc (length rs)) r) [])
 
-take_more : (rs : List JobRecord) (n : ℕ) (r : JobRecord) → slice_get rs n ≡ Some r → (take (n + 1) rs ≡ take n rs ++ r ∷ []) × (length (take n rs) ≡ n)
+take_more : (rs : List JobRecord) (n : ℕ) (r : JobRecord) → slice_get rs n ≡ Some r → (take (n + 1) rs ≡ take n rs ++ r ∷ [])
+    × (length (take n rs) ≡ n)
 take_more [] n r at = absurd (none-some r at)
 take_more (x ∷ rs) zero r at = (ap (λ (y : JobRecord). y ∷ []) (same_Some x r at), refl)
 take_more (x ∷ rs) (suc n) r at =
@@ -59,7 +63,8 @@ rows_more rs n r made at is =
     ap (λ (rows : List JobRow). rows ++ cons_option (row_in n r) []) is
     ∙ (ap (λ (k : ℕ). rows_in 0 (take n rs) ++ cons_option (row_in k r) []) here ∙ sym (ap (rows_in 0) more.0 ∙ rows_push 0 (take n rs) r))
 
-pub rows_added : (rs : List JobRecord) (n : ℕ) (r : JobRecord) (row : JobRow) (made : List JobRow) → slice_get rs n ≡ Some r → row_in n r ≡ Some row → made ≡ rows_in 0 (take n rs)
+pub rows_added : (rs : List JobRecord) (n : ℕ) (r : JobRecord) (row : JobRow) (made : List JobRow) → slice_get rs n ≡ Some r → row_in n r
+    ≡ Some row → made ≡ rows_in 0 (take n rs)
     → made ++ row ∷ [] ≡ rows_in 0 (take (n + 1) rs)
 rows_added rs n r row made at row_is is = ap (λ (o : Option JobRow). made ++ cons_option o []) (sym row_is) ∙ rows_more rs n r made at is
 
@@ -68,11 +73,14 @@ append_none [] = refl
 append_none (x ∷ rows) = ap (λ ys. x ∷ ys) (append_none rows)
 
 -- a waived one adds no row
-pub rows_passed : (rs : List JobRecord) (n : ℕ) (r : JobRecord) (made : List JobRow) → slice_get rs n ≡ Some r → row_in n r ≡ None → made ≡ rows_in 0 (take n rs)
+pub rows_passed : (rs : List JobRecord) (n : ℕ) (r : JobRecord) (made : List JobRow) → slice_get rs n ≡ Some r → row_in n r ≡ None → made
+    ≡ rows_in 0 (take n rs)
     → made ≡ rows_in 0 (take (n + 1) rs)
-rows_passed rs n r made at row_is is = sym (append_none made) ∙ (ap (λ (o : Option JobRow). made ++ cons_option o []) (sym row_is) ∙ rows_more rs n r made at is)
+rows_passed rs n r made at row_is is = sym (append_none made)
+    ∙ (ap (λ (o : Option JobRow). made ++ cons_option o []) (sym row_is) ∙ rows_more rs n r made at is)
 
-pub rows_past : (rs : List JobRecord) (n : ℕ) (made : List JobRow) → slice_get rs n ≡ None → made ≡ rows_in 0 (take n rs) → made ≡ rows_in 0 (take (n + 1) rs)
+pub rows_past : (rs : List JobRecord) (n : ℕ) (made : List JobRow) → slice_get rs n ≡ None → made ≡ rows_in 0 (take n rs) → made
+    ≡ rows_in 0 (take (n + 1) rs)
 rows_past rs n made at is = is ∙ ap (rows_in 0) (sym (take_past rs n at))
 
 pub rows_all : (rs : List JobRecord) (n : ℕ) (made : List JobRow) → n ≡ length rs → made ≡ rows_in 0 (take n rs) → made ≡ rows_in 0 rs
@@ -82,10 +90,18 @@ rows_all rs n made all is = is ∙ ap (rows_in 0) (take_all n rs (omega (arith, 
 
 -- the row of a job, were it done or not
 abbrev row_if : Log → Job → Bool → JobRow
-row_if log j done = record { number = j.number; release = j.release; due = j.due; work = work j.number log; completion = cond done (Some (completion j.number log)) None }
+row_if log j done = record {
+  number = j.number;
+  release = j.release;
+  due = j.due;
+  work = work j.number log;
+  completion = cond done
+      (Some (completion j.number log)) None;
+}
 
 first_row : (plan : DiePlan) (log : Log) (j : Job) (o : Option Waived) (done gone : Bool) (rest : List JobRow) → is_some o ≡ gone
-    → cons_option (row_as (stage_by o done (completion j.number log) (given plan j.number log)) j.number (record_with plan log (waived log) j)) rest ≡ cond (not gone) (row_if log j done ∷ rest) rest
+    → cons_option (row_as (stage_by o done (completion j.number log) (given plan j.number log)) j.number
+    (record_with plan log (waived log) j)) rest ≡ cond (not gone) (row_if log j done ∷ rest) rest
 first_row plan log j (Some w) done true rest e = refl
 first_row plan log j (Some w) done false rest e = absurd (true≢false e)
 first_row plan log j None done true rest e = absurd (true≢false (sym e))
@@ -100,13 +116,18 @@ rows_of : (plan : DiePlan) (log : Log) (first : ℕ) (js : List Job) → AreNumb
     → rows_in first (map (record_with plan log (waived log)) js) ≡ map (row_for plan log) (filter (λ j. not (is_waived log j.number)) js)
 rows_of plan log first [] h = refl
 rows_of plan log first (j ∷ js) h =
-    ap (λ (n : ℕ). cons_option (row_in n (record_with plan log (waived log) j)) (rows_in (first + 1) (map (record_with plan log (waived log)) js))) (sym h.0)
+    ap (λ (n : ℕ). cons_option (row_in n (record_with plan log (waived log) j))
+    (rows_in (first + 1) (map (record_with plan log (waived log)) js))) (sym h.0)
     ∙ (ap (cons_option (row_in j.number (record_with plan log (waived log) j))) (rows_of plan log (first + 1) js h.1)
-    ∙ (first_row plan log j (waiver_among j.number (waived log)) (is_done plan log j) (is_waived log j.number) (map (row_for plan log) (filter (λ i. not (is_waived log i.number)) js)) (waiver_stands j.number (waived log))
+    ∙ (first_row plan log j (waiver_among j.number (waived log)) (is_done plan log j) (is_waived log j.number)
+    (map (row_for plan log) (filter (λ i. not (is_waived log i.number)) js)) (waiver_stands j.number (waived log))
     ∙ map_cond (row_for plan log) (not (is_waived log j.number)) j (filter (λ i. not (is_waived log i.number)) js)))
 
-pub rows_are : (plan : DiePlan) (log : Log) (rs : List JobRecord) (made : List JobRow) → MeetsBound plan → IsExact plan log → rs ≡ records plan log → made ≡ rows_in 0 rs → made ≡ rows plan log
-rows_are plan log rs made bound exact are is = is ∙ (ap (rows_in 0) are ∙ rows_of plan log 0 (jobs log) (stands_well plan bound log exact).0.numbered)
+pub rows_are : (plan : DiePlan) (log : Log) (rs : List JobRecord) (made : List JobRow) → MeetsBound plan → IsExact plan log → rs
+    ≡ records plan log → made ≡ rows_in 0 rs → made ≡ rows plan log
+rows_are plan log rs made bound exact are is = is ∙ (ap (rows_in 0) are
+    ∙ rows_of plan log 0 (jobs log) (stands_well plan bound log exact).0.numbered)
 
 pub rising : (plan : DiePlan) (log : Log) → MeetsBound plan → IsExact plan log → RowsRise (rows plan log)
-rising plan log bound exact = rows_rise (row_for plan log) (is_waived log) (jobs log) (λ j. refl) (stands_well plan bound log exact).0.numbered
+rising plan log bound exact = rows_rise (row_for plan log) (is_waived log) (jobs log) (λ j. refl)
+    (stands_well plan bound log exact).0.numbered

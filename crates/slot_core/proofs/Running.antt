@@ -1,5 +1,6 @@
 -- Runs of events.
-use Rattle.std.proofs.Common.{◌≡◌, ◌≢◌, ◌↔◌, ◌⊎◌, inl, inr, ℕ, zero, suc, ◌+◌, ◌<◌, Bool, true, false, List, [], ◌∷◌, ◌++◌, Option, Some, None, Err, length, refl, ap, sym, ◌∙◌, subst, arith}
+use Rattle.std.proofs.Common.{◌≡◌, ◌≢◌, ◌↔◌, ◌⊎◌, inl, inr, ℕ, zero, suc, ◌+◌, ◌<◌, Bool, true, false, List, [], ◌∷◌, ◌++◌, Option, Some}
+use Rattle.std.proofs.Common.{None, Err, length, refl, ap, sym, ◌∙◌, subst, arith}
 use Rattle.std.specs.declared.result.Result.{Result}
 use Rattle.std.specs.Iterator.{Yields}
 use Rattle.std.specs.List.{AllByRecursion}
@@ -26,28 +27,41 @@ not_standing r [] others e = absurd cc
 not_standing r ((true, x) ∷ cs) others e = others.0 cc
 not_standing r ((false, x) ∷ cs) others e = not_standing r cs others.1 e
 
-refused_by : (plan : DiePlan) (past : Log) (event : Event) (r : Refusal) (o : Option Refusal) → answer_by plan past event o ≡ Refused r → accepted plan past event ≢ Refused r → o ≡ Some r
+refused_by : (plan : DiePlan) (past : Log) (event : Event) (r : Refusal) (o : Option Refusal) → answer_by plan past event o ≡ Refused r
+    → accepted plan past event ≢ Refused r → o ≡ Some r
 refused_by plan past event r None e other = absurd (other e)
 refused_by plan past event r (Some x) e other = cc
 
-log_refuses : (plan : DiePlan) (past : Log) (event : Event) (r : Refusal) → answer plan past event ≡ Refused r → accepted plan past event ≢ Refused r → refusal_of plan past event ≡ Some r
+log_refuses : (plan : DiePlan) (past : Log) (event : Event) (r : Refusal) → answer plan past event ≡ Refused r → accepted plan past event
+    ≢ Refused r → refusal_of plan past event ≡ Some r
 unfolding answer
 log_refuses plan past event r e other = refused_by plan past event r (refusal_of plan past event) e other
 
-no_fault : (plan : DiePlan) (past : Log) (task release due : ℕ) (ops : List Op) → answer plan past (Submit task release due ops) ≡ Refused DeviceFault → ⊥
+no_fault : (plan : DiePlan) (past : Log) (task release due : ℕ) (ops : List Op) → answer plan past (Submit task release due ops)
+    ≡ Refused DeviceFault → ⊥
 no_fault plan past task release due ops e =
-    not_standing DeviceFault (refusals plan past (Submit task release due ops))
-    ((λ h. absurd cc), ((λ h. absurd cc), ((λ h. absurd cc), ((λ h. absurd cc), ((λ h. absurd cc), ((λ h. absurd cc), ((λ h. absurd cc), ((λ h. absurd cc), tt))))))))
+    not_standing DeviceFault (refusals plan past (Submit task release due ops)) (
+      (λ h. absurd cc),
+      (
+        (λ h. absurd cc),
+        (
+          (λ h. absurd cc),
+          ((λ h. absurd cc), ((λ h. absurd cc), ((λ h. absurd cc), ((λ h. absurd cc), ((λ h. absurd cc), tt))))),
+        ),
+      ),
+    )
     (log_refuses plan past (Submit task release due ops) DeviceFault e (λ h. absurd cc))
 
-no_collect_fault : (plan : DiePlan) (past : Log) (task release due : ℕ) → answer plan past (Collect task release due) ≡ Refused DeviceFault → ⊥
+no_collect_fault : (plan : DiePlan) (past : Log) (task release due : ℕ) → answer plan past (Collect task release due) ≡ Refused DeviceFault
+    → ⊥
 no_collect_fault plan past task release due e =
     not_standing DeviceFault (refusals plan past (Collect task release due))
     ((λ h. absurd cc), ((λ h. absurd cc), ((λ h. absurd cc), ((λ h. absurd cc), ((λ h. absurd cc), tt)))))
     (log_refuses plan past (Collect task release due) DeviceFault e (λ h. absurd cc))
 
 no_slot_fault : (plan : DiePlan) (past : Log) → answer plan past Slot ≡ Refused DeviceFault → ⊥
-no_slot_fault plan past e = not_standing DeviceFault (refusals plan past Slot) ((λ h. absurd cc), tt) (log_refuses plan past Slot DeviceFault e (λ h. absurd cc))
+no_slot_fault plan past e = not_standing DeviceFault (refusals plan past Slot) ((λ h. absurd cc), tt)
+    (log_refuses plan past Slot DeviceFault e (λ h. absurd cc))
 
 -- Steps
 
@@ -70,7 +84,8 @@ none_left (suc n) h = absurd (h (omega arith))
 
 -- an arrival that is refused changes nothing
 arrival_refused : {N : Type 0} (failures : N → ℕ) (event : Event) (refusal : Refusal) (old new : Core N)
-    → (refusal ≡ DieStopped ↔ (old.stopped ≡ true)) → (old.stopped ≡ false → RefusedBy old.plan old.log event refusal) → new ≡ old → (answer old.plan old.log event ≡ Refused DeviceFault → ⊥) → (event ≡ Slot → ⊥)
+    → (refusal ≡ DieStopped ↔ (old.stopped ≡ true)) → (old.stopped ≡ false → RefusedBy old.plan old.log event refusal) → new ≡ old
+    → (answer old.plan old.log event ≡ Refused DeviceFault → ⊥) → (event ≡ Slot → ⊥)
     → IsStep old.plan event (Refused refusal) (moment_of failures old) (moment_of failures new)
 arrival_refused {N} failures event refusal old new stopped refused same faultless arrives = by_stopped old.stopped refl where
   left : moment_of failures new ≡ moment_of failures old
@@ -84,37 +99,68 @@ arrival_refused {N} failures event refusal old new stopped refused same faultles
       ⊎ StoppedByFault old.plan event (Refused refusal) (moment_of failures old) (moment_of failures new)
       ⊎ FoundStopped old.plan event (Refused refusal) (moment_of failures old) (moment_of failures new))
       → (refusal ≡ DeviceFault → ⊥) → IsStep old.plan event (Refused refusal) (moment_of failures old) (moment_of failures new)
-  step answered other = record { answered = answered; faults = ((λ e. absurd (other (refused_is refusal DeviceFault e))), (λ more. absurd (rises (moment_of failures new) left more))) }
+  step answered other = record {
+    answered = answered;
+    faults =
+        ((λ e. absurd (other (refused_is refusal DeviceFault e))), (λ more. absurd (rises (moment_of failures new) left more)));
+  }
 
-  by_refused : old.stopped ≡ false → RefusedBy old.plan old.log event refusal → IsStep old.plan event (Refused refusal) (moment_of failures old) (moment_of failures new)
+  by_refused : old.stopped ≡ false → RefusedBy old.plan old.log event refusal
+      → IsStep old.plan event (Refused refusal) (moment_of failures old) (moment_of failures new)
   by_refused runs (inl e) =
-      step (inl (record { ran = runs; reply_is = sym e; log_is = ap (λ (m : Moment). m.log) left; runs = ap (λ (m : Moment). m.stopped) left ∙ runs; reserved_is = ap (λ (m : Moment). m.reserved) left }))
+      step (inl (record {
+        ran = runs;
+        reply_is = sym e;
+        log_is = ap (λ (m : Moment). m.log) left;
+        runs = ap (λ (m : Moment). m.stopped) left
+            ∙ runs;
+        reserved_is = ap (λ (m : Moment). m.reserved) left;
+      }))
       (λ is. faultless (e ∙ ap Refused is))
-  by_refused runs (inr h) = step (inr (inl (record { ran = runs; accepted = h.0; reply_is = ap Refused h.1; unreserved = λ slot. absurd (arrives slot); unchanged = left }))) (λ is. absurd cc)
+  by_refused runs (inr h) = step (inr (inl (record {
+    ran = runs;
+    accepted = h.0;
+    reply_is = ap Refused h.1;
+    unreserved = λ slot. absurd
+        (arrives slot);
+    unchanged = left;
+  }))) (λ is. absurd cc)
 
   by_stopped : (b : Bool) → old.stopped ≡ b → IsStep old.plan event (Refused refusal) (moment_of failures old) (moment_of failures new)
-  by_stopped true is = let why = stopped.1 is in step (inr (inr (inr (record { was_stopped = is; reply_is = ap Refused why; unchanged = left })))) (λ fault. absurd cc)
+  by_stopped true is = let why = stopped.1 is in step (inr
+      (inr (inr (record { was_stopped = is; reply_is = ap Refused why; unchanged = left })))) (λ fault. absurd cc)
   by_stopped false is = by_refused is (refused is)
 
 pub submit_refused : {N : Type 0} (failures : N → ℕ) (task release due : ℕ) (ops : List Op) (refusal : Refusal) (old new : Core N)
-    → (refusal ≡ DieStopped ↔ (old.stopped ≡ true)) → (old.stopped ≡ false → RefusedBy old.plan old.log (Submit task release due ops) refusal) → new ≡ old
+    → (refusal ≡ DieStopped ↔ (old.stopped ≡ true)) → (old.stopped ≡ false
+    → RefusedBy old.plan old.log (Submit task release due ops) refusal) → new ≡ old
     → IsStep old.plan (Submit task release due ops) (Refused refusal) (moment_of failures old) (moment_of failures new)
-submit_refused failures task release due ops refusal old new stopped refused same = arrival_refused failures (Submit task release due ops) refusal old new stopped refused same (no_fault old.plan old.log task release due ops) (λ slot. absurd cc)
+submit_refused failures task release due ops refusal old new stopped refused same = arrival_refused failures (Submit task release due ops)
+    refusal old new stopped refused same (no_fault old.plan old.log task release due ops) (λ slot. absurd cc)
 
 pub collect_refused : {N : Type 0} (failures : N → ℕ) (task release due : ℕ) (refusal : Refusal) (old new : Core N)
-    → (refusal ≡ DieStopped ↔ (old.stopped ≡ true)) → (old.stopped ≡ false → RefusedBy old.plan old.log (Collect task release due) refusal) → new ≡ old
+    → (refusal ≡ DieStopped ↔ (old.stopped ≡ true)) → (old.stopped ≡ false → RefusedBy old.plan old.log (Collect task release due) refusal)
+    → new ≡ old
     → IsStep old.plan (Collect task release due) (Refused refusal) (moment_of failures old) (moment_of failures new)
-collect_refused failures task release due refusal old new stopped refused same = arrival_refused failures (Collect task release due) refusal old new stopped refused same (no_collect_fault old.plan old.log task release due) (λ slot. absurd cc)
+collect_refused failures task release due refusal old new stopped refused same = arrival_refused failures (Collect task release due) refusal
+    old new stopped refused same (no_collect_fault old.plan old.log task release due) (λ slot. absurd cc)
 
 -- a slot that is refused changes nothing, or is stopped by a fault
 pub slot_refused_step : {N : Type 0} (failures : N → ℕ) (refusal : Refusal) (old new : Core N)
     → (refusal ≡ DieStopped ↔ (old.stopped ≡ true))
-    → (old.stopped ≡ false → RefusedBy old.plan old.log Slot refusal ⊎ (IsAccepted (answer old.plan old.log Slot) × (refusal ≡ DeviceFault)))
+    → (old.stopped ≡ false → RefusedBy old.plan old.log Slot refusal
+    ⊎ (IsAccepted (answer old.plan old.log Slot) × (refusal ≡ DeviceFault)))
     → (refusal ≡ DeviceFault ↔ (failures new.device ≡ failures old.device + 1))
     → (refusal ≡ DeviceFault → new.stopped ≡ true) → new.log ≡ old.log → ((refusal ≡ DeviceFault → ⊥) → new ≡ old)
     → (0 < old.reserved → refusal ≡ NoMemory → ⊥) → new.reserved ≡ old.reserved
     → IsStep old.plan Slot (Refused refusal) (moment_of failures old) (moment_of failures new)
-slot_refused_step {N} failures refusal old new stopped refused fault stops log_stays same memory reserve_stays = record { answered = by_stopped old.stopped refl; faults = ((λ e. fault.0 (refused_is refusal DeviceFault e)), (λ more. ap Refused (fault.1 more))) } where
+slot_refused_step {N} failures refusal old new stopped refused fault stops log_stays same memory reserve_stays = record {
+  answered = by_stopped old.stopped refl;
+  faults = (
+    (λ e. fault.0 (refused_is refusal DeviceFault e)),
+    (λ more. ap Refused (fault.1 more)),
+  );
+} where
   Answered : Type 0
   Answered = AnsweredByLog old.plan Slot (Refused refusal) (moment_of failures old) (moment_of failures new)
       ⊎ FoundNoMemory old.plan Slot (Refused refusal) (moment_of failures old) (moment_of failures new)
@@ -127,21 +173,47 @@ slot_refused_step {N} failures refusal old new stopped refused fault stops log_s
   slot_fault : answer old.plan old.log Slot ≡ Refused DeviceFault → ⊥
   slot_fault e = no_slot_fault old.plan old.log e
 
-  by_refused : old.stopped ≡ false → RefusedBy old.plan old.log Slot refusal ⊎ (IsAccepted (answer old.plan old.log Slot) × (refusal ≡ DeviceFault)) → Answered
+  by_refused : old.stopped ≡ false → RefusedBy old.plan old.log Slot refusal
+      ⊎ (IsAccepted (answer old.plan old.log Slot) × (refusal ≡ DeviceFault)) → Answered
   by_refused runs (inl (inl e)) =
       let unchanged = left (λ is. slot_fault (e ∙ ap Refused is)) in
-      inl (record { ran = runs; reply_is = sym e; log_is = ap (λ (m : Moment). m.log) unchanged; runs = ap (λ (m : Moment). m.stopped) unchanged ∙ runs; reserved_is = ap (λ (m : Moment). m.reserved) unchanged })
-  by_refused runs (inl (inr h)) = inr (inl (record { ran = runs; accepted = h.0; reply_is = ap Refused h.1; unreserved = λ slot. none_left old.reserved (λ some. memory some h.1); unchanged = left (λ is. absurd cc) }))
-  by_refused runs (inr h) = inr (inr (inl (record { ran = runs; slot = refl; accepted = h.0; reply_is = ap Refused h.1; log_stays = log_stays; stops = stops h.1; reserve_stays = reserve_stays })))
+      inl (record {
+        ran = runs;
+        reply_is = sym e;
+        log_is = ap (λ (m : Moment). m.log) unchanged;
+        runs = ap (λ (m : Moment). m.stopped)
+            unchanged ∙ runs;
+        reserved_is = ap (λ (m : Moment). m.reserved) unchanged;
+      })
+  by_refused runs (inl (inr h)) = inr (inl (record {
+    ran = runs;
+    accepted = h.0;
+    reply_is = ap Refused h.1;
+    unreserved = λ slot. none_left
+        old.reserved (λ some. memory some h.1);
+    unchanged = left (λ is. absurd cc);
+  }))
+  by_refused runs (inr h) = inr (inr (inl (record {
+    ran = runs;
+    slot = refl;
+    accepted = h.0;
+    reply_is = ap Refused h.1;
+    log_stays =
+        log_stays;
+    stops = stops h.1;
+    reserve_stays = reserve_stays;
+  })))
 
   by_stopped : (b : Bool) → old.stopped ≡ b → Answered
-  by_stopped true is = let why = stopped.1 is in inr (inr (inr (record { was_stopped = is; reply_is = ap Refused why; unchanged = left (λ fault. absurd cc) })))
+  by_stopped true is = let why = stopped.1 is in inr (inr
+      (inr (record { was_stopped = is; reply_is = ap Refused why; unchanged = left (λ fault. absurd cc) })))
   by_stopped false is = by_refused is (refused is)
 
 -- Iterations
 
 -- what the iterator of a vector has given is a front of its items
-pub taken_front : {X A : Type 0} (s : IntoIter X A) (xs : List X) (t : IntoIter X A) → Yields into_iter_steps s xs t → into_iter_items s ≡ xs ++ into_iter_items t
+pub taken_front : {X A : Type 0} (s : IntoIter X A) (xs : List X) (t : IntoIter X A) → Yields into_iter_steps s xs t → into_iter_items s
+    ≡ xs ++ into_iter_items t
 taken_front s [] t y = ap into_iter_items y
 taken_front s (x ∷ xs) t y = y.1.0 ∙ ap (λ ys. x ∷ ys) (taken_front y.0 xs t y.2)
 
@@ -153,7 +225,8 @@ run_more plan before between after (y ∷ es) [] e r h s = absurd h
 run_more plan before between after (y ∷ es) (x ∷ rs) e r h s = (h.0, h.1, run_more plan h.0 between after es rs e r h.2 s)
 
 -- a run answers one reply an event
-pub run_length : (plan : DiePlan) (before after : Moment) (es : List Event) (rs : List Reply) → IsRun plan before es rs after → length rs ≡ length es
+pub run_length : (plan : DiePlan) (before after : Moment) (es : List Event) (rs : List Reply) → IsRun plan before es rs after → length rs
+    ≡ length es
 run_length plan before after [] [] h = refl
 run_length plan before after [] (x ∷ rs) h = absurd h
 run_length plan before after (y ∷ es) [] h = absurd h

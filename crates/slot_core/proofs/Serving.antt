@@ -1,5 +1,7 @@
 -- What the head of a slot finds: an operation left, a page of the die, a token for a write, room for what a read gives.
-use Rattle.std.proofs.Common.{◌≡◌, ℕ, zero, suc, ◌+◌, ◌<◌, ◌≤◌, ◌==◌, Bool, true, false, cond, List, [], ◌∷◌, ◌++◌, Option, Some, None, refl, ap, sym, ◌∙◌, subst, length, length-set, take, drop, slice_get, slice_index, length-append, add-one, inl, inr, ◌⊎◌, arith}
+use Rattle.std.proofs.Common.{◌≡◌, ℕ, zero, suc, ◌+◌, ◌<◌, ◌≤◌, ◌==◌, Bool, true, false, cond, List, [], ◌∷◌, ◌++◌, Option, Some, None}
+use Rattle.std.proofs.Common.{refl, ap, sym, ◌∙◌, subst, length, length-set, take, drop, slice_get, slice_index, length-append, add-one}
+use Rattle.std.proofs.Common.{inl, inr, ◌⊎◌, arith}
 use Rattle.std.specs.Prelude.{count_by, MatchOption, MatchBool}
 use Rattle.std.specs.List.{sum_by, cons_option}
 use Rattle.std.proofs.lemmas.Bool.{eqb-true}
@@ -67,16 +69,20 @@ write_left (x ∷ ops) zero op e is =
 write_left (x ∷ ops) (suc w) op e is = write_left ops w op e is
 
 -- a job whose next operation is a write holds a token
-pub hold_positive : (plan : DiePlan) (a : Accounts) (own : ℕ → List Act) (lent : ℕ → ℕ) (owed free : ℕ) (js : List Job) (j : Job) (op : Op) → Agree plan a (held_of own js) lent owed free → j.task < length plan.caps
-    → slice_get js j.number ≡ Some j → slice_get j.ops (length (own j.number)) ≡ Some op → is_write op ≡ true → 0 < slice_index a.holds j.task
+pub hold_positive : (plan : DiePlan) (a : Accounts) (own : ℕ → List Act) (lent : ℕ → ℕ) (owed free : ℕ) (js : List Job) (j : Job) (op : Op)
+    → Agree plan a (held_of own js) lent owed free → j.task < length plan.caps
+    → slice_get js j.number ≡ Some j → slice_get j.ops (length (own j.number)) ≡ Some op → is_write op ≡ true → 0
+    < slice_index a.holds j.task
 hold_positive plan a own lent owed free js j op agree task at next is =
     let left : 0 < left_of own j = write_left j.ops (length (own j.number)) op next is in
-    let part : at_task j.task (left_of own j) j.task ≤ held_of own js j.task = part_of_sum (λ (i : Job). at_task i.task (left_of own i) j.task) js j.number j at in
+    let part : at_task j.task (left_of own j) j.task ≤ held_of own js j.task = part_of_sum
+    (λ (i : Job). at_task i.task (left_of own i) j.task) js j.number j at in
     omega (arith, agree.holds_are j.task task, part, at_itself j.task (left_of own j), left)
 
 -- Reads
 
-read_among : (ops : List Op) (w : ℕ) (op : Op) → slice_get ops w ≡ Some op → is_read op ≡ true → count_by is_read (take w ops) < count_by is_read ops
+read_among : (ops : List Op) (w : ℕ) (op : Op) → slice_get ops w ≡ Some op → is_read op ≡ true → count_by is_read (take w ops)
+    < count_by is_read ops
 read_among [] w op e is = absurd (none-some op e)
 read_among (x ∷ ops) zero op e is =
     let one : one_if is_read x ≡ 1 = ap (λ (b : Bool). cond b 1 0) (ap is_read (same_Some x op e) ∙ is) in
@@ -104,13 +110,15 @@ read_count (asks.Trim page) (does.CopyRead p) h = absurd h
 read_count (asks.Trim page) (does.CopyProgram p) h = absurd h
 read_count (asks.Trim page) (does.Erase c) h = absurd h
 
-count_suc : (ops : List Op) (w : ℕ) (op : Op) → slice_get ops w ≡ Some op → count_by is_read (take (suc w) ops) ≡ count_by is_read (take w ops) + one_if is_read op
+count_suc : (ops : List Op) (w : ℕ) (op : Op) → slice_get ops w ≡ Some op → count_by is_read (take (suc w) ops)
+    ≡ count_by is_read (take w ops) + one_if is_read op
 count_suc [] w op e = absurd (none-some op e)
 count_suc (x ∷ ops) zero op e = omega (arith, sum_by-cons (one_if is_read) x [], ap (one_if is_read) (same_Some x op e))
 count_suc (x ∷ ops) (suc w) op e =
     omega (arith, sum_by-cons (one_if is_read) x (take (suc w) ops), sum_by-cons (one_if is_read) x (take w ops), count_suc ops w op e)
 
-count_next : (ops : List Op) (w : ℕ) (op : Op) → slice_get ops w ≡ Some op → count_by is_read (take (w + 1) ops) ≡ count_by is_read (take w ops) + one_if is_read op
+count_next : (ops : List Op) (w : ℕ) (op : Op) → slice_get ops w ≡ Some op → count_by is_read (take (w + 1) ops)
+    ≡ count_by is_read (take w ops) + one_if is_read op
 count_next ops w op e = ap (λ (n : ℕ). count_by is_read (take n ops)) (add-one w) ∙ count_suc ops w op e
 
 -- a job's reads so far are the reads among its operations so far
@@ -120,7 +128,8 @@ ReadsSoFar log j = j.collects ≡ false → length (reads_of (acts j.number log)
 abbrev CountReads : Log → Type 0
 CountReads log = (n : ℕ) (j : Job) → job_at log n ≡ Some j → (j.number ≡ n) × ReadsSoFar log j
 
-get_push : {X : Type 0} (xs : List X) (x : X) (n : ℕ) (y : X) → slice_get (xs ++ x ∷ []) n ≡ Some y → (slice_get xs n ≡ Some y) ⊎ ((n ≡ length xs) × (x ≡ y))
+get_push : {X : Type 0} (xs : List X) (x : X) (n : ℕ) (y : X) → slice_get (xs ++ x ∷ []) n ≡ Some y → (slice_get xs n ≡ Some y)
+    ⊎ ((n ≡ length xs) × (x ≡ y))
 get_push [] x zero y e = inr (refl, same_Some x y e)
 get_push [] x (suc n) y e = absurd (none-some y e)
 get_push (z ∷ xs) x zero y e = inl e
@@ -140,18 +149,28 @@ taken_reads past new number fresh h n j e = by_place (get_push (jobs past) new n
         (omega (arith, number, is.0), λ plain. rw number (rw fresh refl))
 
 -- after an act of its own
-acted_reads : (past : Log) (e : Entry) (j : Job) (act : Act) → act_of j.number (ran_by e.reply) ≡ Some act → (j.collects ≡ false → IsNextOperation past j act) → ReadsSoFar past j → ReadsSoFar (e ∷ past) j
+acted_reads : (past : Log) (e : Entry) (j : Job) (act : Act) → act_of j.number (ran_by e.reply) ≡ Some act
+    → (j.collects ≡ false → IsNextOperation past j act) → ReadsSoFar past j → ReadsSoFar (e ∷ past) j
 acted_reads past e j act is next before plain = by_op (slice_get j.ops (work j.number past)) refl (next plain)
   where
     grown : acts j.number (e ∷ past) ≡ acts j.number past ++ act ∷ []
     grown = acts_grow j.number e past act is
 
-    by_op : (o : Option Op) → slice_get j.ops (work j.number past) ≡ o → MatchOption o ⊥ (λ op. Does op act) → length (reads_of (acts j.number (e ∷ past))) ≡ count_by is_read (take (work j.number (e ∷ past)) j.ops)
+    by_op : (o : Option Op) → slice_get j.ops (work j.number past) ≡ o → MatchOption o ⊥ (λ op. Does op act)
+        → length (reads_of (acts j.number (e ∷ past))) ≡ count_by is_read (take (work j.number (e ∷ past)) j.ops)
     by_op None at h = absurd h
-    by_op (Some op) at h = rw grown (rw (filter_map-append bytes_read (acts j.number past) (act ∷ [])) (rw (length_push (acts j.number past) act)
-        (omega (arith, length-append (reads_of (acts j.number past)) (cons_option (bytes_read act) []), read_count op act h, before plain, count_next j.ops (work j.number past) op at))))
+    by_op (Some op) at h = rw grown (rw (filter_map-append bytes_read (acts j.number past) (act ∷ []))
+        (rw (length_push (acts j.number past) act)
+        (omega (
+          arith,
+          length-append (reads_of (acts j.number past)) (cons_option (bytes_read act) []),
+          read_count op act h,
+          before plain,
+          count_next j.ops (work j.number past) op at,
+        ))))
 
-ran_reads : (plan : DiePlan) (past : Log) (caller : ℕ) (s : SlotReply) (ws : List Waived) (c : Carried) → s.ran ≡ c → IsLegalRun plan past ws c → CountReads past → CountReads (entry caller events.Slot (replies.Slot s) ∷ past)
+ran_reads : (plan : DiePlan) (past : Log) (caller : ℕ) (s : SlotReply) (ws : List Waived) (c : Carried) → s.ran ≡ c
+    → IsLegalRun plan past ws c → CountReads past → CountReads (entry caller events.Slot (replies.Slot s) ∷ past)
 ran_reads plan past caller s ws None is legal h n j at =
     let k = h n j at in
     (k.0, λ plain. rw (acts_stay j.number (entry caller events.Slot (replies.Slot s)) past (ap (act_of j.number) is)) (k.1 plain))
@@ -164,20 +183,27 @@ ran_reads plan past caller s ws (Some (number, act)) is legal h n j at = by_own 
     k = h n j at
 
     by_own : (b : Bool) → (number == j.number) ≡ b → (j.number ≡ n) × ReadsSoFar (entry caller events.Slot (replies.Slot s) ∷ past) j
-    by_own false differs = (k.0, λ plain. rw (acts_stay j.number (entry caller events.Slot (replies.Slot s)) past (ap (act_of j.number) is ∙ rw differs refl)) (k.1 plain))
+    by_own false differs = (
+      k.0,
+      λ plain. rw (acts_stay j.number (entry caller events.Slot (replies.Slot s)) past (ap (act_of j.number) is
+          ∙ rw differs refl)) (k.1 plain),
+    )
     by_own true same =
         let number_is : number ≡ j.number = eqb-true number j.number same in
         let job_is : legal.0 ≡ j = same_Some legal.0 j (sym legal.1.known ∙ (ap (slice_get (jobs past)) (number_is ∙ k.0) ∙ at)) in (
           k.0,
           acted_reads past (entry caller events.Slot (replies.Slot s)) j act (ap (act_of j.number) is ∙ rw same refl)
-              (subst (λ (i : Job). i.collects ≡ false → IsNextOperation past i act) job_is (λ plain. subst (λ (b : Bool). MatchBool b (IsNextCollectAct plan past number act) (IsNextOperation past legal.0 act)) plain legal.1.next)) k.1,
+              (subst (λ (i : Job). i.collects ≡ false → IsNextOperation past i act) job_is
+              (λ plain. subst (λ (b : Bool). MatchBool b (IsNextCollectAct plan past number act) (IsNextOperation past legal.0 act))
+              plain legal.1.next)) k.1,
         )
 
 pub reads_counted : (plan : DiePlan) (log : Log) → IsExact plan log → IsLegal plan log → CountReads log
 reads_counted plan [] x l = λ n j e. absurd (none-some j e)
 reads_counted plan (e ∷ past) x l = by_kind e.event e.reply l.1.numbered l.1.slot (reads_counted plan past x.0 l.0)
   where
-    by_kind : (event : Event) (reply : Reply) → IsNumbered past event reply → IsLegalReply plan past reply → CountReads past → CountReads (entry e.caller event reply ∷ past)
+    by_kind : (event : Event) (reply : Reply) → IsNumbered past event reply → IsLegalReply plan past reply → CountReads past
+        → CountReads (entry e.caller event reply ∷ past)
     by_kind (events.Submit task release due ops) (replies.Taken number) is legal h = taken_reads past _ is (no_acts plan past x.0) h
     by_kind (events.Submit task release due ops) (replies.Slot s) is legal h = absurd is
     by_kind (events.Submit task release due ops) (replies.Refused r) is legal h = absurd is
@@ -189,7 +215,8 @@ reads_counted plan (e ∷ past) x l = by_kind e.event e.reply l.1.numbered l.1.s
     by_kind events.Slot (replies.Refused r) is legal h = absurd is
 
 -- a job whose next operation is a read has fewer reads than it asked for
-pub read_left : (plan : DiePlan) (log : Log) (n : ℕ) (j : Job) (op : Op) → IsExact plan log → IsLegal plan log → job_at log n ≡ Some j → j.collects ≡ false → slice_get j.ops (work j.number log) ≡ Some op → is_read op ≡ true
+pub read_left : (plan : DiePlan) (log : Log) (n : ℕ) (j : Job) (op : Op) → IsExact plan log → IsLegal plan log → job_at log n ≡ Some j
+    → j.collects ≡ false → slice_get j.ops (work j.number log) ≡ Some op → is_read op ≡ true
     → length (reads_of (acts j.number log)) < count_by is_read j.ops
 read_left plan log n j op x l at plain next is =
     omega (arith, (reads_counted plan log x l n j at).1 plain, read_among j.ops (work j.number log) op next is)

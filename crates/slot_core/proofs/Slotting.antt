@@ -1,5 +1,7 @@
 -- A slot keeps what the fields of a die say of its log.
-use Rattle.std.proofs.Common.{◌≡◌, ℕ, zero, suc, ◌+◌, ◌<◌, ◌≤◌, ◌==◌, ◌&&◌, ◌||◌, not, nat_le, Bool, true, false, List, [], ◌∷◌, ◌++◌, Option, Some, None, option_map, refl, ap, sym, ◌∙◌, subst, length, map, slice_get, slice_index_or, if◌then◌else◌, append-nil, arith}
+use Rattle.std.proofs.Common.{◌≡◌, ℕ, zero, suc, ◌+◌, ◌<◌, ◌≤◌, ◌==◌, ◌&&◌, ◌||◌, not, nat_le, Bool, true, false, List, [], ◌∷◌, ◌++◌}
+use Rattle.std.proofs.Common.{Option, Some, None, option_map, refl, ap, sym, ◌∙◌, subst, length, map, slice_get, slice_index_or}
+use Rattle.std.proofs.Common.{if◌then◌else◌, append-nil, arith}
 use Rattle.std.proofs.lemmas.Bool.{and_parts, not-true, true≢false}
 use Rattle.std.proofs.lemmas.Bool.Decides.{nat_tests}
 use Rattle.std.proofs.lemmas.List.{length_push}
@@ -67,7 +69,8 @@ past_clock : (m n : ℕ) → n < m → nat_le m n ≡ false
 past_clock m n h = grind (arith, nat_tests)
 
 -- a slot before the last one is not refused
-pub slot_unrefused : (plan : DiePlan) (log : Log) (present : ℕ) → present ≡ now log → present < MAX_SLOT → refusal_of plan log events.Slot ≡ None
+pub slot_unrefused : (plan : DiePlan) (log : Log) (present : ℕ) → present ≡ now log → present < MAX_SLOT → refusal_of plan log events.Slot
+    ≡ None
 slot_unrefused plan log present is few = rw (past_clock MAX_SLOT (now log) (subst (λ (n : ℕ). n < MAX_SLOT) is few)) refl
 
 unrefused : (plan : DiePlan) (log : Log) (present : ℕ) → IsSlot plan log present → refusal_of plan log events.Slot ≡ None
@@ -75,7 +78,8 @@ unrefused plan log present s = rw (past_clock MAX_SLOT (now log) s.few) refl
 
 -- The slot begins
 
-starts_with : (plan : DiePlan) (log : Log) (present : ℕ) (t : Table) (f : FlashState) → Keeps plan log present t false f → present < MAX_SLOT → t.clock ≡ present → InSlot plan log present [] t f
+starts_with : (plan : DiePlan) (log : Log) (present : ℕ) (t : Table) (f : FlashState) → Keeps plan log present t false f → present
+    < MAX_SLOT → t.clock ≡ present → InSlot plan log present [] t f
 starts_with plan log present t f k few clock = record {
   slot = record { exact = k.exact; bound = k.bound; now_is = k.now_is; few = subst (λ (n : ℕ). n < MAX_SLOT) k.now_is few };
   table = record {
@@ -91,12 +95,16 @@ starts_with plan log present t f k few clock = record {
   running = (k.flash refl).running_are;
 }
 
-pub slot_starts : {N : Type 0} (blocks_of : N → List device.Block) (log : Log) (present : ℕ) (t : Table) (v : State N) → Keeps v.accounts.plan log present t v.failed (flash_of blocks_of v) → v.failed ≡ false → present < MAX_SLOT
+pub slot_starts : {N : Type 0} (blocks_of : N → List device.Block) (log : Log) (present : ℕ) (t : Table) (v : State N)
+    → Keeps v.accounts.plan log present t v.failed (flash_of blocks_of v) → v.failed ≡ false → present < MAX_SLOT
     → InSlot v.accounts.plan log present [] (record t { clock = present }) (flash_of blocks_of v)
 slot_starts blocks_of log present t v k alive few =
-    starts_with v.accounts.plan log present (record t { clock = present }) (flash_of blocks_of v) (subst (λ (b : Bool). Keeps v.accounts.plan log present (record t { clock = present }) b (flash_of blocks_of v)) alive (looked k)) few refl
+    starts_with v.accounts.plan log present (record t { clock = present }) (flash_of blocks_of v)
+    (subst (λ (b : Bool). Keeps v.accounts.plan log present (record t { clock = present }) b (flash_of blocks_of v)) alive (looked k))
+    few refl
   where
-    looked : Keeps v.accounts.plan log present t v.failed (flash_of blocks_of v) → Keeps v.accounts.plan log present (record t { clock = present }) v.failed (flash_of blocks_of v)
+    looked : Keeps v.accounts.plan log present t v.failed (flash_of blocks_of v)
+        → Keeps v.accounts.plan log present (record t { clock = present }) v.failed (flash_of blocks_of v)
     looked kept = record {
       exact = kept.exact;
       bound = kept.bound;
@@ -110,13 +118,19 @@ slot_starts blocks_of log present t v k alive few =
 
 -- Without a head
 
-pub slot_idles : (plan : DiePlan) (log : Log) (present : ℕ) (ws : List Waived) (t : Table) (f : FlashState) (caller : ℕ) → InSlot plan log present ws t f → table.NothingReady t
-    → Keeps plan (entry caller events.Slot (replies.Slot (idle_reply present ws)) ∷ log) (present + 1) t false f × (accepted plan log events.Slot ≡ replies.Slot (idle_reply present ws))
-slot_idles plan log present ws t f caller s nothing =
-    (subst (λ (n : ℕ). Keeps plan (entry caller events.Slot (replies.Slot (idle_reply n ws)) ∷ log) (present + 1) t false f) (sym s.slot.now_is) kept, rw s.slot.now_is replied)
+pub slot_idles : (plan : DiePlan) (log : Log) (present : ℕ) (ws : List Waived) (t : Table) (f : FlashState) (caller : ℕ)
+    → InSlot plan log present ws t f → table.NothingReady t
+    → Keeps plan (entry caller events.Slot (replies.Slot (idle_reply present ws)) ∷ log) (present + 1) t false f
+    × (accepted plan log events.Slot ≡ replies.Slot (idle_reply present ws))
+slot_idles plan log present ws t f caller s nothing = (
+  subst (λ (n : ℕ). Keeps plan (entry caller events.Slot (replies.Slot (idle_reply n ws)) ∷ log) (present + 1) t false f)
+      (sym s.slot.now_is) kept,
+  rw s.slot.now_is replied,
+)
   where
     chosen : choice plan log ≡ record { waived = ws; head = None }
-    chosen = ends plan log ws f.tokens s.goes_on (nothing_least plan log ws (length plan.caps) false (subst table.NothingReady (table_is plan log ws t s.table) nothing))
+    chosen = ends plan log ws f.tokens s.goes_on (nothing_least plan log ws (length plan.caps) false
+        (subst table.NothingReady (table_is plan log ws t s.table) nothing))
 
     replied : accepted plan log events.Slot ≡ replies.Slot (idle_reply (now log) ws)
     replied = ap (λ (c : Choice). replies.Slot (slot_reply plan log c.waived c.head)) chosen
@@ -133,19 +147,24 @@ slot_idles plan log present ws t f caller s nothing =
       flash = λ alive. flash-idle plan log caller (now log) ws f s.flash s.running;
     }
 
-pub idle_kept : {N : Type 0} (blocks_of : N → List device.Block) (log later : Log) (present caller : ℕ) (ws : List Waived) (t : Table) (v : State N) (reply : SlotReply)
-    → InSlot v.accounts.plan log present ws t (flash_of blocks_of v) → table.NothingReady t → v.failed ≡ false → reply ≡ idle_reply present ws → later ≡ with_entry caller events.Slot (replies.Slot reply) log
-    → Keeps v.accounts.plan later (present + 1) t v.failed (flash_of blocks_of v) × (answer v.accounts.plan log events.Slot ≡ replies.Slot reply)
+pub idle_kept : {N : Type 0} (blocks_of : N → List device.Block) (log later : Log) (present caller : ℕ) (ws : List Waived) (t : Table)
+    (v : State N) (reply : SlotReply)
+    → InSlot v.accounts.plan log present ws t (flash_of blocks_of v) → table.NothingReady t → v.failed ≡ false → reply
+    ≡ idle_reply present ws → later ≡ with_entry caller events.Slot (replies.Slot reply) log
+    → Keeps v.accounts.plan later (present + 1) t v.failed (flash_of blocks_of v)
+    × (answer v.accounts.plan log events.Slot ≡ replies.Slot reply)
 idle_kept blocks_of log later present caller ws t v reply s nothing alive reply_is later_is =
     let done = slot_idles v.accounts.plan log present ws t (flash_of blocks_of v) caller s nothing in (
       rw later_is (rw reply_is (rw alive done.0)),
-      accepted_answer v.accounts.plan log events.Slot (unrefused v.accounts.plan log present s.slot) ∙ (done.1 ∙ ap replies.Slot (sym reply_is)),
+      accepted_answer v.accounts.plan log events.Slot (unrefused v.accounts.plan log present s.slot)
+          ∙ (done.1 ∙ ap replies.Slot (sym reply_is)),
     )
 
 -- A job's operation
 
 -- the act of the head's operation is what the log determines
-act_is : (plan : DiePlan) (log : Log) (f : FlashState) (j : Job) (op : Op) → f.pages ≡ contents plan log → j.collects ≡ false → slice_get j.ops (work j.number log) ≡ Some op → act_for plan log j ≡ Some (act_by f op)
+act_is : (plan : DiePlan) (log : Log) (f : FlashState) (j : Job) (op : Op) → f.pages ≡ contents plan log → j.collects ≡ false
+    → slice_get j.ops (work j.number log) ≡ Some op → act_for plan log j ≡ Some (act_by f op)
 act_is plan log f j op pages_are plain next = rw plain (rw next (by_op op))
   where
     by_op : (o : Op) → act_of_op plan log (Some o) ≡ Some (act_by f o)
@@ -154,11 +173,16 @@ act_is plan log f j op pages_are plain next = rw plain (rw next (by_op op))
     by_op (asks.Trim page) = refl
 
 -- and it leaves the flash of the log with that act
-flash_operated : (plan : DiePlan) (log : Log) (caller slot : ℕ) (ws : List Waived) (j : Job) (op : Op) (finished : Option ℕ) (f : FlashState)
-    → job_at log j.number ≡ Some j → f.tokens.plan ≡ plan → IsWaivedFlash plan log ws f → AreRunning plan (slot_with caller slot ws j.number (act_by f op) finished log) f.running → (is_write op ≡ true → 0 < free plan log)
+flash_operated : (plan : DiePlan) (log : Log) (caller slot : ℕ) (ws : List Waived) (j : Job) (op : Op) (finished : Option ℕ)
+    (f : FlashState)
+    → job_at log j.number ≡ Some j → f.tokens.plan ≡ plan → IsWaivedFlash plan log ws f
+    → AreRunning plan (slot_with caller slot ws j.number (act_by f op) finished log) f.running
+    → (is_write op ≡ true → 0 < free plan log)
     → IsFlashOf plan (slot_with caller slot ws j.number (act_by f op) finished log) (operated f j.task op)
-flash_operated plan log caller slot ws j (asks.Read page) finished f at plan_is w runs some = flash-read plan log caller slot ws j page (slice_index_or f.pages page device.blank) finished f at w runs
-flash_operated plan log caller slot ws j (asks.Trim page) finished f at plan_is w runs some = flash-trim plan log caller slot ws j page finished f at w runs
+flash_operated plan log caller slot ws j (asks.Read page) finished f at plan_is w runs some = flash-read plan log caller slot ws j page
+    (slice_index_or f.pages page device.blank) finished f at w runs
+flash_operated plan log caller slot ws j (asks.Trim page) finished f at plan_is w runs some = flash-trim plan log caller slot ws j page
+    finished f at w runs
 flash_operated plan log caller slot ws j (asks.Write page bytes) finished f at plan_is w runs some =
     rw (ap (λ (p : DiePlan). open_in p.shape.pages f.blocks) plan_is ∙ (opens_same plan (cells plan log) f.blocks w.blocks_are ∙ opened.1))
     (flash-write plan log caller slot ws j page bytes finished f opened.0 at opened.1 w runs)
@@ -166,49 +190,60 @@ flash_operated plan log caller slot ws j (asks.Write page bytes) finished f at p
     opened : (b : ℕ) × (flash.open_block plan (cells plan log) ≡ Some b)
     opened = opens plan (cells plan log) (some refl)
 
-plain_all : (plan : DiePlan) (j : Job) (own : List Act) (act : Act) → j.collects ≡ false → are_all plan j (own ++ act ∷ []) ≡ (length own + 1 == length j.ops)
+plain_all : (plan : DiePlan) (j : Job) (own : List Act) (act : Act) → j.collects ≡ false → are_all plan j (own ++ act ∷ [])
+    ≡ (length own + 1 == length j.ops)
 plain_all plan j own act plain = rw plain (ap (λ (n : ℕ). n == length j.ops) (length_push own act))
 
-took_op : {N : Type 0} (blocks_of : N → List device.Block) (log : Log) (present caller : ℕ) (ws : List Waived) (t : Table) (n : ℕ) (v w : State N) (turn : Turn) → (h : HasTurn v.accounts.plan log present ws t (flash_of blocks_of v) n) → h.job.collects ≡ false
+took_op : {N : Type 0} (blocks_of : N → List device.Block) (log : Log) (present caller : ℕ) (ws : List Waived) (t : Table) (n : ℕ)
+    (v w : State N) (turn : Turn) → (h : HasTurn v.accounts.plan log present ws t (flash_of blocks_of v) n) → h.job.collects ≡ false
     → DidOp blocks_of v (record_with v.accounts.plan log (waived log ++ ws) h.job) turn w → IsTaken blocks_of log caller ws h.job v w turn
 took_op blocks_of log present caller ws t n v w turn h plain d = rw d.turn_is (record {
   act_is = act_is v.accounts.plan log (flash_of blocks_of v) h.job d.op h.flash.pages_are plain d.next;
   last_is = plain_all v.accounts.plan h.job (acts h.job.number log) (act_by (flash_of blocks_of v) d.op) plain;
   given_is = λ e. rw plain refl;
-  flash = λ slot finished. subst (IsFlashOf v.accounts.plan (slot_with caller slot ws h.job.number (act_by (flash_of blocks_of v) d.op) finished log)) (sym d.flash)
-      (flash_operated v.accounts.plan log caller slot ws h.job d.op finished (flash_of blocks_of v) job.own_at refl h.flash (runs slot finished) some_free);
+  flash = λ slot finished. subst (IsFlashOf v.accounts.plan
+      (slot_with caller slot ws h.job.number (act_by (flash_of blocks_of v) d.op) finished log)) (sym d.flash)
+      (flash_operated v.accounts.plan log caller slot ws h.job d.op finished (flash_of blocks_of v) job.own_at refl h.flash
+      (runs slot finished) some_free);
 })
   where
     job : IsHeadJob v.accounts.plan log ws t n h.job
     job = turn_job v.accounts.plan log present ws t (flash_of blocks_of v) n h
 
-    runs : (slot : ℕ) (finished : Option ℕ) → AreRunning v.accounts.plan (slot_with caller slot ws h.job.number (act_by (flash_of blocks_of v) d.op) finished log) v.running
+    runs : (slot : ℕ) (finished : Option ℕ) → AreRunning v.accounts.plan
+        (slot_with caller slot ws h.job.number (act_by (flash_of blocks_of v) d.op) finished log) v.running
     runs slot finished =
-        running_acted v.accounts.plan (slot_entry caller slot ws h.job.number (act_by (flash_of blocks_of v) d.op) finished) log h.job (act_by (flash_of blocks_of v) d.op) (flash_of blocks_of v) v.running refl refl
+        running_acted v.accounts.plan (slot_entry caller slot ws h.job.number (act_by (flash_of blocks_of v) d.op) finished) log h.job
+        (act_by (flash_of blocks_of v) d.op) (flash_of blocks_of v) v.running refl refl
         job.both.0.numbered job.stands h.others h.others.len (λ task apart. refl) (λ collects. absurd (true≢false (sym collects ∙ plain)))
 
     some_free : is_write d.op ≡ true → 0 < free v.accounts.plan log
     some_free is =
         let agree = job.both.1.true_accounts.agree in
-        let held = hold_positive v.accounts.plan (accounts v.accounts.plan log) (λ k. acts k log) (lent_to v.accounts.plan (λ k. acts k log) (is_waived log) (jobs log)) (owed log) (free v.accounts.plan log) (jobs log) h.job d.op agree job.limits.task job.own_at d.next is in
+        let held = hold_positive v.accounts.plan (accounts v.accounts.plan log) (λ k. acts k log)
+        (lent_to v.accounts.plan (λ k. acts k log) (is_waived log) (jobs log)) (owed log) (free v.accounts.plan log) (jobs log) h.job
+        d.op agree job.limits.task job.own_at d.next is in
         omega (
           arith,
           held,
           one_le_sum (accounts v.accounts.plan log).holds h.job.task (omega (arith, job.limits.task, agree.holds_len)),
           agree.owed_is,
-          owed_fits v.accounts.plan (accounts v.accounts.plan log) (held_of (λ k. acts k log) (jobs log)) (lent_to v.accounts.plan (λ k. acts k log) (is_waived log) (jobs log)) (owed log) (free v.accounts.plan log) agree,
+          owed_fits v.accounts.plan (accounts v.accounts.plan log) (held_of (λ k. acts k log) (jobs log))
+              (lent_to v.accounts.plan (λ k. acts k log) (is_waived log) (jobs log)) (owed log) (free v.accounts.plan log) agree,
         )
 
 -- The head's turn
 
-took_turn : {N : Type 0} (blocks_of : N → List device.Block) (log : Log) (present caller : ℕ) (ws : List Waived) (t : Table) (n : ℕ) (v w : State N) (turn : Turn) → (h : HasTurn v.accounts.plan log present ws t (flash_of blocks_of v) n)
+took_turn : {N : Type 0} (blocks_of : N → List device.Block) (log : Log) (present caller : ℕ) (ws : List Waived) (t : Table) (n : ℕ)
+    (v w : State N) (turn : Turn) → (h : HasTurn v.accounts.plan log present ws t (flash_of blocks_of v) n)
     → DidTurn blocks_of v (record_with v.accounts.plan log (waived log ++ ws) h.job) turn w → IsTaken blocks_of log caller ws h.job v w turn
 took_turn blocks_of log present caller ws t n v w turn h d = by_kind h.job.collects refl d
   where
     job : IsHeadJob v.accounts.plan log ws t n h.job
     job = turn_job v.accounts.plan log present ws t (flash_of blocks_of v) n h
 
-    by_kind : (b : Bool) → h.job.collects ≡ b → DidBy blocks_of v (record_with v.accounts.plan log (waived log ++ ws) h.job) b turn w → IsTaken blocks_of log caller ws h.job v w turn
+    by_kind : (b : Bool) → h.job.collects ≡ b → DidBy blocks_of v (record_with v.accounts.plan log (waived log ++ ws) h.job) b turn w
+        → IsTaken blocks_of log caller ws h.job v w turn
     by_kind false plain k = took_op blocks_of log present caller ws t n v w turn h plain k
     by_kind true collects k =
         let c = h.runs collects in
@@ -240,7 +275,8 @@ stage_pending Pending h = refl
 stage_pending (Done c g) h = absurd cc
 stage_pending (Gone g) h = absurd cc
 
-same_stage : (act : Act) (r : JobRecord) → r.stage ≡ Pending → with_stage Pending (after_read act (jobs_table.carried r)) ≡ after_read act (jobs_table.carried r)
+same_stage : (act : Act) (r : JobRecord) → r.stage ≡ Pending → with_stage Pending (after_read act (jobs_table.carried r))
+    ≡ after_read act (jobs_table.carried r)
 same_stage (does.Read page bytes) r h = rw h refl
 same_stage (does.Write page bytes) r h = rw h refl
 same_stage (does.Trim page) r h = rw h refl
@@ -248,60 +284,75 @@ same_stage (does.CopyRead page) r h = rw h refl
 same_stage (does.CopyProgram page) r h = rw h refl
 same_stage (does.Erase block) r h = rw h refl
 
-changed_twice : (xs : List JobRecord) (n : ℕ) (f g : JobRecord → JobRecord) → changed_at (changed_at xs n f) n g ≡ changed_at xs n (λ r. g (f r))
+changed_twice : (xs : List JobRecord) (n : ℕ) (f g : JobRecord → JobRecord) → changed_at (changed_at xs n f) n g
+    ≡ changed_at xs n (λ r. g (f r))
 changed_twice [] n f g = refl
 changed_twice (x ∷ xs) zero f g = refl
 changed_twice (x ∷ xs) (suc n) f g = ap (λ ys. x ∷ ys) (changed_twice xs n f g)
 
 -- what the turn does to the head's record
 abbrev pub turned : Turn → ℕ → JobRecord → JobRecord
-turned turn completion r = if turn.last then with_stage (Done completion turn.given) (after_read turn.act (jobs_table.carried r)) else after_read turn.act (jobs_table.carried r)
+turned turn completion r = if turn.last then with_stage (Done completion turn.given) (after_read turn.act (jobs_table.carried r)) else
+    after_read turn.act (jobs_table.carried r)
 
-pub turn_change : (t : Table) (n : ℕ) (turn : Turn) (completion : ℕ) → after_turn t n turn completion ≡ with_change t n (turned turn completion)
+pub turn_change : (t : Table) (n : ℕ) (turn : Turn) (completion : ℕ) → after_turn t n turn completion
+    ≡ with_change t n (turned turn completion)
 turn_change t n turn completion = by_last turn.last
   where
     by_last : (b : Bool) → finished b n completion turn.given (with_change t n (λ job. after_read turn.act (jobs_table.carried job)))
-        ≡ with_change t n (λ r. if b then with_stage (Done completion turn.given) (after_read turn.act (jobs_table.carried r)) else after_read turn.act (jobs_table.carried r))
-    by_last true = ap (λ (js : List JobRecord). record t { jobs = js }) (changed_twice t.jobs n (λ r. after_read turn.act (jobs_table.carried r)) (with_stage (Done completion turn.given)))
+        ≡ with_change t n (λ r. if b then with_stage (Done completion turn.given) (after_read turn.act (jobs_table.carried r)) else
+        after_read turn.act (jobs_table.carried r))
+    by_last true = ap (λ (js : List JobRecord). record t { jobs = js })
+        (changed_twice t.jobs n (λ r. after_read turn.act (jobs_table.carried r)) (with_stage (Done completion turn.given)))
     by_last false = refl
 
-turned_is : {N : Type 0} (blocks_of : N → List device.Block) (log : Log) (present caller : ℕ) (ws : List Waived) (t : Table) (n : ℕ) (v w : State N) (turn : Turn) → (h : HasTurn v.accounts.plan log present ws t (flash_of blocks_of v) n)
+turned_is : {N : Type 0} (blocks_of : N → List device.Block) (log : Log) (present caller : ℕ) (ws : List Waived) (t : Table) (n : ℕ)
+    (v w : State N) (turn : Turn) → (h : HasTurn v.accounts.plan log present ws t (flash_of blocks_of v) n)
     → IsTaken blocks_of log caller ws h.job v w turn
-    → turned turn (present + 1) (record_with v.accounts.plan log (waived log ++ ws) h.job) ≡ acted_record v.accounts.plan log caller ws h.job turn.act turn.last
+    → turned turn (present + 1) (record_with v.accounts.plan log (waived log ++ ws) h.job)
+    ≡ acted_record v.accounts.plan log caller ws h.job turn.act turn.last
 turned_is blocks_of log present caller ws t n v w turn h k = by_last turn.last refl
   where
     job : IsHeadJob v.accounts.plan log ws t n h.job
     job = turn_job v.accounts.plan log present ws t (flash_of blocks_of v) n h
 
     unwaived : is_among h.job.number (waived log ++ ws) ≡ false
-    unwaived = among_both h.job.number (waived log) ws ∙ or_both (is_among h.job.number (waived log)) (is_among h.job.number ws) past job.unwaived_now
+    unwaived = among_both h.job.number (waived log) ws ∙ or_both (is_among h.job.number (waived log)) (is_among h.job.number ws) past
+        job.unwaived_now
       where
         past : is_waived log h.job.number ≡ false
-        past = not-true (is_waived log h.job.number) (and_parts (nat_le h.job.release (now log) && not (is_done v.accounts.plan log h.job)) (not (is_waived log h.job.number)) job.ready_now).1
+        past = not-true (is_waived log h.job.number) (and_parts (nat_le h.job.release (now log) && not (is_done v.accounts.plan log h.job))
+            (not (is_waived log h.job.number)) job.ready_now).1
 
     none : waiver_among h.job.number (waived log ++ ws) ≡ None
     none = none_among (waiver_among h.job.number (waived log ++ ws)) (waiver_is h.job.number (waived log ++ ws) ∙ unwaived)
 
     stage_is : (record_with v.accounts.plan log (waived log ++ ws) h.job).stage ≡ Pending
-    stage_is = stage_pending (record_with v.accounts.plan log (waived log ++ ws) h.job).stage (pending_is v.accounts.plan log (waived log ++ ws) h.job ∙ rw job.undone (rw unwaived refl))
+    stage_is = stage_pending (record_with v.accounts.plan log (waived log ++ ws) h.job).stage
+        (pending_is v.accounts.plan log (waived log ++ ws) h.job ∙ rw job.undone (rw unwaived refl))
 
     moved : JobRecord
     moved = after_read turn.act (jobs_table.carried (record_with v.accounts.plan log (waived log ++ ws) h.job))
 
     by_last : (b : Bool) → turn.last ≡ b
-        → (if b then with_stage (Done (present + 1) turn.given) moved else moved) ≡ acted_record v.accounts.plan log caller ws h.job turn.act b
+        → (if b then with_stage (Done (present + 1) turn.given) moved else moved)
+        ≡ acted_record v.accounts.plan log caller ws h.job turn.act b
     by_last true e =
         ap (λ (m : ℕ). with_stage (Done (m + 1) turn.given) moved) h.slot.now_is
-        ∙ (ap (λ (g : ℕ). with_stage (Done (now log + 1) g) moved) (k.given_is e) ∙ sym (acted_is v.accounts.plan log caller ws h.job turn.act true job.own_at none (k.last_is ∙ e)))
+        ∙ (ap (λ (g : ℕ). with_stage (Done (now log + 1) g) moved) (k.given_is e)
+        ∙ sym (acted_is v.accounts.plan log caller ws h.job turn.act true job.own_at none (k.last_is ∙ e)))
     by_last false e =
-        sym (same_stage turn.act (record_with v.accounts.plan log (waived log ++ ws) h.job) stage_is) ∙ sym (acted_is v.accounts.plan log caller ws h.job turn.act false job.own_at none (k.last_is ∙ e))
+        sym (same_stage turn.act (record_with v.accounts.plan log (waived log ++ ws) h.job) stage_is)
+        ∙ sym (acted_is v.accounts.plan log caller ws h.job turn.act false job.own_at none (k.last_is ∙ e))
 
 abbrev pub turn_reply : ℕ → List Waived → ℕ → Turn → SlotReply
 turn_reply slot ws n turn = record { slot = slot; waived = ws; ran = Some (n, turn.act); finished = if turn.last then Some n else None }
 
-slot_acts : {N : Type 0} (blocks_of : N → List device.Block) (log : Log) (present caller : ℕ) (ws : List Waived) (t : Table) (n : ℕ) (v w : State N) (turn : Turn)
+slot_acts : {N : Type 0} (blocks_of : N → List device.Block) (log : Log) (present caller : ℕ) (ws : List Waived) (t : Table) (n : ℕ)
+    (v w : State N) (turn : Turn)
     → (h : HasTurn v.accounts.plan log present ws t (flash_of blocks_of v) n) → IsTaken blocks_of log caller ws h.job v w turn
-    → Keeps v.accounts.plan (with_entry caller events.Slot (replies.Slot (turn_reply (now log) ws h.job.number turn)) log) (present + 1) (with_change t h.job.number (turned turn (present + 1))) false (flash_of blocks_of w)
+    → Keeps v.accounts.plan (with_entry caller events.Slot (replies.Slot (turn_reply (now log) ws h.job.number turn)) log) (present + 1)
+    (with_change t h.job.number (turned turn (present + 1))) false (flash_of blocks_of w)
     × (accepted v.accounts.plan log events.Slot ≡ replies.Slot (turn_reply (now log) ws h.job.number turn))
 slot_acts blocks_of log present caller ws t n v w turn h k = (kept, replied)
   where
@@ -320,30 +371,43 @@ slot_acts blocks_of log present caller ws t n v w turn h k = (kept, replied)
         ∙ (ap (λ (o : Option Act). replies.Slot (reply_with v.accounts.plan log ws h.job o)) k.act_is
         ∙ ap (λ (b : Bool). replies.Slot (acted_reply log ws h.job.number turn.act b)) k.last_is)
 
-    kept : Keeps v.accounts.plan (with_entry caller events.Slot (replies.Slot (turn_reply (now log) ws h.job.number turn)) log) (present + 1) (with_change t h.job.number (turned turn (present + 1))) false (flash_of blocks_of w)
+    kept : Keeps v.accounts.plan (with_entry caller events.Slot (replies.Slot (turn_reply (now log) ws h.job.number turn)) log)
+        (present + 1) (with_change t h.job.number (turned turn (present + 1))) false (flash_of blocks_of w)
     kept = record {
-      exact = (h.slot.exact, sym (accepted_answer v.accounts.plan log events.Slot (unrefused v.accounts.plan log present h.slot) ∙ replied), tt);
+      exact = (
+        h.slot.exact,
+        sym (accepted_answer v.accounts.plan log events.Slot (unrefused v.accounts.plan log present h.slot) ∙ replied),
+        tt,
+      );
       bound = h.slot.bound;
       now_is = ap (λ m. m + 1) h.slot.now_is ∙ sym (length_push (carried log) (Some (h.job.number, turn.act)));
       tasks_are = h.table.tasks_are;
       clock_by = omega (arith, h.table.clock_is, h.slot.now_is);
       ended_is = h.table.running;
       jobs_are = ap (λ (js : List JobRecord). changed_at js h.job.number (turned turn (present + 1))) h.table.jobs_are
-          ∙ records-act v.accounts.plan log caller ws h.job turn.act turn.last (turned turn (present + 1)) job.both.0.numbered job.own_at (turned_is blocks_of log present caller ws t n v w turn h k);
+          ∙ records-act v.accounts.plan log caller ws h.job turn.act turn.last (turned turn (present + 1)) job.both.0.numbered job.own_at
+          (turned_is blocks_of log present caller ws t n v w turn h k);
       flash = λ alive. k.flash (now log) (if turn.last then Some h.job.number else None);
     }
 
-pub turn_kept : {N : Type 0} (blocks_of : N → List device.Block) (log later : Log) (present caller : ℕ) (ws : List Waived) (t x : Table) (n : ℕ) (v w : State N) (r : JobRecord) (turn : Turn) (reply : SlotReply)
-    → HasTurn v.accounts.plan log present ws t (flash_of blocks_of v) n → slice_get t.jobs n ≡ Some r → DidTurn blocks_of v r turn w → w.accounts.plan ≡ v.accounts.plan → w.failed ≡ false
-    → x ≡ after_turn t n turn (present + 1) → reply ≡ turn_reply present ws n turn → later ≡ with_entry caller events.Slot (replies.Slot reply) log
-    → Keeps w.accounts.plan later (present + 1) x w.failed (flash_of blocks_of w) × (answer v.accounts.plan log events.Slot ≡ replies.Slot reply)
+pub turn_kept : {N : Type 0} (blocks_of : N → List device.Block) (log later : Log) (present caller : ℕ) (ws : List Waived) (t x : Table)
+    (n : ℕ) (v w : State N) (r : JobRecord) (turn : Turn) (reply : SlotReply)
+    → HasTurn v.accounts.plan log present ws t (flash_of blocks_of v) n → slice_get t.jobs n ≡ Some r → DidTurn blocks_of v r turn w
+    → w.accounts.plan ≡ v.accounts.plan → w.failed ≡ false
+    → x ≡ after_turn t n turn (present + 1) → reply ≡ turn_reply present ws n turn → later
+    ≡ with_entry caller events.Slot (replies.Slot reply) log
+    → Keeps w.accounts.plan later (present + 1) x w.failed (flash_of blocks_of w)
+    × (answer v.accounts.plan log events.Slot ≡ replies.Slot reply)
 turn_kept blocks_of log later present caller ws t x n v w r turn reply h at did plan_is well table_after reply_is later_is = (
   subst (λ (p : DiePlan). Keeps p later (present + 1) x w.failed (flash_of blocks_of w)) (sym plan_is)
       (rw later_is (rw reply_is (rw well (rw (table_after ∙ turn_change t n turn (present + 1))
-      (subst (λ (m : ℕ). Keeps v.accounts.plan (with_entry caller events.Slot (replies.Slot (turn_reply m ws n turn)) log) (present + 1) (with_change t n (turned turn (present + 1))) false (flash_of blocks_of w)) (sym h.slot.now_is)
-      (subst (λ (m : ℕ). Keeps v.accounts.plan (with_entry caller events.Slot (replies.Slot (turn_reply (now log) ws m turn)) log) (present + 1) (with_change t m (turned turn (present + 1))) false (flash_of blocks_of w)) job.number_is done.0)))))),
+      (subst (λ (m : ℕ). Keeps v.accounts.plan (with_entry caller events.Slot (replies.Slot (turn_reply m ws n turn)) log) (present + 1)
+      (with_change t n (turned turn (present + 1))) false (flash_of blocks_of w)) (sym h.slot.now_is)
+      (subst (λ (m : ℕ). Keeps v.accounts.plan (with_entry caller events.Slot (replies.Slot (turn_reply (now log) ws m turn)) log)
+      (present + 1) (with_change t m (turned turn (present + 1))) false (flash_of blocks_of w)) job.number_is done.0)))))),
   accepted_answer v.accounts.plan log events.Slot (unrefused v.accounts.plan log present h.slot)
-      ∙ (done.1 ∙ (ap (λ (m : ℕ). replies.Slot (turn_reply (now log) ws m turn)) job.number_is ∙ (ap (λ (m : ℕ). replies.Slot (turn_reply m ws n turn)) (sym h.slot.now_is) ∙ ap replies.Slot (sym reply_is)))),
+      ∙ (done.1 ∙ (ap (λ (m : ℕ). replies.Slot (turn_reply (now log) ws m turn)) job.number_is
+      ∙ (ap (λ (m : ℕ). replies.Slot (turn_reply m ws n turn)) (sym h.slot.now_is) ∙ ap replies.Slot (sym reply_is)))),
 )
   where
     job : IsHeadJob v.accounts.plan log ws t n h.job
@@ -352,12 +416,16 @@ turn_kept blocks_of log later present caller ws t x n v w r turn reply h at did 
     record_is : r ≡ record_with v.accounts.plan log (waived log ++ ws) h.job
     record_is = same_Some r (record_with v.accounts.plan log (waived log ++ ws) h.job) (sym at ∙ job.record_at)
 
-    done : Keeps v.accounts.plan (with_entry caller events.Slot (replies.Slot (turn_reply (now log) ws h.job.number turn)) log) (present + 1) (with_change t h.job.number (turned turn (present + 1))) false (flash_of blocks_of w)
+    done : Keeps v.accounts.plan (with_entry caller events.Slot (replies.Slot (turn_reply (now log) ws h.job.number turn)) log)
+        (present + 1) (with_change t h.job.number (turned turn (present + 1))) false (flash_of blocks_of w)
         × (accepted v.accounts.plan log events.Slot ≡ replies.Slot (turn_reply (now log) ws h.job.number turn))
-    done = slot_acts blocks_of log present caller ws t n v w turn h (took_turn blocks_of log present caller ws t n v w turn h (subst (λ (x : JobRecord). DidTurn blocks_of v x turn w) record_is did))
+    done = slot_acts blocks_of log present caller ws t n v w turn h
+        (took_turn blocks_of log present caller ws t n v w turn h (subst (λ (x : JobRecord). DidTurn blocks_of v x turn w) record_is did))
 
 -- a turn carries a read where the next operation is one
-pub turn_reads : {N : Type 0} (blocks_of : N → List device.Block) (log : Log) (present : ℕ) (ws : List Waived) (t : Table) (n : ℕ) (v w : State N) (r : JobRecord) (turn : Turn) → HasTurn v.accounts.plan log present ws t (flash_of blocks_of v) n → slice_get t.jobs n ≡ Some r
+pub turn_reads : {N : Type 0} (blocks_of : N → List device.Block) (log : Log) (present : ℕ) (ws : List Waived) (t : Table) (n : ℕ)
+    (v w : State N) (r : JobRecord) (turn : Turn) → HasTurn v.accounts.plan log present ws t (flash_of blocks_of v) n → slice_get t.jobs n
+    ≡ Some r
     → DidTurn blocks_of v r turn w → reads_next_at t.jobs n ≡ is_read_act turn.act
 turn_reads blocks_of log present ws t n v w r turn h at did = ap reads_next_of at ∙ by_kind r.collects refl did
   where
@@ -384,22 +452,30 @@ turn_reads blocks_of log present ws t n v w r turn h at did = ap reads_next_of a
     by_kind : (b : Bool) → r.collects ≡ b → DidBy blocks_of v r b turn w → is_some_read (slice_get r.ops r.work) ≡ is_read_act turn.act
     by_kind false plain d = ap is_some_read d.next ∙ (by_op d.op ∙ ap (λ (x : Turn). is_read_act x.act) (sym d.turn_is))
     by_kind true collects d =
-        let none : h.job.ops ≡ [] = (all_at (IsOfPlan v.accounts.plan) (jobs log) n h.job job.both.1.true_accounts.taken job.at).none (sym (ap (λ (x : JobRecord). x.collects) record_is) ∙ collects) in
-        ap (λ (l : List Op). is_some_read (slice_get l r.work)) (ap (λ (x : JobRecord). x.ops) record_is ∙ none) ∙ (ap is_some_read (nothing_at r.work) ∙ (by_did d.did ∙ ap (λ (x : Turn). is_read_act x.act) (sym d.turn_is)))
+        let none : h.job.ops ≡ [] = (all_at (IsOfPlan v.accounts.plan) (jobs log) n h.job job.both.1.true_accounts.taken job.at).none
+        (sym (ap (λ (x : JobRecord). x.collects) record_is) ∙ collects) in
+        ap (λ (l : List Op). is_some_read (slice_get l r.work)) (ap (λ (x : JobRecord). x.ops) record_is ∙ none)
+        ∙ (ap is_some_read (nothing_at r.work) ∙ (by_did d.did ∙ ap (λ (x : Turn). is_read_act x.act) (sym d.turn_is)))
 
 -- A fault
 
 -- the waivers of a slot are all waived
-pub all_waived : (plan : DiePlan) (log : Log) (present : ℕ) (ws : List Waived) (t : Table) (f : FlashState) (n : ℕ) → HasTurn plan log present ws t f n → AreWaived t.jobs ws
-all_waived plan log present ws t f n h = subst (λ (js : List JobRecord). AreWaived js ws) (sym h.table.were) (AreWaived-waived_in (records plan log) ws h.table.were_pending)
+pub all_waived : (plan : DiePlan) (log : Log) (present : ℕ) (ws : List Waived) (t : Table) (f : FlashState) (n : ℕ)
+    → HasTurn plan log present ws t f n → AreWaived t.jobs ws
+all_waived plan log present ws t f n h = subst (λ (js : List JobRecord). AreWaived js ws) (sym h.table.were)
+    (AreWaived-waived_in (records plan log) ws h.table.were_pending)
 
 -- What a slot is refused with
 
 at_clock : (m n : ℕ) → m ≤ n → nat_le m n ≡ true
 at_clock m n h = grind (arith, nat_tests)
 
-pub slot_refused : (plan : DiePlan) (log : Log) (present : ℕ) → present ≡ now log → MAX_SLOT ≤ present → answer plan log events.Slot ≡ replies.Refused ClockEnd
-slot_refused plan log present is past = refused_answer plan log events.Slot ClockEnd (rw (at_clock MAX_SLOT (now log) (subst (λ (n : ℕ). MAX_SLOT ≤ n) is past)) refl)
+pub slot_refused : (plan : DiePlan) (log : Log) (present : ℕ) → present ≡ now log → MAX_SLOT ≤ present → answer plan log events.Slot
+    ≡ replies.Refused ClockEnd
+slot_refused plan log present is past = refused_answer plan log events.Slot ClockEnd
+    (rw (at_clock MAX_SLOT (now log) (subst (λ (n : ℕ). MAX_SLOT ≤ n) is past)) refl)
 
-pub slot_accepts : (plan : DiePlan) (log : Log) (present : ℕ) → present ≡ now log → present < MAX_SLOT → IsAccepted (answer plan log events.Slot)
-slot_accepts plan log present is few = subst IsAccepted (sym (accepted_answer plan log events.Slot (slot_unrefused plan log present is few))) tt
+pub slot_accepts : (plan : DiePlan) (log : Log) (present : ℕ) → present ≡ now log → present < MAX_SLOT
+    → IsAccepted (answer plan log events.Slot)
+slot_accepts plan log present is few = subst IsAccepted (sym
+    (accepted_answer plan log events.Slot (slot_unrefused plan log present is few))) tt

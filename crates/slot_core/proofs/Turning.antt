@@ -1,5 +1,6 @@
 -- The head of a slot: what it is in the log, and what it finds on the volume.
-use Rattle.std.proofs.Common.{◌≡◌, ℕ, zero, suc, ◌+◌, ◌<◌, ◌^◌, not, Bool, true, false, List, [], ◌∷◌, ◌++◌, Option, Some, None, refl, ap, sym, ◌∙◌, subst, length, slice_get, slice_index, slice_index_or, arith}
+use Rattle.std.proofs.Common.{◌≡◌, ℕ, zero, suc, ◌+◌, ◌<◌, ◌^◌, not, Bool, true, false, List, [], ◌∷◌, ◌++◌, Option, Some, None, refl, ap}
+use Rattle.std.proofs.Common.{sym, ◌∙◌, subst, length, slice_get, slice_index, slice_index_or, arith}
 use Rattle.std.specs.Prelude.{Contains}
 use Rattle.std.proofs.lemmas.Bool.{and_parts, true≢false}
 use Rattle.std.proofs.lemmas.Option.{same_Some, slice_get_within, get_or_from_slice_get}
@@ -55,10 +56,12 @@ same_table : (t u : Table) → t.tasks ≡ u.tasks → t.clock ≡ u.clock → t
 same_table t u a b c d = rw a (rw b (rw c (rw d refl)))
 
 -- the table within a slot is read off the log
-pub table_is : (plan : DiePlan) (log : Log) (ws : List Waived) (t : Table) → IsWaivedTable plan log ws t → t ≡ table_at (length plan.caps) false plan log ws
+pub table_is : (plan : DiePlan) (log : Log) (ws : List Waived) (t : Table) → IsWaivedTable plan log ws t → t
+    ≡ table_at (length plan.caps) false plan log ws
 table_is plan log ws t w = same_table t (table_at (length plan.caps) false plan log ws) w.tasks_are w.clock_is w.running w.jobs_are
 
-head_job_by : (plan : DiePlan) (log : Log) (present : ℕ) (ws : List Waived) (t : Table) (n : ℕ) (j : Job) → IsSlot plan log present → IsWaivedTable plan log ws t → (h : table.IsHead t n)
+head_job_by : (plan : DiePlan) (log : Log) (present : ℕ) (ws : List Waived) (t : Table) (n : ℕ) (j : Job) → IsSlot plan log present
+    → IsWaivedTable plan log ws t → (h : table.IsHead t n)
     → slice_get (jobs log) n ≡ Some j → record_with plan log (waived log ++ ws) j ≡ h.head → IsHeadJob plan log ws t n j
 head_job_by plan log present ws t n j s w h at record_is = record {
   both = both;
@@ -72,7 +75,8 @@ head_job_by plan log present ws t n j s w h at record_is = record {
   undone = waiting_undone plan log j parts.0;
   limits = (keeps_limits plan log s.exact).each j stands;
   pending_if = λ collects. is_pending_if plan log j parts.0 collects;
-  least_is = head_least plan log ws (length plan.caps) n false j both.0.numbered at (subst (λ (u : Table). table.IsHead u n) (table_is plan log ws t w) h);
+  least_is = head_least plan log ws (length plan.caps) n false j both.0.numbered at
+      (subst (λ (u : Table). table.IsHead u n) (table_is plan log ws t w) h);
 }
   where
     both : StandsWell plan log
@@ -85,7 +89,8 @@ head_job_by plan log present ws t n j s w h at record_is = record {
     stands = contained (jobs log) n j at
 
     stayed : stays plan log ws j ≡ true
-    stayed = sym (ready_is plan log ws j) ∙ (ap (table.is_ready (now log)) record_is ∙ subst (λ (k : ℕ). table.is_ready k h.head ≡ true) w.clock_is h.ready)
+    stayed = sym (ready_is plan log ws j) ∙ (ap (table.is_ready (now log)) record_is
+        ∙ subst (λ (k : ℕ). table.is_ready k h.head ≡ true) w.clock_is h.ready)
 
     parts : (is_ready plan log j ≡ true) × (not (is_among j.number ws) ≡ true)
     parts = and_parts (is_ready plan log j) (not (is_among j.number ws)) stayed
@@ -94,12 +99,15 @@ head_job_by plan log present ws t n j s w h at record_is = record {
     not_true true e = absurd (true≢false (sym e))
     not_true false e = refl
 
-pub head_job : (plan : DiePlan) (log : Log) (present : ℕ) (ws : List Waived) (t : Table) (n : ℕ) → IsSlot plan log present → IsWaivedTable plan log ws t → table.IsHead t n → (j : Job) × IsHeadJob plan log ws t n j
+pub head_job : (plan : DiePlan) (log : Log) (present : ℕ) (ws : List Waived) (t : Table) (n : ℕ) → IsSlot plan log present
+    → IsWaivedTable plan log ws t → table.IsHead t n → (j : Job) × IsHeadJob plan log ws t n j
 head_job plan log present ws t n s w h =
-    let found = slice_get-mapped (record_with plan log (waived log ++ ws)) (jobs log) n h.head (subst (λ (js : List JobRecord). slice_get js n ≡ Some h.head) w.jobs_are h.is_at) in
+    let found = slice_get-mapped (record_with plan log (waived log ++ ws)) (jobs log) n h.head
+    (subst (λ (js : List JobRecord). slice_get js n ≡ Some h.head) w.jobs_are h.is_at) in
     (found.0, head_job_by plan log present ws t n found.0 s w h found.1 found.2)
 
-pub turn_job : (plan : DiePlan) (log : Log) (present : ℕ) (ws : List Waived) (t : Table) (f : FlashState) (n : ℕ) → (h : HasTurn plan log present ws t f n) → IsHeadJob plan log ws t n h.job
+pub turn_job : (plan : DiePlan) (log : Log) (present : ℕ) (ws : List Waived) (t : Table) (f : FlashState) (n : ℕ)
+    → (h : HasTurn plan log present ws t f n) → IsHeadJob plan log ws t n h.job
 turn_job plan log present ws t f n h =
     let found = head_job plan log present ws t n h.slot h.table h.head in
     subst (IsHeadJob plan log ws t n) (same_Some found.0 h.job (sym found.1.at ∙ h.at)) found.1
@@ -119,14 +127,18 @@ some_op [] k lt = absurd (omega arith)
 some_op (x ∷ xs) zero lt = (x, refl)
 some_op (x ∷ xs) (suc k) lt = some_op xs k (omega arith)
 
-op_fits : {N : Type 0} (blocks_of : N → List device.Block) (log : Log) (ws : List Waived) (t : Table) (n : ℕ) (j : Job) (v : State N) → IsHeadJob v.accounts.plan log ws t n j → IsWaivedFlash v.accounts.plan log ws (flash_of blocks_of v) → j.collects ≡ false
+op_fits : {N : Type 0} (blocks_of : N → List device.Block) (log : Log) (ws : List Waived) (t : Table) (n : ℕ) (j : Job) (v : State N)
+    → IsHeadJob v.accounts.plan log ws t n j → IsWaivedFlash v.accounts.plan log ws (flash_of blocks_of v) → j.collects ≡ false
     → OpFits v (record_with v.accounts.plan log (waived log ++ ws) j)
 op_fits blocks_of log ws t n j v h flash plain = record {
   op = next.0;
   next = next.1;
   page = omega (arith, h.limits.pages next.0 op_in, contents_len v.accounts.plan log, ap length flash.pages_are);
-  held = λ is. subst (λ (l : List ℕ). 0 < slice_index l j.task) (sym (ap (λ (a : Accounts). a.holds) flash.accounts_are ∙ holds_stay log ws (accounts v.accounts.plan log)))
-      (hold_positive v.accounts.plan (accounts v.accounts.plan log) (λ k. acts k log) (lent_to v.accounts.plan (λ k. acts k log) (is_waived log) (jobs log)) (owed log) (free v.accounts.plan log) (jobs log) j next.0 h.both.1.true_accounts.agree
+  held = λ is. subst (λ (l : List ℕ). 0 < slice_index l j.task)
+      (sym (ap (λ (a : Accounts). a.holds) flash.accounts_are ∙ holds_stay log ws (accounts v.accounts.plan log)))
+      (hold_positive v.accounts.plan (accounts v.accounts.plan log) (λ k. acts k log)
+      (lent_to v.accounts.plan (λ k. acts k log) (is_waived log) (jobs log)) (owed log) (free v.accounts.plan log) (jobs log) j next.0
+      h.both.1.true_accounts.agree
       h.limits.task h.own_at next.1 is);
 }
   where
@@ -134,29 +146,44 @@ op_fits blocks_of log ws t n j v h flash plain = record {
     next = some_op j.ops (work j.number log) (operation_left v.accounts.plan log j (h.both.0.of_jobs j h.stands plain) plain h.undone)
 
     op_in : Contains j.ops next.0
-    op_in = (work j.number log, slice_get_within j.ops (work j.number log) next.0 next.1, get_or_from_slice_get j.ops (work j.number log) next.0 next.0 next.1)
+    op_in = (
+      work j.number log,
+      slice_get_within j.ops (work j.number log) next.0 next.1,
+      get_or_from_slice_get j.ops (work j.number log)
+          next.0 next.0 next.1,
+    )
 
-run_fits : {N : Type 0} (blocks_of : N → List device.Block) (log : Log) (present : ℕ) (ws : List Waived) (j : Job) (v : State N) (c : Collection) → IsSlot v.accounts.plan log present → IsWaivedFlash v.accounts.plan log ws (flash_of blocks_of v)
+run_fits : {N : Type 0} (blocks_of : N → List device.Block) (log : Log) (present : ℕ) (ws : List Waived) (j : Job) (v : State N)
+    (c : Collection) → IsSlot v.accounts.plan log present → IsWaivedFlash v.accounts.plan log ws (flash_of blocks_of v)
     → RunsHead v.accounts.plan log j (flash_of blocks_of v) c → RunFits blocks_of v (record_with v.accounts.plan log (waived log ++ ws) j)
 run_fits blocks_of log present ws j v c s flash run =
     let erases : (device.block_at (blocks_of v.device) c.victim).erases ≡ (block_at (cells v.accounts.plan log) c.victim).erases =
-    ap (λ (x : Block). x.erases) (counted (blocks_of v.device) c.victim ∙ ap (λ (bs : List Block). slice_index_or bs c.victim free_block) flash.blocks_are) in
-    record { collection = c; runs = run.runs; few_erases = omega (arith, erases, (keeps_limits v.accounts.plan log s.exact).erases c.victim, s.few) }
+    ap (λ (x : Block). x.erases) (counted (blocks_of v.device) c.victim
+    ∙ ap (λ (bs : List Block). slice_index_or bs c.victim free_block) flash.blocks_are) in
+    record {
+      collection = c;
+      runs = run.runs;
+      few_erases = omega
+          (arith, erases, (keeps_limits v.accounts.plan log s.exact).erases c.victim, s.few);
+    }
 
-pub head_fits : {N : Type 0} (blocks_of : N → List device.Block) (log : Log) (present : ℕ) (ws : List Waived) (t : Table) (n : ℕ) (v : State N) (r : JobRecord) → HasTurn v.accounts.plan log present ws t (flash_of blocks_of v) n → slice_get t.jobs n ≡ Some r
+pub head_fits : {N : Type 0} (blocks_of : N → List device.Block) (log : Log) (present : ℕ) (ws : List Waived) (t : Table) (n : ℕ)
+    (v : State N) (r : JobRecord) → HasTurn v.accounts.plan log present ws t (flash_of blocks_of v) n → slice_get t.jobs n ≡ Some r
     → HeadFits blocks_of v r
-head_fits blocks_of log present ws t n v r h at = subst (HeadFits blocks_of v) (same_Some (record_with v.accounts.plan log (waived log ++ ws) h.job) r (sym job.record_at ∙ at)) (record {
-  task = job.limits.task;
-  op = λ plain. op_fits blocks_of log ws t n h.job v job h.flash plain;
-  run = λ collects. let c = h.runs collects in run_fits blocks_of log present ws h.job v c.0 h.slot h.flash c.1;
-})
+head_fits blocks_of log present ws t n v r h at = subst (HeadFits blocks_of v)
+    (same_Some (record_with v.accounts.plan log (waived log ++ ws) h.job) r (sym job.record_at ∙ at)) (record {
+      task = job.limits.task;
+      op = λ plain. op_fits blocks_of log ws t n h.job v job h.flash plain;
+      run = λ collects. let c = h.runs collects in run_fits blocks_of log present ws h.job v c.0 h.slot h.flash c.1;
+    })
   where
     job : IsHeadJob v.accounts.plan log ws t n h.job
     job = turn_job v.accounts.plan log present ws t (flash_of blocks_of v) n h
 
 -- Its slots so far are among the log's
 
-pub work_fits : (plan : DiePlan) (log : Log) (present : ℕ) (ws : List Waived) (t : Table) (f : FlashState) (n : ℕ) → HasTurn plan log present ws t f n → work_at t.jobs n + 1 < 2 ^ 32
+pub work_fits : (plan : DiePlan) (log : Log) (present : ℕ) (ws : List Waived) (t : Table) (f : FlashState) (n : ℕ)
+    → HasTurn plan log present ws t f n → work_at t.jobs n + 1 < 2 ^ 32
 work_fits plan log present ws t f n h =
     let job = turn_job plan log present ws t f n h in
     let work_is : work_at t.jobs n ≡ work h.job.number log = ap work_of job.record_at in

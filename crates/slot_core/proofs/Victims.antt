@@ -1,7 +1,10 @@
 -- The victim that a volume takes is the log's.
-use Rattle.std.proofs.Common.{◌≡◌, ◌⊎◌, inl, inr, ℕ, zero, suc, ◌+◌, ◌<◌, ◌≤◌, ◌==◌, ◌&&◌, ◌||◌, not, nat_lt, Bool, true, false, cond, List, [], ◌∷◌, Option, Some, refl, ap, sym, ◌∙◌, subst, length, map, filter, fold, count_by, slice_index_or, if◌then◌else◌, arith}
+use Rattle.std.proofs.Common.{◌≡◌, ◌⊎◌, inl, inr, ℕ, zero, suc, ◌+◌, ◌<◌, ◌≤◌, ◌==◌, ◌&&◌, ◌||◌, not, nat_lt, Bool, true, false, cond, List}
+use Rattle.std.proofs.Common.{[], ◌∷◌, Option, Some, refl, ap, sym, ◌∙◌, subst, length, map, filter, fold, count_by, slice_index_or}
+use Rattle.std.proofs.Common.{if◌then◌else◌, arith}
 use Rattle.std.specs.List.{AllByRecursion, range_with_len, reduce}
-use Rattle.std.proofs.lemmas.Bool.{cases_lt, true≢false, and_parts, and_from, not-true, not_from_false, false_from_ne_true, eqb-true, eq-eqb}
+use Rattle.std.proofs.lemmas.Bool.{cases_lt, true≢false, and_parts, and_from, not-true, not_from_false, false_from_ne_true, eqb-true}
+use Rattle.std.proofs.lemmas.Bool.{eq-eqb}
 use Rattle.std.proofs.lemmas.Bool.Decides.{nat_tests}
 use Rattle.std.proofs.lemmas.List.{length-map}
 use Rattle.slot_types.specs.declared.plans.DiePlan.{DiePlan}
@@ -70,11 +73,14 @@ stays_least m n p q e = grind (arith, nat_tests)
 stays_worn : (m n p q : ℕ) → (nat_lt m n || ((m == n) && nat_lt p q)) ≡ false → m ≡ n → q ≤ p
 stays_worn m n p q e same = grind (arith, nat_tests)
 
-fold_least : (key worn : ℕ → ℕ) (v best : ℕ) (xs : List ℕ) → RisesFrom (best + 1) xs → NotAfter key worn v best → AllByRecursion (NotAfter key worn v) xs → (best ≡ v) ⊎ IsOneOf v xs → fold (lesser key worn) best xs ≡ v
+fold_least : (key worn : ℕ → ℕ) (v best : ℕ) (xs : List ℕ) → RisesFrom (best + 1) xs → NotAfter key worn v best
+    → AllByRecursion (NotAfter key worn v) xs → (best ≡ v) ⊎ IsOneOf v xs → fold (lesser key worn) best xs ≡ v
 fold_least key worn v best [] rises before all (inl is) = is
 fold_least key worn v best [] rises before all (inr none) = absurd none
 fold_least key worn v best (x ∷ xs) rises before all (inl is) =
-    ap (λ (b : Bool). fold (lesser key worn) (cond b x best) xs) (not_less (key x) (key best) (worn x) (worn best) (omega (arith, all.0.least, ap key is)) (λ same. omega (arith, all.0.least_worn (same ∙ ap key is), ap worn is)))
+    ap (λ (b : Bool). fold (lesser key worn) (cond b x best) xs)
+    (not_less (key x) (key best) (worn x) (worn best) (omega (arith, all.0.least, ap key is))
+    (λ same. omega (arith, all.0.least_worn (same ∙ ap key is), ap worn is)))
     ∙ fold_least key worn v best xs (rises_lower (best + 1) (x + 1) xs (omega (arith, rises.0)) rises.1) before all.1 (inl is)
 fold_least key worn v best (x ∷ xs) rises before all (inr found) =
     by_test (goes key worn x best) refl found (λ place. fold_least key worn v x xs rises.1 all.0 all.1 place)
@@ -89,12 +95,14 @@ fold_least key worn v best (x ∷ xs) rises before all (inr found) =
         let as_worn : worn best ≡ worn v = omega (arith, worn_le, ap worn is, before.least_worn as_few) in
         absurd (omega (arith, before.first as_few as_worn, rises.0, is))
 
-    by_test : (b : Bool) → goes key worn x best ≡ b → (x ≡ v) ⊎ IsOneOf v xs → ((x ≡ v) ⊎ IsOneOf v xs → fold (lesser key worn) x xs ≡ v) → (IsOneOf v xs → fold (lesser key worn) best xs ≡ v) → fold (lesser key worn) (cond b x best) xs ≡ v
+    by_test : (b : Bool) → goes key worn x best ≡ b → (x ≡ v) ⊎ IsOneOf v xs → ((x ≡ v) ⊎ IsOneOf v xs → fold (lesser key worn) x xs ≡ v)
+        → (IsOneOf v xs → fold (lesser key worn) best xs ≡ v) → fold (lesser key worn) (cond b x best) xs ≡ v
     by_test true e place taken kept = taken place
     by_test false e (inl is) taken kept = absurd (too_late e is)
     by_test false e (inr later) taken kept = kept later
 
-reduce_least : (key worn : ℕ → ℕ) (v : ℕ) (xs : List ℕ) → RisesFrom 0 xs → AllByRecursion (NotAfter key worn v) xs → IsOneOf v xs → reduce (lesser key worn) xs ≡ Some v
+reduce_least : (key worn : ℕ → ℕ) (v : ℕ) (xs : List ℕ) → RisesFrom 0 xs → AllByRecursion (NotAfter key worn v) xs → IsOneOf v xs
+    → reduce (lesser key worn) xs ≡ Some v
 reduce_least key worn v [] rises all none = absurd none
 reduce_least key worn v (x ∷ xs) rises all found = ap (λ (n : ℕ). Some n) (fold_least key worn v x xs rises.1 all.0 all.1 found)
 
@@ -104,15 +112,18 @@ filter_rises : (t : ℕ → Bool) (a n : ℕ) → RisesFrom a (filter t (range_w
 filter_rises t a zero = tt
 filter_rises t a (suc n) = by_test (t a) (filter_rises t (a + 1) n)
   where
-    by_test : (b : Bool) → RisesFrom (a + 1) (filter t (range_with_len (a + 1) n)) → RisesFrom a (cond b (a ∷ filter t (range_with_len (a + 1) n)) (filter t (range_with_len (a + 1) n)))
+    by_test : (b : Bool) → RisesFrom (a + 1) (filter t (range_with_len (a + 1) n))
+        → RisesFrom a (cond b (a ∷ filter t (range_with_len (a + 1) n)) (filter t (range_with_len (a + 1) n)))
     by_test true h = (omega arith, h)
     by_test false h = rises_lower a (a + 1) (filter t (range_with_len (a + 1) n)) (omega arith) h
 
-filter_all : (t : ℕ → Bool) (Q : ℕ → Type 0) (a n : ℕ) → ((o : ℕ) → o < a + n → t o ≡ true → Q o) → AllByRecursion Q (filter t (range_with_len a n))
+filter_all : (t : ℕ → Bool) (Q : ℕ → Type 0) (a n : ℕ) → ((o : ℕ) → o < a + n → t o ≡ true → Q o)
+    → AllByRecursion Q (filter t (range_with_len a n))
 filter_all t Q a zero h = tt
 filter_all t Q a (suc n) h = by_test (t a) refl (filter_all t Q (a + 1) n (λ o lt e. h o (omega (arith, lt)) e))
   where
-    by_test : (b : Bool) → t a ≡ b → AllByRecursion Q (filter t (range_with_len (a + 1) n)) → AllByRecursion Q (cond b (a ∷ filter t (range_with_len (a + 1) n)) (filter t (range_with_len (a + 1) n)))
+    by_test : (b : Bool) → t a ≡ b → AllByRecursion Q (filter t (range_with_len (a + 1) n))
+        → AllByRecursion Q (cond b (a ∷ filter t (range_with_len (a + 1) n)) (filter t (range_with_len (a + 1) n)))
     by_test true e again = (h a (omega arith) e, again)
     by_test false e again = again
 
@@ -123,14 +134,16 @@ filter_has t a (suc n) v low high e = by_place (a == v) refl (λ above. filter_h
     there : a ≡ v → IsOneOf v (cond (t a) (a ∷ filter t (range_with_len (a + 1) n)) (filter t (range_with_len (a + 1) n)))
     there is = rw (ap t is ∙ e) (inl is)
 
-    later : (b : Bool) → IsOneOf v (filter t (range_with_len (a + 1) n)) → IsOneOf v (cond b (a ∷ filter t (range_with_len (a + 1) n)) (filter t (range_with_len (a + 1) n)))
+    later : (b : Bool) → IsOneOf v (filter t (range_with_len (a + 1) n))
+        → IsOneOf v (cond b (a ∷ filter t (range_with_len (a + 1) n)) (filter t (range_with_len (a + 1) n)))
     later true h = inr h
     later false h = h
 
     above : (x y : ℕ) → x ≤ y → (x == y) ≡ false → x + 1 ≤ y
     above x y le ne = grind (arith, nat_tests)
 
-    by_place : (b : Bool) → (a == v) ≡ b → (a + 1 ≤ v → IsOneOf v (filter t (range_with_len (a + 1) n))) → IsOneOf v (cond (t a) (a ∷ filter t (range_with_len (a + 1) n)) (filter t (range_with_len (a + 1) n)))
+    by_place : (b : Bool) → (a == v) ≡ b → (a + 1 ≤ v → IsOneOf v (filter t (range_with_len (a + 1) n)))
+        → IsOneOf v (cond (t a) (a ∷ filter t (range_with_len (a + 1) n)) (filter t (range_with_len (a + 1) n)))
     by_place true is again = there (eqb-true a v is)
     by_place false apart again = later (t a) (again (above a v low apart))
 
@@ -139,13 +152,18 @@ filter_has t a (suc n) v low high e = by_place (a == v) refl (λ above. filter_h
 abbrev is_candidate : DiePlan → Log → ℕ → Bool
 is_candidate plan past b = is_closed plan (block_at (cells plan past) b) && not (is_collected plan past b)
 
-filled_is : (plan : DiePlan) (past : Log) (blocks : List device.Block) (b : ℕ) → map counts_of blocks ≡ (cells plan past).blocks → filled_of (device.block_at blocks b) ≡ (block_at (cells plan past) b).filled
-filled_is plan past blocks b are = ap (λ (s : Block). s.filled) (counted blocks b ∙ ap (λ (bs : List Block). slice_index_or bs b free_block) are)
+filled_is : (plan : DiePlan) (past : Log) (blocks : List device.Block) (b : ℕ) → map counts_of blocks ≡ (cells plan past).blocks
+    → filled_of (device.block_at blocks b) ≡ (block_at (cells plan past) b).filled
+filled_is plan past blocks b are = ap (λ (s : Block). s.filled) (counted blocks b
+    ∙ ap (λ (bs : List Block). slice_index_or bs b free_block) are)
 
-erases_is : (plan : DiePlan) (past : Log) (blocks : List device.Block) (b : ℕ) → map counts_of blocks ≡ (cells plan past).blocks → (device.block_at blocks b).erases ≡ (block_at (cells plan past) b).erases
-erases_is plan past blocks b are = ap (λ (s : Block). s.erases) (counted blocks b ∙ ap (λ (bs : List Block). slice_index_or bs b free_block) are)
+erases_is : (plan : DiePlan) (past : Log) (blocks : List device.Block) (b : ℕ) → map counts_of blocks ≡ (cells plan past).blocks
+    → (device.block_at blocks b).erases ≡ (block_at (cells plan past) b).erases
+erases_is plan past blocks b are = ap (λ (s : Block). s.erases) (counted blocks b
+    ∙ ap (λ (bs : List Block). slice_index_or bs b free_block) are)
 
-closed_is : (plan : DiePlan) (past : Log) (blocks : List device.Block) (running : List (Option Collection)) (b : ℕ) → AreSound plan (cells plan past) → map counts_of blocks ≡ (cells plan past).blocks → AreRunning plan past running
+closed_is : (plan : DiePlan) (past : Log) (blocks : List device.Block) (running : List (Option Collection)) (b : ℕ)
+    → AreSound plan (cells plan past) → map counts_of blocks ≡ (cells plan past).blocks → AreRunning plan past running
     → b < plan.shape.blocks → is_candidate plan past b ≡ true → IsCandidate plan.shape.pages blocks running b
 closed_is plan past blocks running b sound are r lt e =
     let parts = and_parts (is_closed plan (block_at (cells plan past) b)) (not (is_collected plan past b)) e in record {
@@ -153,31 +171,47 @@ closed_is plan past blocks running b sound are r lt e =
       closed = filled_is plan past blocks b are ∙ eqb-true _ _ parts.0;
       alone = λ task c at is.
           let i = r.each task c at in
-          true≢false (sym (runs_collected plan past i.0 b (subst (λ (x : ℕ). Runs plan past i.0 x) is i.1.runs)) ∙ not-true (is_collected plan past b) parts.1);
+          true≢false (sym (runs_collected plan past i.0 b (subst (λ (x : ℕ). Runs plan past i.0 x) is i.1.runs))
+          ∙ not-true (is_collected plan past b) parts.1);
     }
 
 -- a block that somebody collects in the log is a victim of the volume
-collected_runs : (plan : DiePlan) (past : Log) (running : List (Option Collection)) (b : ℕ) → AreRunning plan past running → is_collected plan past b ≡ true
+collected_runs : (plan : DiePlan) (past : Log) (running : List (Option Collection)) (b : ℕ) → AreRunning plan past running
+    → is_collected plan past b ≡ true
     → (task : ℕ) × (c : Collection) × (running_of running task ≡ Some c) × (c.victim ≡ b)
 collected_runs plan past running b r e =
     let f = any_found (λ j. is_running plan past j && is_block b (victim_of plan j.number past)) (jobs past) e in
     let both = and_parts (is_running plan past f.0) (is_block b (victim_of plan f.0.number past)) f.1.passes in
-    let c = r.all f.0 b (record { stands = contained (jobs past) f.1.place f.0 f.1.stands; running = both.0; victim = is_block_says b (victim_of plan f.0.number past) both.1 }) in
+    let c = r.all f.0 b (record {
+      stands = contained (jobs past) f.1.place f.0 f.1.stands;
+      running = both.0;
+      victim = is_block_says b
+          (victim_of plan f.0.number past) both.1;
+    }) in
     (f.0.task, c.0, c.1, c.2)
 
-candidate_is : (plan : DiePlan) (past : Log) (blocks : List device.Block) (running : List (Option Collection)) (b : ℕ) → map counts_of blocks ≡ (cells plan past).blocks → AreRunning plan past running
+candidate_is : (plan : DiePlan) (past : Log) (blocks : List device.Block) (running : List (Option Collection)) (b : ℕ)
+    → map counts_of blocks ≡ (cells plan past).blocks → AreRunning plan past running
     → IsCandidate plan.shape.pages blocks running b → is_candidate plan past b ≡ true
 candidate_is plan past blocks running b are r closed =
-    and_from (is_closed plan (block_at (cells plan past) b)) (not (is_collected plan past b)) (eq-eqb _ _ (sym (filled_is plan past blocks b are) ∙ closed.closed))
-    (not_from_false (is_collected plan past b) (false_from_ne_true (is_collected plan past b) (λ e. let t = collected_runs plan past running b r e in closed.alone t.0 t.1 t.2 t.3)))
+    and_from (is_closed plan (block_at (cells plan past) b)) (not (is_collected plan past b))
+    (eq-eqb _ _ (sym (filled_is plan past blocks b are) ∙ closed.closed))
+    (not_from_false (is_collected plan past b) (false_from_ne_true (is_collected plan past b)
+    (λ e. let t = collected_runs plan past running b r e in closed.alone t.0 t.1 t.2 t.3)))
 
 -- the volume's choice is the log's
-pub victim_is : (plan : DiePlan) (past : Log) (blocks : List device.Block) (places : List (Option Place)) (running : List (Option Collection)) (b : ℕ) → AreSound plan (cells plan past) → map counts_of blocks ≡ (cells plan past).blocks → places ≡ (cells plan past).places
+pub victim_is : (plan : DiePlan) (past : Log) (blocks : List device.Block) (places : List (Option Place))
+    (running : List (Option Collection)) (b : ℕ) → AreSound plan (cells plan past) → map counts_of blocks ≡ (cells plan past).blocks
+    → places ≡ (cells plan past).places
     → AreRunning plan past running → IsVictim plan.shape.pages blocks places running b → victim plan past ≡ Some b
 victim_is plan past blocks places running b sound are places_are r v =
-    reduce_least (valid (cells plan past)) (λ (d : ℕ). (block_at (cells plan past) d).erases) b (candidates plan past) (filter_rises (is_candidate plan past) 0 plan.shape.blocks)
-    (filter_all (is_candidate plan past) (NotAfter (valid (cells plan past)) (λ (d : ℕ). (block_at (cells plan past) d).erases) b) 0 plan.shape.blocks not_after)
-    (filter_has (is_candidate plan past) 0 plan.shape.blocks b (omega arith) (omega (arith, v.candidate.in_range, sound.blocks, length-map blocks counts_of, ap length are)) (candidate_is plan past blocks running b are r v.candidate))
+    reduce_least (valid (cells plan past)) (λ (d : ℕ). (block_at (cells plan past) d).erases) b (candidates plan past)
+    (filter_rises (is_candidate plan past) 0 plan.shape.blocks)
+    (filter_all (is_candidate plan past) (NotAfter (valid (cells plan past)) (λ (d : ℕ). (block_at (cells plan past) d).erases) b) 0
+    plan.shape.blocks not_after)
+    (filter_has (is_candidate plan past) 0 plan.shape.blocks b (omega arith)
+    (omega (arith, v.candidate.in_range, sound.blocks, length-map blocks counts_of, ap length are))
+    (candidate_is plan past blocks running b are r v.candidate))
   where
     count_is : (o : ℕ) → count_by (is_in o) places ≡ valid (cells plan past) o
     count_is o = ap (count_by (is_in o)) places_are
@@ -185,10 +219,12 @@ victim_is plan past blocks places running b sound are places_are r v =
     worn_is : (o : ℕ) → (device.block_at blocks o).erases ≡ (block_at (cells plan past) o).erases
     worn_is o = erases_is plan past blocks o are
 
-    not_after : (o : ℕ) → o < 0 + plan.shape.blocks → is_candidate plan past o ≡ true → NotAfter (valid (cells plan past)) (λ (d : ℕ). (block_at (cells plan past) d).erases) b o
+    not_after : (o : ℕ) → o < 0 + plan.shape.blocks → is_candidate plan past o ≡ true
+        → NotAfter (valid (cells plan past)) (λ (d : ℕ). (block_at (cells plan past) d).erases) b o
     not_after o lt e =
         let closed = closed_is plan past blocks running o sound are r (omega (arith, lt)) e in
-        let as_few : valid (cells plan past) o ≡ valid (cells plan past) b → count_by (is_in o) places ≡ count_by (is_in b) places = (λ same. count_is o ∙ (same ∙ sym (count_is b))) in
+        let as_few : valid (cells plan past) o ≡ valid (cells plan past) b → count_by (is_in o) places
+        ≡ count_by (is_in b) places = (λ same. count_is o ∙ (same ∙ sym (count_is b))) in
         record {
           least = omega (arith, v.fewest o closed, count_is b, count_is o);
           least_worn = λ same. omega (arith, v.least_worn o closed (as_few same), worn_is b, worn_is o);

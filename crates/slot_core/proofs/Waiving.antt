@@ -1,5 +1,7 @@
 -- A slot's waivers: at most one a task, and each leaves what holds within the slot.
-use Rattle.std.proofs.Common.{◌≡◌, ℕ, zero, suc, ◌+◌, ◌<◌, ◌≤◌, ◌==◌, ◌||◌, ◌&&◌, not, nat_le, Bool, true, false, cond, List, [], ◌∷◌, ◌++◌, Option, Some, None, refl, ap, sym, ◌∙◌, subst, length, map, filter, count_by, eqb, slice_get, length-append, arith}
+use Rattle.std.proofs.Common.{◌≡◌, ℕ, zero, suc, ◌+◌, ◌<◌, ◌≤◌, ◌==◌, ◌||◌, ◌&&◌, not, nat_le, Bool, true, false, cond, List, [], ◌∷◌, ◌++◌}
+use Rattle.std.proofs.Common.{Option, Some, None, refl, ap, sym, ◌∙◌, subst, length, map, filter, count_by, eqb, slice_get, length-append}
+use Rattle.std.proofs.Common.{arith}
 use Rattle.std.specs.List.{list_any, AllByRecursion, IsDistinct}
 use Rattle.std.proofs.lemmas.Bool.{true≢false, and_parts, and_from, eq-eqb, eqb-true}
 use Rattle.std.proofs.lemmas.List.Sums.{sum_by-cons}
@@ -33,12 +35,14 @@ without_less : (j : Job) (xs : List Job) → count_by collects (without j xs) �
 without_less j [] = omega arith
 without_less j (x ∷ xs) = by_test (not (x.number == j.number)) (without_less j xs)
   where
-    by_test : (b : Bool) → count_by collects (without j xs) ≤ count_by collects xs → count_by collects (cond b (x ∷ without j xs) (without j xs)) ≤ count_by collects (x ∷ xs)
+    by_test : (b : Bool) → count_by collects (without j xs) ≤ count_by collects xs
+        → count_by collects (cond b (x ∷ without j xs) (without j xs)) ≤ count_by collects (x ∷ xs)
     by_test true h = omega (arith, h, sum_by-cons (λ i. one_if (collects i)) x (without j xs), sum_by-cons (λ i. one_if (collects i)) x xs)
     by_test false h = omega (arith, h, sum_by-cons (λ i. one_if (collects i)) x xs)
 
 -- one that is there, and collects, is left out
-without_one : (j : Job) (xs : List Job) (k : ℕ) → slice_get xs k ≡ Some j → j.collects ≡ true → count_by collects (without j xs) + 1 ≤ count_by collects xs
+without_one : (j : Job) (xs : List Job) (k : ℕ) → slice_get xs k ≡ Some j → j.collects ≡ true → count_by collects (without j xs) + 1
+    ≤ count_by collects xs
 without_one j [] k e is = absurd (none-some j e)
 without_one j (x ∷ xs) zero e is =
     let it : x ≡ j = same_Some x j e in
@@ -47,7 +51,8 @@ without_one j (x ∷ xs) zero e is =
     rw dropped (omega (arith, without_less j xs, one, sum_by-cons (λ i. one_if (collects i)) x xs))
 without_one j (x ∷ xs) (suc k) e is = by_test (not (x.number == j.number)) (without_one j xs k e is)
   where
-    by_test : (b : Bool) → count_by collects (without j xs) + 1 ≤ count_by collects xs → count_by collects (cond b (x ∷ without j xs) (without j xs)) + 1 ≤ count_by collects (x ∷ xs)
+    by_test : (b : Bool) → count_by collects (without j xs) + 1 ≤ count_by collects xs
+        → count_by collects (cond b (x ∷ without j xs) (without j xs)) + 1 ≤ count_by collects (x ∷ xs)
     by_test true h = omega (arith, h, sum_by-cons (λ i. one_if (collects i)) x (without j xs), sum_by-cons (λ i. one_if (collects i)) x xs)
     by_test false h = omega (arith, h, sum_by-cons (λ i. one_if (collects i)) x xs)
 
@@ -65,18 +70,21 @@ least_there xs j e = subst (OfSome (IsThere xs)) e (least_all (IsThere xs) xs (a
 waivable_collects : (plan : DiePlan) (past : Log) (a : Accounts) (j : Job) → is_waivable plan past a j ≡ true → j.collects ≡ true
 waivable_collects plan past a j e = (and_parts j.collects _ (and_parts _ (nat_le plan.alpha a.spare) e).0).0
 
-few_among : (plan : DiePlan) (past : Log) (turns : ℕ) (a : Accounts) (xs : List Job) → length (choice_among plan past turns a xs).waived ≤ count_by collects xs
+few_among : (plan : DiePlan) (past : Log) (turns : ℕ) (a : Accounts) (xs : List Job) → length (choice_among plan past turns a xs).waived
+    ≤ count_by collects xs
 few_among plan past zero a xs = omega arith
 few_among plan past (suc turns) a xs = by_least (λ b ys. few_among plan past turns b ys) (least xs) refl
   where
-    by_weight : ((b : Accounts) (ys : List Job) → length (choice_among plan past turns b ys).waived ≤ count_by collects ys) → (j : Job) → least xs ≡ Some j → (t : Bool) → is_waivable plan past a j ≡ t
+    by_weight : ((b : Accounts) (ys : List Job) → length (choice_among plan past turns b ys).waived ≤ count_by collects ys) → (j : Job)
+        → least xs ≡ Some j → (t : Bool) → is_waivable plan past a j ≡ t
         → length (weighed a xs (choice_among plan past turns) j t).waived ≤ count_by collects xs
     by_weight again j e true is =
         let at = least_there xs j e in
         omega (arith, again (moves.waived a j.task) (without j xs), without_one j xs at.0 at.1 (waivable_collects plan past a j is))
     by_weight again j e false is = omega arith
 
-    by_least : ((b : Accounts) (ys : List Job) → length (choice_among plan past turns b ys).waived ≤ count_by collects ys) → (o : Option Job) → least xs ≡ o
+    by_least : ((b : Accounts) (ys : List Job) → length (choice_among plan past turns b ys).waived ≤ count_by collects ys)
+        → (o : Option Job) → least xs ≡ o
         → length (chosen plan past a xs (choice_among plan past turns) o).waived ≤ count_by collects xs
     by_least again None e = omega arith
     by_least again (Some j) e = by_weight again j e (is_waivable plan past a j) refl
@@ -91,48 +99,59 @@ abbrev of_task : (Job → Bool) → ℕ → Job → Bool
 of_task p task j = (j.task == task) && p j
 
 -- a task none of whose jobs pass isn't among the tasks
-task_apart : (p : Job → Bool) (task : ℕ) (js : List Job) → count_by (of_task p task) js ≤ 0 → AllByRecursion (λ t. eqb task t ≡ false) (tasks_of p js)
+task_apart : (p : Job → Bool) (task : ℕ) (js : List Job) → count_by (of_task p task) js ≤ 0
+    → AllByRecursion (λ t. eqb task t ≡ false) (tasks_of p js)
 task_apart p task [] h = tt
-task_apart p task (x ∷ xs) h = by_test (p x) refl (task_apart p task xs (omega (arith, h, sum_by-cons (λ j. one_if (of_task p task j)) x xs)))
+task_apart p task (x ∷ xs) h = by_test (p x) refl (task_apart p task xs
+    (omega (arith, h, sum_by-cons (λ j. one_if (of_task p task j)) x xs)))
   where
     other : p x ≡ true → (b : Bool) → eqb task x.task ≡ b → b ≡ false
     other passes false e = refl
     other passes true e =
-        let one : one_if (of_task p task x) ≡ 1 = ap {B = ℕ} one_if (and_from (x.task == task) (p x) (eq-eqb x.task task (sym (eqb-true task x.task e))) passes) in
+        let one : one_if (of_task p task x) ≡ 1 = ap {B = ℕ} one_if
+        (and_from (x.task == task) (p x) (eq-eqb x.task task (sym (eqb-true task x.task e))) passes) in
         absurd (omega (arith, one, h, sum_by-cons (λ j. one_if (of_task p task j)) x xs))
 
-    by_test : (b : Bool) → p x ≡ b → AllByRecursion (λ t. eqb task t ≡ false) (tasks_of p xs) → AllByRecursion (λ t. eqb task t ≡ false) (map (λ (j : Job). j.task) (cond b (x ∷ filter p xs) (filter p xs)))
+    by_test : (b : Bool) → p x ≡ b → AllByRecursion (λ t. eqb task t ≡ false) (tasks_of p xs)
+        → AllByRecursion (λ t. eqb task t ≡ false) (map (λ (j : Job). j.task) (cond b (x ∷ filter p xs) (filter p xs)))
     by_test true passes rest = (other passes (eqb task x.task) refl, rest)
     by_test false passes rest = rest
 
 distinct_tasks : (p : Job → Bool) (js : List Job) → ((task : ℕ) → count_by (of_task p task) js ≤ 1) → IsDistinct eqb (tasks_of p js)
 unfolding IsDistinct
 distinct_tasks p [] h = tt
-distinct_tasks p (x ∷ xs) h = by_test (p x) refl (distinct_tasks p xs (λ task. omega (arith, h task, sum_by-cons (λ j. one_if (of_task p task j)) x xs)))
+distinct_tasks p (x ∷ xs) h = by_test (p x) refl (distinct_tasks p xs
+    (λ task. omega (arith, h task, sum_by-cons (λ j. one_if (of_task p task j)) x xs)))
   where
     none_left : p x ≡ true → count_by (of_task p x.task) xs ≤ 0
     none_left passes =
-        let one : one_if (of_task p x.task x) ≡ 1 = ap {B = ℕ} one_if (and_from (x.task == x.task) (p x) (eq-eqb x.task x.task refl) passes) in
+        let one : one_if (of_task p x.task x) ≡ 1 = ap {B = ℕ} one_if (and_from (x.task == x.task) (p x) (eq-eqb x.task x.task refl) passes)
+        in
         omega (arith, one, h x.task, sum_by-cons (λ j. one_if (of_task p x.task j)) x xs)
 
-    by_test : (b : Bool) → p x ≡ b → IsDistinct eqb (tasks_of p xs) → IsDistinct eqb (map (λ (j : Job). j.task) (cond b (x ∷ filter p xs) (filter p xs)))
+    by_test : (b : Bool) → p x ≡ b → IsDistinct eqb (tasks_of p xs)
+        → IsDistinct eqb (map (λ (j : Job). j.task) (cond b (x ∷ filter p xs) (filter p xs)))
     by_test true passes rest = (task_apart p x.task xs (none_left passes), rest)
     by_test false passes rest = rest
 
-tasks_below : (k : ℕ) (p : Job → Bool) (js : List Job) → AllByRecursion (λ (j : Job). j.task < k) js → (q : ℕ) → list_any (eqb q) (tasks_of p js) ≡ true → q < k
+tasks_below : (k : ℕ) (p : Job → Bool) (js : List Job) → AllByRecursion (λ (j : Job). j.task < k) js → (q : ℕ)
+    → list_any (eqb q) (tasks_of p js) ≡ true → q < k
 tasks_below k p [] all q e = absurd cc
 tasks_below k p (x ∷ xs) all q e = by_test (p x) (λ h. tasks_below k p xs all.1 q h) e
   where
-    here : (b : Bool) → eqb q x.task ≡ b → (list_any (eqb q) (tasks_of p xs) ≡ true → q < k) → (b || list_any (eqb q) (tasks_of p xs)) ≡ true → q < k
+    here : (b : Bool) → eqb q x.task ≡ b → (list_any (eqb q) (tasks_of p xs) ≡ true → q < k) → (b || list_any (eqb q) (tasks_of p xs))
+        ≡ true → q < k
     here true is again h = let same : q ≡ x.task = eqb-true q x.task is in omega (arith, same, all.0)
     here false is again h = again h
 
-    by_test : (b : Bool) → (list_any (eqb q) (tasks_of p xs) ≡ true → q < k) → list_any (eqb q) (map (λ (j : Job). j.task) (cond b (x ∷ filter p xs) (filter p xs))) ≡ true → q < k
+    by_test : (b : Bool) → (list_any (eqb q) (tasks_of p xs) ≡ true → q < k)
+        → list_any (eqb q) (map (λ (j : Job). j.task) (cond b (x ∷ filter p xs) (filter p xs))) ≡ true → q < k
     by_test true again h = here (eqb q x.task) refl again h
     by_test false again h = again h
 
 -- of the ready ones, those that collect pass
-count_pending : (p t : Job → Bool) (js : List Job) → ((k : ℕ) (j : Job) → slice_get js k ≡ Some j → t j ≡ true → j.collects ≡ true → p j ≡ true) → count_by collects (filter t js) ≤ length (tasks_of p js)
+count_pending : (p t : Job → Bool) (js : List Job) → ((k : ℕ) (j : Job) → slice_get js k ≡ Some j → t j ≡ true → j.collects ≡ true → p j
+    ≡ true) → count_by collects (filter t js) ≤ length (tasks_of p js)
 count_pending p t [] h = omega arith
 count_pending p t (x ∷ xs) h = by_tests (t x) (p x) refl refl (count_pending p t xs (λ k j e. h (suc k) j e))
   where
@@ -141,8 +160,15 @@ count_pending p t (x ∷ xs) h = by_tests (t x) (p x) refl refl (count_pending p
     by_kind true is ready fails = absurd (true≢false (sym (h 0 x refl ready is) ∙ fails))
 
     by_tests : (a b : Bool) → t x ≡ a → p x ≡ b → count_by collects (filter t xs) ≤ length (tasks_of p xs)
-        → count_by collects (cond a (x ∷ filter t xs) (filter t xs)) ≤ length (map (λ (j : Job). j.task) (cond b (x ∷ filter p xs) (filter p xs)))
-    by_tests true true ready passes rest = omega (arith, rest, sum_by-cons (λ i. one_if (collects i)) x (filter t xs), one_most (collects x))
+        → count_by collects (cond a (x ∷ filter t xs) (filter t xs))
+        ≤ length (map (λ (j : Job). j.task) (cond b (x ∷ filter p xs) (filter p xs)))
+    by_tests true true ready passes rest = omega (
+      arith,
+      rest,
+      sum_by-cons (λ i. one_if (collects i)) x (filter t xs),
+      one_most
+          (collects x),
+    )
       where
         one_most : (b : Bool) → one_if b ≤ 1
         one_most true = omega arith
@@ -158,10 +184,13 @@ all_tasks plan [] h = tt
 all_tasks plan (x ∷ xs) h = (h.0.task, all_tasks plan xs h.1)
 
 -- at most one collection a task is neither done nor waived
-pub few_pending : (plan : DiePlan) (log : Log) → MeetsBound plan → IsExact plan log → length (tasks_of (is_pending plan (λ n. acts n log) (is_waived log)) (jobs log)) ≤ length plan.caps
+pub few_pending : (plan : DiePlan) (log : Log) → MeetsBound plan → IsExact plan log
+    → length (tasks_of (is_pending plan (λ n. acts n log) (is_waived log)) (jobs log)) ≤ length plan.caps
 few_pending plan log bound exact =
-    length-le_from_distinct_below (tasks_of (is_pending plan (λ n. acts n log) (is_waived log)) (jobs log)) (length plan.caps) (distinct_tasks (is_pending plan (λ n. acts n log) (is_waived log)) (jobs log) true_accounts.one_each)
-    (tasks_below (length plan.caps) (is_pending plan (λ n. acts n log) (is_waived log)) (jobs log) (all_tasks plan (jobs log) true_accounts.taken))
+    length-le_from_distinct_below (tasks_of (is_pending plan (λ n. acts n log) (is_waived log)) (jobs log)) (length plan.caps)
+    (distinct_tasks (is_pending plan (λ n. acts n log) (is_waived log)) (jobs log) true_accounts.one_each)
+    (tasks_below (length plan.caps) (is_pending plan (λ n. acts n log) (is_waived log)) (jobs log)
+    (all_tasks plan (jobs log) true_accounts.taken))
   where
     true_accounts : AreTrue plan log
     true_accounts = (stands_well plan bound log exact).1.true_accounts
@@ -172,20 +201,25 @@ few_waivers plan log bound exact =
     omega (
       arith,
       few_among plan log (length (ready plan log)) (accounts plan log) (ready plan log),
-      count_pending (is_pending plan (λ n. acts n log) (is_waived log)) (is_ready plan log) (jobs log) (λ k j e is_ready_now is. is_pending_if plan log j is_ready_now is),
+      count_pending (is_pending plan (λ n. acts n log) (is_waived log)) (is_ready plan log) (jobs log)
+          (λ k j e is_ready_now is. is_pending_if plan log j is_ready_now is),
       few_pending plan log bound exact,
     )
 
 -- so there is room for one more where one more is waived
-pub waiver_fits : (plan : DiePlan) (log : Log) (ws : List Waived) (a : Accounts) (j : Job) → MeetsBound plan → IsExact plan log → GoesOn plan log ws a → least (unwaived ws (ready plan log)) ≡ Some j → is_waivable plan log a j ≡ true
+pub waiver_fits : (plan : DiePlan) (log : Log) (ws : List Waived) (a : Accounts) (j : Job) → MeetsBound plan → IsExact plan log
+    → GoesOn plan log ws a → least (unwaived ws (ready plan log)) ≡ Some j → is_waivable plan log a j ≡ true
     → length ws < length plan.caps
 waiver_fits plan log ws a j bound exact g e yes_is =
     let more = waives plan log ws a j g e yes_is in
-    let whole : length (choice plan log).waived ≡ length ((ws ++ waiver_of a j ∷ []) ++ (choice_among plan log more.turns (moves.waived a j.task) (unwaived (ws ++ waiver_of a j ∷ []) (ready plan log))).waived) = ap (λ (c : Choice). length c.waived) more.rest in
+    let whole : length (choice plan log).waived ≡ length ((ws ++ waiver_of a j ∷ [])
+    ++ (choice_among plan log more.turns (moves.waived a j.task) (unwaived (ws ++ waiver_of a j ∷ []) (ready plan log))).waived) = ap
+    (λ (c : Choice). length c.waived) more.rest in
     omega (
       arith,
       few_waivers plan log bound exact,
       whole,
-      length-append (ws ++ waiver_of a j ∷ []) (choice_among plan log more.turns (moves.waived a j.task) (unwaived (ws ++ waiver_of a j ∷ []) (ready plan log))).waived,
+      length-append (ws ++ waiver_of a j ∷ []) (choice_among plan log more.turns (moves.waived a j.task)
+          (unwaived (ws ++ waiver_of a j ∷ []) (ready plan log))).waived,
       length-append ws (waiver_of a j ∷ []),
     )

@@ -24,7 +24,8 @@ outcome_by None false completion lateness given reads = outcomes.Waiting
 -- what became of a job or collection of the log
 abbrev pub outcome_of : DiePlan → Log → Job → Outcome
 outcome_of plan log j =
-    outcome_by (waiver_among j.number (waived log)) (is_done plan log j) (completion j.number log) (lateness_of log j) (given plan j.number log) (reads_of (acts j.number log))
+    outcome_by (waiver_among j.number (waived log)) (is_done plan log j) (completion j.number log) (lateness_of log j)
+    (given plan j.number log) (reads_of (acts j.number log))
 
 -- of this number, if there is one
 abbrev pub outcome_at : DiePlan → Log → ℕ → Option Outcome

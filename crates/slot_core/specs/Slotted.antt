@@ -85,8 +85,10 @@ pub record RunsHead (plan : DiePlan) (log : Log) (j : Job) (f : FlashState) (c :
 -- of the collections that run on the volume, those that aren't the head's are the log's
 pub record OthersRun (plan : DiePlan) (log : Log) (j : Job) (f : FlashState) : Type 0 where
   pub len : length f.running ≡ length plan.caps
-  pub each : (task : ℕ) (c : Collection) → (j.collects ≡ true → task ≢ j.task) → running_of f.running task ≡ Some c → (i : Job) × IsRun plan log task c i
-  pub all : (i : Job) (b : ℕ) → i.number ≢ j.number → Runs plan log i b → (j.collects ≡ true → i.task ≢ j.task) × ((c : Collection) × (running_of f.running i.task ≡ Some c) × (c.victim ≡ b))
+  pub each : (task : ℕ) (c : Collection) → (j.collects ≡ true → task ≢ j.task) → running_of f.running task ≡ Some c → (i : Job)
+      × IsRun plan log task c i
+  pub all : (i : Job) (b : ℕ) → i.number ≢ j.number → Runs plan log i b → (j.collects ≡ true → i.task ≢ j.task)
+      × ((c : Collection) × (running_of f.running i.task ≡ Some c) × (c.victim ≡ b))
 
 -- this job or collection has the slot, in which these were waived
 pub record HasTurn (plan : DiePlan) (log : Log) (present : ℕ) (ws : List Waived) (t : Table) (f : FlashState) (n : ℕ) : Type 0 where

@@ -1,5 +1,6 @@
 -- What the head of a slot does, and what that leaves in the volume and in the table.
-use Rattle.std.specs.Prelude.{◌≡◌, ℕ, ◌+◌, ◌<◌, ◌≤◌, ◌==◌, ◌&&◌, Bool, true, false, List, length, Option, Some, None, slice_get, slice_index}
+use Rattle.std.specs.Prelude.{◌≡◌, ℕ, ◌+◌, ◌<◌, ◌≤◌, ◌==◌, ◌&&◌, Bool, true, false, List, length, Option, Some, None, slice_get}
+use Rattle.std.specs.Prelude.{slice_index}
 use Rattle.slot_types.specs.declared.acts.Act.{Act}
 use Rattle.slot_types.specs.declared.acts.Act.TheVariants as does
 use Rattle.slot_types.specs.declared.events.Op.{Op}
@@ -106,7 +107,8 @@ finished false number completion given table = table
 
 -- the table after a turn of this number
 abbrev pub after_turn : Table → ℕ → Turn → ℕ → Table
-after_turn table number turn completion = finished turn.last number completion turn.given (with_change table number (λ job. after_read turn.act (carried job)))
+after_turn table number turn completion = finished turn.last number completion turn.given
+    (with_change table number (λ job. after_read turn.act (carried job)))
 
 -- The log
 

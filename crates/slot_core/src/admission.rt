@@ -35,7 +35,8 @@ fn enter_job(
     requires reserved { reserved ≤ events.old.room }
     ensures table { OnOk result (table.new ≡ with_job table.old (new_job task release due ops.now)) }
     ensures number { IfOk result (λ number. number ≡ length table.old.jobs) }
-    ensures logged { IfOk result (λ number. events.new.notes ≡ record { caller = caller; deed = Deed.Submit number; waived = [] } ∷ events.old.notes) }
+    ensures logged { IfOk result (λ number. events.new.notes ≡ record { caller = caller; deed = Deed.Submit number; waived = [] }
+        ∷ events.old.notes) }
     ensures refused { IfErr result (λ refusal. refusal ≡ Refusal.NoMemory) }
     ensures table_stays { OnErr result (table.new ≡ table.old) }
     ensures log_stays { OnErr result (events.new.notes ≡ events.old.notes) }
@@ -67,7 +68,8 @@ fn enter_collection(
     requires single { is_collecting table.old.jobs task ≡ false }
     ensures table { OnOk result (table.new ≡ with_job table.old (new_collection task release due)) }
     ensures number { IfOk result (λ number. number ≡ length table.old.jobs) }
-    ensures logged { IfOk result (λ number. events.new.notes ≡ record { caller = caller; deed = Deed.Collect number; waived = [] } ∷ events.old.notes) }
+    ensures logged { IfOk result (λ number. events.new.notes ≡ record { caller = caller; deed = Deed.Collect number; waived = [] }
+        ∷ events.old.notes) }
     ensures refused { IfErr result (λ refusal. refusal ≡ Refusal.NoMemory) }
     ensures table_stays { OnErr result (table.new ≡ table.old) }
     ensures log_stays { OnErr result (events.new.notes ≡ events.old.notes) }
@@ -139,7 +141,8 @@ impl<N: Nand> DieCore<N> {
     ) -> Result<JobNo, Refusal>
         ensures stopped { (result ≡ Err Refusal.DieStopped) ↔ (self.old.stopped ≡ true) }
         ensures taken { IfOk result (λ number. answer self.old.plan self.old.log (Event.Submit task release due ops) ≡ Reply.Taken number) }
-        ensures logged { IfOk result (λ number. self.new ≡ record self.old { log = with_entry caller (Event.Submit task release due ops) (Reply.Taken number) self.old.log }) }
+        ensures logged { IfOk result (λ number. self.new
+            ≡ record self.old { log = with_entry caller (Event.Submit task release due ops) (Reply.Taken number) self.old.log }) }
         ensures refused { self.old.stopped ≡ false → IfErr result (RefusedBy self.old.plan self.old.log (Event.Submit task release due ops)) }
         ensures unchanged { OnErr result (self.new ≡ self.old) }
     {
@@ -157,9 +160,12 @@ impl<N: Nand> DieCore<N> {
         ops: &[Op],
     ) -> Result<JobNo, Refusal>
         ensures stopped { (result ≡ Err Refusal.DieStopped) ↔ (self.old.stopped ≡ true) }
-        ensures taken { IfOk result (λ number. answer self.old.plan self.old.log (Event.Submit task release due ops.now) ≡ Reply.Taken number) }
-        ensures logged { IfOk result (λ number. self.new ≡ record self.old { log = with_entry caller (Event.Submit task release due ops.now) (Reply.Taken number) self.old.log }) }
-        ensures refused { self.old.stopped ≡ false → IfErr result (RefusedBy self.old.plan self.old.log (Event.Submit task release due ops.now)) }
+        ensures taken { IfOk result (λ number. answer self.old.plan self.old.log (Event.Submit task release due ops.now)
+            ≡ Reply.Taken number) }
+        ensures logged { IfOk result (λ number. self.new
+            ≡ record self.old { log = with_entry caller (Event.Submit task release due ops.now) (Reply.Taken number) self.old.log }) }
+        ensures refused { self.old.stopped ≡ false → IfErr result
+            (RefusedBy self.old.plan self.old.log (Event.Submit task release due ops.now)) }
         ensures unchanged { OnErr result (self.new ≡ self.old) }
     {
         if self.volume.failed() {
@@ -238,7 +244,8 @@ impl<N: Nand> DieCore<N> {
     ) -> Result<JobNo, Refusal>
         ensures stopped { (result ≡ Err Refusal.DieStopped) ↔ (self.old.stopped ≡ true) }
         ensures taken { IfOk result (λ number. answer self.old.plan self.old.log (Event.Collect task release due) ≡ Reply.Taken number) }
-        ensures logged { IfOk result (λ number. self.new ≡ record self.old { log = with_entry caller (Event.Collect task release due) (Reply.Taken number) self.old.log }) }
+        ensures logged { IfOk result (λ number. self.new
+            ≡ record self.old { log = with_entry caller (Event.Collect task release due) (Reply.Taken number) self.old.log }) }
         ensures refused { self.old.stopped ≡ false → IfErr result (RefusedBy self.old.plan self.old.log (Event.Collect task release due)) }
         ensures unchanged { OnErr result (self.new ≡ self.old) }
     {

@@ -14,7 +14,8 @@ impl<N: Nand> DieCore<N> {
     pub fn device(&self) -> &N
         ensures device { result.now ≡ self.now.device }
         ensures blocks { self.now.stopped ≡ false → map counts_of (N.blocks self.now.device) ≡ (cells self.now.plan self.now.log).blocks }
-        ensures pages { self.now.stopped ≡ false → volume.contents (N.blocks self.now.device) (cells self.now.plan self.now.log).places ≡ contents self.now.plan self.now.log }
+        ensures pages { self.now.stopped ≡ false → volume.contents (N.blocks self.now.device) (cells self.now.plan self.now.log).places
+            ≡ contents self.now.plan self.now.log }
         ensures well { self.now.stopped ≡ false → N.failures self.now.device ≡ 0 }
     {
         self.volume.device()

@@ -54,7 +54,8 @@ impl<N: Nand> DieCore<N> {
         ensures ok { IfOk result (λ core. core ≡ record { plan = plan; device = nand; stopped = false; reserved = 0; log = [] }) }
         ensures bad_shape { (result ≡ Err Refusal.BadShape) ↔ ¬ (IsShape plan.shape × (N.shape_of nand ≡ plan.shape)) }
         ensures bad_plan { (result ≡ Err Refusal.BadPlan) ↔ (IsShape plan.shape × (N.shape_of nand ≡ plan.shape) × ¬ MeetsBound plan) }
-        ensures refused { IfErr result (λ refusal. (refusal ≡ Refusal.BadShape) ⊎ (refusal ≡ Refusal.BadPlan) ⊎ (refusal ≡ Refusal.NoMemory)) }
+        ensures refused { IfErr result (λ refusal. (refusal ≡ Refusal.BadShape) ⊎ (refusal ≡ Refusal.BadPlan)
+            ⊎ (refusal ≡ Refusal.NoMemory)) }
     {
         if nand.shape() != plan.shape {
             return Err(Refusal::BadShape);

@@ -1,6 +1,7 @@
 //! The operations of jobs, on a volume.
 
-ghost use Rattle.std.specs.Prelude.{◌≡◌, ◌+◌, ◌<◌, ◌↔◌, true, false, length, slice_index, IsOk, IfOk, IfErr, OnOk, OnErr, find, option_map, nat_le};
+ghost use Rattle.std.specs.Prelude.{◌≡◌, ◌+◌, ◌<◌, ◌↔◌, true, false, length, slice_index, IsOk, IfOk, IfErr, OnOk, OnErr, find, option_map};
+ghost use Rattle.std.specs.Prelude.{nat_le};
 ghost use Rattle.slot_types.specs.Operations.{is_write, writes, page_of};
 ghost use Rattle.slot_core.specs.Device.{flash_of};
 ghost use Rattle.slot_core.specs.Acting.{act_by, operated};

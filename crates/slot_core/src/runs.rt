@@ -50,7 +50,8 @@ impl<N: Nand> DieCore<N> {
     // One reply an event, in memory that is taken first.
     fn answer_each(&mut self, alloc: Global, events: Items<Event>) -> Result<Replies, Refusal>
         ensures one_each { IfOk result (λ replies. length replies ≡ length events) }
-        ensures ran { IfOk result (λ replies. IsRun self.old.plan (moment_of N.failures self.old) events replies (moment_of N.failures self.new)) }
+        ensures ran { IfOk result (λ replies. IsRun self.old.plan (moment_of N.failures self.old) events replies
+            (moment_of N.failures self.new)) }
         ensures plan { self.new.plan ≡ self.old.plan }
         ensures refused { IfErr result (λ refusal. refusal ≡ Refusal.NoMemory) }
         ensures unchanged { OnErr result (self.new ≡ self.old) }
@@ -77,12 +78,16 @@ impl<N: Nand> DieCore<N> {
     /// The only refusal is `NoMemory`, where memory is refused for the replies; no event is carried out then.
     pub fn run(&mut self, alloc: Global, events: Items<Event>) -> Result<Replies, Refusal>
         ensures one_each { IfOk result (λ replies. length replies ≡ length events) }
-        ensures ran { IfOk result (λ replies. IsRun self.old.plan (moment_of N.failures self.old) events replies (moment_of N.failures self.new)) }
+        ensures ran { IfOk result (λ replies. IsRun self.old.plan (moment_of N.failures self.old) events replies
+            (moment_of N.failures self.new)) }
         ensures plan { self.new.plan ≡ self.old.plan }
         ensures grown { IfOk result (λ replies. calls self.new.log ≡ with_accepted events replies (calls self.old.log)) }
-        ensures only { IfOk result (λ replies. self.old.log ≡ [] → (log : Log) → IsExact self.old.plan log → calls log ≡ with_accepted events replies [] → log ≡ self.new.log) }
-        ensures planned { IfOk result (λ replies. (times : Times) → Passes self.old.plan times → KeepsPlan self.old.plan times events → IsUnused (moment_of N.failures self.old) → All IsServed replies → IsInTime self.old.plan self.new.log) }
-        ensures accepted { IfOk result (λ replies. (times : Times) → Passes self.old.plan times → KeepsPlan self.old.plan times events → IsUnused (moment_of N.failures self.old) → All FindsMemory replies → AreAcceptedUntilFault replies) }
+        ensures only { IfOk result (λ replies. self.old.log ≡ [] → (log : Log) → IsExact self.old.plan log → calls log
+            ≡ with_accepted events replies [] → log ≡ self.new.log) }
+        ensures planned { IfOk result (λ replies. (times : Times) → Passes self.old.plan times → KeepsPlan self.old.plan times events
+            → IsUnused (moment_of N.failures self.old) → All IsServed replies → IsInTime self.old.plan self.new.log) }
+        ensures accepted { IfOk result (λ replies. (times : Times) → Passes self.old.plan times → KeepsPlan self.old.plan times events
+            → IsUnused (moment_of N.failures self.old) → All FindsMemory replies → AreAcceptedUntilFault replies) }
         ensures refused { IfErr result (λ refusal. refusal ≡ Refusal.NoMemory) }
         ensures unchanged { OnErr result (self.new ≡ self.old) }
     {

@@ -1,6 +1,7 @@
 //! The slots of a die.
 
-ghost use Rattle.std.specs.Prelude.{◌≡◌, ◌+◌, ◌-◌, ◌<◌, ◌≤◌, ◌⊎◌, ◌↔◌, true, false, length, slice_get, take, count_by, IsOk, IfOk, IfErr, IfSome, IfNone, OnOk, OnErr, []};
+ghost use Rattle.std.specs.Prelude.{◌≡◌, ◌+◌, ◌-◌, ◌<◌, ◌≤◌, ◌⊎◌, ◌↔◌, true, false, length, slice_get, take, count_by, IsOk, IfOk, IfErr};
+ghost use Rattle.std.specs.Prelude.{IfSome, IfNone, OnOk, OnErr, []};
 ghost use Rattle.event_log.specs.Growth.{AllFit};
 ghost use Rattle.job_table.specs.Order.{NothingReady};
 ghost use Rattle.job_table.specs.Jobs.{JobRecord, is_read};
@@ -36,10 +37,12 @@ fn choose<N: Nand>(
 ) -> Option<JobNo>
     ghost log: { Log }
     requires alive { volume.old.failed ≡ false }
-    requires within { InSlot volume.old.accounts.plan log present told.old (record table.old { clock = present }) (flash_of N.blocks volume.old) }
+    requires within { InSlot volume.old.accounts.plan log present told.old (record table.old { clock = present })
+        (flash_of N.blocks volume.old) }
     requires clock { table.old.clock ≤ present }
     ensures turn { IfSome result (HasTurn volume.new.accounts.plan log present told.new table.new (flash_of N.blocks volume.new)) }
-    ensures idle { IfNone result (InSlot volume.new.accounts.plan log present told.new table.new (flash_of N.blocks volume.new) × NothingReady table.new) }
+    ensures idle { IfNone result (InSlot volume.new.accounts.plan log present told.new table.new (flash_of N.blocks volume.new)
+        × NothingReady table.new) }
     ensures closed { open_collections table.new.jobs + length told.new ≤ open_collections table.old.jobs + length told.old }
     ensures plan { volume.new.accounts.plan ≡ volume.old.accounts.plan }
     ensures alive { volume.new.failed ≡ false }
@@ -82,7 +85,8 @@ fn carry_out<N: Nand>(
     requires waivers { open_collections table.old.jobs ≤ events.old.waiver_room }
     requires kept { Keeps volume.old.accounts.plan log present table.old volume.old.failed (flash_of N.blocks volume.old) }
     requires unfilled { reply.old ≡ idle_reply present [] }
-    ensures kept { OnOk result (Keeps volume.new.accounts.plan (log_of table.new events.new.notes) (present + 1) table.new volume.new.failed (flash_of N.blocks volume.new)) }
+    ensures kept { OnOk result (Keeps volume.new.accounts.plan (log_of table.new events.new.notes) (present + 1) table.new volume.new.failed
+        (flash_of N.blocks volume.new)) }
     ensures answered { OnOk result (answer volume.old.accounts.plan log Event.Slot ≡ Reply.Slot reply.new) }
     ensures logged { OnOk result (log_of table.new events.new.notes ≡ with_entry caller Event.Slot (Reply.Slot reply.new) log) }
     ensures well { OnOk result (volume.new.failed ≡ false) }
@@ -91,7 +95,8 @@ fn carry_out<N: Nand>(
     ensures failed { OnErr result (volume.new.failed ≡ true) }
     ensures log_stays { OnErr result (log_of table.new events.new.notes ≡ log_of table.old events.old.notes) }
     ensures fit { AllFit table.new.jobs events.new.notes }
-    ensures still_kept { OnErr result (Keeps volume.new.accounts.plan (log_of table.new events.new.notes) present table.new volume.new.failed (flash_of N.blocks volume.new)) }
+    ensures still_kept { OnErr result (Keeps volume.new.accounts.plan (log_of table.new events.new.notes) present table.new
+        volume.new.failed (flash_of N.blocks volume.new)) }
     ensures failures { (result ≡ Err Refusal.DeviceFault) ↔ (N.failures volume.new.device ≡ N.failures volume.old.device + 1) }
     ensures never { N.never_fails ≡ true → IsOk result }
     ensures room { events.old.room ≤ events.new.room + 1 }
@@ -126,7 +131,8 @@ fn carry_out<N: Nand>(
 /// How many slots the job of this number took so far, which is the place of its next operation.
 fn work_of(table: &JobTable, number: JobNo) -> u32
     ensures work { result ≡ work_at table.now.jobs number }
-    ensures reads { (job : JobRecord) → slice_get table.now.jobs number ≡ Some job → length job.reads ≡ count_by is_read (take job.work job.ops) }
+    ensures reads { (job : JobRecord) → slice_get table.now.jobs number ≡ Some job → length job.reads
+        ≡ count_by is_read (take job.work job.ops) }
 {
     match table.job(number) {
         Some(job) => job.work(),
@@ -143,7 +149,8 @@ impl<N: Nand> DieCore<N> {
         ensures logged { OnOk result (self.new.log ≡ with_entry caller Event.Slot (Reply.Slot reply.new) self.old.log) }
         ensures runs { OnOk result (self.new.stopped ≡ false) }
         ensures plan { self.new.plan ≡ self.old.plan }
-        ensures refused { self.old.stopped ≡ false → IfErr result (λ refusal. RefusedBy self.old.plan self.old.log Event.Slot refusal ⊎ (IsAccepted (answer self.old.plan self.old.log Event.Slot) × (refusal ≡ Refusal.DeviceFault))) }
+        ensures refused { self.old.stopped ≡ false → IfErr result (λ refusal. RefusedBy self.old.plan self.old.log Event.Slot refusal
+            ⊎ (IsAccepted (answer self.old.plan self.old.log Event.Slot) × (refusal ≡ Refusal.DeviceFault))) }
         ensures fault { (result ≡ Err Refusal.DeviceFault) ↔ (N.failures self.new.device ≡ N.failures self.old.device + 1) }
         ensures stops { result ≡ Err Refusal.DeviceFault → self.new.stopped ≡ true }
         ensures log_stays { OnErr result (self.new.log ≡ self.old.log) }
@@ -196,7 +203,8 @@ impl<N: Nand> DieCore<N> {
         ensures logged { IfOk result (λ reply. self.new.log ≡ with_entry caller Event.Slot (Reply.Slot reply) self.old.log) }
         ensures runs { OnOk result (self.new.stopped ≡ false) }
         ensures plan { self.new.plan ≡ self.old.plan }
-        ensures refused { self.old.stopped ≡ false → IfErr result (λ refusal. RefusedBy self.old.plan self.old.log Event.Slot refusal ⊎ (IsAccepted (answer self.old.plan self.old.log Event.Slot) × (refusal ≡ Refusal.DeviceFault))) }
+        ensures refused { self.old.stopped ≡ false → IfErr result (λ refusal. RefusedBy self.old.plan self.old.log Event.Slot refusal
+            ⊎ (IsAccepted (answer self.old.plan self.old.log Event.Slot) × (refusal ≡ Refusal.DeviceFault))) }
         ensures fault { (result ≡ Err Refusal.DeviceFault) ↔ (N.failures self.new.device ≡ N.failures self.old.device + 1) }
         ensures stops { result ≡ Err Refusal.DeviceFault → self.new.stopped ≡ true }
         ensures log_stays { OnErr result (self.new.log ≡ self.old.log) }
@@ -220,7 +228,8 @@ impl<N: Nand> DieCore<N> {
         ensures logged { IfOk result (λ reply. self.new.log ≡ with_entry caller Event.Slot (Reply.Slot reply) self.old.log) }
         ensures runs { OnOk result (self.new.stopped ≡ false) }
         ensures plan { self.new.plan ≡ self.old.plan }
-        ensures refused { self.old.stopped ≡ false → IfErr result (λ refusal. RefusedBy self.old.plan self.old.log Event.Slot refusal ⊎ (IsAccepted (answer self.old.plan self.old.log Event.Slot) × (refusal ≡ Refusal.DeviceFault))) }
+        ensures refused { self.old.stopped ≡ false → IfErr result (λ refusal. RefusedBy self.old.plan self.old.log Event.Slot refusal
+            ⊎ (IsAccepted (answer self.old.plan self.old.log Event.Slot) × (refusal ≡ Refusal.DeviceFault))) }
         ensures fault { (result ≡ Err Refusal.DeviceFault) ↔ (N.failures self.new.device ≡ N.failures self.old.device + 1) }
         ensures stops { result ≡ Err Refusal.DeviceFault → self.new.stopped ≡ true }
         ensures log_stays { OnErr result (self.new.log ≡ self.old.log) }

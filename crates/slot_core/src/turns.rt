@@ -79,7 +79,8 @@ fn operate_next<N: Nand>(volume: &mut Volume<N>, job: &Job) -> Result<Turn, Refu
 fn collect<N: Nand>(volume: &mut Volume<N>, task: TaskNo) -> Result<Turn, Refusal>
     requires alive { volume.old.failed ≡ false }
     requires task { task < length volume.old.accounts.plan.caps }
-    requires fits { (c : Collection) × (running_of volume.old.running task ≡ Some c) × ((block_at (N.blocks volume.old.device) c.victim).erases < 4294967295) }
+    requires fits { (c : Collection) × (running_of volume.old.running task ≡ Some c)
+        × ((block_at (N.blocks volume.old.device) c.victim).erases < 4294967295) }
     ensures did { IfOk result (λ turn. DidCollect N.blocks volume.old task turn volume.new) }
     ensures plan { volume.new.accounts.plan ≡ volume.old.accounts.plan }
     ensures well { OnOk result (volume.new.failed ≡ false) }

@@ -1,6 +1,9 @@
 use Rattle.std.specs.Prelude.{ℕ}
 use Rattle.slot_types.specs.declared.refusals.Refusal.{Refusal}
-use Rattle.slot_types.specs.declared.refusals.Refusal.TheVariants.{NoMemory, BadShape, BadPlan, UnknownDie, UnknownTask, EmptyJob, TooManyOps, BadPage, ReleasePast, BadDue, JobsFull, NoTokens, CollectorBusy, ClockEnd, DeviceFault, DieStopped, UnknownJob, PlanText, ScriptRow, ReportText, ReadFault, WriteFault, PassesFull, PassesOut}
+use Rattle.slot_types.specs.declared.refusals.Refusal.TheVariants.{NoMemory, BadShape, BadPlan, UnknownDie, UnknownTask, EmptyJob}
+use Rattle.slot_types.specs.declared.refusals.Refusal.TheVariants.{TooManyOps, BadPage, ReleasePast, BadDue, JobsFull, NoTokens}
+use Rattle.slot_types.specs.declared.refusals.Refusal.TheVariants.{CollectorBusy, ClockEnd, DeviceFault, DieStopped, UnknownJob, PlanText}
+use Rattle.slot_types.specs.declared.refusals.Refusal.TheVariants.{ScriptRow, ReportText, ReadFault, WriteFault, PassesFull, PassesOut}
 
 -- the number under which a refusal is known
 abbrev pub number_of : Refusal → ℕ

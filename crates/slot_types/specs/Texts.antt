@@ -1,9 +1,13 @@
 -- How a refusal is told.
 use Rattle.std.specs.Prelude.{ℕ, List, ◌++◌, codes, decimal}
 use Rattle.slot_types.specs.declared.refusals.Cause.{Cause}
-use Rattle.slot_types.specs.declared.refusals.Cause.TheVariants.{TooLong, NotToml, ExtraKey, MissingKey, WrongKind, BadVersion, TooManyRows, Header, Fields, Number, Kind, Die, At, Ops}
+use Rattle.slot_types.specs.declared.refusals.Cause.TheVariants.{TooLong, NotToml, ExtraKey, MissingKey, WrongKind, BadVersion, TooManyRows}
+use Rattle.slot_types.specs.declared.refusals.Cause.TheVariants.{Header, Fields, Number, Kind, Die, At, Ops}
 use Rattle.slot_types.specs.declared.refusals.Refusal.{Refusal}
-use Rattle.slot_types.specs.declared.refusals.Refusal.TheVariants.{NoMemory, BadShape, BadPlan, UnknownDie, UnknownTask, EmptyJob, TooManyOps, BadPage, ReleasePast, BadDue, JobsFull, NoTokens, CollectorBusy, ClockEnd, DeviceFault, DieStopped, UnknownJob, PlanText, ScriptRow, ReportText, ReadFault, WriteFault, PassesFull, PassesOut}
+use Rattle.slot_types.specs.declared.refusals.Refusal.TheVariants.{NoMemory, BadShape, BadPlan, UnknownDie, UnknownTask, EmptyJob}
+use Rattle.slot_types.specs.declared.refusals.Refusal.TheVariants.{TooManyOps, BadPage, ReleasePast, BadDue, JobsFull, NoTokens}
+use Rattle.slot_types.specs.declared.refusals.Refusal.TheVariants.{CollectorBusy, ClockEnd, DeviceFault, DieStopped, UnknownJob, PlanText}
+use Rattle.slot_types.specs.declared.refusals.Refusal.TheVariants.{ScriptRow, ReportText, ReadFault, WriteFault, PassesFull, PassesOut}
 
 -- the cause's name
 abbrev pub cause_text : Cause → List ℕ

@@ -1,5 +1,6 @@
 -- Rows that keep to their die's plan are not refused but for want of memory, and nothing is late.
-use Rattle.std.proofs.Common.{◌≡◌, ◌⊎◌, ℕ, zero, suc, ◌+◌, ◌<◌, ℤ, Bool, true, false, List, [], ◌∷◌, ◌++◌, map, length, Option, Some, None, refl, ap, sym, subst, ◌∙◌, append_assoc, inl, inr, arith, slice_get}
+use Rattle.std.proofs.Common.{◌≡◌, ◌⊎◌, ℕ, zero, suc, ◌+◌, ◌<◌, ℤ, Bool, true, false, List, [], ◌∷◌, ◌++◌, map, length, Option, Some, None}
+use Rattle.std.proofs.Common.{refl, ap, sym, subst, ◌∙◌, append_assoc, inl, inr, arith, slice_get}
 use Rattle.std.specs.Prelude.{All, pos, ◌≤ℤ◌}
 use Rattle.std.specs.Io.KnownBytes.{Appends}
 use Rattle.std.specs.List.{AllByRecursion}
@@ -38,7 +39,8 @@ use Rattle.task_texts.specs.declared.reports.DieReport.{DieReport}
 use Rattle.task_script.specs.DieReports.{row_as, report_row_of}
 use Rattle.task_script.specs.DieRuns.{Call, Row, Slot, DieRun, Accepts, Ends, IsRun, Runs, end_of, fresh_run}
 use Rattle.task_script.specs.Feeds.{AllArrive, AreFeedsOf, feed_of}
-use Rattle.task_script.specs.PlannedRuns.{event_of, events_of, KeepsItsPlan, IsOnTime, AreTakenUntilMemory, GoesAsPlanned, AreAsPlanned, RunsAsPlanned}
+use Rattle.task_script.specs.PlannedRuns.{event_of, events_of, KeepsItsPlan, IsOnTime, AreTakenUntilMemory, GoesAsPlanned, AreAsPlanned}
+use Rattle.task_script.specs.PlannedRuns.{RunsAsPlanned}
 use Rattle.task_script.specs.TextRuns.{AreRuns, HaveRun, RunsText}
 use Rattle.task_script.specs.declared.run_counts.RowEnd.{RowEnd}
 use Rattle.task_script.specs.declared.run_counts.RunCount.{RunCount}
@@ -48,19 +50,23 @@ use Rattle.task_script.proofs.Gathering.{runs_text}
 -- Logs
 
 -- the event of an entry is told behind those before it
-told_more : (past log : Log) (event : Event) (reply : Reply) (rest : List Event) → log ≡ with_entry 0 event reply past → told past ++ event ∷ rest ≡ told log ++ rest
+told_more : (past log : Log) (event : Event) (reply : Reply) (rest : List Event) → log ≡ with_entry 0 event reply past → told past ++ event
+    ∷ rest ≡ told log ++ rest
 told_more past log event reply rest is = sym (append_assoc (told past) (event ∷ []) rest) ∙ ap (λ (l : Log). told l ++ rest) (sym is)
 
 accepts_exact : (plan : DiePlan) (past log : Log) (event : Event) → Accepts plan past event log → IsExact plan past → IsExact plan log
 accepts_exact plan past log event h exact = subst (IsExact plan) (sym h.1) (exact, refl, h.0)
 
-not_refused : (plan : DiePlan) (past : Log) (event : Event) (refusal : Refusal) → refusal_of plan past event ≡ None → answer plan past event ≡ replies.Refused refusal → ⊥
-not_refused plan past event refusal none is = subst IsAccepted (sym (accepted_answer plan past event none) ∙ is) (entered plan past 0 event).0
+not_refused : (plan : DiePlan) (past : Log) (event : Event) (refusal : Refusal) → refusal_of plan past event ≡ None → answer plan past event
+    ≡ replies.Refused refusal → ⊥
+not_refused plan past event refusal none is = subst IsAccepted (sym (accepted_answer plan past event none) ∙ is)
+    (entered plan past 0 event).0
 
 -- Runs
 
 -- what became of the calls is told behind what became of those before them
-ends_more : (plan : DiePlan) (before after : DieRun) (calls : List Call) → Runs plan before calls after → (more : List RowEnd) × (after.ends ≡ before.ends ++ more)
+ends_more : (plan : DiePlan) (before after : DieRun) (calls : List Call) → Runs plan before calls after → (more : List RowEnd)
+    × (after.ends ≡ before.ends ++ more)
 ends_more plan before after [] h = ([], ap (λ (r : DieRun). r.ends) h ∙ sym (append-nil before.ends))
 ends_more plan before after (Row item ∷ calls) h =
     let m = ends_more plan h.0 after calls h.2 in
@@ -72,68 +78,87 @@ ends_more plan before after (Slot ∷ calls) h =
 
 module _ (plan : DiePlan) (times : Times) (bound : MeetsBound plan) (passes : Passes plan times) where
   -- a row that keeps the plan is refused for want of memory alone
-  by_memory : (past : Log) (event : Event) (rest : List Event) (refusal : Refusal) → IsExact plan past → KeepsPlan plan times (told past ++ event ∷ rest) → RefusedBy plan past event refusal → refusal ≡ NoMemory
-  by_memory past event rest refusal exact keeps (inl own) = absurd (not_refused plan past event refusal (unrefused plan times bound passes past event rest exact keeps) own)
+  by_memory : (past : Log) (event : Event) (rest : List Event) (refusal : Refusal) → IsExact plan past
+      → KeepsPlan plan times (told past ++ event ∷ rest) → RefusedBy plan past event refusal → refusal ≡ NoMemory
+  by_memory past event rest refusal exact keeps (inl own) = absurd
+      (not_refused plan past event refusal (unrefused plan times bound passes past event rest exact keeps) own)
   by_memory past event rest refusal exact keeps (inr memory) = memory.1
 
   -- what became of the calls that are left
   abbrev TakenBehind : List RowEnd → List RowEnd → Type 0
   TakenBehind before after = (more : List RowEnd) × (after ≡ before ++ more) × AreTakenUntilMemory more
 
-  taken_from : (before after : DieRun) (calls : List Call) → IsExact plan before.log → KeepsPlan plan times (told before.log ++ map event_of calls) → Runs plan before calls after → TakenBehind before.ends after.ends
+  taken_from : (before after : DieRun) (calls : List Call) → IsExact plan before.log
+      → KeepsPlan plan times (told before.log ++ map event_of calls) → Runs plan before calls after → TakenBehind before.ends after.ends
   taken_from before after [] exact keeps h = ([], ap (λ (r : DieRun). r.ends) h ∙ sym (append-nil before.ends), tt)
   taken_from before after (Slot ∷ calls) exact keeps h =
       let m = taken_from h.0 after calls (accepts_exact plan before.log h.0.log events.Slot h.1.0 exact)
-      (subst (KeepsPlan plan times) (told_more before.log h.0.log events.Slot (answer plan before.log events.Slot) (map event_of calls) h.1.0.1) keeps) h.2 in
+      (subst (KeepsPlan plan times) (told_more before.log h.0.log events.Slot (answer plan before.log events.Slot) (map event_of calls)
+      h.1.0.1) keeps) h.2 in
       (m.0, m.1 ∙ ap (λ l. l ++ m.0) h.1.1, m.2)
   taken_from before after (Row item ∷ calls) exact keeps h = by_end (λ e k. taken_from h.0 after calls e k h.2) h.1.0 h.1.1 h.1.2
     where
-      by_end : (IsExact plan h.0.log → KeepsPlan plan times (told h.0.log ++ map event_of calls) → TakenBehind h.0.ends after.ends) → (refusal : Option Refusal) → Ends plan before.log item.event refusal h.0.log → h.0.ends ≡ before.ends ++ end_of item refusal ∷ [] → TakenBehind before.ends after.ends
+      by_end : (IsExact plan h.0.log → KeepsPlan plan times (told h.0.log ++ map event_of calls) → TakenBehind h.0.ends after.ends)
+          → (refusal : Option Refusal) → Ends plan before.log item.event refusal h.0.log → h.0.ends ≡ before.ends ++ end_of item refusal
+          ∷ [] → TakenBehind before.ends after.ends
       by_end rest None taken ends =
           let m = rest (accepts_exact plan before.log h.0.log item.event taken exact)
-          (subst (KeepsPlan plan times) (told_more before.log h.0.log item.event (answer plan before.log item.event) (map event_of calls) taken.1) keeps) in
+          (subst (KeepsPlan plan times) (told_more before.log h.0.log item.event (answer plan before.log item.event) (map event_of calls)
+          taken.1) keeps) in
           let e : RowEnd = end_of item None in
           (e ∷ m.0, m.1 ∙ (ap (λ l. l ++ m.0) ends ∙ append_assoc before.ends (e ∷ []) m.0), inl (refl, m.2))
       by_end rest (Some refusal) refused ends =
           let m = ends_more plan h.0 after calls h.2 in
-          let e : RowEnd = end_of item (Some refusal) in
-          (e ∷ m.0, m.1 ∙ (ap (λ l. l ++ m.0) ends ∙ append_assoc before.ends (e ∷ []) m.0), inr (ap Some (by_memory before.log item.event (map event_of calls) refusal exact keeps refused.0)))
+          let e : RowEnd = end_of item (Some refusal) in (
+            e ∷ m.0,
+            m.1 ∙ (ap (λ l. l ++ m.0) ends ∙ append_assoc before.ends (e ∷ []) m.0),
+            inr
+                (ap Some (by_memory before.log item.event (map event_of calls) refusal exact keeps refused.0)),
+          )
 
 -- the log of a run is what its events leave
-entered_from : (plan : DiePlan) (before after : DieRun) (calls : List Call) → AllByRecursion (IsCallOf (λ item. IsArrival item.event)) calls → Runs plan before calls after → AreEntered (map event_of calls) before.log after.log
+entered_from : (plan : DiePlan) (before after : DieRun) (calls : List Call) → AllByRecursion (IsCallOf (λ item. IsArrival item.event)) calls
+    → Runs plan before calls after → AreEntered (map event_of calls) before.log after.log
 entered_from plan before after [] arrive h = ap (λ (r : DieRun). r.log) h
 entered_from plan before after (Slot ∷ calls) arrive h =
     (h.0.log, inl (0, answer plan before.log events.Slot, h.1.0.1), entered_from plan h.0 after calls arrive.1 h.2)
 entered_from plan before after (Row item ∷ calls) arrive h = (h.0.log, by_end h.1.0 h.1.1, entered_from plan h.0 after calls arrive.1 h.2)
   where
     by_end : (refusal : Option Refusal) → Ends plan before.log item.event refusal h.0.log
-        → ((caller : ℕ) × (reply : Reply) × (h.0.log ≡ record { caller = caller; event = item.event; reply = reply } ∷ before.log)) ⊎ (IsArrival item.event × (h.0.log ≡ before.log))
+        → ((caller : ℕ) × (reply : Reply) × (h.0.log ≡ record { caller = caller; event = item.event; reply = reply } ∷ before.log))
+        ⊎ (IsArrival item.event × (h.0.log ≡ before.log))
     by_end None taken = inl (0, answer plan before.log item.event, taken.1)
     by_end (Some refusal) refused = inr (arrive.0, refused.1)
 
 -- Rows of reports
 
-row_on_time : (number : ℕ) (head : JobHead) (took : ℕ) (waiver : Option Waived) (done : Bool) (completion : ℕ) (lateness : ℤ) (given : ℕ) (reads : List PageData)
+row_on_time : (number : ℕ) (head : JobHead) (took : ℕ) (waiver : Option Waived) (done : Bool) (completion : ℕ) (lateness : ℤ) (given : ℕ)
+    (reads : List PageData)
     → (done ≡ true → lateness ≤ℤ pos 0) → IsOnTime (row_as number head took (outcome_by waiver done completion lateness given reads))
 row_on_time number head took (Some w) done completion lateness given reads h = tt
 row_on_time number head took None true completion lateness given reads h = h refl
 row_on_time number head took None false completion lateness given reads h = tt
 
-each_mapped : {X Y : Type 0} (P : Y → Type 0) (f : X → Y) (xs : List X) → ((k : ℕ) (x : X) → slice_get xs k ≡ Some x → P (f x)) → AllByRecursion P (map f xs)
+each_mapped : {X Y : Type 0} (P : Y → Type 0) (f : X → Y) (xs : List X) → ((k : ℕ) (x : X) → slice_get xs k ≡ Some x → P (f x))
+    → AllByRecursion P (map f xs)
 each_mapped P f [] h = tt
 each_mapped P f (x ∷ xs) h = (h zero x refl, each_mapped P f xs (λ k y e. h (suc k) y e))
 
 rows_on_time : (plan : DiePlan) (log : Log) → IsInTime plan log → All IsOnTime (map (report_row_of plan log) (jobs log))
 rows_on_time plan log in_time =
     All-from_recursion IsOnTime (map (report_row_of plan log) (jobs log)) (each_mapped IsOnTime (report_row_of plan log) (jobs log)
-    (λ k j e. row_on_time j.number (head_of j) (work j.number log) _ (is_done plan log j) _ _ _ _ (λ done. in_time.never_late j (contained (jobs log) k j e) done)))
+    (λ k j e. row_on_time j.number (head_of j) (work j.number log) _ (is_done plan log j) _ _ _ _
+    (λ done. in_time.never_late j (contained (jobs log) k j e) done)))
 
 -- All together
 
-pub as_planned : (plan : DiePlan) (slots : ℕ) (items : List ScriptItem) (run : DieRun) → MeetsBound plan → AllArrive slots items → KeepsItsPlan plan slots items → IsRun plan slots items run → GoesAsPlanned plan run
+pub as_planned : (plan : DiePlan) (slots : ℕ) (items : List ScriptItem) (run : DieRun) → MeetsBound plan → AllArrive slots items
+    → KeepsItsPlan plan slots items → IsRun plan slots items run → GoesAsPlanned plan run
 as_planned plan slots items run bound arrive k is =
-    let asked = each_call (λ item. IsArrival item.event) 0 slots items (all_events items (recursion_from_All (Arrives slots) items arrive)) in
-    let in_time = planned_in_time plan k.times bound k.passes (events_of slots items) k.keeps [] run.log is.exact (entered_from plan fresh_run run _ asked is.ran) in
+    let asked = each_call (λ item. IsArrival item.event) 0 slots items (all_events items (recursion_from_All (Arrives slots) items arrive))
+    in
+    let in_time = planned_in_time plan k.times bound k.passes (events_of slots items) k.keeps [] run.log is.exact
+    (entered_from plan fresh_run run _ asked is.ran) in
     let taken = taken_from plan k.times bound k.passes fresh_run run _ tt k.keeps is.ran in
     record {
       in_time = in_time;
@@ -146,7 +171,8 @@ as_planned plan slots items run bound arrive k is =
     all_events (row ∷ rows) h = (h.0.1, all_events rows h.1)
 
 -- by die
-pub all_as_planned : (slots : ℕ) (feed : ℕ → List ScriptItem) (die : ℕ) (plans : List DiePlan) (runs : List DieRun) → ((d : ℕ) → d < die + length plans → AllArrive slots (feed d)) → AllByRecursion MeetsBound plans
+pub all_as_planned : (slots : ℕ) (feed : ℕ → List ScriptItem) (die : ℕ) (plans : List DiePlan) (runs : List DieRun)
+    → ((d : ℕ) → d < die + length plans → AllArrive slots (feed d)) → AllByRecursion MeetsBound plans
     → AreRuns slots feed die plans runs → AreAsPlanned slots feed die plans runs
 all_as_planned slots feed die [] [] arrive bound h = tt
 all_as_planned slots feed die [] (run ∷ runs) arrive bound h = absurd h
@@ -157,14 +183,17 @@ all_as_planned slots feed die (plan ∷ plans) (run ∷ runs) arrive bound h = (
 )
 
 -- what is written of a run of dealt rows
-pub runs_as_planned : (text : Option (List ℕ)) (plans : List DiePlan) (slots : ℕ) (feeds : List (List ScriptItem)) (report : List DieReport) (count : RunCount) (old new : Option (List ℕ))
-    → All MeetsBound plans → AreFeedsOf text (length plans) slots feeds → HaveRun slots feeds plans report count → Appends old new (report_text report) → RunsAsPlanned text plans slots count old new
+pub runs_as_planned : (text : Option (List ℕ)) (plans : List DiePlan) (slots : ℕ) (feeds : List (List ScriptItem)) (report : List DieReport)
+    (count : RunCount) (old new : Option (List ℕ))
+    → All MeetsBound plans → AreFeedsOf text (length plans) slots feeds → HaveRun slots feeds plans report count
+    → Appends old new (report_text report) → RunsAsPlanned text plans slots count old new
 unfolding runs_text
 runs_as_planned text plans slots feeds report count old new bound fed h written =
     let ran : RunsText text plans slots count old new = runs_text text plans slots feeds report count old new fed h written in
     record {
       ran = ran;
       planned = all_as_planned slots (feed_of fed.0) 0 plans h.runs
-          (λ d below. subst (AllArrive slots) (fed.2.rows d (omega (arith, below))) (All-get_or (AllArrive slots) feeds d [] (omega (arith, below, fed.2.all)) fed.2.arrive))
+          (λ d below. subst (AllArrive slots) (fed.2.rows d (omega (arith, below)))
+          (All-get_or (AllArrive slots) feeds d [] (omega (arith, below, fed.2.all)) fed.2.arrive))
           (recursion_from_All MeetsBound plans bound) ran.ran;
     }

@@ -30,10 +30,12 @@ no_refusal : (r : Reply) (refusal : Refusal) → IsAccepted r → r ≡ replies.
 no_refusal r refusal taken is = subst IsAccepted is taken
 
 -- below the clock's end a slot is refused for want of memory alone, unless its device fails
-pub slot_refused : (plan : DiePlan) (past : Log) (refusal : Refusal) → now past < MAX_SLOT → RefusedBy plan past events.Slot refusal → refusal ≡ because.NoMemory
+pub slot_refused : (plan : DiePlan) (past : Log) (refusal : Refusal) → now past < MAX_SLOT → RefusedBy plan past events.Slot refusal
+    → refusal ≡ because.NoMemory
 slot_refused plan past refusal few (inl is) = absurd (no_refusal _ refusal (accepted_slot plan past few) is)
 slot_refused plan past refusal few (inr h) = h.1
 
-pub ran_more : (plan : DiePlan) (s m t : DieRun) (calls more : List Call) → Runs plan s calls m → Runs plan m more t → Runs plan s (calls ++ more) t
+pub ran_more : (plan : DiePlan) (s m t : DieRun) (calls more : List Call) → Runs plan s calls m → Runs plan m more t
+    → Runs plan s (calls ++ more) t
 ran_more plan s m t [] more is rest = subst (λ (r : DieRun). Runs plan r more t) is rest
 ran_more plan s m t (call ∷ calls) more h rest = (h.0, h.1, ran_more plan h.0 m t calls more h.2 rest)

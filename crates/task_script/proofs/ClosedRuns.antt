@@ -1,5 +1,6 @@
 -- A die that was closed behind its lock ran its rows and slots.
-use Rattle.std.proofs.Common.{◌≡◌, ℕ, ◌+◌, ◌≤◌, true, List, [], ◌∷◌, ◌++◌, refl, ap, sym, ◌∙◌, subst, take, arith, inl, inr, Option, None, Some, All}
+use Rattle.std.proofs.Common.{◌≡◌, ℕ, ◌+◌, ◌≤◌, true, List, [], ◌∷◌, ◌++◌, refl, ap, sym, ◌∙◌, subst, take, arith, inl, inr, Option, None}
+use Rattle.std.proofs.Common.{Some, All}
 use Rattle.std.specs.Prelude.{IfSome}
 use Rattle.std.proofs.lemmas.Bool.{false≢true}
 use Rattle.std.proofs.lemmas.List.Elements.{All-weaker}
@@ -30,12 +31,14 @@ use Rattle.task_script.specs.StoreRuns.{RanFeed}
 use Rattle.task_script.proofs.Transcripts.{AreTold, said_log, told_accepted, own_of_log, front_own}
 use Rattle.task_script.proofs.FeedRuns.{slots_run, slots_stop}
 
-by_log : (plan : DiePlan) (past : Log) (event : Event) (refusal : Refusal) → MayRefuse true plan past event refusal → RefusedBy plan past event refusal
+by_log : (plan : DiePlan) (past : Log) (event : Event) (refusal : Refusal) → MayRefuse true plan past event refusal
+    → RefusedBy plan past event refusal
 by_log plan past event refusal (inl h) = h
 by_log plan past event refusal (inr (inl h)) = absurd (false≢true (sym h.0))
 by_log plan past event refusal (inr (inr h)) = absurd (false≢true (sym h.0))
 
-module _ {N : Type 0} (slots : ℕ) (plan : DiePlan) (arrivals : List Arrival) (end : DieEnd) (die : Core N) (r : RanFeed slots plan arrivals end die) where
+module _ {N : Type 0} (slots : ℕ) (plan : DiePlan) (arrivals : List Arrival) (end : DieEnd) (die : Core N)
+    (r : RanFeed slots plan arrivals end die) where
   abbrev saids : List Said
   saids = r.ran.saids
 
@@ -49,7 +52,8 @@ module _ {N : Type 0} (slots : ℕ) (plan : DiePlan) (arrivals : List Arrival) (
   number_is = ap (λ v. v.number) r.fresh
 
   all_mine : AllBy (0 ∷ []) (calls_of (log_of r.last.view.seen))
-  all_mine = subst (λ (x : List ℕ × List Call). AllBy x.0 x.1) (λ i. ((r.same.1 ∙ number_is) i ∷ (r.same.2 ∙ ap (λ v. v.joined) r.fresh) i, calls_of (r.closed.log_is i))) r.closed.by_own
+  all_mine = subst (λ (x : List ℕ × List Call). AllBy x.0 x.1)
+      (λ i. ((r.same.1 ∙ number_is) i ∷ (r.same.2 ∙ ap (λ v. v.joined) r.fresh) i, calls_of (r.closed.log_is i))) r.closed.by_own
 
   mine : calls_by 0 r.last.view.seen ≡ r.last.view.seen
   mine = own_of_log 0 r.last.view.seen all_mine
@@ -67,14 +71,16 @@ module _ {N : Type 0} (slots : ℕ) (plan : DiePlan) (arrivals : List Arrival) (
         (subst (λ (x : DiePlan × Log). IsExact x.0 x.1) (λ i. (plan_is i, log_of (seen_is i))) r.ran.exact.exact) is;
     refused = λ before after event refused is.
         let why = r.ran.refused before after event refused is in
-        let these : take refused.entries r.last.view.seen ≡ accepted_by 0 before = sym (front_own 0 refused.entries r.last.view.seen all_mine)
+        let these : take refused.entries r.last.view.seen
+        ≡ accepted_by 0 before = sym (front_own 0 refused.entries r.last.view.seen all_mine)
         ∙ (ap (λ n. calls_by n (take refused.entries r.last.view.seen)) (sym number_is) ∙ (why.own
         ∙ λ i. calls_by (number_is i) (ap (λ v. v.seen) r.fresh i) ++ accepted_by (number_is i) before)) in
         by_log plan (said_log before) event refused.refusal
         (subst (λ (x : DiePlan × Log). MayRefuse true x.0 x.1 event refused.refusal) (λ i. (plan_is i, log_of (these i))) why.reason);
   }
 
-module _ {N : Type 0} (slots : ℕ) (plan : DiePlan) (items : List ScriptItem) (end : DieEnd) (die : Core N) (r : RanFeed slots plan (arrivals_of items) end die) (arrive : All (Arrives slots) items) where
+module _ {N : Type 0} (slots : ℕ) (plan : DiePlan) (items : List ScriptItem) (end : DieEnd) (die : Core N)
+    (r : RanFeed slots plan (arrivals_of items) end die) (arrive : All (Arrives slots) items) where
   in_time : All (λ item. item.at ≤ 0 + slots) items
   in_time = All-weaker (Arrives slots) (λ item. item.at ≤ 0 + slots) (λ item h. omega (arith, h.0)) items arrive
 
@@ -84,10 +90,12 @@ module _ {N : Type 0} (slots : ℕ) (plan : DiePlan) (items : List ScriptItem) (
   pub closed_run : end.stop ≡ None → IsRun plan slots items (run_at die.log (ends_from 0 (lines_of items) end.refused))
   closed_run none =
       let s = r.ran.saids in
-      let comes = slots_run plan s (told slots plan (arrivals_of items) end die r) slots 0 items [] s [] 0 refl r.ran.ordered refl (sym (ap (λ (e : DieEnd). e.stop) r.ran.end_is) ∙ none) in_time no_slot in
+      let comes = slots_run plan s (told slots plan (arrivals_of items) end die r) slots 0 items [] s [] 0 refl r.ran.ordered refl
+      (sym (ap (λ (e : DieEnd). e.stop) r.ran.end_is) ∙ none) in_time no_slot in
       let log = log_is slots plan (arrivals_of items) end die r in
       let ends = comes.ended_is ∙ ap (ends_from 0 (lines_of items)) (sym (ap (λ (e : DieEnd). e.refused) r.ran.end_is)) in
-      let same : run_at (said_log s) comes.ended ≡ run_at die.log (ends_from 0 (lines_of items) end.refused) = λ i. run_at (sym log i) (ends i) in
+      let same : run_at (said_log s) comes.ended ≡ run_at die.log (ends_from 0 (lines_of items) end.refused) = λ i. run_at (sym log i)
+      (ends i) in
       record {
         ran = subst (λ run. Runs plan (run_at [] []) (script.calls_of slots items) run) same comes.ran;
         all_slots = ap now log ∙ (comes.slots ∙ omega arith);
@@ -99,5 +107,6 @@ module _ {N : Type 0} (slots : ℕ) (plan : DiePlan) (items : List ScriptItem) (
     where
       by : (o : Option RefusedAt) → end.stop ≡ o → IfSome o (λ stop. stop.refusal ≡ NoMemory)
       by None is = tt
-      by (Some stop) is = slots_stop plan r.ran.saids (told slots plan (arrivals_of items) end die r) slots 0 items [] r.ran.saids stop refl r.ran.ordered refl
+      by (Some stop) is = slots_stop plan r.ran.saids (told slots plan (arrivals_of items) end die r) slots 0 items [] r.ran.saids stop refl
+          r.ran.ordered refl
           (sym (ap (λ (e : DieEnd). e.stop) r.ran.end_is) ∙ is) (omega (arith, few)) in_time no_slot

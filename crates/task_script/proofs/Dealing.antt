@@ -1,10 +1,13 @@
 -- How the rows of a script are dealt to their dies.
-use Rattle.std.proofs.Common.{◌≡◌, ℕ, ◌+◌, ◌<◌, ◌==◌, ◌⊎◌, Bool, true, false, cond, List, [], ◌∷◌, ◌++◌, refl, ap, sym, ◌∙◌, subst, length, filter, replicate, get_or, append_assoc, arith, inl, inr, Option, Some, None, Ok, Err}
+use Rattle.std.proofs.Common.{◌≡◌, ℕ, ◌+◌, ◌<◌, ◌==◌, ◌⊎◌, Bool, true, false, cond, List, [], ◌∷◌, ◌++◌, refl, ap, sym, ◌∙◌, subst, length}
+use Rattle.std.proofs.Common.{filter, replicate, get_or, append_assoc, arith, inl, inr, Option, Some, None, Ok, Err}
 use Rattle.std.specs.Prelude.{IfSome, option_map}
 use Rattle.std.proofs.lemmas.Bool.{eq-eqb, eqb-true}
-use Rattle.std.proofs.lemmas.List.{append-nil, length-set, length-replicate, get_or-replicate, get_or-set_same, get_or-set_other, get_or_default, replicate-append-replicate}
+use Rattle.std.proofs.lemmas.List.{append-nil, length-set, length-replicate, get_or-replicate, get_or-set_same, get_or-set_other}
+use Rattle.std.proofs.lemmas.List.{get_or_default, replicate-append-replicate}
 use Rattle.std.specs.Prelude.{All}
-use Rattle.std.proofs.lemmas.List.Elements.{All-get_or, All-nil, All-push, All-replicate, All-same, All-set, All-weaker, filter-append, filter_passes}
+use Rattle.std.proofs.lemmas.List.Elements.{All-get_or, All-nil, All-push, All-replicate, All-same, All-set, All-weaker, filter-append}
+use Rattle.std.proofs.lemmas.List.Elements.{filter_passes}
 use Rattle.std.proofs.Math.ListN.{set}
 use Rattle.slot_types.specs.declared.refusals.Refusal.{Refusal}
 use Rattle.task_texts.specs.AskedPages.{RowHasPages, RowsHavePages}
@@ -22,8 +25,10 @@ is_of die item = item.die == die
 feed_one : (item : ScriptItem) (die : ℕ) (b : Bool) → is_of die item ≡ b → filter (is_of die) (item ∷ []) ≡ cond b (item ∷ []) []
 feed_one item die b e = ap (λ (c : Bool). cond c (item ∷ []) []) e
 
-feed_with : (items : List ScriptItem) (item : ScriptItem) (die : ℕ) (b : Bool) → is_of die item ≡ b → feed_of (items ++ item ∷ []) die ≡ feed_of items die ++ cond b (item ∷ []) []
-feed_with items item die b e = filter-append (is_of die) items (item ∷ []) ∙ ap (λ (xs : List ScriptItem). feed_of items die ++ xs) (feed_one item die b e)
+feed_with : (items : List ScriptItem) (item : ScriptItem) (die : ℕ) (b : Bool) → is_of die item ≡ b → feed_of (items ++ item ∷ []) die
+    ≡ feed_of items die ++ cond b (item ∷ []) []
+feed_with items item die b e = filter-append (is_of die) items (item ∷ [])
+    ∙ ap (λ (xs : List ScriptItem). feed_of items die ++ xs) (feed_one item die b e)
 
 pub dealt_none : (dies slots : ℕ) → IsDealt dies slots [] (replicate dies [])
 dealt_none dies slots = record {
@@ -33,12 +38,15 @@ dealt_none dies slots = record {
   pages = All-replicate RowsHavePages dies [] (All-nil RowHasPages);
 }
 
-dealt_at : (items : List ScriptItem) (feeds : List (List ScriptItem)) (item : ScriptItem) (die : ℕ) → item.die < length feeds → get_or feeds item.die [] ≡ feed_of items item.die
-    → (b : Bool) → is_of die item ≡ b → get_or feeds die [] ≡ feed_of items die → get_or (set feeds item.die (get_or feeds item.die [] ++ item ∷ [])) die [] ≡ feed_of (items ++ item ∷ []) die
+dealt_at : (items : List ScriptItem) (feeds : List (List ScriptItem)) (item : ScriptItem) (die : ℕ) → item.die < length feeds
+    → get_or feeds item.die [] ≡ feed_of items item.die
+    → (b : Bool) → is_of die item ≡ b → get_or feeds die [] ≡ feed_of items die
+    → get_or (set feeds item.die (get_or feeds item.die [] ++ item ∷ [])) die [] ≡ feed_of (items ++ item ∷ []) die
 dealt_at items feeds item die below own true e other =
     let same : item.die ≡ die = eqb-true item.die die e in
     subst (λ d. get_or (set feeds item.die (get_or feeds item.die [] ++ item ∷ [])) d [] ≡ feed_of (items ++ item ∷ []) d) same
-    (get_or-set_same feeds item.die _ [] below ∙ (ap (λ (xs : List ScriptItem). xs ++ item ∷ []) own ∙ sym (feed_with items item item.die true (ap (λ d. item.die == d) same ∙ e))))
+    (get_or-set_same feeds item.die _ [] below ∙ (ap (λ (xs : List ScriptItem). xs ++ item ∷ []) own
+    ∙ sym (feed_with items item item.die true (ap (λ d. item.die == d) same ∙ e))))
 dealt_at items feeds item die below own false e other =
     get_or-set_other feeds item.die die _ [] (λ (same : die ≡ item.die). differs same e)
     ∙ (other ∙ (sym (append-nil (feed_of items die)) ∙ sym (feed_with items item die false e)))
@@ -48,15 +56,19 @@ dealt_at items feeds item die below own false e other =
         let yes : is_of die item ≡ true = eq-eqb item.die die (sym same) in
         absurd cc
 
-dealt_more : (dies slots : ℕ) (items : List ScriptItem) (feeds feeds2 : List (List ScriptItem)) (item : ScriptItem) → IsRowFor dies slots item → RowHasPages item
-    → feeds2 ≡ set feeds item.die (get_or feeds item.die [] ++ item ∷ []) → IsDealt dies slots items feeds → IsDealt dies slots (items ++ item ∷ []) feeds2
+dealt_more : (dies slots : ℕ) (items : List ScriptItem) (feeds feeds2 : List (List ScriptItem)) (item : ScriptItem)
+    → IsRowFor dies slots item → RowHasPages item
+    → feeds2 ≡ set feeds item.die (get_or feeds item.die [] ++ item ∷ []) → IsDealt dies slots items feeds
+    → IsDealt dies slots (items ++ item ∷ []) feeds2
 dealt_more dies slots items feeds feeds2 item row paged is d =
     subst (IsDealt dies slots (items ++ item ∷ [])) (sym is) (record {
       all = length-set feeds item.die _ ∙ d.all;
       rows = λ die below. dealt_at items feeds item die within (d.rows item.die row.0) (is_of die item) refl (d.rows die below);
       arrive = All-set (AllArrive slots) feeds item.die _
-          (All-push (Arrives slots) (get_or feeds item.die []) item (All-get_or (AllArrive slots) feeds item.die [] within d.arrive) row.1) d.arrive;
-      pages = All-set RowsHavePages feeds item.die _ (All-push RowHasPages (get_or feeds item.die []) item (All-get_or RowsHavePages feeds item.die [] within d.pages) paged) d.pages;
+          (All-push (Arrives slots) (get_or feeds item.die []) item (All-get_or (AllArrive slots) feeds item.die [] within d.arrive) row.1)
+          d.arrive;
+      pages = All-set RowsHavePages feeds item.die _ (All-push RowHasPages (get_or feeds item.die []) item
+          (All-get_or RowsHavePages feeds item.die [] within d.pages) paged) d.pages;
     })
   where
     within : item.die < length feeds
@@ -69,23 +81,28 @@ read_none None = tt
 read_none (Some (Ok items)) = refl
 read_none (Some (Err e)) = refl
 
-items_more : (items : List ScriptItem) (item : ScriptItem) (more : Script) → with_items items (with_front item more) ≡ with_items (items ++ item ∷ []) more
+items_more : (items : List ScriptItem) (item : ScriptItem) (more : Script) → with_items items (with_front item more)
+    ≡ with_items (items ++ item ∷ []) more
 items_more items item (Ok more) = ap (λ (xs : List ScriptItem). Ok xs) (sym (append_assoc items (item ∷ []) more))
 items_more items item (Err e) = refl
 
-read_more : (whole left new : Option Script) (items : List ScriptItem) (item : ScriptItem) → IsReadTo whole left items → Yields left new (Ok (Some item)) → IsReadTo whole new (items ++ item ∷ [])
+read_more : (whole left new : Option Script) (items : List ScriptItem) (item : ScriptItem) → IsReadTo whole left items
+    → Yields left new (Ok (Some item)) → IsReadTo whole new (items ++ item ∷ [])
 read_more None left new items item so_far step = tt
 read_more (Some all) None new items item so_far step = absurd so_far
 read_more (Some all) (Some more) new items item so_far step =
     subst (λ (o : Option Script). IsReadTo (Some all) o (items ++ item ∷ [])) (sym step.1)
     (so_far ∙ (ap (with_items items) step.2 ∙ items_more items item step.0))
 
-read_all : (whole left new : Option Script) (items : List ScriptItem) → IsReadTo whole left items → Yields left new (Ok None) → IfSome whole (λ all. all ≡ Ok items)
+read_all : (whole left new : Option Script) (items : List ScriptItem) → IsReadTo whole left items → Yields left new (Ok None)
+    → IfSome whole (λ all. all ≡ Ok items)
 read_all None left new items so_far step = tt
 read_all (Some all) None new items so_far step = absurd so_far
-read_all (Some all) (Some more) new items so_far step = so_far ∙ (ap (with_items items) step.0 ∙ ap (λ (xs : List ScriptItem). Ok xs) (append-nil items))
+read_all (Some all) (Some more) new items so_far step = so_far
+    ∙ (ap (with_items items) step.0 ∙ ap (λ (xs : List ScriptItem). Ok xs) (append-nil items))
 
-read_fault : (whole left new : Option Script) (items : List ScriptItem) (e : Refusal) → IsReadTo whole left items → Yields left new (Err e) → IsOutside e ⊎ IfSome whole (λ all. all ≡ Err e)
+read_fault : (whole left new : Option Script) (items : List ScriptItem) (e : Refusal) → IsReadTo whole left items → Yields left new (Err e)
+    → IsOutside e ⊎ IfSome whole (λ all. all ≡ Err e)
 read_fault None left new items e so_far step = inr tt
 read_fault (Some all) None new items e so_far step = absurd so_far
 read_fault (Some all) (Some more) new items e so_far (inl out) = inl out
@@ -97,26 +114,36 @@ known_by P f (Some a) h = h
 
 -- Both
 
-pub deals_none : (whole left : Option Script) (n dies slots : ℕ) (feeds : List (List ScriptItem)) → left ≡ whole → feeds ≡ replicate n [] → n ≡ dies → HasDealt whole left dies slots feeds
-deals_none whole left n dies slots feeds same is all =
-    ([], subst (λ (o : Option Script). IsReadTo whole o []) (sym same) (read_none whole), subst (IsDealt dies slots []) (sym (is ∙ ap (λ m. replicate m []) all)) (dealt_none dies slots))
+pub deals_none : (whole left : Option Script) (n dies slots : ℕ) (feeds : List (List ScriptItem)) → left ≡ whole → feeds ≡ replicate n []
+    → n ≡ dies → HasDealt whole left dies slots feeds
+deals_none whole left n dies slots feeds same is all = (
+  [],
+  subst (λ (o : Option Script). IsReadTo whole o []) (sym same) (read_none whole),
+  subst (IsDealt dies slots [])
+      (sym (is ∙ ap (λ m. replicate m []) all)) (dealt_none dies slots),
+)
 
-pub deals_more : (whole left new : Option Script) (dies slots : ℕ) (feeds feeds2 : List (List ScriptItem)) (item : ScriptItem) (old feed : List ScriptItem) → IsRowFor dies slots item → RowHasPages item
-    → old ≡ get_or feeds item.die old → feed ≡ old ++ item ∷ [] → feeds2 ≡ set feeds item.die feed → Yields left new (Ok (Some item)) → HasDealt whole left dies slots feeds → HasDealt whole new dies slots feeds2
+pub deals_more : (whole left new : Option Script) (dies slots : ℕ) (feeds feeds2 : List (List ScriptItem)) (item : ScriptItem)
+    (old feed : List ScriptItem) → IsRowFor dies slots item → RowHasPages item
+    → old ≡ get_or feeds item.die old → feed ≡ old ++ item ∷ [] → feeds2 ≡ set feeds item.die feed → Yields left new (Ok (Some item))
+    → HasDealt whole left dies slots feeds → HasDealt whole new dies slots feeds2
 deals_more whole left new dies slots feeds feeds2 item old feed row paged at grown is step h =
     let below : item.die < length feeds = omega (arith, row.0, h.2.all) in
     let same : old ≡ get_or feeds item.die [] = at ∙ get_or_default feeds item.die old [] below in (
       h.0 ++ item ∷ [],
       read_more whole left new h.0 item h.1 step,
-      dealt_more dies slots h.0 feeds feeds2 item row paged (is ∙ ap (set feeds item.die) (grown ∙ ap (λ (xs : List ScriptItem). xs ++ item ∷ []) same)) h.2,
+      dealt_more dies slots h.0 feeds feeds2 item row paged (is
+          ∙ ap (set feeds item.die) (grown ∙ ap (λ (xs : List ScriptItem). xs ++ item ∷ []) same)) h.2,
     )
 
-pub deals_all : (text : Option (List ℕ)) (left new : Option Script) (dies slots : ℕ) (feeds : List (List ScriptItem)) → Yields left new (Ok None)
+pub deals_all : (text : Option (List ℕ)) (left new : Option Script) (dies slots : ℕ) (feeds : List (List ScriptItem))
+    → Yields left new (Ok None)
     → HasDealt (option_map (script_of dies slots) text) left dies slots feeds → AreFeedsOf text dies slots feeds
 deals_all text left new dies slots feeds step h =
     (h.0, known_by (λ (all : Script). all ≡ Ok h.0) (script_of dies slots) text (read_all _ left new h.0 h.1 step), h.2)
 
-pub deals_fault : (text : Option (List ℕ)) (left new : Option Script) (dies slots : ℕ) (feeds : List (List ScriptItem)) (e : Refusal) → Yields left new (Err e)
+pub deals_fault : (text : Option (List ℕ)) (left new : Option Script) (dies slots : ℕ) (feeds : List (List ScriptItem)) (e : Refusal)
+    → Yields left new (Err e)
     → HasDealt (option_map (script_of dies slots) text) left dies slots feeds → RefusesScript text dies slots e
 deals_fault text left new dies slots feeds e step h = known (read_fault _ left new h.0 e h.1 step)
   where
@@ -128,10 +155,12 @@ pub no_more : (n : ℕ) (feeds : List (List ScriptItem)) → feeds ≡ replicate
 no_more n feeds is = ap (λ (xs : List (List ScriptItem)). xs ++ [] ∷ []) is ∙ replicate-append-replicate n 1 []
 
 -- the rows that a die has so far are all of it
-pub dealt_own : (whole left : Option Script) (dies slots : ℕ) (feeds : List (List ScriptItem)) (item : ScriptItem) (old : List ScriptItem) → IsRowFor dies slots item
+pub dealt_own : (whole left : Option Script) (dies slots : ℕ) (feeds : List (List ScriptItem)) (item : ScriptItem) (old : List ScriptItem)
+    → IsRowFor dies slots item
     → old ≡ get_or feeds item.die old → HasDealt whole left dies slots feeds → All (λ (row : ScriptItem). row.die ≡ item.die) old
 dealt_own whole left dies slots feeds item old row at h =
     let below : item.die < length feeds = omega (arith, row.0, h.2.all) in
     let is : old ≡ feed_of h.0 item.die = at ∙ get_or_default feeds item.die old [] below ∙ h.2.rows item.die row.0 in
     All-same (λ (row : ScriptItem). row.die ≡ item.die) old (feed_of h.0 item.die) is
-    (All-weaker (λ (row : ScriptItem). is_of item.die row ≡ true) (λ row. row.die ≡ item.die) (λ (row : ScriptItem) same. eqb-true row.die item.die same) (feed_of h.0 item.die) (filter_passes (is_of item.die) h.0))
+    (All-weaker (λ (row : ScriptItem). is_of item.die row ≡ true) (λ row. row.die ≡ item.die)
+    (λ (row : ScriptItem) same. eqb-true row.die item.die same) (feed_of h.0 item.die) (filter_passes (is_of item.die) h.0))

@@ -15,13 +15,18 @@ each_row P [] h = tt
 each_row P (item ∷ items) h = (h.0, each_row P items h.1)
 
 each_due : (P : ScriptItem → Type 0) (slot : ℕ) (items : List ScriptItem) → AllByRecursion P items → AllByRecursion P (due_by slot items)
-each_due P slot items h = recursion_from_All P (due_by slot items) (All-take P (prefix_len (is_due slot) items) items (All-from_recursion P items h))
+each_due P slot items h = recursion_from_All P (due_by slot items)
+    (All-take P (prefix_len (is_due slot) items) items (All-from_recursion P items h))
 
-each_later : (P : ScriptItem → Type 0) (slot : ℕ) (items : List ScriptItem) → AllByRecursion P items → AllByRecursion P (later_than slot items)
-each_later P slot items h = recursion_from_All P (later_than slot items) (All-drop P (prefix_len (is_due slot) items) items (All-from_recursion P items h))
+each_later : (P : ScriptItem → Type 0) (slot : ℕ) (items : List ScriptItem) → AllByRecursion P items
+    → AllByRecursion P (later_than slot items)
+each_later P slot items h = recursion_from_All P (later_than slot items)
+    (All-drop P (prefix_len (is_due slot) items) items (All-from_recursion P items h))
 
-pub each_call : (P : ScriptItem → Type 0) (slot left : ℕ) (items : List ScriptItem) → AllByRecursion P items → AllByRecursion (IsCallOf P) (calls_from slot left items)
+pub each_call : (P : ScriptItem → Type 0) (slot left : ℕ) (items : List ScriptItem) → AllByRecursion P items
+    → AllByRecursion (IsCallOf P) (calls_from slot left items)
 each_call P slot zero items h = each_row P items h
 each_call P slot (suc left) items h =
-    all_append (IsCallOf P) (map Row (due_by slot items)) (Slot ∷ calls_from (slot + 1) left (later_than slot items)) (each_row P (due_by slot items) (each_due P slot items h))
+    all_append (IsCallOf P) (map Row (due_by slot items)) (Slot ∷ calls_from (slot + 1) left (later_than slot items))
+    (each_row P (due_by slot items) (each_due P slot items h))
     (tt, each_call P (slot + 1) left (later_than slot items) (each_later P slot items h))

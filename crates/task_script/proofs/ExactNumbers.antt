@@ -1,5 +1,6 @@
 -- How great the numbers of an exact log's rows are.
-use Rattle.std.proofs.Common.{◌≡◌, ℕ, ◌<◌, ◌≤◌, ◌==◌, Bool, true, false, cond, List, [], ◌∷◌, ◌++◌, Option, Some, None, refl, ◌∙◌, subst, length, arith}
+use Rattle.std.proofs.Common.{◌≡◌, ℕ, ◌<◌, ◌≤◌, ◌==◌, Bool, true, false, cond, List, [], ◌∷◌, ◌++◌, Option, Some, None, refl, ◌∙◌, subst}
+use Rattle.std.proofs.Common.{length, arith}
 use Rattle.std.specs.Prelude.{Contains, count_by}
 use Rattle.std.specs.List.{AllByRecursion}
 use Rattle.std.proofs.lemmas.Bool.{eqb-true}
@@ -30,7 +31,8 @@ use Rattle.slot_core.specs.Records.{bytes_read, gift_by, gift_of, given, given_b
 
 -- Completions
 
-before_end : (past : Log) (reply : Reply) (act : Option Act) (earlier n : ℕ) → act_of n (ran_by reply) ≡ act → earlier ≤ now past → ended_by act earlier (now past) ≤ length (with_slot reply (carried past))
+before_end : (past : Log) (reply : Reply) (act : Option Act) (earlier n : ℕ) → act_of n (ran_by reply) ≡ act → earlier ≤ now past
+    → ended_by act earlier (now past) ≤ length (with_slot reply (carried past))
 before_end past (replies.Slot s) None earlier n e h = omega (arith, h, length_push (carried past) s.ran)
 before_end past (replies.Slot s) (Some act) earlier n e h = omega (arith, length_push (carried past) s.ran)
 before_end past (replies.Taken number) None earlier n e h = h
@@ -45,7 +47,8 @@ completed_by_now n (e ∷ past) = before_end past e.reply (act_of n (ran_by e.re
 -- What is done
 
 -- whatever is done took a slot
-pub done_worked : (plan : DiePlan) (log : Log) (j : Job) → MeetsBound plan → IsExact plan log → Contains (jobs log) j → is_done plan log j ≡ true → 0 < work j.number log
+pub done_worked : (plan : DiePlan) (log : Log) (j : Job) → MeetsBound plan → IsExact plan log → Contains (jobs log) j → is_done plan log j
+    ≡ true → 0 < work j.number log
 done_worked plan log j bound exact stands = by_acts (acts j.number log)
   where
     within : IsWithinLimits plan j
@@ -60,12 +63,19 @@ done_worked plan log j bound exact stands = by_acts (acts j.number log)
     by_acts (act ∷ own) e = omega arith
 
 job_reads : (plan : DiePlan) (j : Job) (own : List Act) → j.collects ≡ false → are_all plan j own ≡ true → length own ≡ length j.ops
-job_reads plan j own kind e = eqb-true (length own) (length j.ops) (subst (λ (b : Bool). cond b (count_by is_erase own == plan.shape.erase_slots) (length own == length j.ops) ≡ true) kind e)
+job_reads plan j own kind e = eqb-true (length own) (length j.ops)
+    (subst (λ (b : Bool). cond b (count_by is_erase own == plan.shape.erase_slots) (length own == length j.ops) ≡ true) kind e)
 
 -- a done job gave no more pages than a job has operations
-pub few_reads : (plan : DiePlan) (log : Log) (j : Job) → IsExact plan log → Contains (jobs log) j → j.collects ≡ false → is_done plan log j ≡ true → length (reads_of (acts j.number log)) ≤ MAX_OPS
+pub few_reads : (plan : DiePlan) (log : Log) (j : Job) → IsExact plan log → Contains (jobs log) j → j.collects ≡ false → is_done plan log j
+    ≡ true → length (reads_of (acts j.number log)) ≤ MAX_OPS
 few_reads plan log j exact stands kind done =
-    omega (arith, few_found bytes_read (acts j.number log), job_reads plan j (acts j.number log) kind done, ((keeps_limits plan log exact).each j stands).few)
+    omega (
+      arith,
+      few_found bytes_read (acts j.number log),
+      job_reads plan j (acts j.number log) kind done,
+      ((keeps_limits plan log exact).each j stands).few,
+    )
 
 -- What collections give
 
@@ -86,7 +96,8 @@ gift_few plan past s (Some j) = by_kind j.collects
     by_kind true = given_plan plan settled j.task (waivers_plan past s.waived (accounts plan past) ∙ accounts_plan plan past)
     by_kind false = omega arith
 
-gift_by_few : (plan : DiePlan) (past : Log) (s : SlotReply) (number : ℕ) (o : Option ℕ) (earlier : ℕ) → earlier ≤ plan.alpha → gift_by plan past s number o earlier ≤ plan.alpha
+gift_by_few : (plan : DiePlan) (past : Log) (s : SlotReply) (number : ℕ) (o : Option ℕ) (earlier : ℕ) → earlier ≤ plan.alpha
+    → gift_by plan past s number o earlier ≤ plan.alpha
 gift_by_few plan past s number None earlier h = h
 gift_by_few plan past s number (Some n) earlier h = by_number (n == number)
   where
@@ -94,7 +105,8 @@ gift_by_few plan past s number (Some n) earlier h = by_number (n == number)
     by_number true = gift_few plan past s (job_at past number)
     by_number false = h
 
-given_by_few : (plan : DiePlan) (past : Log) (reply : Reply) (number earlier : ℕ) → earlier ≤ plan.alpha → given_by plan past reply number earlier ≤ plan.alpha
+given_by_few : (plan : DiePlan) (past : Log) (reply : Reply) (number earlier : ℕ) → earlier ≤ plan.alpha
+    → given_by plan past reply number earlier ≤ plan.alpha
 given_by_few plan past (replies.Slot s) number earlier h = gift_by_few plan past s number s.finished earlier h
 given_by_few plan past (replies.Taken n) number earlier h = h
 given_by_few plan past (replies.Refused refusal) number earlier h = h
@@ -108,13 +120,16 @@ done_gives_few plan number (e ∷ past) = given_by_few plan past e.reply number 
 abbrev GivesFew : DiePlan → Waived → Type 0
 GivesFew plan w = w.given ≤ plan.alpha
 
-waivers_few : (plan : DiePlan) (past : Log) (earlier : List Waived) (a : Accounts) (ws : List Waived) → a.plan ≡ plan → AreWaivers plan past earlier a ws → AllByRecursion (GivesFew plan) ws
+waivers_few : (plan : DiePlan) (past : Log) (earlier : List Waived) (a : Accounts) (ws : List Waived) → a.plan ≡ plan
+    → AreWaivers plan past earlier a ws → AllByRecursion (GivesFew plan) ws
 waivers_few plan past earlier a [] e h = tt
 waivers_few plan past earlier a (w ∷ ws) e h =
     (omega (arith, h.1.gives, given_plan plan a h.0.task e), waivers_few plan past (earlier ++ w ∷ []) (moves.waived a h.0.task) ws e h.2)
 
-reply_few : (plan : DiePlan) (past : Log) (reply : Reply) → IsLegalReply plan past reply → AllByRecursion (GivesFew plan) (waived past) → AllByRecursion (GivesFew plan) (with_waived reply (waived past))
-reply_few plan past (replies.Slot s) h k = all_append (GivesFew plan) (waived past) s.waived k (waivers_few plan past (waived past) (accounts plan past) s.waived (accounts_plan plan past) h.0)
+reply_few : (plan : DiePlan) (past : Log) (reply : Reply) → IsLegalReply plan past reply → AllByRecursion (GivesFew plan) (waived past)
+    → AllByRecursion (GivesFew plan) (with_waived reply (waived past))
+reply_few plan past (replies.Slot s) h k = all_append (GivesFew plan) (waived past) s.waived k
+    (waivers_few plan past (waived past) (accounts plan past) s.waived (accounts_plan plan past) h.0)
 reply_few plan past (replies.Taken n) h k = k
 reply_few plan past (replies.Refused refusal) h k = k
 
@@ -122,13 +137,16 @@ all_few : (plan : DiePlan) (log : Log) → IsLegal plan log → AllByRecursion (
 all_few plan [] h = tt
 all_few plan (e ∷ past) h = reply_few plan past e.reply h.1.slot (all_few plan past h.0)
 
-among_few : (plan : DiePlan) (number : ℕ) (ws : List Waived) → AllByRecursion (GivesFew plan) ws → OfSome (GivesFew plan) (waiver_among number ws)
+among_few : (plan : DiePlan) (number : ℕ) (ws : List Waived) → AllByRecursion (GivesFew plan) ws
+    → OfSome (GivesFew plan) (waiver_among number ws)
 among_few plan number [] h = tt
 among_few plan number (w ∷ ws) h = by_number (w.number == number) (among_few plan number ws h.1)
   where
-    by_number : (b : Bool) → OfSome (GivesFew plan) (waiver_among number ws) → OfSome (GivesFew plan) (cond b (Some w) (waiver_among number ws))
+    by_number : (b : Bool) → OfSome (GivesFew plan) (waiver_among number ws)
+        → OfSome (GivesFew plan) (cond b (Some w) (waiver_among number ws))
     by_number true later = h.0
     by_number false later = later
 
-pub waived_gives_few : (plan : DiePlan) (log : Log) (number : ℕ) → IsLegal plan log → OfSome (λ (w : Waived). w.given ≤ plan.alpha) (waiver_among number (waived log))
+pub waived_gives_few : (plan : DiePlan) (log : Log) (number : ℕ) → IsLegal plan log
+    → OfSome (λ (w : Waived). w.given ≤ plan.alpha) (waiver_among number (waived log))
 waived_gives_few plan log number legal = among_few plan number (waived log) (all_few plan log legal)

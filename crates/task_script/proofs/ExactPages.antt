@@ -1,5 +1,6 @@
 -- What the reads of an exact log give are pages, and collections read nothing.
-use Rattle.std.proofs.Common.{◌≡◌, ℕ, zero, suc, ◌==◌, Bool, true, false, cond, List, [], ◌∷◌, ◌++◌, Option, Some, None, refl, ap, sym, ◌∙◌, subst, length, replicate, set, get_or, slice_get, arith}
+use Rattle.std.proofs.Common.{◌≡◌, ℕ, zero, suc, ◌==◌, Bool, true, false, cond, List, [], ◌∷◌, ◌++◌, Option, Some, None, refl, ap, sym, ◌∙◌}
+use Rattle.std.proofs.Common.{subst, length, replicate, set, get_or, slice_get, arith}
 use Rattle.std.specs.Prelude.{All, Contains}
 use Rattle.std.specs.List.{AllByRecursion, cons_option, filter_map, last_or}
 use Rattle.std.proofs.lemmas.Bool.{eqb-true, true≢false}
@@ -20,7 +21,8 @@ use Rattle.die_log.specs.Log.{Log, Job, Carried, jobs, job_at, carried, act_of, 
 use Rattle.die_log.specs.Flash.{Cells, blank_page, cells, contents, valid_pages, written}
 use Rattle.die_log.specs.Work.{is_ready, ready}
 use Rattle.die_log.specs.Accounts.{accounts}
-use Rattle.die_log.specs.Answers.{IsExact, accepted, act_for, act_of_op, block_for, buffer_after, choice, collect_act, is_placed_in, read_or_erase, refusals, reply_with, slot_reply}
+use Rattle.die_log.specs.Answers.{IsExact, accepted, act_for, act_of_op, block_for, buffer_after, choice, collect_act, is_placed_in}
+use Rattle.die_log.specs.Answers.{read_or_erase, refusals, reply_with, slot_reply}
 use Rattle.die_log.specs.Standing.{AreNumbered}
 use Rattle.die_log.proofs.Choices.{Names, OfSome, all_kept, names_waiting}
 use Rattle.die_log.proofs.Known.{all_append}
@@ -101,9 +103,11 @@ record KeepsPages (plan : DiePlan) (log : Log) : Type 0 where
 
 -- One slot
 
-op_pages : (plan : DiePlan) (past : Log) (o : Option Op) (act : Act) → KeepsPages plan past → OfSome WritesPage o → act_of_op plan past o ≡ Some act → HasActPages false act
+op_pages : (plan : DiePlan) (past : Log) (o : Option Op) (act : Act) → KeepsPages plan past → OfSome WritesPage o → act_of_op plan past o
+    ≡ Some act → HasActPages false act
 op_pages plan past None act k h e = absurd (none-some act e)
-op_pages plan past (Some (asks.Read page)) act k h e = subst (HasActPages false) (same_Some _ act e) (refl, all_or IsPage (contents plan past) page blank_page k.held blank_is)
+op_pages plan past (Some (asks.Read page)) act k h e = subst (HasActPages false) (same_Some _ act e)
+    (refl, all_or IsPage (contents plan past) page blank_page k.held blank_is)
 op_pages plan past (Some (asks.Write page bytes)) act k h e = subst (HasActPages false) (same_Some _ act e) h
 op_pages plan past (Some (asks.Trim page)) act k h e = subst (HasActPages false) (same_Some _ act e) tt
 
@@ -115,18 +119,22 @@ erase_pages : (b : ℕ) (pages : List ℕ) → HasActPages true (read_or_erase b
 erase_pages b [] = tt
 erase_pages b (page ∷ pages) = tt
 
-placed_pages : (placed : Bool) (page b : ℕ) (pages : List ℕ) (act : Act) → cond placed (Some (does.CopyProgram page)) (Some (read_or_erase b pages)) ≡ Some act → HasActPages true act
+placed_pages : (placed : Bool) (page b : ℕ) (pages : List ℕ) (act : Act)
+    → cond placed (Some (does.CopyProgram page)) (Some (read_or_erase b pages)) ≡ Some act → HasActPages true act
 placed_pages true page b pages act e = subst (HasActPages true) (same_Some _ act e) tt
 placed_pages false page b pages act e = subst (HasActPages true) (same_Some _ act e) (erase_pages b pages)
 
-collect_pages : (plan : DiePlan) (c : Cells) (buffer block : Option ℕ) (act : Act) → collect_act plan c buffer block ≡ Some act → HasActPages true act
+collect_pages : (plan : DiePlan) (c : Cells) (buffer block : Option ℕ) (act : Act) → collect_act plan c buffer block ≡ Some act
+    → HasActPages true act
 collect_pages plan c buffer None act e = absurd (none-some act e)
 collect_pages plan c buffer (Some b) act e = placed_pages (is_placed_in c b buffer) _ b (valid_pages plan c b) act e
 
-act_pages : (plan : DiePlan) (past : Log) (j : Job) (act : Act) → KeepsPages plan past → HasJobPages j → act_for plan past j ≡ Some act → HasActPages j.collects act
+act_pages : (plan : DiePlan) (past : Log) (j : Job) (act : Act) → KeepsPages plan past → HasJobPages j → act_for plan past j ≡ Some act
+    → HasActPages j.collects act
 act_pages plan past j act k h = by_kind j.collects
   where
-    by_kind : (b : Bool) → cond b (collect_act plan (cells plan past) (buffer_after (last_or None (acts j.number past))) (block_for plan past j)) (act_of_op plan past (slice_get j.ops (work j.number past))) ≡ Some act → HasActPages b act
+    by_kind : (b : Bool) → cond b (collect_act plan (cells plan past) (buffer_after (last_or None (acts j.number past)))
+        (block_for plan past j)) (act_of_op plan past (slice_get j.ops (work j.number past))) ≡ Some act → HasActPages b act
     by_kind true e = collect_pages plan (cells plan past) _ (block_for plan past j) act e
     by_kind false e = op_pages plan past (slice_get j.ops (work j.number past)) act k (op_at j.ops (work j.number past) _ refl h) e
 
@@ -134,16 +142,19 @@ act_pages plan past j act k h = by_kind j.collects
 abbrev IsHead : Log → Job → Type 0
 IsHead past j = (job_at past j.number ≡ Some j) × HasJobPages j
 
-head_ran : (plan : DiePlan) (past : Log) (ws : List Waived) (j : Job) (o : Option Act) → KeepsPages plan past → IsHead past j → act_for plan past j ≡ o → HasRunPages (jobs past) (reply_with plan past ws j o).ran
+head_ran : (plan : DiePlan) (past : Log) (ws : List Waived) (j : Job) (o : Option Act) → KeepsPages plan past → IsHead past j
+    → act_for plan past j ≡ o → HasRunPages (jobs past) (reply_with plan past ws j o).ran
 head_ran plan past ws j None k h e = tt
 head_ran plan past ws j (Some act) k h e = (j, h.0, act_pages plan past j act k h.1 e)
 
-slot_ran : (plan : DiePlan) (past : Log) (ws : List Waived) (o : Option Job) → KeepsPages plan past → OfSome (IsHead past) o → HasRunPages (jobs past) (slot_reply plan past ws o).ran
+slot_ran : (plan : DiePlan) (past : Log) (ws : List Waived) (o : Option Job) → KeepsPages plan past → OfSome (IsHead past) o
+    → HasRunPages (jobs past) (slot_reply plan past ws o).ran
 slot_ran plan past ws None k h = tt
 slot_ran plan past ws (Some j) k h = head_ran plan past ws j (act_for plan past j) k h refl
 
 -- what a slot wrote is a page
-held_after : (js : List Job) (c : Carried) (pages : List PageData) → HasRunPages js c → AllByRecursion IsPage pages → AllByRecursion IsPage (written c pages)
+held_after : (js : List Job) (c : Carried) (pages : List PageData) → HasRunPages js c → AllByRecursion IsPage pages
+    → AllByRecursion IsPage (written c pages)
 held_after js None pages h k = k
 held_after js (Some (n, does.Read page bytes)) pages h k = k
 held_after js (Some (n, does.Write page bytes)) pages h k = all_set IsPage pages page bytes k h.2
@@ -161,17 +172,20 @@ both P Q (x ∷ xs) h k = ((h.0, k.0), both P Q xs h.1 k.1)
 numbered : (plan : DiePlan) (log : Log) → MeetsBound plan → IsExact plan log → AreNumbered 0 (jobs log)
 numbered plan log bound exact = (stands_well plan bound log exact).0.numbered
 
-heads : (plan : DiePlan) (past : Log) → MeetsBound plan → IsExact plan past → KeepsPages plan past → AllByRecursion (IsHead past) (jobs past)
+heads : (plan : DiePlan) (past : Log) → MeetsBound plan → IsExact plan past → KeepsPages plan past
+    → AllByRecursion (IsHead past) (jobs past)
 heads plan past bound exact k =
     both (λ (j : Job). job_at past j.number ≡ Some j) HasJobPages (jobs past)
     (all_known past (λ i j at. omega (arith, number_at 0 (jobs past) i j (numbered plan past bound exact) at))) k.asked
 
-slot_kept : (plan : DiePlan) (past : Log) (caller : ℕ) → MeetsBound plan → IsExact plan past → KeepsPages plan past → KeepsPages plan (entry caller events.Slot (accepted plan past events.Slot) ∷ past)
+slot_kept : (plan : DiePlan) (past : Log) (caller : ℕ) → MeetsBound plan → IsExact plan past → KeepsPages plan past
+    → KeepsPages plan (entry caller events.Slot (accepted plan past events.Slot) ∷ past)
 slot_kept plan past caller bound exact k =
     let c = choice plan past in
     let ran = (slot_reply plan past c.waived c.head).ran in
     let names : Names (IsHead past) c =
-    names_waiting (IsHead past) plan past (length (ready plan past)) (accounts plan past) (ready plan past) (all_kept (IsHead past) (is_ready plan past) (jobs past) (heads plan past bound exact k)) in
+    names_waiting (IsHead past) plan past (length (ready plan past)) (accounts plan past) (ready plan past)
+    (all_kept (IsHead past) (is_ready plan past) (jobs past) (heads plan past bound exact k)) in
     let good : HasRunPages (jobs past) ran = slot_ran plan past c.waived c.head k names.head in
     record {
       held = held_after (jobs past) ran (contents plan past) good k.held;
@@ -188,8 +202,10 @@ pages_kept plan bound = exact_induction plan (λ log. AreAsked log → KeepsPage
     none : AreAsked [] → KeepsPages plan []
     none h = record { held = all_same IsPage plan.logical blank_page blank_is; asked = tt; ran = tt }
 
-    step : (past : Log) (caller : ℕ) (event : Event) → IsExact plan past → (AreAsked past → KeepsPages plan past) → AllByRecursion (λ c. c.0 ≡ false) (refusals plan past event)
-        → AreAsked (entry caller event (accepted plan past event) ∷ past) → KeepsPages plan (entry caller event (accepted plan past event) ∷ past)
+    step : (past : Log) (caller : ℕ) (event : Event) → IsExact plan past → (AreAsked past → KeepsPages plan past)
+        → AllByRecursion (λ c. c.0 ≡ false) (refusals plan past event)
+        → AreAsked (entry caller event (accepted plan past event) ∷ past)
+        → KeepsPages plan (entry caller event (accepted plan past event) ∷ past)
     step past caller (events.Submit task release due ops) exact h none asked =
         let k = h asked.1 in
         record {
@@ -199,16 +215,23 @@ pages_kept plan bound = exact_induction plan (λ log. AreAsked log → KeepsPage
         }
     step past caller (events.Collect task release due) exact h none asked =
         let k = h asked.1 in
-        record { held = k.held; asked = all_append HasJobPages (jobs past) (_ ∷ []) k.asked (tt, tt); ran = runs_later (jobs past) (_ ∷ []) (carried past) k.ran }
+        record {
+          held = k.held;
+          asked = all_append HasJobPages (jobs past) (_ ∷ []) k.asked (tt, tt);
+          ran = runs_later (jobs past) (_ ∷ [])
+              (carried past) k.ran;
+        }
     step past caller events.Slot exact h none asked = slot_kept plan past caller bound exact (h asked.1)
 
 -- What a job or collection did
 
-cons_pages : {X : Type 0} (P : X → Type 0) (o : Option X) (xs : List X) → OfSome P o → AllByRecursion P xs → AllByRecursion P (cons_option o xs)
+cons_pages : {X : Type 0} (P : X → Type 0) (o : Option X) (xs : List X) → OfSome P o → AllByRecursion P xs
+    → AllByRecursion P (cons_option o xs)
 cons_pages P None xs h k = k
 cons_pages P (Some x) xs h k = (h, k)
 
-own_act : (js : List Job) (n : ℕ) (j : Job) (c : Carried) → slice_get js n ≡ Some j → HasRunPages js c → OfSome (HasActPages j.collects) (act_of n c)
+own_act : (js : List Job) (n : ℕ) (j : Job) (c : Carried) → slice_get js n ≡ Some j → HasRunPages js c
+    → OfSome (HasActPages j.collects) (act_of n c)
 own_act js n j None at h = tt
 own_act js n j (Some (m, act)) at h = by_number (m == n) refl
   where
@@ -218,11 +241,14 @@ own_act js n j (Some (m, act)) at h = by_number (m == n) refl
         subst (λ (i : Job). HasActPages i.collects act) same h.2
     by_number false e = tt
 
-own_acts : (js : List Job) (n : ℕ) (j : Job) (cs : List Carried) → slice_get js n ≡ Some j → AllByRecursion (HasRunPages js) cs → AllByRecursion (HasActPages j.collects) (filter_map (λ c. act_of n c) cs)
+own_acts : (js : List Job) (n : ℕ) (j : Job) (cs : List Carried) → slice_get js n ≡ Some j → AllByRecursion (HasRunPages js) cs
+    → AllByRecursion (HasActPages j.collects) (filter_map (λ c. act_of n c) cs)
 own_acts js n j [] at h = tt
-own_acts js n j (c ∷ cs) at h = cons_pages (HasActPages j.collects) (act_of n c) (filter_map (λ x. act_of n x) cs) (own_act js n j c at h.0) (own_acts js n j cs at h.1)
+own_acts js n j (c ∷ cs) at h = cons_pages (HasActPages j.collects) (act_of n c) (filter_map (λ x. act_of n x) cs) (own_act js n j c at h.0)
+    (own_acts js n j cs at h.1)
 
-acts_pages : (plan : DiePlan) (log : Log) (j : Job) → MeetsBound plan → IsExact plan log → HasPages log → Contains (jobs log) j → AllByRecursion (HasActPages j.collects) (acts j.number log)
+acts_pages : (plan : DiePlan) (log : Log) (j : Job) → MeetsBound plan → IsExact plan log → HasPages log → Contains (jobs log) j
+    → AllByRecursion (HasActPages j.collects) (acts j.number log)
 acts_pages plan log j bound exact asked stands =
     let k = pages_kept plan bound log exact (recursion_from_All EntryHasPages log asked) in
     own_acts (jobs log) j.number j (carried log) (stands_at (jobs log) j (numbered plan log bound exact) stands) k.ran
@@ -245,10 +271,14 @@ no_reads (does.CopyRead page ∷ own) h = no_reads own h.1
 no_reads (does.CopyProgram page ∷ own) h = no_reads own h.1
 no_reads (does.Erase block ∷ own) h = no_reads own h.1
 
-pub reads_are_pages : (plan : DiePlan) (log : Log) (j : Job) → MeetsBound plan → IsExact plan log → HasPages log → Contains (jobs log) j → All IsPage (reads_of (acts j.number log))
+pub reads_are_pages : (plan : DiePlan) (log : Log) (j : Job) → MeetsBound plan → IsExact plan log → HasPages log → Contains (jobs log) j
+    → All IsPage (reads_of (acts j.number log))
 reads_are_pages plan log j bound exact asked stands =
-    All-from_recursion IsPage (reads_of (acts j.number log)) (read_pages j.collects (acts j.number log) (acts_pages plan log j bound exact asked stands))
+    All-from_recursion IsPage (reads_of (acts j.number log))
+    (read_pages j.collects (acts j.number log) (acts_pages plan log j bound exact asked stands))
 
-pub collections_read_nothing : (plan : DiePlan) (log : Log) (j : Job) → MeetsBound plan → IsExact plan log → HasPages log → Contains (jobs log) j → j.collects ≡ true → reads_of (acts j.number log) ≡ []
+pub collections_read_nothing : (plan : DiePlan) (log : Log) (j : Job) → MeetsBound plan → IsExact plan log → HasPages log
+    → Contains (jobs log) j → j.collects ≡ true → reads_of (acts j.number log) ≡ []
 collections_read_nothing plan log j bound exact asked stands kind =
-    no_reads (acts j.number log) (subst (λ (b : Bool). AllByRecursion (HasActPages b) (acts j.number log)) kind (acts_pages plan log j bound exact asked stands))
+    no_reads (acts j.number log) (subst (λ (b : Bool). AllByRecursion (HasActPages b) (acts j.number log)) kind
+    (acts_pages plan log j bound exact asked stands))

@@ -1,5 +1,6 @@
 -- The report of exact logs is one that is read back from its text.
-use Rattle.std.proofs.Common.{◌≡◌, ℕ, zero, suc, ◌+◌, ◌<◌, ◌≤◌, ◌==◌, ◌^◌, ◌&&◌, nat_lt, nat_le, Bool, true, false, cond, List, [], ◌∷◌, Option, Some, None, refl, ap, subst, map, length, arith}
+use Rattle.std.proofs.Common.{◌≡◌, ℕ, zero, suc, ◌+◌, ◌<◌, ◌≤◌, ◌==◌, ◌^◌, ◌&&◌, nat_lt, nat_le, Bool, true, false, cond, List, [], ◌∷◌}
+use Rattle.std.proofs.Common.{Option, Some, None, refl, ap, subst, map, length, arith}
 use Rattle.std.specs.Prelude.{All, Contains}
 use Rattle.std.specs.List.{AllByRecursion}
 use Rattle.std.proofs.lemmas.Bool.{and_from, lt-ltb, le-leb, eqb-false}
@@ -43,7 +44,8 @@ sound_if x h outcome =
     (and_from (nat_lt x.die 8) (nat_lt x.row.task 16 && nat_lt x.row.job 65536) (lt-ltb x.die 8 h.die)
     (and_from (nat_lt x.row.task 16) (nat_lt x.row.job 65536) (lt-ltb x.row.task 16 h.task) (lt-ltb x.row.job 65536 h.job)))
     (and_from (is_timed x.row) (has_outcome x.row x.row.row x.row.completion)
-    (and_from (nat_lt x.row.release x.row.due) (nat_le x.row.due 1048576) (lt-ltb x.row.release x.row.due h.release) (le-leb x.row.due 1048576 h.due))
+    (and_from (nat_lt x.row.release x.row.due) (nat_le x.row.due 1048576) (lt-ltb x.row.release x.row.due h.release)
+    (le-leb x.row.due 1048576 h.due))
     outcome)
 
 -- a job of this number on this die, which took so many slots
@@ -78,32 +80,40 @@ done_row row n few worked late =
     (rw late ((Decides-int_eq (lateness_of n row.due) (lateness_of n row.due)).1 refl)))
 
 done_outcome : (collects : Bool) (n task release due took c g : ℕ) (rs : List PageData) → IsEnded collects took c g rs
-    → has_outcome (row_with collects n task release due took None true c g rs) (row_with collects n task release due took None true c g rs).row (Some c) ≡ true
+    → has_outcome (row_with collects n task release due took None true c g rs)
+    (row_with collects n task release due took None true c g rs).row (Some c) ≡ true
 done_outcome true n task release due took c g rs e =
-    and_from (is_done_row (row_with true n task release due took None true c g rs) c) (length rs == 0) (done_row (row_with true n task release due took None true c g rs) c e.ended e.worked refl)
+    and_from (is_done_row (row_with true n task release due took None true c g rs) c) (length rs == 0)
+    (done_row (row_with true n task release due took None true c g rs) c e.ended e.worked refl)
     (ap (λ (xs : List PageData). length xs == 0) (e.none refl))
 done_outcome false n task release due took c g rs e =
-    and_from (is_done_row (row_with false n task release due took None true c g rs) c) (nat_le (length rs) 64) (done_row (row_with false n task release due took None true c g rs) c e.ended e.worked refl)
+    and_from (is_done_row (row_with false n task release due took None true c g rs) c) (nat_le (length rs) 64)
+    (done_row (row_with false n task release due took None true c g rs) c e.ended e.worked refl)
     (le-leb (length rs) 64 (e.few refl))
 
-row_good : (collects : Bool) (die n task release due took : ℕ) (o : Option Waived) (done : Bool) (c g : ℕ) (rs : List PageData) → IsPlaced die n task release due took
-    → OfSome (λ (w : Waived). w.given < 2 ^ 32) o → (done ≡ true → IsEnded collects took c g rs) → IsRow die n (row_with collects n task release due took o done c g rs)
+row_good : (collects : Bool) (die n task release due took : ℕ) (o : Option Waived) (done : Bool) (c g : ℕ) (rs : List PageData)
+    → IsPlaced die n task release due took
+    → OfSome (λ (w : Waived). w.given < 2 ^ 32) o → (done ≡ true → IsEnded collects took c g rs)
+    → IsRow die n (row_with collects n task release due took o done c g rs)
 row_good collects die n task release due took (Some w) done c g rs p waived_given ended = record {
-  sound = sound_if (on_die die (row_with collects n task release due took (Some w) done c g rs)) (record { die = p.on_die; task = p.of_task; job = p.numbered; due = p.in_time; release = p.timed }) refl;
+  sound = sound_if (on_die die (row_with collects n task release due took (Some w) done c g rs))
+      (record { die = p.on_die; task = p.of_task; job = p.numbered; due = p.in_time; release = p.timed }) refl;
   number = refl;
   work = omega arith;
   given = waived_given;
   reads = All-nil IsPage;
 }
 row_good true die n task release due took None false c g rs p waived_given ended = record {
-  sound = sound_if (on_die die (row_with true n task release due took None false c g rs)) (record { die = p.on_die; task = p.of_task; job = p.numbered; due = p.in_time; release = p.timed }) refl;
+  sound = sound_if (on_die die (row_with true n task release due took None false c g rs))
+      (record { die = p.on_die; task = p.of_task; job = p.numbered; due = p.in_time; release = p.timed }) refl;
   number = refl;
   work = p.fits;
   given = tt;
   reads = All-nil IsPage;
 }
 row_good false die n task release due took None false c g rs p waived_given ended = record {
-  sound = sound_if (on_die die (row_with false n task release due took None false c g rs)) (record { die = p.on_die; task = p.of_task; job = p.numbered; due = p.in_time; release = p.timed }) refl;
+  sound = sound_if (on_die die (row_with false n task release due took None false c g rs))
+      (record { die = p.on_die; task = p.of_task; job = p.numbered; due = p.in_time; release = p.timed }) refl;
   number = refl;
   work = p.fits;
   given = tt;
@@ -112,7 +122,8 @@ row_good false die n task release due took None false c g rs p waived_given ende
 row_good true die n task release due took None true c g rs p waived_given ended =
     let e = ended refl in
     record {
-      sound = sound_if (on_die die (row_with true n task release due took None true c g rs)) (record { die = p.on_die; task = p.of_task; job = p.numbered; due = p.in_time; release = p.timed })
+      sound = sound_if (on_die die (row_with true n task release due took None true c g rs))
+          (record { die = p.on_die; task = p.of_task; job = p.numbered; due = p.in_time; release = p.timed })
           (done_outcome true n task release due took c g rs e);
       number = refl;
       work = p.fits;
@@ -122,7 +133,8 @@ row_good true die n task release due took None true c g rs p waived_given ended 
 row_good false die n task release due took None true c g rs p waived_given ended =
     let e = ended refl in
     record {
-      sound = sound_if (on_die die (row_with false n task release due took None true c g rs)) (record { die = p.on_die; task = p.of_task; job = p.numbered; due = p.in_time; release = p.timed })
+      sound = sound_if (on_die die (row_with false n task release due took None true c g rs))
+          (record { die = p.on_die; task = p.of_task; job = p.numbered; due = p.in_time; release = p.timed })
           (done_outcome false n task release due took c g rs e);
       number = refl;
       work = p.fits;
@@ -139,7 +151,8 @@ some_other P Q (Some x) f h = f x h
 alpha_small : (plan : DiePlan) → MeetsBound plan → plan.alpha ≤ 256
 alpha_small plan bound = omega (arith, bound.limits.alpha_fits, bound.shape.few_pages)
 
-job_placed : (plan : DiePlan) (log : Log) (die : ℕ) (j : Job) → MeetsBound plan → IsExact plan log → die < 8 → Contains (jobs log) j → IsPlaced die j.number j.task j.release j.due (work j.number log)
+job_placed : (plan : DiePlan) (log : Log) (die : ℕ) (j : Job) → MeetsBound plan → IsExact plan log → die < 8 → Contains (jobs log) j
+    → IsPlaced die j.number j.task j.release j.due (work j.number log)
 job_placed plan log die j bound exact small stands =
     let limits = keeps_limits plan log exact in
     let own = limits.each j stands in
@@ -152,7 +165,8 @@ job_placed plan log die j bound exact small stands =
       fits = omega (arith, few_work j.number log, limits.slots);
     }
 
-job_ended : (plan : DiePlan) (log : Log) (j : Job) → MeetsBound plan → IsExact plan log → HasPages log → Contains (jobs log) j → is_done plan log j ≡ true
+job_ended : (plan : DiePlan) (log : Log) (j : Job) → MeetsBound plan → IsExact plan log → HasPages log → Contains (jobs log) j
+    → is_done plan log j ≡ true
     → IsEnded j.collects (work j.number log) (completion j.number log) (given plan j.number log) (reads_of (acts j.number log))
 job_ended plan log j bound exact asked stands done = record {
   worked = omega (arith, done_worked plan log j bound exact stands done);
@@ -163,26 +177,32 @@ job_ended plan log j bound exact asked stands done = record {
   none = collections_read_nothing plan log j bound exact asked stands;
 }
 
-job_row : (plan : DiePlan) (log : Log) (die : ℕ) (j : Job) → MeetsBound plan → IsExact plan log → HasPages log → die < 8 → Contains (jobs log) j → IsRow die j.number (report_row_of plan log j)
+job_row : (plan : DiePlan) (log : Log) (die : ℕ) (j : Job) → MeetsBound plan → IsExact plan log → HasPages log → die < 8
+    → Contains (jobs log) j → IsRow die j.number (report_row_of plan log j)
 job_row plan log die j bound exact asked small stands =
-    row_good j.collects die j.number j.task j.release j.due (work j.number log) (waiver_among j.number (waived log)) (is_done plan log j) (completion j.number log) (given plan j.number log) (reads_of (acts j.number log))
+    row_good j.collects die j.number j.task j.release j.due (work j.number log) (waiver_among j.number (waived log)) (is_done plan log j)
+    (completion j.number log) (given plan j.number log) (reads_of (acts j.number log))
     (job_placed plan log die j bound exact small stands)
-    (some_other (λ (w : Waived). w.given ≤ plan.alpha) (λ (w : Waived). w.given < 2 ^ 32) (waiver_among j.number (waived log)) (λ w few. omega (arith, few, alpha_small plan bound))
+    (some_other (λ (w : Waived). w.given ≤ plan.alpha) (λ (w : Waived). w.given < 2 ^ 32) (waiver_among j.number (waived log))
+    (λ w few. omega (arith, few, alpha_small plan bound))
     (waived_gives_few plan log j.number (stands_well plan bound log exact).1.legal))
     (job_ended plan log j bound exact asked stands)
 
-rows_numbered : (plan : DiePlan) (log : Log) (die k : ℕ) (js : List Job) → AreNumbered k js → AllByRecursion (λ (j : Job). IsRow die j.number (report_row_of plan log j)) js → AreRows die k (map (report_row_of plan log) js)
+rows_numbered : (plan : DiePlan) (log : Log) (die k : ℕ) (js : List Job) → AreNumbered k js
+    → AllByRecursion (λ (j : Job). IsRow die j.number (report_row_of plan log j)) js → AreRows die k (map (report_row_of plan log) js)
 rows_numbered plan log die k [] n h = tt
 rows_numbered plan log die k (j ∷ js) n h =
     (subst (λ (i : ℕ). IsRow die i (report_row_of plan log j)) n.0 h.0, rows_numbered plan log die (k + 1) js n.1 h.1)
 
 -- Dies
 
-pub exact_reports_are_well_formed : (plan : DiePlan) (log : Log) (die : ℕ) → MeetsBound plan → IsExact plan log → HasPages log → die < 8 → 0 < length (report_rows_of plan log) → IsDie (die_report_of plan log die)
+pub exact_reports_are_well_formed : (plan : DiePlan) (log : Log) (die : ℕ) → MeetsBound plan → IsExact plan log → HasPages log → die < 8 → 0
+    < length (report_rows_of plan log) → IsDie (die_report_of plan log die)
 exact_reports_are_well_formed plan log die bound exact asked small some = record {
   some_rows = some;
   rows = rows_numbered plan log die 0 (jobs log) (stands_well plan bound log exact).0.numbered
-      (contained_all (λ (j : Job). IsRow die j.number (report_row_of plan log j)) (jobs log) (λ j stands. job_row plan log die j bound exact asked small stands));
+      (contained_all (λ (j : Job). IsRow die j.number (report_row_of plan log j)) (jobs log)
+      (λ j stands. job_row plan log die j bound exact asked small stands));
   cert = has_cert plan log bound exact;
 }
 
@@ -196,11 +216,13 @@ some_rows : (n : ℕ) → (n == 0) ≡ false → 0 < n
 some_rows zero e = absurd (eqb-false 0 0 e refl)
 some_rows (suc n) e = omega arith
 
-reports_good : (die : ℕ) (plans : List DiePlan) (runs : List DieRun) → die + length plans ≤ 8 → AreExact plans runs → AreDies die (reports_from die plans runs)
+reports_good : (die : ℕ) (plans : List DiePlan) (runs : List DieRun) → die + length plans ≤ 8 → AreExact plans runs
+    → AreDies die (reports_from die plans runs)
 reports_good die [] [] few h = tt
 reports_good die [] (run ∷ runs) few h = absurd h
 reports_good die (plan ∷ plans) [] few h = absurd h
-reports_good die (plan ∷ plans) (run ∷ runs) few h = by_rows (length (report_rows_of plan run.log) == 0) refl (reports_good (die + 1) plans runs (omega (arith, few)) h.3)
+reports_good die (plan ∷ plans) (run ∷ runs) few h = by_rows (length (report_rows_of plan run.log) == 0) refl
+    (reports_good (die + 1) plans runs (omega (arith, few)) h.3)
   where
     own : DieReport
     own = die_report_of plan run.log die
@@ -216,5 +238,6 @@ reports_good die (plan ∷ plans) (run ∷ runs) few h = by_rows (length (report
       later,
     )
 
-pub reports_are_well_formed : (plans : List DiePlan) (runs : List DieRun) → length plans ≤ 8 → AreExact plans runs → IsReport (reports_from 0 plans runs)
+pub reports_are_well_formed : (plans : List DiePlan) (runs : List DieRun) → length plans ≤ 8 → AreExact plans runs
+    → IsReport (reports_from 0 plans runs)
 reports_are_well_formed plans runs few h = reports_good 0 plans runs (omega (arith, few)) h

@@ -1,5 +1,7 @@
 -- The worst of a report's rows is the worst of its log, and has the log's certificate.
-use Rattle.std.proofs.Common.{◌≡◌, ℕ, suc, ◌+◌, ◌<◌, ◌≤◌, ◌==◌, ◌^◌, ◌&&◌, ◌||◌, not, nat_lt, Bool, true, false, cond, List, [], ◌∷◌, Option, Some, None, option_map, is_some, refl, ap, sym, ◌∙◌, subst, map, filter, fold, length, slice_get, arith, ℤ, pos, ◌-ℤ◌}
+use Rattle.std.proofs.Common.{◌≡◌, ℕ, suc, ◌+◌, ◌<◌, ◌≤◌, ◌==◌, ◌^◌, ◌&&◌, ◌||◌, not, nat_lt, Bool, true, false, cond, List, [], ◌∷◌}
+use Rattle.std.proofs.Common.{Option, Some, None, option_map, is_some, refl, ap, sym, ◌∙◌, subst, map, filter, fold, length, slice_get}
+use Rattle.std.proofs.Common.{arith, ℤ, pos, ◌-ℤ◌}
 use Rattle.std.specs.Prelude.{Contains, int_lt}
 use Rattle.std.specs.List.{AllByRecursion, reduce}
 use Rattle.std.proofs.lemmas.Bool.{true≢false, false_from_ne_true, eq-eqb}
@@ -42,16 +44,23 @@ numbered : (plan : DiePlan) (log : Log) → MeetsBound plan → IsExact plan log
 numbered plan log bound exact = (stands_well plan bound log exact).0.numbered
 
 -- what is done was not waived
-pub done_unwaived : (plan : DiePlan) (log : Log) (j : Job) → MeetsBound plan → IsExact plan log → Contains (jobs log) j → is_done plan log j ≡ true → is_waived log j.number ≡ false
+pub done_unwaived : (plan : DiePlan) (log : Log) (j : Job) → MeetsBound plan → IsExact plan log → Contains (jobs log) j → is_done plan log j
+    ≡ true → is_waived log j.number ≡ false
 done_unwaived plan log j bound exact stands done = false_from_ne_true (is_waived log j.number) idle
   where
     idle : is_waived log j.number ≡ true → ⊥
-    idle gone = omega (arith, done_worked plan log j bound exact stands done, ap length ((stands_well plan bound log exact).1.true_accounts.idle_waived j.number gone))
+    idle gone = omega (
+      arith,
+      done_worked plan log j bound exact stands done,
+      ap length
+          ((stands_well plan bound log exact).1.true_accounts.idle_waived j.number gone),
+    )
 
 abbrev finish_in : Log → Job → Finish
 finish_in log j = record { job = j.number; due = j.due; completion = completion j.number log }
 
-finish_by : (n took : ℕ) (h : JobHead) (o : Option Waived) (done : Bool) (c : ℕ) (l : ℤ) (g : ℕ) (rs : List PageData) → (done ≡ true → is_some o ≡ false)
+finish_by : (n took : ℕ) (h : JobHead) (o : Option Waived) (done : Bool) (c : ℕ) (l : ℤ) (g : ℕ) (rs : List PageData)
+    → (done ≡ true → is_some o ≡ false)
     → finish_of (row_as n h took (outcome_by o done c l g rs)) ≡ cond done (Some (record { job = n; due = h.due; completion = c })) None
 finish_by n took h (Some w) true c l g rs apart = absurd (true≢false (apart refl))
 finish_by n took h (Some w) false c l g rs apart = refl
@@ -61,9 +70,11 @@ finish_by n took h None false c l g rs apart = refl
 abbrev IsUnwaived : DiePlan → Log → Job → Type 0
 IsUnwaived plan log j = is_done plan log j ≡ true → is_waived log j.number ≡ false
 
-finish_is : (plan : DiePlan) (log : Log) (j : Job) → IsUnwaived plan log j → finish_of (report_row_of plan log j) ≡ cond (is_done plan log j) (Some (finish_in log j)) None
+finish_is : (plan : DiePlan) (log : Log) (j : Job) → IsUnwaived plan log j → finish_of (report_row_of plan log j)
+    ≡ cond (is_done plan log j) (Some (finish_in log j)) None
 finish_is plan log j apart =
-    finish_by j.number (work j.number log) (head_of j) (waiver_among j.number (waived log)) (is_done plan log j) (completion j.number log) (lateness_of log j) (given plan j.number log) (reads_of (acts j.number log))
+    finish_by j.number (work j.number log) (head_of j) (waiver_among j.number (waived log)) (is_done plan log j) (completion j.number log)
+    (lateness_of log j) (given plan j.number log) (reads_of (acts j.number log))
     (λ done. waiver_stands j.number (waived log) ∙ apart done)
 
 -- The worse of two
@@ -73,11 +84,13 @@ worse_in c d c' d' = int_lt (pos c' -ℤ pos d') (pos c -ℤ pos d) || (not (int
 
 abbrev worse_by : ℕ → ℕ → ℕ → ℕ → ℕ → ℕ → Bool
 worse_by c d n c' d' n' =
-    int_lt (pos c' -ℤ pos d') (pos c -ℤ pos d) || (not (int_lt (pos c -ℤ pos d) (pos c' -ℤ pos d')) && (nat_lt c c' || ((c == c') && nat_lt n n')))
+    int_lt (pos c' -ℤ pos d') (pos c -ℤ pos d) || (not (int_lt (pos c -ℤ pos d) (pos c' -ℤ pos d'))
+    && (nat_lt c c' || ((c == c') && nat_lt n n')))
 
 -- the greater number is never worse for its number
 later_worse : (c d n c' d' n' : ℕ) → n' < n → worse_by c d n c' d' n' ≡ worse_in c d c' d'
-later_worse c d n c' d' n' h = rw (no_less n n' h) (same (int_lt (pos c' -ℤ pos d') (pos c -ℤ pos d)) (int_lt (pos c -ℤ pos d) (pos c' -ℤ pos d')) (nat_lt c c') (c == c'))
+later_worse c d n c' d' n' h = rw (no_less n n' h) (same (int_lt (pos c' -ℤ pos d') (pos c -ℤ pos d))
+    (int_lt (pos c -ℤ pos d) (pos c' -ℤ pos d')) (nat_lt c c') (c == c'))
   where
     no_less : (m k : ℕ) → k < m → nat_lt m k ≡ false
     no_less m k lt = grind (arith, nat_tests)
@@ -89,7 +102,8 @@ later_worse c d n c' d' n' h = rw (no_less n n' h) (same (int_lt (pos c' -ℤ po
     same false false false true = refl
     same false false false false = refl
 
-one_worse : (log : Log) (j best : Job) → best.number < j.number → report.is_worse (finish_in log j) (finish_in log best) ≡ is_worse log j best
+one_worse : (log : Log) (j best : Job) → best.number < j.number → report.is_worse (finish_in log j) (finish_in log best)
+    ≡ is_worse log j best
 one_worse log j best h = sym (later_worse (completion j.number log) j.due j.number (completion best.number log) best.due best.number h)
 
 -- The worst of all
@@ -101,18 +115,23 @@ abbrev finish_of_done : Log → Job → Bool → Option Finish
 finish_of_done log j done = cond done (Some (finish_in log j)) None
 
 -- from a job on whose number is smaller than those of the others
-worst_on : (plan : DiePlan) (log : Log) (k : ℕ) (js : List Job) (best : Job) → AreNumbered k js → best.number < k → AllByRecursion (IsUnwaived plan log) js
-    → worst_from (Some (finish_in log best)) (map (report_row_of plan log) js) ≡ Some (finish_in log (fold (worse_of log) best (filter (is_done plan log) js)))
+worst_on : (plan : DiePlan) (log : Log) (k : ℕ) (js : List Job) (best : Job) → AreNumbered k js → best.number < k
+    → AllByRecursion (IsUnwaived plan log) js
+    → worst_from (Some (finish_in log best)) (map (report_row_of plan log) js)
+    ≡ Some (finish_in log (fold (worse_of log) best (filter (is_done plan log) js)))
 worst_on plan log k [] best n lt h = refl
 worst_on plan log k (j ∷ js) best n lt h =
-    ap (λ (o : Option Finish). worst_from (worse (Some (finish_in log best)) o) (map (report_row_of plan log) js)) (finish_is plan log j h.0)
+    ap (λ (o : Option Finish). worst_from (worse (Some (finish_in log best)) o) (map (report_row_of plan log) js))
+    (finish_is plan log j h.0)
     ∙ by_done (is_done plan log j) (λ b below. worst_on plan log (k + 1) js b n.1 below h.1)
   where
     IsWorstOn : Job → List Job → Type 0
-    IsWorstOn b rest = worst_from (Some (finish_in log b)) (map (report_row_of plan log) js) ≡ Some (finish_in log (fold (worse_of log) b rest))
+    IsWorstOn b rest = worst_from (Some (finish_in log b)) (map (report_row_of plan log) js)
+        ≡ Some (finish_in log (fold (worse_of log) b rest))
 
     by_worse : (b : Bool) → ((i : Job) → i.number < k + 1 → IsWorstOn i (filter (is_done plan log) js))
-        → worst_from (Some (cond b (finish_in log j) (finish_in log best))) (map (report_row_of plan log) js) ≡ Some (finish_in log (fold (worse_of log) (cond b j best) (filter (is_done plan log) js)))
+        → worst_from (Some (cond b (finish_in log j) (finish_in log best))) (map (report_row_of plan log) js)
+        ≡ Some (finish_in log (fold (worse_of log) (cond b j best) (filter (is_done plan log) js)))
     by_worse true again = again j (omega (arith, n.0))
     by_worse false again = again best (omega (arith, lt))
 
@@ -121,16 +140,19 @@ worst_on plan log k (j ∷ js) best n lt h =
         ≡ Some (finish_in log (fold (worse_of log) best (cond b (j ∷ filter (is_done plan log) js) (filter (is_done plan log) js))))
     by_done false again = again best (omega (arith, lt))
     by_done true again =
-        ap (λ (t : Bool). worst_from (Some (cond t (finish_in log j) (finish_in log best))) (map (report_row_of plan log) js)) (one_worse log j best (omega (arith, lt, n.0)))
+        ap (λ (t : Bool). worst_from (Some (cond t (finish_in log j) (finish_in log best))) (map (report_row_of plan log) js))
+        (one_worse log j best (omega (arith, lt, n.0)))
         ∙ by_worse (is_worse log j best) again
 
 worst_new : (plan : DiePlan) (log : Log) (k : ℕ) (js : List Job) → AreNumbered k js → AllByRecursion (IsUnwaived plan log) js
     → worst_of (map (report_row_of plan log) js) ≡ option_map (finish_in log) (reduce (worse_of log) (filter (is_done plan log) js))
 worst_new plan log k [] n h = refl
 worst_new plan log k (j ∷ js) n h =
-    ap (λ (o : Option Finish). worst_from (worse None o) (map (report_row_of plan log) js)) (finish_is plan log j h.0) ∙ by_done (is_done plan log j) (worst_new plan log (k + 1) js n.1 h.1)
+    ap (λ (o : Option Finish). worst_from (worse None o) (map (report_row_of plan log) js)) (finish_is plan log j h.0)
+    ∙ by_done (is_done plan log j) (worst_new plan log (k + 1) js n.1 h.1)
   where
-    by_done : (b : Bool) → worst_of (map (report_row_of plan log) js) ≡ option_map (finish_in log) (reduce (worse_of log) (filter (is_done plan log) js))
+    by_done : (b : Bool) → worst_of (map (report_row_of plan log) js)
+        ≡ option_map (finish_in log) (reduce (worse_of log) (filter (is_done plan log) js))
         → worst_from (worse None (finish_of_done log j b)) (map (report_row_of plan log) js)
         ≡ option_map (finish_in log) (reduce (worse_of log) (cond b (j ∷ filter (is_done plan log) js) (filter (is_done plan log) js)))
     by_done false again = again
@@ -140,9 +162,11 @@ pub contained_all : {X : Type 0} (P : X → Type 0) (xs : List X) → ((x : X) �
 contained_all P [] h = tt
 contained_all P (x ∷ xs) h = (h x (0, omega arith, refl), contained_all P xs (λ y k. h y (suc k.0, omega (arith, k.1), k.2)))
 
-worst_rows : (plan : DiePlan) (log : Log) → MeetsBound plan → IsExact plan log → worst_of (report_rows_of plan log) ≡ option_map (finish_in log) (worst plan log)
+worst_rows : (plan : DiePlan) (log : Log) → MeetsBound plan → IsExact plan log → worst_of (report_rows_of plan log)
+    ≡ option_map (finish_in log) (worst plan log)
 worst_rows plan log bound exact =
-    worst_new plan log 0 (jobs log) (numbered plan log bound exact) (contained_all (IsUnwaived plan log) (jobs log) (λ j stands done. done_unwaived plan log j bound exact stands done))
+    worst_new plan log 0 (jobs log) (numbered plan log bound exact)
+    (contained_all (IsUnwaived plan log) (jobs log) (λ j stands done. done_unwaived plan log j bound exact stands done))
 
 -- Certificates
 
@@ -152,21 +176,31 @@ either false c e = e
 
 listed_all : (P : ℕ → Type 0) (xs : List ℕ) → ((k : ℕ) → is_listed xs k ≡ true → P k) → AllByRecursion P xs
 listed_all P [] h = tt
-listed_all P (x ∷ xs) h = (h x (ap (λ (b : Bool). b || is_listed xs x) (eq-eqb x x refl)), listed_all P xs (λ k e. h k (either (x == k) (is_listed xs k) e)))
+listed_all P (x ∷ xs) h = (
+  h x (ap (λ (b : Bool). b || is_listed xs x) (eq-eqb x x refl)),
+  listed_all P xs
+      (λ k e. h k (either (x == k) (is_listed xs k) e)),
+)
 
 pub number_small : (plan : DiePlan) (log : Log) (j : Job) → MeetsBound plan → IsExact plan log → Contains (jobs log) j → j.number < 65536
 number_small plan log j bound exact stands =
-    omega (arith, slice_get_within (jobs log) j.number j (stands_at (jobs log) j (numbered plan log bound exact) stands), (keeps_limits plan log exact).few_jobs)
+    omega (
+      arith,
+      slice_get_within (jobs log) j.number j (stands_at (jobs log) j (numbered plan log bound exact) stands),
+      (keeps_limits plan log exact).few_jobs,
+    )
 
 done_number : (plan : DiePlan) (log : Log) (k : ℕ) → MeetsBound plan → IsExact plan log → is_done_row (rows plan log) k ≡ true → k < 2 ^ 32
 done_number plan log k bound exact done =
-    by_job (slice_get (jobs log) k) refl (sym (ap is_done_in (row_at (row_for plan log) (is_waived log) (jobs log) k (λ i. refl) (numbered plan log bound exact))) ∙ done)
+    by_job (slice_get (jobs log) k) refl (sym (ap is_done_in
+    (row_at (row_for plan log) (is_waived log) (jobs log) k (λ i. refl) (numbered plan log bound exact))) ∙ done)
   where
     by_job : (o : Option Job) → slice_get (jobs log) k ≡ o → is_done_in (row_in (row_for plan log) (is_waived log k) o) ≡ true → k < 2 ^ 32
     by_job None at e = absurd (true≢false (sym e))
     by_job (Some j) at e = omega (arith, slice_get_within (jobs log) k j at, (keeps_limits plan log exact).few_jobs)
 
-cert_of_worst : (plan : DiePlan) (log : Log) (j : Job) (c : Certificate) → MeetsBound plan → IsExact plan log → worst plan log ≡ Some j → IsCertified plan log j c → IsCert (finish_in log j) c
+cert_of_worst : (plan : DiePlan) (log : Log) (j : Job) (c : Certificate) → MeetsBound plan → IsExact plan log → worst plan log ≡ Some j
+    → IsCertified plan log j c → IsCert (finish_in log j) c
 cert_of_worst plan log j c bound exact is k =
     let stands : Contains (jobs log) j = (worst_is plan log j is).stands in
     let limits = keeps_limits plan log exact in
@@ -180,11 +214,14 @@ cert_of_worst plan log j c bound exact is k =
       due = omega (arith, k.due, (limits.each j stands).due);
       completion = omega (arith, few);
       start = omega (arith, few, k.own.stretch.ordered);
-      jobs = All-from_recursion (λ n. n < 2 ^ 32) c.jobs (listed_all (λ n. n < 2 ^ 32) c.jobs (λ n listed. done_number plan log n bound exact (k.own.holds.each n listed).done));
+      jobs = All-from_recursion (λ n. n < 2 ^ 32) c.jobs
+          (listed_all (λ n. n < 2 ^ 32) c.jobs (λ n listed. done_number plan log n bound exact (k.own.holds.each n listed).done));
     }
 
-pub has_cert : (plan : DiePlan) (log : Log) → MeetsBound plan → IsExact plan log → HasCert (worst_of (report_rows_of plan log)) (certificate plan log)
-has_cert plan log bound exact = subst (λ (o : Option Finish). HasCert o (certificate plan log)) (sym (worst_rows plan log bound exact)) (by_worst (worst plan log) refl)
+pub has_cert : (plan : DiePlan) (log : Log) → MeetsBound plan → IsExact plan log
+    → HasCert (worst_of (report_rows_of plan log)) (certificate plan log)
+has_cert plan log bound exact = subst (λ (o : Option Finish). HasCert o (certificate plan log)) (sym (worst_rows plan log bound exact))
+    (by_worst (worst plan log) refl)
   where
     by_worst : (o : Option Job) → worst plan log ≡ o → HasCert (option_map (finish_in log) o) (certificate_for plan log o)
     by_worst None is = tt

@@ -1,5 +1,6 @@
 -- A die behind its lock that was asked for the events of its feed and for slots ran its rows and slots.
-use Rattle.std.proofs.Common.{◌≡◌, ℕ, zero, suc, ◌+◌, ◌≤◌, Bool, cond, List, [], ◌∷◌, ◌++◌, refl, ap, sym, ◌∙◌, subst, length, map, take, drop, append_assoc, arith, inl, inr, Option, None, Some, Result, Ok, Err, All}
+use Rattle.std.proofs.Common.{◌≡◌, ℕ, zero, suc, ◌+◌, ◌≤◌, Bool, cond, List, [], ◌∷◌, ◌++◌, refl, ap, sym, ◌∙◌, subst, length, map, take}
+use Rattle.std.proofs.Common.{drop, append_assoc, arith, inl, inr, Option, None, Some, Result, Ok, Err, All}
 use Rattle.std.proofs.lemmas.Bool.{eq-eqb, ne_eqb, le-leb}
 use Rattle.std.specs.List.{prefix_len}
 use Rattle.std.proofs.lemmas.List.{append-nil, take-append-drop, take-map, drop-map}
@@ -43,7 +44,8 @@ due_same : (slot : ℕ) (items : List ScriptItem) → feed.due_by slot (arrivals
 due_same slot items = ap (λ n. take n (arrivals_of items)) (as_many slot items) ∙ take-map arrival_of (prefix_len (is_due slot) items) items
 
 later_same : (slot : ℕ) (items : List ScriptItem) → feed.later_than slot (arrivals_of items) ≡ arrivals_of (later_than slot items)
-later_same slot items = ap (λ n. drop n (arrivals_of items)) (as_many slot items) ∙ drop-map arrival_of (prefix_len (is_due slot) items) items
+later_same slot items = ap (λ n. drop n (arrivals_of items)) (as_many slot items)
+    ∙ drop-map arrival_of (prefix_len (is_due slot) items) items
 
 due_and_later : (slot : ℕ) (items : List ScriptItem) → due_by slot items ++ later_than slot items ≡ items
 due_and_later slot items = take-append-drop (prefix_len (is_due slot) items) items
@@ -52,7 +54,8 @@ all_due : (slot : ℕ) (items : List ScriptItem) → All (λ item. item.at ≤ s
 all_due slot [] h = refl
 all_due slot (item ∷ items) h =
     take_while-cons (is_due slot) item items
-    ∙ ap (λ (b : Bool). cond b (item ∷ due_by slot items) []) (le-leb item.at slot (All-head (λ (i : ScriptItem). i.at ≤ slot) item items h))
+    ∙ ap (λ (b : Bool). cond b (item ∷ due_by slot items) [])
+    (le-leb item.at slot (All-head (λ (i : ScriptItem). i.at ≤ slot) item items h))
     ∙ ap (λ (xs : List ScriptItem). item ∷ xs) (all_due slot items (All-tail (λ (i : ScriptItem). i.at ≤ slot) item items h))
 
 module _ (P : ScriptItem → Type 0) where
@@ -72,10 +75,12 @@ abbrev ends_said : List ScriptItem → List Said → List RowEnd
 ends_said (item ∷ items) (s ∷ fed) = end_of item (refusal_in s.reply) ∷ ends_said items fed
 ends_said _ _ = []
 
-asked_first : (item : ScriptItem) (items : List ScriptItem) (s : Said) (fed : List Said) → AreAsked (arrivals_of (item ∷ items)) (s ∷ fed) → s.event ≡ item.event
+asked_first : (item : ScriptItem) (items : List ScriptItem) (s : Said) (fed : List Said) → AreAsked (arrivals_of (item ∷ items)) (s ∷ fed)
+    → s.event ≡ item.event
 asked_first item items s fed asked = cc
 
-asked_rest : (item : ScriptItem) (items : List ScriptItem) (s : Said) (fed : List Said) → AreAsked (arrivals_of (item ∷ items)) (s ∷ fed) → AreAsked (arrivals_of items) fed
+asked_rest : (item : ScriptItem) (items : List ScriptItem) (s : Said) (fed : List Said) → AreAsked (arrivals_of (item ∷ items)) (s ∷ fed)
+    → AreAsked (arrivals_of items) fed
 asked_rest item items s fed asked = cc
 
 asked_none : (s : Said) (fed : List Said) → AreAsked (arrivals_of []) (s ∷ fed) → ⊥
@@ -91,9 +96,11 @@ noted_at place (Err refused) more = record { place = place; refused = refused } 
 noted_arrival : (place : ℕ) (event : Event) (reply : Result Reply RefusedAt) (saids : List Said) → IsArrival event
     → noted place event reply (refused_from (place_behind event place) saids) ≡ noted_at place reply (refused_from (place + 1) saids)
 noted_arrival place (events.Submit task release due ops) (Ok reply) saids h = ap (λ (n : ℕ). refused_from n saids) (omega arith)
-noted_arrival place (events.Submit task release due ops) (Err refused) saids h = ap (λ (n : ℕ). record { place = place; refused = refused } ∷ refused_from n saids) (omega arith)
+noted_arrival place (events.Submit task release due ops) (Err refused) saids h = ap (λ (n : ℕ). record { place = place; refused = refused }
+    ∷ refused_from n saids) (omega arith)
 noted_arrival place (events.Collect task release due) (Ok reply) saids h = ap (λ (n : ℕ). refused_from n saids) (omega arith)
-noted_arrival place (events.Collect task release due) (Err refused) saids h = ap (λ (n : ℕ). record { place = place; refused = refused } ∷ refused_from n saids) (omega arith)
+noted_arrival place (events.Collect task release due) (Err refused) saids h = ap (λ (n : ℕ). record { place = place; refused = refused }
+    ∷ refused_from n saids) (omega arith)
 noted_arrival place events.Slot reply saids h = absurd h
 
 -- the refused events from a place on have no place before it
@@ -101,16 +108,20 @@ module _ (first : ℕ) where
   abbrev AreBehind : List RefusedEvent → Type 0
   AreBehind refused = All (λ r. first ≤ r.place) refused
 
-  behind_one : (place : ℕ) (refused : RefusedAt) (more : List RefusedEvent) → first ≤ place → AreBehind more → AreBehind (record { place = place; refused = refused } ∷ more)
+  behind_one : (place : ℕ) (refused : RefusedAt) (more : List RefusedEvent) → first ≤ place → AreBehind more
+      → AreBehind (record { place = place; refused = refused } ∷ more)
   behind_one place refused more from rest = All-cons (λ r. first ≤ r.place) (record { place = place; refused = refused }) more from rest
 
-  behind_noted : (place : ℕ) (event : Event) (reply : Result Reply RefusedAt) (saids : List Said) → first ≤ place → ((n : ℕ) → first ≤ n → AreBehind (refused_from n saids))
+  behind_noted : (place : ℕ) (event : Event) (reply : Result Reply RefusedAt) (saids : List Said) → first ≤ place
+      → ((n : ℕ) → first ≤ n → AreBehind (refused_from n saids))
       → AreBehind (noted place event reply (refused_from (place_behind event place) saids))
   behind_noted place events.Slot reply saids from more = more place from
   behind_noted place (events.Submit task release due ops) (Ok reply) saids from more = more (suc place) (omega arith)
-  behind_noted place (events.Submit task release due ops) (Err refused) saids from more = behind_one place refused (refused_from (suc place) saids) from (more (suc place) (omega arith))
+  behind_noted place (events.Submit task release due ops) (Err refused) saids from more = behind_one place refused
+      (refused_from (suc place) saids) from (more (suc place) (omega arith))
   behind_noted place (events.Collect task release due) (Ok reply) saids from more = more (suc place) (omega arith)
-  behind_noted place (events.Collect task release due) (Err refused) saids from more = behind_one place refused (refused_from (suc place) saids) from (more (suc place) (omega arith))
+  behind_noted place (events.Collect task release due) (Err refused) saids from more = behind_one place refused
+      (refused_from (suc place) saids) from (more (suc place) (omega arith))
 
   all_behind : (saids : List Said) (place : ℕ) → first ≤ place → AreBehind (refused_from place saids)
   all_behind [] place from = All-nil (λ r. first ≤ r.place)
@@ -121,19 +132,24 @@ ends_skip : (place line : ℕ) (lines : List ℕ) (refused : List RefusedEvent) 
 ends_skip place line lines [] h = refl
 ends_skip place line lines (r ∷ refused) h =
     let behind = All-head (λ (e : RefusedEvent). place + 1 ≤ e.place) r refused h in
-    ap (λ (b : Bool). cond b (row_end line (Some r.refused.refusal) ∷ ends_from (place + 1) lines refused) (row_end line None ∷ ends_from (place + 1) lines (r ∷ refused)))
+    ap (λ (b : Bool). cond b (row_end line (Some r.refused.refusal) ∷ ends_from (place + 1) lines refused) (row_end line None
+    ∷ ends_from (place + 1) lines (r ∷ refused)))
     (ne_eqb r.place place (λ same. absurd (omega (arith, same, behind))))
 
 ends_noted : (place line : ℕ) (lines : List ℕ) (reply : Result Reply RefusedAt) (saids : List Said)
-    → ends_from place (line ∷ lines) (noted_at place reply (refused_from (place + 1) saids)) ≡ row_end line (refusal_in reply) ∷ ends_from (place + 1) lines (refused_from (place + 1) saids)
-ends_noted place line lines (Ok reply) saids = ends_skip place line lines (refused_from (place + 1) saids) (all_behind (place + 1) saids (place + 1) (omega arith))
+    → ends_from place (line ∷ lines) (noted_at place reply (refused_from (place + 1) saids)) ≡ row_end line (refusal_in reply)
+    ∷ ends_from (place + 1) lines (refused_from (place + 1) saids)
+ends_noted place line lines (Ok reply) saids = ends_skip place line lines (refused_from (place + 1) saids)
+    (all_behind (place + 1) saids (place + 1) (omega arith))
 ends_noted place line lines (Err refused) saids =
     ap (λ (b : Bool). cond b (row_end line (Some refused.refusal) ∷ ends_from (place + 1) lines (refused_from (place + 1) saids))
     (row_end line None ∷ ends_from (place + 1) lines (record { place = place; refused = refused } ∷ refused_from (place + 1) saids)))
     (eq-eqb place place refl)
 
-ends_split : (items later : List ScriptItem) (fed rest : List Said) (place : ℕ) → AreAsked (arrivals_of items) fed → All (λ item. IsArrival item.event) items
-    → ends_from place (lines_of (items ++ later)) (refused_from place (fed ++ rest)) ≡ ends_said items fed ++ ends_from (place + length items) (lines_of later) (refused_from (place + length items) rest)
+ends_split : (items later : List ScriptItem) (fed rest : List Said) (place : ℕ) → AreAsked (arrivals_of items) fed
+    → All (λ item. IsArrival item.event) items
+    → ends_from place (lines_of (items ++ later)) (refused_from place (fed ++ rest)) ≡ ends_said items fed
+    ++ ends_from (place + length items) (lines_of later) (refused_from (place + length items) rest)
 ends_split [] later [] rest place asked arrive = ap (λ (n : ℕ). ends_from n (lines_of later) (refused_from n rest)) (omega arith)
 ends_split [] later (s ∷ fed) rest place asked arrive = absurd (asked_none s fed asked)
 ends_split (item ∷ items) later [] rest place asked arrive = absurd (asked_some item items asked)
@@ -148,27 +164,33 @@ ends_split (item ∷ items) later (s ∷ fed) rest place asked arrive =
 
 -- One call
 
-accepts_at : (plan : DiePlan) (before : List Said) (event : Event) (reply : Reply) → (answer plan (said_log before) event ≡ reply) × IsAccepted reply
+accepts_at : (plan : DiePlan) (before : List Said) (event : Event) (reply : Reply) → (answer plan (said_log before) event ≡ reply)
+    × IsAccepted reply
     → Accepts plan (said_log before) event (said_log (before ++ said event (Ok reply) ∷ []))
 accepts_at plan before event reply h = (
   subst IsAccepted (sym h.0) h.1,
   said_accepted before event reply ∙ ap (λ (r : Reply). with_entry 0 event r (said_log before)) (sym h.0),
 )
 
-ends_at : (plan : DiePlan) (saids before after : List Said) (event : Event) (reply : Result Reply RefusedAt) → AreTold plan saids → saids ≡ before ++ said event reply ∷ after
+ends_at : (plan : DiePlan) (saids before after : List Said) (event : Event) (reply : Result Reply RefusedAt) → AreTold plan saids → saids
+    ≡ before ++ said event reply ∷ after
     → Ends plan (said_log before) event (refusal_in reply) (said_log (before ++ said event reply ∷ []))
 ends_at plan saids before after event (Ok reply) told is = accepts_at plan before event reply (told.accepted before after event reply is)
-ends_at plan saids before after event (Err refused) told is = (told.refused before after event refused is, said_refused before event refused)
+ends_at plan saids before after event (Err refused) told is =
+    (told.refused before after event refused is, said_refused before event refused)
 
 -- an accepted row takes no slot
-taken_stays : (plan : DiePlan) (past : Log) (event : Event) (reply : Reply) → IsArrival event → answer plan past event ≡ reply → IsAccepted reply → now (with_entry 0 event reply past) ≡ now past
-taken_stays plan past (events.Submit task release due ops) reply h is taken = by reply (submit_taken plan past task release due ops reply is taken)
+taken_stays : (plan : DiePlan) (past : Log) (event : Event) (reply : Reply) → IsArrival event → answer plan past event ≡ reply
+    → IsAccepted reply → now (with_entry 0 event reply past) ≡ now past
+taken_stays plan past (events.Submit task release due ops) reply h is taken = by reply
+    (submit_taken plan past task release due ops reply is taken)
   where
     by : (r : Reply) → IsTaken r → now (with_entry 0 (events.Submit task release due ops) r past) ≡ now past
     by (replies.Taken number) t = refl
     by (replies.Slot slot) t = absurd t
     by (replies.Refused refusal) t = absurd t
-taken_stays plan past (events.Collect task release due) reply h is taken = by reply (collect_taken plan past task release due reply is taken)
+taken_stays plan past (events.Collect task release due) reply h is taken = by reply
+    (collect_taken plan past task release due reply is taken)
   where
     by : (r : Reply) → IsTaken r → now (with_entry 0 (events.Collect task release due) r past) ≡ now past
     by (replies.Taken number) t = refl
@@ -176,7 +198,8 @@ taken_stays plan past (events.Collect task release due) reply h is taken = by re
     by (replies.Refused refusal) t = absurd t
 taken_stays plan past events.Slot reply h is taken = absurd h
 
-stays_at : (plan : DiePlan) (saids before after : List Said) (event : Event) (reply : Result Reply RefusedAt) → AreTold plan saids → saids ≡ before ++ said event reply ∷ after → IsArrival event
+stays_at : (plan : DiePlan) (saids before after : List Said) (event : Event) (reply : Result Reply RefusedAt) → AreTold plan saids → saids
+    ≡ before ++ said event reply ∷ after → IsArrival event
     → now (said_log (before ++ said event reply ∷ [])) ≡ now (said_log before)
 stays_at plan saids before after event (Ok reply) told is h =
     let t = told.accepted before after event reply is in
@@ -185,14 +208,17 @@ stays_at plan saids before after event (Err refused) told is h = ap now (said_re
 
 -- Rows one after the other
 
-behind_first : (saids before fed after : List Said) (s : Said) → saids ≡ before ++ ((s ∷ fed) ++ after) → saids ≡ (before ++ s ∷ []) ++ (fed ++ after)
+behind_first : (saids before fed after : List Said) (s : Said) → saids ≡ before ++ ((s ∷ fed) ++ after) → saids ≡ (before ++ s ∷ [])
+    ++ (fed ++ after)
 behind_first saids before fed after s is = is ∙ sym (append_assoc before (s ∷ []) (fed ++ after))
 
 -- the log and the rows' ends once these were asked
 abbrev RowsRan : DiePlan → List Said → List RowEnd → List ScriptItem → List Said → Type 0
-RowsRan plan before ends items fed = Runs plan (run_at (said_log before) ends) (map Row items) (run_at (said_log (before ++ fed)) (ends ++ ends_said items fed))
+RowsRan plan before ends items fed = Runs plan (run_at (said_log before) ends) (map Row items)
+    (run_at (said_log (before ++ fed)) (ends ++ ends_said items fed))
 
-rows_run : (plan : DiePlan) (saids : List Said) → AreTold plan saids → (items : List ScriptItem) (fed before after : List Said) (ends : List RowEnd) → saids ≡ before ++ (fed ++ after)
+rows_run : (plan : DiePlan) (saids : List Said) → AreTold plan saids
+    → (items : List ScriptItem) (fed before after : List Said) (ends : List RowEnd) → saids ≡ before ++ (fed ++ after)
     → AreAsked (arrivals_of items) fed → RowsRan plan before ends items fed
 rows_run plan saids told [] [] before after ends is asked = λ i. run_at (said_log (append-nil before i)) (append-nil ends i)
 rows_run plan saids told [] (s ∷ fed) before after ends is asked = absurd (asked_none s fed asked)
@@ -200,15 +226,24 @@ rows_run plan saids told (item ∷ items) [] before after ends is asked = absurd
 rows_run plan saids told (item ∷ items) (s ∷ fed) before after ends is asked =
     let more : List RowEnd = ends ++ end_of item (refusal_in s.reply) ∷ [] in
     let same = asked_first item items s fed asked in
-    let ended : Ends plan (said_log before) s.event (refusal_in s.reply) (said_log (before ++ s ∷ [])) = ends_at plan saids before (fed ++ after) s.event s.reply told is in
-    let rest : RowsRan plan (before ++ s ∷ []) more items fed = rows_run plan saids told items fed (before ++ s ∷ []) after more (behind_first saids before fed after s is) (asked_rest item items s fed asked) in (
+    let ended : Ends plan (said_log before) s.event (refusal_in s.reply) (said_log (before ++ s ∷ [])) = ends_at plan saids before (fed
+    ++ after) s.event s.reply told is in
+    let rest : RowsRan plan (before ++ s ∷ []) more items fed = rows_run plan saids told items fed (before ++ s ∷ []) after more
+    (behind_first saids before fed after s is) (asked_rest item items s fed asked) in (
       run_at (said_log (before ++ s ∷ [])) more,
-      (refusal_in s.reply, subst (λ (e : Event). Ends plan (said_log before) e (refusal_in s.reply) (said_log (before ++ s ∷ []))) same ended, refl),
+      (
+        refusal_in s.reply,
+        subst (λ (e : Event). Ends plan (said_log before) e (refusal_in s.reply) (said_log (before ++ s ∷ []))) same
+            ended,
+        refl,
+      ),
       subst (λ (r : DieRun). Runs plan (run_at (said_log (before ++ s ∷ [])) more) (map Row items) r)
-          (λ i. run_at (said_log (append_assoc before (s ∷ []) fed i)) (append_assoc ends (end_of item (refusal_in s.reply) ∷ []) (ends_said items fed) i)) rest,
+          (λ i. run_at (said_log (append_assoc before (s ∷ []) fed i))
+          (append_assoc ends (end_of item (refusal_in s.reply) ∷ []) (ends_said items fed) i)) rest,
     )
 
-rows_stay : (plan : DiePlan) (saids : List Said) → AreTold plan saids → (items : List ScriptItem) (fed before after : List Said) → saids ≡ before ++ (fed ++ after)
+rows_stay : (plan : DiePlan) (saids : List Said) → AreTold plan saids → (items : List ScriptItem) (fed before after : List Said) → saids
+    ≡ before ++ (fed ++ after)
     → AreAsked (arrivals_of items) fed → All (λ item. IsArrival item.event) items → now (said_log (before ++ fed)) ≡ now (said_log before)
 rows_stay plan saids told [] [] before after is asked arrive = ap (λ (b : List Said). now (said_log b)) (append-nil before)
 rows_stay plan saids told [] (s ∷ fed) before after is asked arrive = absurd (asked_none s fed asked)
@@ -217,10 +252,12 @@ rows_stay plan saids told (item ∷ items) (s ∷ fed) before after is asked arr
     let A : ScriptItem → Type 0 = λ i. IsArrival i.event in
     let here : IsArrival s.event = subst IsArrival (sym (asked_first item items s fed asked)) (All-head A item items arrive) in
     ap (λ (b : List Said). now (said_log b)) (sym (append_assoc before (s ∷ []) fed))
-    ∙ (rows_stay plan saids told items fed (before ++ s ∷ []) after (behind_first saids before fed after s is) (asked_rest item items s fed asked) (All-tail A item items arrive)
+    ∙ (rows_stay plan saids told items fed (before ++ s ∷ []) after (behind_first saids before fed after s is)
+    (asked_rest item items s fed asked) (All-tail A item items arrive)
     ∙ stays_at plan saids before (fed ++ after) s.event s.reply told is here)
 
-stop_behind : (items : List ScriptItem) (fed rest : List Said) → AreAsked (arrivals_of items) fed → All (λ item. IsArrival item.event) items → stop_of (fed ++ rest) ≡ stop_of rest
+stop_behind : (items : List ScriptItem) (fed rest : List Said) → AreAsked (arrivals_of items) fed → All (λ item. IsArrival item.event) items
+    → stop_of (fed ++ rest) ≡ stop_of rest
 stop_behind [] [] rest asked arrive = refl
 stop_behind [] (s ∷ fed) rest asked arrive = absurd (asked_none s fed asked)
 stop_behind (item ∷ items) [] rest asked arrive = absurd (asked_some item items asked)
@@ -229,7 +266,8 @@ stop_behind (item ∷ items) (s ∷ fed) rest asked arrive =
     by s.event s.reply (subst IsArrival (sym (asked_first item items s fed asked)) (All-head A item items arrive))
     (stop_behind items fed rest (asked_rest item items s fed asked) (All-tail A item items arrive))
   where
-    by : (event : Event) (reply : Result Reply RefusedAt) → IsArrival event → stop_of (fed ++ rest) ≡ stop_of rest → feed.stop_or event reply (stop_of (fed ++ rest)) ≡ stop_of rest
+    by : (event : Event) (reply : Result Reply RefusedAt) → IsArrival event → stop_of (fed ++ rest) ≡ stop_of rest
+        → feed.stop_or event reply (stop_of (fed ++ rest)) ≡ stop_of rest
     by (events.Submit task release due ops) reply h same = same
     by (events.Collect task release due) reply h same = same
     by events.Slot reply h same = absurd h
@@ -237,7 +275,8 @@ stop_behind (item ∷ items) (s ∷ fed) rest asked arrive =
 -- Slots one after the other
 
 -- what was said behind `before` ran these calls and took the slots up to `time`, and the rows with these lines ended so
-pub record ComesTo (plan : DiePlan) (saids before : List Said) (ends : List RowEnd) (calls : List Call) (place : ℕ) (lines : List ℕ) (rest : List Said) (time : ℕ) : Type 0 where
+pub record ComesTo (plan : DiePlan) (saids before : List Said) (ends : List RowEnd) (calls : List Call) (place : ℕ) (lines : List ℕ)
+    (rest : List Said) (time : ℕ) : Type 0 where
   pub ended : List RowEnd
   pub ran : Runs plan (run_at (said_log before) ends) calls (run_at (said_log saids) (ends ++ ended))
   pub slots : now (said_log saids) ≡ time
@@ -247,7 +286,8 @@ same_slot : (s t : SlotReply) → replies.Slot s ≡ replies.Slot t → s ≡ t
 same_slot s t e = cc
 
 -- a slot's reply has its number
-numbered_by : (plan : DiePlan) (past : Log) (slot : SlotReply) (o : Option Refusal) → answer_by plan past events.Slot o ≡ replies.Slot slot → slot.slot ≡ now past
+numbered_by : (plan : DiePlan) (past : Log) (slot : SlotReply) (o : Option Refusal) → answer_by plan past events.Slot o ≡ replies.Slot slot
+    → slot.slot ≡ now past
 numbered_by plan past slot None e =
     let c = choice plan past in
     ap (λ (s : SlotReply). s.slot) (sym (same_slot (slot_reply plan past c.waived c.head) slot e)) ∙ slot_is plan past c.waived c.head
@@ -273,11 +313,14 @@ record Fed (plan : DiePlan) (saids : List Said) (clock : ℕ) (items : List Scri
   stays : now (said_log (before ++ fed)) ≡ clock
   stops : stop_of rest ≡ stop_of behind
 
-rows_fed : (plan : DiePlan) (saids : List Said) → AreTold plan saids → (clock : ℕ) (items : List ScriptItem) (before fed behind rest : List Said)
-    → saids ≡ before ++ rest → rest ≡ fed ++ behind → AreAsked (feed.due_by clock (arrivals_of items)) fed → now (said_log before) ≡ clock → All (λ item. IsArrival item.event) items
+rows_fed : (plan : DiePlan) (saids : List Said) → AreTold plan saids
+    → (clock : ℕ) (items : List ScriptItem) (before fed behind rest : List Said)
+    → saids ≡ before ++ rest → rest ≡ fed ++ behind → AreAsked (feed.due_by clock (arrivals_of items)) fed → now (said_log before) ≡ clock
+    → All (λ item. IsArrival item.event) items
     → Fed plan saids clock items before fed behind rest
 rows_fed plan saids told clock items before fed behind rest is split asked at_now arrive =
-    let these : AreAsked (arrivals_of (due_by clock items)) fed = subst (λ (xs : List Arrival). AreAsked xs fed) (due_same clock items) asked in
+    let these : AreAsked (arrivals_of (due_by clock items)) fed = subst (λ (xs : List Arrival). AreAsked xs fed) (due_same clock items)
+    asked in
     let arrive_now = due_all (λ item. IsArrival item.event) clock items arrive in
     let all_is : saids ≡ before ++ (fed ++ behind) = is ∙ ap (λ (xs : List Said). before ++ xs) split in
     record {
@@ -294,7 +337,8 @@ rows_fed plan saids told clock items before fed behind rest is split asked at_no
 abbrev carried : SlotReply → Said
 carried slot = said events.Slot (Ok (replies.Slot slot))
 
-record Carried (plan : DiePlan) (saids : List Said) (left clock : ℕ) (items : List ScriptItem) (before more : List Said) (slot : SlotReply) : Type 0 where
+record Carried (plan : DiePlan) (saids : List Said) (left clock : ℕ) (items : List ScriptItem) (before more : List Said) (slot : SlotReply)
+    : Type 0 where
   answered : (answer plan (said_log before) events.Slot ≡ replies.Slot slot) × IsAccepted (replies.Slot slot)
   next : saids ≡ (before ++ carried slot ∷ []) ++ more
   ordered : InClockOrder left (clock + 1) (arrivals_of (later_than clock items)) more
@@ -302,8 +346,10 @@ record Carried (plan : DiePlan) (saids : List Said) (left clock : ℕ) (items : 
   due : All (λ item. item.at ≤ clock + 1 + left) (later_than clock items)
   arrive : All (λ item. IsArrival item.event) (later_than clock items)
 
-slot_carried : (plan : DiePlan) (saids : List Said) → AreTold plan saids → (left clock : ℕ) (items : List ScriptItem) (before more : List Said) (slot : SlotReply)
-    → saids ≡ before ++ carried slot ∷ more → now (said_log before) ≡ clock → InClockOrder left (slot.slot + 1) (feed.later_than clock (arrivals_of items)) more
+slot_carried : (plan : DiePlan) (saids : List Said) → AreTold plan saids
+    → (left clock : ℕ) (items : List ScriptItem) (before more : List Said) (slot : SlotReply)
+    → saids ≡ before ++ carried slot ∷ more → now (said_log before) ≡ clock
+    → InClockOrder left (slot.slot + 1) (feed.later_than clock (arrivals_of items)) more
     → All (λ item. item.at ≤ clock + suc left) items → All (λ item. IsArrival item.event) items
     → Carried plan saids left clock items before more slot
 slot_carried plan saids told left clock items before more slot is at_now ordered due arrive =
@@ -313,69 +359,89 @@ slot_carried plan saids told left clock items before more slot is at_now ordered
       answered = answered;
       next = is ∙ sym (append_assoc before (carried slot ∷ []) more);
       ordered = subst (λ (x : ℕ × List Arrival). InClockOrder left x.0 x.1 more) (λ i. (number i + 1, later_same clock items i)) ordered;
-      counted = ap now (said_accepted before events.Slot (replies.Slot slot)) ∙ (slot_counted (said_log before) _ slot refl ∙ ap (λ (n : ℕ). n + 1) at_now);
-      due = subst (λ (n : ℕ). All (λ item. item.at ≤ n) (later_than clock items)) (omega arith) (later_all (λ item. item.at ≤ clock + suc left) clock items due);
+      counted = ap now (said_accepted before events.Slot (replies.Slot slot))
+          ∙ (slot_counted (said_log before) _ slot refl ∙ ap (λ (n : ℕ). n + 1) at_now);
+      due = subst (λ (n : ℕ). All (λ item. item.at ≤ n) (later_than clock items)) (omega arith)
+          (later_all (λ item. item.at ≤ clock + suc left) clock items due);
       arrive = later_all (λ item. IsArrival item.event) clock items arrive;
     }
 
-pub slots_run : (plan : DiePlan) (saids : List Said) → AreTold plan saids → (left clock : ℕ) (items : List ScriptItem) (before rest : List Said) (ends : List RowEnd) (place : ℕ)
+pub slots_run : (plan : DiePlan) (saids : List Said) → AreTold plan saids
+    → (left clock : ℕ) (items : List ScriptItem) (before rest : List Said) (ends : List RowEnd) (place : ℕ)
     → saids ≡ before ++ rest → InClockOrder left clock (arrivals_of items) rest → now (said_log before) ≡ clock → stop_of rest ≡ None
     → All (λ item. item.at ≤ clock + left) items → All (λ item. IsArrival item.event) items
     → ComesTo plan saids before ends (calls_from clock left items) place (lines_of items) rest (clock + left)
 slots_run plan saids told zero clock items before rest ends place is ordered at_now none_stopped due arrive =
     let in_time : All (λ item. item.at ≤ clock) items = subst (λ (n : ℕ). All (λ item. item.at ≤ n) items) (omega arith) due in
-    let asked : AreAsked (arrivals_of items) rest = subst (λ (xs : List Arrival). AreAsked xs rest) (due_same clock items ∙ ap arrivals_of (all_due clock items in_time)) ordered in
+    let asked : AreAsked (arrivals_of items) rest = subst (λ (xs : List Arrival). AreAsked xs rest) (due_same clock items
+    ∙ ap arrivals_of (all_due clock items in_time)) ordered in
     let here : saids ≡ before ++ (rest ++ []) = is ∙ ap (λ (xs : List Said). before ++ xs) (sym (append-nil rest)) in
     record {
       ended = ends_said items rest;
-      ran = subst (λ (xs : List Said). Runs plan (run_at (said_log before) ends) (map Row items) (run_at (said_log xs) (ends ++ ends_said items rest))) (sym is) (rows_run plan saids told items rest before [] ends here asked);
-      slots = ap (λ (xs : List Said). now (said_log xs)) is ∙ (rows_stay plan saids told items rest before [] here asked arrive ∙ (at_now ∙ omega arith));
+      ran = subst (λ (xs : List Said). Runs plan (run_at (said_log before) ends) (map Row items)
+          (run_at (said_log xs) (ends ++ ends_said items rest))) (sym is) (rows_run plan saids told items rest before [] ends here asked);
+      slots = ap (λ (xs : List Said). now (said_log xs)) is
+          ∙ (rows_stay plan saids told items rest before [] here asked arrive ∙ (at_now ∙ omega arith));
       ended_is = sym (append-nil (ends_said items rest)) ∙ (sym (ends_split items [] rest [] place asked arrive)
           ∙ λ i. ends_from place (lines_of (append-nil items i)) (refused_from place (append-nil rest i)));
     }
-slots_run plan saids told (suc left) clock items before rest ends place is (fed, behind, split, asked, inr (refused, last)) at_now none_stopped due arrive =
+slots_run plan saids told (suc left) clock items before rest ends place is (fed, behind, split, asked, inr (refused, last)) at_now
+    none_stopped due arrive =
     let f = rows_fed plan saids told clock items before fed behind rest is split asked at_now arrive in
     absurd (stopped_not refused (sym (f.stops ∙ ap stop_of last) ∙ none_stopped))
-slots_run plan saids told (suc left) clock items before rest ends place is (fed, behind, split, asked, inl (slot, more, first, ordered)) at_now none_stopped due arrive =
+slots_run plan saids told (suc left) clock items before rest ends place is (fed, behind, split, asked, inl (slot, more, first, ordered))
+    at_now none_stopped due arrive =
     let now_due = due_by clock items in
     let later = later_than clock items in
     let tail = carried slot ∷ more in
     let rest_is : rest ≡ fed ++ tail = split ∙ ap (λ (xs : List Said). fed ++ xs) first in
     let f = rows_fed plan saids told clock items before fed tail rest is rest_is asked at_now arrive in
     let c = slot_carried plan saids told left clock items (before ++ fed) more slot f.next f.stays ordered due arrive in
-    let on = slots_run plan saids told left (clock + 1) later ((before ++ fed) ++ carried slot ∷ []) more (ends ++ ends_said now_due fed) (place + length now_due)
+    let on = slots_run plan saids told left (clock + 1) later ((before ++ fed) ++ carried slot ∷ []) more (ends ++ ends_said now_due fed)
+    (place + length now_due)
     c.next c.ordered c.counted (sym f.stops ∙ none_stopped) c.due c.arrive in
     record {
       ended = ends_said now_due fed ++ on.ended;
-      ran = ran_more plan (run_at (said_log before) ends) (run_at (said_log (before ++ fed)) (ends ++ ends_said now_due fed)) (run_at (said_log saids) (ends ++ (ends_said now_due fed ++ on.ended)))
+      ran = ran_more plan (run_at (said_log before) ends) (run_at (said_log (before ++ fed)) (ends ++ ends_said now_due fed))
+          (run_at (said_log saids) (ends ++ (ends_said now_due fed ++ on.ended)))
           (map Row now_due) (Slot ∷ calls_from (clock + 1) left later) (rows_run plan saids told now_due fed before tail ends f.at f.asked) (
             run_at (said_log ((before ++ fed) ++ carried slot ∷ [])) (ends ++ ends_said now_due fed),
             (accepts_at plan (before ++ fed) events.Slot (replies.Slot slot) c.answered, refl),
-            subst (λ (es : List RowEnd). Runs plan (run_at (said_log ((before ++ fed) ++ carried slot ∷ [])) (ends ++ ends_said now_due fed)) (calls_from (clock + 1) left later) (run_at (said_log saids) es))
+            subst (λ (es : List RowEnd). Runs plan (run_at (said_log ((before ++ fed) ++ carried slot ∷ [])) (ends
+                ++ ends_said now_due fed)) (calls_from (clock + 1) left later) (run_at (said_log saids) es))
                 (append_assoc ends (ends_said now_due fed) on.ended) on.ran,
           );
       slots = on.slots ∙ omega arith;
       ended_is = ap (λ (es : List RowEnd). ends_said now_due fed ++ es) on.ended_is
-          ∙ (sym (ends_split now_due later fed tail place f.asked f.arrive) ∙ λ i. ends_from place (lines_of (due_and_later clock items i)) (refused_from place (sym rest_is i)));
+          ∙ (sym (ends_split now_due later fed tail place f.asked f.arrive)
+          ∙ λ i. ends_from place (lines_of (due_and_later clock items i)) (refused_from place (sym rest_is i)));
     }
 
 -- A slot that is refused
 
-pub slots_stop : (plan : DiePlan) (saids : List Said) → AreTold plan saids → (left clock : ℕ) (items : List ScriptItem) (before rest : List Said) (stop : RefusedAt)
+pub slots_stop : (plan : DiePlan) (saids : List Said) → AreTold plan saids
+    → (left clock : ℕ) (items : List ScriptItem) (before rest : List Said) (stop : RefusedAt)
     → saids ≡ before ++ rest → InClockOrder left clock (arrivals_of items) rest → now (said_log before) ≡ clock → stop_of rest ≡ Some stop
-    → clock + left ≤ MAX_SLOT → All (λ item. item.at ≤ clock + left) items → All (λ item. IsArrival item.event) items → stop.refusal ≡ because.NoMemory
+    → clock + left ≤ MAX_SLOT → All (λ item. item.at ≤ clock + left) items → All (λ item. IsArrival item.event) items → stop.refusal
+    ≡ because.NoMemory
 slots_stop plan saids told zero clock items before rest stop is ordered at_now stopped few due arrive =
     let in_time : All (λ item. item.at ≤ clock) items = subst (λ (n : ℕ). All (λ item. item.at ≤ n) items) (omega arith) due in
-    let asked : AreAsked (arrivals_of items) rest = subst (λ (xs : List Arrival). AreAsked xs rest) (due_same clock items ∙ ap arrivals_of (all_due clock items in_time)) ordered in
+    let asked : AreAsked (arrivals_of items) rest = subst (λ (xs : List Arrival). AreAsked xs rest) (due_same clock items
+    ∙ ap arrivals_of (all_due clock items in_time)) ordered in
     let none : stop_of rest ≡ None = ap stop_of (sym (append-nil rest)) ∙ stop_behind items rest [] asked arrive in
     absurd (stopped_not stop (sym stopped ∙ none))
-slots_stop plan saids told (suc left) clock items before rest stop is (fed, behind, split, asked, inr (refused, last)) at_now stopped few due arrive =
+slots_stop plan saids told (suc left) clock items before rest stop is (fed, behind, split, asked, inr (refused, last)) at_now stopped few
+    due arrive =
     let tail = said events.Slot (Err refused) ∷ [] in
-    let f = rows_fed plan saids told clock items before fed tail rest is (split ∙ ap (λ (xs : List Said). fed ++ xs) last) asked at_now arrive in
+    let f = rows_fed plan saids told clock items before fed tail rest is (split ∙ ap (λ (xs : List Said). fed ++ xs) last) asked at_now
+    arrive in
     ap (λ (r : RefusedAt). r.refusal) (sym (same_refused refused stop (sym f.stops ∙ stopped)))
-    ∙ slot_refused plan (said_log (before ++ fed)) refused.refusal (omega (arith, f.stays, few)) (told.refused (before ++ fed) [] events.Slot refused f.next)
-slots_stop plan saids told (suc left) clock items before rest stop is (fed, behind, split, asked, inl (slot, more, first, ordered)) at_now stopped few due arrive =
-    let f = rows_fed plan saids told clock items before fed (carried slot ∷ more) rest is (split ∙ ap (λ (xs : List Said). fed ++ xs) first) asked at_now arrive in
+    ∙ slot_refused plan (said_log (before ++ fed)) refused.refusal (omega (arith, f.stays, few))
+    (told.refused (before ++ fed) [] events.Slot refused f.next)
+slots_stop plan saids told (suc left) clock items before rest stop is (fed, behind, split, asked, inl (slot, more, first, ordered)) at_now
+    stopped few due arrive =
+    let f = rows_fed plan saids told clock items before fed (carried slot ∷ more) rest is (split ∙ ap (λ (xs : List Said). fed ++ xs) first)
+    asked at_now arrive in
     let c = slot_carried plan saids told left clock items (before ++ fed) more slot f.next f.stays ordered due arrive in
     slots_stop plan saids told left (clock + 1) (later_than clock items) ((before ++ fed) ++ carried slot ∷ []) more stop
     c.next c.ordered c.counted (sym f.stops ∙ stopped) (omega (arith, few)) c.due c.arrive

@@ -1,5 +1,6 @@
 -- How the runs of dies are gathered.
-use Rattle.std.proofs.Common.{◌≡◌, ℕ, suc, ◌+◌, ◌<◌, ◌≤◌, Bool, true, false, List, [], ◌∷◌, ◌++◌, refl, ap, sym, ◌∙◌, subst, length, map, drop, get_or, append_assoc, cond, All, Some, None, arith, ◌==◌, Option}
+use Rattle.std.proofs.Common.{◌≡◌, ℕ, suc, ◌+◌, ◌<◌, ◌≤◌, Bool, true, false, List, [], ◌∷◌, ◌++◌, refl, ap, sym, ◌∙◌, subst, length, map}
+use Rattle.std.proofs.Common.{drop, get_or, append_assoc, cond, All, Some, None, arith, ◌==◌, Option}
 use Rattle.std.specs.Prelude.{IfSome, count_by, if◌then◌else◌}
 use Rattle.std.specs.Io.KnownBytes.{Appends}
 use Rattle.std.proofs.lemmas.List.{drop_more, drop_all}
@@ -28,7 +29,8 @@ use Rattle.task_script.proofs.ClosedRuns.{die_plan, closed_run, closed_stop}
 use Rattle.task_script.specs.declared.run_counts.RowEnd.{RowEnd}
 use Rattle.task_script.specs.declared.run_counts.RunCount.{RunCount}
 
-rows_behind : (made : DieReport) (rest : List DieReport) (b : Bool) → (length made.rows == 0) ≡ b → with_rows made rest ≡ with_rows made [] ++ rest
+rows_behind : (made : DieReport) (rest : List DieReport) (b : Bool) → (length made.rows == 0) ≡ b → with_rows made rest ≡ with_rows made []
+    ++ rest
 rows_behind made rest true e = rw e refl
 rows_behind made rest false e = rw e refl
 
@@ -40,7 +42,8 @@ report_more die core dies report report2 all made is added so_far =
     let rest = reports_of (die + 1) dies in
     ap (λ (xs : List DieReport). xs ++ rest) added
     ∙ (append_assoc report (with_rows made []) rest
-    ∙ (ap (λ (xs : List DieReport). report ++ xs) (sym (rows_behind made rest _ refl) ∙ ap (λ (m : DieReport). with_rows m rest) is) ∙ so_far))
+    ∙ (ap (λ (xs : List DieReport). report ++ xs) (sym (rows_behind made rest _ refl) ∙ ap (λ (m : DieReport). with_rows m rest) is)
+    ∙ so_far))
 
 -- Counts
 
@@ -67,7 +70,12 @@ counted_from : (count : RunCount) (ends : List RowEnd) → counted_behind count 
   refused = count.refused + count_by was_refused ends;
   first = first_behind count.first ends;
 }
-counted_from count [] = λ i. record { accepted = sym (plus_none count.accepted) i; refused = sym (plus_none count.refused) i; first = count.first }
+counted_from count [] = λ i. record {
+  accepted = sym (plus_none count.accepted) i;
+  refused = sym (plus_none count.refused) i;
+  first =
+      count.first;
+}
   where
     plus_none : (n : ℕ) → n + 0 ≡ n
     plus_none n = omega arith
@@ -81,18 +89,23 @@ counted_from count (end ∷ ends) =
 
 -- rows that are counted one by one are counted
 pub counted_is : (ends : List RowEnd) → counted_behind (count_of []) ends ≡ count_of ends
-counted_is ends = counted_from (count_of []) ends ∙ λ i. record { accepted = none_plus (count_by was_accepted ends) i; refused = none_plus (count_by was_refused ends) i; first = first_refused ends }
+counted_is ends = counted_from (count_of []) ends ∙ λ i. record
+    { accepted = none_plus (count_by was_accepted ends) i; refused = none_plus (count_by was_refused ends) i; first = first_refused ends }
   where
     none_plus : (n : ℕ) → 0 + n ≡ n
     none_plus n = omega arith
 
 -- the rows of a die are counted, and those of the dies that are left are counted behind them
-pub ends_more : (die : ℕ) (lines : List (List ℕ)) (ends : List DieEnd) (line : List ℕ) (end : DieEnd) (count count2 all : RunCount) → die < length lines → die < length ends
+pub ends_more : (die : ℕ) (lines : List (List ℕ)) (ends : List DieEnd) (line : List ℕ) (end : DieEnd) (count count2 all : RunCount) → die
+    < length lines → die < length ends
     → line ≡ get_or lines die line → end ≡ get_or ends die end → count2 ≡ counted_behind count (ends_from 0 line end.refused)
-    → counted_behind count (all_ends (drop die lines) (drop die ends)) ≡ all → counted_behind count2 (all_ends (drop (die + 1) lines) (drop (die + 1) ends)) ≡ all
+    → counted_behind count (all_ends (drop die lines) (drop die ends)) ≡ all
+    → counted_behind count2 (all_ends (drop (die + 1) lines) (drop (die + 1) ends)) ≡ all
 ends_more die lines ends line end count count2 all below below2 at at2 added so_far =
-    let here : drop die lines ≡ line ∷ drop (die + 1) lines = drop_more lines die line below ∙ ap (λ (l : List ℕ). l ∷ drop (die + 1) lines) (sym at) in
-    let here2 : drop die ends ≡ end ∷ drop (die + 1) ends = drop_more ends die end below2 ∙ ap (λ (e : DieEnd). e ∷ drop (die + 1) ends) (sym at2) in
+    let here : drop die lines ≡ line ∷ drop (die + 1) lines = drop_more lines die line below
+    ∙ ap (λ (l : List ℕ). l ∷ drop (die + 1) lines) (sym at) in
+    let here2 : drop die ends ≡ end ∷ drop (die + 1) ends = drop_more ends die end below2
+    ∙ ap (λ (e : DieEnd). e ∷ drop (die + 1) ends) (sym at2) in
     let rest = all_ends (drop (die + 1) lines) (drop (die + 1) ends) in
     ap (λ (c : RunCount). counted_behind c rest) added
     ∙ (sym (counted_in_parts count (ends_from 0 line end.refused) rest)
@@ -103,51 +116,71 @@ pub all_counted : (die : ℕ) (lines : List (List ℕ)) (ends : List DieEnd) (co
     → counted_behind count (all_ends (drop die lines) (drop die ends)) ≡ counted_behind (count_of []) (all_ends lines ends)
     → count ≡ count_of (all_ends lines ends)
 all_counted die lines ends count below below2 so_far =
-    ap (λ (x : List (List ℕ) × List DieEnd). counted_behind count (all_ends x.0 x.1)) (λ i. (sym (drop_all die lines below) i, sym (drop_all die ends below2) i))
+    ap (λ (x : List (List ℕ) × List DieEnd). counted_behind count (all_ends x.0 x.1))
+    (λ i. (sym (drop_all die lines below) i, sym (drop_all die ends below2) i))
     ∙ (so_far ∙ counted_is (all_ends lines ends))
 
 -- one row more
 taken_is : (place line : ℕ) (lines : List ℕ) (refused : List RefusedEvent)
-    → ends_from place (line ∷ lines) refused ≡ row_end line (taken_at place refused).0 ∷ ends_from (place + 1) lines (taken_at place refused).1
+    → ends_from place (line ∷ lines) refused ≡ row_end line (taken_at place refused).0
+    ∷ ends_from (place + 1) lines (taken_at place refused).1
 taken_is place line lines [] = refl
 taken_is place line lines (r ∷ refused) = by (r.place == place)
   where
-    by : (b : Bool) → cond b (row_end line (Some r.refused.refusal) ∷ ends_from (place + 1) lines refused) (row_end line None ∷ ends_from (place + 1) lines (r ∷ refused))
+    by : (b : Bool) → cond b (row_end line (Some r.refused.refusal) ∷ ends_from (place + 1) lines refused) (row_end line None
+        ∷ ends_from (place + 1) lines (r ∷ refused))
         ≡ row_end line (cond {A = Option Refusal × List RefusedEvent} b (Some r.refused.refusal, refused) (None, r ∷ refused)).0
-        ∷ ends_from (place + 1) lines (cond {A = Option Refusal × List RefusedEvent} b (Some r.refused.refusal, refused) (None, r ∷ refused)).1
+        ∷ ends_from (place + 1) lines (cond {A = Option Refusal × List RefusedEvent} b (Some r.refused.refusal, refused) (
+          None,
+          r
+              ∷ refused,
+        )).1
     by true = refl
     by false = refl
 
-pub row_more : (place line : ℕ) (lines : List ℕ) (refused later : List RefusedEvent) (refusal : Option Refusal) (count count2 all : RunCount) → place < length lines → line ≡ get_or lines place line
+pub row_more : (place line : ℕ) (lines : List ℕ) (refused later : List RefusedEvent) (refusal : Option Refusal)
+    (count count2 all : RunCount) → place < length lines → line ≡ get_or lines place line
     → refusal ≡ (taken_at place refused).0 → later ≡ (taken_at place refused).1 → count2 ≡ counted_with count (row_end line refusal)
-    → counted_behind count (ends_from place (drop place lines) refused) ≡ all → counted_behind count2 (ends_from (place + 1) (drop (place + 1) lines) later) ≡ all
+    → counted_behind count (ends_from place (drop place lines) refused) ≡ all
+    → counted_behind count2 (ends_from (place + 1) (drop (place + 1) lines) later) ≡ all
 row_more place line lines refused later refusal count count2 all below at is rest added so_far =
-    let here : drop place lines ≡ line ∷ drop (place + 1) lines = drop_more lines place line below ∙ ap (λ (l : ℕ). l ∷ drop (place + 1) lines) (sym at) in
+    let here : drop place lines ≡ line ∷ drop (place + 1) lines = drop_more lines place line below
+    ∙ ap (λ (l : ℕ). l ∷ drop (place + 1) lines) (sym at) in
     ap (λ (c : RunCount). counted_behind c (ends_from (place + 1) (drop (place + 1) lines) later)) added
-    ∙ (ap (λ (x : Option Refusal × List RefusedEvent). counted_behind (counted_with count (row_end line x.0)) (ends_from (place + 1) (drop (place + 1) lines) x.1)) (λ i. (is i, rest i))
+    ∙ (ap (λ (x : Option Refusal × List RefusedEvent). counted_behind (counted_with count (row_end line x.0))
+    (ends_from (place + 1) (drop (place + 1) lines) x.1)) (λ i. (is i, rest i))
     ∙ (ap (counted_behind count) (sym (taken_is place line (drop (place + 1) lines) refused))
     ∙ (ap (λ (xs : List ℕ). counted_behind count (ends_from place xs refused)) (sym here) ∙ so_far)))
 
 -- The runs of dies that were closed
 
-record GatheredRuns {N : Type 0} (slots number : ℕ) (feed : ℕ → List ScriptItem) (plans : List DiePlan) (rows : List (List ScriptItem)) (ends : List DieEnd) (dies : List (Core N)) : Type 0 where
+record GatheredRuns {N : Type 0} (slots number : ℕ) (feed : ℕ → List ScriptItem) (plans : List DiePlan) (rows : List (List ScriptItem))
+    (ends : List DieEnd) (dies : List (Core N)) : Type 0 where
   pub runs : List DieRun
   pub ran : AreRuns slots feed number plans runs
   pub reported : reports_of number dies ≡ reports_from number plans runs
   pub ended : all_ends (map lines_of rows) ends ≡ ends_of runs
 
-gathered : {N : Type 0} (slots number : ℕ) (feed : ℕ → List ScriptItem) (plans : List DiePlan) (rows : List (List ScriptItem)) (ends : List DieEnd) (dies : List (Core N))
-    → ((k : ℕ) → k < length rows → feed (number + k) ≡ get_or rows k []) → AllByRecursion (AllArrive slots) rows → AllByRecursion (λ end. end.stop ≡ None) ends
+gathered : {N : Type 0} (slots number : ℕ) (feed : ℕ → List ScriptItem) (plans : List DiePlan) (rows : List (List ScriptItem))
+    (ends : List DieEnd) (dies : List (Core N))
+    → ((k : ℕ) → k < length rows → feed (number + k) ≡ get_or rows k []) → AllByRecursion (AllArrive slots) rows
+    → AllByRecursion (λ end. end.stop ≡ None) ends
     → RanFeeds slots plans (map arrivals_of rows) ends dies → GatheredRuns slots number feed plans rows ends dies
 gathered slots number feed [] [] [] [] own arrive none ran = record { runs = []; ran = tt; reported = refl; ended = refl }
 gathered slots number feed (plan ∷ plans) (items ∷ rows) (end ∷ ends) (die ∷ dies) own arrive none ran =
     let first : feed number ≡ items = ap feed (omega arith) ∙ own 0 (omega arith) in
-    let rest = gathered slots (number + 1) feed plans rows ends dies (λ k below. ap feed (omega arith) ∙ own (suc k) (omega (arith, below))) arrive.1 none.1 ran.1 in
+    let rest = gathered slots (number + 1) feed plans rows ends dies (λ k below. ap feed (omega arith) ∙ own (suc k) (omega (arith, below)))
+    arrive.1 none.1 ran.1 in
     let run = run_at die.log (ends_from 0 (lines_of items) end.refused) in
     record {
       runs = run ∷ rest.runs;
-      ran = (subst (λ (xs : List ScriptItem). IsRun plan slots xs run) (sym first) (closed_run slots plan items end die ran.0 arrive.0 none.0), rest.ran);
-      reported = ap (λ (p : DiePlan). with_rows (die_report_of p die.log number) (reports_of (number + 1) dies)) (die_plan slots plan (arrivals_of items) end die ran.0)
+      ran = (
+        subst (λ (xs : List ScriptItem). IsRun plan slots xs run) (sym first)
+            (closed_run slots plan items end die ran.0 arrive.0 none.0),
+        rest.ran,
+      );
+      reported = ap (λ (p : DiePlan). with_rows (die_report_of p die.log number) (reports_of (number + 1) dies))
+          (die_plan slots plan (arrivals_of items) end die ran.0)
           ∙ ap (with_rows (die_report_of plan die.log number)) rest.reported;
       ended = ap (λ (xs : List RowEnd). ends_from 0 (lines_of items) end.refused ++ xs) rest.ended;
     }
@@ -158,11 +191,14 @@ gathered slots number feed (plan ∷ plans) [] ends dies own arrive none ran = a
 gathered slots number feed (plan ∷ plans) (items ∷ rows) [] dies own arrive none ran = absurd ran
 gathered slots number feed (plan ∷ plans) (items ∷ rows) (end ∷ ends) [] own arrive none ran = absurd ran
 
-pub have_run : {N : Type 0} (slots : ℕ) (plans : List DiePlan) (rows : List (List ScriptItem)) (ends : List DieEnd) (dies : List (Core N)) (report : List DieReport) (made : RunCount)
-    → All (AllArrive slots) rows → All (λ end. end.stop ≡ None) ends → RanFeeds slots plans (map arrivals_of rows) ends dies → report ≡ reports_of 0 dies → made ≡ count_of (all_ends (map lines_of rows) ends)
+pub have_run : {N : Type 0} (slots : ℕ) (plans : List DiePlan) (rows : List (List ScriptItem)) (ends : List DieEnd) (dies : List (Core N))
+    (report : List DieReport) (made : RunCount)
+    → All (AllArrive slots) rows → All (λ end. end.stop ≡ None) ends → RanFeeds slots plans (map arrivals_of rows) ends dies → report
+    ≡ reports_of 0 dies → made ≡ count_of (all_ends (map lines_of rows) ends)
     → HaveRun slots rows plans report made
 have_run slots plans rows ends dies report made arrive none ran reported counted =
-    let g = gathered slots 0 (feed_at rows) plans rows ends dies (λ k below. ap (feed_at rows) (omega arith)) (recursion_from_All (AllArrive slots) rows arrive) (recursion_from_All (λ end. end.stop ≡ None) ends none) ran in
+    let g = gathered slots 0 (feed_at rows) plans rows ends dies (λ k below. ap (feed_at rows) (omega arith))
+    (recursion_from_All (AllArrive slots) rows arrive) (recursion_from_All (λ end. end.stop ≡ None) ends none) ran in
     record { runs = g.runs; ran = g.ran; reported = reported ∙ g.reported; counted = counted ∙ ap count_of g.ended }
 
 -- where the run of a die ended early, memory was refused
@@ -173,8 +209,10 @@ abbrev pub IsWhole : DieEnd → Type 0
 IsWhole end = end.stop ≡ None
 
 -- a slot is refused for want of memory alone
-pub stops_for_memory : {N : Type 0} (slots : ℕ) (plans : List DiePlan) (rows : List (List ScriptItem)) (ends : List DieEnd) (dies : List (Core N)) → slots ≤ MAX_SLOT
-    → AllByRecursion (AllArrive slots) rows → RanFeeds slots plans (map arrivals_of rows) ends dies → AllByRecursion (λ end. IfSome end.stop (λ stop. stop.refusal ≡ NoMemory)) ends
+pub stops_for_memory : {N : Type 0} (slots : ℕ) (plans : List DiePlan) (rows : List (List ScriptItem)) (ends : List DieEnd)
+    (dies : List (Core N)) → slots ≤ MAX_SLOT
+    → AllByRecursion (AllArrive slots) rows → RanFeeds slots plans (map arrivals_of rows) ends dies
+    → AllByRecursion (λ end. IfSome end.stop (λ stop. stop.refusal ≡ NoMemory)) ends
 stops_for_memory slots [] [] [] [] few arrive ran = tt
 stops_for_memory slots (plan ∷ plans) (items ∷ rows) (end ∷ ends) (die ∷ dies) few arrive ran =
     (closed_stop slots plan items end die ran.0 arrive.0 few, stops_for_memory slots plans rows ends dies few arrive.1 ran.1)
@@ -186,7 +224,8 @@ stops_for_memory slots (plan ∷ plans) (items ∷ rows) [] dies few arrive ran 
 stops_for_memory slots (plan ∷ plans) (items ∷ rows) (end ∷ ends) [] few arrive ran = absurd ran
 
 -- the same runs, with the rows of each die by another name
-pub same_feeds : (slots : ℕ) (one two : ℕ → List ScriptItem) (die : ℕ) (plans : List DiePlan) (runs : List DieRun) → ((d : ℕ) → d < die + length plans → one d ≡ two d)
+pub same_feeds : (slots : ℕ) (one two : ℕ → List ScriptItem) (die : ℕ) (plans : List DiePlan) (runs : List DieRun)
+    → ((d : ℕ) → d < die + length plans → one d ≡ two d)
     → AreRuns slots one die plans runs → AreRuns slots two die plans runs
 same_feeds slots one two die [] [] same are = tt
 same_feeds slots one two die [] (r ∷ runs) same are = absurd are
@@ -196,12 +235,15 @@ same_feeds slots one two die (p ∷ plans) (r ∷ runs) same are = (
   same_feeds slots one two (die + 1) plans runs (λ d below. same d (omega (arith, below))) are.1,
 )
 
-unfoldable pub runs_text : (text : Option (List ℕ)) (plans : List DiePlan) (slots : ℕ) (feeds : List (List ScriptItem)) (report : List DieReport) (count : RunCount) (old new : Option (List ℕ))
-    → AreFeedsOf text (length plans) slots feeds → HaveRun slots feeds plans report count → Appends old new (report_text report) → RunsText text plans slots count old new
+unfoldable pub runs_text : (text : Option (List ℕ)) (plans : List DiePlan) (slots : ℕ) (feeds : List (List ScriptItem))
+    (report : List DieReport) (count : RunCount) (old new : Option (List ℕ))
+    → AreFeedsOf text (length plans) slots feeds → HaveRun slots feeds plans report count → Appends old new (report_text report)
+    → RunsText text plans slots count old new
 runs_text text plans slots feeds report count old new fed h written = record {
   items = fed.0;
   script = fed.1;
-  pages = λ d below. subst RowsHavePages (fed.2.rows d (omega (arith, below))) (All-get_or RowsHavePages feeds d [] (omega (arith, below, fed.2.all)) fed.2.pages);
+  pages = λ d below. subst RowsHavePages (fed.2.rows d (omega (arith, below)))
+      (All-get_or RowsHavePages feeds d [] (omega (arith, below, fed.2.all)) fed.2.pages);
   runs = h.runs;
   ran = same_feeds slots (feed_at feeds) (feed_of fed.0) 0 plans h.runs (λ d below. fed.2.rows d (omega (arith, below))) h.ran;
   counted = h.counted;

@@ -16,10 +16,20 @@ use Rattle.task_script.specs.declared.run_counts.RunCount.{RunCount}
 use Rattle.task_script.proofs.AsPlanned.{runs_as_planned}
 
 -- where the writer failed, a front of the report of this run was written, and not the whole
-pub runs_in_part : {W : Type 0} (contents : W → Option (List ℕ)) (text : Option (List ℕ)) (plans : List DiePlan) (slots : ℕ) (feeds : List (List ScriptItem)) (report : List DieReport) (count : RunCount) (old new : W) (refusal : Refusal)
+pub runs_in_part : {W : Type 0} (contents : W → Option (List ℕ)) (text : Option (List ℕ)) (plans : List DiePlan) (slots : ℕ)
+    (feeds : List (List ScriptItem)) (report : List DieReport) (count : RunCount) (old new : W) (refusal : Refusal)
     → All MeetsBound plans → AreFeedsOf text (length plans) slots feeds → HaveRun slots feeds plans report count
-    → (refusal ≡ NoMemory → new ≡ old) → (refusal ≡ WriteFault → AppendsPart (contents old) (contents new) (report_text report)) → (refusal ≡ NoMemory) ⊎ (refusal ≡ WriteFault)
+    → (refusal ≡ NoMemory → new ≡ old) → (refusal ≡ WriteFault → AppendsPart (contents old) (contents new) (report_text report))
+    → (refusal ≡ NoMemory) ⊎ (refusal ≡ WriteFault)
     → IsNotWhole contents (RunsSo text plans slots) old new
 runs_in_part contents text plans slots feeds report count old new refusal bound fed h memory part (inl is) = inl (memory is)
 runs_in_part contents text plans slots feeds report count old new refusal bound fed h memory part (inr is) =
-    inr (report_text report, (count, runs_as_planned text plans slots feeds report count (Some []) (Some (report_text report)) bound fed h refl), part is)
+    inr (
+      report_text report,
+      (
+        count,
+        runs_as_planned text plans slots feeds report count (Some []) (Some (report_text report)) bound fed h
+            refl,
+      ),
+      part is,
+    )

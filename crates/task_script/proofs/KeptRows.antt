@@ -7,7 +7,8 @@ use Rattle.die_service.specs.declared.feeds.Arrival.{Arrival}
 use Rattle.task_texts.specs.declared.items.ScriptItem.{ScriptItem}
 use Rattle.task_script.specs.RowEnds.{arrival_of, arrivals_of, lines_of, rows_of}
 
-pub arrivals_back : (die : ℕ) (lines : List ℕ) (feed : List Arrival) → length lines ≡ length feed → feed ≡ arrivals_of (rows_of die lines feed)
+pub arrivals_back : (die : ℕ) (lines : List ℕ) (feed : List Arrival) → length lines ≡ length feed → feed
+    ≡ arrivals_of (rows_of die lines feed)
 arrivals_back die [] [] same = refl
 arrivals_back die [] (arrival ∷ feed) same = absurd (omega (arith, same))
 arrivals_back die (line ∷ lines) [] same = absurd (omega (arith, same))
@@ -20,13 +21,15 @@ lines_back die (line ∷ lines) [] same = absurd (omega (arith, same))
 lines_back die (line ∷ lines) (arrival ∷ feed) same = ap (λ l. line ∷ l) (lines_back die lines feed (omega (arith, same)))
 
 -- rows that are all of a die are the same under its number
-same_die : (old die : ℕ) (lines : List ℕ) (feed : List Arrival) → AllByRecursion (λ (row : ScriptItem). row.die ≡ die) (rows_of old lines feed) → rows_of die lines feed ≡ rows_of old lines feed
+same_die : (old die : ℕ) (lines : List ℕ) (feed : List Arrival)
+    → AllByRecursion (λ (row : ScriptItem). row.die ≡ die) (rows_of old lines feed) → rows_of die lines feed ≡ rows_of old lines feed
 same_die old die [] [] own = refl
 same_die old die [] (arrival ∷ feed) own = refl
 same_die old die (line ∷ lines) [] own = refl
 same_die old die (line ∷ lines) (arrival ∷ feed) own =
     ap (λ n. record { line = line; at = arrival.at; die = n; event = arrival.event } ∷ rows_of die lines feed) (sym own.0)
-    ∙ ap (λ (l : List ScriptItem). record { line = line; at = arrival.at; die = old; event = arrival.event } ∷ l) (same_die old die lines feed own.1)
+    ∙ ap (λ (l : List ScriptItem). record { line = line; at = arrival.at; die = old; event = arrival.event } ∷ l)
+    (same_die old die lines feed own.1)
 
 one_more : (item : ScriptItem) (lines : List ℕ) (feed : List Arrival) → length lines ≡ length feed
     → rows_of item.die (lines ++ item.line ∷ []) (feed ++ arrival_of item ∷ []) ≡ rows_of item.die lines feed ++ item ∷ []
@@ -34,12 +37,16 @@ one_more item [] [] same = refl
 one_more item [] (arrival ∷ feed) same = absurd (omega (arith, same))
 one_more item (line ∷ lines) [] same = absurd (omega (arith, same))
 one_more item (line ∷ lines) (arrival ∷ feed) same =
-    ap (λ (l : List ScriptItem). record { line = line; at = arrival.at; die = item.die; event = arrival.event } ∷ l) (one_more item lines feed (omega (arith, same)))
+    ap (λ (l : List ScriptItem). record { line = line; at = arrival.at; die = item.die; event = arrival.event } ∷ l)
+    (one_more item lines feed (omega (arith, same)))
 
 -- one row more of the same die
-pub rows_more : (old : ℕ) (item : ScriptItem) (lines lines2 : List ℕ) (feed feed2 : List Arrival) → length lines ≡ length feed → lines2 ≡ lines ++ item.line ∷ [] → feed2 ≡ feed ++ arrival_of item ∷ []
-    → All (λ (row : ScriptItem). row.die ≡ item.die) (rows_of old lines feed) → rows_of item.die lines2 feed2 ≡ rows_of old lines feed ++ item ∷ []
+pub rows_more : (old : ℕ) (item : ScriptItem) (lines lines2 : List ℕ) (feed feed2 : List Arrival) → length lines ≡ length feed → lines2
+    ≡ lines ++ item.line ∷ [] → feed2 ≡ feed ++ arrival_of item ∷ []
+    → All (λ (row : ScriptItem). row.die ≡ item.die) (rows_of old lines feed) → rows_of item.die lines2 feed2 ≡ rows_of old lines feed
+    ++ item ∷ []
 rows_more old item lines lines2 feed feed2 same lines_are feed_is own =
     ap (λ l. rows_of item.die l feed2) lines_are ∙ ap (rows_of item.die (lines ++ item.line ∷ [])) feed_is
     ∙ one_more item lines feed same
-    ∙ ap (λ (l : List ScriptItem). l ++ item ∷ []) (same_die old item.die lines feed (recursion_from_All (λ (row : ScriptItem). row.die ≡ item.die) (rows_of old lines feed) own))
+    ∙ ap (λ (l : List ScriptItem). l ++ item ∷ []) (same_die old item.die lines feed
+    (recursion_from_All (λ (row : ScriptItem). row.die ≡ item.die) (rows_of old lines feed) own))

@@ -1,5 +1,6 @@
 -- What a die behind its lock said to the calls of a run is what a die says to its rows and slots.
-use Rattle.std.proofs.Common.{◌≡◌, ℕ, zero, suc, ◌+◌, ◌==◌, Bool, true, false, cond, List, [], ◌∷◌, ◌++◌, refl, ap, sym, ◌∙◌, subst, map, filter, reverse, take, append_assoc, arith, Ok, Err}
+use Rattle.std.proofs.Common.{◌≡◌, ℕ, zero, suc, ◌+◌, ◌==◌, Bool, true, false, cond, List, [], ◌∷◌, ◌++◌, refl, ap, sym, ◌∙◌, subst, map}
+use Rattle.std.proofs.Common.{filter, reverse, take, append_assoc, arith, Ok, Err}
 use Rattle.std.proofs.lemmas.Bool.{eq-eqb, false≢true}
 use Rattle.std.proofs.lemmas.List.{map-append, reverse-append, reverse-reverse}
 use Rattle.std.proofs.lemmas.List.Elements.{filter-append}
@@ -21,7 +22,8 @@ abbrev pub said_log : List Said → Log
 said_log saids = log_of (accepted_by 0 saids)
 
 accepted_more : (xs ys : List Said) → accepted_by 0 (xs ++ ys) ≡ accepted_by 0 xs ++ accepted_by 0 ys
-accepted_more xs ys = ap (map (λ (s : Said). entry 0 s.event s.reply)) (filter-append was_accepted xs ys) ∙ map-append (λ (s : Said). entry 0 s.event s.reply) (filter was_accepted xs) (filter was_accepted ys)
+accepted_more xs ys = ap (map (λ (s : Said). entry 0 s.event s.reply)) (filter-append was_accepted xs ys)
+    ∙ map-append (λ (s : Said). entry 0 s.event s.reply) (filter was_accepted xs) (filter was_accepted ys)
 
 log_more : (cs ds : List Call) → log_of (cs ++ ds) ≡ log_of ds ++ log_of cs
 log_more cs ds = ap reverse (map-append entry_of cs ds) ∙ reverse-append (map entry_of cs) (map entry_of ds)
@@ -29,10 +31,12 @@ log_more cs ds = ap reverse (map-append entry_of cs ds) ∙ reverse-append (map 
 said_more : (xs ys : List Said) → said_log (xs ++ ys) ≡ log_of (accepted_by 0 ys) ++ said_log xs
 said_more xs ys = ap log_of (accepted_more xs ys) ∙ log_more (accepted_by 0 xs) (accepted_by 0 ys)
 
-pub said_accepted : (before : List Said) (event : Event) (reply : Reply) → said_log (before ++ said event (Ok reply) ∷ []) ≡ with_entry 0 event reply (said_log before)
+pub said_accepted : (before : List Said) (event : Event) (reply : Reply) → said_log (before ++ said event (Ok reply) ∷ [])
+    ≡ with_entry 0 event reply (said_log before)
 said_accepted before event reply = said_more before (said event (Ok reply) ∷ [])
 
-pub said_refused : (before : List Said) (event : Event) (refused : RefusedAt) → said_log (before ++ said event (Err refused) ∷ []) ≡ said_log before
+pub said_refused : (before : List Said) (event : Event) (refused : RefusedAt) → said_log (before ++ said event (Err refused) ∷ [])
+    ≡ said_log before
 said_refused before event refused = said_more before (said event (Err refused) ∷ [])
 
 -- What is known of each call

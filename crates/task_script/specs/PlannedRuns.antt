@@ -56,9 +56,10 @@ AreAsPlanned slots feed die (plan ∷ plans) (run ∷ runs) =
 AreAsPlanned slots feed die _ _ = ⊥
 
 -- each die of the store ran its rows of the script, and those whose rows keep their plan went as planned
-pub record RunsAsPlanned (text : Option (List ℕ)) (plans : List DiePlan) (slots : ℕ) (count : RunCount) (old new : Option (List ℕ)) : Type 0 where
-  pub ran : RunsText text plans slots count old new
-  pub planned : AreAsPlanned slots (feed_of ran.items) 0 plans ran.runs
+pub record RunsAsPlanned (text : Option (List ℕ)) (plans : List DiePlan) (slots : ℕ) (count : RunCount) (old new : Option (List ℕ)) : Type 0
+  where
+    pub ran : RunsText text plans slots count old new
+    pub planned : AreAsPlanned slots (feed_of ran.items) 0 plans ran.runs
 
 -- so it is, whatever the count
 abbrev pub RunsSo : Option (List ℕ) → List DiePlan → ℕ → Option (List ℕ) → Option (List ℕ) → Type 0

@@ -17,7 +17,8 @@ lines_of items = map (λ (item : ScriptItem). item.line) items
 
 -- the rows of a die with these lines, which bring these events
 abbrev pub rows_of : ℕ → List ℕ → List Arrival → List ScriptItem
-rows_of die (line ∷ lines) (arrival ∷ feed) = record { line = line; at = arrival.at; die = die; event = arrival.event } ∷ rows_of die lines feed
+rows_of die (line ∷ lines) (arrival ∷ feed) = record { line = line; at = arrival.at; die = die; event = arrival.event }
+    ∷ rows_of die lines feed
 rows_of die _ _ = []
 
 abbrev pub row_end : ℕ → Option Refusal → RowEnd

@@ -25,7 +25,8 @@ pub record RanFeed {N : Type 0} (slots : ℕ) (plan : DiePlan) (feed : List Arri
 -- by die
 abbrev pub RanFeeds : {N : Type 0} → ℕ → List DiePlan → List (List Arrival) → List DieEnd → List (Core N) → Type 0
 RanFeeds slots [] [] [] [] = Unit {0}
-RanFeeds slots (plan ∷ plans) (feed ∷ feeds) (end ∷ ends) (die ∷ dies) = RanFeed slots plan feed end die × RanFeeds slots plans feeds ends dies
+RanFeeds slots (plan ∷ plans) (feed ∷ feeds) (end ∷ ends) (die ∷ dies) = RanFeed slots plan feed end die
+    × RanFeeds slots plans feeds ends dies
 RanFeeds slots _ _ _ _ = ⊥
 
 -- the reports of the dies that have rows, numbered from this number on

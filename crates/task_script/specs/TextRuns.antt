@@ -34,16 +34,18 @@ reports_from die _ _ = []
 abbrev pub ends_of : List DieRun → List RowEnd
 ends_of runs = flat_map (λ (run : DieRun). run.ends) runs
 
--- each die of the store ran all its slots with its rows of the script, what those write are pages, the rows are counted, and what is written is the
+-- each die of the store ran all its slots with its rows of the script, what those write are pages, the rows are counted, and what is
+-- written is the
 -- report of the dies' exact logs
-pub record RunsText (text : Option (List ℕ)) (plans : List DiePlan) (slots : ℕ) (count : RunCount) (old new : Option (List ℕ)) : Type 0 where
-  pub items : List ScriptItem
-  pub script : AreItemsOf text (length plans) slots items
-  pub pages : (die : ℕ) → die < length plans → RowsHavePages (feed_of items die)
-  pub runs : List DieRun
-  pub ran : AreRuns slots (feed_of items) 0 plans runs
-  pub counted : count ≡ count_of (ends_of runs)
-  pub written : Appends old new (report_text (reports_from 0 plans runs))
+pub record RunsText (text : Option (List ℕ)) (plans : List DiePlan) (slots : ℕ) (count : RunCount) (old new : Option (List ℕ)) : Type 0
+  where
+    pub items : List ScriptItem
+    pub script : AreItemsOf text (length plans) slots items
+    pub pages : (die : ℕ) → die < length plans → RowsHavePages (feed_of items die)
+    pub runs : List DieRun
+    pub ran : AreRuns slots (feed_of items) 0 plans runs
+    pub counted : count ≡ count_of (ends_of runs)
+    pub written : Appends old new (report_text (reports_from 0 plans runs))
 
 -- the script is refused; or memory ran out; or the writer failed
 abbrev pub RefusesText : Option (List ℕ) → ℕ → ℕ → Refusal → Type 0
@@ -55,8 +57,9 @@ abbrev pub feed_at : List (List ScriptItem) → ℕ → List ScriptItem
 feed_at feeds die = get_or feeds die []
 
 -- these dies ran, these are their reports, and so many of their rows were accepted and refused
-pub record HaveRun (slots : ℕ) (feeds : List (List ScriptItem)) (plans : List DiePlan) (report : List DieReport) (count : RunCount) : Type 0 where
-  pub runs : List DieRun
-  pub ran : AreRuns slots (feed_at feeds) 0 plans runs
-  pub reported : report ≡ reports_from 0 plans runs
-  pub counted : count ≡ count_of (ends_of runs)
+pub record HaveRun (slots : ℕ) (feeds : List (List ScriptItem)) (plans : List DiePlan) (report : List DieReport) (count : RunCount) : Type 0
+  where
+    pub runs : List DieRun
+    pub ran : AreRuns slots (feed_at feeds) 0 plans runs
+    pub reported : report ≡ reports_from 0 plans runs
+    pub counted : count ≡ count_of (ends_of runs)

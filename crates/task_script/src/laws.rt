@@ -17,13 +17,16 @@ ghost use Rattle.task_script.specs.declared.run_counts.RunCount.{RunCount};
 /// The report of the exact logs of at most eight dies meets the conditions of reading, so it is read back from its text.
 /// The plan of each die meets its bound, and its jobs were asked to write pages of sixteen bytes.
 pub fn exact_reports_come_back()
-    ensures formed { (plans : List DiePlan) (runs : List DieRun) → length plans ≤ 8 → AreExact plans runs → IsReport (reports_from 0 plans runs) }
-    ensures read { (plans : List DiePlan) (runs : List DieRun) → length plans ≤ 8 → AreExact plans runs → report_of (report_text (reports_from 0 plans runs)) ≡ Ok (reports_from 0 plans runs) }
+    ensures formed { (plans : List DiePlan) (runs : List DieRun) → length plans ≤ 8 → AreExact plans runs
+        → IsReport (reports_from 0 plans runs) }
+    ensures read { (plans : List DiePlan) (runs : List DieRun) → length plans ≤ 8 → AreExact plans runs
+        → report_of (report_text (reports_from 0 plans runs)) ≡ Ok (reports_from 0 plans runs) }
 {}
 
 /// So is the report that a run writes, whatever script was read.
 pub fn run_reports_come_back()
-    ensures { (text : Option (List ℕ)) (plans : List DiePlan) (slots : ℕ) (count : RunCount) (old new : Option (List ℕ)) → length plans ≤ 8 → All MeetsBound plans →
+    ensures { (text : Option (List ℕ)) (plans : List DiePlan) (slots : ℕ) (count : RunCount) (old new : Option (List ℕ)) → length plans ≤ 8
+        → All MeetsBound plans →
         (ran : RunsText text plans slots count old new) → report_of (report_text (reports_from 0 plans ran.runs)) ≡ Ok (reports_from 0 plans ran.runs) }
 {}
 

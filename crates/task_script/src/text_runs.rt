@@ -178,7 +178,8 @@ pub fn run_text<R: Threads + Wait + Sync, S: Read + Drop, W: Write>(
     requires few { slots ≤ MAX_SLOT }
     requires workers { (1 ≤ workers) × (workers ≤ 16) }
     ensures ran { IfOk result (λ count. RunsText (S.remaining script) plan.now slots count (W.contents writer.old) (W.contents writer.new)) }
-    ensures planned { IfOk result (λ count. RunsAsPlanned (S.remaining script) plan.now slots count (W.contents writer.old) (W.contents writer.new)) }
+    ensures planned { IfOk result (λ count. RunsAsPlanned (S.remaining script) plan.now slots count (W.contents writer.old)
+        (W.contents writer.new)) }
     ensures refused { IfErr result (RefusesText (S.remaining script) (length plan.now) slots) }
     ensures unwritten { IfErr result (λ refusal. (refusal ≡ Refusal.WriteFault → ⊥) → writer.new ≡ writer.old) }
     ensures part { OnErr result (IsNotWhole W.contents (RunsSo (S.remaining script) plan.now slots) writer.old writer.new) }

@@ -1,5 +1,6 @@
 -- Each field of a report reads as what was written.
-use Rattle.std.proofs.Common.{◌≡◌, ℕ, ◌+◌, ◌-◌, ◌*◌, ◌<◌, ◌==◌, List, [], ◌∷◌, ◌++◌, true, false, Option, Some, None, length, length-append, get_or, map, refl, ap, ◌∙◌, rules, arith, suc}
+use Rattle.std.proofs.Common.{◌≡◌, ℕ, ◌+◌, ◌-◌, ◌*◌, ◌<◌, ◌==◌, List, [], ◌∷◌, ◌++◌, true, false, Option, Some, None, length, length-append}
+use Rattle.std.proofs.Common.{get_or, map, refl, ap, ◌∙◌, rules, arith, suc}
 use Rattle.std.specs.Prelude.{decimal, nat_lt, ◌^◌, ℤ, pos, negsuc, option_map, IfSome, All}
 use Rattle.std.specs.Char.{is_ascii_digit}
 use Rattle.std.specs.Fmt.{signed_decimal}
@@ -76,7 +77,8 @@ sign-low : PassesLow (λ b. b == 45)
 sign-low b above = ne_eqb b 45 (omega arith)
 
 pub lateness-back : (z : ℤ) → size_of z < 2 ^ 32 → lateness_in (signed_decimal z) ≡ Some z
-lateness-back (pos n) small = unsigned (decimal n) (some-digits n small) (lacks-decimal (λ b. b == 45) sign-low n) ∙ rw (number-back n small) refl
+lateness-back (pos n) small = unsigned (decimal n) (some-digits n small) (lacks-decimal (λ b. b == 45) sign-low n)
+    ∙ rw (number-back n small) refl
 lateness-back (negsuc n) small =
     let fits : suc n < 2 ^ 32 = omega arith in
     let some : (suc n == 0) ≡ false = ne_eqb (suc n) 0 (omega arith) in
@@ -99,7 +101,8 @@ split-whole c [] lacks = refl
 split-whole c (x ∷ xs) lacks = rw (lacks-head (λ b. b == c) x xs lacks, split-whole c xs (lacks-tail (λ b. b == c) x xs lacks)) refl
 
 -- the first of several parts
-split-part : (word rest : List ℕ) → Lacks (λ b. b == 32) word → slice_split (λ b. b == 32) (word ++ 32 ∷ rest) ≡ word ∷ slice_split (λ b. b == 32) rest
+split-part : (word rest : List ℕ) → Lacks (λ b. b == 32) word → slice_split (λ b. b == 32) (word ++ 32 ∷ rest) ≡ word
+    ∷ slice_split (λ b. b == 32) rest
 split-part [] rest lacks = refl
 split-part (x ∷ xs) rest lacks = rw (lacks-head (λ b. b == 32) x xs lacks, split-part xs rest (lacks-tail (λ b. b == 32) x xs lacks)) refl
 
@@ -109,29 +112,35 @@ pub record IsWord {A : Type 0} (word : A → List ℕ) (read : List ℕ → Opti
   pub whole : Lacks (λ b. b == 32) (word x)
   pub some : 0 < length (word x)
 
-split-joined : {A : Type 0} (word : A → List ℕ) (read : List ℕ → Option A) (x : A) (xs : List A) → IsWord word read x → All (IsWord word read) xs
+split-joined : {A : Type 0} (word : A → List ℕ) (read : List ℕ → Option A) (x : A) (xs : List A) → IsWord word read x
+    → All (IsWord word read) xs
     → slice_split (λ b. b == 32) (join_with_byte 32 (map word (x ∷ xs))) ≡ map word (x ∷ xs)
 split-joined word read x [] is all = split-whole 32 (word x) is.whole
 split-joined word read x (y ∷ ys) is all =
     split-part (word x) (join_with_byte 32 (map word (y ∷ ys))) is.whole
-    ∙ ap (λ parts. word x ∷ parts) (split-joined word read y ys (All-head (IsWord word read) y ys all) (All-tail (IsWord word read) y ys all))
+    ∙ ap (λ parts. word x ∷ parts) (split-joined word read y ys (All-head (IsWord word read) y ys all)
+    (All-tail (IsWord word read) y ys all))
 
-all-back : {A : Type 0} (word : A → List ℕ) (read : List ℕ → Option A) (xs : List A) → All (IsWord word read) xs → all_of read (map word xs) ≡ Some xs
+all-back : {A : Type 0} (word : A → List ℕ) (read : List ℕ → Option A) (xs : List A) → All (IsWord word read) xs → all_of read (map word xs)
+    ≡ Some xs
 unfolding all_of
 all-back word read [] all = refl
 all-back word read (x ∷ xs) all =
     let is = All-head (IsWord word read) x xs all in
     rw (is.back, all-back word read xs (All-tail (IsWord word read) x xs all)) refl
 
-some-list : {A : Type 0} (read : List ℕ → Option A) (field : List ℕ) → 0 < length field → list_of read field ≡ all_of read (slice_split (λ b. b == 32) field)
+some-list : {A : Type 0} (read : List ℕ → Option A) (field : List ℕ) → 0 < length field → list_of read field
+    ≡ all_of read (slice_split (λ b. b == 32) field)
 some-list read [] some = absurd (omega arith)
 some-list read (b ∷ bytes) some = refl
 
-some-joined : {A : Type 0} (word : A → List ℕ) (x : A) (xs : List A) → 0 < length (word x) → 0 < length (join_with_byte 32 (map word (x ∷ xs)))
+some-joined : {A : Type 0} (word : A → List ℕ) (x : A) (xs : List A) → 0 < length (word x) → 0
+    < length (join_with_byte 32 (map word (x ∷ xs)))
 some-joined word x [] some = some
 some-joined word x (y ∷ ys) some = omega (arith, length-append (word x) (32 ∷ join_with_byte 32 (map word (y ∷ ys))))
 
-pub list-back : {A : Type 0} (word : A → List ℕ) (read : List ℕ → Option A) (xs : List A) → All (IsWord word read) xs → list_of read (join_with_byte 32 (map word xs)) ≡ Some xs
+pub list-back : {A : Type 0} (word : A → List ℕ) (read : List ℕ → Option A) (xs : List A) → All (IsWord word read) xs
+    → list_of read (join_with_byte 32 (map word xs)) ≡ Some xs
 list-back word read [] all = refl
 list-back word read (x ∷ xs) all =
     let is = All-head (IsWord word read) x xs all in

@@ -16,6 +16,7 @@ unfolding after_commas
 no-field line none = none
 
 -- one more field before the others
-pub field-before : (field : List ℕ) (fields : List (List ℕ)) (old new : List ℕ) → old ≡ after_commas fields → new ≡ 44 ∷ (field ++ old) → new ≡ after_commas (field ∷ fields)
+pub field-before : (field : List ℕ) (fields : List (List ℕ)) (old new : List ℕ) → old ≡ after_commas fields → new ≡ 44 ∷ (field ++ old)
+    → new ≡ after_commas (field ∷ fields)
 unfolding after_commas
 field-before field fields old new is made = made ∙ ap (λ (t : List ℕ). 44 ∷ (field ++ t)) is

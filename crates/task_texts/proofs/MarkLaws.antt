@@ -1,12 +1,14 @@
 -- A mark behind a text, which no read gives, and the records that are read of it.
-use Rattle.std.proofs.Common.{◌≡◌, ℕ, ◌<◌, ◌≤◌, ◌==◌, ◌-◌, ◌+◌, List, [], ◌∷◌, ◌++◌, Bool, true, false, Option, Some, None, length, take, length-append, refl, sym, ap, subst, ◌∙◌, append_assoc, arith, ◌⊎◌, inl, inr}
+use Rattle.std.proofs.Common.{◌≡◌, ℕ, ◌<◌, ◌≤◌, ◌==◌, ◌-◌, ◌+◌, List, [], ◌∷◌, ◌++◌, Bool, true, false, Option, Some, None, length, take}
+use Rattle.std.proofs.Common.{length-append, refl, sym, ap, subst, ◌∙◌, append_assoc, arith, ◌⊎◌, inl, inr}
 use Rattle.std.specs.Prelude.{All, ◌&&◌, is_some, nat_le, not, option_map, if◌then◌else◌}
 use Rattle.std.specs.Io.KnownBytes.{Consumes, IsAtEnd}
 use Rattle.std.proofs.lemmas.Bool.{cases_Bool, eqb-true, ne_eqb}
 use Rattle.std.proofs.lemmas.List.{append-nil}
 use Rattle.std.proofs.lemmas.List.Elements.{All-cons, All-drop, All-head, All-nil, All-tail, All-take}
 use Rattle.std.proofs.Math.Seq.{take-append_seam}
-use Rattle.csv.specs.Machine.{Read, after_end, ends_at_end, ends_with, field_after, fields_after, in_field, is_end, next_record, start_field, start_record, step}
+use Rattle.csv.specs.Machine.{Read, after_end, ends_at_end, ends_with, field_after, fields_after, in_field, is_end, next_record}
+use Rattle.csv.specs.Machine.{start_field, start_record, step}
 use Rattle.csv.specs.Reading.{default_config, is_bom, strip_bom}
 use Rattle.csv.specs.Records.{Row, cut_from, fields_of, text_of}
 use Rattle.csv.specs.declared.parser.Action.{Action}
@@ -148,7 +150,8 @@ and-false : (a : Bool) → (a && false) ≡ false
 and-false true = refl
 and-false false = refl
 
-strip-if : (bom : Bool) (a b c : ℕ) (rest : List ℕ) → is_bom a b c ≡ bom → strip_bom (a ∷ b ∷ c ∷ rest) ≡ (if bom then rest else a ∷ b ∷ c ∷ rest)
+strip-if : (bom : Bool) (a b c : ℕ) (rest : List ℕ) → is_bom a b c ≡ bom → strip_bom (a ∷ b ∷ c ∷ rest)
+    ≡ (if bom then rest else a ∷ b ∷ c ∷ rest)
 unfolding strip_bom
 strip-if bom a b c rest e = rw e refl
 
@@ -216,7 +219,8 @@ between-no_comment st.InEscape e = cc e
 between-no_comment st.InComment e = cc e
 
 -- a mark joins the field at hand
-mark-copied : (s : State) → no_comment s ≡ true → ((step default_config s 256).1 ≡ act.Copy) × (ends_at_end (step default_config s 256).0 ≡ true)
+mark-copied : (s : State) → no_comment s ≡ true → ((step default_config s 256).1 ≡ act.Copy)
+    × (ends_at_end (step default_config s 256).0 ≡ true)
 mark-copied st.StartRecord e = (refl, refl)
 mark-copied st.AfterCr e = (refl, refl)
 mark-copied st.StartField e = (refl, refl)
@@ -238,8 +242,10 @@ plain-if false x y p q = q
 
 in-plain : (c : ℕ) → no_comment (in_field default_config c).0 ≡ true
 in-plain c =
-    plain-if (c == 44) (st.StartField, act.EndField) (if ends_with term.CRLF c then (after_end term.CRLF c, act.EndRecord) else (st.InField, act.Copy)) refl
-    (plain-if (ends_with term.CRLF c) (after_end term.CRLF c, act.EndRecord) (st.InField, act.Copy) (between-no_comment _ (after-between c)) refl)
+    plain-if (c == 44) (st.StartField, act.EndField) (if ends_with term.CRLF c then (after_end term.CRLF c, act.EndRecord) else
+    (st.InField, act.Copy)) refl
+    (plain-if (ends_with term.CRLF c) (after_end term.CRLF c, act.EndRecord) (st.InField, act.Copy) (between-no_comment _ (after-between c))
+    refl)
 
 start-plain : (c : ℕ) → no_comment (start_field default_config c).0 ≡ true
 start-plain c = plain-if (c == 34) (st.InQuoted, act.Skip) (in_field default_config c) refl (in-plain c)
@@ -267,7 +273,8 @@ ends-if false x y p q = q
 
 in-ends : (c : ℕ) → EndsBetween (in_field default_config c)
 in-ends c =
-    ends-if (c == 44) (st.StartField, act.EndField) (if ends_with term.CRLF c then (after_end term.CRLF c, act.EndRecord) else (st.InField, act.Copy)) (λ e. cc e)
+    ends-if (c == 44) (st.StartField, act.EndField) (if ends_with term.CRLF c then (after_end term.CRLF c, act.EndRecord) else
+    (st.InField, act.Copy)) (λ e. cc e)
     (ends-if (ends_with term.CRLF c) (after_end term.CRLF c, act.EndRecord) (st.InField, act.Copy) (λ e. after-between c) (λ e. cc e))
 
 start-ends : (c : ℕ) → EndsBetween (start_field default_config c)
@@ -289,7 +296,8 @@ step-ends st.InComment c = ends-if (c == 10) (st.StartRecord, act.Skip) (st.InCo
 -- Records
 
 -- a record leaves its reader between two records
-pub next-between : (s : State) (fields : Fields) (field text : List ℕ) (p : Read) → next_record default_config s fields field text ≡ Some p → is_between p.1 ≡ true
+pub next-between : (s : State) (fields : Fields) (field text : List ℕ) (p : Read) → next_record default_config s fields field text ≡ Some p
+    → is_between p.1 ≡ true
 unfolding next_record
 next-between s fields field [] p e = elim (cases_Bool (ends_at_end s)) [
   | inl last ↦
@@ -301,11 +309,13 @@ next-between s fields field (c ∷ rest) p e = elim (cases_Bool (is_end (step de
   | inl last ↦
       let is : (fields_after (step default_config s c).1 fields field, (step default_config s c).0, rest) ≡ p = cc (rw last at e) in
       ap (λ (q : Read). is_between q.1) (sym is) ∙ step-ends s c last
-  | inr more ↦ next-between (step default_config s c).0 (fields_after (step default_config s c).1 fields field) (field_after (step default_config s c).1 c field) rest p (rw more at e)
+  | inr more ↦ next-between (step default_config s c).0 (fields_after (step default_config s c).1 fields field)
+      (field_after (step default_config s c).1 c field) rest p (rw more at e)
 ]
 
 -- a text without a mark has none behind its first record
-pub next-plain : (s : State) (fields : Fields) (field text : List ℕ) (p : Read) → next_record default_config s fields field text ≡ Some p → is_marked text ≡ false → is_marked p.2 ≡ false
+pub next-plain : (s : State) (fields : Fields) (field text : List ℕ) (p : Read) → next_record default_config s fields field text ≡ Some p
+    → is_marked text ≡ false → is_marked p.2 ≡ false
 unfolding next_record last_of
 next-plain s fields field [] p e plain = elim (cases_Bool (ends_at_end s)) [
   | inl last ↦
@@ -317,7 +327,8 @@ next-plain s fields field (c ∷ rest) p e plain = elim (cases_Bool (is_end (ste
   | inl last ↦
       let is : (fields_after (step default_config s c).1 fields field, (step default_config s c).0, rest) ≡ p = cc (rw last at e) in
       ap (λ (q : Read). is_marked q.2) (sym is) ∙ rest-plain c rest plain
-  | inr more ↦ next-plain (step default_config s c).0 (fields_after (step default_config s c).1 fields field) (field_after (step default_config s c).1 c field) rest p (rw more at e) (rest-plain c rest plain)
+  | inr more ↦ next-plain (step default_config s c).0 (fields_after (step default_config s c).1 fields field)
+      (field_after (step default_config s c).1 c field) rest p (rw more at e) (rest-plain c rest plain)
 ]
 
 -- the last field of a record ends with a mark
@@ -325,7 +336,8 @@ abbrev pub HasMark : Fields → Type 0
 HasMark record_fields = (front : Fields) × (bytes : List ℕ) × (record_fields ≡ front ++ ((bytes ++ 256 ∷ []) ∷ []))
 
 -- the next record of a text with a mark has the mark in it, or is that of the text without it
-pub next-marked : (s : State) (fields : Fields) (field text : List ℕ) (p : Read) → no_comment s ≡ true → next_record default_config s fields field (text ++ 256 ∷ []) ≡ Some p
+pub next-marked : (s : State) (fields : Fields) (field text : List ℕ) (p : Read) → no_comment s ≡ true
+    → next_record default_config s fields field (text ++ 256 ∷ []) ≡ Some p
     → HasMark p.0 ⊎ ((rest : List ℕ) × (p.2 ≡ rest ++ 256 ∷ []) × (next_record default_config s fields field text ≡ Some (p.0, p.1, rest)))
 unfolding next_record
 next-marked s fields field [] p plain e =
@@ -334,30 +346,35 @@ next-marked s fields field [] p plain e =
     inl (fields, field, ap (λ (q : Read). q.0) (sym is))
 next-marked s fields field (c ∷ text) p plain e = elim (cases_Bool (is_end (step default_config s c).1)) [
   | inl last ↦
-      let is : (fields_after (step default_config s c).1 fields field, (step default_config s c).0, text ++ 256 ∷ []) ≡ p = cc (rw last at e) in
+      let is : (fields_after (step default_config s c).1 fields field, (step default_config s c).0, text ++ 256 ∷ [])
+      ≡ p = cc (rw last at e) in
       inr (text, ap (λ (q : Read). q.2) (sym is), rw last (ap (λ (q : Read). Some (q.0, q.1, text)) is))
-  | inr more ↦ elim (next-marked (step default_config s c).0 (fields_after (step default_config s c).1 fields field) (field_after (step default_config s c).1 c field) text p (step-plain s c plain) (rw more at e)) [
-    | inl has ↦ inl has
-    | inr r ↦ inr (r.0, r.1, rw more r.2)
-  ]
+  | inr more ↦ elim (next-marked (step default_config s c).0 (fields_after (step default_config s c).1 fields field)
+      (field_after (step default_config s c).1 c field) text p (step-plain s c plain) (rw more at e)) [
+        | inl has ↦ inl has
+        | inr r ↦ inr (r.0, r.1, rw more r.2)
+      ]
 ]
 
 -- a text with a mark has a next record
-pub next-there : (s : State) (fields : Fields) (field text : List ℕ) → no_comment s ≡ true → next_record default_config s fields field (text ++ 256 ∷ []) ≡ None → ⊥
+pub next-there : (s : State) (fields : Fields) (field text : List ℕ) → no_comment s ≡ true
+    → next_record default_config s fields field (text ++ 256 ∷ []) ≡ None → ⊥
 unfolding next_record
 next-there s fields field [] plain e =
     let copied = mark-copied s plain in
     cc (rw (copied.0, copied.1) at e)
 next-there s fields field (c ∷ text) plain e = elim (cases_Bool (is_end (step default_config s c).1)) [
   | inl last ↦ cc (rw last at e)
-  | inr more ↦ next-there (step default_config s c).0 (fields_after (step default_config s c).1 fields field) (field_after (step default_config s c).1 c field) text (step-plain s c plain) (rw more at e)
+  | inr more ↦ next-there (step default_config s c).0 (fields_after (step default_config s c).1 fields field)
+      (field_after (step default_config s c).1 c field) text (step-plain s c plain) (rw more at e)
 ]
 
 -- the fields of a record are bytes, as its text is
 fields-bytes : (start : ℕ) (ends bytes : List ℕ) → All IsByte bytes → All (All IsByte) (cut_from start ends bytes)
 unfolding cut_from
 fields-bytes start [] bytes h = All-nil (All IsByte)
-fields-bytes start (end ∷ ends) bytes h = All-cons (All IsByte) _ _ (All-take IsByte _ _ (All-drop IsByte start bytes h)) (fields-bytes end ends bytes h)
+fields-bytes start (end ∷ ends) bytes h = All-cons (All IsByte) _ _ (All-take IsByte _ _ (All-drop IsByte start bytes h))
+    (fields-bytes end ends bytes h)
 
 pub row-bytes : (row : Row) (text : List ℕ) → text ≡ text_of row → All IsByte text → All (All IsByte) (fields_of row)
 row-bytes row text is h = fields-bytes 0 row.ends row.bytes (subst (All IsByte) is h)

@@ -1,5 +1,6 @@
 -- The rows of a report are numbered from 0 on each die, and so the rows that certificates are checked against rise.
-use Rattle.std.proofs.Common.{◌≡◌, ℕ, ◌+◌, ◌<◌, ◌==◌, List, [], ◌∷◌, ◌++◌, Bool, true, false, Option, Some, None, length, map, ◌∙◌, subst, inl, inr, arith, zero, suc}
+use Rattle.std.proofs.Common.{◌≡◌, ℕ, ◌+◌, ◌<◌, ◌==◌, List, [], ◌∷◌, ◌++◌, Bool, true, false, Option, Some, None, length, map, ◌∙◌, subst}
+use Rattle.std.proofs.Common.{inl, inr, arith, zero, suc}
 use Rattle.std.specs.Prelude.{All, if◌then◌else◌}
 use Rattle.std.specs.List.{cons_option, slice_index}
 use Rattle.std.specs.List.Sorted.{IsStrictlyIncreasing}
@@ -21,14 +22,16 @@ use Rattle.task_texts.specs.declared.reports.RowKind.TheVariants as kind
 -- Gathering
 
 -- a row of the next number may be added
-numbered-push : (n : ℕ) (rows : List ReportRow) (row : ReportRow) → IsNumberedFrom n rows → row.job ≡ n + length rows → IsNumberedFrom n (rows ++ row ∷ [])
+numbered-push : (n : ℕ) (rows : List ReportRow) (row : ReportRow) → IsNumberedFrom n rows → row.job ≡ n + length rows
+    → IsNumberedFrom n (rows ++ row ∷ [])
 numbered-push n [] row h next = (next ∙ (omega arith), tt)
 numbered-push n (r ∷ rows) row h next = (h.0, numbered-push (n + 1) rows row h.1 (next ∙ (omega arith)))
 
 abbrev HasNumbers : DieReport → Type 0
 HasNumbers die = IsNumbered die.rows
 
-numbered-last : (die : ℕ) (rows : List ReportRow) (empty : Bool) → IsNumbered rows → AreNumbered (if empty then [] else report_on die rows ∷ [])
+numbered-last : (die : ℕ) (rows : List ReportRow) (empty : Bool) → IsNumbered rows
+    → AreNumbered (if empty then [] else report_on die rows ∷ [])
 numbered-last die rows true h = All-nil HasNumbers
 numbered-last die rows false h = All-cons HasNumbers (report_on die rows) [] h (All-nil HasNumbers)
 
@@ -55,7 +58,8 @@ numbered-if g more (Some x) e h = elim (cases_Bool (may_follow g x)) [
 ]
 
 -- one more record keeps what is gathered numbered
-pub numbered-more : (g more : Gathered) (fields : List (List ℕ)) → gathered_with g fields ≡ Some more → GathersNumbered g → GathersNumbered more
+pub numbered-more : (g more : Gathered) (fields : List (List ℕ)) → gathered_with g fields ≡ Some more → GathersNumbered g
+    → GathersNumbered more
 numbered-more g more fields e h = numbered-if g more (sound_row fields) e h
 
 -- The rows of jobs
@@ -89,4 +93,5 @@ numbers-rise n [] h = λ k within. absurd (omega arith)
 numbers-rise n (row ∷ rows) h =
     let rest = numbers-rise (n + 1) rows h.1 in
     let below : row.job < n + 1 = omega (arith, h.0) in
-    either-kind row row.row (job_rows_of rows) IsStrictlyIncreasing rest (rising-cons row.job _ (numbers-above row.job (n + 1) rows below h.1) rest)
+    either-kind row row.row (job_rows_of rows) IsStrictlyIncreasing rest
+    (rising-cons row.job _ (numbers-above row.job (n + 1) rows below h.1) rest)

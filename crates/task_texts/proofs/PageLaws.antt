@@ -1,5 +1,6 @@
 -- How the digits of a page are read.
-use Rattle.std.proofs.Common.{◌≡◌, ℕ, ◌+◌, ◌*◌, ◌%◌, ◌<◌, ◌≤◌, ◌≢◌, List, length, take, drop, slice_index, slice_set, get_or-set_other, get_or-set_same, below_more, Option, Some, None, unwrap_or, Ok, refl, sym, ap, arith}
+use Rattle.std.proofs.Common.{◌≡◌, ℕ, ◌+◌, ◌*◌, ◌%◌, ◌<◌, ◌≤◌, ◌≢◌, List, length, take, drop, slice_index, slice_set, get_or-set_other}
+use Rattle.std.proofs.Common.{get_or-set_same, below_more, Option, Some, None, unwrap_or, Ok, refl, sym, ap, arith}
 use Rattle.hex.specs.Hex.{decode_pairs, digit_or_error, hex_digit_value, pair_value}
 use Rattle.hex.proofs.Pairs.{decode_done, decode_sized-pairs, decode_step, prepend}
 use Rattle.task_texts.specs.Words.{page_of}
@@ -13,7 +14,8 @@ abbrev pub HasValue : List ℕ → List ℕ → ℕ → ℕ → Type 0
 HasValue text values most k = (slice_index values k ≡ value_of (slice_index text k)) × (slice_index values k ≤ most)
 
 -- one more digit
-pub values-more : (text values : List ℕ) (most more i v : ℕ) → i < length values → v ≡ value_of (slice_index text i) → v ≤ more → most ≤ more
+pub values-more : (text values : List ℕ) (most more i v : ℕ) → i < length values → v ≡ value_of (slice_index text i) → v ≤ more → most
+    ≤ more
     → ((k : ℕ) → k < i → HasValue text values most k) → (k : ℕ) → k < i + 1 → HasValue text (slice_set values i v) more k
 values-more text values most more i v inside is small rises so-far =
     below_more (HasValue text (slice_set values i v) more) i
@@ -37,8 +39,10 @@ abbrev pub HasRead : List ℕ → List ℕ → ℕ → Type 0
 HasRead text bytes i = decode_pairs 0 text ≡ prepend (take i bytes) (decode_pairs (2 * i) (drop (2 * i) text))
 
 -- one more byte, from two digits
-pub read-more : (text values bytes : List ℕ) (most i v : ℕ) → length text ≡ 32 → i < 16 → i < length bytes → most ≤ 15 → ((k : ℕ) → k < 32 → HasValue text values most k)
-    → v ≡ (slice_index values (2 * i) * 16 % 256 + slice_index values (2 * i + 1)) % 256 → HasRead text bytes i → HasRead text (slice_set bytes i v) (i + 1)
+pub read-more : (text values bytes : List ℕ) (most i v : ℕ) → length text ≡ 32 → i < 16 → i < length bytes → most ≤ 15
+    → ((k : ℕ) → k < 32 → HasValue text values most k)
+    → v ≡ (slice_index values (2 * i) * 16 % 256 + slice_index values (2 * i + 1)) % 256 → HasRead text bytes i
+    → HasRead text (slice_set bytes i v) (i + 1)
 read-more text values bytes most i v long inside room small all made so-far =
     let high = all (2 * i) (omega arith) in
     let low = all (2 * i + 1) (omega arith) in
@@ -49,6 +53,8 @@ read-more text values bytes most i v long inside room small all made so-far =
     (pair-read (slice_index text (2 * i)) (slice_index text (2 * i + 1)) (2 * i) _ _ high.0 low.0 high_small low_small) so-far)
 
 -- all sixteen bytes
-pub read-all : (text bytes : List ℕ) (i : ℕ) → length text ≡ 32 → length bytes ≡ 16 → 16 ≤ i → HasRead text bytes i → page_of text ≡ Some (record { 0 = bytes })
+pub read-all : (text bytes : List ℕ) (i : ℕ) → length text ≡ 32 → length bytes ≡ 16 → 16 ≤ i → HasRead text bytes i → page_of text
+    ≡ Some (record { 0 = bytes })
 read-all text bytes i long room over so-far =
-    rw (decode_sized-pairs text 16 (omega (arith, long)) (omega (arith, long)), decode_done text bytes i (omega arith) (omega arith) so-far) refl
+    rw (decode_sized-pairs text 16 (omega (arith, long)) (omega (arith, long)), decode_done text bytes i (omega arith) (omega arith) so-far)
+    refl

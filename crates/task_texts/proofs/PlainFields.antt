@@ -1,5 +1,6 @@
 -- The fields of a report need no quotes, so csv writes them as they are.
-use Rattle.std.proofs.Common.{◌≡◌, ℕ, ◌+◌, ◌/◌, ◌%◌, ◌≤◌, ◌==◌, List, [], ◌∷◌, ◌++◌, Bool, true, false, map, get_or, refl, sym, ap, ◌∙◌, append_assoc, arith, zero, suc, inl, inr, Result, Ok, Err, OnOk}
+use Rattle.std.proofs.Common.{◌≡◌, ℕ, ◌+◌, ◌/◌, ◌%◌, ◌≤◌, ◌==◌, List, [], ◌∷◌, ◌++◌, Bool, true, false, map, get_or, refl, sym, ap, ◌∙◌}
+use Rattle.std.proofs.Common.{append_assoc, arith, zero, suc, inl, inr, Result, Ok, Err, OnOk}
 use Rattle.std.specs.Prelude.{ℤ, pos, negsuc, decimal, flat_map, ◌||◌, slice_index, nat_lt}
 use Rattle.std.specs.List.{list_any, join_with_byte}
 use Rattle.std.specs.Fmt.{signed_decimal, digits, digits_onto, digit_glyph}
@@ -60,7 +61,8 @@ lacks-glyph p low d = elim (cases_Bool (nat_lt d 10)) [
 lacks-digits : (p : ℕ → Bool) → PassesLow p → (k n : ℕ) (acc : List ℕ) → Lacks p acc → Lacks p (digits_onto k 10 false n acc)
 lacks-digits p low zero n acc so-far = so-far
 lacks-digits p low (suc k) n acc so-far =
-    let more : Lacks p (digit_glyph false (n % 10) ∷ acc) = lacks-cons p (digit_glyph false (n % 10)) acc (lacks-glyph p low (n % 10)) so-far in
+    let more : Lacks p (digit_glyph false (n % 10) ∷ acc) = lacks-cons p (digit_glyph false (n % 10)) acc (lacks-glyph p low (n % 10))
+    so-far in
     elim (cases_Bool (n / 10 == 0)) [
       | inl last ↦ rw last more
       | inr left ↦ rw left (lacks-digits p low k (n / 10) (digit_glyph false (n % 10) ∷ acc) more)
@@ -87,21 +89,25 @@ pub lacks-encode : (p : ℕ → Bool) → p 0 ≡ false → Lacks p lower_digits
 unfolding encode_with
 lacks-encode p none digits [] = refl
 lacks-encode p none digits (b ∷ rest) =
-    let low = lacks-cons p (slice_index lower_digits (b % 16)) (encode_lower rest) (lacks-looked_up p none lower_digits (b % 16) digits) (lacks-encode p none digits rest) in
-    lacks-cons p (slice_index lower_digits (b / 16)) (slice_index lower_digits (b % 16) ∷ encode_lower rest) (lacks-looked_up p none lower_digits (b / 16) digits) low
+    let low = lacks-cons p (slice_index lower_digits (b % 16)) (encode_lower rest) (lacks-looked_up p none lower_digits (b % 16) digits)
+    (lacks-encode p none digits rest) in
+    lacks-cons p (slice_index lower_digits (b / 16)) (slice_index lower_digits (b % 16) ∷ encode_lower rest)
+    (lacks-looked_up p none lower_digits (b / 16) digits) low
 
 pub plain-encode : (bytes : List ℕ) → IsPlain (encode_lower bytes)
 plain-encode bytes = lacks-encode (needs_byte default_writer) refl refl bytes
 
 -- words with a space between two
-pub joined-text : {A : Type 0} (f : A → List ℕ) (x : A) (xs : List A) → join_with_byte 32 (map f (x ∷ xs)) ≡ f x ++ flat_map (λ y. 32 ∷ f y) xs
+pub joined-text : {A : Type 0} (f : A → List ℕ) (x : A) (xs : List A) → join_with_byte 32 (map f (x ∷ xs)) ≡ f x
+    ++ flat_map (λ y. 32 ∷ f y) xs
 joined-text f x [] = sym (append-nil (f x))
 joined-text f x (y ∷ ys) = ap (λ t. f x ++ 32 ∷ t) (joined-text f y ys)
 
 pub plain-joined : {A : Type 0} (f : A → List ℕ) (xs : List A) → ((x : A) → IsPlain (f x)) → IsPlain (join_with_byte 32 (map f xs))
 plain-joined f [] each = refl
 plain-joined f (x ∷ []) each = each x
-plain-joined f (x ∷ y ∷ ys) each = lacks-append (needs_byte default_writer) (f x) (32 ∷ join_with_byte 32 (map f (y ∷ ys))) (each x) (lacks-cons (needs_byte default_writer) 32 (join_with_byte 32 (map f (y ∷ ys))) refl (plain-joined f (y ∷ ys) each))
+plain-joined f (x ∷ y ∷ ys) each = lacks-append (needs_byte default_writer) (f x) (32 ∷ join_with_byte 32 (map f (y ∷ ys))) (each x)
+    (lacks-cons (needs_byte default_writer) 32 (join_with_byte 32 (map f (y ∷ ys))) refl (plain-joined f (y ∷ ys) each))
 
 -- all of them are plain
 unfoldable pub ArePlain : List (List ℕ) → Type 0
@@ -122,10 +128,12 @@ row-plain a b fields all = rw (all.0, fields-plain (b ∷ fields) all.1) (append
 commas-append : (fields : List (List ℕ)) (field : List ℕ) → after_commas (fields ++ field ∷ []) ≡ after_commas fields ++ 44 ∷ field
 unfolding after_commas
 commas-append [] field = ap (λ t. 44 ∷ t) (append-nil field)
-commas-append (x ∷ xs) field = ap (λ t. 44 ∷ (x ++ t)) (commas-append xs field) ∙ ap (λ t. 44 ∷ t) (sym (append_assoc x (after_commas xs) (44 ∷ field)))
+commas-append (x ∷ xs) field = ap (λ t. 44 ∷ (x ++ t)) (commas-append xs field)
+    ∙ ap (λ t. 44 ∷ t) (sym (append_assoc x (after_commas xs) (44 ∷ field)))
 
 -- one more field after a comma
-pub field-made : (old first : List ℕ) (fields : List (List ℕ)) (field t1 t2 t3 : List ℕ) → t1 ≡ old ++ (first ++ after_commas fields) → t2 ≡ t1 ++ 44 ∷ [] → t3 ≡ t2 ++ field
+pub field-made : (old first : List ℕ) (fields : List (List ℕ)) (field t1 t2 t3 : List ℕ) → t1 ≡ old ++ (first ++ after_commas fields) → t2
+    ≡ t1 ++ 44 ∷ [] → t3 ≡ t2 ++ field
     → t3 ≡ old ++ (first ++ after_commas (fields ++ field ∷ []))
 field-made old first fields field t1 t2 t3 one two three =
     three ∙ rw (two, one, commas-append fields field) (simp append_assoc)
@@ -136,7 +144,8 @@ pub record-made : (old a b : List ℕ) (fields : List (List ℕ)) (t1 t2 : List 
 record-made old a b fields t1 t2 all one two = two ∙ rw (one, row-plain a b fields all) (simp append_assoc)
 
 -- words with a space between two, from the first and the rest
-pub joined-made : {A E : Type 0} (f : A → List ℕ) (r : Result (Unit {0}) E) (xs rest : List A) (x : A) (old mid new : List ℕ) → xs ≡ x ∷ rest
+pub joined-made : {A E : Type 0} (f : A → List ℕ) (r : Result (Unit {0}) E) (xs rest : List A) (x : A) (old mid new : List ℕ) → xs ≡ x
+    ∷ rest
     → mid ≡ old ++ f x → OnOk r (new ≡ mid ++ flat_map (λ y. 32 ∷ f y) rest) → OnOk r (new ≡ old ++ join_with_byte 32 (map f xs))
 joined-made f (Ok u) xs rest x old mid new split first more =
     more ∙ rw (first, split, joined-text f x rest) (append_assoc old (f x) (flat_map (λ y. 32 ∷ f y) rest))

@@ -72,7 +72,13 @@ cert-fields-plain die cert = (
             plain-decimal cert.due,
             (
               refl,
-              (plain-decimal cert.completion, (plain-signed (lateness_of cert.completion cert.due), (refl, (plain-joined decimal cert.jobs plain-decimal, tt)))),
+              (
+                plain-decimal cert.completion,
+                (
+                  plain-signed (lateness_of cert.completion cert.due),
+                  (refl, (plain-joined decimal cert.jobs plain-decimal, tt)),
+                ),
+              ),
             ),
           ),
         ),

@@ -1,5 +1,6 @@
 -- How a plan follows from its text.
-use Rattle.std.proofs.Common.{◌≡◌, ℕ, ◌+◌, ◌<◌, ◌≤◌, List, [], ◌∷◌, ◌++◌, Bool, false, Some, None, Result, Ok, Err, length, drop, get_or, refl, sym, ap, ◌∙◌, append_assoc, inl, inr}
+use Rattle.std.proofs.Common.{◌≡◌, ℕ, ◌+◌, ◌<◌, ◌≤◌, List, [], ◌∷◌, ◌++◌, Bool, false, Some, None, Result, Ok, Err, length, drop, get_or}
+use Rattle.std.proofs.Common.{refl, sym, ap, ◌∙◌, append_assoc, inl, inr}
 use Rattle.std.specs.Prelude.{IsUtf8, nat_lt}
 use Rattle.std.specs.Str.{is_utf8}
 use Rattle.std.proofs.lemmas.Bool.{cases_Bool}
@@ -26,29 +27,37 @@ table-no_text text short other = elim (cases_Bool (is_utf8 text)) [
 ]
 
 -- a text that is a document
-pub table-found : (text : List ℕ) (ms : Members) → nat_lt 1048576 (length text) ≡ false → IsUtf8 text → parse_document text ≡ Some ms → table_of text ≡ Ok ms
+pub table-found : (text : List ℕ) (ms : Members) → nat_lt 1048576 (length text) ≡ false → IsUtf8 text → parse_document text ≡ Some ms
+    → table_of text ≡ Ok ms
 table-found text ms short is found = rw (short, is_utf8-from_IsUtf8 text is, found) refl
 
 -- the item at a place is no table
-pub tasks-untabled : (timed : Bool) (vs : List Value) (i : ℕ) (d : Value) (out : List TaskNumbers) → i < length vs → as_table (view (get_or vs i d)) ≡ None
-    → with_front out (tasks_of timed (items_view (drop i vs))) ≡ tasks_of timed (items_view vs) → tasks_of timed (items_view vs) ≡ fault cause.WrongKind
+pub tasks-untabled : (timed : Bool) (vs : List Value) (i : ℕ) (d : Value) (out : List TaskNumbers) → i < length vs
+    → as_table (view (get_or vs i d)) ≡ None
+    → with_front out (tasks_of timed (items_view (drop i vs))) ≡ tasks_of timed (items_view vs) → tasks_of timed (items_view vs)
+    ≡ fault cause.WrongKind
 unfolding tasks_of
 tasks-untabled timed vs i d out below none so-far = sym (rw (items_view-drop vs i d below, none) at so-far)
 
 -- the item at a place is no task
-pub tasks-fault : (timed : Bool) (vs : List Value) (i : ℕ) (d : Value) (ms : Members) (c : Refusal) (out : List TaskNumbers) → i < length vs → as_table (view (get_or vs i d)) ≡ Some ms
-    → task_of timed ms ≡ Err c → with_front out (tasks_of timed (items_view (drop i vs))) ≡ tasks_of timed (items_view vs) → tasks_of timed (items_view vs) ≡ Err c
+pub tasks-fault : (timed : Bool) (vs : List Value) (i : ℕ) (d : Value) (ms : Members) (c : Refusal) (out : List TaskNumbers) → i < length vs
+    → as_table (view (get_or vs i d)) ≡ Some ms
+    → task_of timed ms ≡ Err c → with_front out (tasks_of timed (items_view (drop i vs))) ≡ tasks_of timed (items_view vs)
+    → tasks_of timed (items_view vs) ≡ Err c
 unfolding tasks_of
 tasks-fault timed vs i d ms c out below some bad so-far = sym (rw (items_view-drop vs i d below, some, bad) at so-far)
 
 -- one more in front
-front-more : (out : List TaskNumbers) (t : TaskNumbers) (r : Result (List TaskNumbers) Refusal) → with_front (out ++ t ∷ []) r ≡ with_front out (with_front (t ∷ []) r)
+front-more : (out : List TaskNumbers) (t : TaskNumbers) (r : Result (List TaskNumbers) Refusal) → with_front (out ++ t ∷ []) r
+    ≡ with_front out (with_front (t ∷ []) r)
 front-more out t (Ok ts) = ap Ok (append_assoc out (t ∷ []) ts)
 front-more out t (Err c) = refl
 
 -- the item at a place is a task
-pub tasks-more : (timed : Bool) (vs : List Value) (i : ℕ) (d : Value) (ms : Members) (t : TaskNumbers) (out out2 : List TaskNumbers) → i < length vs → as_table (view (get_or vs i d)) ≡ Some ms
-    → task_of timed ms ≡ Ok t → out2 ≡ out ++ t ∷ [] → with_front out (tasks_of timed (items_view (drop i vs))) ≡ tasks_of timed (items_view vs)
+pub tasks-more : (timed : Bool) (vs : List Value) (i : ℕ) (d : Value) (ms : Members) (t : TaskNumbers) (out out2 : List TaskNumbers) → i
+    < length vs → as_table (view (get_or vs i d)) ≡ Some ms
+    → task_of timed ms ≡ Ok t → out2 ≡ out ++ t ∷ [] → with_front out (tasks_of timed (items_view (drop i vs)))
+    ≡ tasks_of timed (items_view vs)
     → with_front out2 (tasks_of timed (items_view (drop (i + 1) vs))) ≡ tasks_of timed (items_view vs)
 unfolding tasks_of
 tasks-more timed vs i d ms t out out2 below some good made so-far =

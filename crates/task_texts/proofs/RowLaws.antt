@@ -4,7 +4,8 @@ use Rattle.std.specs.Prelude.{All, ◌||◌, ◌&&◌, not, is_none, IsSome, opt
 use Rattle.std.proofs.lemmas.Bool.{cases_Bool}
 use Rattle.csv.specs.Machine.{Read, next_record, step, is_end, ends_at_end, fields_after, field_after}
 use Rattle.task_texts.specs.Plain.{is_ready}
-use Rattle.csv.specs.Reading.{Ready, ReadRecord, took_first, names_headers, reader_headers, Reached, default_config, reader_config, reader_state, records_next, source_of, strip_bom}
+use Rattle.csv.specs.Reading.{Ready, ReadRecord, took_first, names_headers, reader_headers, Reached, default_config, reader_config}
+use Rattle.csv.specs.Reading.{reader_state, records_next, source_of, strip_bom}
 use Rattle.csv.specs.declared.parser.State.{State}
 use Rattle.csv.specs.declared.parser.State.TheVariants as st
 use Rattle.csv.specs.declared.reader.Reader.{Reader}
@@ -14,7 +15,8 @@ use Rattle.task_texts.specs.Marked.{is_marked, is_within, marked}
 use Rattle.task_texts.specs.Rows.{Fields, rows_from, rows_of, TakesRow}
 use Rattle.task_texts.specs.RowsLeft.{KeepsFit, fits_left, is_between, marked_left, rows_left}
 use Rattle.task_texts.specs.declared.bounded.Bounded.{Bounded}
-use Rattle.task_texts.proofs.MarkLaws.{IsByte, begun, between-no_comment, bytes-unmarked, marked-cases, marked-snoc, next-between, next-marked, next-plain, next-there, unmarked-snoc}
+use Rattle.task_texts.proofs.MarkLaws.{IsByte, begun, between-no_comment, bytes-unmarked, marked-cases, marked-snoc, next-between}
+use Rattle.task_texts.proofs.MarkLaws.{next-marked, next-plain, next-there, unmarked-snoc}
 
 -- all records are the next one and those after it
 pub rows-next : (s : State) (fields : Fields) (field xs : List ℕ)
@@ -26,13 +28,15 @@ rows-next s fields field [] = elim (cases_Bool (ends_at_end s)) [
 ]
 rows-next s fields field (c ∷ rest) = elim (cases_Bool (is_end (step default_config s c).1)) [
   | inl last ↦ rw last refl
-  | inr more ↦ rw more (rows-next (step default_config s c).0 (fields_after (step default_config s c).1 fields field) (field_after (step default_config s c).1 c field) rest)
+  | inr more ↦ rw more (rows-next (step default_config s c).0 (fields_after (step default_config s c).1 fields field)
+      (field_after (step default_config s c).1 c field) rest)
 ]
 
 -- a read took the next record of what was left
 record-taken : {R : Type 0} (rem : R → Option (List ℕ)) (a b : Reader R) (f : Fields) (y : List ℕ)
     → reader_config a ≡ default_config → source_of rem a ≡ Some y → ReadRecord rem a b true f
-    → (p : Read) × (next_record default_config (reader_state a) [] [] y ≡ Some p) × (f ≡ p.0) × (p.1 ≡ reader_state b) × (source_of rem b ≡ Some p.2)
+    → (p : Read) × (next_record default_config (reader_state a) [] [] y ≡ Some p) × (f ≡ p.0) × (p.1 ≡ reader_state b)
+    × (source_of rem b ≡ Some p.2)
 unfolding Reached
 record-taken rem a b f y plain known read =
     let r = rows-more rem a b f default_config (reader_state a) y y [] plain known (refl, refl) read in
@@ -52,14 +56,17 @@ abbrev pub Takes : {R : Type 0} → (R → Option (List ℕ)) → Reader (Bounde
 Takes rem a b found f = TakesRow (rows_left rem a) (rows_left rem b) found f × KeepsFit (fits_left rem a) (fits_left rem b) found
 
 -- nothing is known of what is left
-takes-unknown : {R : Type 0} (rem : R → Option (List ℕ)) (a b : Reader (Bounded R)) (found : Bool) (f : Fields) → marked_left rem a ≡ None → Takes rem a b found f
+takes-unknown : {R : Type 0} (rem : R → Option (List ℕ)) (a b : Reader (Bounded R)) (found : Bool) (f : Fields) → marked_left rem a ≡ None
+    → Takes rem a b found f
 unfolding rows_left fits_left
 takes-unknown rem a b found f unknown = rw unknown (tt, tt)
 
 -- a read took a record of a text without a mark
 found-plain : {R : Type 0} (rem : R → Option (List ℕ)) (a b : Reader (Bounded R)) (f : Fields) (text rest : List ℕ)
-    → is_between (reader_state a) ≡ true → is_between (reader_state b) ≡ true → source_of (bounded_remaining rem) a ≡ Some text → source_of (bounded_remaining rem) b ≡ Some rest
-    → is_marked text ≡ false → is_marked rest ≡ false → rows_from (reader_state a) [] [] text ≡ f ∷ rows_from (reader_state b) [] [] rest → Takes rem a b true f
+    → is_between (reader_state a) ≡ true → is_between (reader_state b) ≡ true → source_of (bounded_remaining rem) a ≡ Some text
+    → source_of (bounded_remaining rem) b ≡ Some rest
+    → is_marked text ≡ false → is_marked rest ≡ false → rows_from (reader_state a) [] [] text ≡ f ∷ rows_from (reader_state b) [] [] rest
+    → Takes rem a b true f
 unfolding rows_left fits_left
 found-plain rem a b f text rest between between2 known left clean clean2 rows =
     rw (between, known, between2, left, clean, clean2) ((rows_from (reader_state b) [] [] rest, refl, rows), refl)
@@ -71,7 +78,8 @@ found-marked : {R : Type 0} (rem : R → Option (List ℕ)) (a b : Reader (Bound
     → rows_from (reader_state a) [] [] text ≡ f ∷ rows_from (reader_state b) [] [] rest → Takes rem a b true f
 unfolding rows_left fits_left
 found-marked rem a b f text rest between between2 known left rows =
-    rw (between, known, between2, left, unmarked-snoc text, unmarked-snoc rest, marked-snoc text, marked-snoc rest) ((rows_from (reader_state b) [] [] rest, refl, rows), refl)
+    rw (between, known, between2, left, unmarked-snoc text, unmarked-snoc rest, marked-snoc text, marked-snoc rest)
+    ((rows_from (reader_state b) [] [] rest, refl, rows), refl)
 
 -- a read took a record of a known text
 takes-found : {R : Type 0} (rem : R → Option (List ℕ)) (a b : Reader (Bounded R)) (f : Fields) (y : List ℕ)
@@ -89,7 +97,8 @@ takes-found rem a b f y plain between known read bytes =
           elim (next-marked _ _ _ m.0 p (between-no_comment _ between) next2) [
             | inl has ↦ absurd (bytes-unmarked p.0 (subst (All (All IsByte)) same bytes) has)
             | inr r ↦
-                let rows = rows-taken (reader_state a) (reader_state b) f m.0 r.0 (r.2 ∙ as-parts (p.0, p.1, r.0) f (reader_state b) same state) in
+                let rows = rows-taken (reader_state a) (reader_state b) f m.0 r.0 (r.2
+                ∙ as-parts (p.0, p.1, r.0) f (reader_state b) same state) in
                 found-marked rem a b f m.0 r.0 between between2 (known ∙ ap Some m.1) (left ∙ ap Some r.1) rows
           ]
     ]
@@ -103,7 +112,8 @@ takes-none rem a b f y plain between known read =
     let none = rows-end (bounded_remaining rem) a b f default_config y plain known read in
     elim (marked-cases y) [
       | inl clean ↦ rw (between, known, clean) (rows-next (reader_state a) [] [] y ∙ rw none refl, refl)
-      | inr m ↦ absurd (next-there _ _ _ m.0 (between-no_comment _ between) (subst (λ (text : List ℕ). next_record default_config (reader_state a) [] [] text ≡ None) m.1 none))
+      | inr m ↦ absurd (next-there _ _ _ m.0 (between-no_comment _ between)
+          (subst (λ (text : List ℕ). next_record default_config (reader_state a) [] [] text ≡ None) m.1 none))
     ]
 
 -- a reader's known bytes, or none

@@ -1,5 +1,6 @@
 -- The rows of a well-formed report are gathered as they were.
-use Rattle.std.proofs.Common.{◌≡◌, ℕ, ◌+◌, ◌<◌, ◌≤◌, ◌==◌, ◌^◌, List, [], ◌∷◌, ◌++◌, true, false, Option, Some, None, length, length-append, map, refl, sym, ap, ◌∙◌, append_assoc, arith, zero, suc, ◌⊎◌, inl, inr}
+use Rattle.std.proofs.Common.{◌≡◌, ℕ, ◌+◌, ◌<◌, ◌≤◌, ◌==◌, ◌^◌, List, [], ◌∷◌, ◌++◌, true, false, Option, Some, None, length, length-append}
+use Rattle.std.proofs.Common.{map, refl, sym, ap, ◌∙◌, append_assoc, arith, zero, suc, ◌⊎◌, inl, inr}
 use Rattle.std.specs.Prelude.{◌&&◌, nat_le, nat_lt, is_none, is_some, flat_map, ℤ, IfSome}
 use Rattle.std.proofs.lemmas.Bool.{and_parts, cases_Bool, eq-eqb, eqb-true, leb-true, lt-ltb, ltb-true, ne_eqb}
 use Rattle.std.proofs.lemmas.Bool.Decides.{Decides-int_eq}
@@ -49,16 +50,34 @@ done-bounds row n due is =
     let late = (and_parts (nat_le 1 row.work) (is_late row.lateness (lateness_of n row.due)) parts.1).1 in
     let most : n ≤ 1048576 = leb-true n 1048576 parts.0 in
     let fits : n < 2 ^ 32 = omega arith in
-    record { completion_fits = fits; lateness_fits = said-late row.lateness (lateness_of n row.due) (size-difference n row.due fits due) late }
+    record {
+      completion_fits = fits;
+      lateness_fits = said-late row.lateness (lateness_of n row.due) (size-difference n row.due fits due)
+          late;
+    }
 
 outcome-bounds : (row : ReportRow) (k : RowKind) (o : Option ℕ) → row.due < 2 ^ 32 → has_outcome row k o ≡ true → HasBounds row o
-outcome-bounds row kind.Job (Some n) due is = done-bounds row n due (and_parts (is_done row n) (is_none row.given && nat_le (length row.reads) 64) is).0
-outcome-bounds row kind.Collect (Some n) due is = done-bounds row n due (and_parts (is_done row n) (is_some row.given && (length row.reads == 0)) is).0
+outcome-bounds row kind.Job (Some n) due is = done-bounds row n due
+    (and_parts (is_done row n) (is_none row.given && nat_le (length row.reads) 64) is).0
+outcome-bounds row kind.Collect (Some n) due is = done-bounds row n due
+    (and_parts (is_done row n) (is_some row.given && (length row.reads == 0)) is).0
 outcome-bounds row kind.Waived (Some n) due is = absurd (cc is)
-outcome-bounds row kind.Job None due is = record { completion_fits = tt; lateness_fits = none-said row.lateness (and_parts (is_none row.lateness) (is_none row.given && (length row.reads == 0)) is).0 }
-outcome-bounds row kind.Collect None due is = record { completion_fits = tt; lateness_fits = none-said row.lateness (and_parts (is_none row.lateness) (is_none row.given && (length row.reads == 0)) is).0 }
+outcome-bounds row kind.Job None due is = record {
+  completion_fits = tt;
+  lateness_fits = none-said row.lateness
+      (and_parts (is_none row.lateness) (is_none row.given && (length row.reads == 0)) is).0;
+}
+outcome-bounds row kind.Collect None due is = record {
+  completion_fits = tt;
+  lateness_fits = none-said row.lateness
+      (and_parts (is_none row.lateness) (is_none row.given && (length row.reads == 0)) is).0;
+}
 outcome-bounds row kind.Waived None due is =
-    record { completion_fits = tt; lateness_fits = none-said row.lateness (and_parts (is_none row.lateness) (is_some row.given && ((length row.reads == 0) && (row.work == 0))) is).0 }
+    record {
+      completion_fits = tt;
+      lateness_fits = none-said row.lateness
+          (and_parts (is_none row.lateness) (is_some row.given && ((length row.reads == 0) && (row.work == 0))) is).0;
+    }
 
 -- the numbers that each row has
 pub record HasNumbers (x : DieRow) : Type 0 where
@@ -73,7 +92,8 @@ sound-numbers x sound =
     let parts = and_parts (is_placed x) (is_timed x.row && has_outcome x.row x.row.row x.row.completion) sound in
     let place = and_parts (nat_lt x.die 8) (nat_lt x.row.task 16 && nat_lt x.row.job 65536) parts.0 in
     let names = and_parts (nat_lt x.row.task 16) (nat_lt x.row.job 65536) place.1 in
-    let times = and_parts (nat_lt x.row.release x.row.due) (nat_le x.row.due 1048576) (and_parts (is_timed x.row) (has_outcome x.row x.row.row x.row.completion) parts.1).0 in
+    let times = and_parts (nat_lt x.row.release x.row.due) (nat_le x.row.due 1048576)
+    (and_parts (is_timed x.row) (has_outcome x.row x.row.row x.row.completion) parts.1).0 in
     record {
       die = ltb-true x.die 8 place.0;
       task = ltb-true x.row.task 16 names.0;
@@ -87,7 +107,8 @@ sound-bounds x sound =
     let numbers = sound-numbers x sound in
     let due : x.row.due < 2 ^ 32 = omega arith in
     let parts = and_parts (is_placed x) (is_timed x.row && has_outcome x.row x.row.row x.row.completion) sound in
-    outcome-bounds x.row x.row.row x.row.completion due (and_parts (is_timed x.row) (has_outcome x.row x.row.row x.row.completion) parts.1).1
+    outcome-bounds x.row x.row.row x.row.completion due (and_parts (is_timed x.row) (has_outcome x.row x.row.row x.row.completion)
+    parts.1).1
 
 -- A row reads as itself
 
@@ -137,7 +158,8 @@ same-die die = eq-eqb die die refl
 
 -- the rest of a die's rows
 rows-on : (done : List DieReport) (die : ℕ) (before rows : List ReportRow) (more : List Fields) → AreRows die (length before) rows
-    → LeadsTo (λ line. rows_from (record { done = done; die = die; rows = before }) line (map (row_fields die) rows ++ more)) (record { done = done; die = die; rows = before ++ rows }) more
+    → LeadsTo (λ line. rows_from (record { done = done; die = die; rows = before }) line (map (row_fields die) rows ++ more))
+    (record { done = done; die = die; rows = before ++ rows }) more
 rows-on done die before [] more are line = (line, rw (append-nil before) refl)
 rows-on done die before (row ∷ rows) more are line =
     let g : Gathered = record { done = done; die = die; rows = before } in
@@ -167,9 +189,11 @@ first-follows g die row (inr later) first =
     let other : (die == g.die) ≡ false = ne_eqb die g.die (omega arith) in
     rw (other, lt-ltb g.die die later, eq-eqb row.job 0 first) refl
 
-first-row : (g : Gathered) (die : ℕ) (row : ReportRow) → Begins g die → with_row g (on_die die row) ≡ record { done = all_dies g; die = die; rows = row ∷ [] }
+first-row : (g : Gathered) (die : ℕ) (row : ReportRow) → Begins g die → with_row g (on_die die row)
+    ≡ record { done = all_dies g; die = die; rows = row ∷ [] }
 first-row g die row (inl fresh) = rw fresh (elim (cases_Bool (die == 0)) [
-  | inl zero_die ↦ rw zero_die (ap (λ (d : ℕ). let h : Gathered = record { done = []; die = d; rows = row ∷ [] } in h) (sym (eqb-true die 0 zero_die)))
+  | inl zero_die ↦ rw zero_die (ap (λ (d : ℕ). let h : Gathered = record { done = []; die = d; rows = row ∷ [] } in h)
+      (sym (eqb-true die 0 zero_die)))
   | inr other ↦ rw other refl
 ])
 first-row g die row (inr later) =
@@ -199,7 +223,8 @@ pub record AllGathered (g : Gathered) (dies : List DieReport) (line : ℕ) (reco
   pub leads : rows_from g line records ≡ rows_from last next more
   pub all : all_dies last ≡ all_dies g ++ map bare dies
 
-pub dies-on : (dies : List DieReport) (low : ℕ) (g : Gathered) (line : ℕ) (more : List Fields) → AreDies low dies → ((die : ℕ) → low ≤ die → Begins g die)
+pub dies-on : (dies : List DieReport) (low : ℕ) (g : Gathered) (line : ℕ) (more : List Fields) → AreDies low dies
+    → ((die : ℕ) → low ≤ die → Begins g die)
     → AllGathered g dies line (flat_map die_records dies ++ more) more
 dies-on [] low g line more are begins = record { last = g; next = line; leads = refl; all = sym (append-nil (all_dies g)) }
 dies-on (die ∷ dies) low g line more are begins =
@@ -217,14 +242,16 @@ dies-on (die ∷ dies) low g line more are begins =
     }
 
 -- the record of a certificate ends the rows
-stop-at : (g : Gathered) (line die : ℕ) (cert : Option Certificate) (more : List Fields) → rows_from g line more ≡ certs_from (all_dies g) line more
+stop-at : (g : Gathered) (line die : ℕ) (cert : Option Certificate) (more : List Fields) → rows_from g line more
+    ≡ certs_from (all_dies g) line more
     → rows_from g line (cert_record_of die cert ++ more) ≡ certs_from (all_dies g) line (cert_record_of die cert ++ more)
 unfolding rows_from field_at
 stop-at g line die None more rest = rest
 stop-at g line die (Some cert) more rest = refl
 
 -- at the certificates the rows end
-pub rows-stop : (g : Gathered) (line : ℕ) (dies : List DieReport) → rows_from g line (flat_map cert_record dies) ≡ certs_from (all_dies g) line (flat_map cert_record dies)
+pub rows-stop : (g : Gathered) (line : ℕ) (dies : List DieReport) → rows_from g line (flat_map cert_record dies)
+    ≡ certs_from (all_dies g) line (flat_map cert_record dies)
 unfolding rows_from
 rows-stop g line [] = refl
 rows-stop g line (die ∷ dies) = stop-at g line die.die die.cert (flat_map cert_record dies) (rows-stop g line dies)

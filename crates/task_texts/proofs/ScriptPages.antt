@@ -1,5 +1,6 @@
 -- The rows of a script ask for pages of sixteen bytes.
-use Rattle.std.proofs.Common.{◌≡◌, ℕ, ◌+◌, ◌-◌, ◌*◌, ◌==◌, Bool, true, false, cond, List, [], ◌∷◌, Option, Some, None, Result, Ok, Err, refl, ap, sym, ◌∙◌, subst, length, take, drop, arith, nat_lt}
+use Rattle.std.proofs.Common.{◌≡◌, ℕ, ◌+◌, ◌-◌, ◌*◌, ◌==◌, Bool, true, false, cond, List, [], ◌∷◌, Option, Some, None, Result, Ok, Err}
+use Rattle.std.proofs.Common.{refl, ap, sym, ◌∙◌, subst, length, take, drop, arith, nat_lt}
 use Rattle.std.specs.Prelude.{All, OnOk, option_map}
 use Rattle.std.specs.List.{AllByRecursion, slice_split}
 use Rattle.std.proofs.lemmas.Option.{none-some, same_Some}
@@ -50,7 +51,8 @@ write_word word op = by_tests (nat_lt (length word) 33) _
     IsWrite : Option Op → Type 0
     IsWrite o = o ≡ Some op → WritesPage op
 
-    by_tests : (short equals : Bool) → IsWrite (cond short None (cond equals (write_to (number_of (take (length word - 33) word)) (page_of (drop (length word - 33 + 1) word))) None))
+    by_tests : (short equals : Bool) → IsWrite (cond short None
+        (cond equals (write_to (number_of (take (length word - 33) word)) (page_of (drop (length word - 33 + 1) word))) None))
     by_tests true equals e = absurd (none-some op e)
     by_tests false true e = write_read (drop (length word - 33 + 1) word) (number_of (take (length word - 33) word)) op e
     by_tests false false e = absurd (none-some op e)
@@ -68,7 +70,8 @@ op_read [] op e = absurd (none-some op e)
 op_read (letter ∷ rest) op e = by_letter (letter == 82) (letter == 87) (letter == 84) e
   where
     by_letter : (reads writes trims : Bool)
-        → cond reads (option_map Read (number_of rest)) (cond writes (write_of rest) (cond trims (option_map Trim (number_of rest)) None)) ≡ Some op
+        → cond reads (option_map Read (number_of rest)) (cond writes (write_of rest) (cond trims (option_map Trim (number_of rest)) None))
+        ≡ Some op
         → WritesPage op
     by_letter true writes trims e = read_word (number_of rest) op e
     by_letter false true trims e = write_word rest op e
@@ -80,10 +83,13 @@ unfolding all_of
 words_read [] ops e = subst (λ (os : List Op). AllByRecursion WritesPage os) (same_Some [] ops e) tt
 words_read (word ∷ words) ops e = by_word (op_of word) refl (all_of op_of words) (words_read words) e
   where
-    by_word : (o : Option Op) → op_of word ≡ o → (more : Option (List Op)) → ((found : List Op) → more ≡ Some found → AllByRecursion WritesPage found) → and_word o more ≡ Some ops → AllByRecursion WritesPage ops
+    by_word : (o : Option Op) → op_of word ≡ o → (more : Option (List Op))
+        → ((found : List Op) → more ≡ Some found → AllByRecursion WritesPage found) → and_word o more ≡ Some ops
+        → AllByRecursion WritesPage ops
     by_word None at more again e = absurd (none-some ops e)
     by_word (Some op) at None again e = absurd (none-some ops e)
-    by_word (Some op) at (Some found) again e = subst (λ (os : List Op). AllByRecursion WritesPage os) (same_Some (op ∷ found) ops e) (op_read word op at, again found refl)
+    by_word (Some op) at (Some found) again e = subst (λ (os : List Op). AllByRecursion WritesPage os) (same_Some (op ∷ found) ops e)
+        (op_read word op at, again found refl)
 
 pub ops_read : (field : List ℕ) (ops : List Op) → ops_of field ≡ Some ops → All WritesPage ops
 ops_read [] ops e = subst (All WritesPage) (same_Some [] ops e) (All-nil WritesPage)

@@ -1,5 +1,6 @@
 -- What stands at the front of a text, word by word.
-use Rattle.std.proofs.Common.{◌≡◌, ℕ, ◌+◌, ◌-◌, ◌*◌, ◌<◌, ◌≤◌, ◌==◌, List, [], ◌∷◌, ◌++◌, true, false, Option, Some, None, Result, Ok, Err, length, take, drop, length-append, refl, sym, ap, ◌∙◌, append_assoc, arith, inl, inr, suc}
+use Rattle.std.proofs.Common.{◌≡◌, ℕ, ◌+◌, ◌-◌, ◌*◌, ◌<◌, ◌≤◌, ◌==◌, List, [], ◌∷◌, ◌++◌, true, false, Option, Some, None, Result, Ok, Err}
+use Rattle.std.proofs.Common.{length, take, drop, length-append, refl, sym, ap, ◌∙◌, append_assoc, arith, inl, inr, suc}
 use Rattle.std.specs.Prelude.{All, IfSome, nat_lt, option_map, slice_index}
 use Rattle.std.specs.Char.{is_ascii_digit}
 use Rattle.std.specs.List.{slice_split}
@@ -45,16 +46,19 @@ number-end v small = grind (arith)
 pub digits-more : (text : List ℕ) (i value : ℕ) → i < length text → is_ascii_digit (slice_index text i) ≡ true → HasDigits text i value
     → HasDigits text (i + 1) (10 * value + (slice_index text i - 48))
 unfolding number_from
-digits-more text i value inside digit has = λ rest. rw (take_more text i 0 inside, append_assoc) (has (slice_index text i ∷ rest) ∙ rw digit refl)
+digits-more text i value inside digit has = λ rest. rw (take_more text i 0 inside, append_assoc) (has (slice_index text i ∷ rest)
+    ∙ rw digit refl)
 
 -- the digits of a number, and what stands behind them
-pub number-starts : (text : List ℕ) (digits value : ℕ) → 0 < digits → digits ≤ 10 → digits ≤ length text → HasDigits text digits value → value < 4294967296
+pub number-starts : (text : List ℕ) (digits value : ℕ) → 0 < digits → digits ≤ 10 → digits ≤ length text → HasDigits text digits value
+    → value < 4294967296
     → StartsWith number_of text value (drop digits text)
 number-starts text digits value some few inside has small =
     let len : length (take digits text) ≡ digits = length-take-le digits text inside in
     let zero_not : (digits == 0) ≡ false = ne_eqb digits 0 (omega arith) in
     let not_long : nat_lt 10 digits ≡ false = grind (arith) in
-    let read : number_from 0 (take digits text) ≡ Some value = ap (number_from 0) (sym (append-nil (take digits text))) ∙ has [] ∙ number-end value small in
+    let read : number_from 0 (take digits text) ≡ Some value = ap (number_from 0) (sym (append-nil (take digits text))) ∙ has []
+    ∙ number-end value small in
     record {
       front = take digits text;
       parts = sym (take-append-drop digits text);
@@ -74,7 +78,8 @@ hex-no_space c digit = elim (cases_Bool (c == 32)) [
 page-digits : (digits : List ℕ) (page : PageData) → page_of digits ≡ Some page → (length digits ≡ 32) × All NoSpace digits
 page-digits digits page = by_bytes (decode_sized digits 16) refl
   where
-    by_bytes : (r : Result (List ℕ) FromHexError) → decode_sized digits 16 ≡ r → page_or r ≡ Some page → (length digits ≡ 32) × All NoSpace digits
+    by_bytes : (r : Result (List ℕ) FromHexError) → decode_sized digits 16 ≡ r → page_or r ≡ Some page → (length digits ≡ 32)
+        × All NoSpace digits
     by_bytes (Ok bytes) at e =
         let twice : length digits ≡ 2 * 16 = decode_sized-ok digits 16 bytes at in
         let ok = decode_of-ok digits bytes (sym (decode_sized-twice digits 16 twice) ∙ at) in
@@ -117,7 +122,8 @@ past-seam (x ∷ xs) y ys =
     let next : suc (length xs) + 1 ≡ suc (length xs + 1) = omega arith in
     rw next (past-seam xs y ys)
 
-write-reads : (number digits : List ℕ) (n : ℕ) (page : PageData) → number_of number ≡ Some n → page_of digits ≡ Some page → length digits ≡ 32
+write-reads : (number digits : List ℕ) (n : ℕ) (page : PageData) → number_of number ≡ Some n → page_of digits ≡ Some page → length digits
+    ≡ 32
     → write_of (number ++ 61 ∷ digits) ≡ Some (Write n page)
 write-reads number digits n page says read long =
     let word : List ℕ = number ++ 61 ∷ digits in
@@ -126,14 +132,16 @@ write-reads number digits n page says read long =
     let place : length number + 33 - 33 ≡ length number = omega arith in
     rw (len, enough, place, at-seam number 61 digits, take-append_seam number (61 ∷ digits), past-seam number 61 digits, says, read) refl
 
-pub write-starts : (text left digits rest : List ℕ) (n : ℕ) (page : PageData) → StartsWith number_of text n left → left ≡ 61 ∷ digits → StartsWith page_of digits page rest
+pub write-starts : (text left digits rest : List ℕ) (n : ℕ) (page : PageData) → StartsWith number_of text n left → left ≡ 61 ∷ digits
+    → StartsWith page_of digits page rest
     → StartsWith op_of (87 ∷ text) (Write n page) rest
 write-starts text left digits rest n page s sign p =
     let of_page = page-digits p.front page p.says in
     record {
       front = 87 ∷ (s.front ++ 61 ∷ p.front);
       parts = ap (λ (t : List ℕ). 87 ∷ t)
-          (s.parts ∙ ap (λ (t : List ℕ). s.front ++ t) (sign ∙ ap (λ (t : List ℕ). 61 ∷ t) p.parts) ∙ sym (append_assoc s.front (61 ∷ p.front) rest));
+          (s.parts ∙ ap (λ (t : List ℕ). s.front ++ t) (sign ∙ ap (λ (t : List ℕ). 61 ∷ t) p.parts)
+          ∙ sym (append_assoc s.front (61 ∷ p.front) rest));
       says = write-reads s.front p.front n page s.says p.says of_page.0;
       whole = All-cons NoSpace 87 _ refl (All-append NoSpace s.front (61 ∷ p.front) s.whole (All-cons NoSpace 61 p.front refl of_page.1));
     }
@@ -145,16 +153,19 @@ word-split : (text front : List ℕ) (rest : Option (List ℕ)) → text ≡ fro
 word-split text front None parts whole = rw (parts, append-nil) (slice_split_none (λ b. b == 32) front whole)
 word-split text front (Some rest) parts whole = rw parts (slice_split_at (λ b. b == 32) front 32 rest whole refl)
 
-pub first-starts : {A : Type 0} (read : List ℕ → Option A) (text : List ℕ) (x : A) (rest : Option (List ℕ)) → StartsWith read text x (behind rest)
+pub first-starts : {A : Type 0} (read : List ℕ → Option A) (text : List ℕ) (x : A) (rest : Option (List ℕ))
+    → StartsWith read text x (behind rest)
     → IsFirst read text x (words_of rest)
 first-starts read text x rest s = record { word = s.front; parts = word-split text s.front rest s.parts s.whole; says = sym s.says }
 
-pub first-shorter : {A B : Type 0} (read : List ℕ → Option A) (text : List ℕ) (x : A) (f : B → List ℕ) (rest : Option B) → StartsWith read text x (behind (option_map f rest))
+pub first-shorter : {A B : Type 0} (read : List ℕ → Option A) (text : List ℕ) (x : A) (f : B → List ℕ) (rest : Option B)
+    → StartsWith read text x (behind (option_map f rest))
     → IfSome rest (λ more. length (f more) < length text)
 first-shorter read text x f None s = tt
 first-shorter read text x f (Some more) s = omega (arith, ap length s.parts, length-append s.front (32 ∷ f more))
 
 -- a word that says nothing
-pub first-none : {A : Type 0} (read : List ℕ → Option A) (word : List ℕ) (words more : List (List ℕ)) → words ≡ word ∷ more → None ≡ read word → all_of read words ≡ None
+pub first-none : {A : Type 0} (read : List ℕ → Option A) (word : List ℕ) (words more : List (List ℕ)) → words ≡ word ∷ more → None
+    ≡ read word → all_of read words ≡ None
 unfolding all_of
 first-none read word words more split none = rw (split, ← none) refl

@@ -13,10 +13,12 @@ few_dies : (plan : PlanNumbers) (store : List DiePlan) → IsStore plan store �
 few_dies plan store is = omega (arith, ap length is.dies, length-map-range_with_len (die_of plan) 0 plan.top.dies, is.shaped.few_dies)
 
 -- what holds of each usable die
-all_usable : (plan : PlanNumbers) (store : List DiePlan) (P : DiePlan → Type 0) → ((die : DiePlan) → IsUsable die → P die) → IsStore plan store → All P store
+all_usable : (plan : PlanNumbers) (store : List DiePlan) (P : DiePlan → Type 0) → ((die : DiePlan) → IsUsable die → P die)
+    → IsStore plan store → All P store
 all_usable plan store P usable is = subst (λ s. All P s) (sym is.dies) (λ k d below.
     let within : k < plan.top.dies = omega (arith, below, length-map-range_with_len (die_of plan) 0 plan.top.dies) in
-    subst P (sym (get_or-map-range_with_len (die_of plan) 0 plan.top.dies k k d within (omega arith))) (usable (die_of plan k) (is.served.usable k within)))
+    subst P (sym (get_or-map-range_with_len (die_of plan) 0 plan.top.dies k k d within (omega arith)))
+    (usable (die_of plan k) (is.served.usable k within)))
 
 pub store_few : (plan : PlanNumbers) (r : Result (List DiePlan) Refusal) → IfOk r (IsStore plan) → IfOk r (λ store. length store ≤ 8)
 store_few plan (Ok store) h = few_dies plan store h

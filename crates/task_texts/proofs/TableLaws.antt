@@ -7,7 +7,8 @@ use Rattle.toml.specs.declared.value.Value.{Value}
 use Rattle.task_texts.specs.Tables.{has_only}
 
 -- a test of each key
-pub only-view : (test : List ℕ → Bool) (es : List (String Global × Value)) → list_all (λ k. test (string_bytes k)) (keys_of es) ≡ has_only test (members_view es)
+pub only-view : (test : List ℕ → Bool) (es : List (String Global × Value)) → list_all (λ k. test (string_bytes k)) (keys_of es)
+    ≡ has_only test (members_view es)
 unfolding has_only
 only-view test [] = refl
 only-view test (e ∷ es) = ap (λ b. test (string_bytes e.0) && b) (only-view test es)

@@ -1,5 +1,6 @@
 -- How the words of a field are read, one by one.
-use Rattle.std.proofs.Common.{◌≡◌, ℕ, ◌+◌, List, [], ◌∷◌, ◌++◌, Bool, Option, Some, None, ◌-◌, length, take, drop, length-drop, refl, sym, ap, ◌∙◌, append_assoc, arith, inl, inr}
+use Rattle.std.proofs.Common.{◌≡◌, ℕ, ◌+◌, List, [], ◌∷◌, ◌++◌, Bool, Option, Some, None, ◌-◌, length, take, drop, length-drop, refl, sym}
+use Rattle.std.proofs.Common.{ap, ◌∙◌, append_assoc, arith, inl, inr}
 use Rattle.std.specs.Prelude.{nat_lt}
 use Rattle.std.specs.List.{position, position_or_len, slice_split}
 use Rattle.std.proofs.lemmas.Bool.{cases_Bool}
@@ -29,7 +30,8 @@ split-one p (x ∷ xs) all = elim (cases_Bool (p x)) [
 ]
 
 -- a list that is cut where an element passes
-pub split-found : {A : Type 0} (p : A → Bool) (xs : List A) (i : ℕ) (d : A) → position p xs ≡ Some i → slice_split p xs ≡ take i xs ∷ slice_split p (drop (i + 1) xs)
+pub split-found : {A : Type 0} (p : A → Bool) (xs : List A) (i : ℕ) (d : A) → position p xs ≡ Some i → slice_split p xs ≡ take i xs
+    ∷ slice_split p (drop (i + 1) xs)
 split-found p xs i d found = elim (cases_Bool (nat_lt (position_or_len p xs) (length xs))) [
   | inl inside ↦
       let at : position_or_len p xs ≡ i = cc (rw inside at found) in
@@ -44,18 +46,22 @@ split-unfound p xs none = elim (cases_Bool (nat_lt (position_or_len p xs) (lengt
   | inr past ↦ split-one p xs (grind (arith, past, prefix_len-le-length))
 ]
 
-front-more : {A : Type 0} (xs : List A) (x : A) (more : Option (List A)) → front_words (xs ++ x ∷ []) more ≡ front_words xs (and_word (Some x) more)
+front-more : {A : Type 0} (xs : List A) (x : A) (more : Option (List A)) → front_words (xs ++ x ∷ []) more
+    ≡ front_words xs (and_word (Some x) more)
 front-more xs x None = refl
 front-more xs x (Some more) = ap Some (append_assoc xs (x ∷ []) more)
 
 -- one more word says something
-pub word-more : {A : Type 0} (read : List ℕ → Option A) (xs new : List A) (x : A) (word : List ℕ) (words more : List (List ℕ)) (whole : Option (List A)) → words ≡ word ∷ more
+pub word-more : {A : Type 0} (read : List ℕ → Option A) (xs new : List A) (x : A) (word : List ℕ) (words more : List (List ℕ))
+    (whole : Option (List A)) → words ≡ word ∷ more
     → Some x ≡ read word → new ≡ xs ++ x ∷ [] → front_words xs (all_of read words) ≡ whole → front_words new (all_of read more) ≡ whole
 unfolding all_of
-word-more read xs new x word words more whole split is made so-far = rw made (front-more xs x (all_of read more) ∙ rw (split, ← is) at so-far)
+word-more read xs new x word words more whole split is made so-far = rw made (front-more xs x (all_of read more)
+    ∙ rw (split, ← is) at so-far)
 
 -- one more word says nothing
-pub word-none : {A : Type 0} (read : List ℕ → Option A) (xs : List A) (word : List ℕ) (words more : List (List ℕ)) (whole : Option (List A)) → words ≡ word ∷ more
+pub word-none : {A : Type 0} (read : List ℕ → Option A) (xs : List A) (word : List ℕ) (words more : List (List ℕ)) (whole : Option (List A))
+    → words ≡ word ∷ more
     → None ≡ read word → front_words xs (all_of read words) ≡ whole → None ≡ whole
 unfolding all_of
 word-none read xs word words more whole split is so-far = rw (split, ← is) at so-far

@@ -9,8 +9,22 @@ use Rattle.task_texts.specs.declared.reports.RowKind.TheVariants as kind
 -- a row's job row, but for a collection that was waived
 abbrev pub job_row_if : ReportRow → RowKind → Option JobRow
 job_row_if row kind.Waived = None
-job_row_if row kind.Job = Some (record { number = row.job; release = row.release; due = row.due; work = row.work; completion = row.completion })
-job_row_if row kind.Collect = Some (record { number = row.job; release = row.release; due = row.due; work = row.work; completion = row.completion })
+job_row_if row kind.Job = Some (record {
+  number = row.job;
+  release = row.release;
+  due = row.due;
+  work = row.work;
+  completion =
+      row.completion;
+})
+job_row_if row kind.Collect = Some (record {
+  number = row.job;
+  release = row.release;
+  due = row.due;
+  work = row.work;
+  completion =
+      row.completion;
+})
 
 abbrev pub job_row_of : ReportRow → Option JobRow
 job_row_of row = job_row_if row row.row

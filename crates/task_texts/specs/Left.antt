@@ -13,7 +13,8 @@ unless_refused (Some refusal) known = None
 
 -- what a reader has left of its script, where it is known
 abbrev pub script_left : {R : Type 0} → (R → Option (List ℕ)) → ScriptReader R → Option Script
-script_left rem s = unless_refused s.refused (if s.ended then Some (Ok []) else option_map (script_at s.slots s.lasts.items s.line) (rows_left rem s.rows))
+script_left rem s = unless_refused s.refused (if s.ended then Some (Ok []) else option_map (script_at s.slots s.lasts.items s.line)
+    (rows_left rem s.rows))
 
 -- whether a reader's text fits its bound, where it is known
 abbrev pub script_fits : {R : Type 0} → (R → Option (List ℕ)) → ScriptReader R → Option Bool

@@ -1,12 +1,14 @@
 -- The numbers of a plan's text, or the first fault of the text.
-use Rattle.std.specs.Prelude.{ℕ, nat_lt, ◌==◌, ◌&&◌, ◌||◌, is_some, Bool, true, List, [], ◌∷◌, ◌++◌, length, codes, Option, Some, None, option_and_then, Result, Ok, if◌then◌else◌}
+use Rattle.std.specs.Prelude.{ℕ, nat_lt, ◌==◌, ◌&&◌, ◌||◌, is_some, Bool, true, List, [], ◌∷◌, ◌++◌, length, codes, Option, Some, None}
+use Rattle.std.specs.Prelude.{option_and_then, Result, Ok, if◌then◌else◌}
 use Rattle.std.specs.Str.{is_utf8}
 use Rattle.toml.specs.Data.{Items, no_items, item, Members, get_member, as_array, as_table}
 use Rattle.toml.specs.Parse.{parse_document}
 use Rattle.slot_types.specs.declared.refusals.Cause.TheVariants as cause
 use Rattle.slot_types.specs.declared.refusals.Refusal.{Refusal}
 use Rattle.task_texts.specs.Readings.{◌>>=◌}
-use Rattle.task_texts.specs.Tables.{checked_keys, fault, has_only, has_task_keys, has_times, has_top_keys, is_task_key, is_top_key, number_at, or_fault}
+use Rattle.task_texts.specs.Tables.{checked_keys, fault, has_only, has_task_keys, has_times, has_top_keys, is_task_key, is_top_key}
+use Rattle.task_texts.specs.Tables.{number_at, or_fault}
 use Rattle.slot_types.specs.declared.plans.TaskTimes.{TaskTimes}
 use Rattle.task_texts.specs.declared.plan_texts.PlanNumbers.{PlanNumbers}
 use Rattle.task_texts.specs.declared.plan_texts.TaskNumbers.{TaskNumbers}
@@ -28,7 +30,16 @@ top_of timed ms = do
   logical ← number_at ms (codes "logical")
   alpha ← number_at ms (codes "alpha")
   common ← common_of timed ms
-  Ok (record { version = version; dies = dies; blocks = blocks; pages = pages; erase_slots = erase_slots; logical = logical; alpha = alpha; common = common })
+  Ok (record {
+    version = version;
+    dies = dies;
+    blocks = blocks;
+    pages = pages;
+    erase_slots = erase_slots;
+    logical = logical;
+    alpha = alpha;
+    common = common;
+  })
 
 -- the times in a task
 unfoldable pub times_in : Members → Result TaskTimes Refusal

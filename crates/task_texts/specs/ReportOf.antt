@@ -1,5 +1,6 @@
 -- The report of a text, or the number of the first record that breaks it.
-use Rattle.std.specs.Prelude.{◌≡◌, ◌⊎◌, ◌==◌, ◌&&◌, ℕ, ◌+◌, nat_lt, ⊤, Bool, List, [], ◌∷◌, ◌++◌, length, Option, Some, None, Result, Ok, Err, if◌then◌else◌}
+use Rattle.std.specs.Prelude.{◌≡◌, ◌⊎◌, ◌==◌, ◌&&◌, ℕ, ◌+◌, nat_lt, ⊤, Bool, List, [], ◌∷◌, ◌++◌, length, Option, Some, None, Result, Ok}
+use Rattle.std.specs.Prelude.{Err, if◌then◌else◌}
 use Rattle.late_cert.specs.declared.certificates.Certificate.{Certificate}
 use Rattle.slot_types.specs.declared.refusals.Refusal.{Refusal}
 use Rattle.slot_types.specs.declared.refusals.Refusal.TheVariants.{ReportText}
@@ -105,7 +106,8 @@ report_of text = report_from (rows_of text)
 -- What calls read
 
 -- a call read from these records on: what they said, those that are left say after what it gave
-abbrev pub Reads : {A : Type 0} → (List Fields → Reading) → (A → List Fields → Reading) → Option (List Fields) → Option (List Fields) → Result A Refusal → Type 0
+abbrev pub Reads : {A : Type 0} → (List Fields → Reading) → (A → List Fields → Reading) → Option (List Fields) → Option (List Fields)
+    → Result A Refusal → Type 0
 Reads before after None new result = ⊤
 Reads before after (Some records) new (Ok x) = (rest : List Fields) × (new ≡ Some rest) × (before records ≡ after x rest)
 Reads before after (Some records) new (Err e) = IsOutside e ⊎ (before records ≡ Err e)

@@ -1,5 +1,6 @@
 -- What a row of a report says, if it is of the right shape and its numbers agree.
-use Rattle.std.specs.Prelude.{ℕ, ◌-◌, ◌==◌, ◌&&◌, nat_lt, nat_le, is_some, is_none, Bool, false, List, [], ◌∷◌, codes, length, Option, Some, None, option_map, option_and_then, ℤ, pos, negsuc, if◌then◌else◌}
+use Rattle.std.specs.Prelude.{ℕ, ◌-◌, ◌==◌, ◌&&◌, nat_lt, nat_le, is_some, is_none, Bool, false, List, [], ◌∷◌, codes, length, Option, Some}
+use Rattle.std.specs.Prelude.{None, option_map, option_and_then, ℤ, pos, negsuc, if◌then◌else◌}
 use Rattle.std.specs.Ordering.{int_eq}
 use Rattle.csv.specs.Records.{field_at}
 use Rattle.late_cert.specs.Schedule.{lateness_of}
@@ -63,7 +64,22 @@ row_in fields = do
   lateness ← if_filled lateness_in (field_or fields 8)
   given ← if_filled number_of (field_or fields 9)
   reads ← list_of page_of (field_or fields 10)
-  Some (record { die = die; row = record { row = k; job = job; task = task; release = release; due = due; work = work; completion = completion; lateness = lateness; given = given; reads = reads } })
+  Some (record {
+    die = die;
+    row = record {
+      row = k;
+      job = job;
+      task = task;
+      release = release;
+      due = due;
+      work = work;
+      completion =
+          completion;
+      lateness = lateness;
+      given = given;
+      reads = reads;
+    };
+  })
 
 abbrev pub is_late : Option ℤ → ℤ → Bool
 is_late None late = false

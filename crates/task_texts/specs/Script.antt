@@ -1,5 +1,6 @@
 -- The items of a script, or its first fault.
-use Rattle.std.specs.Prelude.{◌≡◌, ℕ, ◌+◌, ◌==◌, nat_lt, Bool, true, List, [], ◌∷◌, ⊤, ◌⊎◌, Option, Some, None, Result, Ok, Err, replicate, slice_set, if◌then◌else◌}
+use Rattle.std.specs.Prelude.{◌≡◌, ℕ, ◌+◌, ◌==◌, nat_lt, Bool, true, List, [], ◌∷◌, ⊤, ◌⊎◌, Option, Some, None, Result, Ok, Err, replicate}
+use Rattle.std.specs.Prelude.{slice_set, if◌then◌else◌}
 use Rattle.slot_types.specs.declared.refusals.Cause.TheVariants as cause
 use Rattle.slot_types.specs.declared.refusals.Refusal.{Refusal}
 use Rattle.task_texts.specs.Header.{is_script_header}
@@ -54,7 +55,8 @@ Yields (Some all) new (Ok (Some x)) = (more : Script) × (new ≡ Some more) × 
 Yields (Some all) new (Err e) = IsOutside e ⊎ (all ≡ Err e)
 
 -- the same of the records: what they say before, and what those after the item say
-abbrev pub StepOf : (List Fields → Script) → (ScriptItem → List Fields → Script) → Option (List Fields) → Option (List Fields) → Result (Option ScriptItem) Refusal → Type 0
+abbrev pub StepOf : (List Fields → Script) → (ScriptItem → List Fields → Script) → Option (List Fields) → Option (List Fields)
+    → Result (Option ScriptItem) Refusal → Type 0
 StepOf before after None new result = ⊤
 StepOf before after (Some rows) new (Ok None) = before rows ≡ Ok []
 StepOf before after (Some rows) new (Ok (Some x)) = (rest : List Fields) × (new ≡ Some rest) × (before rows ≡ with_front x (after x rest))

@@ -1,5 +1,6 @@
 -- What a plan asks of its tables.
-use Rattle.std.specs.Prelude.{ℕ, ℤ, pos, negsuc, nat_lt, nat_eq, ◌==◌, ◌&&◌, ◌||◌, not, is_some, Bool, true, false, List, codes, Option, Some, None, option_and_then, Result, Ok, Err, if◌then◌else◌}
+use Rattle.std.specs.Prelude.{ℕ, ℤ, pos, negsuc, nat_lt, nat_eq, ◌==◌, ◌&&◌, ◌||◌, not, is_some, Bool, true, false, List, codes, Option}
+use Rattle.std.specs.Prelude.{Some, None, option_and_then, Result, Ok, Err, if◌then◌else◌}
 use Rattle.std.specs.Cmp.Lexicographic.{pointwise}
 use Rattle.toml.specs.Data.{Members, no_members, member, get_member, as_integer}
 use Rattle.slot_types.specs.declared.refusals.Cause.{Cause}
@@ -32,7 +33,8 @@ is_top_key timed k = is_text k (codes "version") || (is_text k (codes "dies") ||
 
 -- whether a key is one of the times of a task
 abbrev pub is_time_key : List ℕ → Bool
-is_time_key k = is_text k (codes "period") || (is_text k (codes "collect_period") || (is_text k (codes "work") || is_text k (codes "writes")))
+is_time_key k = is_text k (codes "period") || (is_text k (codes "collect_period")
+    || (is_text k (codes "work") || is_text k (codes "writes")))
 
 -- whether a key is one of a task, of a plan with times or without
 abbrev pub is_task_key : Bool → List ℕ → Bool
@@ -43,13 +45,16 @@ has_member ms k = is_some (get_member k ms)
 
 -- whether each of those keys is there
 abbrev pub has_top_keys : Bool → Members → Bool
-has_top_keys timed ms = has_member ms (codes "version") && (has_member ms (codes "dies") && (has_member ms (codes "blocks") && (has_member ms (codes "pages")
-    && (has_member ms (codes "erase_slots") && (has_member ms (codes "logical") && (has_member ms (codes "alpha") && (has_member ms (codes "task")
+has_top_keys timed ms = has_member ms (codes "version") && (has_member ms (codes "dies")
+    && (has_member ms (codes "blocks") && (has_member ms (codes "pages")
+    && (has_member ms (codes "erase_slots") && (has_member ms (codes "logical")
+    && (has_member ms (codes "alpha") && (has_member ms (codes "task")
     && (not timed || has_member ms (codes "common")))))))))
 
 abbrev pub has_time_keys : Members → Bool
 has_time_keys ms =
-    has_member ms (codes "period") && (has_member ms (codes "collect_period") && (has_member ms (codes "work") && has_member ms (codes "writes")))
+    has_member ms (codes "period") && (has_member ms (codes "collect_period")
+    && (has_member ms (codes "work") && has_member ms (codes "writes")))
 
 abbrev pub has_task_keys : Bool → Members → Bool
 has_task_keys timed ms = has_member ms (codes "die") && (has_member ms (codes "cap") && (not timed || has_time_keys ms))

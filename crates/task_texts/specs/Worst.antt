@@ -1,5 +1,6 @@
 -- The worst of a die's done rows, and the certificate that a record says of it.
-use Rattle.std.specs.Prelude.{ℕ, ◌==◌, ◌&&◌, ◌||◌, nat_lt, not, int_lt, Bool, false, ℤ, List, [], ◌∷◌, codes, length, Option, Some, None, if◌then◌else◌}
+use Rattle.std.specs.Prelude.{ℕ, ◌==◌, ◌&&◌, ◌||◌, nat_lt, not, int_lt, Bool, false, ℤ, List, [], ◌∷◌, codes, length, Option, Some, None}
+use Rattle.std.specs.Prelude.{if◌then◌else◌}
 use Rattle.csv.specs.Records.{field_at}
 use Rattle.late_cert.specs.Schedule.{lateness_of}
 use Rattle.late_cert.specs.declared.certificates.Certificate.{Certificate}
@@ -59,7 +60,8 @@ is_cert fields = has_text (field_at fields 0) (codes "cert")
 -- whether the fields of a certificate but for its start and its jobs are those of a die's worst job
 abbrev pub is_of : ℕ → Finish → List (List ℕ) → Bool
 is_of die worst fields = is_cert fields && (says fields 1 die && (says fields 2 worst.job && (is_empty fields 3 && (says fields 5 worst.due
-    && (is_empty fields 6 && (says fields 7 worst.completion && (is_late (lateness_in (field_or fields 8)) (late worst) && is_empty fields 9)))))))
+    && (is_empty fields 6 && (says fields 7 worst.completion
+    && (is_late (lateness_in (field_or fields 8)) (late worst) && is_empty fields 9)))))))
 
 -- the certificate that a record says, for the worst job of a die
 unfoldable pub cert_of : ℕ → Finish → List (List ℕ) → Option Certificate

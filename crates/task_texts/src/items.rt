@@ -108,7 +108,8 @@ fn collects_in(row: &ByteRecord, line: u32) -> Result<bool, Refusal>
 
 /// Puts the operations of a row in place of others, in their memory: a collection has none.
 fn put_asked(ops: &mut OpList, head: &RowHead, field: &[u8]) -> Result<(), Refusal>
-    ensures event { Shows (λ _. asked_by head.now ops.new) result (event_of head.now.line head.now.collects head.now.task head.now.release head.now.due field.now) }
+    ensures event { Shows (λ _. asked_by head.now ops.new) result
+        (event_of head.now.line head.now.collects head.now.task head.now.release head.now.due field.now) }
     ensures pages { OnOk result (AsksPages (asked_by head.now ops.new)) }
     ensures own { OnOk result (HasOwnOps head.now ops.new) }
 {

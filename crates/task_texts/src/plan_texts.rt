@@ -5,7 +5,8 @@ ghost use Rattle.std.specs.List.{list_all};
 ghost use Rattle.toml.specs.Data.{as_array, as_table, get_member};
 ghost use Rattle.toml.specs.View.{table_view, items_view, view};
 ghost use Rattle.task_texts.specs.Readings.{Gives, Shows};
-ghost use Rattle.task_texts.specs.PlanText.{are_tables, common_of, numbers_of, plan_of, table_of, tables_or, task_of, task_times_of, tasks_of, times_in, top_of};
+ghost use Rattle.task_texts.specs.PlanText.{are_tables, common_of, numbers_of, plan_of, table_of, tables_or, task_of, task_times_of};
+ghost use Rattle.task_texts.specs.PlanText.{tasks_of, times_in, top_of};
 
 use crate::tables::{check_task_keys, check_top_keys, find, has_times, number_in};
 use slot_types::{Cause, Items, Refusal, TaskTimes};

@@ -3,7 +3,8 @@
 ghost use Rattle.std.specs.Prelude.{◌≡◌, ◌+◌, IfOk, IfErr, OnOk, option_map, true};
 ghost use Rattle.csv.specs.Records.{fields_of};
 ghost use Rattle.task_texts.specs.Readings.{IsOutside};
-ghost use Rattle.task_texts.specs.RecordsLeft.{IsReady, Loses, Stays, at_hand, is_found, record_line, records_fit, records_left, row_at_hand};
+ghost use Rattle.task_texts.specs.RecordsLeft.{IsReady, Loses, Stays, at_hand, is_found, record_line, records_fit, records_left};
+ghost use Rattle.task_texts.specs.RecordsLeft.{row_at_hand};
 ghost use Rattle.task_texts.specs.Marked.{is_within};
 ghost use Rattle.task_texts.specs.Rows.{rows_of};
 

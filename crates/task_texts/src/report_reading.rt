@@ -2,7 +2,8 @@
 
 ghost use Rattle.std.specs.Prelude.{◌≡◌, ◌≤◌, ℕ, List, true, IfOk, IfSome, OnOk, length, option_map};
 ghost use Rattle.task_texts.specs.Numbered.{AreNumbered};
-ghost use Rattle.task_texts.specs.ReportOf.{Reading, Reads, Tells, certs_for, certs_from, no_rows, report_from, report_of, rows_from, with_die};
+ghost use Rattle.task_texts.specs.ReportOf.{Reading, Reads, Tells, certs_for, certs_from, no_rows, report_from, report_of, rows_from};
+ghost use Rattle.task_texts.specs.ReportOf.{with_die};
 ghost use Rattle.task_texts.specs.RecordsLeft.{IsReady, Stays, record_line, records_fit, records_left};
 ghost use Rattle.task_texts.specs.Rows.{Fields};
 ghost use Rattle.task_texts.specs.Worst.{worst_of};
@@ -20,7 +21,8 @@ use std::io::Read;
 fn take_header<R: Read>(records: &mut Records<R>) -> Result<(), Refusal>
     requires ready { IsReady records.old }
     requires first { record_line records.old ≡ 1 }
-    ensures read { Reads report_from (λ _. rows_from no_rows (record_line records.new)) (records_left R.remaining records.old) (records_left R.remaining records.new) result }
+    ensures read { Reads report_from (λ _. rows_from no_rows (record_line records.new)) (records_left R.remaining records.old)
+        (records_left R.remaining records.new) result }
     ensures fits { OnOk result (Stays (records_fit R.remaining records.old) (records_fit R.remaining records.new)) }
     ensures ready { OnOk result (IsReady records.new) }
 {
@@ -36,7 +38,8 @@ fn take_header<R: Read>(records: &mut Records<R>) -> Result<(), Refusal>
 /// Takes the rows of all dies.
 fn take_rows<R: Read>(alloc: Global, records: &mut Records<R>) -> Result<Items<DieReport>, Refusal>
     requires { IsReady records.old }
-    ensures read { Reads (rows_from no_rows (record_line records.old)) (λ dies. certs_from dies (record_line records.new)) (records_left R.remaining records.old) (records_left R.remaining records.new) result }
+    ensures read { Reads (rows_from no_rows (record_line records.old)) (λ dies. certs_from dies (record_line records.new))
+        (records_left R.remaining records.old) (records_left R.remaining records.new) result }
     ensures fits { OnOk result (Stays (records_fit R.remaining records.old) (records_fit R.remaining records.new)) }
     ensures ready { OnOk result (IsReady records.new) }
     ensures numbered { IfOk result AreNumbered }
@@ -64,7 +67,9 @@ fn take_cert<R: Read>(
     die: &mut DieReport,
 ) -> Result<(), Refusal>
     requires { IsReady records.old }
-    ensures read { (more : ℕ → List Fields → Reading) → Reads (certs_for die.old more (worst_of die.old.rows) (record_line records.old)) (λ _ rest. with_die die.new (more (record_line records.new) rest)) (records_left R.remaining records.old) (records_left R.remaining records.new) result }
+    ensures read { (more : ℕ → List Fields → Reading) → Reads (certs_for die.old more (worst_of die.old.rows) (record_line records.old))
+        (λ _ rest. with_die die.new (more (record_line records.new) rest)) (records_left R.remaining records.old)
+        (records_left R.remaining records.new) result }
     ensures fits { OnOk result (Stays (records_fit R.remaining records.old) (records_fit R.remaining records.new)) }
     ensures ready { OnOk result (IsReady records.new) }
     ensures rows { OnOk result (die.new.rows ≡ die.old.rows) }

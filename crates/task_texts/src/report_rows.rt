@@ -5,7 +5,8 @@ ghost use Rattle.csv.specs.Records.{field_at, fields_of};
 ghost use Rattle.task_texts.specs.Header.{has_text};
 ghost use Rattle.task_texts.specs.Items.{field_or};
 ghost use Rattle.task_texts.specs.Number.{number_of};
-ghost use Rattle.task_texts.specs.ReportRows.{has_outcome, if_filled, is_done, is_placed, is_sound, is_timed, kind_in, lateness_in, number_at, row_in, sound_row};
+ghost use Rattle.task_texts.specs.ReportRows.{has_outcome, if_filled, is_done, is_placed, is_sound, is_timed, kind_in, lateness_in};
+ghost use Rattle.task_texts.specs.ReportRows.{number_at, row_in, sound_row};
 ghost use Rattle.task_texts.specs.Words.{list_of, page_of};
 
 use crate::numbers::number;

@@ -6,7 +6,8 @@ ghost use Rattle.std.specs.Prelude.{◌≡◌, ◌++◌, ◌∷◌, [], codes, d
 ghost use Rattle.std.specs.Fmt.{signed_decimal};
 ghost use Rattle.std.specs.Io.KnownBytes.{Appends};
 ghost use Rattle.csv.specs.Writing.{default_writer, row_text};
-ghost use Rattle.task_texts.specs.ReportText.{cert_fields, cert_numbers, cert_record, die_records, header_fields, kind_word, numbers_field, page_word, pages_field, records_text, report_text, row_fields, row_start};
+ghost use Rattle.task_texts.specs.ReportText.{cert_fields, cert_numbers, cert_record, die_records, header_fields, kind_word, numbers_field};
+ghost use Rattle.task_texts.specs.ReportText.{page_word, pages_field, records_text, report_text, row_fields, row_start};
 ghost use Rattle.task_texts.specs.Commas.{after_commas};
 ghost use Rattle.task_texts.specs.Lines.{line_text};
 ghost use Rattle.task_texts.specs.Writing.{AppendsPart};

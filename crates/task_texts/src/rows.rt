@@ -52,7 +52,8 @@ pub fn take_row<R: Read>(
     row: &mut ByteRecord,
 ) -> Result<bool, Refusal>
     requires { IsPlain rows.old }
-    ensures takes { IfOk result (λ found. TakesRow (rows_left R.remaining rows.old) (rows_left R.remaining rows.new) found (fields_of row.new)) }
+    ensures takes { IfOk result (λ found. TakesRow (rows_left R.remaining rows.old) (rows_left R.remaining rows.new) found
+        (fields_of row.new)) }
     ensures fits { IfOk result (λ found. KeepsFit (fits_left R.remaining rows.old) (fits_left R.remaining rows.new) found) }
     ensures plain { IfOk result (λ found. IsPlain rows.new) }
     ensures outside { IfErr result (λ e. IsOutside e) }

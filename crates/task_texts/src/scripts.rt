@@ -57,7 +57,8 @@ impl<R: Read> ScriptReader<R> {
         R: Drop,
         ensures dies { IfOk result (λ script. dies_of script ≡ length plan.now) }
         ensures slots { IfOk result (λ script. slots_of script ≡ slots) }
-        ensures script { IfOk result (λ script. script_left R.remaining script ≡ option_map (script_of (length plan.now) slots) (R.remaining reader)) }
+        ensures script { IfOk result (λ script. script_left R.remaining script
+            ≡ option_map (script_of (length plan.now) slots) (R.remaining reader)) }
         ensures bound { IfOk result (λ script. script_fits R.remaining script ≡ option_map (is_within 67108864) (R.remaining reader)) }
         ensures refused { IfErr result (λ refusal. refusal ≡ Refusal.NoMemory) }
     {

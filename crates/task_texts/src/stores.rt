@@ -4,7 +4,8 @@ ghost use Rattle.std.specs.Prelude.{◌≡◌, ◌↔◌, ◌<◌, ◌≤◌, �
 ghost use Rattle.plan_rules.specs.Bound.{IsShape, MeetsBound};
 ghost use Rattle.plan_rules.specs.Times.{PassesItsTimes};
 ghost use Rattle.task_texts.specs.PlanText.{plan_of};
-ghost use Rattle.task_texts.specs.Stores.{IsShaped, IsServed, IsStore, IsUsable, RefusesPlan, RefusesStore, caps_of, die_of, dies_of, shape_of, task_times_of, times_of};
+ghost use Rattle.task_texts.specs.Stores.{IsShaped, IsServed, IsStore, IsUsable, RefusesPlan, RefusesStore, caps_of, die_of, dies_of};
+ghost use Rattle.task_texts.specs.Stores.{shape_of, task_times_of, times_of};
 ghost use Rattle.task_texts.specs.declared.plan_texts.PlanNumbers.{PlanNumbers};
 
 use crate::plan_texts::{PlanNumbers, TaskNumbers, TopNumbers, plan_numbers};
@@ -119,7 +120,8 @@ fn is_usable(plan: &DiePlan) -> bool
 fn usable_dies(alloc: Global, plan: &PlanNumbers) -> Result<StorePlan, Refusal>
     ensures dies { IfOk result (λ store. store ≡ dies_of plan.now) }
     ensures usable { IfOk result (λ _. (die : ℕ) → die < plan.now.top.dies → IsUsable (die_of plan.now die)) }
-    ensures refused { IfErr result (λ refusal. (refusal ≡ Refusal.NoMemory) ⊎ ((refusal ≡ Refusal.BadPlan) × ((die : ℕ) × (die < plan.now.top.dies) × ¬ IsUsable (die_of plan.now die)))) }
+    ensures refused { IfErr result (λ refusal. (refusal ≡ Refusal.NoMemory)
+        ⊎ ((refusal ≡ Refusal.BadPlan) × ((die : ℕ) × (die < plan.now.top.dies) × ¬ IsUsable (die_of plan.now die)))) }
 {
     let mut store = StorePlan::new(alloc);
     for die in 0..plan.top.dies {

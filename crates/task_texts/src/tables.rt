@@ -5,7 +5,8 @@ ghost use Rattle.std.specs.List.{list_all};
 ghost use Rattle.std.specs.BTreeMap.{keys};
 ghost use Rattle.toml.specs.Data.{get_member, as_integer};
 ghost use Rattle.toml.specs.View.{table_view, view};
-ghost use Rattle.task_texts.specs.Tables.{checked_keys, has_member, has_only, has_task_keys, has_time_keys, has_times, has_top_keys, is_task_key, is_time_key, is_top_key, number_at, small_of};
+ghost use Rattle.task_texts.specs.Tables.{checked_keys, has_member, has_only, has_task_keys, has_time_keys, has_times, has_top_keys};
+ghost use Rattle.task_texts.specs.Tables.{is_task_key, is_time_key, is_top_key, number_at, small_of};
 
 use slot_types::{Cause, Refusal};
 use toml::{Table, Value};

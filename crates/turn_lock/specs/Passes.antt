@@ -21,19 +21,25 @@ module _ {E R A : Type 0} where
     pub about_is : v.about ≡ Some topic
     pub fit : fits topic w.seen
 
-  abbrev pub Answers : {Q S : Type 0} (fits : A → List (Entry E R) → Type 0) (tells : A → List (Entry E R) → Q → S → Type 0) → View E R A → Q → S → View E R A → Type 0
+  abbrev pub Answers : {Q S : Type 0} (fits : A → List (Entry E R) → Type 0) (tells : A → List (Entry E R) → Q → S → Type 0) → View E R A
+      → Q → S → View E R A → Type 0
   Answers fits tells v query answer w = (g : Grown fits v w) × tells g.topic w.seen query answer
 
-  abbrev pub Refuses : (fits : A → List (Entry E R) → Type 0) (gives : A → List (Entry E R) → ℕ → E → R → Type 0) → View E R A → E → R → View E R A → Type 0
+  abbrev pub Refuses : (fits : A → List (Entry E R) → Type 0) (gives : A → List (Entry E R) → ℕ → E → R → Type 0) → View E R A → E → R
+      → View E R A → Type 0
   Refuses fits gives v event reply w = (g : Grown fits v w) × gives g.topic w.seen v.number event reply
 
   -- what was seen grows by what others did, and then by this call
-  abbrev pub Accepts : (fits : A → List (Entry E R) → Type 0) (gives : A → List (Entry E R) → ℕ → E → R → Type 0) → View E R A → E → R → View E R A → Type 0
+  abbrev pub Accepts : (fits : A → List (Entry E R) → Type 0) (gives : A → List (Entry E R) → ℕ → E → R → Type 0) → View E R A → E → R
+      → View E R A → Type 0
   Accepts fits gives v event reply w = (u : View E R A) × (g : Grown fits v u)
-      × (w ≡ record u { seen = u.seen ++ entry v.number event reply ∷ [] }) × gives g.topic u.seen v.number event reply × fits g.topic w.seen
+      × (w ≡ record u { seen = u.seen ++ entry v.number event reply ∷ [] }) × gives g.topic u.seen v.number event reply
+      × fits g.topic w.seen
 
-  abbrev pub Replies : (accepts : R → Bool) (fits : A → List (Entry E R) → Type 0) (gives : A → List (Entry E R) → ℕ → E → R → Type 0) → View E R A → E → R → View E R A → Type 0
-  Replies accepts fits gives v event reply w = MatchBool (accepts reply) (Accepts fits gives v event reply w) (Refuses fits gives v event reply w)
+  abbrev pub Replies : (accepts : R → Bool) (fits : A → List (Entry E R) → Type 0) (gives : A → List (Entry E R) → ℕ → E → R → Type 0)
+      → View E R A → E → R → View E R A → Type 0
+  Replies accepts fits gives v event reply w = MatchBool (accepts reply) (Accepts fits gives v event reply w)
+      (Refuses fits gives v event reply w)
 
   -- a pass was made by this turn, with the next number
   abbrev pub Parts : (fits : A → List (Entry E R) → Type 0) → View E R A → View E R A → View E R A → Type 0
@@ -53,7 +59,8 @@ module _ {E R A : Type 0} where
   -- so many passes are neither this one nor joined into it; where there are none, the pass had seen all entries.
   -- There are none where the pass knew that no other is left
   abbrev pub IsOut : (fits : A → List (Entry E R) → Type 0) → View E R A → ℕ → View E R A → Type 0
-  IsOut fits v out w = Grown fits v w × (out + 1 + length w.joined ≡ w.made) × (out ≡ 0 → w.sole ≡ true) × (out ≡ 0 → w.seen ≡ v.seen) × (v.sole ≡ true → out ≡ 0)
+  IsOut fits v out w = Grown fits v w × (out + 1 + length w.joined ≡ w.made) × (out ≡ 0 → w.sole ≡ true) × (out ≡ 0 → w.seen ≡ v.seen)
+      × (v.sole ≡ true → out ≡ 0)
 
   -- the lock stays open: so many passes are out, and some are
   abbrev pub StaysOpen : (fits : A → List (Entry E R) → Type 0) → View E R A → Refusal → View E R A → Type 0

@@ -1,5 +1,6 @@
 -- The rule of the lock's table, which holds between any two steps.
--- Word 0 is twice the number of entries, and 1 more while a pass has the turn. Slot 0 has the book, and the count of passes made, while no pass has the turn.
+-- Word 0 is twice the number of entries, and 1 more while a pass has the turn. Slot 0 has the book, and the count of passes made, while no
+-- pass has the turn.
 use Rattle.std.specs.Prelude.{◌≡◌, ℕ, ◌+◌, ◌*◌, ◌<◌, ◌≤◌, true, List, [], ◌∷◌, ◌++◌, length, Option, Some}
 use mathlib.Core.Option.{some}
 use mathlib.Core.Option as maybe
@@ -12,8 +13,10 @@ use Rattle.turn_lock.specs.Log.{times, once_below, total, StartsWith, calls_by, 
 use Rattle.turn_lock.specs.Views.{numbers_of}
 
 module _ {E R A : Type 0} where
-  -- what the pass of seat `id` knows, where these are the entries and the count of passes made. The bit is 1 while the seat `holder` has the turn
-  pub record Knows (fits : A → List (Entry E R) → Type 0) (log : List (Entry E R)) (count : ℕ) (about : A) (bit holder id : ℕ) (v : View E R A) : Type 0 where
+  -- what the pass of seat `id` knows, where these are the entries and the count of passes made. The bit is 1 while the seat `holder` has
+  -- the turn
+  pub record Knows (fits : A → List (Entry E R) → Type 0) (log : List (Entry E R)) (count : ℕ) (about : A) (bit holder id : ℕ)
+      (v : View E R A) : Type 0 where
     pub about_is : v.live ≡ true → v.about ≡ Some about
     pub fit : v.live ≡ true → fits about v.seen
     pub below : v.made ≤ count

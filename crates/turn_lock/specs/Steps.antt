@@ -34,7 +34,8 @@ module _ {E R A : Type 0} where
 
 module _ {E R A B : Type 0} (log : B → List (Entry E R)) (about : B → A) where
   -- a look: the pass has seen all entries
-  abbrev pub looked : (A → List (Entry E R) → Type 0) → Step (Option (Kept B)) → Me (Option (Kept B)) (View E R A) → ℕ → Me (Option (Kept B)) (View E R A) → Type 0
+  abbrev pub looked : (A → List (Entry E R) → Type 0) → Step (Option (Kept B)) → Me (Option (Kept B)) (View E R A) → ℕ
+      → Me (Option (Kept B)) (View E R A) → Type 0
   looked fits st m r m' = (m'.1 ≡ m.1)
       × ((more : List (Entry E R)) × (m'.0 ≡ record m.0 { seen = m.0.seen ++ more }) × NoneBy (numbers_of m.0) more)
       × ((b : ℕ) × (b < 2) × (r ≡ 2 * length m'.0.seen + b))
@@ -56,7 +57,8 @@ module _ {E R A B : Type 0} (log : B → List (Entry E R)) (about : B → A) whe
     pub alone : v.sole ≡ true → length (numbers_of v) ≡ k.made
 
   -- a take that finds another number than it looked for changes nothing
-  abbrev pub taken : (A → List (Entry E R) → Type 0) → Step (Option (Kept B)) → Me (Option (Kept B)) (View E R A) → ℕ → Me (Option (Kept B)) (View E R A) → Type 0
+  abbrev pub taken : (A → List (Entry E R) → Type 0) → Step (Option (Kept B)) → Me (Option (Kept B)) (View E R A) → ℕ
+      → Me (Option (Kept B)) (View E R A) → Type 0
   taken fits st m r m' = (r ≡ st.first → (k : Kept B) × (m'.1 ≡ (0, Some k) ∷ m.1) × Wins fits m.0 k m'.0) × (r ≢ st.first → m' ≡ m)
 
   -- a release: the pass has seen the book that it puts back

@@ -45,8 +45,26 @@ module _ {E R A : Type 0} where
 
   -- the pass that a split makes: it has the next number
   abbrev pub right_part : View E R A → View E R A
-  right_part v = record { number = v.made; seen = v.seen; joined = []; made = v.made + 1; told = []; about = v.about; live = true; turn = false; sole = false }
+  right_part v = record {
+    number = v.made;
+    seen = v.seen;
+    joined = [];
+    made = v.made + 1;
+    told = [];
+    about = v.about;
+    live = true;
+    turn =
+        false;
+    sole = false;
+  }
 
   -- the first of two passes, once the second is joined into it
   abbrev pub joined_view : View E R A → View E R A → View E R A
-  joined_view v w = record v { seen = longer v.seen w.seen; told = shorter v.seen w.seen; joined = v.joined ++ w.number ∷ w.joined; made = max v.made w.made; sole = false }
+  joined_view v w = record v {
+    seen = longer v.seen w.seen;
+    told = shorter v.seen w.seen;
+    joined = v.joined ++ w.number
+        ∷ w.joined;
+    made = max v.made w.made;
+    sole = false;
+  }

@@ -32,11 +32,14 @@ zero_at n i =
 none_in : (words n count block : ℕ) → is_in words (replicate n 0) count block ≡ 0
 none_in words n count block = ap (λ (w : ℕ). bit_at w (block % 64)) (zero_at n (count * words + block / 64)) ∙ bit_at-zero (block % 64)
 
-first_none : (counts erases : List (Option ℕ)) (count : ℕ) (first : Option ℕ) → first ≡ None → ((block : ℕ) → count_of counts block ≡ None) → IsFirstOf counts erases count first
+first_none : (counts erases : List (Option ℕ)) (count : ℕ) (first : Option ℕ) → first ≡ None → ((block : ℕ) → count_of counts block ≡ None)
+    → IsFirstOf counts erases count first
 first_none counts erases count None is none = λ block counted. let no = none block in absurd (cc)
 first_none counts erases count (Some first) is none = absurd (cc)
 
-pub fresh_lists : (pages blocks : ℕ) → blocks < 2 ^ 32 → pages < 2 ^ 32 → AreLists pages (replicate blocks None) (replicate blocks None) (replicate (pages + 1) None) (words_for blocks) (replicate ((pages + 1) * words_for blocks) 0) 0
+pub fresh_lists : (pages blocks : ℕ) → blocks < 2 ^ 32 → pages < 2 ^ 32
+    → AreLists pages (replicate blocks None) (replicate blocks None) (replicate (pages + 1) None) (words_for blocks)
+    (replicate ((pages + 1) * words_for blocks) 0) 0
 fresh_lists pages blocks few_blocks few_pages = record {
   few_blocks = omega (arith, length-replicate {A = Option ℕ} blocks None, few_blocks);
   few_pages = few_pages;
@@ -50,6 +53,7 @@ fresh_lists pages blocks few_blocks few_pages = record {
       let out = none_in (words_for blocks) ((pages + 1) * words_for blocks) count block in
       let none = none_at blocks block in
       (λ is. absurd (omega (arith, out, is)), λ is. absurd (cc));
-  firsts_are = λ count fits. first_none (replicate blocks None) (replicate blocks None) count (get_or (replicate (pages + 1) None) count None) (none_at (pages + 1) count) (none_at blocks);
+  firsts_are = λ count fits. first_none (replicate blocks None) (replicate blocks None) count
+      (get_or (replicate (pages + 1) None) count None) (none_at (pages + 1) count) (none_at blocks);
   least_is = λ block count is. let none = none_at blocks block in absurd (cc);
 }

@@ -6,7 +6,8 @@ use Rattle.victim_pick.specs.Search.{AreEmpty, IsFirstFrom}
 use Rattle.victim_pick.specs.Lists.{AreLists, IsFirstOf}
 
 -- an empty list has no candidate
-none_with : (counts erases : List (Option ℕ)) (count : ℕ) (first : Option ℕ) → first ≡ None → IsFirstOf counts erases count first → (block : ℕ) → count_of counts block ≡ Some count → ⊥
+none_with : (counts erases : List (Option ℕ)) (count : ℕ) (first : Option ℕ) → first ≡ None → IsFirstOf counts erases count first
+    → (block : ℕ) → count_of counts block ≡ Some count → ⊥
 none_with counts erases count None none is = is
 none_with counts erases count (Some first) none is = λ block counted. absurd (cc)
 
@@ -16,31 +17,42 @@ uncounted None none = refl
 uncounted (Some count) none = absurd (none count refl)
 
 -- a walk to the end has seen that there is no candidate
-pub has_none : (pages : ℕ) (counts erases firsts : List (Option ℕ)) (words : ℕ) (bits : List ℕ) (least : ℕ) → AreLists pages counts erases firsts words bits least → AreEmpty firsts least (length firsts) → HasNone counts
+pub has_none : (pages : ℕ) (counts erases firsts : List (Option ℕ)) (words : ℕ) (bits : List ℕ) (least : ℕ)
+    → AreLists pages counts erases firsts words bits least → AreEmpty firsts least (length firsts) → HasNone counts
 has_none pages counts erases firsts words bits least are empty =
     λ block. uncounted (count_of counts block) (λ count is.
     let fits : count ≤ pages = are.fit block count is in
-    none_with counts erases count (get_or firsts count None) (empty count (are.least_is block count is) (omega (arith, fits, are.firsts_len))) (are.firsts_are count fits) block is)
+    none_with counts erases count (get_or firsts count None)
+    (empty count (are.least_is block count is) (omega (arith, fits, are.firsts_len))) (are.firsts_are count fits) block is)
 
 -- no candidate has a count below the one that the walk found
-pub none_before : (pages : ℕ) (counts erases firsts : List (Option ℕ)) (words : ℕ) (bits : List ℕ) (least count block : ℕ) → AreLists pages counts erases firsts words bits least → IsFirstFrom firsts least count block → (other fewer : ℕ) → count_of counts other ≡ Some fewer → count ≤ fewer
+pub none_before : (pages : ℕ) (counts erases firsts : List (Option ℕ)) (words : ℕ) (bits : List ℕ) (least count block : ℕ)
+    → AreLists pages counts erases firsts words bits least → IsFirstFrom firsts least count block → (other fewer : ℕ)
+    → count_of counts other ≡ Some fewer → count ≤ fewer
 none_before pages counts erases firsts words bits least count block are found other fewer is =
     elim (cases_lt fewer count) [
       | inr from_on ↦ from_on
-      | inl before ↦ absurd (none_with counts erases fewer (get_or firsts fewer None) (found.empty fewer (are.least_is other fewer is) before) (are.firsts_are fewer (are.fit other fewer is)) other is)
+      | inl before ↦ absurd (none_with counts erases fewer (get_or firsts fewer None)
+          (found.empty fewer (are.least_is other fewer is) before) (are.firsts_are fewer (are.fit other fewer is)) other is)
     ]
 
-first_is : (counts erases : List (Option ℕ)) (count block : ℕ) (first : Option ℕ) → first ≡ Some block → IsFirstOf counts erases count first → IsFirstOf counts erases count (Some block)
+first_is : (counts erases : List (Option ℕ)) (count block : ℕ) (first : Option ℕ) → first ≡ Some block → IsFirstOf counts erases count first
+    → IsFirstOf counts erases count (Some block)
 first_is counts erases count block first is = subst (λ (f : Option ℕ). IsFirstOf counts erases count f) is
 
 -- what the walk found is the first block of its count
-pub found_first : (pages : ℕ) (counts erases firsts : List (Option ℕ)) (words : ℕ) (bits : List ℕ) (least count block : ℕ) → AreLists pages counts erases firsts words bits least → IsFirstFrom firsts least count block → IsFirstOf counts erases count (Some block)
+pub found_first : (pages : ℕ) (counts erases firsts : List (Option ℕ)) (words : ℕ) (bits : List ℕ) (least count block : ℕ)
+    → AreLists pages counts erases firsts words bits least → IsFirstFrom firsts least count block
+    → IsFirstOf counts erases count (Some block)
 found_first pages counts erases firsts words bits least count block are found =
-    first_is counts erases count block (get_or firsts count None) found.first (are.firsts_are count (omega (arith, found.below, are.firsts_len)))
+    first_is counts erases count block (get_or firsts count None) found.first
+    (are.firsts_are count (omega (arith, found.below, are.firsts_len)))
 
-pub least_found : (pages : ℕ) (counts erases firsts : List (Option ℕ)) (words : ℕ) (bits : List ℕ) (least count block : ℕ) → AreLists pages counts erases firsts words bits least → IsFirstFrom firsts least count block → IsLeast counts erases block
+pub least_found : (pages : ℕ) (counts erases firsts : List (Option ℕ)) (words : ℕ) (bits : List ℕ) (least count block : ℕ)
+    → AreLists pages counts erases firsts words bits least → IsFirstFrom firsts least count block → IsLeast counts erases block
 least_found pages counts erases firsts words bits least count block are found =
-    let first : IsFirstOf counts erases count (Some block) = found_first pages counts erases firsts words bits least count block are found in
+    let first : IsFirstOf counts erases count (Some block) = found_first pages counts erases firsts words bits least count block are found
+    in
     record {
       valid = count;
       counted = first.0;
@@ -50,7 +62,9 @@ least_found pages counts erases firsts words bits least count block are found =
     }
 
 -- the walk may begin at what it found
-pub least_raised : (pages : ℕ) (counts erases firsts : List (Option ℕ)) (words : ℕ) (bits : List ℕ) (least count block : ℕ) → AreLists pages counts erases firsts words bits least → IsFirstFrom firsts least count block → AreLists pages counts erases firsts words bits count
+pub least_raised : (pages : ℕ) (counts erases firsts : List (Option ℕ)) (words : ℕ) (bits : List ℕ) (least count block : ℕ)
+    → AreLists pages counts erases firsts words bits least → IsFirstFrom firsts least count block
+    → AreLists pages counts erases firsts words bits count
 least_raised pages counts erases firsts words bits least count block are found = record {
   few_blocks = are.few_blocks;
   few_pages = are.few_pages;

@@ -7,11 +7,13 @@ use Rattle.victim_pick.specs.Sets.{NotAfter, is_in, words_for}
 -- of the blocks with a count the one that goes first, if any has it
 abbrev pub IsFirstOf : List (Option ℕ) → List (Option ℕ) → ℕ → Option ℕ → Type 0
 IsFirstOf counts erases count None = (block : ℕ) → count_of counts block ≡ Some count → ⊥
-IsFirstOf counts erases count (Some first) = (count_of counts first ≡ Some count) × ((block : ℕ) → count_of counts block ≡ Some count → NotAfter erases first block)
+IsFirstOf counts erases count (Some first) = (count_of counts first ≡ Some count)
+    × ((block : ℕ) → count_of counts block ≡ Some count → NotAfter erases first block)
 
 -- a set of a count has the blocks with that count
 abbrev pub AreSets : ℕ → List (Option ℕ) → ℕ → List ℕ → Type 0
-AreSets pages counts words bits = (count block : ℕ) → count ≤ pages → block < words * 64 → (is_in words bits count block ≡ 1) ↔ (count_of counts block ≡ Some count)
+AreSets pages counts words bits = (count block : ℕ) → count ≤ pages → block < words * 64 → (is_in words bits count block ≡ 1)
+    ↔ (count_of counts block ≡ Some count)
 
 -- the sets and the first blocks agree with the counts
 pub record AreLists (pages : ℕ) (counts erases firsts : List (Option ℕ)) (words : ℕ) (bits : List ℕ) (least : ℕ) : Type 0 where

@@ -47,4 +47,5 @@ pub record IsFirstWith (word start : ℕ) (erases : List (Option ℕ)) (one firs
 abbrev pub IsFirstBelow : ℕ → ℕ → List ℕ → List (Option ℕ) → ℕ → Option ℕ → Type 0
 IsFirstBelow limit words bits erases count None = (block : ℕ) → block < limit → is_in words bits count block ≡ 0
 IsFirstBelow limit words bits erases count (Some first) =
-    (first < limit) × (is_in words bits count first ≡ 1) × ((other : ℕ) → other < limit → is_in words bits count other ≡ 1 → NotAfter erases first other)
+    (first < limit) × (is_in words bits count first ≡ 1)
+    × ((other : ℕ) → other < limit → is_in words bits count other ≡ 1 → NotAfter erases first other)

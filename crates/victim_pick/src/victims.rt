@@ -1,6 +1,7 @@
 //! The closed blocks that no collection has taken, each with its count of valid pages.
 
-ghost use Rattle.std.specs.Prelude.{◌≡◌, ◌≢◌, ℕ, ◌+◌, ◌-◌, ◌*◌, ◌<◌, ◌≤◌, ◌↔◌, Some, None, length, replicate, slice_index_or, slice_set, IsNone, IsSome, IsSomeAnd, IfOk, IfErr, IfSome, IfNone};
+ghost use Rattle.std.specs.Prelude.{◌≡◌, ◌≢◌, ℕ, ◌+◌, ◌-◌, ◌*◌, ◌<◌, ◌≤◌, ◌↔◌, Some, None, length, replicate, slice_index_or, slice_set};
+ghost use Rattle.std.specs.Prelude.{IsNone, IsSome, IsSomeAnd, IfOk, IfErr, IfSome, IfNone};
 ghost use Rattle.victim_pick.specs.Candidates.{count_of, lowered, HasNone, IsLeast, without};
 ghost use Rattle.victim_pick.specs.Search.{AreEmpty, IsFirstFrom};
 ghost use Rattle.victim_pick.specs.Sets.{HasSet, IsFirstBelow};
@@ -49,7 +50,8 @@ impl Model for Victims {
 impl Victims {
     /// No candidate among `blocks` blocks of `pages` pages each. Refused with `NoMemory` alone.
     pub fn new(alloc: Global, blocks: u32, pages: u32) -> Result<Victims, Refusal>
-        ensures ok { IfOk result (λ victims. victims ≡ record { pages = pages; counts = replicate blocks None; erases = replicate blocks None }) }
+        ensures ok { IfOk result (λ victims. victims ≡ record
+            { pages = pages; counts = replicate blocks None; erases = replicate blocks None }) }
         ensures err { IfErr result (λ refusal. refusal ≡ Refusal.NoMemory) }
     {
         Ok(Victims {
@@ -67,7 +69,11 @@ impl Victims {
         requires in_range { block < length self.old.counts }
         requires open { count_of self.old.counts block ≡ None }
         requires fits { valid ≤ self.old.pages }
-        ensures { self.new ≡ record self.old { counts = slice_set self.old.counts block (Some valid); erases = slice_set self.old.erases block (Some erases) } }
+        ensures { self.new ≡ record self.old {
+          counts = slice_set self.old.counts block (Some valid);
+          erases = slice_set self.old.erases
+              block (Some erases);
+        } }
     {
         self.counts[block as usize] = Some(valid);
         self.erases[block as usize] = Some(erases);
@@ -119,7 +125,11 @@ impl Victims {
         requires { count_of self.old.counts block ≡ Some valid }
         ensures fits { valid ≤ self.old.pages }
         ensures kept { IsSome (slice_index_or self.old.erases block None) }
-        ensures taken { self.new ≡ record self.old { counts = slice_set self.old.counts block None; erases = slice_set self.old.erases block None } }
+        ensures taken { self.new ≡ record self.old {
+          counts = slice_set self.old.counts block None;
+          erases = slice_set self.old.erases block
+              None;
+        } }
     {
         self.counts[block as usize] = None;
         self.erases[block as usize] = None;

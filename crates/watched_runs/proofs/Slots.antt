@@ -11,7 +11,8 @@ pub now_after : (past : Log) (reply : SlotReply) → now (slot_entry reply ∷ p
 now_after past reply = length-append (carried past) (reply.ran ∷ [])
 
 -- the counts of a log are then those of the log with one slot more
-pub worn_after : (before after : DiePlan) (past log : Log) (reply : SlotReply) (old new : Tally) → log ≡ slot_entry reply ∷ past → after ≡ before
+pub worn_after : (before after : DiePlan) (past log : Log) (reply : SlotReply) (old new : Tally) → log ≡ slot_entry reply ∷ past → after
+    ≡ before
     → ((blocks : ℕ) (earlier : Log) → IsWearOf blocks earlier old → IsWearOf blocks (slot_entry reply ∷ earlier) new)
     → IsWearOf before.shape.blocks past old → IsWearOf after.shape.blocks log new
 worn_after before after past log reply old new logged same noted worn = rw (logged, same) (noted before.shape.blocks past worn)

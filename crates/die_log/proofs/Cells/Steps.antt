@@ -1,5 +1,6 @@
 -- The acts of a die are programs and erase slots.
-use Rattle.std.proofs.Common.{◌≡◌, ◌≢◌, ◌⊎◌, ℕ, zero, suc, ◌+◌, ◌-◌, ◌<◌, ◌≤◌, ◌==◌, nat_lt, Bool, true, false, cond, List, [], ◌∷◌, Option, Some, None, refl, ap, sym, ◌∙◌, subst, inl, inr, arith, length, get_or, slice_set, length-set, replicate}
+use Rattle.std.proofs.Common.{◌≡◌, ◌≢◌, ◌⊎◌, ℕ, zero, suc, ◌+◌, ◌-◌, ◌<◌, ◌≤◌, ◌==◌, nat_lt, Bool, true, false, cond, List, [], ◌∷◌, Option}
+use Rattle.std.proofs.Common.{Some, None, refl, ap, sym, ◌∙◌, subst, inl, inr, arith, length, get_or, slice_set, length-set, replicate}
 use Rattle.std.specs.List.{position, position_or_len, sum_by}
 use Rattle.std.proofs.lemmas.List.Sums.{fails_before_first, sum_by-cons}
 use Rattle.std.proofs.lemmas.List.{length-replicate, get_or-set_same, get_or-set_other, get_or_past}
@@ -12,7 +13,8 @@ use Rattle.slot_types.specs.declared.plans.DiePlan.{DiePlan}
 use Rattle.slot_types.specs.declared.acts.Act.{Act}
 use Rattle.slot_types.specs.declared.acts.Act.TheVariants as does
 use Rattle.slot_types.specs.declared.pages.Place.{Place}
-use Rattle.die_log.specs.Flash.{Cells, Block, free_block, block_at, is_open, first_of, open_block, programmed_in, programmed, free_in, erased_once, cells_after, fresh_cells}
+use Rattle.die_log.specs.Flash.{Cells, Block, free_block, block_at, is_open, first_of, open_block, programmed_in, programmed, free_in}
+use Rattle.die_log.specs.Flash.{erased_once, cells_after, fresh_cells}
 use Rattle.die_log.specs.Sound.{IsOpen, IsClosed, IsUnplaced, AreSound, IsProgram, IsTrim, IsEraseSlot, TakesNext, IsStep, HasRoom}
 use Rattle.die_log.proofs.Cells.Acts.{program_sound, trim_sound, erase_sound}
 
@@ -26,11 +28,13 @@ by_first p xs k h = by_test (nat_lt k (length xs)) refl h
     by_test false e g = ltb-false k (length xs) e
 
 -- where no place is found, nothing passes
-pub no_position : {X : Type 0} (p : X → Bool) (xs : List X) → position p xs ≡ None → (i : ℕ) (d : X) → i < length xs → p (get_or xs i d) ≡ false
+pub no_position : {X : Type 0} (p : X → Bool) (xs : List X) → position p xs ≡ None → (i : ℕ) (d : X) → i < length xs → p (get_or xs i d)
+    ≡ false
 no_position p xs h i d lt = fails_before_first p xs i d (omega (arith, by_first p xs (position_or_len p xs) h))
 
 -- where one passes, a place is found
-pub some_position : {X : Type 0} (p : X → Bool) (xs : List X) (i : ℕ) (d : X) → i < length xs → p (get_or xs i d) ≡ true → (k : ℕ) × (position p xs ≡ Some k)
+pub some_position : {X : Type 0} (p : X → Bool) (xs : List X) (i : ℕ) (d : X) → i < length xs → p (get_or xs i d) ≡ true → (k : ℕ)
+    × (position p xs ≡ Some k)
 some_position p xs i d lt h = by_found (position p xs) refl
   where
     by_found : (o : Option ℕ) → position p xs ≡ o → (k : ℕ) × (o ≡ Some k)
@@ -50,7 +54,8 @@ moved_to : (page b : ℕ) (c : Cells) (p : ℕ) (q : Place)
     → ((p ≡ page) × (q.block ≡ b) × (q.page ≡ (block_at c b).filled)) ⊎ ((p ≢ page) × (place_of c.places p ≡ Some q))
 moved_to page b c p q e (inl is) (inl lt) =
     let new : Option Place = Some (record { block = b; page = (block_at c b).filled }) in
-    let here : place_of (slice_set c.places page new) page ≡ Some q = subst (λ (x : ℕ). place_of (slice_set c.places page new) x ≡ Some q) is e in
+    let here : place_of (slice_set c.places page new) page
+    ≡ Some q = subst (λ (x : ℕ). place_of (slice_set c.places page new) x ≡ Some q) is e in
     let h = new_place page b (block_at c b).filled q (sym (get_or-set_same c.places page new None lt) ∙ here) in
     inl (is, h.0, h.1)
 moved_to page b c p q e (inl is) (inr past) =
@@ -59,7 +64,8 @@ moved_to page b c p q e (inl is) (inr past) =
 moved_to page b c p q e (inr other) h = inr (other, sym (get_or-set_other c.places page p _ None other) ∙ e)
 
 -- a block that has room, and but for which none is open, may be programmed
-pub program_is : (plan : DiePlan) (page b : ℕ) (c : Cells) → b < length c.blocks → (block_at c b).filled < plan.shape.pages → ((a : ℕ) → IsOpen plan c a → a ≡ b)
+pub program_is : (plan : DiePlan) (page b : ℕ) (c : Cells) → b < length c.blocks → (block_at c b).filled < plan.shape.pages
+    → ((a : ℕ) → IsOpen plan c a → a ≡ b)
     → IsProgram plan page b c (programmed_in page (Some b) c)
 program_is plan page b c lt room alone = record {
   blocks = length-set c.blocks b _;
@@ -74,15 +80,18 @@ program_is plan page b c lt room alone = record {
 
 -- The open block
 
-pub within_blocks : (plan : DiePlan) (c : Cells) (a : ℕ) → 0 < (block_at c a).filled → (a < length c.blocks) ⊎ (length c.blocks ≤ a) → a < length c.blocks
+pub within_blocks : (plan : DiePlan) (c : Cells) (a : ℕ) → 0 < (block_at c a).filled → (a < length c.blocks) ⊎ (length c.blocks ≤ a) → a
+    < length c.blocks
 within_blocks plan c a h (inl lt) = lt
-within_blocks plan c a h (inr past) = let none : (block_at c a).filled ≡ 0 = ap (λ (s : Block). s.filled) (get_or_past c.blocks a free_block past) in absurd (omega arith)
+within_blocks plan c a h (inr past) = let none : (block_at c a).filled
+    ≡ 0 = ap (λ (s : Block). s.filled) (get_or_past c.blocks a free_block past) in absurd (omega arith)
 
 test_is : (plan : DiePlan) (s : Block) → 0 < s.filled → s.filled < plan.shape.pages → is_open plan s ≡ true
 test_is plan s h k = grind (arith, nat_tests)
 
 test_says : (plan : DiePlan) (s : Block) → is_open plan s ≡ true → (0 < s.filled) × (s.filled < plan.shape.pages)
-test_says plan s h = let k = and_parts (nat_lt 0 s.filled) (nat_lt s.filled plan.shape.pages) h in (ltb-true 0 s.filled k.0, ltb-true s.filled plan.shape.pages k.1)
+test_says plan s h = let k = and_parts (nat_lt 0 s.filled) (nat_lt s.filled plan.shape.pages) h in
+    (ltb-true 0 s.filled k.0, ltb-true s.filled plan.shape.pages k.1)
 
 -- an open block is found
 opened_found : (plan : DiePlan) (c : Cells) (a : ℕ) → IsOpen plan c a → position (is_open plan) c.blocks ≡ None → ⊥
@@ -92,7 +101,8 @@ opened_found plan c a h e =
     let passes : is_open plan (block_at c a) ≡ true = test_is plan (block_at c a) h.0 h.1 in
     true≢false (sym passes ∙ fails)
 
-open_by : (plan : DiePlan) (c : Cells) (b : ℕ) (o f : Option ℕ) → 0 < plan.shape.pages → AreSound plan c → position (is_open plan) c.blocks ≡ o → position (λ s. s.filled == 0) c.blocks ≡ f
+open_by : (plan : DiePlan) (c : Cells) (b : ℕ) (o f : Option ℕ) → 0 < plan.shape.pages → AreSound plan c → position (is_open plan) c.blocks
+    ≡ o → position (λ s. s.filled == 0) c.blocks ≡ f
     → first_of o f ≡ Some b → TakesNext plan c b
 open_by plan c b (Some a) f more s e g h =
     let is : a ≡ b = same_Some a b h in
@@ -104,7 +114,8 @@ open_by plan c b None f more s e g h =
     let zero : (block_at c b).filled ≡ 0 = eqb-true (block_at c b).filled 0 k.1 in
     record { stands = k.0; room = omega arith; alone = λ x p. absurd (opened_found plan c x p e) }
 
-pub open_is : (plan : DiePlan) (c : Cells) (b : ℕ) → 0 < plan.shape.pages → AreSound plan c → open_block plan c ≡ Some b → TakesNext plan c b
+pub open_is : (plan : DiePlan) (c : Cells) (b : ℕ) → 0 < plan.shape.pages → AreSound plan c → open_block plan c ≡ Some b
+    → TakesNext plan c b
 open_is plan c b more s h = open_by plan c b (position (is_open plan) c.blocks) (position (λ x. x.filled == 0) c.blocks) more s refl refl h
 
 -- a free page shows an open block
@@ -113,7 +124,8 @@ positive_at : {X : Type 0} (f : X → ℕ) (xs : List X) → 0 < sum_by f xs →
 positive_at f [] h = absurd (omega arith)
 positive_at {X = X} f (x ∷ xs) h = by_head (f x) refl (λ k. positive_at f xs k)
   where
-    by_head : (n : ℕ) → f x ≡ n → (0 < sum_by f xs → (k : ℕ) × (k < length xs) × ((d : X) → 0 < f (get_or xs k d))) → (k : ℕ) × (k < length (x ∷ xs)) × ((d : X) → 0 < f (get_or (x ∷ xs) k d))
+    by_head : (n : ℕ) → f x ≡ n → (0 < sum_by f xs → (k : ℕ) × (k < length xs) × ((d : X) → 0 < f (get_or xs k d))) → (k : ℕ)
+        × (k < length (x ∷ xs)) × ((d : X) → 0 < f (get_or (x ∷ xs) k d))
     by_head zero e again = let r = again (omega (arith, sum_by-cons f x xs)) in (suc r.0, omega (arith, r.1), r.2)
     by_head (suc n) e again = (0, omega arith, λ d. omega arith)
 
@@ -129,7 +141,8 @@ open_from : (plan : DiePlan) (c : Cells) (a : ℕ) → a < length c.blocks → (
 open_from plan c a lt room (Some b) f e g = (b, refl)
 open_from plan c a lt room None (Some b) e g = (b, refl)
 open_from plan c a lt room None None e g =
-    let zero_test : ((get_or c.blocks a free_block).filled == 0) ≡ false = no_position (λ (s : Block). s.filled == 0) c.blocks g a free_block lt in
+    let zero_test : ((get_or c.blocks a free_block).filled == 0)
+    ≡ false = no_position (λ (s : Block). s.filled == 0) c.blocks g a free_block lt in
     let filled : (block_at c a).filled ≡ 0 → ⊥ = λ z. eqb-false (block_at c a).filled 0 zero_test z in
     absurd (opened_found plan c a (some_filled (block_at c a).filled filled, room) e)
   where
@@ -146,12 +159,14 @@ opens plan c h =
 
 -- Steps
 
-pub erase_slot_is : (plan : DiePlan) (b : ℕ) (c : Cells) → b < length c.blocks → IsEraseSlot plan b c (record c { blocks = slice_set c.blocks b (erased_once plan (block_at c b)) })
+pub erase_slot_is : (plan : DiePlan) (b : ℕ) (c : Cells) → b < length c.blocks
+    → IsEraseSlot plan b c (record c { blocks = slice_set c.blocks b (erased_once plan (block_at c b)) })
 erase_slot_is plan b c lt = record {
   blocks = length-set c.blocks b _;
   places = refl;
   others = λ a other. get_or-set_other c.blocks b a _ free_block other;
-  slot = subst (Slot (block_at c b)) (sym (get_or-set_same c.blocks b (erased_once plan (block_at c b)) free_block lt)) (by_test (block_at c b) ((block_at c b).erasing + 1 == plan.shape.erase_slots) refl);
+  slot = subst (Slot (block_at c b)) (sym (get_or-set_same c.blocks b (erased_once plan (block_at c b)) free_block lt))
+      (by_test (block_at c b) ((block_at c b).erasing + 1 == plan.shape.erase_slots) refl);
 }
   where
     Slot : Block → Block → Type 0
@@ -163,11 +178,15 @@ erase_slot_is plan b c lt = record {
     by_test s true e = inl (eqb-true (s.erasing + 1) plan.shape.erase_slots e, refl, refl)
     by_test s false e = inr (eqb-false (s.erasing + 1) plan.shape.erase_slots e, refl, refl)
 
-program_step : (plan : DiePlan) (page : ℕ) (c : Cells) → 0 < plan.shape.pages → AreSound plan c → 0 < sum_by (free_in plan) c.blocks → (b : ℕ) × IsProgram plan page b c (programmed plan page c)
+program_step : (plan : DiePlan) (page : ℕ) (c : Cells) → 0 < plan.shape.pages → AreSound plan c → 0 < sum_by (free_in plan) c.blocks
+    → (b : ℕ) × IsProgram plan page b c (programmed plan page c)
 program_step plan page c more s free =
     let o = opens plan c free in
-    let k = open_is plan c o.0 more s o.1 in
-    (o.0, subst (λ (x : Option ℕ). IsProgram plan page o.0 c (programmed_in page x c)) (sym o.1) (program_is plan page o.0 c k.stands k.room k.alone))
+    let k = open_is plan c o.0 more s o.1 in (
+      o.0,
+      subst (λ (x : Option ℕ). IsProgram plan page o.0 c (programmed_in page x c)) (sym o.1)
+          (program_is plan page o.0 c k.stands k.room k.alone),
+    )
 
 abbrev nowhere : Option Place
 nowhere = None
@@ -178,9 +197,11 @@ trimmed_gone places page = elim (cases_lt page (length places)) [
   | inr past ↦ get_or_past (slice_set places page nowhere) page None (omega (arith, length-set places page nowhere))
 ]
 
-trimmed_others : (places : List (Option Place)) (page p : ℕ) (q : Place) → place_of (slice_set places page nowhere) p ≡ Some q → place_of places p ≡ Some q
+trimmed_others : (places : List (Option Place)) (page p : ℕ) (q : Place) → place_of (slice_set places page nowhere) p ≡ Some q
+    → place_of places p ≡ Some q
 trimmed_others places page p q e = elim (cases_eq p page) [
-  | inl is ↦ absurd (none-some q (sym (trimmed_gone places page) ∙ subst (λ (x : ℕ). place_of (slice_set places page nowhere) x ≡ Some q) is e))
+  | inl is ↦ absurd (none-some q (sym (trimmed_gone places page)
+      ∙ subst (λ (x : ℕ). place_of (slice_set places page nowhere) x ≡ Some q) is e))
   | inr other ↦ sym (get_or-set_other places page p nowhere None other) ∙ e
 ]
 
@@ -193,7 +214,8 @@ trim_is page c = record {
 }
 
 -- a program needs a free page, and an erase slot a closed block
-pub step_is : (plan : DiePlan) (n : ℕ) (act : Act) (c : Cells) → 0 < plan.shape.pages → AreSound plan c → HasRoom plan c act → ((b : ℕ) → act ≡ does.Erase b → IsClosed plan c b)
+pub step_is : (plan : DiePlan) (n : ℕ) (act : Act) (c : Cells) → 0 < plan.shape.pages → AreSound plan c → HasRoom plan c act
+    → ((b : ℕ) → act ≡ does.Erase b → IsClosed plan c b)
     → IsStep plan act c (cells_after plan (Some (n, act)) c)
 step_is plan n (does.Read page bytes) c more s room closed = refl
 step_is plan n (does.Write page bytes) c more s room closed = program_step plan page c more s room
@@ -205,7 +227,8 @@ step_is plan n (does.Erase b) c more s room closed =
     erase_slot_is plan b c (within_blocks plan c b (omega arith) (cases_lt b (length c.blocks)))
 
 -- a step keeps cells sound, if an erase slot is of a closed block in which no page is placed
-pub step_sound : (plan : DiePlan) (act : Act) (c d : Cells) → 0 < plan.shape.erase_slots → AreSound plan c → ((b : ℕ) → act ≡ does.Erase b → IsClosed plan c b × IsUnplaced c b) → IsStep plan act c d → AreSound plan d
+pub step_sound : (plan : DiePlan) (act : Act) (c d : Cells) → 0 < plan.shape.erase_slots → AreSound plan c
+    → ((b : ℕ) → act ≡ does.Erase b → IsClosed plan c b × IsUnplaced c b) → IsStep plan act c d → AreSound plan d
 step_sound plan (does.Read page bytes) c d more s ok w = subst (AreSound plan) (sym w) s
 step_sound plan (does.Write page bytes) c d more s ok w = program_sound plan page w.0 c d s w.1
 step_sound plan (does.Trim page) c d more s ok w = trim_sound plan page c d s w

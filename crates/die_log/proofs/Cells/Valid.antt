@@ -1,5 +1,6 @@
 -- A block's valid pages are as many as are placed in it.
-use Rattle.std.proofs.Common.{◌≡◌, ◌⊎◌, ℕ, zero, suc, ◌+◌, ◌<◌, ◌≤◌, ◌==◌, ◌&&◌, nat_lt, nat_le, Bool, true, false, cond, List, [], ◌∷◌, Option, Some, None, refl, ap, sym, ◌∙◌, inl, inr, arith, length, option_map, get_or}
+use Rattle.std.proofs.Common.{◌≡◌, ◌⊎◌, ℕ, zero, suc, ◌+◌, ◌<◌, ◌≤◌, ◌==◌, ◌&&◌, nat_lt, nat_le, Bool, true, false, cond, List, [], ◌∷◌}
+use Rattle.std.proofs.Common.{Option, Some, None, refl, ap, sym, ◌∙◌, inl, inr, arith, length, option_map, get_or}
 use Rattle.std.specs.List.{position, count_by, filter_map, cons_option, range_with_len, AllByRecursion}
 use Rattle.std.proofs.lemmas.List.Sums.{sum_by-cons, get_or-le-sum_by}
 use Rattle.std.proofs.lemmas.List.Quantifiers.{position-Some}
@@ -26,25 +27,41 @@ count_none p d (x ∷ xs) h =
     let first : p x ≡ false = h 0 (omega arith) in
     sum_by-cons (λ y. cond (p y) 1 0) x xs ∙ rw first (omega (arith, count_none p d xs (λ i lt. h (suc i) (omega arith))))
 
-count_single : {X : Type 0} (p : X → Bool) (d : X) (xs : List X) (k : ℕ) → k < length xs → p (get_or xs k d) ≡ true → ((i : ℕ) → i < length xs → p (get_or xs i d) ≡ true → i ≡ k) → count_by p xs ≡ 1
+count_single : {X : Type 0} (p : X → Bool) (d : X) (xs : List X) (k : ℕ) → k < length xs → p (get_or xs k d) ≡ true
+    → ((i : ℕ) → i < length xs → p (get_or xs i d) ≡ true → i ≡ k) → count_by p xs ≡ 1
 count_single p d [] k lt h only = absurd (omega arith)
 count_single p d (x ∷ xs) zero lt h only =
-    sum_by-cons (λ y. cond (p y) 1 0) x xs ∙ rw h (omega (arith, count_none p d xs (λ i less. false_from_ne_true (p (get_or xs i d)) (λ e. absurd (omega (arith, only (suc i) (omega arith) e))))))
+    sum_by-cons (λ y. cond (p y) 1 0) x xs ∙ rw h (omega (
+      arith,
+      count_none p d xs (λ i less. false_from_ne_true (p (get_or xs i d))
+          (λ e. absurd (omega (arith, only (suc i) (omega arith) e)))),
+    ))
 count_single p d (x ∷ xs) (suc k) lt h only =
     let first : p x ≡ false = false_from_ne_true (p x) (λ e. absurd (omega (arith, only 0 (omega arith) e))) in
-    sum_by-cons (λ y. cond (p y) 1 0) x xs ∙ rw first (omega (arith, count_single p d xs k (omega arith) h (λ i less e. omega (arith, only (suc i) (omega arith) e))))
+    sum_by-cons (λ y. cond (p y) 1 0) x xs ∙ rw first (omega
+    (arith, count_single p d xs k (omega arith) h (λ i less e. omega (arith, only (suc i) (omega arith) e))))
 
-count_same : {X : Type 0} (p q : X → Bool) (d : X) (xs : List X) → ((i : ℕ) → i < length xs → p (get_or xs i d) ≡ q (get_or xs i d)) → count_by p xs ≡ count_by q xs
+count_same : {X : Type 0} (p q : X → Bool) (d : X) (xs : List X) → ((i : ℕ) → i < length xs → p (get_or xs i d) ≡ q (get_or xs i d))
+    → count_by p xs ≡ count_by q xs
 count_same p q d [] h = refl
 count_same p q d (x ∷ xs) h =
     let first : p x ≡ q x = h 0 (omega arith) in
     let rest : count_by p xs ≡ count_by q xs = count_same p q d xs (λ i lt. h (suc i) (omega arith)) in
     sum_by-cons (λ y. cond (p y) 1 0) x xs ∙ (rw (first, rest) refl ∙ sym (sum_by-cons (λ y. cond (q y) 1 0) x xs))
 
-count_both : {X : Type 0} (p q r : X → Bool) → ((x : X) → one_if (p x) ≡ one_if (q x) + one_if (r x)) → (xs : List X) → count_by p xs ≡ count_by q xs + count_by r xs
+count_both : {X : Type 0} (p q r : X → Bool) → ((x : X) → one_if (p x) ≡ one_if (q x) + one_if (r x)) → (xs : List X) → count_by p xs
+    ≡ count_by q xs + count_by r xs
 count_both p q r h [] = refl
 count_both p q r h (x ∷ xs) =
-    omega (arith, h x, count_both p q r h xs, sum_by-cons (λ y. cond (p y) 1 0) x xs, sum_by-cons (λ y. cond (q y) 1 0) x xs, sum_by-cons (λ y. cond (r y) 1 0) x xs)
+    omega (
+      arith,
+      h x,
+      count_both p q r h xs,
+      sum_by-cons (λ y. cond (p y) 1 0) x xs,
+      sum_by-cons (λ y. cond (q y) 1 0) x xs,
+      sum_by-cons
+          (λ y. cond (r y) 1 0) x xs,
+    )
 
 count_zero : {X : Type 0} (p : X → Bool) (d : X) (xs : List X) (i : ℕ) → count_by p xs ≡ 0 → i < length xs → p (get_or xs i d) ≡ true → ⊥
 count_zero p d xs i none lt h =
@@ -57,7 +74,9 @@ abbrev found : Option ℕ → ℕ
 found None = 0
 found (Some k) = 1
 
-found_is : {X : Type 0} (p : X → Bool) (d : X) (xs : List X) → ((i k : ℕ) → i < length xs → k < length xs → p (get_or xs i d) ≡ true → p (get_or xs k d) ≡ true → i ≡ k) → found (position p xs) ≡ count_by p xs
+found_is : {X : Type 0} (p : X → Bool) (d : X) (xs : List X)
+    → ((i k : ℕ) → i < length xs → k < length xs → p (get_or xs i d) ≡ true → p (get_or xs k d) ≡ true → i ≡ k) → found (position p xs)
+    ≡ count_by p xs
 found_is {X = X} p d xs one = by_found (position p xs) refl
   where
     by_found : (o : Option ℕ) → position p xs ≡ o → found o ≡ count_by p xs
@@ -101,15 +120,18 @@ pages_from b ps each a (suc n) =
 
 at_says : (b cell : ℕ) (o : Option Place) → in_cell b cell o ≡ true → (q : Place) × (o ≡ Some q) × (q.block ≡ b) × (q.page ≡ cell)
 at_says b cell None h = absurd cc
-at_says b cell (Some q) h = let k = and_parts (q.block == b) (q.page == cell) h in (q, refl, eqb-true q.block b k.0, eqb-true q.page cell k.1)
+at_says b cell (Some q) h = let k = and_parts (q.block == b) (q.page == cell) h in
+    (q, refl, eqb-true q.block b k.0, eqb-true q.page cell k.1)
 
-one_at : (plan : DiePlan) (c : Cells) (b cell : ℕ) → AreSound plan c → (i k : ℕ) → i < length c.places → k < length c.places → in_cell b cell (get_or c.places i None) ≡ true → in_cell b cell (get_or c.places k None) ≡ true → i ≡ k
+one_at : (plan : DiePlan) (c : Cells) (b cell : ℕ) → AreSound plan c → (i k : ℕ) → i < length c.places → k < length c.places
+    → in_cell b cell (get_or c.places i None) ≡ true → in_cell b cell (get_or c.places k None) ≡ true → i ≡ k
 one_at plan c b cell s i k x y h g =
     let m = at_says b cell (get_or c.places i None) h in
     let n = at_says b cell (get_or c.places k None) g in
     s.apart i k m.0 n.0 m.1 n.1 (m.2 ∙ sym n.2) (m.3 ∙ sym n.3)
 
-from_whole : (plan : DiePlan) (b : ℕ) (o : Option Place) → ((q : Place) → o ≡ Some q → q.page < plan.shape.pages) → is_from b 0 plan.shape.pages o ≡ is_in b o
+from_whole : (plan : DiePlan) (b : ℕ) (o : Option Place) → ((q : Place) → o ≡ Some q → q.page < plan.shape.pages)
+    → is_from b 0 plan.shape.pages o ≡ is_in b o
 from_whole plan b None h = refl
 from_whole plan b (Some q) h = let lt : q.page < plan.shape.pages = h q refl in grind (arith, nat_tests)
 
@@ -134,7 +156,8 @@ unplaced_is plan c b none p h =
     let lt : p < length c.places = placed_within c p b h (cases_lt p (length c.places)) in
     count_zero (is_in b) None c.places p none lt (in_says b (get_or c.places p None) h)
 
-all_found : {X Y : Type 0} (P : Y → Type 0) (h : X → Option Y) → ((x : X) (y : Y) → h x ≡ Some y → P y) → (xs : List X) → AllByRecursion P (filter_map h xs)
+all_found : {X Y : Type 0} (P : Y → Type 0) (h : X → Option Y) → ((x : X) (y : Y) → h x ≡ Some y → P y) → (xs : List X)
+    → AllByRecursion P (filter_map h xs)
 all_found P h each [] = tt
 all_found {X = X} {Y = Y} P h each (x ∷ xs) = by_head (h x) refl (all_found P h each xs)
   where
@@ -144,7 +167,8 @@ all_found {X = X} {Y = Y} P h each (x ∷ xs) = by_head (h x) refl (all_found P 
 
 -- its valid pages are placed in it
 pub valid_placed : (plan : DiePlan) (c : Cells) (b : ℕ) → AllByRecursion (λ page. block_of_page c page ≡ Some b) (valid_pages plan c b)
-valid_placed plan c b = all_found (λ page. block_of_page c page ≡ Some b) (λ cell. position (in_cell b cell) c.places) each (range_with_len 0 plan.shape.pages)
+valid_placed plan c b = all_found (λ page. block_of_page c page ≡ Some b) (λ cell. position (in_cell b cell) c.places) each
+    (range_with_len 0 plan.shape.pages)
   where
     each : (cell page : ℕ) → position (in_cell b cell) c.places ≡ Some page → block_of_page c page ≡ Some b
     each cell page e =

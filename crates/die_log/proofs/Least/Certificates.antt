@@ -1,5 +1,6 @@
 -- What is done has a row that says so, and the worst job has a certificate.
-use Rattle.std.proofs.Common.{◌≡◌, ℕ, suc, ◌<◌, Bool, true, false, cond, List, [], ◌∷◌, Option, Some, None, unwrap_or, filter, refl, ap, sym, subst, ◌∙◌, arith, slice_get}
+use Rattle.std.proofs.Common.{◌≡◌, ℕ, suc, ◌<◌, Bool, true, false, cond, List, [], ◌∷◌, Option, Some, None, unwrap_or, filter, refl, ap}
+use Rattle.std.proofs.Common.{sym, subst, ◌∙◌, arith, slice_get}
 use Rattle.std.specs.Prelude.{Contains, IsFalse, ◌↔◌}
 use Rattle.std.specs.List.{AllByRecursion, reduce}
 use Rattle.std.proofs.lemmas.Bool.{true≢false, ne_eqb, false_from_ne_true}
@@ -41,28 +42,36 @@ Begins plan j = are_all plan j [] ≡ false
 all_begin : (plan : DiePlan) → 0 < plan.shape.erase_slots → (log : Log) → IsExact plan log → AllByRecursion (Begins plan) (jobs log)
 all_begin plan more = exact_induction plan (λ log. AllByRecursion (Begins plan) (jobs log)) tt step
   where
-    step : (past : Log) (caller : ℕ) (event : Event) → IsExact plan past → AllByRecursion (Begins plan) (jobs past) → AllByRecursion (λ c. c.0 ≡ false) (refusals plan past event)
+    step : (past : Log) (caller : ℕ) (event : Event) → IsExact plan past → AllByRecursion (Begins plan) (jobs past)
+        → AllByRecursion (λ c. c.0 ≡ false) (refusals plan past event)
         → AllByRecursion (Begins plan) (jobs (entry caller event (accepted plan past event) ∷ past))
-    step past caller (events.Submit task release due ops) exact h none = all_append (Begins plan) (jobs past) (_ ∷ []) h (no_operations ops none.1.0, tt)
-    step past caller (events.Collect task release due) exact h none = all_append (Begins plan) (jobs past) (_ ∷ []) h (ne_eqb 0 plan.shape.erase_slots (λ e. absurd (omega (arith, e, more))), tt)
+    step past caller (events.Submit task release due ops) exact h none = all_append (Begins plan) (jobs past) (_ ∷ []) h
+        (no_operations ops none.1.0, tt)
+    step past caller (events.Collect task release due) exact h none = all_append (Begins plan) (jobs past) (_ ∷ []) h
+        (ne_eqb 0 plan.shape.erase_slots (λ e. absurd (omega (arith, e, more))), tt)
     step past caller events.Slot exact h none = h
 
 -- so what is done was not waived
-pub done_unwaived : (plan : DiePlan) (log : Log) (j : Job) → MeetsBound plan → IsExact plan log → Contains (jobs log) j → is_done plan log j ≡ true → is_waived log j.number ≡ false
+pub done_unwaived : (plan : DiePlan) (log : Log) (j : Job) → MeetsBound plan → IsExact plan log → Contains (jobs log) j → is_done plan log j
+    ≡ true → is_waived log j.number ≡ false
 done_unwaived plan log j bound exact stands done = false_from_ne_true (is_waived log j.number) idle
   where
     begins : Begins plan j
-    begins = All-contains (Begins plan) (jobs log) j (All-from_recursion (Begins plan) (jobs log) (all_begin plan (has_slots plan bound) log exact)) stands
+    begins = All-contains (Begins plan) (jobs log) j (All-from_recursion (Begins plan) (jobs log)
+        (all_begin plan (has_slots plan bound) log exact)) stands
 
     idle : is_waived log j.number ≡ true → ⊥
-    idle gone = true≢false (sym done ∙ (ap (are_all plan j) ((stands_well plan bound log exact).1.true_accounts.idle_waived j.number gone) ∙ begins))
+    idle gone = true≢false (sym done ∙ (ap (are_all plan j) ((stands_well plan bound log exact).1.true_accounts.idle_waived j.number gone)
+        ∙ begins))
 
 -- the row of what was not waived
-pub row_stands : (plan : DiePlan) (log : Log) (j : Job) → MeetsBound plan → IsExact plan log → Contains (jobs log) j → is_waived log j.number ≡ false → row_of (rows plan log) j.number ≡ Some (row_for plan log j)
+pub row_stands : (plan : DiePlan) (log : Log) (j : Job) → MeetsBound plan → IsExact plan log → Contains (jobs log) j
+    → is_waived log j.number ≡ false → row_of (rows plan log) j.number ≡ Some (row_for plan log j)
 row_stands plan log j bound exact stands unwaived =
     let numbered = (stands_well plan bound log exact).0.numbered in
     row_at (row_for plan log) (is_waived log) (jobs log) j.number (λ i. refl) numbered
-    ∙ (ap (λ (b : Bool). row_in (row_for plan log) b (slice_get (jobs log) j.number)) unwaived ∙ ap (row_in (row_for plan log) false) (stands_at (jobs log) j numbered stands))
+    ∙ (ap (λ (b : Bool). row_in (row_for plan log) b (slice_get (jobs log) j.number)) unwaived
+    ∙ ap (row_in (row_for plan log) false) (stands_at (jobs log) j numbered stands))
 
 -- Certificates
 
@@ -70,11 +79,13 @@ completes : (b : Bool) (n : ℕ) → b ≡ true → unwrap_or (cond b (Some n) N
 completes true n e = refl
 completes false n e = absurd cc
 
-done_with : (b : Bool) (j : Job) (n w : ℕ) → b ≡ true → is_done_in (Some (record { number = j.number; release = j.release; due = j.due; work = w; completion = cond b (Some n) None })) ≡ true
+done_with : (b : Bool) (j : Job) (n w : ℕ) → b ≡ true → is_done_in
+    (Some (record { number = j.number; release = j.release; due = j.due; work = w; completion = cond b (Some n) None })) ≡ true
 done_with true j n w e = refl
 done_with false j n w e = absurd cc
 
-certificate_own : (rows : List JobRow) (carried : Slots) → CarriesLeastKeys rows carried → (k : ℕ) → is_done_row rows k ≡ true → IsOwn rows carried k (stretch_of rows carried k)
+certificate_own : (rows : List JobRow) (carried : Slots) → CarriesLeastKeys rows carried → (k : ℕ) → is_done_row rows k ≡ true
+    → IsOwn rows carried k (stretch_of rows carried k)
 certificate_own rows carried keys k done =
     let stretch = stretch-is rows carried k (completion_of rows k) keys.rising in record {
       done = done;
@@ -82,11 +93,13 @@ certificate_own rows carried keys k done =
       due = refl;
       completion = refl;
       stretch = stretch;
-      holds = stretch-certifies rows carried keys k done (start_of rows carried k (completion_of rows k)) (jobs_of rows carried (start_of rows carried k (completion_of rows k)) (completion_of rows k)) stretch;
+      holds = stretch-certifies rows carried keys k done (start_of rows carried k (completion_of rows k))
+          (jobs_of rows carried (start_of rows carried k (completion_of rows k)) (completion_of rows k)) stretch;
     }
 
 -- what is done has a certificate
-pub done_certified : (plan : DiePlan) (log : Log) (j : Job) → MeetsBound plan → IsExact plan log → Contains (jobs log) j → is_done plan log j ≡ true
+pub done_certified : (plan : DiePlan) (log : Log) (j : Job) → MeetsBound plan → IsExact plan log → Contains (jobs log) j
+    → is_done plan log j ≡ true
     → (c : Certificate) × (certificate_for plan log (Some j) ≡ Some c) × IsCertified plan log j c
 done_certified plan log j bound exact stands done =
     let keys = least_keys plan bound log exact in
@@ -120,7 +133,8 @@ nobody_passes : {X : Type 0} (t : X → Bool) (xs : List X) → filter t xs ≡ 
 nobody_passes t [] e = tt
 nobody_passes {X = X} t (x ∷ xs) e = by_test (t x) refl e (nobody_passes t xs)
   where
-    by_test : (b : Bool) → t x ≡ b → cond b (x ∷ filter t xs) (filter t xs) ≡ [] → (filter t xs ≡ [] → AllByRecursion (λ y. t y ≡ false) xs) → AllByRecursion (λ y. t y ≡ false) (x ∷ xs)
+    by_test : (b : Bool) → t x ≡ b → cond b (x ∷ filter t xs) (filter t xs) ≡ [] → (filter t xs ≡ [] → AllByRecursion (λ y. t y ≡ false) xs)
+        → AllByRecursion (λ y. t y ≡ false) (x ∷ xs)
     by_test true is none rest = absurd cc
     by_test false is none rest = (is, rest none)
 
@@ -131,7 +145,8 @@ none_best better (x ∷ xs) e = absurd cc
 pub no_worst : (plan : DiePlan) (log : Log) → worst plan log ≡ None → (j : Job) → Contains (jobs log) j → is_done plan log j ≡ false
 no_worst plan log none =
     let all = nobody_passes (is_done plan log) (jobs log) (none_best (is_worse log) (filter (is_done plan log) (jobs log)) none) in
-    λ j stands. All-contains (λ i. is_done plan log i ≡ false) (jobs log) j (All-from_recursion (λ i. is_done plan log i ≡ false) (jobs log) all) stands
+    λ j stands. All-contains (λ i. is_done plan log i ≡ false) (jobs log) j
+    (All-from_recursion (λ i. is_done plan log i ≡ false) (jobs log) all) stands
 
 contained_all : {X : Type 0} (P : X → Type 0) (xs : List X) → ((x : X) → Contains xs x → P x) → AllByRecursion P xs
 contained_all P [] h = tt
@@ -142,14 +157,16 @@ nothing_done plan log h =
     let all = contained_all (λ i. is_done plan log i ≡ false) (jobs log) h in
     ap (reduce (λ best x. cond (is_worse log x best) x best)) (none_passes (is_done plan log) (jobs log) all)
 
-none_certified : (plan : DiePlan) (log : Log) (o : Option Job) → MeetsBound plan → IsExact plan log → worst plan log ≡ o → certificate_for plan log o ≡ None → worst plan log ≡ None
+none_certified : (plan : DiePlan) (log : Log) (o : Option Job) → MeetsBound plan → IsExact plan log → worst plan log ≡ o
+    → certificate_for plan log o ≡ None → worst plan log ≡ None
 none_certified plan log None bound exact is e = is
 none_certified plan log (Some j) bound exact is e =
     let w = subst (OfSome (λ i. Contains (jobs log) i × (is_done plan log i ≡ true))) is (worst_stands plan log) in
     let c = done_certified plan log j bound exact w.0 w.1 in
     absurd (none-some c.0 (sym e ∙ c.1))
 
-pub none_is : (plan : DiePlan) (log : Log) → MeetsBound plan → IsExact plan log → (certificate plan log ≡ None) ↔ ((j : Job) → Contains (jobs log) j → IsFalse (is_done plan log j))
+pub none_is : (plan : DiePlan) (log : Log) → MeetsBound plan → IsExact plan log → (certificate plan log ≡ None)
+    ↔ ((j : Job) → Contains (jobs log) j → IsFalse (is_done plan log j))
 none_is plan log bound exact = (
   λ e. no_worst plan log (none_certified plan log (worst plan log) bound exact refl e),
   λ h. ap (certificate_for plan log) (nothing_done plan log h),

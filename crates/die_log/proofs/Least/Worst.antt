@@ -1,5 +1,6 @@
 -- The worst of what is done.
-use Rattle.std.proofs.Common.{◌≡◌, ℕ, ◌+◌, ◌≤◌, ◌==◌, ◌&&◌, ◌||◌, nat_lt, not, Bool, true, false, cond, List, [], ◌∷◌, Some, fold, filter, refl, subst, arith, pos, ◌-ℤ◌, ◌≤ℤ◌}
+use Rattle.std.proofs.Common.{◌≡◌, ℕ, ◌+◌, ◌≤◌, ◌==◌, ◌&&◌, ◌||◌, nat_lt, not, Bool, true, false, cond, List, [], ◌∷◌, Some, fold, filter}
+use Rattle.std.proofs.Common.{refl, subst, arith, pos, ◌-ℤ◌, ◌≤ℤ◌}
 use Rattle.std.proofs.lemmas.Int.{ints}
 use Rattle.std.specs.Prelude.{Contains, int_lt}
 use Rattle.std.specs.List.{AllByRecursion, reduce}
@@ -16,7 +17,8 @@ use Rattle.die_log.proofs.Legal.Runs.{kept_in}
 
 abbrev worse : ℕ → ℕ → ℕ → ℕ → ℕ → ℕ → Bool
 worse c d n c' d' n' =
-    int_lt (pos c' -ℤ pos d') (pos c -ℤ pos d) || (not (int_lt (pos c -ℤ pos d) (pos c' -ℤ pos d')) && (nat_lt c c' || ((c == c') && nat_lt n n')))
+    int_lt (pos c' -ℤ pos d') (pos c -ℤ pos d) || (not (int_lt (pos c -ℤ pos d) (pos c' -ℤ pos d'))
+    && (nat_lt c c' || ((c == c') && nat_lt n n')))
 
 -- the first is no worse than the second
 record Behind (c d n c' d' n' : ℕ) : Type 0 where
@@ -34,7 +36,12 @@ not_worse_number : (c d n c' d' n' : ℕ) → worse c d n c' d' n' ≡ false →
 not_worse_number c d n c' d' n' h k l = grind (arith, nat_tests)
 
 behind_if : (c d n c' d' n' : ℕ) → worse c d n c' d' n' ≡ false → Behind c d n c' d' n'
-behind_if c d n c' d' n' h = record { late = not_worse_late c d n c' d' n' h; ended = not_worse_ended c d n c' d' n' h; number = not_worse_number c d n c' d' n' h }
+behind_if c d n c' d' n' h = record {
+  late = not_worse_late c d n c' d' n' h;
+  ended = not_worse_ended c d n c' d' n' h;
+  number =
+      not_worse_number c d n c' d' n' h;
+}
 
 -- of two one is behind the other
 turned_late : (c d n c' d' n' : ℕ) → worse c d n c' d' n' ≡ true → c' + d ≤ c + d'
@@ -47,7 +54,12 @@ turned_number : (c d n c' d' n' : ℕ) → worse c d n c' d' n' ≡ true → c +
 turned_number c d n c' d' n' h k l = grind (arith, nat_tests)
 
 turned : (c d n c' d' n' : ℕ) → worse c d n c' d' n' ≡ true → Behind c' d' n' c d n
-turned c d n c' d' n' h = record { late = turned_late c d n c' d' n' h; ended = turned_ended c d n c' d' n' h; number = turned_number c d n c' d' n' h }
+turned c d n c' d' n' h = record {
+  late = turned_late c d n c' d' n' h;
+  ended = turned_ended c d n c' d' n' h;
+  number = turned_number c d n
+      c' d' n' h;
+}
 
 through : (c d n c' d' n' c'' d'' n'' : ℕ) → Behind c d n c' d' n' → Behind c' d' n' c'' d'' n'' → Behind c d n c'' d'' n''
 through c d n c' d' n' c'' d'' n'' h k = record {
@@ -72,18 +84,30 @@ itself log j = record { late = omega arith; ended = λ e. omega arith; number = 
 
 -- the worse of two is no better than either
 of_two : (log : Log) (best j : Job) (b : Bool) → is_worse log j best ≡ b → NoWorse log best (cond b j best) × NoWorse log j (cond b j best)
-of_two log best j true e = (turned (completion j.number log) j.due j.number (completion best.number log) best.due best.number e, itself log j)
-of_two log best j false e = (itself log best, behind_if (completion j.number log) j.due j.number (completion best.number log) best.due best.number e)
+of_two log best j true e = (
+  turned (completion j.number log) j.due j.number (completion best.number log) best.due best.number e,
+  itself log
+      j,
+)
+of_two log best j false e = (
+  itself log best,
+  behind_if (completion j.number log) j.due j.number (completion best.number log) best.due
+      best.number e,
+)
 
 between : (log : Log) (i j k : Job) → NoWorse log i j → NoWorse log j k → NoWorse log i k
-between log i j k = through (completion i.number log) i.due i.number (completion j.number log) j.due j.number (completion k.number log) k.due k.number
+between log i j k = through (completion i.number log) i.due i.number (completion j.number log) j.due j.number (completion k.number log)
+    k.due k.number
 
-fold_worst : (log : Log) (best : Job) (xs : List Job) → NoWorse log best (fold (worst_of_two log) best xs) × AllByRecursion (λ i. NoWorse log i (fold (worst_of_two log) best xs)) xs
+fold_worst : (log : Log) (best : Job) (xs : List Job) → NoWorse log best (fold (worst_of_two log) best xs)
+    × AllByRecursion (λ i. NoWorse log i (fold (worst_of_two log) best xs)) xs
 fold_worst log best [] = (itself log best, tt)
 fold_worst log best (x ∷ xs) =
     let rest = fold_worst log (worst_of_two log best x) xs in
-    let two = of_two log best x (is_worse log x best) refl in
-    (between log best (worst_of_two log best x) (fold (worst_of_two log) (worst_of_two log best x) xs) two.0 rest.0, (between log x (worst_of_two log best x) (fold (worst_of_two log) (worst_of_two log best x) xs) two.1 rest.0, rest.1))
+    let two = of_two log best x (is_worse log x best) refl in (
+      between log best (worst_of_two log best x) (fold (worst_of_two log) (worst_of_two log best x) xs) two.0 rest.0,
+      (between log x (worst_of_two log best x) (fold (worst_of_two log) (worst_of_two log best x) xs) two.1 rest.0, rest.1),
+    )
 
 reduce_worst : (log : Log) (xs : List Job) → OfSome (λ j. AllByRecursion (λ i. NoWorse log i j) xs) (reduce (worst_of_two log) xs)
 reduce_worst log [] = tt
@@ -93,7 +117,8 @@ reduce_worst log (x ∷ xs) = let h = fold_worst log x xs in (h.0, h.1)
 pub worst_stands : (plan : DiePlan) (log : Log) → OfSome (λ j. Contains (jobs log) j × (is_done plan log j ≡ true)) (worst plan log)
 worst_stands plan log =
     best_all (λ j. Contains (jobs log) j × (is_done plan log j ≡ true)) (is_worse log) (filter (is_done plan log) (jobs log))
-    (kept_both (Contains (jobs log)) (is_done plan log) (jobs log) (recursion_from_All (Contains (jobs log)) (jobs log) (All-contains_itself (jobs log))))
+    (kept_both (Contains (jobs log)) (is_done plan log) (jobs log)
+    (recursion_from_All (Contains (jobs log)) (jobs log) (All-contains_itself (jobs log))))
 
 later : (c d c' d' : ℕ) → c + d' ≤ c' + d → (pos c -ℤ pos d) ≤ℤ (pos c' -ℤ pos d')
 later c d c' d' h = omega (arith, ints)
@@ -114,9 +139,11 @@ worst_is plan log j is = record {
     stands = subst (OfSome (λ i. Contains (jobs log) i × (is_done plan log i ≡ true))) is (worst_stands plan log)
 
     all : AllByRecursion (λ i. NoWorse log i j) (filter (is_done plan log) (jobs log))
-    all = subst (OfSome (λ k. AllByRecursion (λ i. NoWorse log i k) (filter (is_done plan log) (jobs log)))) is (reduce_worst log (filter (is_done plan log) (jobs log)))
+    all = subst (OfSome (λ k. AllByRecursion (λ i. NoWorse log i k) (filter (is_done plan log) (jobs log)))) is
+        (reduce_worst log (filter (is_done plan log) (jobs log)))
 
     each : (i : Job) → Contains (jobs log) i → is_done plan log i ≡ true → NoWorse log i j
     each i h d =
         All-contains (λ k. is_done plan log k ≡ true → NoWorse log k j) (jobs log) i
-        (All-from_recursion (λ k. is_done plan log k ≡ true → NoWorse log k j) (jobs log) (kept_in (is_done plan log) (λ k. NoWorse log k j) (jobs log) all)) h d
+        (All-from_recursion (λ k. is_done plan log k ≡ true → NoWorse log k j) (jobs log)
+        (kept_in (is_done plan log) (λ k. NoWorse log k j) (jobs log) all)) h d

@@ -1,5 +1,6 @@
 -- What an exact log carries is legal.
-use Rattle.std.proofs.Common.{◌≡◌, ◌≢◌, ℕ, zero, suc, ◌<◌, ◌==◌, not, Bool, true, false, List, [], ◌∷◌, ◌++◌, Option, Some, None, refl, ap, sym, ◌∙◌, subst, arith, length, slice_get}
+use Rattle.std.proofs.Common.{◌≡◌, ◌≢◌, ℕ, zero, suc, ◌<◌, ◌==◌, not, Bool, true, false, List, [], ◌∷◌, ◌++◌, Option, Some, None, refl, ap}
+use Rattle.std.proofs.Common.{sym, ◌∙◌, subst, arith, length, slice_get}
 use Rattle.std.specs.Prelude.{Contains, MatchBool, MatchOption}
 use Rattle.std.specs.List.{AllByRecursion}
 use Rattle.std.proofs.lemmas.Bool.{true≢false, and_parts, not-true, leb-true, or_from, eq-eqb, ne_eqb}
@@ -17,7 +18,8 @@ use Rattle.die_log.specs.Work.{is_done, least}
 use Rattle.plan_rules.specs.Accounts.{Accounts, given_of}
 use Rattle.plan_rules.specs.Accounts as moves
 use Rattle.die_log.specs.Answers.{Choice, is_running, is_waivable, without, weighed, chosen, choice_among, act_for, act_of_op}
-use Rattle.die_log.specs.Legal.{Does, IsNextOperation, IsCollectAct, IsNextCollectAct, MayErase, changed_since, is_among, TellsContent, FindsFree, IsLegalAct}
+use Rattle.die_log.specs.Legal.{Does, IsNextOperation, IsCollectAct, IsNextCollectAct, MayErase, changed_since, is_among, TellsContent}
+use Rattle.die_log.specs.Legal.{FindsFree, IsLegalAct}
 use Rattle.die_log.specs.Sound.{MayDo, MayEraseSlot}
 use Rattle.die_log.specs.Standing.{Runs, Stands}
 use Rattle.die_log.proofs.Choices.{OfSome, names_waiting}
@@ -27,11 +29,15 @@ use Rattle.die_log.proofs.Standing.Kept.{waiting_undone}
 
 -- Operations
 
-does_op : (plan : DiePlan) (past : Log) (o : Option Op) (act : Act) → act_of_op plan past o ≡ Some act → MatchOption o ⊥ (λ op. Does op act) × TellsContent plan past act
+does_op : (plan : DiePlan) (past : Log) (o : Option Op) (act : Act) → act_of_op plan past o ≡ Some act → MatchOption o ⊥ (λ op. Does op act)
+    × TellsContent plan past act
 does_op plan past None act e = absurd cc
-does_op plan past (Some (asks.Read page)) act e = subst (λ (x : Act). Does (asks.Read page) x × TellsContent plan past x) (same_Some _ act e) (refl, refl)
-does_op plan past (Some (asks.Write page bytes)) act e = subst (λ (x : Act). Does (asks.Write page bytes) x × TellsContent plan past x) (same_Some _ act e) ((refl, refl), tt)
-does_op plan past (Some (asks.Trim page)) act e = subst (λ (x : Act). Does (asks.Trim page) x × TellsContent plan past x) (same_Some _ act e) (refl, tt)
+does_op plan past (Some (asks.Read page)) act e = subst (λ (x : Act). Does (asks.Read page) x × TellsContent plan past x)
+    (same_Some _ act e) (refl, refl)
+does_op plan past (Some (asks.Write page bytes)) act e = subst (λ (x : Act). Does (asks.Write page bytes) x × TellsContent plan past x)
+    (same_Some _ act e) ((refl, refl), tt)
+does_op plan past (Some (asks.Trim page)) act e = subst (λ (x : Act). Does (asks.Trim page) x × TellsContent plan past x)
+    (same_Some _ act e) (refl, tt)
 
 -- Collections
 
@@ -39,17 +45,20 @@ some_in : (xs : List Act) (x : Act) → Contains xs x → 0 < length xs
 some_in xs x h = omega (arith, h.1)
 
 -- who erased a slot of the block and isn't done runs on it
-erased_runs : (plan : DiePlan) (past : Log) (i : Job) (b : ℕ) → Stands plan past → Contains (jobs past) i → Contains (acts i.number past) (does.Erase b) → is_done plan past i ≡ false → Runs plan past i b
+erased_runs : (plan : DiePlan) (past : Log) (i : Job) (b : ℕ) → Stands plan past → Contains (jobs past) i
+    → Contains (acts i.number past) (does.Erase b) → is_done plan past i ≡ false → Runs plan past i b
 erased_runs plan past i b s stands h undone = by_kind i.collects refl
   where
     by_kind : (t : Bool) → i.collects ≡ t → Runs plan past i b
     by_kind false kind = absurd ((s.of_jobs i stands kind).unerased b h)
     by_kind true kind =
-        let running : is_running plan past i ≡ true = runs_from plan i (acts i.number past) (record { collects = kind; begun = some_in (acts i.number past) (does.Erase b) h; undone = undone }) in
+        let running : is_running plan past i ≡ true = runs_from plan i (acts i.number past)
+        (record { collects = kind; begun = some_in (acts i.number past) (does.Erase b) h; undone = undone }) in
         let r = s.collects.shown i stands running in
         subst (Runs plan past i) (sym ((s.collects.collecting i r.0 r.1).of_own b h)) r.1
 
-erase_may : (plan : DiePlan) (past : Log) (j : Job) (b block : ℕ) → Stands plan past → IsBegun plan past j b → MayEraseSlot plan (cells plan past) (acts j.number past) b block → MayErase plan past j.number b block
+erase_may : (plan : DiePlan) (past : Log) (j : Job) (b block : ℕ) → Stands plan past → IsBegun plan past j b
+    → MayEraseSlot plan (cells plan past) (acts j.number past) b block → MayErase plan past j.number b block
 erase_may plan past j b block s k may = record {
   own = may.same;
   left = may.left;
@@ -58,16 +67,22 @@ erase_may plan past j b block s k may = record {
   alone = λ i stands other h. by_done i stands other h (is_done plan past i) refl;
 }
   where
-    by_done : (i : Job) → Contains (jobs past) i → i.number ≢ j.number → Contains (acts i.number past) (does.Erase b) → (t : Bool) → is_done plan past i ≡ t → t ≡ true
+    by_done : (i : Job) → Contains (jobs past) i → i.number ≢ j.number → Contains (acts i.number past) (does.Erase b) → (t : Bool)
+        → is_done plan past i ≡ t → t ≡ true
     by_done i stands other h true e = refl
     by_done i stands other h false e = absurd (other (k.apart i (erased_runs plan past i b s stands h e)))
 
-pub may_legal : (plan : DiePlan) (past : Log) (j : Job) (b : ℕ) (act : Act) → Stands plan past → IsBegun plan past j b → MayDo plan (cells plan past) (acts j.number past) (λ p. changed_since j.number p past) b act
+pub may_legal : (plan : DiePlan) (past : Log) (j : Job) (b : ℕ) (act : Act) → Stands plan past → IsBegun plan past j b
+    → MayDo plan (cells plan past) (acts j.number past) (λ p. changed_since j.number p past) b act
     → IsCollectAct plan past j.number b act × TellsContent plan past act
 may_legal plan past j b (does.Read page bytes) s k may = absurd may
 may_legal plan past j b (does.Write page bytes) s k may = absurd may
 may_legal plan past j b (does.Trim page) s k may = absurd may
-may_legal plan past j b (does.CopyRead page) s k may = (record { placed = may.placed; once = λ h. may.none_left page h may.placed; unerased = may.unerased }, tt)
+may_legal plan past j b (does.CopyRead page) s k may = (
+  record
+      { placed = may.placed; once = λ h. may.none_left page h may.placed; unerased = may.unerased },
+  tt,
+)
 may_legal plan past j b (does.CopyProgram page) s k may = (record { follows = may.follows; unchanged = may.unchanged }, tt)
 may_legal plan past j b (does.Erase block) s k may = (erase_may plan past j b block s k may, tt)
 
@@ -86,45 +101,55 @@ other_number i j h = ne_eqb j.number i.number (λ e. true≢false (sym h ∙ ap 
     eqb_at : j.number ≡ i.number → (i.number == j.number) ≡ true
     eqb_at e = eq-eqb i.number j.number (sym e)
 
-head_apart : (w : Waived) (ws : List Waived) (o : Option Job) → OfSome (λ h. is_among h.number ws ≡ false) o → OfSome (λ h. (w.number == h.number) ≡ false) o → OfSome (λ h. is_among h.number (w ∷ ws) ≡ false) o
+head_apart : (w : Waived) (ws : List Waived) (o : Option Job) → OfSome (λ h. is_among h.number ws ≡ false) o
+    → OfSome (λ h. (w.number == h.number) ≡ false) o → OfSome (λ h. is_among h.number (w ∷ ws) ≡ false) o
 head_apart w ws None p q = tt
 head_apart w ws (Some h) p q = or_from (w.number == h.number) (is_among h.number ws) q p
 
-apart_of : (j : Job) (o : Option Job) → OfSome (λ i. Unit {0} × (not (i.number == j.number) ≡ true)) o → OfSome (λ i. (j.number == i.number) ≡ false) o
+apart_of : (j : Job) (o : Option Job) → OfSome (λ i. Unit {0} × (not (i.number == j.number) ≡ true)) o
+    → OfSome (λ i. (j.number == i.number) ≡ false) o
 apart_of j None h = tt
 apart_of j (Some i) h = other_number i j h.1
 
 unwaived_weighed : (plan : DiePlan) (past : Log) (turns : ℕ) (a : Accounts) (waiting : List Job) (j : Job) (b : Bool)
-    → ((a' : Accounts) (rest : List Job) → OfSome (NotWaived (choice_among plan past turns a' rest)) (choice_among plan past turns a' rest).head)
+    → ((a' : Accounts) (rest : List Job) → OfSome (NotWaived (choice_among plan past turns a' rest))
+    (choice_among plan past turns a' rest).head)
     → OfSome (NotWaived (weighed a waiting (choice_among plan past turns) j b)) (weighed a waiting (choice_among plan past turns) j b).head
 unwaived_weighed plan past turns a waiting j false ih = refl
 unwaived_weighed plan past turns a waiting j true ih =
     let a2 : Accounts = moves.waived a j.task in
     let rest : Choice = choice_among plan past turns a2 (without j waiting) in
-    let names = names_waiting (λ (i : Job). Unit {0} × (not (i.number == j.number) ≡ true)) plan past turns a2 (without j waiting) (kept_both (λ (i : Job). Unit {0}) (λ i. not (i.number == j.number)) waiting (all_jobs waiting)) in
-    head_apart (record { number = j.number; given = given_of a j.task }) rest.waived rest.head (ih a2 (without j waiting)) (apart_of j rest.head names.head)
+    let names = names_waiting (λ (i : Job). Unit {0} × (not (i.number == j.number) ≡ true)) plan past turns a2 (without j waiting)
+    (kept_both (λ (i : Job). Unit {0}) (λ i. not (i.number == j.number)) waiting (all_jobs waiting)) in
+    head_apart (record { number = j.number; given = given_of a j.task }) rest.waived rest.head (ih a2 (without j waiting))
+    (apart_of j rest.head names.head)
 
 unwaived_chosen : (plan : DiePlan) (past : Log) (turns : ℕ) (a : Accounts) (waiting : List Job) (o : Option Job)
-    → ((a' : Accounts) (rest : List Job) → OfSome (NotWaived (choice_among plan past turns a' rest)) (choice_among plan past turns a' rest).head)
-    → OfSome (NotWaived (chosen plan past a waiting (choice_among plan past turns) o)) (chosen plan past a waiting (choice_among plan past turns) o).head
+    → ((a' : Accounts) (rest : List Job) → OfSome (NotWaived (choice_among plan past turns a' rest))
+    (choice_among plan past turns a' rest).head)
+    → OfSome (NotWaived (chosen plan past a waiting (choice_among plan past turns) o))
+    (chosen plan past a waiting (choice_among plan past turns) o).head
 unwaived_chosen plan past turns a waiting None ih = tt
 unwaived_chosen plan past turns a waiting (Some j) ih = unwaived_weighed plan past turns a waiting j (is_waivable plan past a j) ih
 
 -- a head isn't waived in its slot
-pub head_unwaived : (plan : DiePlan) (past : Log) (turns : ℕ) (a : Accounts) (waiting : List Job) → OfSome (NotWaived (choice_among plan past turns a waiting)) (choice_among plan past turns a waiting).head
+pub head_unwaived : (plan : DiePlan) (past : Log) (turns : ℕ) (a : Accounts) (waiting : List Job)
+    → OfSome (NotWaived (choice_among plan past turns a waiting)) (choice_among plan past turns a waiting).head
 head_unwaived plan past zero a waiting = tt
 head_unwaived plan past (suc turns) a waiting = unwaived_chosen plan past turns a waiting (least waiting) (head_unwaived plan past turns)
 
 -- The head's act
 
 -- the head's act is legal, if it finds the free page that it needs
-pub head_legal : (plan : DiePlan) (past : Log) (ws : List Waived) (j : Job) (act : Act) → 0 < plan.shape.erase_slots → Stands plan past → IsWaiting plan past j → is_among j.number ws ≡ false → act_for plan past j ≡ Some act → FindsFree plan past act
+pub head_legal : (plan : DiePlan) (past : Log) (ws : List Waived) (j : Job) (act : Act) → 0 < plan.shape.erase_slots → Stands plan past
+    → IsWaiting plan past j → is_among j.number ws ≡ false → act_for plan past j ≡ Some act → FindsFree plan past act
     → IsLegalAct plan past (waived past ++ ws) j j.number act
 head_legal plan past ws j act more s w unwaived e finds = record {
   known = stands_at (jobs past) j s.numbered w.0;
   released = leb-true j.release (now past) (and_parts _ _ (and_parts _ _ w.1).0).0;
   undone = undone;
-  unwaived = list_any-append (λ x. x.number == j.number) (waived past) ws ∙ or_from (is_waived past j.number) (is_among j.number ws) (not-true (is_waived past j.number) (and_parts _ _ w.1).1) unwaived;
+  unwaived = list_any-append (λ x. x.number == j.number) (waived past) ws
+      ∙ or_from (is_waived past j.number) (is_among j.number ws) (not-true (is_waived past j.number) (and_parts _ _ w.1).1) unwaived;
   next = (by_kind j.collects refl).0;
   tells = (by_kind j.collects refl).1;
   finds = finds;
@@ -133,7 +158,8 @@ head_legal plan past ws j act more s w unwaived e finds = record {
     undone : is_done plan past j ≡ false
     undone = waiting_undone plan past j w.1
 
-    by_kind : (t : Bool) → j.collects ≡ t → MatchBool t (IsNextCollectAct plan past j.number act) (IsNextOperation past j act) × TellsContent plan past act
+    by_kind : (t : Bool) → j.collects ≡ t → MatchBool t (IsNextCollectAct plan past j.number act) (IsNextOperation past j act)
+        × TellsContent plan past act
     by_kind false kind = does_op plan past (slice_get j.ops (work j.number past)) act (job_act plan past j act kind e)
     by_kind true kind =
         let m = collection_may plan past j act more s.collects w.0 kind undone e in

@@ -1,5 +1,6 @@
 -- A slot carries nothing only where nothing waits; and what else a legal entry wants.
-use Rattle.std.proofs.Common.{◌≡◌, ℕ, zero, suc, ◌<◌, ◌≤◌, ◌==◌, Bool, true, false, cond, List, [], ◌∷◌, Option, Some, None, refl, sym, ◌∙◌, subst, inl, inr, arith, length, slice_get, filter}
+use Rattle.std.proofs.Common.{◌≡◌, ℕ, zero, suc, ◌<◌, ◌≤◌, ◌==◌, Bool, true, false, cond, List, [], ◌∷◌, Option, Some, None, refl, sym, ◌∙◌}
+use Rattle.std.proofs.Common.{subst, inl, inr, arith, length, slice_get, filter}
 use Rattle.std.specs.Prelude.{Contains}
 use Rattle.std.specs.List.{AllByRecursion, last_or}
 use Rattle.std.proofs.lemmas.Bool.{true≢false, eqb-true, eqb-false}
@@ -16,7 +17,8 @@ use Rattle.die_log.specs.Log.{Log, Job, jobs, acts, work, waived}
 use Rattle.die_log.specs.Flash.{ran_by, Cells, cells, free}
 use Rattle.die_log.specs.Work.{are_all, is_done, is_ready, ready, victim_of, owed}
 use Rattle.die_log.specs.Accounts.{accounts}
-use Rattle.die_log.specs.Answers.{Choice, choice, accepted, victim, block_for, buffer_after, is_placed_in, collect_act, act_of_op, act_for, reply_with, slot_reply, refusals}
+use Rattle.die_log.specs.Answers.{Choice, choice, accepted, victim, block_for, buffer_after, is_placed_in, collect_act, act_of_op, act_for}
+use Rattle.die_log.specs.Answers.{reply_with, slot_reply, refusals}
 use Rattle.die_log.specs.Legal.{is_among, NothingWaits, AreWaivers, IsLegalRun, IsLegalReply, IsLegalEntry}
 use Rattle.die_log.specs.Standing.{KeepsToOps, Stands}
 use Rattle.die_log.proofs.Standing.Finds.{FindsBy, FindsVictim}
@@ -38,7 +40,8 @@ some_act plan past (Some (asks.Read page)) op e = (_, refl)
 some_act plan past (Some (asks.Write page bytes)) op e = (_, refl)
 some_act plan past (Some (asks.Trim page)) op e = (_, refl)
 
-some_collect : (plan : DiePlan) (c : Cells) (buffer o : Option ℕ) (b : ℕ) → o ≡ Some b → (act : Act) × (collect_act plan c buffer o ≡ Some act)
+some_collect : (plan : DiePlan) (c : Cells) (buffer o : Option ℕ) (b : ℕ) → o ≡ Some b → (act : Act)
+    × (collect_act plan c buffer o ≡ Some act)
 some_collect plan c buffer None b e = absurd cc
 some_collect plan c buffer (Some v) b e = by_test (is_placed_in c v buffer) _ _
   where
@@ -47,7 +50,8 @@ some_collect plan c buffer (Some v) b e = by_test (is_placed_in c v buffer) _ _
     by_test false x y = (y, refl)
 
 -- an undone job has an operation left
-pub operation_left : (plan : DiePlan) (past : Log) (j : Job) → KeepsToOps past j → j.collects ≡ false → is_done plan past j ≡ false → work j.number past < length j.ops
+pub operation_left : (plan : DiePlan) (past : Log) (j : Job) → KeepsToOps past j → j.collects ≡ false → is_done plan past j ≡ false
+    → work j.number past < length j.ops
 operation_left plan past j k kind undone =
     let test : (work j.number past == length j.ops) ≡ false = sym (all_ops (acts j.number past)) ∙ undone in
     less (work j.number past) (length j.ops) k.within (eqb-false (work j.number past) (length j.ops) test)
@@ -59,7 +63,8 @@ operation_left plan past j k kind undone =
     less m n le differs = grind arith
 
 -- the head acts, if a collection that begins finds a victim
-pub head_has_act : (plan : DiePlan) (past : Log) (j : Job) → Stands plan past → IsWaiting plan past j → (j.collects ≡ true → work j.number past ≡ 0 → (b : ℕ) × (victim plan past ≡ Some b)) → (act : Act) × (act_for plan past j ≡ Some act)
+pub head_has_act : (plan : DiePlan) (past : Log) (j : Job) → Stands plan past → IsWaiting plan past j
+    → (j.collects ≡ true → work j.number past ≡ 0 → (b : ℕ) × (victim plan past ≡ Some b)) → (act : Act) × (act_for plan past j ≡ Some act)
 head_has_act plan past j s w finds = by_kind j.collects refl
   where
     undone : is_done plan past j ≡ false
@@ -69,13 +74,17 @@ head_has_act plan past j s w finds = by_kind j.collects refl
     positive zero h = absurd (h refl)
     positive (suc n) h = omega arith
 
-    block : j.collects ≡ true → (t : Bool) → (work j.number past == 0) ≡ t → (b : ℕ) × (cond t (victim plan past) (victim_of plan j.number past) ≡ Some b)
+    block : j.collects ≡ true → (t : Bool) → (work j.number past == 0) ≡ t → (b : ℕ)
+        × (cond t (victim plan past) (victim_of plan j.number past) ≡ Some b)
     block kind true e = finds kind (eqb-true (work j.number past) 0 e)
     block kind false e =
-        let r = s.collects.shown j w.0 (runs_from plan j (acts j.number past) (record { collects = kind; begun = positive (work j.number past) (eqb-false (work j.number past) 0 e); undone = undone })) in
+        let r = s.collects.shown j w.0 (runs_from plan j (acts j.number past)
+        (record { collects = kind; begun = positive (work j.number past) (eqb-false (work j.number past) 0 e); undone = undone })) in
         (r.0, r.1.victim)
 
-    by_kind : (t : Bool) → j.collects ≡ t → (act : Act) × (cond t (collect_act plan (cells plan past) (buffer_after (last_or None (acts j.number past))) (block_for plan past j)) (act_of_op plan past (slice_get j.ops (work j.number past))) ≡ Some act)
+    by_kind : (t : Bool) → j.collects ≡ t → (act : Act) × (cond t
+        (collect_act plan (cells plan past) (buffer_after (last_or None (acts j.number past))) (block_for plan past j))
+        (act_of_op plan past (slice_get j.ops (work j.number past))) ≡ Some act)
     by_kind false kind =
         let lt : work j.number past < length j.ops = operation_left plan past j (s.of_jobs j w.0 kind) kind undone in
         some_act plan past (slice_get j.ops (work j.number past)) _ (slice_get-get_or j.ops (work j.number past) (asks.Read 0) lt)
@@ -86,11 +95,13 @@ head_has_act plan past j s w finds = by_kind j.collects refl
 -- Nothing waits
 
 -- what holds of all that pass a test
-pub kept_in : {X : Type 0} (t : X → Bool) (Q : X → Type 0) (xs : List X) → AllByRecursion Q (filter t xs) → AllByRecursion (λ x. t x ≡ true → Q x) xs
+pub kept_in : {X : Type 0} (t : X → Bool) (Q : X → Type 0) (xs : List X) → AllByRecursion Q (filter t xs)
+    → AllByRecursion (λ x. t x ≡ true → Q x) xs
 kept_in t Q [] h = tt
 kept_in {X = X} t Q (x ∷ xs) h = by_test (t x) refl h (λ k. kept_in t Q xs k)
   where
-    by_test : (b : Bool) → t x ≡ b → AllByRecursion Q (cond b (x ∷ filter t xs) (filter t xs)) → (AllByRecursion Q (filter t xs) → AllByRecursion (λ y. t y ≡ true → Q y) xs) → AllByRecursion (λ y. t y ≡ true → Q y) (x ∷ xs)
+    by_test : (b : Bool) → t x ≡ b → AllByRecursion Q (cond b (x ∷ filter t xs) (filter t xs))
+        → (AllByRecursion Q (filter t xs) → AllByRecursion (λ y. t y ≡ true → Q y) xs) → AllByRecursion (λ y. t y ≡ true → Q y) (x ∷ xs)
     by_test true e g again = (λ k. g.0, again g.1)
     by_test false e g again = (λ k. absurd (true≢false (sym k ∙ e)), again g)
 
@@ -102,22 +113,29 @@ passed_none c i e (inl h) = h
 passed_none c i e (inr h) = absurd (subst (NotBefore i) e h)
 
 -- each that is ready is waived in the slot, or not before its head
-pub all_passed_ready : (plan : DiePlan) (past : Log) (j : Job) → Contains (jobs past) j → is_ready plan past j ≡ true → IsPassed (choice plan past) j
+pub all_passed_ready : (plan : DiePlan) (past : Log) (j : Job) → Contains (jobs past) j → is_ready plan past j ≡ true
+    → IsPassed (choice plan past) j
 all_passed_ready plan past j stands is_ready_now =
     let all = kept_in (is_ready plan past) (IsPassed (choice plan past)) (jobs past) (all_passed_now plan past) in
-    All-contains (λ (x : Job). is_ready plan past x ≡ true → IsPassed (choice plan past) x) (jobs past) j (All-from_recursion (λ (x : Job). is_ready plan past x ≡ true → IsPassed (choice plan past) x) (jobs past) all) stands is_ready_now
+    All-contains (λ (x : Job). is_ready plan past x ≡ true → IsPassed (choice plan past) x) (jobs past) j
+    (All-from_recursion (λ (x : Job). is_ready plan past x ≡ true → IsPassed (choice plan past) x) (jobs past) all) stands is_ready_now
 
 -- without a head nothing waits
 pub nothing_waits : (plan : DiePlan) (past : Log) → (choice plan past).head ≡ None → NothingWaits plan past (choice plan past).waived
-nothing_waits plan past none j stands is_ready_now = passed_none (choice plan past) j none (all_passed_ready plan past j stands is_ready_now)
+nothing_waits plan past none j stands is_ready_now = passed_none (choice plan past) j none
+    (all_passed_ready plan past j stands is_ready_now)
 
-run_by_act : (plan : DiePlan) (past : Log) (ws : List Waived) (j : Job) (o : Option Act) (act : Act) → 0 < plan.shape.erase_slots → Stands plan past → IsWaiting plan past j → is_among j.number ws ≡ false
-    → act_for plan past j ≡ o → o ≡ Some act → FindsBy plan past (reply_with plan past ws j o).ran → IsLegalRun plan past ws (reply_with plan past ws j o).ran
+run_by_act : (plan : DiePlan) (past : Log) (ws : List Waived) (j : Job) (o : Option Act) (act : Act) → 0 < plan.shape.erase_slots
+    → Stands plan past → IsWaiting plan past j → is_among j.number ws ≡ false
+    → act_for plan past j ≡ o → o ≡ Some act → FindsBy plan past (reply_with plan past ws j o).ran
+    → IsLegalRun plan past ws (reply_with plan past ws j o).ran
 run_by_act plan past ws j None act more s w unwaived e some finds = absurd cc
 run_by_act plan past ws j (Some a) act more s w unwaived e some finds = (j, head_legal plan past ws j a more s w unwaived e finds)
 
-run_by_head : (plan : DiePlan) (past : Log) (ws : List Waived) (o : Option Job) → 0 < plan.shape.erase_slots → Stands plan past → OfSome (IsWaiting plan past) o → OfSome (λ j. is_among j.number ws ≡ false) o
-    → (o ≡ None → NothingWaits plan past ws) → ((j : Job) → o ≡ Some j → j.collects ≡ true → work j.number past ≡ 0 → (b : ℕ) × (victim plan past ≡ Some b))
+run_by_head : (plan : DiePlan) (past : Log) (ws : List Waived) (o : Option Job) → 0 < plan.shape.erase_slots → Stands plan past
+    → OfSome (IsWaiting plan past) o → OfSome (λ j. is_among j.number ws ≡ false) o
+    → (o ≡ None → NothingWaits plan past ws) → ((j : Job) → o ≡ Some j → j.collects ≡ true → work j.number past ≡ 0 → (b : ℕ)
+    × (victim plan past ≡ Some b))
     → FindsBy plan past (slot_reply plan past ws o).ran → IsLegalRun plan past ws (slot_reply plan past ws o).ran
 run_by_head plan past ws None more s w unwaived idle victims finds = idle refl
 run_by_head plan past ws (Some j) more s w unwaived idle victims finds =
@@ -125,28 +143,34 @@ run_by_head plan past ws (Some j) more s w unwaived idle victims finds =
     run_by_act plan past ws j (act_for plan past j) a.0 more s w unwaived refl a.1 finds
 
 -- what a slot carries is legal: an act of the head, or nothing where nothing waits
-pub run_legal : (plan : DiePlan) (past : Log) → 0 < plan.shape.erase_slots → Stands plan past → FindsVictim plan past → FindsBy plan past (slot_reply plan past (choice plan past).waived (choice plan past).head).ran
+pub run_legal : (plan : DiePlan) (past : Log) → 0 < plan.shape.erase_slots → Stands plan past → FindsVictim plan past
+    → FindsBy plan past (slot_reply plan past (choice plan past).waived (choice plan past).head).ran
     → IsLegalRun plan past (choice plan past).waived (slot_reply plan past (choice plan past).waived (choice plan past).head).ran
 run_legal plan past more s victims finds =
-    run_by_head plan past (choice plan past).waived (choice plan past).head more s (waits plan past).head (head_unwaived plan past (length (ready plan past)) (accounts plan past) (ready plan past))
+    run_by_head plan past (choice plan past).waived (choice plan past).head more s (waits plan past).head
+    (head_unwaived plan past (length (ready plan past)) (accounts plan past) (ready plan past))
     (nothing_waits plan past) victims finds
 
 -- Entries
 
-reply_legal : (plan : DiePlan) (past : Log) (event : Event) → 0 < plan.shape.erase_slots → Stands plan past → FindsVictim plan past → FindsBy plan past (ran_by (accepted plan past event))
+reply_legal : (plan : DiePlan) (past : Log) (event : Event) → 0 < plan.shape.erase_slots → Stands plan past → FindsVictim plan past
+    → FindsBy plan past (ran_by (accepted plan past event))
     → AreWaivers plan past (waived past) (accounts plan past) (choice plan past).waived → IsLegalReply plan past (accepted plan past event)
 reply_legal plan past (events.Submit task release due ops) more s victims finds waivers = tt
 reply_legal plan past (events.Collect task release due) more s victims finds waivers = tt
 reply_legal plan past events.Slot more s victims finds waivers =
-    let same : (slot_reply plan past (choice plan past).waived (choice plan past).head).waived ≡ (choice plan past).waived = waived_is plan past (choice plan past).waived (choice plan past).head in
+    let same : (slot_reply plan past (choice plan past).waived (choice plan past).head).waived
+    ≡ (choice plan past).waived = waived_is plan past (choice plan past).waived (choice plan past).head in
     let ran = (slot_reply plan past (choice plan past).waived (choice plan past).head).ran in (
       subst (AreWaivers plan past (waived past) (accounts plan past)) (sym same) waivers,
       subst (λ (ws : List Waived). IsLegalRun plan past ws ran) (sym same) (run_legal plan past more s victims finds),
     )
 
 -- an accepted event makes a legal entry, by what the accounts still owe: waivers, victims, free pages and room
-pub entry_legal : (plan : DiePlan) (past : Log) (caller : ℕ) (event : Event) → 0 < plan.shape.erase_slots → Stands plan past → AllByRecursion (λ c. c.0 ≡ false) (refusals plan past event)
-    → FindsVictim plan past → FindsBy plan past (ran_by (accepted plan past event)) → AreWaivers plan past (waived past) (accounts plan past) (choice plan past).waived
+pub entry_legal : (plan : DiePlan) (past : Log) (caller : ℕ) (event : Event) → 0 < plan.shape.erase_slots → Stands plan past
+    → AllByRecursion (λ c. c.0 ≡ false) (refusals plan past event)
+    → FindsVictim plan past → FindsBy plan past (ran_by (accepted plan past event))
+    → AreWaivers plan past (waived past) (accounts plan past) (choice plan past).waived
     → owed (entry caller event (accepted plan past event) ∷ past) ≤ free plan (entry caller event (accepted plan past event) ∷ past)
     → IsLegalEntry plan past (entry caller event (accepted plan past event))
 entry_legal plan past caller event more s none victims finds waivers room = record {

@@ -1,5 +1,6 @@
 -- What is released in a window and due in it takes no more slots than the window has, under a passing plan.
-use Rattle.std.proofs.Common.{◌≡◌, ℕ, zero, suc, ◌+◌, ◌-◌, ◌*◌, ◌<◌, ◌≤◌, ◌==◌, ◌&&◌, nat_le, nat_lt, not, Bool, true, false, cond, List, [], ◌∷◌, length, count_by, sum_by, refl, ap, arith}
+use Rattle.std.proofs.Common.{◌≡◌, ℕ, zero, suc, ◌+◌, ◌-◌, ◌*◌, ◌<◌, ◌≤◌, ◌==◌, ◌&&◌, nat_le, nat_lt, not, Bool, true, false, cond, List}
+use Rattle.std.proofs.Common.{[], ◌∷◌, length, count_by, sum_by, refl, ap, arith}
 use Rattle.std.specs.List.{AllByRecursion}
 use Rattle.std.proofs.lemmas.Bool.{eqb-true}
 use Rattle.std.proofs.lemmas.Bool.Decides.{nat_tests}
@@ -64,7 +65,8 @@ below_all : (task n v : ℕ) → task < n → v ≤ cond (nat_lt task n) v 0
 below_all task n v lt = grind (arith, nat_tests)
 
 by_kind : (collects here inside : Bool) (slots own work : ℕ) → (here ≡ true → own ≡ work)
-    → cond here (cond inside (cond collects slots own) 0) 0 ≤ work * cond ((not collects && here) && inside) 1 0 + slots * cond ((collects && here) && inside) 1 0
+    → cond here (cond inside (cond collects slots own) 0) 0
+    ≤ work * cond ((not collects && here) && inside) 1 0 + slots * cond ((collects && here) && inside) 1 0
 by_kind true true true slots own work same = omega arith
 by_kind true true false slots own work same = omega arith
 by_kind true false inside slots own work same = omega arith
@@ -78,43 +80,62 @@ module _ (plan : DiePlan) (times : Times) (start end : ℕ) where
   jobs_in js task = count_by (windows.is_inside release_of due_of (is_job_of task) (times_of times task).period start end) js
 
   abbrev collections_in : List Job → ℕ → ℕ
-  collections_in js task = count_by (windows.is_inside release_of due_of (is_collection_of task) (times_of times task).collect_period start end) js
+  collections_in js task = count_by (windows.is_inside release_of due_of (is_collection_of task) (times_of times task).collect_period start
+      end) js
 
-  of_task : (js : List Job) (task : ℕ) → sum_by (λ j. cond (j.task == task) (asked_in plan times start end j) 0) js ≤ (times_of times task).work * jobs_in js task + collection_work plan * collections_in js task
+  of_task : (js : List Job) (task : ℕ) → sum_by (λ j. cond (j.task == task) (asked_in plan times start end j) 0) js
+      ≤ (times_of times task).work * jobs_in js task + collection_work plan * collections_in js task
   of_task js task =
       omega (
         arith,
         sum_by_two (λ j. cond (j.task == task) (asked_in plan times start end j) 0)
-            (λ j. (times_of times task).work * cond (windows.is_inside release_of due_of (is_job_of task) (times_of times task).period start end j) 1 0)
-            (λ j. collection_work plan * cond (windows.is_inside release_of due_of (is_collection_of task) (times_of times task).collect_period start end j) 1 0)
-            (λ j. by_kind j.collects (j.task == task) (is_in_window start end j) (collection_work plan) (times_of times j.task).work (times_of times task).work (λ here. ap (λ (i : ℕ). (times_of times i).work) (eqb-true j.task task here))) js,
-        sum_of_chosen (times_of times task).work (windows.is_inside release_of due_of (is_job_of task) (times_of times task).period start end) js,
-        sum_of_chosen (collection_work plan) (windows.is_inside release_of due_of (is_collection_of task) (times_of times task).collect_period start end) js,
+            (λ j. (times_of times task).work * cond (windows.is_inside release_of due_of (is_job_of task) (times_of times task).period start
+            end j) 1 0)
+            (λ j. collection_work plan * cond (windows.is_inside release_of due_of (is_collection_of task)
+            (times_of times task).collect_period start end j) 1 0)
+            (λ j. by_kind j.collects (j.task == task) (is_in_window start end j) (collection_work plan) (times_of times j.task).work
+            (times_of times task).work (λ here. ap (λ (i : ℕ). (times_of times i).work) (eqb-true j.task task here))) js,
+        sum_of_chosen (times_of times task).work (windows.is_inside release_of due_of (is_job_of task) (times_of times task).period start
+            end) js,
+        sum_of_chosen (collection_work plan) (windows.is_inside release_of due_of (is_collection_of task)
+            (times_of times task).collect_period start end) js,
       )
 
-  of_first : (js : List Job) (n : ℕ) → sum_by (λ j. cond (nat_lt j.task n) (asked_in plan times start end j) 0) js ≤ taken_by plan times (jobs_in js) (collections_in js) n
-  of_first js zero = omega (arith, sum_of_none (λ j. cond (nat_lt j.task 0) (asked_in plan times start end j) 0) (λ j. below_none j.task (asked_in plan times start end j)) js)
+  of_first : (js : List Job) (n : ℕ) → sum_by (λ j. cond (nat_lt j.task n) (asked_in plan times start end j) 0) js
+      ≤ taken_by plan times (jobs_in js) (collections_in js) n
+  of_first js zero = omega (
+    arith,
+    sum_of_none (λ j. cond (nat_lt j.task 0) (asked_in plan times start end j) 0)
+        (λ j. below_none j.task (asked_in plan times start end j)) js,
+  )
   of_first js (suc n) =
       omega (
         arith,
-        sum_by_two (λ j. cond (nat_lt j.task (suc n)) (asked_in plan times start end j) 0) (λ j. cond (nat_lt j.task n) (asked_in plan times start end j) 0) (λ j. cond (j.task == n) (asked_in plan times start end j) 0)
+        sum_by_two (λ j. cond (nat_lt j.task (suc n)) (asked_in plan times start end j) 0)
+            (λ j. cond (nat_lt j.task n) (asked_in plan times start end j) 0) (λ j. cond (j.task == n) (asked_in plan times start end j) 0)
             (λ j. below_next j.task n (asked_in plan times start end j)) js,
         of_first js n,
         of_task js n,
       )
 
-  of_known : (js : List Job) → AllByRecursion (IsAsked plan times) js → AllByRecursion (λ j. asked_in plan times start end j ≤ cond (nat_lt j.task (length plan.caps)) (asked_in plan times start end j) 0) js
+  of_known : (js : List Job) → AllByRecursion (IsAsked plan times) js
+      → AllByRecursion (λ j. asked_in plan times start end j ≤ cond (nat_lt j.task (length plan.caps)) (asked_in plan times start end j) 0)
+      js
   of_known [] h = tt
   of_known (j ∷ js) h = (below_all j.task (length plan.caps) (asked_in plan times start end j) h.0.task, of_known js h.1)
 
-  pub asked_fits : (log : Log) → Passes plan times → IsSpaced plan times log → sum_by (asked_in plan times start end) (jobs log) ≤ end - start
+  pub asked_fits : (log : Log) → Passes plan times → IsSpaced plan times log → sum_by (asked_in plan times start end) (jobs log)
+      ≤ end - start
   asked_fits log passes spaced =
       let js : List Job = jobs log in
       omega (
         arith,
-        sum_by_each (asked_in plan times start end) (λ j. cond (nat_lt j.task (length plan.caps)) (asked_in plan times start end j) 0) js (of_known js spaced.asked),
+        sum_by_each (asked_in plan times start end) (λ j. cond (nat_lt j.task (length plan.caps)) (asked_in plan times start end j) 0) js
+            (of_known js spaced.asked),
         of_first js (length plan.caps),
         load_fits plan times (end - start) (jobs_in js) (collections_in js) passes
-            (λ task lt. windows.inside_fit release_of due_of (is_job_of task) (times_of times task).period js (spaced.jobs_apart task) start end)
-            (λ task lt. windows.inside_fit release_of due_of (is_collection_of task) (times_of times task).collect_period js (spaced.collections_apart task lt) start end),
+            (λ task lt. windows.inside_fit release_of due_of (is_job_of task) (times_of times task).period js (spaced.jobs_apart task) start
+            end)
+            (λ task lt. windows.inside_fit release_of due_of (is_collection_of task) (times_of times task).collect_period js
+            (spaced.collections_apart task lt) start end),
       )

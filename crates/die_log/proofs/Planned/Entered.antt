@@ -1,5 +1,6 @@
 -- The jobs of a log are among those that came, in their order.
-use Rattle.std.proofs.Common.{◌≡◌, ◌⊎◌, ℕ, ◌+◌, ◌<◌, ◌≤◌, ◌==◌, ◌&&◌, not, Bool, true, false, List, [], ◌∷◌, ◌++◌, length, refl, sym, ap, subst, ◌∙◌, inl, inr, arith}
+use Rattle.std.proofs.Common.{◌≡◌, ◌⊎◌, ℕ, ◌+◌, ◌<◌, ◌≤◌, ◌==◌, ◌&&◌, not, Bool, true, false, List, [], ◌∷◌, ◌++◌, length, refl, sym, ap}
+use Rattle.std.proofs.Common.{subst, ◌∙◌, inl, inr, arith}
 use Rattle.std.specs.Prelude.{MatchBool}
 use Rattle.std.specs.List.{AllByRecursion}
 use Rattle.std.proofs.lemmas.List.{length_push, append_assoc, append-nil}
@@ -42,10 +43,12 @@ refused a came (j ∷ js) h = inr h
 
 -- Along the events
 
-entry_answer : (plan : DiePlan) (caller : ℕ) (event : Event) (reply : Reply) (past : Log) → IsExact plan (entry caller event reply ∷ past) → reply ≡ accepted plan past event
+entry_answer : (plan : DiePlan) (caller : ℕ) (event : Event) (reply : Reply) (past : Log) → IsExact plan (entry caller event reply ∷ past)
+    → reply ≡ accepted plan past event
 entry_answer plan caller event reply past h = h.1 ∙ (taken_answer plan past event (subst IsAccepted h.1 h.2)).1
 
-entered_next : (plan : DiePlan) (event : Event) (past next : Log) → Adds event past next ⊎ (IsArrival event × (next ≡ past)) → IsExact plan next → IsExact plan past
+entered_next : (plan : DiePlan) (event : Event) (past next : Log) → Adds event past next ⊎ (IsArrival event × (next ≡ past))
+    → IsExact plan next → IsExact plan past
 entered_next plan event past next (inl adds) h = (subst (IsExact plan) adds.2 h).0
 entered_next plan event past next (inr stays) h = subst (IsExact plan) stays.1 h
 
@@ -58,26 +61,32 @@ entered_exact plan (event ∷ rest) past log h exact = entered_next plan event p
 abbrev IsLonger : Log → List Arrival → Log → Type 0
 IsLonger past came log = (new : List Job) × (jobs log ≡ jobs past ++ new) × IsAmong came new
 
-with_one : (past log : Log) (came : List Arrival) (a : Arrival) (j : Job) → IsOf a j → (new : List Job) → jobs log ≡ (jobs past ++ j ∷ []) ++ new → IsAmong came new → IsLonger past (a ∷ came) log
+with_one : (past log : Log) (came : List Arrival) (a : Arrival) (j : Job) → IsOf a j → (new : List Job) → jobs log ≡ (jobs past ++ j ∷ [])
+    ++ new → IsAmong came new → IsLonger past (a ∷ came) log
 with_one past log came a j of new is among = (j ∷ new, is ∙ append_assoc (jobs past) (j ∷ []) new, inl (of, among))
 
 entered_by : (plan : DiePlan) (caller : ℕ) (event : Event) (rest : List Event) (past log : Log)
-    → IsLonger (entry caller event (accepted plan past event) ∷ past) (arrivals (now (entry caller event (accepted plan past event) ∷ past)) rest) log
+    → IsLonger (entry caller event (accepted plan past event) ∷ past)
+    (arrivals (now (entry caller event (accepted plan past event) ∷ past)) rest) log
     → IsLonger past (arrivals (now past) (event ∷ rest)) log
 entered_by plan caller (events.Submit task release due ops) rest past log h =
-    with_one past log (arrivals (now past) rest) _ _ (record { collects = refl; task = refl; release = refl; due = refl; ops = refl }) h.0 h.1 h.2
+    with_one past log (arrivals (now past) rest) _ _ (record { collects = refl; task = refl; release = refl; due = refl; ops = refl }) h.0
+    h.1 h.2
 entered_by plan caller (events.Collect task release due) rest past log h =
-    with_one past log (arrivals (now past) rest) _ _ (record { collects = refl; task = refl; release = refl; due = refl; ops = refl }) h.0 h.1 h.2
+    with_one past log (arrivals (now past) rest) _ _ (record { collects = refl; task = refl; release = refl; due = refl; ops = refl }) h.0
+    h.1 h.2
 entered_by plan caller events.Slot rest past log h =
     let c = choice plan past in
     (h.0, h.1, subst (λ n. IsAmong (arrivals n rest) h.0) (length_push (carried past) (slot_reply plan past c.waived c.head).ran) h.2)
 
-not_entered : (event : Event) (rest : List Event) (past log : Log) → IsArrival event → IsLonger past (arrivals (now past) rest) log → IsLonger past (arrivals (now past) (event ∷ rest)) log
+not_entered : (event : Event) (rest : List Event) (past log : Log) → IsArrival event → IsLonger past (arrivals (now past) rest) log
+    → IsLonger past (arrivals (now past) (event ∷ rest)) log
 not_entered (events.Submit task release due ops) rest past log is h = (h.0, h.1, refused _ (arrivals (now past) rest) h.0 h.2)
 not_entered (events.Collect task release due) rest past log is h = (h.0, h.1, refused _ (arrivals (now past) rest) h.0 h.2)
 not_entered events.Slot rest past log is h = absurd is
 
-entered_one : (plan : DiePlan) (event : Event) (rest : List Event) (past next log : Log) → Adds event past next ⊎ (IsArrival event × (next ≡ past)) → IsExact plan next
+entered_one : (plan : DiePlan) (event : Event) (rest : List Event) (past next log : Log) → Adds event past next
+    ⊎ (IsArrival event × (next ≡ past)) → IsExact plan next
     → IsLonger next (arrivals (now next) rest) log → IsLonger past (arrivals (now past) (event ∷ rest)) log
 entered_one plan event rest past next log (inl adds) exact h =
     let is : next ≡ entry adds.0 event (accepted plan past event) ∷ past =
@@ -86,14 +95,16 @@ entered_one plan event rest past next log (inl adds) exact h =
 entered_one plan event rest past next log (inr stays) exact h =
     not_entered event rest past log stays.0 (subst (λ l. IsLonger l (arrivals (now l) rest) log) stays.1 h)
 
-entered : (plan : DiePlan) (all : List Event) (past log : Log) → AreEntered all past log → IsExact plan log → IsLonger past (arrivals (now past) all) log
+entered : (plan : DiePlan) (all : List Event) (past log : Log) → AreEntered all past log → IsExact plan log
+    → IsLonger past (arrivals (now past) all) log
 entered plan [] past log h exact = ([], ap jobs h ∙ sym (append-nil (jobs past)), tt)
 entered plan (event ∷ rest) past log h exact =
     entered_one plan event rest past h.0 log h.1 (entered_exact plan rest h.0 log h.2 exact) (entered plan rest h.0 log h.2 exact)
 
 -- What jobs have of arrivals
 
-all_of : (P : Arrival → Type 0) (Q : Job → Type 0) → ((a : Arrival) (j : Job) → IsOf a j → P a → Q j) → (came : List Arrival) (js : List Job) → IsAmong came js → AllByRecursion P came → AllByRecursion Q js
+all_of : (P : Arrival → Type 0) (Q : Job → Type 0) → ((a : Arrival) (j : Job) → IsOf a j → P a → Q j)
+    → (came : List Arrival) (js : List Job) → IsAmong came js → AllByRecursion P came → AllByRecursion Q js
 all_of P Q f came [] among h = tt
 all_of P Q f [] (j ∷ js) among h = absurd among
 all_of P Q f (a ∷ came) (j ∷ js) (inl same) h = (f a j same.0 h.0, all_of P Q f came js same.1 h.1)
@@ -105,14 +116,17 @@ release_of j = j.release
 abbrev pub due_of : Job → ℕ
 due_of j = j.due
 
-module _ (test : Arrival → Bool) (chosen : Job → Bool) (same_test : (a : Arrival) (j : Job) → IsOf a j → chosen j ≡ true → test a ≡ true) (period : ℕ) where
-  apart_of : (came : List Arrival) (js : List Job) → IsAmong came js → windows.AreApart arriving.release_of arriving.due_of test period came → windows.AreApart release_of due_of chosen period js
+module _ (test : Arrival → Bool) (chosen : Job → Bool) (same_test : (a : Arrival) (j : Job) → IsOf a j → chosen j ≡ true → test a ≡ true)
+    (period : ℕ) where
+  apart_of : (came : List Arrival) (js : List Job) → IsAmong came js → windows.AreApart arriving.release_of arriving.due_of test period came
+      → windows.AreApart release_of due_of chosen period js
   apart_of came [] among h = tt
   apart_of [] (j ∷ js) among h = absurd among
   apart_of (a ∷ came) (j ∷ js) (inr skipped) h = apart_of came (j ∷ js) skipped h.1
   apart_of (a ∷ came) (j ∷ js) (inl same) h = (first, apart_of came js same.1 h.1)
     where
-      behind : (test a ≡ true) → (b : Arrival) (i : Job) → IsOf b i → (test b ≡ true → a.release + period ≤ b.release) → chosen i ≡ true → j.release + period ≤ i.release
+      behind : (test a ≡ true) → (b : Arrival) (i : Job) → IsOf b i → (test b ≡ true → a.release + period ≤ b.release) → chosen i ≡ true
+          → j.release + period ≤ i.release
       behind mine b i of later is = omega (arith, later (same_test b i of is), of.release, same.0.release)
 
       first : chosen j ≡ true → (j.due ≡ j.release + period) × AllByRecursion (λ i. chosen i ≡ true → j.release + period ≤ i.release) js
@@ -120,7 +134,8 @@ module _ (test : Arrival → Bool) (chosen : Job → Bool) (same_test : (a : Arr
           let mine = same_test a j same.0 is in
           let k = h.0 mine in (
             omega (arith, k.0, same.0.release, same.0.due),
-            all_of (λ b. test b ≡ true → a.release + period ≤ b.release) (λ i. chosen i ≡ true → j.release + period ≤ i.release) (behind mine) came js same.1 k.1,
+            all_of (λ b. test b ≡ true → a.release + period ≤ b.release) (λ i. chosen i ≡ true → j.release + period ≤ i.release)
+                (behind mine) came js same.1 k.1,
           )
 
 -- Jobs by task
@@ -142,8 +157,13 @@ pub record IsAsked (plan : DiePlan) (times : Times) (j : Job) : Type 0 where
   pub task : j.task < length plan.caps
   pub few : j.collects ≡ false → length j.ops ≤ (times_of times j.task).work
 
-asked_by : (plan : DiePlan) (times : Times) (end : ℕ) (a : Arrival) (j : Job) (b : Bool) → IsOf a j → a.collects ≡ b → MatchBool b (IsPlannedCollection plan times end a) (IsPlannedJob plan times a) → IsAsked plan times j
-asked_by plan times end a j true of kind h = record { task = omega (arith, h.task, of.task); few = λ job. absurd (true≢false (sym (of.collects ∙ kind) ∙ job)) }
+asked_by : (plan : DiePlan) (times : Times) (end : ℕ) (a : Arrival) (j : Job) (b : Bool) → IsOf a j → a.collects ≡ b
+    → MatchBool b (IsPlannedCollection plan times end a) (IsPlannedJob plan times a) → IsAsked plan times j
+asked_by plan times end a j true of kind h = record {
+  task = omega (arith, h.task, of.task);
+  few = λ job. absurd
+      (true≢false (sym (of.collects ∙ kind) ∙ job));
+}
 asked_by plan times end a j false of kind h = record {
   task = omega (arith, h.task, of.task);
   few = λ job. omega (arith, h.few, ap (λ (ops : List Op). length ops) of.ops, ap (λ (i : ℕ). (times_of times i).work) of.task);
@@ -156,18 +176,23 @@ asked_of plan times end a j of h = asked_by plan times end a j a.collects of ref
 pub record IsSpaced (plan : DiePlan) (times : Times) (log : Log) : Type 0 where
   pub asked : AllByRecursion (IsAsked plan times) (jobs log)
   pub jobs_apart : (task : ℕ) → windows.AreApart release_of due_of (is_job_of task) (times_of times task).period (jobs log)
-  pub collections_apart : (task : ℕ) → task < length plan.caps → windows.AreApart release_of due_of (is_collection_of task) (times_of times task).collect_period (jobs log)
+  pub collections_apart : (task : ℕ) → task < length plan.caps
+      → windows.AreApart release_of due_of (is_collection_of task) (times_of times task).collect_period (jobs log)
 
 -- so it is in the log that events leave which keep to the plan
-pub spaced : (plan : DiePlan) (times : Times) (all : List Event) (log : Log) → KeepsPlan plan times all → AreEntered all [] log → IsExact plan log → IsSpaced plan times log
+pub spaced : (plan : DiePlan) (times : Times) (all : List Event) (log : Log) → KeepsPlan plan times all → AreEntered all [] log
+    → IsExact plan log → IsSpaced plan times log
 spaced plan times all log keeps enter exact =
     let longer = entered plan all [] log enter exact in
     let among : IsAmong (arrivals 0 all) (jobs log) = subst (IsAmong (arrivals 0 all)) (sym longer.1) longer.2 in
     record {
-      asked = all_of (IsPlanned plan times (slots all)) (IsAsked plan times) (asked_of plan times (slots all)) (arrivals 0 all) (jobs log) among
+      asked = all_of (IsPlanned plan times (slots all)) (IsAsked plan times) (asked_of plan times (slots all)) (arrivals 0 all) (jobs log)
+          among
           (recursion_from_All (IsPlanned plan times (slots all)) (arrivals 0 all) keeps.planned);
-      jobs_apart = λ task. apart_of (arriving.is_job_of task) (is_job_of task) (job_test task) (times_of times task).period (arrivals 0 all) (jobs log) among (arriving.jobs_apart plan times all keeps task);
-      collections_apart = λ task lt. apart_of (arriving.is_collection_of task) (is_collection_of task) (collection_test task) (times_of times task).collect_period (arrivals 0 all) (jobs log) among (arriving.collections_apart plan times all keeps task lt);
+      jobs_apart = λ task. apart_of (arriving.is_job_of task) (is_job_of task) (job_test task) (times_of times task).period (arrivals 0 all)
+          (jobs log) among (arriving.jobs_apart plan times all keeps task);
+      collections_apart = λ task lt. apart_of (arriving.is_collection_of task) (is_collection_of task) (collection_test task)
+          (times_of times task).collect_period (arrivals 0 all) (jobs log) among (arriving.collections_apart plan times all keeps task lt);
     }
 
 -- Earlier moments
@@ -197,13 +222,16 @@ first_of_all P [] ys h = tt
 first_of_all P (x ∷ xs) ys h = (h.0, first_of_all P xs ys h.1)
 
 -- at an earlier moment
-pub spaced_before : (plan : DiePlan) (times : Times) (later moment : Log) → IsSpaced plan times (later ++ moment) → IsSpaced plan times moment
+pub spaced_before : (plan : DiePlan) (times : Times) (later moment : Log) → IsSpaced plan times (later ++ moment)
+    → IsSpaced plan times moment
 spaced_before plan times later moment h =
     let more = jobs_later later moment in
     record {
       asked = first_of_all (IsAsked plan times) (jobs moment) more.0 (subst (AllByRecursion (IsAsked plan times)) more.1 h.asked);
       jobs_apart = λ task. windows.apart_before release_of due_of (is_job_of task) (times_of times task).period (jobs moment) more.0
           (subst (windows.AreApart release_of due_of (is_job_of task) (times_of times task).period) more.1 (h.jobs_apart task));
-      collections_apart = λ task lt. windows.apart_before release_of due_of (is_collection_of task) (times_of times task).collect_period (jobs moment) more.0
-          (subst (windows.AreApart release_of due_of (is_collection_of task) (times_of times task).collect_period) more.1 (h.collections_apart task lt));
+      collections_apart = λ task lt. windows.apart_before release_of due_of (is_collection_of task) (times_of times task).collect_period
+          (jobs moment) more.0
+          (subst (windows.AreApart release_of due_of (is_collection_of task) (times_of times task).collect_period) more.1
+          (h.collections_apart task lt));
     }

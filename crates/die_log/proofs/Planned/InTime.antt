@@ -1,5 +1,7 @@
 -- Under a passing plan each slot up to a due would be needed for other work, were a job late; but there is less of it.
-use Rattle.std.proofs.Common.{◌≡◌, ℕ, suc, ◌-◌, ◌<◌, ◌≤◌, ◌==◌, ◌&&◌, nat_le, Bool, true, false, cond, List, [], ◌∷◌, ◌++◌, length, take, Option, Some, None, is_some, unwrap_or, option_map, count_by, refl, sym, ap, subst, ◌∙◌, inl, inr, arith, slice_get, pos, ◌-ℤ◌, ◌≤ℤ◌}
+use Rattle.std.proofs.Common.{◌≡◌, ℕ, suc, ◌-◌, ◌<◌, ◌≤◌, ◌==◌, ◌&&◌, nat_le, Bool, true, false, cond, List, [], ◌∷◌, ◌++◌, length, take}
+use Rattle.std.proofs.Common.{Option, Some, None, is_some, unwrap_or, option_map, count_by, refl, sym, ap, subst, ◌∙◌, inl, inr, arith}
+use Rattle.std.proofs.Common.{slice_get, pos, ◌-ℤ◌, ◌≤ℤ◌}
 use Rattle.std.specs.Prelude.{Contains}
 use Rattle.std.specs.List.{AllByRecursion}
 use Rattle.std.proofs.lemmas.Bool.{true≢false, cases_Bool, cases_lt, both_ways, and_from, eqb-false, le-leb, eq-eqb}
@@ -42,13 +44,18 @@ use Rattle.die_log.proofs.Planned.Carrying.{filled, one_behind, carries_one, cou
 -- Work
 
 -- the numbers of an unfinished job or collection
-unfinished_job : (plan : DiePlan) (j : Job) (own : List Act) → j.collects ≡ false → are_all plan j own ≡ false → (length own == length j.ops) ≡ false
-unfinished_job plan j own kind h = subst (λ b. cond b (count_by is_erase own == plan.shape.erase_slots) (length own == length j.ops) ≡ false) kind h
+unfinished_job : (plan : DiePlan) (j : Job) (own : List Act) → j.collects ≡ false → are_all plan j own ≡ false
+    → (length own == length j.ops) ≡ false
+unfinished_job plan j own kind h = subst (λ b. cond b (count_by is_erase own == plan.shape.erase_slots) (length own == length j.ops)
+    ≡ false) kind h
 
-unfinished_collection : (plan : DiePlan) (j : Job) (own : List Act) → j.collects ≡ true → are_all plan j own ≡ false → (count_by is_erase own == plan.shape.erase_slots) ≡ false
-unfinished_collection plan j own kind h = subst (λ b. cond b (count_by is_erase own == plan.shape.erase_slots) (length own == length j.ops) ≡ false) kind h
+unfinished_collection : (plan : DiePlan) (j : Job) (own : List Act) → j.collects ≡ true → are_all plan j own ≡ false
+    → (count_by is_erase own == plan.shape.erase_slots) ≡ false
+unfinished_collection plan j own kind h = subst (λ b. cond b (count_by is_erase own == plan.shape.erase_slots) (length own == length j.ops)
+    ≡ false) kind h
 
-module _ (plan : DiePlan) (times : Times) (log : Log) (bound : MeetsBound plan) (exact : IsExact plan log) (spacing : IsSpaced plan times log) where
+module _ (plan : DiePlan) (times : Times) (log : Log) (bound : MeetsBound plan) (exact : IsExact plan log)
+    (spacing : IsSpaced plan times log) where
   abbrev most_is : (j : Job) (b : Bool) → j.collects ≡ b → most_of plan times j ≡ cond b (collection_work plan) (times_of times j.task).work
   most_is j b kind = ap (λ c. cond c (collection_work plan) (times_of times j.task).work) kind
 
@@ -59,7 +66,12 @@ module _ (plan : DiePlan) (times : Times) (log : Log) (bound : MeetsBound plan) 
   few_slots : (j : Job) → Contains (jobs log) j → work j.number log ≤ most_of plan times j
   few_slots j stands = elim (cases_Bool j.collects) [
     | inl kind ↦ omega (arith, most_is j true kind, bounded_work plan bound log exact j stands kind)
-    | inr kind ↦ omega (arith, most_is j false kind, ((stands_well plan bound log exact).0.of_jobs j stands kind).within, (asked j stands).few kind)
+    | inr kind ↦ omega (
+      arith,
+      most_is j false kind,
+      ((stands_well plan bound log exact).0.of_jobs j stands kind).within,
+      (asked j stands).few kind,
+    )
   ]
 
   -- and what isn't done took fewer
@@ -67,11 +79,14 @@ module _ (plan : DiePlan) (times : Times) (log : Log) (bound : MeetsBound plan) 
   fewer_slots j stands undone = elim (cases_Bool j.collects) [
     | inl kind ↦ (
         let h = are_bounded plan bound log exact j stands kind in
-        let left : count_by is_erase (acts j.number log) < plan.shape.erase_slots = unequal (count_by is_erase (acts j.number log)) plan.shape.erase_slots h.erases (unfinished_collection plan j (acts j.number log) kind undone) in
+        let left : count_by is_erase (acts j.number log)
+        < plan.shape.erase_slots = unequal (count_by is_erase (acts j.number log)) plan.shape.erase_slots h.erases
+        (unfinished_collection plan j (acts j.number log) kind undone) in
         omega (arith, most_is j true kind, h.copies, h.reads, h.total, left))
     | inr kind ↦ (
         let within = ((stands_well plan bound log exact).0.of_jobs j stands kind).within in
-        let left : work j.number log < length j.ops = unequal (work j.number log) (length j.ops) within (unfinished_job plan j (acts j.number log) kind undone) in
+        let left : work j.number log < length j.ops = unequal (work j.number log) (length j.ops) within
+        (unfinished_job plan j (acts j.number log) kind undone) in
         omega (arith, most_is j false kind, left, (asked j stands).few kind))
   ]
     where
@@ -87,13 +102,16 @@ record IsRowOf (plan : DiePlan) (log : Log) (k : ℕ) : Type 0 where
   number : job.number ≡ k
   row : row_of (rows plan log) k ≡ Some (row_for plan log job)
 
-row_by : (plan : DiePlan) (log : Log) (k : ℕ) (o : Option Job) (gone : Bool) → slice_get (jobs log) k ≡ o → ((i : Job) → o ≡ Some i → i.number ≡ k)
+row_by : (plan : DiePlan) (log : Log) (k : ℕ) (o : Option Job) (gone : Bool) → slice_get (jobs log) k ≡ o
+    → ((i : Job) → o ≡ Some i → i.number ≡ k)
     → row_of (rows plan log) k ≡ row_in (row_for plan log) gone o → is_known (rows plan log) k ≡ true → IsRowOf plan log k
 row_by plan log k None gone at numbered row known = absurd (true≢false (sym known ∙ ap is_some row))
 row_by plan log k (Some i) true at numbered row known = absurd (true≢false (sym known ∙ ap is_some row))
-row_by plan log k (Some i) false at numbered row known = record { job = i; stands = contained (jobs log) k i at; number = numbered i refl; row = row }
+row_by plan log k (Some i) false at numbered row known = record
+    { job = i; stands = contained (jobs log) k i at; number = numbered i refl; row = row }
 
-job_of_row : (plan : DiePlan) (log : Log) (k : ℕ) → MeetsBound plan → IsExact plan log → is_known (rows plan log) k ≡ true → IsRowOf plan log k
+job_of_row : (plan : DiePlan) (log : Log) (k : ℕ) → MeetsBound plan → IsExact plan log → is_known (rows plan log) k ≡ true
+    → IsRowOf plan log k
 job_of_row plan log k bound exact known =
     let numbered = (stands_well plan bound log exact).0.numbered in
     row_by plan log k (slice_get (jobs log) k) (is_waived log k) refl (λ i at. omega (arith, number_at 0 (jobs log) k i numbered at))
@@ -116,7 +134,8 @@ record IsLate (plan : DiePlan) (log : Log) (j : Job) : Type 0 where
   due_by_now : j.due ≤ now log
   behind : is_done plan log j ≡ true → j.due < completion j.number log
 
-module _ (plan : DiePlan) (times : Times) (log : Log) (bound : MeetsBound plan) (exact : IsExact plan log) (j : Job) (late : IsLate plan log j) where
+module _ (plan : DiePlan) (times : Times) (log : Log) (bound : MeetsBound plan) (exact : IsExact plan log) (j : Job)
+    (late : IsLate plan log j) where
   keys : CarriesLeastKeys (rows plan log) (carried_numbers log)
   keys = least_keys plan bound log exact
 
@@ -136,7 +155,8 @@ module _ (plan : DiePlan) (times : Times) (log : Log) (bound : MeetsBound plan) 
   done_is = ap is_done_in row ∙ done_if (is_done plan log j) (completion j.number log)
 
   completion_is : is_done plan log j ≡ true → completion_of (rows plan log) j.number ≡ completion j.number log
-  completion_is done = ap (number_in (λ r. unwrap_or r.completion 0)) row ∙ completion_if (is_done plan log j) (completion j.number log) done
+  completion_is done = ap (number_in (λ r. unwrap_or r.completion 0)) row
+      ∙ completion_if (is_done plan log j) (completion j.number log) done
 
   -- the slots before the due that carried nothing but keys up to that of the job
   abbrev start : ℕ
@@ -154,7 +174,8 @@ module _ (plan : DiePlan) (times : Times) (log : Log) (bound : MeetsBound plan) 
         let ordered : start ≤ j.due = stretch.ordered in
         let waits : is_within (rows plan log) j.number (slot_at (carried_numbers log) before) ≡ true =
         keys.least before j.number (omega (arith, is, ordered, long_enough)) (ap is_some row) (omega (arith, release_is, after, is))
-        (λ done. (let done_then : is_done plan log j ≡ true = sym done_is ∙ done in omega (arith, completion_is done_then, late.behind done_then, is, ordered))) in
+        (λ done. (let done_then : is_done plan log j ≡ true = sym done_is
+        ∙ done in omega (arith, completion_is done_then, late.behind done_then, is, ordered))) in
         absurd (both_ways (is_within (rows plan log) j.number (slot_at (carried_numbers log) before)) (stretch.least before is) waits))
     | inr not_after ↦ not_after
   ]
@@ -163,7 +184,8 @@ module _ (plan : DiePlan) (times : Times) (log : Log) (bound : MeetsBound plan) 
   each_slot : (t : ℕ) → start ≤ t → t < j.due → carries_one (is_in_window start j.due) (jobs log) (slot_at (carried_numbers log) t) ≡ true
   each_slot t from below =
       let w = within-true (rows plan log) j.number (slot_at (carried_numbers log) t) (stretch.carries t from below) in
-      let inside = stretch-carries (rows plan log) (carried_numbers log) keys j.number start j.due (jobs_of (rows plan log) (carried_numbers log) start j.due) stretch t w.number from below w.carries in
+      let inside = stretch-carries (rows plan log) (carried_numbers log) keys j.number start j.due
+      (jobs_of (rows plan log) (carried_numbers log) start j.due) stretch t w.number from below w.carries in
       let i = job_of_row plan log w.number bound exact w.known in
       let released : start ≤ i.job.release = omega (arith, inside.0, ap (number_in (λ r. r.release)) i.row) in
       let due_by : i.job.due ≤ j.due = omega (arith, inside.1, ap (number_in (λ r. r.due)) i.row, due_is) in
@@ -184,17 +206,21 @@ module _ (plan : DiePlan) (times : Times) (log : Log) (bound : MeetsBound plan) 
     missed : had j < most_of plan times j
     missed = elim (cases_Bool (is_done plan log j)) [
       | inl done ↦ (
-          let ends : completion_in (carried_numbers log) j.number ≡ completion j.number log = omega (arith, keys.completes j.number (done_is ∙ done), completion_is done) in
+          let ends : completion_in (carried_numbers log) j.number
+          ≡ completion j.number log = omega (arith, keys.completes j.number (done_is ∙ done), completion_is done) in
           let last : ℕ = completion_in (carried_numbers log) j.number - 1 in
           let is : completion_in (carried_numbers log) j.number ≡ suc last = omega (arith, ends, late.behind done) in
-          let carries = named-some j.number (slot_at (carried_numbers log) last) (slot-at-end (is_named j.number) (carried_numbers log) last is) in
-          let fewer : had j < work_in (carried_numbers log) j.number = one_behind j.number (carried_numbers log) j.due last (omega (arith, is, ends, late.behind done)) carries in
+          let carries = named-some j.number (slot_at (carried_numbers log) last)
+          (slot-at-end (is_named j.number) (carried_numbers log) last is) in
+          let fewer : had j < work_in (carried_numbers log) j.number = one_behind j.number (carried_numbers log) j.due last
+          (omega (arith, is, ends, late.behind done)) carries in
           omega (arith, fewer, work_carried j.number log, few_slots plan times log bound exact spacing j late.stands))
       | inr undone ↦ omega (arith, had_within j, fewer_slots plan times log bound exact spacing j late.stands undone)
     ]
 
     each_asked : AllByRecursion (λ i. cond (is_in_window start j.due i) (had i) 0 ≤ asked_in plan times start j.due i) (jobs log)
-    each_asked = all_contained (jobs log) (λ i stands. if_inside (is_in_window start j.due i) (had i) (most_of plan times i) (omega (arith, had_within i, few_slots plan times log bound exact spacing i stands)))
+    each_asked = all_contained (jobs log) (λ i stands. if_inside (is_in_window start j.due i) (had i) (most_of plan times i)
+        (omega (arith, had_within i, few_slots plan times log bound exact spacing i stands)))
       where
         if_inside : (b : Bool) (n m : ℕ) → n ≤ m → cond b n 0 ≤ cond b m 0
         if_inside true n m le = le
@@ -205,7 +231,8 @@ module _ (plan : DiePlan) (times : Times) (log : Log) (bound : MeetsBound plan) 
         all_contained (i ∷ js) h = (h i (0, omega arith, refl), all_contained js (λ k c. h k (suc c.0, omega (arith, c.1), c.2)))
 
     own_window : is_in_window start j.due j ≡ true
-    own_window = and_from (nat_le start j.release) (nat_le j.due j.due) (le-leb start j.release from_release) (le-leb j.due j.due (omega arith))
+    own_window = and_from (nat_le start j.release) (nat_le j.due j.due) (le-leb start j.release from_release)
+        (le-leb j.due j.due (omega arith))
 
     -- so all that the window was asked for is more than it has
     too_much : Passes plan times → ⊥
@@ -213,8 +240,10 @@ module _ (plan : DiePlan) (times : Times) (log : Log) (bound : MeetsBound plan) 
         let full = filled (carries_one (is_in_window start j.due) (jobs log)) (carried_numbers log) start j.due long_enough each_slot in
         let counted = count_carried (is_in_window start j.due) (jobs log) (take j.due (carried_numbers log)) in
         let ordered : start ≤ j.due = stretch.ordered in
-        let own : cond (is_in_window start j.due j) (had j) 0 < asked_in plan times start j.due j = if_own (is_in_window start j.due j) (had j) (most_of plan times j) own_window missed in
-        let less = sum_by_less (λ i. cond (is_in_window start j.due i) (had i) 0) (asked_in plan times start j.due) (jobs log) j late.stands each_asked own in
+        let own : cond (is_in_window start j.due j) (had j) 0
+        < asked_in plan times start j.due j = if_own (is_in_window start j.due j) (had j) (most_of plan times j) own_window missed in
+        let less = sum_by_less (λ i. cond (is_in_window start j.due i) (had i) 0) (asked_in plan times start j.due) (jobs log) j late.stands
+        each_asked own in
         omega (arith, full, counted, ordered, less, asked_fits plan times start j.due log passes spacing)
       where
         if_own : (b : Bool) (n m : ℕ) → b ≡ true → n < m → cond b n 0 < cond b m 0
@@ -223,21 +252,33 @@ module _ (plan : DiePlan) (times : Times) (log : Log) (bound : MeetsBound plan) 
 
 -- Logs
 
-none_late : (plan : DiePlan) (times : Times) (log : Log) → MeetsBound plan → IsExact plan log → Passes plan times → IsSpaced plan times log → (j : Job) → IsLate plan log j → ⊥
+none_late : (plan : DiePlan) (times : Times) (log : Log) → MeetsBound plan → IsExact plan log → Passes plan times → IsSpaced plan times log
+    → (j : Job) → IsLate plan log j → ⊥
 none_late plan times log bound exact passes spacing j late = too_much plan times log bound exact j late spacing passes
 
-ended_by_now : (plan : DiePlan) (log : Log) (j : Job) → MeetsBound plan → IsExact plan log → Contains (jobs log) j → is_done plan log j ≡ true → completion j.number log ≤ now log
+ended_by_now : (plan : DiePlan) (log : Log) (j : Job) → MeetsBound plan → IsExact plan log → Contains (jobs log) j → is_done plan log j
+    ≡ true → completion j.number log ≤ now log
 ended_by_now plan log j bound exact stands done =
     let keys = least_keys plan bound log exact in
     let row = row_stands plan log j bound exact stands (done_unwaived plan log j bound exact stands done) in
-    let done_row : of_rows.is_done (rows plan log) j.number ≡ true = ap is_done_in row ∙ (done_if (is_done plan log j) (completion j.number log) ∙ done) in
-    let is : completion_of (rows plan log) j.number ≡ completion j.number log = ap (number_in (λ r. unwrap_or r.completion 0)) row ∙ completion_if (is_done plan log j) (completion j.number log) done in
-    omega (arith, is, keys.completes j.number done_row, end-le-length (is_named j.number) (carried_numbers log), length-map (carried log) (λ c. option_map (λ ran. ran.0) c))
+    let done_row : of_rows.is_done (rows plan log) j.number ≡ true = ap is_done_in row
+    ∙ (done_if (is_done plan log j) (completion j.number log) ∙ done) in
+    let is : completion_of (rows plan log) j.number ≡ completion j.number log = ap (number_in (λ r. unwrap_or r.completion 0)) row
+    ∙ completion_if (is_done plan log j) (completion j.number log) done in
+    omega (
+      arith,
+      is,
+      keys.completes j.number done_row,
+      end-le-length (is_named j.number) (carried_numbers log),
+      length-map (carried log)
+          (λ c. option_map (λ ran. ran.0) c),
+    )
 
 not_late : (c d : ℕ) → c ≤ d → (pos c -ℤ pos d) ≤ℤ pos 0
 not_late c d h = omega (arith, ints)
 
-in_time : (plan : DiePlan) (times : Times) (log : Log) → MeetsBound plan → IsExact plan log → Passes plan times → IsSpaced plan times log → IsInTime plan log
+in_time : (plan : DiePlan) (times : Times) (log : Log) → MeetsBound plan → IsExact plan log → Passes plan times → IsSpaced plan times log
+    → IsInTime plan log
 in_time plan times log bound exact passes spacing = record {
   due_by_now = λ j stands due. elim (cases_Bool (is_waived log j.number)) [
     | inl gone ↦ inr gone
@@ -263,4 +304,5 @@ in_time plan times log bound exact passes spacing = record {
 pub planned_in_time : (plan : DiePlan) (times : Times) → MeetsBound plan → Passes plan times → (all : List Event) → KeepsPlan plan times all
     → (later moment : Log) → IsExact plan (later ++ moment) → AreEntered all [] (later ++ moment) → IsInTime plan moment
 planned_in_time plan times bound passes all keeps later moment exact enter =
-    in_time plan times moment bound (moment_exact plan later moment exact) passes (spaced_before plan times later moment (spaced plan times all (later ++ moment) keeps enter exact))
+    in_time plan times moment bound (moment_exact plan later moment exact) passes
+    (spaced_before plan times later moment (spaced plan times all (later ++ moment) keeps enter exact))

@@ -1,5 +1,6 @@
 -- A run leaves the log of its events.
-use Rattle.std.proofs.Common.{◌≡◌, ◌⊎◌, ℕ, ◌+◌, ◌<◌, ◌≤◌, nat_le, Bool, true, cond, List, [], ◌∷◌, map, Option, Some, None, refl, ap, sym, inl, inr, arith}
+use Rattle.std.proofs.Common.{◌≡◌, ◌⊎◌, ℕ, ◌+◌, ◌<◌, ◌≤◌, nat_le, Bool, true, cond, List, [], ◌∷◌, map, Option, Some, None, refl, ap, sym}
+use Rattle.std.proofs.Common.{inl, inr, arith}
 use Rattle.std.proofs.lemmas.Bool.{cases_Bool, leb-true}
 use Rattle.std.proofs.lemmas.Option.{none-some}
 use Rattle.std.proofs.lemmas.List.{length_push}
@@ -29,7 +30,8 @@ record IsEntered (event : Event) (past next : Log) : Type 0 where
   adds : Adds event past next ⊎ (IsArrival event × (next ≡ past))
   slot : now next ≡ now past + cond (is_slot event) 1 0
 
-by_answer : (plan : DiePlan) (caller : ℕ) (event : Event) (past : Log) (o : Option Refusal) → (is_slot event ≡ true → o ≡ None) → IsEntered event past (with_answer caller event (answer_by plan past event o) past)
+by_answer : (plan : DiePlan) (caller : ℕ) (event : Event) (past : Log) (o : Option Refusal) → (is_slot event ≡ true → o ≡ None)
+    → IsEntered event past (with_answer caller event (answer_by plan past event o) past)
 by_answer plan caller (events.Submit task release due ops) past None on_time = record { adds = inl (caller, _, refl); slot = omega arith }
 by_answer plan caller (events.Submit task release due ops) past (Some r) on_time = record { adds = inr (tt, refl); slot = omega arith }
 by_answer plan caller (events.Collect task release due) past None on_time = record { adds = inl (caller, _, refl); slot = omega arith }
@@ -46,12 +48,14 @@ slot_open plan past lt = elim (cases_Bool (nat_le MAX_SLOT (now past))) [
   | inr left ↦ ap (λ (b : Bool). first_standing ((b, because.ClockEnd) ∷ [])) left
 ]
 
-slot_answered : (plan : DiePlan) (event : Event) (past : Log) → (is_slot event ≡ true → now past < MAX_SLOT) → is_slot event ≡ true → refusal_of plan past event ≡ None
+slot_answered : (plan : DiePlan) (event : Event) (past : Log) → (is_slot event ≡ true → now past < MAX_SLOT) → is_slot event ≡ true
+    → refusal_of plan past event ≡ None
 slot_answered plan (events.Submit task release due ops) past lt is = absurd cc
 slot_answered plan (events.Collect task release due) past lt is = absurd cc
 slot_answered plan events.Slot past lt is = slot_open plan past (lt is)
 
-call_enters : (plan : DiePlan) (call : ℕ × Event) (past : Log) → (is_slot call.1 ≡ true → now past < MAX_SLOT) → IsEntered call.1 past (after_call plan past call)
+call_enters : (plan : DiePlan) (call : ℕ × Event) (past : Log) → (is_slot call.1 ≡ true → now past < MAX_SLOT)
+    → IsEntered call.1 past (after_call plan past call)
 unfolding answer
 call_enters plan call past lt = by_answer plan call.0 call.1 past (refusal_of plan past call.1) (slot_answered plan call.1 past lt)
 
@@ -59,14 +63,18 @@ call_enters plan call past lt = by_answer plan call.0 call.1 past (refusal_of pl
 abbrev pub events_of : List (ℕ × Event) → List Event
 events_of calls = map (λ call. call.1) calls
 
-pub run_enters : (plan : DiePlan) (calls : List (ℕ × Event)) (past : Log) → now past + slots (events_of calls) ≤ MAX_SLOT → AreEntered (events_of calls) past (run plan past calls)
+pub run_enters : (plan : DiePlan) (calls : List (ℕ × Event)) (past : Log) → now past + slots (events_of calls) ≤ MAX_SLOT
+    → AreEntered (events_of calls) past (run plan past calls)
 run_enters plan [] past few = refl
 run_enters plan (call ∷ calls) past few =
-    let counted : slots (events_of (call ∷ calls)) ≡ cond (is_slot call.1) 1 0 + slots (events_of calls) = sum_by-cons (λ e. cond (is_slot e) 1 0) call.1 (events_of calls) in
+    let counted : slots (events_of (call ∷ calls)) ≡ cond (is_slot call.1) 1 0 + slots (events_of calls) = sum_by-cons
+    (λ e. cond (is_slot e) 1 0) call.1 (events_of calls) in
     let e = call_enters plan call past (λ is. omega (arith, few, counted, ap one_if is)) in
     (after_call plan past call, e.adds, run_enters plan calls (after_call plan past call) (omega (arith, few, counted, e.slot)))
 
 -- so nothing is late in a run of events that keep to a passing plan
-pub run_in_time : (plan : DiePlan) (times : Times) → MeetsBound plan → Passes plan times → (calls : List (ℕ × Event)) → KeepsPlan plan times (events_of calls) → IsInTime plan (run plan [] calls)
+pub run_in_time : (plan : DiePlan) (times : Times) → MeetsBound plan → Passes plan times → (calls : List (ℕ × Event))
+    → KeepsPlan plan times (events_of calls) → IsInTime plan (run plan [] calls)
 run_in_time plan times bound passes calls keeps =
-    planned_in_time plan times bound passes (events_of calls) keeps [] (run plan [] calls) (run_exact plan [] calls tt) (run_enters plan calls [] (omega (arith, keeps.few_slots)))
+    planned_in_time plan times bound passes (events_of calls) keeps [] (run plan [] calls) (run_exact plan [] calls tt)
+    (run_enters plan calls [] (omega (arith, keeps.few_slots)))

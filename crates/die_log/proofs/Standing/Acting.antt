@@ -21,11 +21,14 @@ use Rattle.die_log.proofs.Standing.Quiet.{running_stays, runs_later, runs_before
 pub record IsActor (plan : DiePlan) (e : Entry) (past : Log) (j : Job) (act : Act) : Type 0 where
   -- if it runs now, it has a block, and nobody else ran on it
   pub mine : is_running plan (e ∷ past) j ≡ true
-      → (b : ℕ) × (victim_of plan j.number (e ∷ past) ≡ Some b) × IsCollecting plan (cells plan (e ∷ past)) (acts j.number (e ∷ past)) (λ p. changed_since j.number p (e ∷ past)) b × ((i : Job) → Runs plan past i b → i.number ≡ j.number)
+      → (b : ℕ) × (victim_of plan j.number (e ∷ past) ≡ Some b)
+      × IsCollecting plan (cells plan (e ∷ past)) (acts j.number (e ∷ past)) (λ p. changed_since j.number p (e ∷ past)) b
+      × ((i : Job) → Runs plan past i b → i.number ≡ j.number)
   -- it erased nobody else's block
   pub others : (i : Job) (a : ℕ) → Runs plan past i a → i.number ≢ j.number → act ≡ does.Erase a → ⊥
   -- a block that it erased and that is still in erase is its own
-  pub erasing : (a : ℕ) → act ≡ does.Erase a → 0 < (block_at (cells plan (e ∷ past)) a).erasing → (is_running plan (e ∷ past) j ≡ true) × (victim_of plan j.number (e ∷ past) ≡ Some a)
+  pub erasing : (a : ℕ) → act ≡ does.Erase a → 0 < (block_at (cells plan (e ∷ past)) a).erasing → (is_running plan (e ∷ past) j ≡ true)
+      × (victim_of plan j.number (e ∷ past) ≡ Some a)
   -- once it erases it does nothing else
   pub erases : (a : ℕ) → Runs plan past j a → (act ≡ does.Erase a → ⊥) → 0 < (block_at (cells plan past) a).erasing → ⊥
 
@@ -42,8 +45,10 @@ erase_case (does.Erase b) a = by_eq (cases_eq b a)
     by_eq (inr other) = inr (λ e. other cc)
 
 -- an act keeps what stands
-pub acted : (plan : DiePlan) (e : Entry) (past : Log) (j : Job) (act : Act) → ran_by e.reply ≡ Some (j.number, act) → jobs (e ∷ past) ≡ jobs past
-    → AreNumbered 0 (jobs past) → Contains (jobs past) j → Collects plan past → AreSound plan (cells plan (e ∷ past)) → IsStep plan act (cells plan past) (cells plan (e ∷ past)) → IsActor plan e past j act
+pub acted : (plan : DiePlan) (e : Entry) (past : Log) (j : Job) (act : Act) → ran_by e.reply ≡ Some (j.number, act) → jobs (e ∷ past)
+    ≡ jobs past
+    → AreNumbered 0 (jobs past) → Contains (jobs past) j → Collects plan past → AreSound plan (cells plan (e ∷ past))
+    → IsStep plan act (cells plan past) (cells plan (e ∷ past)) → IsActor plan e past j act
     → Collects plan (e ∷ past)
 acted plan e past j act ran same numbered stands k sound step actor = record {
   sound = sound;
@@ -68,7 +73,8 @@ acted plan e past j act ran same numbered stands k sound step actor = record {
     to_past : (i : Job) (b : ℕ) → i.number ≢ j.number → Runs plan (e ∷ past) i b → Runs plan past i b
     to_past i b other r = runs_before plan e past i b (no_act i other) (before i r.stands) r
 
-    shown_by_case : (i : Job) → Contains (jobs (e ∷ past)) i → is_running plan (e ∷ past) i ≡ true → (i.number ≡ j.number) ⊎ (i.number ≡ j.number → ⊥) → (b : ℕ) × Runs plan (e ∷ past) i b
+    shown_by_case : (i : Job) → Contains (jobs (e ∷ past)) i → is_running plan (e ∷ past) i ≡ true → (i.number ≡ j.number)
+        ⊎ (i.number ≡ j.number → ⊥) → (b : ℕ) × Runs plan (e ∷ past) i b
     shown_by_case i h r (inl is) =
         let it : i ≡ j = is_it i h is in
         let m = actor.mine (subst (λ (x : Job). is_running plan (e ∷ past) x ≡ true) it r) in
@@ -82,35 +88,44 @@ acted plan e past j act ran same numbered stands k sound step actor = record {
     collecting_by_case i b r (inl is) =
         let it : i ≡ j = is_it i r.stands is in
         let mine = actor.mine (subst (λ (x : Job). is_running plan (e ∷ past) x ≡ true) it r.running) in
-        let at : mine.0 ≡ b = same_Some mine.0 b (sym mine.1 ∙ subst (λ (x : Job). victim_of plan x.number (e ∷ past) ≡ Some b) it r.victim) in
-        subst (λ (x : Job). IsCollecting plan (cells plan (e ∷ past)) (acts x.number (e ∷ past)) (λ p. changed_since x.number p (e ∷ past)) b) (sym it)
-        (subst (λ (x : ℕ). IsCollecting plan (cells plan (e ∷ past)) (acts j.number (e ∷ past)) (λ p. changed_since j.number p (e ∷ past)) x) at mine.2)
+        let at : mine.0 ≡ b = same_Some mine.0 b (sym mine.1 ∙ subst (λ (x : Job). victim_of plan x.number (e ∷ past) ≡ Some b) it r.victim)
+        in
+        subst (λ (x : Job). IsCollecting plan (cells plan (e ∷ past)) (acts x.number (e ∷ past)) (λ p. changed_since x.number p (e ∷ past))
+        b) (sym it)
+        (subst (λ (x : ℕ). IsCollecting plan (cells plan (e ∷ past)) (acts j.number (e ∷ past)) (λ p. changed_since j.number p (e ∷ past))
+        x) at mine.2)
     collecting_by_case i b r (inr other) =
         let old = to_past i b other r in
-        others_collect plan e past j.number act (cells plan (e ∷ past)) i b ran (λ x. other (sym x)) (actor.others i b old other) step (k.collecting i b old)
+        others_collect plan e past j.number act (cells plan (e ∷ past)) i b ran (λ x. other (sym x)) (actor.others i b old other) step
+        (k.collecting i b old)
 
     only : (i h : Job) (b : ℕ) → Runs plan (e ∷ past) i b → i.number ≡ j.number → Runs plan past h b → h.number ≡ j.number
     only i h b r is old =
         let it : i ≡ j = is_it i r.stands is in
         let mine = actor.mine (subst (λ (x : Job). is_running plan (e ∷ past) x ≡ true) it r.running) in
-        let at : mine.0 ≡ b = same_Some mine.0 b (sym mine.1 ∙ subst (λ (x : Job). victim_of plan x.number (e ∷ past) ≡ Some b) it r.victim) in
+        let at : mine.0 ≡ b = same_Some mine.0 b (sym mine.1 ∙ subst (λ (x : Job). victim_of plan x.number (e ∷ past) ≡ Some b) it r.victim)
+        in
         mine.3 h (subst (λ (x : ℕ). Runs plan past h x) (sym at) old)
 
-    different_by_case : (i h : Job) (b : ℕ) → Runs plan (e ∷ past) i b → Runs plan (e ∷ past) h b → (i.number ≡ j.number) ⊎ (i.number ≡ j.number → ⊥) → (h.number ≡ j.number) ⊎ (h.number ≡ j.number → ⊥) → i.number ≡ h.number
+    different_by_case : (i h : Job) (b : ℕ) → Runs plan (e ∷ past) i b → Runs plan (e ∷ past) h b → (i.number ≡ j.number)
+        ⊎ (i.number ≡ j.number → ⊥) → (h.number ≡ j.number) ⊎ (h.number ≡ j.number → ⊥) → i.number ≡ h.number
     different_by_case i h b r s (inl x) (inl y) = x ∙ sym y
     different_by_case i h b r s (inl x) (inr y) = absurd (y (only i h b r x (to_past h b y s)))
     different_by_case i h b r s (inr x) (inl y) = absurd (x (only h i b s y (to_past i b x r)))
     different_by_case i h b r s (inr x) (inr y) = k.different i h b (to_past i b x r) (to_past h b y s)
 
-    owned_old : (b : ℕ) (i : Job) → Runs plan past i b → 0 < (block_at (cells plan past) b).erasing → (act ≡ does.Erase b → ⊥) → (i.number ≡ j.number) ⊎ (i.number ≡ j.number → ⊥) → (x : Job) × Runs plan (e ∷ past) x b
+    owned_old : (b : ℕ) (i : Job) → Runs plan past i b → 0 < (block_at (cells plan past) b).erasing → (act ≡ does.Erase b → ⊥)
+        → (i.number ≡ j.number) ⊎ (i.number ≡ j.number → ⊥) → (x : Job) × Runs plan (e ∷ past) x b
     owned_old b i r h not_erased (inl is) =
         let it : i ≡ j = same_job (jobs past) i j numbered r.stands stands is in
         absurd (actor.erases b (subst (λ (x : Job). Runs plan past x b) it r) not_erased h)
     owned_old b i r h not_erased (inr other) = (i, runs_later plan e past i b (no_act i other) (later i r.stands) r)
 
-    owned_by_case : (b : ℕ) → 0 < (block_at (cells plan (e ∷ past)) b).erasing → (act ≡ does.Erase b) ⊎ (act ≡ does.Erase b → ⊥) → (x : Job) × Runs plan (e ∷ past) x b
+    owned_by_case : (b : ℕ) → 0 < (block_at (cells plan (e ∷ past)) b).erasing → (act ≡ does.Erase b) ⊎ (act ≡ does.Erase b → ⊥) → (x : Job)
+        × Runs plan (e ∷ past) x b
     owned_by_case b h (inl is) = let r = actor.erasing b is h in (j, record { stands = later j stands; running = r.0; victim = r.1 })
     owned_by_case b h (inr not_erased) =
-        let was : 0 < (block_at (cells plan past) b).erasing = subst (λ (n : ℕ). 0 < n) (erasing_kept plan act (cells plan past) (cells plan (e ∷ past)) b not_erased step) h in
+        let was : 0 < (block_at (cells plan past) b).erasing = subst (λ (n : ℕ). 0 < n)
+        (erasing_kept plan act (cells plan past) (cells plan (e ∷ past)) b not_erased step) h in
         let old = k.owned b was in
         owned_old b old.0 old.1 was not_erased (cases_eq old.0.number j.number)

@@ -1,5 +1,6 @@
 -- The head of a slot acts as its job or collection may.
-use Rattle.std.proofs.Common.{◌≡◌, ◌≢◌, ◌⊎◌, ℕ, zero, suc, ◌+◌, ◌<◌, ◌==◌, ◌&&◌, not, nat_lt, Bool, true, false, cond, List, [], ◌∷◌, ◌++◌, Option, Some, None, refl, ap, sym, ◌∙◌, subst, inl, inr, arith, length, slice_get}
+use Rattle.std.proofs.Common.{◌≡◌, ◌≢◌, ◌⊎◌, ℕ, zero, suc, ◌+◌, ◌<◌, ◌==◌, ◌&&◌, not, nat_lt, Bool, true, false, cond, List, [], ◌∷◌, ◌++◌}
+use Rattle.std.proofs.Common.{Option, Some, None, refl, ap, sym, ◌∙◌, subst, inl, inr, arith, length, slice_get}
 use Rattle.std.specs.Prelude.{Contains, count_by}
 use Rattle.std.specs.List.{last_or, range_with_len, AllByRecursion}
 use Rattle.std.proofs.lemmas.Bool.{true≢false, and_parts, and_from, not-true, not_from_false, ne_eqb, eq-eqb, eqb-true, eqb-false, lt-ltb}
@@ -15,7 +16,8 @@ use Rattle.slot_types.specs.declared.replies.Entry.{Entry}
 use Rattle.die_log.specs.Log.{Log, Job, Carried, jobs, act_of, acts, work}
 use Rattle.die_log.specs.Flash.{ran_by, Cells, cells, cells_after, block_at, is_closed}
 use Rattle.die_log.specs.Work.{are_all, is_done, is_erase, victim_of, shown_by, block_shown}
-use Rattle.die_log.specs.Answers.{is_running, is_block, is_collected, candidates, victim, block_for, buffer_after, collect_act, act_of_op, act_for}
+use Rattle.die_log.specs.Answers.{is_running, is_block, is_collected, candidates, victim, block_for, buffer_after, collect_act, act_of_op}
+use Rattle.die_log.specs.Answers.{act_for}
 use Rattle.die_log.specs.Legal.{changed_since, changed_by, FindsFree}
 use Rattle.die_log.specs.Sound.{IsClosed, IsUnplaced, AreSound, IsCollecting, IsEraseSlot, IsStep, HasRoom, MayDo}
 use Rattle.die_log.specs.Standing.{AreNumbered, Runs, Collects}
@@ -39,10 +41,13 @@ all_any : (xs : List ℕ) → AllByRecursion (λ (x : ℕ). Unit {0}) xs
 all_any [] = tt
 all_any (x ∷ xs) = (tt, all_any xs)
 
-victim_is : (plan : DiePlan) (past : Log) (b : ℕ) → victim plan past ≡ Some b → IsClosed plan (cells plan past) b × (is_collected plan past b ≡ false)
+victim_is : (plan : DiePlan) (past : Log) (b : ℕ) → victim plan past ≡ Some b → IsClosed plan (cells plan past) b
+    × (is_collected plan past b ≡ false)
 victim_is plan past b e =
     let t : ℕ → Bool = λ x. is_closed plan (block_at (cells plan past) x) && not (is_collected plan past x) in
-    let h = subst (OfSome (λ (x : ℕ). Unit {0} × (t x ≡ true))) e (best_all (λ (x : ℕ). Unit {0} × (t x ≡ true)) _ (candidates plan past) (kept_both (λ (x : ℕ). Unit {0}) t (range_with_len 0 plan.shape.blocks) (all_any _))) in
+    let h = subst (OfSome (λ (x : ℕ). Unit {0} × (t x ≡ true))) e
+    (best_all (λ (x : ℕ). Unit {0} × (t x ≡ true)) _ (candidates plan past)
+    (kept_both (λ (x : ℕ). Unit {0}) t (range_with_len 0 plan.shape.blocks) (all_any _))) in
     let k = and_parts (is_closed plan (block_at (cells plan past) b)) (not (is_collected plan past b)) h.1 in
     (eqb-true _ _ k.0, not-true (is_collected plan past b) k.1)
 
@@ -54,7 +59,8 @@ block_is b (Some v) h = eq-eqb v b (same_Some v b h)
 pub runs_collected : (plan : DiePlan) (past : Log) (i : Job) (b : ℕ) → Runs plan past i b → is_collected plan past b ≡ true
 runs_collected plan past i b r =
     any_contained (λ j. is_running plan past j && is_block b (victim_of plan j.number past)) (jobs past) i r.stands
-    (and_from (is_running plan past i) (is_block b (victim_of plan i.number past)) r.running (block_is b (victim_of plan i.number past) r.victim))
+    (and_from (is_running plan past i) (is_block b (victim_of plan i.number past)) r.running
+    (block_is b (victim_of plan i.number past) r.victim))
 
 nil_by : (xs : List Act) → length xs ≡ 0 → xs ≡ []
 nil_by [] h = refl
@@ -66,16 +72,22 @@ zero_or (suc n) h = omega arith
 
 pub runs_from : (plan : DiePlan) (j : Job) (own : List Act) → RunsWith plan j own → runs_with plan j own ≡ true
 runs_from plan j own h =
-    and_from (j.collects && nat_lt 0 (length own)) (not (are_all plan j own)) (and_from j.collects (nat_lt 0 (length own)) h.collects (lt-ltb 0 (length own) h.begun)) (not_from_false (are_all plan j own) h.undone)
+    and_from (j.collects && nat_lt 0 (length own)) (not (are_all plan j own))
+    (and_from j.collects (nat_lt 0 (length own)) h.collects (lt-ltb 0 (length own) h.begun))
+    (not_from_false (are_all plan j own) h.undone)
 
-begun_by : (plan : DiePlan) (past : Log) (j : Job) (b : ℕ) → Collects plan past → Contains (jobs past) j → j.collects ≡ true → is_done plan past j ≡ false
-    → (t : Bool) → (length (acts j.number past) == 0) ≡ t → cond t (victim plan past) (victim_of plan j.number past) ≡ Some b → IsBegun plan past j b
+begun_by : (plan : DiePlan) (past : Log) (j : Job) (b : ℕ) → Collects plan past → Contains (jobs past) j → j.collects ≡ true
+    → is_done plan past j ≡ false
+    → (t : Bool) → (length (acts j.number past) == 0) ≡ t → cond t (victim plan past) (victim_of plan j.number past) ≡ Some b
+    → IsBegun plan past j b
 begun_by plan past j b k stands collects undone true zero_test e =
     let v = victim_is plan past b e in
     let nil : acts j.number past ≡ [] = nil_by (acts j.number past) (eqb-true (length (acts j.number past)) 0 zero_test) in
     record {
-      collecting = collecting_as plan (cells plan past) [] (acts j.number past) (λ p. changed_since j.number p past) (λ p. changed_since j.number p past) b nil (λ p x. x)
-          (begins_collecting plan (cells plan past) (λ p. changed_since j.number p past) b v.0 (idle (block_at (cells plan past) b).erasing refl v.1));
+      collecting = collecting_as plan (cells plan past) [] (acts j.number past) (λ p. changed_since j.number p past)
+          (λ p. changed_since j.number p past) b nil (λ p x. x)
+          (begins_collecting plan (cells plan past) (λ p. changed_since j.number p past) b v.0
+          (idle (block_at (cells plan past) b).erasing refl v.1));
       shown = inr nil;
       apart = λ i r. absurd (true≢false (sym (runs_collected plan past i b r) ∙ v.1));
       same = λ a r. absurd (omega (arith, (runs_says plan j (acts j.number past) r.running).begun, ap length nil));
@@ -83,11 +95,17 @@ begun_by plan past j b k stands collects undone true zero_test e =
   where
     idle : (n : ℕ) → (block_at (cells plan past) b).erasing ≡ n → is_collected plan past b ≡ false → n ≡ 0
     idle zero is not_collected = refl
-    idle (suc n) is not_collected = let o = k.owned b (omega arith) in absurd (true≢false (sym (runs_collected plan past o.0 b o.1) ∙ not_collected))
+    idle (suc n) is not_collected = let o = k.owned b (omega arith) in absurd
+        (true≢false (sym (runs_collected plan past o.0 b o.1) ∙ not_collected))
 begun_by plan past j b k stands collects undone false zero_test e =
     let runs : Runs plan past j b = record {
       stands = stands;
-      running = runs_from plan j (acts j.number past) (record { collects = collects; begun = zero_or (length (acts j.number past)) (eqb-false (length (acts j.number past)) 0 zero_test); undone = undone });
+      running = runs_from plan j (acts j.number past) (record {
+        collects = collects;
+        begun = zero_or (length (acts j.number past)) (eqb-false (length (acts j.number past)) 0 zero_test);
+        undone
+            = undone;
+      });
       victim = e;
     } in record {
       collecting = k.collecting j b runs;
@@ -97,12 +115,14 @@ begun_by plan past j b k stands collects undone false zero_test e =
     }
 
 -- the block for a collection that isn't done
-pub begun : (plan : DiePlan) (past : Log) (j : Job) (b : ℕ) → Collects plan past → Contains (jobs past) j → j.collects ≡ true → is_done plan past j ≡ false → block_for plan past j ≡ Some b → IsBegun plan past j b
+pub begun : (plan : DiePlan) (past : Log) (j : Job) (b : ℕ) → Collects plan past → Contains (jobs past) j → j.collects ≡ true
+    → is_done plan past j ≡ false → block_for plan past j ≡ Some b → IsBegun plan past j b
 begun plan past j b k stands collects undone e = begun_by plan past j b k stands collects undone (length (acts j.number past) == 0) refl e
 
 -- Collections
 
-pub may_erase : (plan : DiePlan) (c : Cells) (own : List Act) (fresh : ℕ → Bool) (b : ℕ) (act : Act) → MayDo plan c own fresh b act → (a : ℕ) → act ≡ does.Erase a → (a ≡ b) × IsClosed plan c a × IsUnplaced c a
+pub may_erase : (plan : DiePlan) (c : Cells) (own : List Act) (fresh : ℕ → Bool) (b : ℕ) (act : Act) → MayDo plan c own fresh b act
+    → (a : ℕ) → act ≡ does.Erase a → (a ≡ b) × IsClosed plan c a × IsUnplaced c a
 may_erase plan c own fresh b (does.Read page bytes) may a e = absurd may
 may_erase plan c own fresh b (does.Write page bytes) may a e = absurd may
 may_erase plan c own fresh b (does.Trim page) may a e = absurd may
@@ -114,7 +134,8 @@ may_erase plan c own fresh b (does.Erase x) may a e =
     (at, subst (IsClosed plan c) (sym at) may.closed, subst (IsUnplaced c) (sym at) may.unplaced)
 
 -- what isn't an erase slot needs a page that is placed in the block
-pub may_placed : (plan : DiePlan) (c : Cells) (own : List Act) (fresh : ℕ → Bool) (b : ℕ) (act : Act) → MayDo plan c own fresh b act → (act ≡ does.Erase b → ⊥) → IsUnplaced c b → ⊥
+pub may_placed : (plan : DiePlan) (c : Cells) (own : List Act) (fresh : ℕ → Bool) (b : ℕ) (act : Act) → MayDo plan c own fresh b act
+    → (act ≡ does.Erase b → ⊥) → IsUnplaced c b → ⊥
 may_placed plan c own fresh b (does.Read page bytes) may not_erased none = may
 may_placed plan c own fresh b (does.Write page bytes) may not_erased none = may
 may_placed plan c own fresh b (does.Trim page) may not_erased none = may
@@ -122,46 +143,61 @@ may_placed plan c own fresh b (does.CopyRead page) may not_erased none = none pa
 may_placed plan c own fresh b (does.CopyProgram page) may not_erased none = none page may.placed
 may_placed plan c own fresh b (does.Erase x) may not_erased none = not_erased (ap does.Erase may.same)
 
-first_shown : (plan : DiePlan) (c : Cells) (own : List Act) (fresh : ℕ → Bool) (b : ℕ) (act : Act) → MayDo plan c own fresh b act → own ≡ [] → block_shown c act ≡ Some b
+first_shown : (plan : DiePlan) (c : Cells) (own : List Act) (fresh : ℕ → Bool) (b : ℕ) (act : Act) → MayDo plan c own fresh b act → own ≡ []
+    → block_shown c act ≡ Some b
 first_shown plan c own fresh b (does.Read page bytes) may nil = absurd may
 first_shown plan c own fresh b (does.Write page bytes) may nil = absurd may
 first_shown plan c own fresh b (does.Trim page) may nil = absurd may
 first_shown plan c own fresh b (does.CopyRead page) may nil = may.placed
-first_shown plan c own fresh b (does.CopyProgram page) may nil = absurd (none-some (does.CopyRead page) (sym (ap (last_or None) nil) ∙ may.follows))
+first_shown plan c own fresh b (does.CopyProgram page) may nil = absurd
+    (none-some (does.CopyRead page) (sym (ap (last_or None) nil) ∙ may.follows))
 first_shown plan c own fresh b (does.Erase x) may nil = ap Some may.same
 
 -- the act shows the collection's block
-pub act_shows : (plan : DiePlan) (past : Log) (j : Job) (b : ℕ) (act : Act) → IsBegun plan past j b → MayDo plan (cells plan past) (acts j.number past) (λ p. changed_since j.number p past) b act
+pub act_shows : (plan : DiePlan) (past : Log) (j : Job) (b : ℕ) (act : Act) → IsBegun plan past j b
+    → MayDo plan (cells plan past) (acts j.number past) (λ p. changed_since j.number p past) b act
     → shown_by plan past (victim_of plan j.number past) (Some act) ≡ Some b
 act_shows plan past j b act k may = by_case k.shown
   where
-    by_case : (victim_of plan j.number past ≡ Some b) ⊎ (acts j.number past ≡ []) → shown_by plan past (victim_of plan j.number past) (Some act) ≡ Some b
+    by_case : (victim_of plan j.number past ≡ Some b) ⊎ (acts j.number past ≡ [])
+        → shown_by plan past (victim_of plan j.number past) (Some act) ≡ Some b
     by_case (inl e) = ap (λ (o : Option ℕ). shown_by plan past o (Some act)) e
-    by_case (inr nil) = ap (λ (o : Option ℕ). shown_by plan past o (Some act)) (no_victim plan j.number past nil) ∙ first_shown plan (cells plan past) (acts j.number past) (λ p. changed_since j.number p past) b act may nil
+    by_case (inr nil) = ap (λ (o : Option ℕ). shown_by plan past o (Some act)) (no_victim plan j.number past nil)
+        ∙ first_shown plan (cells plan past) (acts j.number past) (λ p. changed_since j.number p past) b act may nil
 
-pub all_is : (plan : DiePlan) (j : Job) (own : List Act) → j.collects ≡ true → are_all plan j own ≡ (count_by is_erase own == plan.shape.erase_slots)
+pub all_is : (plan : DiePlan) (j : Job) (own : List Act) → j.collects ≡ true → are_all plan j own
+    ≡ (count_by is_erase own == plan.shape.erase_slots)
 all_is plan j own e = rw e refl
 
 pub erases_push : (own : List Act) (a : ℕ) → count_by is_erase (own ++ does.Erase a ∷ []) ≡ count_by is_erase own + 1
 erases_push own a = sum_by_push (λ x. cond (is_erase x) 1 0) own (does.Erase a)
 
 -- a collection acts as one may
-pub collection_actor : (plan : DiePlan) (e : Entry) (past : Log) (j : Job) (act : Act) (b : ℕ) → ran_by e.reply ≡ Some (j.number, act) → j.collects ≡ true
-    → AreSound plan (cells plan past) → IsBegun plan past j b → MayDo plan (cells plan past) (acts j.number past) (λ p. changed_since j.number p past) b act → IsStep plan act (cells plan past) (cells plan (e ∷ past))
+pub collection_actor : (plan : DiePlan) (e : Entry) (past : Log) (j : Job) (act : Act) (b : ℕ) → ran_by e.reply ≡ Some (j.number, act)
+    → j.collects ≡ true
+    → AreSound plan (cells plan past) → IsBegun plan past j b
+    → MayDo plan (cells plan past) (acts j.number past) (λ p. changed_since j.number p past) b act
+    → IsStep plan act (cells plan past) (cells plan (e ∷ past))
     → IsActor plan e past j act
 collection_actor plan e past j act b ran collects sound k may step = record {
   mine = λ r. (
     b,
     shows,
     subst (λ (xs : List Act). IsCollecting plan (cells plan (e ∷ past)) xs (λ p. changed_since j.number p (e ∷ past)) b) (sym grown)
-        (own_step plan act (cells plan past) (cells plan (e ∷ past)) (acts j.number past) (λ p. changed_since j.number p past) (λ p. changed_since j.number p (e ∷ past)) b k.collecting may step (undone r) never),
+        (own_step plan act (cells plan past) (cells plan (e ∷ past)) (acts j.number past) (λ p. changed_since j.number p past)
+        (λ p. changed_since j.number p (e ∷ past)) b k.collecting may step (undone r) never),
     k.apart,
   );
   others = λ i a r other is. other (k.apart i (subst (λ (x : ℕ). Runs plan past i x) (erased a is).0 r));
-  erasing = λ a is h. (running a (subst (λ (x : Act). IsStep plan x (cells plan past) (cells plan (e ∷ past))) is step) is h, shows ∙ ap Some (sym (erased a is).0));
+  erasing = λ a is h. (
+    running a (subst (λ (x : Act). IsStep plan x (cells plan past) (cells plan (e ∷ past))) is step) is h,
+    shows
+        ∙ ap Some (sym (erased a is).0),
+  );
   erases = λ a r not_erased h.
       let at : a ≡ b = k.same a r in
-      may_placed plan (cells plan past) (acts j.number past) (λ p. changed_since j.number p past) b act may (λ x. not_erased (x ∙ ap does.Erase (sym at))) (subst (IsUnplaced (cells plan past)) at (sound.erasing a h).2);
+      may_placed plan (cells plan past) (acts j.number past) (λ p. changed_since j.number p past) b act may
+      (λ x. not_erased (x ∙ ap does.Erase (sym at))) (subst (IsUnplaced (cells plan past)) at (sound.erasing a h).2);
 }
   where
     acted_own : act_of j.number (ran_by e.reply) ≡ Some act
@@ -180,32 +216,42 @@ collection_actor plan e past j act b ran collects sound k may step = record {
     own_written p before = rw (eq-eqb j.number j.number refl) refl
 
     never : (p : ℕ) → changed_since j.number p (e ∷ past) ≡ false
-    never p = ap (λ (c : Carried). changed_by c j.number p (changed_since j.number p past)) ran ∙ own_written p (changed_since j.number p past)
+    never p = ap (λ (c : Carried). changed_by c j.number p (changed_since j.number p past)) ran
+        ∙ own_written p (changed_since j.number p past)
 
     undone : is_running plan (e ∷ past) j ≡ true → count_by is_erase (acts j.number past ++ act ∷ []) ≢ plan.shape.erase_slots
     undone r is =
         let h = (runs_says plan j (acts j.number (e ∷ past)) r).undone in
-        let same : are_all plan j (acts j.number (e ∷ past)) ≡ (count_by is_erase (acts j.number past ++ act ∷ []) == plan.shape.erase_slots) = ap (are_all plan j) grown ∙ all_is plan j (acts j.number past ++ act ∷ []) collects in
+        let same : are_all plan j (acts j.number (e ∷ past))
+        ≡ (count_by is_erase (acts j.number past ++ act ∷ []) == plan.shape.erase_slots) = ap (are_all plan j) grown
+        ∙ all_is plan j (acts j.number past ++ act ∷ []) collects in
         eqb-false (count_by is_erase (acts j.number past ++ act ∷ [])) plan.shape.erase_slots (sym same ∙ h) is
 
-    running : (a : ℕ) → IsEraseSlot plan a (cells plan past) (cells plan (e ∷ past)) → act ≡ does.Erase a → 0 < (block_at (cells plan (e ∷ past)) a).erasing → is_running plan (e ∷ past) j ≡ true
+    running : (a : ℕ) → IsEraseSlot plan a (cells plan past) (cells plan (e ∷ past)) → act ≡ does.Erase a → 0
+        < (block_at (cells plan (e ∷ past)) a).erasing → is_running plan (e ∷ past) j ≡ true
     running a w is h = by_case w.slot
       where
         at : a ≡ b
         at = (erased a is).0
 
         count : count_by is_erase (acts j.number past ++ act ∷ []) ≡ (block_at (cells plan past) a).erasing + 1
-        count = ap (λ (x : Act). count_by is_erase (acts j.number past ++ x ∷ [])) is ∙ (erases_push (acts j.number past) a ∙ ap (λ (n : ℕ). n + 1) (sym k.collecting.erases ∙ ap (λ (x : ℕ). (block_at (cells plan past) x).erasing) (sym at)))
+        count = ap (λ (x : Act). count_by is_erase (acts j.number past ++ x ∷ [])) is
+            ∙ (erases_push (acts j.number past) a ∙ ap (λ (n : ℕ). n + 1) (sym k.collecting.erases
+            ∙ ap (λ (x : ℕ). (block_at (cells plan past) x).erasing) (sym at)))
 
-        by_case : (((block_at (cells plan past) a).erasing + 1 ≡ plan.shape.erase_slots) × ((block_at (cells plan (e ∷ past)) a).filled ≡ 0) × ((block_at (cells plan (e ∷ past)) a).erasing ≡ 0))
-            ⊎ (((block_at (cells plan past) a).erasing + 1 ≢ plan.shape.erase_slots) × ((block_at (cells plan (e ∷ past)) a).filled ≡ (block_at (cells plan past) a).filled) × ((block_at (cells plan (e ∷ past)) a).erasing ≡ (block_at (cells plan past) a).erasing + 1))
+        by_case : (((block_at (cells plan past) a).erasing + 1 ≡ plan.shape.erase_slots) × ((block_at (cells plan (e ∷ past)) a).filled ≡ 0)
+            × ((block_at (cells plan (e ∷ past)) a).erasing ≡ 0))
+            ⊎ (((block_at (cells plan past) a).erasing + 1 ≢ plan.shape.erase_slots)
+            × ((block_at (cells plan (e ∷ past)) a).filled ≡ (block_at (cells plan past) a).filled)
+            × ((block_at (cells plan (e ∷ past)) a).erasing ≡ (block_at (cells plan past) a).erasing + 1))
             → is_running plan (e ∷ past) j ≡ true
         by_case (inl x) = absurd (omega (arith, x.2))
         by_case (inr x) =
             ap (runs_with plan j) grown ∙ runs_from plan j (acts j.number past ++ act ∷ []) (record {
               collects = collects;
               begun = omega (arith, length_push (acts j.number past) act);
-              undone = all_is plan j (acts j.number past ++ act ∷ []) collects ∙ ne_eqb (count_by is_erase (acts j.number past ++ act ∷ [])) plan.shape.erase_slots (λ y. x.0 (sym count ∙ y));
+              undone = all_is plan j (acts j.number past ++ act ∷ []) collects
+                  ∙ ne_eqb (count_by is_erase (acts j.number past ++ act ∷ [])) plan.shape.erase_slots (λ y. x.0 (sym count ∙ y));
             })
 
 -- Jobs
@@ -232,7 +278,8 @@ op_act plan past (Some (asks.Write page bytes)) act e = subst IsJobAct (same_Som
 op_act plan past (Some (asks.Trim page)) act e = subst IsJobAct (same_Some _ act e) tt
 
 -- a job erases nothing
-pub job_actor : (plan : DiePlan) (e : Entry) (past : Log) (j : Job) (act : Act) → j.collects ≡ false → IsJobAct act → IsActor plan e past j act
+pub job_actor : (plan : DiePlan) (e : Entry) (past : Log) (j : Job) (act : Act) → j.collects ≡ false → IsJobAct act
+    → IsActor plan e past j act
 job_actor plan e past j act is_job h = record {
   mine = λ r. absurd (true≢false (sym (runs_says plan j (acts j.number (e ∷ past)) r).collects ∙ is_job));
   others = λ i a r other is. job_erases_not act h a is;
@@ -250,29 +297,41 @@ room_of plan past (does.CopyRead page) h = tt
 room_of plan past (does.CopyProgram page) h = h
 room_of plan past (does.Erase b) h = tt
 
-pub block_some : (plan : DiePlan) (c : Cells) (buffer o : Option ℕ) (act : Act) → collect_act plan c buffer o ≡ Some act → (b : ℕ) × (o ≡ Some b)
+pub block_some : (plan : DiePlan) (c : Cells) (buffer o : Option ℕ) (act : Act) → collect_act plan c buffer o ≡ Some act → (b : ℕ)
+    × (o ≡ Some b)
 block_some plan c buffer None act e = absurd cc
 block_some plan c buffer (Some b) act e = (b, refl)
 
 -- a collection that has its turn has a block, and does what it may
-pub collection_may : (plan : DiePlan) (past : Log) (j : Job) (act : Act) → 0 < plan.shape.erase_slots → Collects plan past → Contains (jobs past) j → j.collects ≡ true → is_done plan past j ≡ false → act_for plan past j ≡ Some act
+pub collection_may : (plan : DiePlan) (past : Log) (j : Job) (act : Act) → 0 < plan.shape.erase_slots → Collects plan past
+    → Contains (jobs past) j → j.collects ≡ true → is_done plan past j ≡ false → act_for plan past j ≡ Some act
     → (b : ℕ) × IsBegun plan past j b × MayDo plan (cells plan past) (acts j.number past) (λ p. changed_since j.number p past) b act
 collection_may plan past j act more k stands collects undone e =
     let buffer : Option ℕ = buffer_after (last_or None (acts j.number past)) in
     let is : collect_act plan (cells plan past) buffer (block_for plan past j) ≡ Some act =
-    ap (λ (t : Bool). cond t (collect_act plan (cells plan past) buffer (block_for plan past j)) (act_of_op plan past (slice_get j.ops (work j.number past)))) (sym collects) ∙ e in
+    ap (λ (t : Bool). cond t (collect_act plan (cells plan past) buffer (block_for plan past j))
+    (act_of_op plan past (slice_get j.ops (work j.number past)))) (sym collects) ∙ e in
     let b = block_some plan (cells plan past) buffer (block_for plan past j) act is in
     let has = begun plan past j b.0 k stands collects undone b.1 in
-    let at : collect_act plan (cells plan past) buffer (Some b.0) ≡ Some act = ap (collect_act plan (cells plan past) buffer) (sym b.1) ∙ is in
-    (b.0, has, next_may plan (cells plan past) (acts j.number past) (λ p. changed_since j.number p past) b.0 act more k.sound has.collecting at)
+    let at : collect_act plan (cells plan past) buffer (Some b.0) ≡ Some act = ap (collect_act plan (cells plan past) buffer) (sym b.1)
+    ∙ is in (
+      b.0,
+      has,
+      next_may plan (cells plan past) (acts j.number past) (λ p. changed_since j.number p past) b.0 act more k.sound has.collecting
+          at,
+    )
 
-pub job_act : (plan : DiePlan) (past : Log) (j : Job) (act : Act) → j.collects ≡ false → act_for plan past j ≡ Some act → act_of_op plan past (slice_get j.ops (work j.number past)) ≡ Some act
+pub job_act : (plan : DiePlan) (past : Log) (j : Job) (act : Act) → j.collects ≡ false → act_for plan past j ≡ Some act
+    → act_of_op plan past (slice_get j.ops (work j.number past)) ≡ Some act
 job_act plan past j act is_job e =
-    ap (λ (t : Bool). cond t (collect_act plan (cells plan past) (buffer_after (last_or None (acts j.number past))) (block_for plan past j)) (act_of_op plan past (slice_get j.ops (work j.number past)))) (sym is_job) ∙ e
+    ap (λ (t : Bool). cond t (collect_act plan (cells plan past) (buffer_after (last_or None (acts j.number past))) (block_for plan past j))
+    (act_of_op plan past (slice_get j.ops (work j.number past)))) (sym is_job) ∙ e
 
 -- the head's act keeps what stands
-pub head_acted : (plan : DiePlan) (e : Entry) (past : Log) (j : Job) (act : Act) → 0 < plan.shape.pages → 0 < plan.shape.erase_slots → ran_by e.reply ≡ Some (j.number, act) → jobs (e ∷ past) ≡ jobs past
-    → AreNumbered 0 (jobs past) → Contains (jobs past) j → is_done plan past j ≡ false → act_for plan past j ≡ Some act → FindsFree plan past act → Collects plan past → Collects plan (e ∷ past)
+pub head_acted : (plan : DiePlan) (e : Entry) (past : Log) (j : Job) (act : Act) → 0 < plan.shape.pages → 0 < plan.shape.erase_slots
+    → ran_by e.reply ≡ Some (j.number, act) → jobs (e ∷ past) ≡ jobs past
+    → AreNumbered 0 (jobs past) → Contains (jobs past) j → is_done plan past j ≡ false → act_for plan past j ≡ Some act
+    → FindsFree plan past act → Collects plan past → Collects plan (e ∷ past)
 head_acted plan e past j act pages more ran same numbered stands undone is finds k = by_kind j.collects refl
   where
     number : ℕ
@@ -282,17 +341,21 @@ head_acted plan e past j act pages more ran same numbered stands undone is finds
     after = ap (λ (c : Carried). cells_after plan c (cells plan past)) ran
 
     step : ((b : ℕ) → act ≡ does.Erase b → IsClosed plan (cells plan past) b) → IsStep plan act (cells plan past) (cells plan (e ∷ past))
-    step closed = subst (IsStep plan act (cells plan past)) (sym after) (step_is plan number act (cells plan past) pages k.sound (room_of plan past act finds) closed)
+    step closed = subst (IsStep plan act (cells plan past)) (sym after)
+        (step_is plan number act (cells plan past) pages k.sound (room_of plan past act finds) closed)
 
     by_kind : (t : Bool) → j.collects ≡ t → Collects plan (e ∷ past)
     by_kind false kind =
         let h : IsJobAct act = op_act plan past (slice_get j.ops (work j.number past)) act (job_act plan past j act kind is) in
         let w : IsStep plan act (cells plan past) (cells plan (e ∷ past)) = step (λ b x. absurd (job_erases_not act h b x)) in
-        acted plan e past j act ran same numbered stands k (step_sound plan act (cells plan past) (cells plan (e ∷ past)) more k.sound (λ b x. absurd (job_erases_not act h b x)) w) w (job_actor plan e past j act kind h)
+        acted plan e past j act ran same numbered stands k
+        (step_sound plan act (cells plan past) (cells plan (e ∷ past)) more k.sound (λ b x. absurd (job_erases_not act h b x)) w) w
+        (job_actor plan e past j act kind h)
     by_kind true kind =
         let m = collection_may plan past j act more k stands kind undone is in
         let erased : (a : ℕ) → act ≡ does.Erase a → (a ≡ m.0) × IsClosed plan (cells plan past) a × IsUnplaced (cells plan past) a =
         λ a x. may_erase plan (cells plan past) (acts j.number past) (λ p. changed_since j.number p past) m.0 act m.2 a x in
         let w : IsStep plan act (cells plan past) (cells plan (e ∷ past)) = step (λ a x. (erased a x).1) in
-        acted plan e past j act ran same numbered stands k (step_sound plan act (cells plan past) (cells plan (e ∷ past)) more k.sound (λ a x. ((erased a x).1, (erased a x).2)) w) w
+        acted plan e past j act ran same numbered stands k
+        (step_sound plan act (cells plan past) (cells plan (e ∷ past)) more k.sound (λ a x. ((erased a x).1, (erased a x).2)) w) w
         (collection_actor plan e past j act m.0 ran kind k.sound m.1 m.2 w)

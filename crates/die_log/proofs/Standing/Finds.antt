@@ -12,4 +12,5 @@ FindsBy plan past (Some (number, act)) = FindsFree plan past act
 
 -- a collection that is the head of the next slot, and has not begun, finds a block
 abbrev pub FindsVictim : DiePlan → Log → Type 0
-FindsVictim plan past = (j : Job) → (choice plan past).head ≡ Some j → j.collects ≡ true → work j.number past ≡ 0 → (b : ℕ) × (victim plan past ≡ Some b)
+FindsVictim plan past = (j : Job) → (choice plan past).head ≡ Some j → j.collects ≡ true → work j.number past ≡ 0 → (b : ℕ)
+    × (victim plan past ≡ Some b)

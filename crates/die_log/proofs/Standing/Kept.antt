@@ -1,5 +1,6 @@
 -- What stands of every exact log.
-use Rattle.std.proofs.Common.{◌≡◌, ◌⊎◌, ℕ, ◌<◌, true, false, List, [], ◌∷◌, ◌++◌, Option, Some, None, refl, ap, sym, ◌∙◌, subst, inl, inr, arith, length, slice_get}
+use Rattle.std.proofs.Common.{◌≡◌, ◌⊎◌, ℕ, ◌<◌, true, false, List, [], ◌∷◌, ◌++◌, Option, Some, None, refl, ap, sym, ◌∙◌, subst, inl, inr}
+use Rattle.std.proofs.Common.{arith, length, slice_get}
 use Rattle.std.specs.Prelude.{Contains}
 use Rattle.std.proofs.lemmas.Bool.{and_parts, not-true, cases_eq}
 use Rattle.std.proofs.lemmas.Option.{slice_get_within}
@@ -46,17 +47,21 @@ keeps_new log j e = record {
   unerased = λ b h. absurd (omega (arith, (subst (λ (xs : List Act). Contains xs (does.Erase b)) e h).1));
 }
 
-op_within : (plan : DiePlan) (past : Log) (ops : List Op) (n : ℕ) (act : Act) (o : Option Op) → slice_get ops n ≡ o → act_of_op plan past o ≡ Some act → n < length ops
+op_within : (plan : DiePlan) (past : Log) (ops : List Op) (n : ℕ) (act : Act) (o : Option Op) → slice_get ops n ≡ o → act_of_op plan past o
+    ≡ Some act → n < length ops
 op_within plan past ops n act None is e = absurd cc
 op_within plan past ops n act (Some op) is e = slice_get_within ops n op is
 
 -- a job's act is one of its operations
-keeps_more : (plan : DiePlan) (e : Entry) (past : Log) (j : Job) (act : Act) → acts j.number (e ∷ past) ≡ acts j.number past ++ act ∷ [] → act_of_op plan past (slice_get j.ops (work j.number past)) ≡ Some act → KeepsToOps past j → KeepsToOps (e ∷ past) j
+keeps_more : (plan : DiePlan) (e : Entry) (past : Log) (j : Job) (act : Act) → acts j.number (e ∷ past) ≡ acts j.number past ++ act ∷ []
+    → act_of_op plan past (slice_get j.ops (work j.number past)) ≡ Some act → KeepsToOps past j → KeepsToOps (e ∷ past) j
 keeps_more plan e past j act grown is k =
-    let lt : work j.number past < length j.ops = op_within plan past j.ops (work j.number past) act (slice_get j.ops (work j.number past)) refl is in
+    let lt : work j.number past < length j.ops = op_within plan past j.ops (work j.number past) act (slice_get j.ops (work j.number past))
+    refl is in
     let kind : IsJobAct act = op_act plan past (slice_get j.ops (work j.number past)) act is in record {
       within = omega (arith, ap length grown, length_push (acts j.number past) act);
-      unerased = λ b h. by_case b (Contains-push_cases (acts j.number past) act (does.Erase b) (subst (λ (xs : List Act). Contains xs (does.Erase b)) grown h)) kind;
+      unerased = λ b h. by_case b (Contains-push_cases (acts j.number past) act (does.Erase b)
+          (subst (λ (xs : List Act). Contains xs (does.Erase b)) grown h)) kind;
     }
   where
     by_case : (b : ℕ) → Contains (acts j.number past) (does.Erase b) ⊎ (act ≡ does.Erase b) → IsJobAct act → ⊥
@@ -66,15 +71,19 @@ keeps_more plan e past j act grown is k =
 -- Entries
 
 -- an entry that carried nothing and brought nobody
-quiet_stands : (plan : DiePlan) (e : Entry) (past : Log) → ran_by e.reply ≡ None → jobs (e ∷ past) ≡ jobs past → Stands plan past → Stands plan (e ∷ past)
+quiet_stands : (plan : DiePlan) (e : Entry) (past : Log) → ran_by e.reply ≡ None → jobs (e ∷ past) ≡ jobs past → Stands plan past
+    → Stands plan (e ∷ past)
 quiet_stands plan e past none same s = record {
   numbered = subst (AreNumbered 0) (sym same) s.numbered;
-  of_jobs = λ j h kind. keeps_same (e ∷ past) past j (acts_stay j.number e past (ap (act_of j.number) none)) (s.of_jobs j (subst (λ (js : List Job). Contains js j) same h) kind);
-  collects = quiet plan e past none (λ j h. subst (λ (js : List Job). Contains js j) (sym same) h) (λ j h r. subst (λ (js : List Job). Contains js j) same h) s.collects;
+  of_jobs = λ j h kind. keeps_same (e ∷ past) past j (acts_stay j.number e past (ap (act_of j.number) none))
+      (s.of_jobs j (subst (λ (js : List Job). Contains js j) same h) kind);
+  collects = quiet plan e past none (λ j h. subst (λ (js : List Job). Contains js j) (sym same) h)
+      (λ j h r. subst (λ (js : List Job). Contains js j) same h) s.collects;
 }
 
 -- an entry that brought a job or a collection
-taken_stands : (plan : DiePlan) (e : Entry) (past : Log) (new : Job) → ran_by e.reply ≡ None → jobs (e ∷ past) ≡ jobs past ++ new ∷ [] → new.number ≡ length (jobs past) → acts (length (jobs past)) past ≡ [] → Stands plan past → Stands plan (e ∷ past)
+taken_stands : (plan : DiePlan) (e : Entry) (past : Log) (new : Job) → ran_by e.reply ≡ None → jobs (e ∷ past) ≡ jobs past ++ new ∷ []
+    → new.number ≡ length (jobs past) → acts (length (jobs past)) past ≡ [] → Stands plan past → Stands plan (e ∷ past)
 taken_stands plan e past new none same is nil s = record {
   numbered = subst (AreNumbered 0) (sym same) (numbered_push 0 (jobs past) new s.numbered (omega arith));
   of_jobs = λ j h kind. job_by_case j kind (Contains-push_cases (jobs past) new j (subst (λ (js : List Job). Contains js j) same h));
@@ -99,21 +108,26 @@ taken_stands plan e past new none same is nil s = record {
     old_by_case j r (inr it) = absurd (omega (arith, (runs_says plan j (acts j.number (e ∷ past)) r).begun, ap length (new_nil j it)))
 
 -- an entry that carried the head's act
-acted_stands : (plan : DiePlan) (e : Entry) (past : Log) (j : Job) (act : Act) → 0 < plan.shape.pages → 0 < plan.shape.erase_slots → ran_by e.reply ≡ Some (j.number, act) → jobs (e ∷ past) ≡ jobs past
-    → Contains (jobs past) j → is_done plan past j ≡ false → act_for plan past j ≡ Some act → FindsFree plan past act → Stands plan past → Stands plan (e ∷ past)
+acted_stands : (plan : DiePlan) (e : Entry) (past : Log) (j : Job) (act : Act) → 0 < plan.shape.pages → 0 < plan.shape.erase_slots
+    → ran_by e.reply ≡ Some (j.number, act) → jobs (e ∷ past) ≡ jobs past
+    → Contains (jobs past) j → is_done plan past j ≡ false → act_for plan past j ≡ Some act → FindsFree plan past act → Stands plan past
+    → Stands plan (e ∷ past)
 acted_stands plan e past j act pages more ran same stands undone is finds s = record {
   numbered = subst (AreNumbered 0) (sym same) s.numbered;
   of_jobs = λ i h kind. by_case i (subst (λ (js : List Job). Contains js i) same h) kind (cases_eq i.number j.number);
   collects = head_acted plan e past j act pages more ran same s.numbered stands undone is finds s.collects;
 }
   where
-    by_case : (i : Job) → Contains (jobs past) i → i.collects ≡ false → (i.number ≡ j.number) ⊎ (i.number ≡ j.number → ⊥) → KeepsToOps (e ∷ past) i
-    by_case i h kind (inr other) = keeps_same (e ∷ past) past i (acts_stay i.number e past (ap (act_of i.number) ran ∙ act_other j.number i.number act (λ x. other (sym x)))) (s.of_jobs i h kind)
+    by_case : (i : Job) → Contains (jobs past) i → i.collects ≡ false → (i.number ≡ j.number) ⊎ (i.number ≡ j.number → ⊥)
+        → KeepsToOps (e ∷ past) i
+    by_case i h kind (inr other) = keeps_same (e ∷ past) past i
+        (acts_stay i.number e past (ap (act_of i.number) ran ∙ act_other j.number i.number act (λ x. other (sym x)))) (s.of_jobs i h kind)
     by_case i h kind (inl at) =
         let it : i ≡ j = same_job (jobs past) i j s.numbered h stands at in
         let its : j.collects ≡ false = subst (λ (x : Job). x.collects ≡ false) it kind in
         subst (KeepsToOps (e ∷ past)) (sym it)
-        (keeps_more plan e past j act (acts_grow j.number e past act (ap (act_of j.number) ran ∙ act_own j.number act)) (job_act plan past j act its is) (s.of_jobs j stands its))
+        (keeps_more plan e past j act (acts_grow j.number e past act (ap (act_of j.number) ran ∙ act_own j.number act))
+        (job_act plan past j act its is) (s.of_jobs j stands its))
 
 -- Logs
 
@@ -133,22 +147,33 @@ fresh_stands plan = record {
   };
 }
 
-slot_act : (plan : DiePlan) (past : Log) (caller : ℕ) (ws : List Waived) (j : Job) (o : Option Act) → 0 < plan.shape.pages → 0 < plan.shape.erase_slots → IsWaiting plan past j → act_for plan past j ≡ o
-    → FindsBy plan past (reply_with plan past ws j o).ran → Stands plan past → Stands plan (entry caller events.Slot (replies.Slot (reply_with plan past ws j o)) ∷ past)
-slot_act plan past caller ws j None pages more w e finds s = quiet_stands plan (entry caller events.Slot (replies.Slot (reply_with plan past ws j None))) past refl refl s
+slot_act : (plan : DiePlan) (past : Log) (caller : ℕ) (ws : List Waived) (j : Job) (o : Option Act) → 0 < plan.shape.pages → 0
+    < plan.shape.erase_slots → IsWaiting plan past j → act_for plan past j ≡ o
+    → FindsBy plan past (reply_with plan past ws j o).ran → Stands plan past
+    → Stands plan (entry caller events.Slot (replies.Slot (reply_with plan past ws j o)) ∷ past)
+slot_act plan past caller ws j None pages more w e finds s = quiet_stands plan
+    (entry caller events.Slot (replies.Slot (reply_with plan past ws j None))) past refl refl s
 slot_act plan past caller ws j (Some act) pages more w e finds s =
-    acted_stands plan (entry caller events.Slot (replies.Slot (reply_with plan past ws j (Some act)))) past j act pages more refl refl w.0 (waiting_undone plan past j w.1) e finds s
+    acted_stands plan (entry caller events.Slot (replies.Slot (reply_with plan past ws j (Some act)))) past j act pages more refl refl w.0
+    (waiting_undone plan past j w.1) e finds s
 
-slot_head : (plan : DiePlan) (past : Log) (caller : ℕ) (ws : List Waived) (o : Option Job) → 0 < plan.shape.pages → 0 < plan.shape.erase_slots → OfSome (IsWaiting plan past) o
-    → FindsBy plan past (slot_reply plan past ws o).ran → Stands plan past → Stands plan (entry caller events.Slot (replies.Slot (slot_reply plan past ws o)) ∷ past)
-slot_head plan past caller ws None pages more w finds s = quiet_stands plan (entry caller events.Slot (replies.Slot (slot_reply plan past ws None))) past refl refl s
+slot_head : (plan : DiePlan) (past : Log) (caller : ℕ) (ws : List Waived) (o : Option Job) → 0 < plan.shape.pages → 0
+    < plan.shape.erase_slots → OfSome (IsWaiting plan past) o
+    → FindsBy plan past (slot_reply plan past ws o).ran → Stands plan past
+    → Stands plan (entry caller events.Slot (replies.Slot (slot_reply plan past ws o)) ∷ past)
+slot_head plan past caller ws None pages more w finds s = quiet_stands plan
+    (entry caller events.Slot (replies.Slot (slot_reply plan past ws None))) past refl refl s
 slot_head plan past caller ws (Some j) pages more w finds s = slot_act plan past caller ws j (act_for plan past j) pages more w refl finds s
 
 -- one accepted event keeps what stands
-pub accepted_stands : (plan : DiePlan) (past : Log) (caller : ℕ) (event : Event) → 0 < plan.shape.pages → 0 < plan.shape.erase_slots → IsExact plan past → FindsBy plan past (ran_by (accepted plan past event)) → Stands plan past
+pub accepted_stands : (plan : DiePlan) (past : Log) (caller : ℕ) (event : Event) → 0 < plan.shape.pages → 0 < plan.shape.erase_slots
+    → IsExact plan past → FindsBy plan past (ran_by (accepted plan past event)) → Stands plan past
     → Stands plan (entry caller event (accepted plan past event) ∷ past)
 accepted_stands plan past caller (events.Submit task release due ops) pages more x finds s =
-    taken_stands plan (entry caller (events.Submit task release due ops) (accepted plan past (events.Submit task release due ops))) past _ refl refl refl (no_acts plan past x) s
+    taken_stands plan (entry caller (events.Submit task release due ops) (accepted plan past (events.Submit task release due ops))) past _
+    refl refl refl (no_acts plan past x) s
 accepted_stands plan past caller (events.Collect task release due) pages more x finds s =
-    taken_stands plan (entry caller (events.Collect task release due) (accepted plan past (events.Collect task release due))) past _ refl refl refl (no_acts plan past x) s
-accepted_stands plan past caller events.Slot pages more x finds s = slot_head plan past caller (choice plan past).waived (choice plan past).head pages more (waits plan past).head finds s
+    taken_stands plan (entry caller (events.Collect task release due) (accepted plan past (events.Collect task release due))) past _ refl
+    refl refl (no_acts plan past x) s
+accepted_stands plan past caller events.Slot pages more x finds s = slot_head plan past caller (choice plan past).waived
+    (choice plan past).head pages more (waits plan past).head finds s

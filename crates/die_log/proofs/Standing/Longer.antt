@@ -1,5 +1,6 @@
 -- What one more entry does to jobs, acts and blocks; and who is the head of a slot.
-use Rattle.std.proofs.Common.{◌≡◌, ◌≢◌, ℕ, zero, suc, ◌+◌, Bool, true, false, cond, List, [], ◌∷◌, ◌++◌, Option, Some, None, refl, ap, sym, ◌∙◌, arith, length, slice_get, fold, filter, append-nil}
+use Rattle.std.proofs.Common.{◌≡◌, ◌≢◌, ℕ, zero, suc, ◌+◌, Bool, true, false, cond, List, [], ◌∷◌, ◌++◌, Option, Some, None, refl, ap, sym}
+use Rattle.std.proofs.Common.{◌∙◌, arith, length, slice_get, fold, filter, append-nil}
 use Rattle.std.specs.Prelude.{Contains}
 use Rattle.std.specs.List.{filter_map, cons_option, AllByRecursion, reduce, list_any}
 use Rattle.std.proofs.lemmas.List.Elements.{filter_map-append, All-contains_itself, recursion_from_All}
@@ -64,7 +65,8 @@ elsewhere (y ∷ xs) x (suc k) apart = elsewhere xs x k (λ e. apart (omega (ari
 own_of : ℕ → Carried → List Act
 own_of n c = cons_option (act_of n c) []
 
-acts_by : (n : ℕ) (r : Reply) (cs : List Carried) → filter_map (λ c. act_of n c) (with_slot r cs) ≡ filter_map (λ c. act_of n c) cs ++ cons_option (act_of n (ran_by r)) []
+acts_by : (n : ℕ) (r : Reply) (cs : List Carried) → filter_map (λ c. act_of n c) (with_slot r cs) ≡ filter_map (λ c. act_of n c) cs
+    ++ cons_option (act_of n (ran_by r)) []
 acts_by n (replies.Taken number) cs = sym (append-nil (filter_map (λ c. act_of n c) cs))
 acts_by n (replies.Slot s) cs = filter_map-append (λ c. act_of n c) cs (s.ran ∷ [])
 acts_by n (replies.Refused refusal) cs = sym (append-nil (filter_map (λ c. act_of n c) cs))
@@ -83,7 +85,8 @@ act_own n act = rw (eq-eqb n n refl) refl
 pub acts_stay : (n : ℕ) (e : Entry) (past : Log) → act_of n (ran_by e.reply) ≡ None → acts n (e ∷ past) ≡ acts n past
 acts_stay n e past h = acts_more n e past ∙ (ap (λ (o : Option Act). acts n past ++ cons_option o []) h ∙ append-nil (acts n past))
 
-pub acts_grow : (n : ℕ) (e : Entry) (past : Log) (act : Act) → act_of n (ran_by e.reply) ≡ Some act → acts n (e ∷ past) ≡ acts n past ++ act ∷ []
+pub acts_grow : (n : ℕ) (e : Entry) (past : Log) (act : Act) → act_of n (ran_by e.reply) ≡ Some act → acts n (e ∷ past) ≡ acts n past ++ act
+    ∷ []
 acts_grow n e past act h = acts_more n e past ∙ ap (λ (o : Option Act). acts n past ++ cons_option o []) h
 
 -- Blocks shown
@@ -96,7 +99,8 @@ shown_none plan past (Some b) = refl
 pub shown_other : (plan : DiePlan) (past : Log) (o : Option ℕ) (act : Option Act) → act ≡ None → shown_by plan past o act ≡ o
 shown_other plan past o act e = ap (shown_by plan past o) e ∙ shown_none plan past o
 
-pub victim_stays : (plan : DiePlan) (n : ℕ) (e : Entry) (past : Log) → act_of n (ran_by e.reply) ≡ None → victim_of plan n (e ∷ past) ≡ victim_of plan n past
+pub victim_stays : (plan : DiePlan) (n : ℕ) (e : Entry) (past : Log) → act_of n (ran_by e.reply) ≡ None → victim_of plan n (e ∷ past)
+    ≡ victim_of plan n past
 victim_stays plan n e past h = ap (shown_by plan past (victim_of plan n past)) h ∙ shown_none plan past (victim_of plan n past)
 
 nil_parts : (o : Option Act) (xs : List Act) → xs ++ cons_option o [] ≡ [] → (xs ≡ []) × (o ≡ None)
@@ -114,12 +118,15 @@ no_victim plan n (e ∷ past) h =
 
 -- The head
 
-kept_if : {X : Type 0} (P : X → Type 0) (t : X → Bool) (x : X) (xs : List X) (b : Bool) → t x ≡ b → P x → AllByRecursion (λ y. P y × (t y ≡ true)) (filter t xs) → AllByRecursion (λ y. P y × (t y ≡ true)) (cond b (x ∷ filter t xs) (filter t xs))
+kept_if : {X : Type 0} (P : X → Type 0) (t : X → Bool) (x : X) (xs : List X) (b : Bool) → t x ≡ b → P x
+    → AllByRecursion (λ y. P y × (t y ≡ true)) (filter t xs)
+    → AllByRecursion (λ y. P y × (t y ≡ true)) (cond b (x ∷ filter t xs) (filter t xs))
 kept_if P t x xs true e p h = ((p, e), h)
 kept_if P t x xs false e p h = h
 
 -- what a filter keeps passes, too
-pub kept_both : {X : Type 0} (P : X → Type 0) (t : X → Bool) (xs : List X) → AllByRecursion P xs → AllByRecursion (λ y. P y × (t y ≡ true)) (filter t xs)
+pub kept_both : {X : Type 0} (P : X → Type 0) (t : X → Bool) (xs : List X) → AllByRecursion P xs
+    → AllByRecursion (λ y. P y × (t y ≡ true)) (filter t xs)
 kept_both P t [] h = tt
 kept_both P t (x ∷ xs) h = kept_if P t x xs (t x) refl h.0 (kept_both P t xs h.1)
 
@@ -130,7 +137,8 @@ IsWaiting plan past j = Contains (jobs past) j × (is_ready plan past j ≡ true
 pub waits : (plan : DiePlan) (past : Log) → Names (IsWaiting plan past) (choice plan past)
 waits plan past =
     names_waiting (IsWaiting plan past) plan past (length (ready plan past)) (accounts plan past) (ready plan past)
-    (kept_both (Contains (jobs past)) (is_ready plan past) (jobs past) (recursion_from_All (Contains (jobs past)) (jobs past) (All-contains_itself (jobs past))))
+    (kept_both (Contains (jobs past)) (is_ready plan past) (jobs past)
+    (recursion_from_All (Contains (jobs past)) (jobs past) (All-contains_itself (jobs past))))
 
 -- The best of a list
 
@@ -138,11 +146,13 @@ one_of : {X : Type 0} (P : X → Type 0) (i j : X) (b : Bool) → P i → P j �
 one_of P i j true p q = q
 one_of P i j false p q = p
 
-fold_all : {X : Type 0} (P : X → Type 0) (better : X → X → Bool) (j : X) (xs : List X) → P j → AllByRecursion P xs → P (fold (λ best x. cond (better x best) x best) j xs)
+fold_all : {X : Type 0} (P : X → Type 0) (better : X → X → Bool) (j : X) (xs : List X) → P j → AllByRecursion P xs
+    → P (fold (λ best x. cond (better x best) x best) j xs)
 fold_all P better j [] p h = p
 fold_all P better j (x ∷ xs) p h = fold_all P better (cond (better x j) x j) xs (one_of P j x (better x j) p h.0) h.1
 
-pub best_all : {X : Type 0} (P : X → Type 0) (better : X → X → Bool) (xs : List X) → AllByRecursion P xs → OfSome P (reduce (λ best x. cond (better x best) x best) xs)
+pub best_all : {X : Type 0} (P : X → Type 0) (better : X → X → Bool) (xs : List X) → AllByRecursion P xs
+    → OfSome P (reduce (λ best x. cond (better x best) x best) xs)
 best_all P better [] h = tt
 best_all P better (x ∷ xs) h = fold_all P better x xs h.0 h.1
 

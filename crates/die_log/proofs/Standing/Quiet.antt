@@ -1,5 +1,6 @@
 -- What stands after an entry that carried nothing, and of the others after one that carried an act.
-use Rattle.std.proofs.Common.{◌≡◌, ◌≢◌, ◌⊎◌, ℕ, ◌<◌, ◌&&◌, ◌||◌, not, nat_lt, Bool, true, false, List, ◌∷◌, Some, None, refl, ap, sym, ◌∙◌, subst, inl, inr, length}
+use Rattle.std.proofs.Common.{◌≡◌, ◌≢◌, ◌⊎◌, ℕ, ◌<◌, ◌&&◌, ◌||◌, not, nat_lt, Bool, true, false, List, ◌∷◌, Some, None, refl, ap, sym, ◌∙◌}
+use Rattle.std.proofs.Common.{subst, inl, inr, length}
 use Rattle.std.specs.Prelude.{Contains}
 use Rattle.std.proofs.lemmas.Bool.{cases_eq, and_parts, ne_eqb, not-true, ltb-true}
 use Rattle.slot_types.specs.declared.plans.DiePlan.{DiePlan}
@@ -32,27 +33,32 @@ runs_says plan j own h =
     let l = and_parts j.collects (nat_lt 0 (length own)) k.0 in
     record { collects = l.0; begun = ltb-true 0 (length own) l.1; undone = not-true (are_all plan j own) k.1 }
 
-pub running_stays : (plan : DiePlan) (e : Entry) (past : Log) (j : Job) → act_of j.number (ran_by e.reply) ≡ None → is_running plan (e ∷ past) j ≡ is_running plan past j
+pub running_stays : (plan : DiePlan) (e : Entry) (past : Log) (j : Job) → act_of j.number (ran_by e.reply) ≡ None
+    → is_running plan (e ∷ past) j ≡ is_running plan past j
 running_stays plan e past j h = ap (runs_with plan j) (acts_stay j.number e past h)
 
 -- who had no act runs as before
-pub runs_later : (plan : DiePlan) (e : Entry) (past : Log) (j : Job) (b : ℕ) → act_of j.number (ran_by e.reply) ≡ None → Contains (jobs (e ∷ past)) j → Runs plan past j b → Runs plan (e ∷ past) j b
+pub runs_later : (plan : DiePlan) (e : Entry) (past : Log) (j : Job) (b : ℕ) → act_of j.number (ran_by e.reply) ≡ None
+    → Contains (jobs (e ∷ past)) j → Runs plan past j b → Runs plan (e ∷ past) j b
 runs_later plan e past j b h in_jobs r = record {
   stands = in_jobs;
   running = running_stays plan e past j h ∙ r.running;
   victim = victim_stays plan j.number e past h ∙ r.victim;
 }
 
-pub runs_before : (plan : DiePlan) (e : Entry) (past : Log) (j : Job) (b : ℕ) → act_of j.number (ran_by e.reply) ≡ None → Contains (jobs past) j → Runs plan (e ∷ past) j b → Runs plan past j b
+pub runs_before : (plan : DiePlan) (e : Entry) (past : Log) (j : Job) (b : ℕ) → act_of j.number (ran_by e.reply) ≡ None
+    → Contains (jobs past) j → Runs plan (e ∷ past) j b → Runs plan past j b
 runs_before plan e past j b h in_jobs r = record {
   stands = in_jobs;
   running = sym (running_stays plan e past j h) ∙ r.running;
   victim = sym (victim_stays plan j.number e past h) ∙ r.victim;
 }
 
-pub collecting_as : (plan : DiePlan) (c : Cells) (own after : List Act) (fresh newer : ℕ → Bool) (b : ℕ) → after ≡ own → ((p : ℕ) → newer p ≡ true → fresh p ≡ true) → IsCollecting plan c own fresh b → IsCollecting plan c after newer b
+pub collecting_as : (plan : DiePlan) (c : Cells) (own after : List Act) (fresh newer : ℕ → Bool) (b : ℕ) → after ≡ own
+    → ((p : ℕ) → newer p ≡ true → fresh p ≡ true) → IsCollecting plan c own fresh b → IsCollecting plan c after newer b
 collecting_as plan c own after fresh newer b e weaker k =
-    subst (λ (xs : List Act). IsCollecting plan c xs newer b) (sym e) (keeps_collecting plan c c own fresh newer b k refl (λ p x. (x, weaker p)))
+    subst (λ (xs : List Act). IsCollecting plan c xs newer b) (sym e)
+    (keeps_collecting plan c c own fresh newer b k refl (λ p x. (x, weaker p)))
 
 written_none : (n p : ℕ) (r : Carried) (before : Bool) → r ≡ None → changed_by r n p before ≡ before
 written_none n p r before e = ap (λ (c : Carried). changed_by c n p before) e
@@ -67,11 +73,14 @@ pub quiet : (plan : DiePlan) (e : Entry) (past : Log) → ran_by e.reply ≡ Non
     → Collects plan past → Collects plan (e ∷ past)
 quiet plan e past none later before k = record {
   sound = subst (AreSound plan) (sym same) k.sound;
-  shown = λ j h r. let old = k.shown j (before j h r) (sym (running_stays plan e past j (no_act j.number _ none)) ∙ r) in (old.0, runs_later plan e past j old.0 (no_act j.number _ none) h old.1);
+  shown = λ j h r. let old = k.shown j (before j h r) (sym (running_stays plan e past j (no_act j.number _ none)) ∙ r) in
+      (old.0, runs_later plan e past j old.0 (no_act j.number _ none) h old.1);
   collecting = λ j b r.
       subst (λ (c : Cells). IsCollecting plan c (acts j.number (e ∷ past)) (λ p. changed_since j.number p (e ∷ past)) b) (sym same)
-      (collecting_as plan (cells plan past) (acts j.number past) (acts j.number (e ∷ past)) (λ p. changed_since j.number p past) (λ p. changed_since j.number p (e ∷ past)) b
-      (acts_stay j.number e past (no_act j.number _ none)) (λ p w. sym (written_none j.number p _ (changed_since j.number p past) none) ∙ w) (k.collecting j b (back j b r)));
+      (collecting_as plan (cells plan past) (acts j.number past) (acts j.number (e ∷ past)) (λ p. changed_since j.number p past)
+      (λ p. changed_since j.number p (e ∷ past)) b
+      (acts_stay j.number e past (no_act j.number _ none)) (λ p w. sym (written_none j.number p _ (changed_since j.number p past) none) ∙ w)
+      (k.collecting j b (back j b r)));
   different = λ i j b r s. k.different i j b (back i b r) (back j b s);
   owned = λ b h.
       let old = k.owned b (subst (λ (c : Cells). 0 < (block_at c b).erasing) same h) in
@@ -90,24 +99,30 @@ written_other : (n m p : ℕ) (act : Act) (before : Bool) → n ≢ m → change
 written_other n m p act before other = rw (ne_eqb n m other) refl
 
 -- another's act keeps who collects another block
-pub others_collect : (plan : DiePlan) (e : Entry) (past : Log) (n : ℕ) (act : Act) (d : Cells) (j : Job) (b : ℕ) → ran_by e.reply ≡ Some (n, act) → n ≢ j.number → (act ≡ does.Erase b → ⊥)
+pub others_collect : (plan : DiePlan) (e : Entry) (past : Log) (n : ℕ) (act : Act) (d : Cells) (j : Job) (b : ℕ) → ran_by e.reply
+    ≡ Some (n, act) → n ≢ j.number → (act ≡ does.Erase b → ⊥)
     → IsStep plan act (cells plan past) d → IsCollecting plan (cells plan past) (acts j.number past) (λ p. changed_since j.number p past) b
     → IsCollecting plan d (acts j.number (e ∷ past)) (λ p. changed_since j.number p (e ∷ past)) b
 others_collect plan e past n act d j b ran other not_erased step k =
-    collecting_as plan d (acts j.number past) (acts j.number (e ∷ past)) (λ p. is_change_of p act || changed_since j.number p past) (λ p. changed_since j.number p (e ∷ past)) b
+    collecting_as plan d (acts j.number past) (acts j.number (e ∷ past)) (λ p. is_change_of p act || changed_since j.number p past)
+    (λ p. changed_since j.number p (e ∷ past)) b
     (acts_stay j.number e past (ap (act_of j.number) ran ∙ act_other n j.number act other))
-    (λ p w. sym (ap (λ (c : Carried). changed_by c j.number p (changed_since j.number p past)) ran ∙ written_other n j.number p act (changed_since j.number p past) other) ∙ w)
+    (λ p w. sym (ap (λ (c : Carried). changed_by c j.number p (changed_since j.number p past)) ran
+    ∙ written_other n j.number p act (changed_since j.number p past) other) ∙ w)
     (other_step plan act (cells plan past) d (acts j.number past) (λ p. changed_since j.number p past) b k not_erased step)
 
-program_erasing : (plan : DiePlan) (page o : ℕ) (c d : Cells) (b : ℕ) → IsProgram plan page o c d → (b ≡ o) ⊎ (b ≡ o → ⊥) → (block_at d b).erasing ≡ (block_at c b).erasing
+program_erasing : (plan : DiePlan) (page o : ℕ) (c d : Cells) (b : ℕ) → IsProgram plan page o c d → (b ≡ o) ⊎ (b ≡ o → ⊥)
+    → (block_at d b).erasing ≡ (block_at c b).erasing
 program_erasing plan page o c d b w (inl e) = rw e w.erasing
 program_erasing plan page o c d b w (inr other) = ap (λ (s : Block). s.erasing) (w.others b other)
 
 -- an act that erases no slot of a block leaves its count
-pub erasing_kept : (plan : DiePlan) (act : Act) (c d : Cells) (b : ℕ) → (act ≡ does.Erase b → ⊥) → IsStep plan act c d → (block_at d b).erasing ≡ (block_at c b).erasing
+pub erasing_kept : (plan : DiePlan) (act : Act) (c d : Cells) (b : ℕ) → (act ≡ does.Erase b → ⊥) → IsStep plan act c d
+    → (block_at d b).erasing ≡ (block_at c b).erasing
 erasing_kept plan (does.Read page bytes) c d b not_erased step = ap (λ (x : Cells). (block_at x b).erasing) step
 erasing_kept plan (does.Write page bytes) c d b not_erased step = program_erasing plan page step.0 c d b step.1 (cases_eq b step.0)
 erasing_kept plan (does.Trim page) c d b not_erased step = ap (λ (s : Block). s.erasing) (trimmed_block page c d step b)
 erasing_kept plan (does.CopyRead page) c d b not_erased step = ap (λ (x : Cells). (block_at x b).erasing) step
 erasing_kept plan (does.CopyProgram page) c d b not_erased step = program_erasing plan page step.0 c d b step.1 (cases_eq b step.0)
-erasing_kept plan (does.Erase a) c d b not_erased step = ap (λ (s : Block). s.erasing) (step.others b (λ e. not_erased (ap does.Erase (sym e))))
+erasing_kept plan (does.Erase a) c d b not_erased step = ap (λ (s : Block). s.erasing)
+    (step.others b (λ e. not_erased (ap does.Erase (sym e))))

@@ -41,24 +41,29 @@ at_start plan times task lt =
     let t : TaskTimes = times_of times task in
     record {
       few_held = omega (arith, none_at (length plan.caps) task);
-      covered = λ next le due_by. started t.period t.writes (t.writes * t.collect_period) (slice_index plan.caps task) next (pending_at plan [] task);
+      covered = λ next le due_by. started t.period t.writes (t.writes * t.collect_period) (slice_index plan.caps task) next
+          (pending_at plan [] task);
     }
 
 -- what a job finds when it comes: nothing is held for those before it, which are due
-pub nothing_held : (plan : DiePlan) (times : Times) (past : Log) (rest : List Event) (task release due : ℕ) (ops : List Op) → MeetsBound plan → IsExact plan past → IsInTime plan past → Follows plan times past
+pub nothing_held : (plan : DiePlan) (times : Times) (past : Log) (rest : List Event) (task release due : ℕ) (ops : List Op)
+    → MeetsBound plan → IsExact plan past → IsInTime plan past → Follows plan times past
     → KeepsPlan plan times (told past ++ events.Submit task release due ops ∷ rest) → hold_of plan past task ≡ 0
 nothing_held plan times past rest task release due ops bound exact in_time f keeps =
     let both = stands_well plan bound past exact in
     let n = next_job plan times (told past) rest task release due ops keeps in
-    hold_none plan past task both.1.true_accounts n.planned.task (well_served plan past bound both).numbered (waives_collections plan bound past exact) in_time (jobs_due plan times past rest task release due ops f keeps)
+    hold_none plan past task both.1.true_accounts n.planned.task (well_served plan past bound both).numbered
+    (waives_collections plan bound past exact) in_time (jobs_due plan times past rest task release due ops f keeps)
 
-pub supplied : (plan : DiePlan) (times : Times) → MeetsBound plan → Passes plan times → (log : Log) → IsExact plan log → (rest : List Event) → KeepsPlan plan times (told log ++ rest) → AreSupplied plan times log
+pub supplied : (plan : DiePlan) (times : Times) → MeetsBound plan → Passes plan times → (log : Log) → IsExact plan log → (rest : List Event)
+    → KeepsPlan plan times (told log ++ rest) → AreSupplied plan times log
 supplied plan times bound passes = exact_induction plan Q (λ rest keeps. at_start plan times) step
   where
     Q : Log → Type 0
     Q log = (rest : List Event) → KeepsPlan plan times (told log ++ rest) → AreSupplied plan times log
 
-    step : (past : Log) (caller : ℕ) (event : Event) → IsExact plan past → Q past → AllByRecursion (λ c. c.0 ≡ false) (refusals plan past event) → Q (entry caller event (accepted plan past event) ∷ past)
+    step : (past : Log) (caller : ℕ) (event : Event) → IsExact plan past → Q past
+        → AllByRecursion (λ c. c.0 ≡ false) (refusals plan past event) → Q (entry caller event (accepted plan past event) ∷ past)
     step past caller (events.Submit task release due ops) exact ih none rest keeps = λ t lt.
         let event : Event = events.Submit task release due ops in
         let k = one_further plan times past event rest keeps in
@@ -69,28 +74,34 @@ supplied plan times bound passes = exact_induction plan Q (λ rest keeps. at_sta
         let has : writes ops ≤ balance plan past task = ltb-false (balance plan past task) (writes ops) none.1.1.1.1.1.1.1.0 in
         elim (cases_eq t task) [
           | inl same ↦ subst (IsSuppliedBy plan times (entry caller event (accepted plan past event) ∷ past)) (sym same) (
-              submit_supplied plan (times_of times task).period (times_of times task).collect_period (times_of times task).writes past caller task release due ops h n.planned.task has n.planned.few_writes
-              (nothing_held plan times past rest task release due ops bound exact (never_late plan times bound passes past exact (event ∷ rest) k) f k)
+              submit_supplied plan (times_of times task).period (times_of times task).collect_period (times_of times task).writes past
+              caller task release due ops h n.planned.task has n.planned.few_writes
+              (nothing_held plan times past rest task release due ops bound exact
+              (never_late plan times bound passes past exact (event ∷ rest) k) f k)
               (jobs_due plan times past rest task release due ops f k)
               (omega (arith, n.planned.due, n.planned.comes, f.clock))
               (before task n.planned.task)
               )
-          | inr apart ↦ other_submit_supplied plan (times_of times t).period (times_of times t).collect_period (times_of times t).writes past caller task release due ops t h n.planned.task has apart (before t lt)
+          | inr apart ↦ other_submit_supplied plan (times_of times t).period (times_of times t).collect_period (times_of times t).writes
+              past caller task release due ops t h n.planned.task has apart (before t lt)
         ]
     step past caller (events.Collect task release due) exact ih none rest keeps = λ t lt.
         let event : Event = events.Collect task release due in
         let k = one_further plan times past event rest keeps in
-        collect_supplied plan (times_of times t).period (times_of times t).collect_period (times_of times t).writes past caller task release due t exact (has_slots plan bound) (ih (event ∷ rest) k t lt)
+        collect_supplied plan (times_of times t).period (times_of times t).collect_period (times_of times t).writes past caller task release
+        due t exact (has_slots plan bound) (ih (event ∷ rest) k t lt)
     step past caller events.Slot exact ih none rest keeps = λ t lt.
         let k = one_further plan times past events.Slot rest keeps in
         let both = stands_well plan bound past exact in
-        slot_supplied plan (times_of times t).period (times_of times t).collect_period (times_of times t).writes past caller t both.1.true_accounts (well_served plan past bound both)
+        slot_supplied plan (times_of times t).period (times_of times t).collect_period (times_of times t).writes past caller t
+        both.1.true_accounts (well_served plan past bound both)
         (task_sustained plan times t passes lt).regained
         (few_collections plan times past t (follows plan times past exact (events.Slot ∷ rest) k) lt)
         (ih (events.Slot ∷ rest) k t lt)
 
 -- so the balance of a task covers its next job
-pub covers_next : (plan : DiePlan) (times : Times) → MeetsBound plan → Passes plan times → (past : Log) (rest : List Event) (task release due : ℕ) (ops : List Op) → IsExact plan past
+pub covers_next : (plan : DiePlan) (times : Times) → MeetsBound plan → Passes plan times
+    → (past : Log) (rest : List Event) (task release due : ℕ) (ops : List Op) → IsExact plan past
     → KeepsPlan plan times (told past ++ events.Submit task release due ops ∷ rest) → writes ops ≤ balance_of plan past task
 covers_next plan times bound passes past rest task release due ops exact keeps =
     let event : Event = events.Submit task release due ops in
@@ -100,11 +111,13 @@ covers_next plan times bound passes past rest task release due ops exact keeps =
     let s = task_sustained plan times task passes n.planned.task in
     let in_time : IsInTime plan past = never_late plan times bound passes past exact (event ∷ rest) keeps in
     let one : pending_at plan past task ≤ 1 = (stands_well plan bound past exact).1.true_accounts.one_each task in
-    let h = (supplied plan times bound passes past exact (event ∷ rest) keeps task n.planned.task).covered (now past) (omega arith) (jobs_due plan times past rest task release due ops f keeps) in
+    let h = (supplied plan times bound passes past exact (event ∷ rest) keeps task n.planned.task).covered (now past) (omega arith)
+    (jobs_due plan times past rest task release due ops f keeps) in
     omega (
       arith,
       n.planned.few_writes,
-      enough t.period t.collect_period t.writes plan.alpha (slice_index plan.caps task) (balance_of plan past task) (collections_of (jobs past) task) (now past) (pending_at plan past task) h
+      enough t.period t.collect_period t.writes plan.alpha (slice_index plan.caps task) (balance_of plan past task)
+          (collections_of (jobs past) task) (now past) (pending_at plan past task) h
           (closed_by plan times past task f n.planned.task (keeps_limits plan past exact).slots in_time one)
           s.regained (omega (arith, (task_times plan times task passes.timed n.planned.task).some_period)) s.stocked,
     )

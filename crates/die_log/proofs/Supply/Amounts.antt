@@ -22,12 +22,14 @@ by_three : (w q n : ℕ) → w * (q * n) ≡ w * q * n
 by_three w q n = grind arith
 
 -- a slot passes, and nothing is closed
-pub kept : (p w gift cap bal bal' count next pend pend' : ℕ) → p * cap + gift * count ≤ p * bal + p * w + gift + w * next + gift * pend → bal ≤ bal' → pend ≤ pend'
+pub kept : (p w gift cap bal bal' count next pend pend' : ℕ) → p * cap + gift * count ≤ p * bal + p * w + gift + w * next + gift * pend
+    → bal ≤ bal' → pend ≤ pend'
     → p * cap + gift * count ≤ p * bal' + p * w + gift + w * next + gift * pend'
 kept p w gift cap bal bal' count next pend pend' h le more = omega (arith, h, mul-le-mul_left p le, mul-le-mul_left gift more)
 
 -- a collection is closed and gives alpha pages
-pub given : (p w gift alpha cap bal bal' count next pend pend' : ℕ) → p * cap + gift * count ≤ p * bal + p * w + gift + w * next + gift * pend → bal + alpha ≤ bal' → pend ≤ 1 → gift ≤ alpha * p
+pub given : (p w gift alpha cap bal bal' count next pend pend' : ℕ) → p * cap + gift * count
+    ≤ p * bal + p * w + gift + w * next + gift * pend → bal + alpha ≤ bal' → pend ≤ 1 → gift ≤ alpha * p
     → p * cap + gift * count ≤ p * bal' + p * w + gift + w * next + gift * pend'
 given p w gift alpha cap bal bal' count next pend pend' h le one regained =
     let turned : alpha * p ≡ p * alpha = grind arith in
@@ -41,7 +43,8 @@ filled p q w cap bal' held count next pend' full few some =
     omega (arith, mul-le-mul_left p all, times_sum p bal' w, mul-le-mul_left w some, times_sum w next q, by_three w q count)
 
 -- a job is taken in slot n
-pub taken : (p w gift cap bal bal' wants count n next pend : ℕ) → p * cap + gift * count ≤ p * bal + p * w + gift + w * n + gift * pend → bal' + wants ≡ bal → wants ≤ w → n + p ≤ next
+pub taken : (p w gift cap bal bal' wants count n next pend : ℕ) → p * cap + gift * count ≤ p * bal + p * w + gift + w * n + gift * pend
+    → bal' + wants ≡ bal → wants ≤ w → n + p ≤ next
     → p * cap + gift * count ≤ p * bal' + p * w + gift + w * next + gift * pend
 taken p w gift cap bal bal' wants count n next pend h is few later =
     let before : bal ≤ bal' + w = omega (arith, is, few) in
@@ -49,9 +52,11 @@ taken p w gift cap bal bal' wants count n next pend h is few later =
     omega (arith, h, mul-le-mul_left p before, times_sum p bal' w, mul-le-mul_left w later, times_sum w n p, turned)
 
 -- a collection is taken
-pub opened : (p w gift cap bal count next pend pend' : ℕ) → p * cap + gift * count ≤ p * bal + p * w + gift + w * next + gift * pend → pend + 1 ≤ pend'
+pub opened : (p w gift cap bal count next pend pend' : ℕ) → p * cap + gift * count ≤ p * bal + p * w + gift + w * next + gift * pend
+    → pend + 1 ≤ pend'
     → p * cap + gift * (count + 1) ≤ p * bal + p * w + gift + w * next + gift * pend'
-opened p w gift cap bal count next pend pend' h one = omega (arith, h, times_sum gift count 1, times_one gift, mul-le-mul_left gift one, times_sum gift pend 1)
+opened p w gift cap bal count next pend pend' h one = omega
+    (arith, h, times_sum gift count 1, times_one gift, mul-le-mul_left gift one, times_sum gift pend 1)
 
 -- at the start
 pub started : (p w gift cap next pend : ℕ) → p * cap + gift * 0 ≤ p * cap + p * w + gift + w * next + gift * pend
@@ -60,7 +65,8 @@ started p w gift cap next pend =
     omega (arith, none)
 
 -- in slot n, by which all collections but the last are closed, the balance covers a job
-pub enough : (p q w alpha cap bal count n pend : ℕ) → p * cap + w * q * count ≤ p * bal + p * w + w * q + w * n + w * q * pend → n + q * pend ≤ q * count + q → w * q ≤ alpha * p → 0 < p → 2 * w + 2 * alpha ≤ cap
+pub enough : (p q w alpha cap bal count n pend : ℕ) → p * cap + w * q * count ≤ p * bal + p * w + w * q + w * n + w * q * pend
+    → n + q * pend ≤ q * count + q → w * q ≤ alpha * p → 0 < p → 2 * w + 2 * alpha ≤ cap
     → w ≤ bal
 enough p q w alpha cap bal count n pend h closed regained some stocked =
     let turned : alpha * p ≡ p * alpha = grind arith in

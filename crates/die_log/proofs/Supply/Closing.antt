@@ -1,5 +1,6 @@
 -- A task whose collection is closed in a slot, by a waiver or by its last erase slot, gains by it.
-use Rattle.std.proofs.Common.{◌≡◌, ℕ, zero, suc, ◌≤◌, ◌<◌, ◌==◌, ◌||◌, ◌&&◌, not, Bool, true, false, cond, List, [], ◌∷◌, ◌++◌, length, count_by, Option, Some, None, refl, ap, sym, subst, ◌∙◌, ◌⊎◌, inl, inr, arith, slice_get}
+use Rattle.std.proofs.Common.{◌≡◌, ℕ, zero, suc, ◌≤◌, ◌<◌, ◌==◌, ◌||◌, ◌&&◌, not, Bool, true, false, cond, List, [], ◌∷◌, ◌++◌, length}
+use Rattle.std.proofs.Common.{count_by, Option, Some, None, refl, ap, sym, subst, ◌∙◌, ◌⊎◌, inl, inr, arith, slice_get}
 use Rattle.std.proofs.lemmas.Bool.{true≢false, cases_eq, and_parts, eqb-true}
 use Rattle.std.proofs.lemmas.List.Sums.{sum_by-cons}
 use Rattle.std.proofs.lemmas.Option.{same_Some}
@@ -19,7 +20,8 @@ use Rattle.die_log.proofs.Tokens.Doing.{act_kind, IsCollectionAct, IsJobAct}
 use Rattle.die_log.proofs.Tokens.Changes.{Waives}
 use Rattle.die_log.proofs.Tokens.Slots.{slot_entry, slot_waives, idle_acts, ran_acts, IsTurn, of_job}
 use Rattle.die_log.proofs.Tokens.Turns.{turn_log, stays_pending}
-use Rattle.die_log.proofs.Supply.Gains.{Gains, Fits, agree_fits, gains_then, then_gains, waivers_rise, act_rises, waivers_gain, waivers_fit, settled_gains}
+use Rattle.die_log.proofs.Supply.Gains.{Gains, Fits, agree_fits, gains_then, then_gains, waivers_rise, act_rises, waivers_gain, waivers_fit}
+use Rattle.die_log.proofs.Supply.Gains.{settled_gains}
 
 -- Counting
 
@@ -28,9 +30,11 @@ pub found : {X : Type 0} (p : X → Bool) (xs : List X) → 1 ≤ count_by p xs 
 found p [] h = absurd (omega (arith, h))
 found {X = X} p (x ∷ xs) h = by_test (p x) refl (found p xs)
   where
-    by_test : (b : Bool) → p x ≡ b → (1 ≤ count_by p xs → (k : ℕ) × (y : X) × (slice_get xs k ≡ Some y) × (p y ≡ true)) → (k : ℕ) × (y : X) × (slice_get (x ∷ xs) k ≡ Some y) × (p y ≡ true)
+    by_test : (b : Bool) → p x ≡ b → (1 ≤ count_by p xs → (k : ℕ) × (y : X) × (slice_get xs k ≡ Some y) × (p y ≡ true)) → (k : ℕ) × (y : X)
+        × (slice_get (x ∷ xs) k ≡ Some y) × (p y ≡ true)
     by_test true e further = (zero, x, refl, e)
-    by_test false e further = let r = further (omega (arith, h, sum_by-cons (λ y. cond (p y) 1 0) x xs, ap one_if e)) in (suc r.0, r.1, r.2, r.3)
+    by_test false e further = let r = further (omega (arith, h, sum_by-cons (λ y. cond (p y) 1 0) x xs, ap one_if e)) in
+        (suc r.0, r.1, r.2, r.3)
 
 -- and where nothing is counted, nothing passes
 pub none_passes : {X : Type 0} (p : X → Bool) (xs : List X) (k : ℕ) (x : X) → count_by p xs ≤ 0 → slice_get xs k ≡ Some x → p x ≡ false
@@ -48,13 +52,15 @@ pub record IsClosed (plan : DiePlan) (own own' : ℕ → List Act) (gone gone' :
   pub over : is_pending plan own' gone' j ≡ false
 
 -- where a task's only pending collection is gone, it is closed
-pub closed_one : (plan : DiePlan) (own own' : ℕ → List Act) (gone gone' : ℕ → Bool) (js : List Job) (t : ℕ) → ((k : ℕ) (j : Job) → slice_get js k ≡ Some j → j.number ≡ k)
+pub closed_one : (plan : DiePlan) (own own' : ℕ → List Act) (gone gone' : ℕ → Bool) (js : List Job) (t : ℕ)
+    → ((k : ℕ) (j : Job) → slice_get js k ≡ Some j → j.number ≡ k)
     → 1 ≤ pending_of plan own gone js t → pending_of plan own' gone' js t ≤ 0 → (j : Job) × IsClosed plan own own' gone gone' js t j
 closed_one plan own own' gone gone' js t numbered some none =
     let r = found (λ j. (j.task == t) && is_pending plan own gone j) js some in
     let j : Job = r.1 in
     let parts = and_parts (j.task == t) (is_pending plan own gone j) r.3 in
-    let after : ((j.task == t) && is_pending plan own' gone' j) ≡ false = none_passes (λ i. (i.task == t) && is_pending plan own' gone' i) js r.0 j none r.2 in (
+    let after : ((j.task == t) && is_pending plan own' gone' j)
+    ≡ false = none_passes (λ i. (i.task == t) && is_pending plan own' gone' i) js r.0 j none r.2 in (
       j,
       record {
         known = ap (slice_get js) (numbered r.0 j r.2) ∙ r.2;
@@ -74,7 +80,8 @@ waived_now true false g a h k = absurd cc
 waived_now false d g a h k = absurd cc
 
 -- one without a new act was waived
-closed_waived : (plan : DiePlan) (own own' : ℕ → List Act) (gone gone' am : ℕ → Bool) (js : List Job) (t : ℕ) (j : Job) → Waives own gone gone' am → own j.number ≡ own' j.number → IsClosed plan own own' gone gone' js t j → am j.number ≡ true
+closed_waived : (plan : DiePlan) (own own' : ℕ → List Act) (gone gone' am : ℕ → Bool) (js : List Job) (t : ℕ) (j : Job)
+    → Waives own gone gone' am → own j.number ≡ own' j.number → IsClosed plan own own' gone gone' js t j → am j.number ≡ true
 closed_waived plan own own' gone gone' am js t j w e c =
     waived_now j.collects (not (are_all plan j (own j.number))) (gone j.number) (am j.number) c.was (
     ap (λ (b : Bool). j.collects && not (are_all plan j (own j.number)) && not b) (sym (w.gone_is j.number))
@@ -86,9 +93,11 @@ collects_if true d g h = refl
 collects_if false d g h = absurd cc
 
 -- a slot without an act
-pub idle_gains : (plan : DiePlan) (past : Log) (caller slot : ℕ) (ws : List Waived) (finished : Option ℕ) (t : ℕ) → AreTrue plan past → CellsServe plan past → AreWaivers plan past (waived past) (accounts plan past) ws
+pub idle_gains : (plan : DiePlan) (past : Log) (caller slot : ℕ) (ws : List Waived) (finished : Option ℕ) (t : ℕ) → AreTrue plan past
+    → CellsServe plan past → AreWaivers plan past (waived past) (accounts plan past) ws
     → 1 ≤ pending_of plan (λ n. acts n past) (is_waived past) (jobs past) t
-    → pending_of plan (λ n. acts n (slot_entry caller slot ws None finished ∷ past)) (is_waived (slot_entry caller slot ws None finished ∷ past)) (jobs past) t ≤ 0
+    → pending_of plan (λ n. acts n (slot_entry caller slot ws None finished ∷ past))
+    (is_waived (slot_entry caller slot ws None finished ∷ past)) (jobs past) t ≤ 0
     → Gains plan (accounts plan past) (after_waivers past ws (accounts plan past)) t
 idle_gains plan past caller slot ws finished t h c are some none =
     let log : Log = slot_entry caller slot ws None finished ∷ past in
@@ -96,7 +105,8 @@ idle_gains plan past caller slot ws finished t h c are some none =
     let own' : ℕ → List Act = λ n. acts n log in
     let r = closed_one plan own own' (is_waived past) (is_waived log) (jobs past) t c.numbered some none in
     let j : Job = r.0 in
-    let is : is_among j.number ws ≡ true = closed_waived plan own own' (is_waived past) (is_waived log) (λ n. is_among n ws) (jobs past) t j (slot_waives plan caller slot ws None finished past c.numbered are) (idle_acts caller slot ws finished past j.number) r.1 in
+    let is : is_among j.number ws ≡ true = closed_waived plan own own' (is_waived past) (is_waived log) (λ n. is_among n ws) (jobs past) t j
+    (slot_waives plan caller slot ws None finished past c.numbered are) (idle_acts caller slot ws finished past j.number) r.1 in
     let within : j.task < length plan.caps = (all_at (IsTaken plan) (jobs past) j.number j h.taken r.1.known).task in
     subst (Gains plan (accounts plan past) (after_waivers past ws (accounts plan past))) r.1.task
     (waivers_gain plan past ws (accounts plan past) j (agree_fits plan (accounts plan past) _ _ _ _ h.agree) r.1.known within is)
@@ -110,23 +120,30 @@ over_now true false true p q h = absurd cc
 over_now false d g p q h = absurd cc
 
 -- the last erase slot settles
-settles : (plan : DiePlan) (past : Log) (ws : List Waived) (j : Job) (act : Act) → IsTurn plan past ws j act → j.collects ≡ true → are_all plan j (acts j.number past ++ act ∷ []) ≡ true
-    → IsJobAct past j act ⊎ IsCollectionAct j act → (a : Accounts) → Fits plan a → Gains plan a (after_act plan (Some j) (acts j.number past) act a) j.task
+settles : (plan : DiePlan) (past : Log) (ws : List Waived) (j : Job) (act : Act) → IsTurn plan past ws j act → j.collects ≡ true
+    → are_all plan j (acts j.number past ++ act ∷ []) ≡ true
+    → IsJobAct past j act ⊎ IsCollectionAct j act → (a : Accounts) → Fits plan a
+    → Gains plan a (after_act plan (Some j) (acts j.number past) act a) j.task
 settles plan past ws j act h kind all (inl k) a f = absurd (true≢false (sym kind ∙ k.job))
 settles plan past ws j (does.Read page bytes) h kind all (inr k) a f = absurd k.kind
 settles plan past ws j (does.Write page bytes) h kind all (inr k) a f = absurd k.kind
 settles plan past ws j (does.Trim page) h kind all (inr k) a f = absurd k.kind
-settles plan past ws j (does.CopyRead page) h kind all (inr k) a f = absurd (true≢false (sym all ∙ stays_pending plan past ws j (does.CopyRead page) h kind refl))
-settles plan past ws j (does.CopyProgram page) h kind all (inr k) a f = absurd (true≢false (sym all ∙ stays_pending plan past ws j (does.CopyProgram page) h kind refl))
+settles plan past ws j (does.CopyRead page) h kind all (inr k) a f = absurd
+    (true≢false (sym all ∙ stays_pending plan past ws j (does.CopyRead page) h kind refl))
+settles plan past ws j (does.CopyProgram page) h kind all (inr k) a f = absurd
+    (true≢false (sym all ∙ stays_pending plan past ws j (does.CopyProgram page) h kind refl))
 settles plan past ws j (does.Erase block) h kind all (inr k) a f =
     subst (λ (b : Bool). Gains plan a (cond b (settled a j.task (count_by is_copy_program (acts j.number past))) a) j.task) (sym all)
     (settled_gains plan a j.task (count_by is_copy_program (acts j.number past)) f (of_job plan past ws j (does.Erase block) h).task)
 
 -- a slot with an act
-pub turn_gains : (plan : DiePlan) (past : Log) (caller slot : ℕ) (ws : List Waived) (finished : Option ℕ) (j : Job) (act : Act) (t : ℕ) → IsTurn plan past ws j act
+pub turn_gains : (plan : DiePlan) (past : Log) (caller slot : ℕ) (ws : List Waived) (finished : Option ℕ) (j : Job) (act : Act) (t : ℕ)
+    → IsTurn plan past ws j act
     → 1 ≤ pending_of plan (λ n. acts n past) (is_waived past) (jobs past) t
-    → pending_of plan (λ n. acts n (turn_log past caller slot ws finished j act)) (is_waived (turn_log past caller slot ws finished j act)) (jobs past) t ≤ 0
-    → Gains plan (accounts plan past) (after_act plan (job_at past j.number) (acts j.number past) act (after_waivers past ws (accounts plan past))) t
+    → pending_of plan (λ n. acts n (turn_log past caller slot ws finished j act)) (is_waived (turn_log past caller slot ws finished j act))
+    (jobs past) t ≤ 0
+    → Gains plan (accounts plan past) (after_act plan (job_at past j.number) (acts j.number past) act
+    (after_waivers past ws (accounts plan past))) t
 turn_gains plan past caller slot ws finished j act t h some none =
     let log : Log = turn_log past caller slot ws finished j act in
     let own : ℕ → List Act = λ n. acts n past in
@@ -140,17 +157,22 @@ turn_gains plan past caller slot ws finished j act t h some none =
     elim (cases_eq i.number j.number) [
       | inl e ↦
           let same : i ≡ j = same_Some i j (sym r.1.known ∙ (ap (job_at past) e ∙ h.waits.known)) in
-          let kind : j.collects ≡ true = sym (ap (λ (x : Job). x.collects) same) ∙ collects_if i.collects (not (are_all plan i (own i.number))) (not (is_waived past i.number)) r.1.was in
+          let kind : j.collects ≡ true = sym (ap (λ (x : Job). x.collects) same)
+          ∙ collects_if i.collects (not (are_all plan i (own i.number))) (not (is_waived past i.number)) r.1.was in
           let over : is_pending plan own' (is_waived log) j ≡ false = sym (ap (is_pending plan own' (is_waived log)) same) ∙ r.1.over in
-          let all : are_all plan j (acts j.number past ++ act ∷ []) ≡ true = sym (ap (are_all plan j) more.more) ∙ over_now j.collects (are_all plan j (own' j.number)) (is_waived log j.number) kind h.waits.new over in
-          subst (Gains plan a (after_act plan (job_at past j.number) (acts j.number past) act b)) (sym (ap (λ (x : Job). x.task) same) ∙ r.1.task) (
+          let all : are_all plan j (acts j.number past ++ act ∷ []) ≡ true = sym (ap (are_all plan j) more.more)
+          ∙ over_now j.collects (are_all plan j (own' j.number)) (is_waived log j.number) kind h.waits.new over in
+          subst (Gains plan a (after_act plan (job_at past j.number) (acts j.number past) act b)) (sym (ap (λ (x : Job). x.task) same)
+          ∙ r.1.task) (
           subst (λ o. Gains plan a (after_act plan o (acts j.number past) act b) j.task) (sym h.waits.known) (
           then_gains plan a b (after_act plan (Some j) (acts j.number past) act b) j.task (waivers_rise past ws a j.task)
           (settles plan past ws j act h kind all (act_kind plan past j act h.does_it) b (waivers_fit plan past ws a fits))
           )
           )
       | inr apart ↦
-          let is : is_among i.number ws ≡ true = closed_waived plan own own' (is_waived past) (is_waived log) (λ n. is_among n ws) (jobs past) t i (slot_waives plan caller slot ws (Some (j.number, act)) finished past h.serve.numbered h.waivers) (more.other i.number apart) r.1 in
+          let is : is_among i.number ws ≡ true = closed_waived plan own own' (is_waived past) (is_waived log) (λ n. is_among n ws)
+          (jobs past) t i (slot_waives plan caller slot ws (Some (j.number, act)) finished past h.serve.numbered h.waivers)
+          (more.other i.number apart) r.1 in
           let within : i.task < length plan.caps = (all_at (IsTaken plan) (jobs past) i.number i h.true_before.taken r.1.known).task in
           subst (Gains plan a (after_act plan (job_at past j.number) (acts j.number past) act b)) r.1.task (
           gains_then plan a b (after_act plan (job_at past j.number) (acts j.number past) act b) i.task

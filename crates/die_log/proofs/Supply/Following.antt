@@ -1,5 +1,6 @@
 -- An exact log whose events keep a plan: its jobs are what came, and what they say of the periods of each task.
-use Rattle.std.proofs.Common.{◌≡◌, ℕ, ◌+◌, ◌*◌, ◌<◌, ◌≤◌, ◌==◌, ◌&&◌, Bool, true, false, cond, List, [], ◌∷◌, ◌++◌, length, map, count_by, refl, ap, sym, subst, ◌∙◌, ◌⊎◌, inl, inr, arith, append_assoc}
+use Rattle.std.proofs.Common.{◌≡◌, ℕ, ◌+◌, ◌*◌, ◌<◌, ◌≤◌, ◌==◌, ◌&&◌, Bool, true, false, cond, List, [], ◌∷◌, ◌++◌, length, map, count_by}
+use Rattle.std.proofs.Common.{refl, ap, sym, subst, ◌∙◌, ◌⊎◌, inl, inr, arith, append_assoc}
 use Rattle.std.specs.Prelude.{Contains, MatchBool}
 use Rattle.std.specs.List.{AllByRecursion}
 use Rattle.std.proofs.lemmas.Bool.{true≢false, cases_lt, and_from, eq-eqb}
@@ -16,7 +17,8 @@ use Rattle.slot_types.specs.declared.plans.Times.{Times}
 use Rattle.plan_rules.specs.Times.{times_of}
 use Rattle.plan_rules.specs.Keeping.{Arrival, arrivals, slots, IsPlanned, IsPlannedJob, IsPlannedCollection, AreApart, KeepsPlan}
 use Rattle.plan_rules.proofs.Pacing.{ArePaced, IsBefore, is_collection_of, collections_in, paced_start}
-use Rattle.plan_rules.proofs.Moments.{slots_append, arrivals_after, before_planned, next_job, next_collection, paced_event, job_arrival, collection_arrival}
+use Rattle.plan_rules.proofs.Moments.{slots_append, arrivals_after, before_planned, next_job, next_collection, paced_event, job_arrival}
+use Rattle.plan_rules.proofs.Moments.{collection_arrival}
 use Rattle.die_log.specs.Log.{Log, Job, jobs, now, carried}
 use Rattle.die_log.specs.Answers.{IsExact, accepted, refusals, choice, slot_reply}
 use Rattle.die_log.specs.Planned.{IsInTime, told}
@@ -32,22 +34,29 @@ arrival_of j = record { at = j.release; collects = j.collects; task = j.task; re
 pub record Follows (plan : DiePlan) (times : Times) (log : Log) : Type 0 where
   pub clock : slots (told log) ≡ now log
   pub came : arrivals 0 (told log) ≡ map arrival_of (jobs log)
-  pub paced : (task : ℕ) → task < length plan.caps → ArePaced (times_of times task).collect_period task (arrivals 0 (told log)) (slots (told log))
+  pub paced : (task : ℕ) → task < length plan.caps → ArePaced (times_of times task).collect_period task (arrivals 0 (told log))
+      (slots (told log))
 
-came_push : (before : List Arrival) (js : List Job) (a : Arrival) (j : Job) → before ≡ map arrival_of js → a ≡ arrival_of j → before ++ a ∷ [] ≡ map arrival_of (js ++ j ∷ [])
-came_push before js a j e is = ap (λ l. l ++ a ∷ []) e ∙ (ap (λ b. map arrival_of js ++ b ∷ []) is ∙ sym (map-append arrival_of js (j ∷ [])))
+came_push : (before : List Arrival) (js : List Job) (a : Arrival) (j : Job) → before ≡ map arrival_of js → a ≡ arrival_of j → before ++ a
+    ∷ [] ≡ map arrival_of (js ++ j ∷ [])
+came_push before js a j e is = ap (λ l. l ++ a ∷ []) e ∙ (ap (λ b. map arrival_of js ++ b ∷ []) is
+    ∙ sym (map-append arrival_of js (j ∷ [])))
 
 -- the events up to one of them, and those behind it
-pub one_further : (plan : DiePlan) (times : Times) (past : Log) (event : Event) (rest : List Event) → KeepsPlan plan times ((told past ++ event ∷ []) ++ rest) → KeepsPlan plan times (told past ++ event ∷ rest)
+pub one_further : (plan : DiePlan) (times : Times) (past : Log) (event : Event) (rest : List Event)
+    → KeepsPlan plan times ((told past ++ event ∷ []) ++ rest) → KeepsPlan plan times (told past ++ event ∷ rest)
 one_further plan times past event rest keeps = subst (KeepsPlan plan times) (append_assoc (told past) (event ∷ []) rest) keeps
 
-pub follows : (plan : DiePlan) (times : Times) (log : Log) → IsExact plan log → (rest : List Event) → KeepsPlan plan times (told log ++ rest) → Follows plan times log
-follows plan times = exact_induction plan Q (λ rest keeps. record { clock = refl; came = refl; paced = λ task lt. paced_start (times_of times task).collect_period task }) step
+pub follows : (plan : DiePlan) (times : Times) (log : Log) → IsExact plan log → (rest : List Event)
+    → KeepsPlan plan times (told log ++ rest) → Follows plan times log
+follows plan times = exact_induction plan Q (λ rest keeps. record
+    { clock = refl; came = refl; paced = λ task lt. paced_start (times_of times task).collect_period task }) step
   where
     Q : Log → Type 0
     Q log = (rest : List Event) → KeepsPlan plan times (told log ++ rest) → Follows plan times log
 
-    step : (past : Log) (caller : ℕ) (event : Event) → IsExact plan past → Q past → AllByRecursion (λ c. c.0 ≡ false) (refusals plan past event) → Q (entry caller event (accepted plan past event) ∷ past)
+    step : (past : Log) (caller : ℕ) (event : Event) → IsExact plan past → Q past
+        → AllByRecursion (λ c. c.0 ≡ false) (refusals plan past event) → Q (entry caller event (accepted plan past event) ∷ past)
     step past caller (events.Submit task release due ops) exact ih none rest keeps =
         let event : Event = events.Submit task release due ops in
         let k = one_further plan times past event rest keeps in
@@ -56,7 +65,8 @@ follows plan times = exact_induction plan Q (λ rest keeps. record { clock = ref
         record {
           clock = omega (arith, slots_append (told past) (event ∷ []), f.clock);
           came = arrivals_after (told past) (event ∷ [])
-              ∙ came_push (arrivals 0 (told past)) (jobs past) (job_arrival (slots (told past)) task release due ops) _ f.came (ap (λ (m : ℕ). job_arrival m task release due ops) (sym n.planned.comes));
+              ∙ came_push (arrivals 0 (told past)) (jobs past) (job_arrival (slots (told past)) task release due ops) _ f.came
+              (ap (λ (m : ℕ). job_arrival m task release due ops) (sym n.planned.comes));
           paced = λ t lt. paced_event plan times (told past) rest event t lt k (f.paced t lt);
         }
     step past caller (events.Collect task release due) exact ih none rest keeps =
@@ -67,14 +77,21 @@ follows plan times = exact_induction plan Q (λ rest keeps. record { clock = ref
         record {
           clock = omega (arith, slots_append (told past) (event ∷ []), f.clock);
           came = arrivals_after (told past) (event ∷ [])
-              ∙ came_push (arrivals 0 (told past)) (jobs past) (collection_arrival (slots (told past)) task release due) _ f.came (ap (λ (m : ℕ). collection_arrival m task release due) (sym n.comes));
+              ∙ came_push (arrivals 0 (told past)) (jobs past) (collection_arrival (slots (told past)) task release due) _ f.came
+              (ap (λ (m : ℕ). collection_arrival m task release due) (sym n.comes));
           paced = λ t lt. paced_event plan times (told past) rest event t lt k (f.paced t lt);
         }
     step past caller events.Slot exact ih none rest keeps =
         let k = one_further plan times past events.Slot rest keeps in
         let f = ih (events.Slot ∷ rest) k in
         record {
-          clock = omega (arith, slots_append (told past) (events.Slot ∷ []), f.clock, length_push (carried past) (slot_reply plan past (choice plan past).waived (choice plan past).head).ran);
+          clock = omega (
+            arith,
+            slots_append (told past) (events.Slot ∷ []),
+            f.clock,
+            length_push (carried past)
+                (slot_reply plan past (choice plan past).waived (choice plan past).head).ran,
+          );
           came = arrivals_after (told past) (events.Slot ∷ []) ∙ (append-nil (arrivals 0 (told past)) ∙ f.came);
           paced = λ t lt. paced_event plan times (told past) rest events.Slot t lt k (f.paced t lt);
         }
@@ -87,15 +104,24 @@ all_mapped P f (x ∷ xs) h = (h.0, all_mapped P f xs h.1)
 
 count_mapped : {X Y : Type 0} (p : Y → Bool) (f : X → Y) (xs : List X) → count_by p (map f xs) ≡ count_by (λ x. p (f x)) xs
 count_mapped p f [] = refl
-count_mapped p f (x ∷ xs) = omega (arith, sum_by-cons (λ y. cond (p y) 1 0) (f x) (map f xs), sum_by-cons (λ y. cond (p (f y)) 1 0) x xs, count_mapped p f xs)
+count_mapped p f (x ∷ xs) = omega (
+  arith,
+  sum_by-cons (λ y. cond (p y) 1 0) (f x) (map f xs),
+  sum_by-cons (λ y. cond (p (f y)) 1 0) x xs,
+  count_mapped p f xs,
+)
 
 -- what holds of all that came holds of each job
-pub of_job : (plan : DiePlan) (times : Times) (log : Log) (P : Arrival → Type 0) → Follows plan times log → AllByRecursion P (arrivals 0 (told log)) → (j : Job) → Contains (jobs log) j → P (arrival_of j)
+pub of_job : (plan : DiePlan) (times : Times) (log : Log) (P : Arrival → Type 0) → Follows plan times log
+    → AllByRecursion P (arrivals 0 (told log)) → (j : Job) → Contains (jobs log) j → P (arrival_of j)
 of_job plan times log P f all j k =
-    All-contains (λ i. P (arrival_of i)) (jobs log) j (All-from_recursion (λ i. P (arrival_of i)) (jobs log) (all_mapped P arrival_of (jobs log) (subst (AllByRecursion P) f.came all))) k
+    All-contains (λ i. P (arrival_of i)) (jobs log) j (All-from_recursion (λ i. P (arrival_of i)) (jobs log)
+    (all_mapped P arrival_of (jobs log) (subst (AllByRecursion P) f.came all))) k
 
-pub collections_are : (plan : DiePlan) (times : Times) (log : Log) (task : ℕ) → Follows plan times log → collections_in task (arrivals 0 (told log)) ≡ collections_of (jobs log) task
-collections_are plan times log task f = ap (λ (l : List Arrival). count_by (is_collection_of task) l) f.came ∙ count_mapped (is_collection_of task) arrival_of (jobs log)
+pub collections_are : (plan : DiePlan) (times : Times) (log : Log) (task : ℕ) → Follows plan times log
+    → collections_in task (arrivals 0 (told log)) ≡ collections_of (jobs log) task
+collections_are plan times log task f = ap (λ (l : List Arrival). count_by (is_collection_of task) l) f.came
+    ∙ count_mapped (is_collection_of task) arrival_of (jobs log)
 
 -- not too many collections have come
 pub few_collections : (plan : DiePlan) (times : Times) (log : Log) (task : ℕ) → Follows plan times log → task < length plan.caps
@@ -105,40 +131,55 @@ few_collections plan times log task f lt =
     omega (arith, (f.paced task lt).few, f.clock, ap (λ n. q * n) (collections_are plan times log task f))
 
 -- when a job comes, those of its task before it are due
-pub jobs_due : (plan : DiePlan) (times : Times) (past : Log) (rest : List Event) (task release due : ℕ) (ops : List Op) → Follows plan times past → KeepsPlan plan times (told past ++ events.Submit task release due ops ∷ rest)
+pub jobs_due : (plan : DiePlan) (times : Times) (past : Log) (rest : List Event) (task release due : ℕ) (ops : List Op)
+    → Follows plan times past → KeepsPlan plan times (told past ++ events.Submit task release due ops ∷ rest)
     → AreDueBy (jobs past) task (now past)
 jobs_due plan times past rest task release due ops f keeps j k kind same =
     let n = next_job plan times (told past) rest task release due ops keeps in
     let a : Arrival = job_arrival (slots (told past)) task release due ops in
-    let apart = of_job plan times past (λ b. AreApart times b a) f (recursion_from_All (λ b. AreApart times b a) (arrivals 0 (told past)) n.apart) j k kind refl same in
-    let planned = of_job plan times past (IsPlanned plan times (slots (told past ++ events.Submit task release due ops ∷ rest))) f (before_planned plan times (told past) (events.Submit task release due ops ∷ rest) keeps) j k in
+    let apart = of_job plan times past (λ b. AreApart times b a) f
+    (recursion_from_All (λ b. AreApart times b a) (arrivals 0 (told past)) n.apart) j k kind refl same in
+    let planned = of_job plan times past (IsPlanned plan times (slots (told past ++ events.Submit task release due ops ∷ rest))) f
+    (before_planned plan times (told past) (events.Submit task release due ops ∷ rest) keeps) j k in
     omega (arith, apart, due_of planned kind, n.planned.comes, f.clock)
   where
-    due_of : IsPlanned plan times (slots (told past ++ events.Submit task release due ops ∷ rest)) (arrival_of j) → j.collects ≡ false → j.due ≡ j.release + (times_of times j.task).period
+    due_of : IsPlanned plan times (slots (told past ++ events.Submit task release due ops ∷ rest)) (arrival_of j) → j.collects ≡ false
+        → j.due ≡ j.release + (times_of times j.task).period
     due_of p e = by_kind j.collects e p
       where
-        by_kind : (b : Bool) → b ≡ false → MatchBool b (IsPlannedCollection plan times (slots (told past ++ events.Submit task release due ops ∷ rest)) (arrival_of j)) (IsPlannedJob plan times (arrival_of j)) → j.due ≡ j.release + (times_of times j.task).period
+        by_kind : (b : Bool) → b ≡ false → MatchBool b (IsPlannedCollection plan times
+            (slots (told past ++ events.Submit task release due ops ∷ rest)) (arrival_of j)) (IsPlannedJob plan times (arrival_of j))
+            → j.due ≡ j.release + (times_of times j.task).period
         by_kind true z h = absurd (true≢false z)
         by_kind false z h = h.due
 
 -- the collections of a task are due before the next one can come
 pub collections_due : (plan : DiePlan) (times : Times) (log : Log) (task : ℕ) → Follows plan times log → task < length plan.caps
-    → (j : Job) → Contains (jobs log) j → j.collects ≡ true → j.task ≡ task → j.due ≤ (times_of times task).collect_period * collections_of (jobs log) task
+    → (j : Job) → Contains (jobs log) j → j.collects ≡ true → j.task ≡ task → j.due
+    ≤ (times_of times task).collect_period * collections_of (jobs log) task
 collections_due plan times log task f lt j k kind same =
     let q : ℕ = (times_of times task).collect_period in
     let is : (j.collects && (j.task == task)) ≡ true = and_from j.collects (j.task == task) kind (eq-eqb j.task task same) in
-    omega (arith, (of_job plan times log (IsBefore task q (q * collections_in task (arrivals 0 (told log)))) f (f.paced task lt).each j k is).1, ap (λ n. q * n) (collections_are plan times log task f))
+    omega (
+      arith,
+      (of_job plan times log (IsBefore task q (q * collections_in task (arrivals 0 (told log)))) f (f.paced task lt).each j k
+          is).1,
+      ap (λ n. q * n) (collections_are plan times log task f),
+    )
 
 -- and where none is late, only the last one may be pending, and only before its due
-pub closed_by : (plan : DiePlan) (times : Times) (log : Log) (task : ℕ) → Follows plan times log → task < length plan.caps → now log ≤ MAX_SLOT → IsInTime plan log → pending_at plan log task ≤ 1
-    → now log + (times_of times task).collect_period * pending_at plan log task ≤ (times_of times task).collect_period * collections_of (jobs log) task + (times_of times task).collect_period
+pub closed_by : (plan : DiePlan) (times : Times) (log : Log) (task : ℕ) → Follows plan times log → task < length plan.caps → now log
+    ≤ MAX_SLOT → IsInTime plan log → pending_at plan log task ≤ 1
+    → now log + (times_of times task).collect_period * pending_at plan log task
+    ≤ (times_of times task).collect_period * collections_of (jobs log) task + (times_of times task).collect_period
 closed_by plan times log task f lt within in_time one =
     let q : ℕ = (times_of times task).collect_period in
     let count = ap (λ n. q * n) (collections_are plan times log task f) in
     elim (cases_lt (now log) (q * collections_of (jobs log) task)) [
       | inl before ↦ omega (arith, before, mul-le-mul_left q one, times_one q)
       | inr after ↦
-          let none : pending_at plan log task ≡ 0 = pending_none plan log task in_time (λ j k kind same. omega (arith, after, collections_due plan times log task f lt j k kind same)) in
+          let none : pending_at plan log task ≡ 0 = pending_none plan log task in_time
+          (λ j k kind same. omega (arith, after, collections_due plan times log task f lt j k kind same)) in
           let nothing : q * pending_at plan log task ≡ 0 = ap (λ n. q * n) none ∙ times_none q in
           reached (f.paced task lt).many count nothing
     ]
@@ -149,9 +190,13 @@ closed_by plan times log task f lt within in_time one =
     times_none : (k : ℕ) → k * 0 ≡ 0
     times_none k = grind arith
 
-    reached : (slots (told log) ≤ (times_of times task).collect_period * collections_in task (arrivals 0 (told log))) ⊎ (MAX_SLOT < (times_of times task).collect_period * collections_in task (arrivals 0 (told log)) + (times_of times task).collect_period)
-        → (times_of times task).collect_period * collections_in task (arrivals 0 (told log)) ≡ (times_of times task).collect_period * collections_of (jobs log) task
+    reached : (slots (told log) ≤ (times_of times task).collect_period * collections_in task (arrivals 0 (told log)))
+        ⊎ (MAX_SLOT < (times_of times task).collect_period * collections_in task (arrivals 0 (told log)) +
+        (times_of times task).collect_period)
+        → (times_of times task).collect_period * collections_in task (arrivals 0 (told log))
+        ≡ (times_of times task).collect_period * collections_of (jobs log) task
         → (times_of times task).collect_period * pending_at plan log task ≡ 0
-        → now log + (times_of times task).collect_period * pending_at plan log task ≤ (times_of times task).collect_period * collections_of (jobs log) task + (times_of times task).collect_period
+        → now log + (times_of times task).collect_period * pending_at plan log task
+        ≤ (times_of times task).collect_period * collections_of (jobs log) task + (times_of times task).collect_period
     reached (inl le) count nothing = omega (arith, le, count, nothing, f.clock)
     reached (inr beyond) count nothing = omega (arith, beyond, count, nothing, within)

@@ -1,6 +1,7 @@
 -- What a slot leaves and gives to a task: waivers and acts never lower its balance nor raise its hold, and a waived or
 -- settled collection of its own brings it alpha pages or up to its cap.
-use Rattle.std.proofs.Common.{◌≡◌, ℕ, ◌+◌, ◌-◌, ◌<◌, ◌≤◌, ◌==◌, Bool, true, false, cond, List, [], ◌∷◌, ◌++◌, length, get_or, count_by, min, Option, Some, None, ap, sym, subst, ◌∙◌, ◌⊎◌, inl, inr, arith}
+use Rattle.std.proofs.Common.{◌≡◌, ℕ, ◌+◌, ◌-◌, ◌<◌, ◌≤◌, ◌==◌, Bool, true, false, cond, List, [], ◌∷◌, ◌++◌, length, get_or, count_by, min}
+use Rattle.std.proofs.Common.{Option, Some, None, ap, sym, subst, ◌∙◌, ◌⊎◌, inl, inr, arith}
 use Rattle.std.proofs.lemmas.Bool.{cases_lt, cases_eq, or_cases, eqb-true}
 use Rattle.std.proofs.lemmas.List.{set_past, get_or-set_same, get_or-set_other}
 use Rattle.slot_types.specs.declared.plans.DiePlan.{DiePlan}
@@ -25,7 +26,8 @@ pub record Rises (a b : Accounts) (task : ℕ) : Type 0 where
 -- and it was given alpha pages, or lacks to its cap no more than it held
 pub record Gains (plan : DiePlan) (a b : Accounts) (task : ℕ) : Type 0 where
   pub rises : Rises a b task
-  pub gain : (get_or a.balances task 0 + plan.alpha ≤ get_or b.balances task 0) ⊎ (get_or plan.caps task 0 ≤ get_or b.balances task 0 + get_or a.holds task 0)
+  pub gain : (get_or a.balances task 0 + plan.alpha ≤ get_or b.balances task 0)
+      ⊎ (get_or plan.caps task 0 ≤ get_or b.balances task 0 + get_or a.holds task 0)
 
 pub stays : (a : Accounts) (t : ℕ) → Rises a a t
 stays a t = record { balance = omega arith; hold = omega arith }
@@ -84,14 +86,16 @@ settled_rises : (a : Accounts) (task copied : ℕ) (is_over : Bool) (t : ℕ) �
 settled_rises a task copied true t = record { balance = added_more a.balances task (given_of a task) t; hold = omega arith }
 settled_rises a task copied false t = stays a t
 
-pub act_rises : (plan : DiePlan) (o : Option Job) (own : List Act) (act : Act) (a : Accounts) (t : ℕ) → Rises a (after_act plan o own act a) t
+pub act_rises : (plan : DiePlan) (o : Option Job) (own : List Act) (act : Act) (a : Accounts) (t : ℕ)
+    → Rises a (after_act plan o own act a) t
 act_rises plan None own act a t = stays a t
 act_rises plan (Some j) own (does.Read page bytes) a t = stays a t
 act_rises plan (Some j) own (does.Write page bytes) a t = record { balance = omega arith; hold = one_less a.holds j.task t }
 act_rises plan (Some j) own (does.Trim page) a t = stays a t
 act_rises plan (Some j) own (does.CopyRead page) a t = stays a t
 act_rises plan (Some j) own (does.CopyProgram page) a t = record { balance = omega arith; hold = omega arith }
-act_rises plan (Some j) own (does.Erase block) a t = settled_rises a j.task (count_by is_copy_program own) (are_all plan j (own ++ does.Erase block ∷ [])) t
+act_rises plan (Some j) own (does.Erase block) a t = settled_rises a j.task (count_by is_copy_program own)
+    (are_all plan j (own ++ does.Erase block ∷ [])) t
 
 -- Gifts
 
@@ -106,14 +110,17 @@ agree_fits plan a held lent owed free g = record { plan_is = g.plan_is; balances
 
 -- what is given brings what the task owns to its cap, or alpha pages higher
 grown : (plan : DiePlan) (a : Accounts) (task : ℕ) → Fits plan a → task < length a.balances
-    → get_or (added a.balances task (given_of a task)) task 0 + get_or a.holds task 0 ≡ min (get_or plan.caps task 0) (owned_of a task + plan.alpha)
+    → get_or (added a.balances task (given_of a task)) task 0 + get_or a.holds task 0
+    ≡ min (get_or plan.caps task 0) (owned_of a task + plan.alpha)
 grown plan a task f b =
     let cap : get_or a.plan.caps task 0 ≡ get_or plan.caps task 0 = ap (λ (p : DiePlan). get_or p.caps task 0) f.plan_is in
     let alpha : a.plan.alpha ≡ plan.alpha = ap (λ (p : DiePlan). p.alpha) f.plan_is in
-    given_owned a task b (omega (arith, f.owned task, cap)) ∙ (ap (λ n. min n (owned_of a task + a.plan.alpha)) cap ∙ ap (λ n. min (get_or plan.caps task 0) (owned_of a task + n)) alpha)
+    given_owned a task b (omega (arith, f.owned task, cap))
+    ∙ (ap (λ n. min n (owned_of a task + a.plan.alpha)) cap ∙ ap (λ n. min (get_or plan.caps task 0) (owned_of a task + n)) alpha)
 
 given_gain : (plan : DiePlan) (a : Accounts) (task : ℕ) → Fits plan a → task < length plan.caps
-    → (get_or a.balances task 0 + plan.alpha ≤ get_or (added a.balances task (given_of a task)) task 0) ⊎ (get_or plan.caps task 0 ≤ get_or (added a.balances task (given_of a task)) task 0 + get_or a.holds task 0)
+    → (get_or a.balances task 0 + plan.alpha ≤ get_or (added a.balances task (given_of a task)) task 0)
+    ⊎ (get_or plan.caps task 0 ≤ get_or (added a.balances task (given_of a task)) task 0 + get_or a.holds task 0)
 given_gain plan a task f h =
     let is = grown plan a task f (omega (arith, f.balances_len, h)) in
     elim (cases_lt (get_or plan.caps task 0) (owned_of a task + plan.alpha)) [
@@ -121,11 +128,20 @@ given_gain plan a task f h =
       | inr far ↦ inl (omega (arith, far, is))
     ]
 
-pub waived_gains : (plan : DiePlan) (a : Accounts) (task : ℕ) → Fits plan a → task < length plan.caps → Gains plan a (moves.waived a task) task
-waived_gains plan a task f h = record { rises = record { balance = added_more a.balances task (given_of a task) task; hold = omega arith }; gain = given_gain plan a task f h }
+pub waived_gains : (plan : DiePlan) (a : Accounts) (task : ℕ) → Fits plan a → task < length plan.caps
+    → Gains plan a (moves.waived a task) task
+waived_gains plan a task f h = record {
+  rises = record { balance = added_more a.balances task (given_of a task) task; hold = omega arith };
+  gain = given_gain plan a task f h;
+}
 
-pub settled_gains : (plan : DiePlan) (a : Accounts) (task copied : ℕ) → Fits plan a → task < length plan.caps → Gains plan a (settled a task copied) task
-settled_gains plan a task copied f h = record { rises = record { balance = added_more a.balances task (given_of a task) task; hold = omega arith }; gain = given_gain plan a task f h }
+pub settled_gains : (plan : DiePlan) (a : Accounts) (task copied : ℕ) → Fits plan a → task < length plan.caps
+    → Gains plan a (settled a task copied) task
+settled_gains plan a task copied f h = record {
+  rises = record
+      { balance = added_more a.balances task (given_of a task) task; hold = omega arith };
+  gain = given_gain plan a task f h;
+}
 
 waived_fits : (plan : DiePlan) (a : Accounts) (task : ℕ) → Fits plan a → Fits plan (moves.waived a task)
 waived_fits plan a task f = record {
@@ -141,7 +157,12 @@ waived_fits plan a task f = record {
     own : owned_of (moves.waived a task) task ≤ get_or plan.caps task 0
     own = elim (cases_lt task (length a.balances)) [
       | inl below ↦ omega (arith, grown plan a task f below)
-      | inr past ↦ omega (arith, f.owned task, ap (λ (l : List ℕ). get_or l task 0) (set_past a.balances task (get_or a.balances task 0 + given_of a task) past))
+      | inr past ↦ omega (
+        arith,
+        f.owned task,
+        ap (λ (l : List ℕ). get_or l task 0)
+            (set_past a.balances task (get_or a.balances task 0 + given_of a task) past),
+      )
     ]
 
 pub waivers_fit : (plan : DiePlan) (past : Log) (ws : List Waived) (a : Accounts) → Fits plan a → Fits plan (after_waivers past ws a)
@@ -153,7 +174,8 @@ waivers_fit plan past (w ∷ ws) a f = waivers_fit plan past ws (after_waiver (j
     by_job (Some j) = waived_fits plan a j.task f
 
 -- a waived collection brings its task the gift
-pub waivers_gain : (plan : DiePlan) (past : Log) (ws : List Waived) (a : Accounts) (j : Job) → Fits plan a → job_at past j.number ≡ Some j → j.task < length plan.caps → is_among j.number ws ≡ true
+pub waivers_gain : (plan : DiePlan) (past : Log) (ws : List Waived) (a : Accounts) (j : Job) → Fits plan a → job_at past j.number ≡ Some j
+    → j.task < length plan.caps → is_among j.number ws ≡ true
     → Gains plan a (after_waivers past ws a) j.task
 waivers_gain plan past [] a j f known within is = absurd cc
 waivers_gain plan past (w ∷ ws) a j f known within is = elim (or_cases (w.number == j.number) (is_among j.number ws) is) [
@@ -161,8 +183,10 @@ waivers_gain plan past (w ∷ ws) a j f known within is = elim (or_cases (w.numb
       let at : job_at past w.number ≡ Some j = ap (job_at past) (eqb-true w.number j.number here) ∙ known in
       let next : after_waiver (job_at past w.number) a ≡ moves.waived a j.task = ap (λ o. after_waiver o a) at in
       subst (λ (b : Accounts). Gains plan a (after_waivers past ws b) j.task) (sym next)
-      (gains_then plan a (moves.waived a j.task) (after_waivers past ws (moves.waived a j.task)) j.task (waived_gains plan a j.task f within) (waivers_rise past ws (moves.waived a j.task) j.task))
+      (gains_then plan a (moves.waived a j.task) (after_waivers past ws (moves.waived a j.task)) j.task
+      (waived_gains plan a j.task f within) (waivers_rise past ws (moves.waived a j.task) j.task))
   | inr later ↦
       let b : Accounts = after_waiver (job_at past w.number) a in
-      then_gains plan a b (after_waivers past ws b) j.task (waived_rises (job_at past w.number) a j.task) (waivers_gain plan past ws b j (waivers_fit plan past (w ∷ []) a f) known within later)
+      then_gains plan a b (after_waivers past ws b) j.task (waived_rises (job_at past w.number) a j.task)
+      (waivers_gain plan past ws b j (waivers_fit plan past (w ∷ []) a f) known within later)
 ]

@@ -1,5 +1,6 @@
 -- A task whose jobs are all done holds nothing, and one whose collections are all closed has none pending.
-use Rattle.std.proofs.Common.{◌≡◌, ℕ, zero, suc, ◌≤◌, ◌<◌, ◌==◌, ◌&&◌, not, Bool, true, false, cond, List, [], ◌∷◌, length, drop, sum_by, count_by, Some, refl, ap, sym, ◌∙◌, inl, inr, arith, slice_get}
+use Rattle.std.proofs.Common.{◌≡◌, ℕ, zero, suc, ◌≤◌, ◌<◌, ◌==◌, ◌&&◌, not, Bool, true, false, cond, List, [], ◌∷◌, length, drop, sum_by}
+use Rattle.std.proofs.Common.{count_by, Some, refl, ap, sym, ◌∙◌, inl, inr, arith, slice_get}
 use Rattle.std.specs.Prelude.{Contains}
 use Rattle.std.proofs.lemmas.Bool.{true≢false, cases_eq, eqb-true, and_parts, not-true}
 use Rattle.std.proofs.lemmas.List.{drop_all}
@@ -31,12 +32,14 @@ none_left n ops le = ap writes (drop_all n ops le)
 all_done : (plan : DiePlan) (j : Job) (own : List Act) → j.collects ≡ false → are_all plan j own ≡ true → length own ≡ length j.ops
 all_done plan j own kind is = by_kind j.collects kind is
   where
-    by_kind : (b : Bool) → b ≡ false → (cond b (count_by is_erase own == plan.shape.erase_slots) (length own == length j.ops)) ≡ true → length own ≡ length j.ops
+    by_kind : (b : Bool) → b ≡ false → (cond b (count_by is_erase own == plan.shape.erase_slots) (length own == length j.ops)) ≡ true
+        → length own ≡ length j.ops
     by_kind true k h = absurd (true≢false k)
     by_kind false k h = eqb-true (length own) (length j.ops) h
 
 -- all jobs of a task that are due are done, so it holds nothing for them
-pub hold_none : (plan : DiePlan) (log : Log) (t : ℕ) → AreTrue plan log → t < length plan.caps → ((k : ℕ) (j : Job) → job_at log k ≡ Some j → j.number ≡ k)
+pub hold_none : (plan : DiePlan) (log : Log) (t : ℕ) → AreTrue plan log → t < length plan.caps
+    → ((k : ℕ) (j : Job) → job_at log k ≡ Some j → j.number ≡ k)
     → ((number : ℕ) → is_waived log number ≡ true → (j : Job) × (job_at log number ≡ Some j) × (j.collects ≡ true))
     → IsInTime plan log → AreDueBy (jobs log) t (now log) → hold_of plan log t ≡ 0
 hold_none plan log t h lt numbered collections in_time due_by =
@@ -66,10 +69,14 @@ hold_none plan log t h lt numbered collections in_time due_by =
 -- Collections
 
 -- all collections of a task that are due are done or waived, so none of them is pending
-pub pending_none : (plan : DiePlan) (log : Log) (t : ℕ) → IsInTime plan log → ((j : Job) → Contains (jobs log) j → j.collects ≡ true → j.task ≡ t → j.due ≤ now log) → pending_at plan log t ≡ 0
-pending_none plan log t in_time due_by = sum_zero (λ j. one_if ((j.task == t) && is_pending plan (λ n. acts n log) (is_waived log) j)) (jobs log) (λ k j e. ap one_if (each k j e _ refl))
+pub pending_none : (plan : DiePlan) (log : Log) (t : ℕ) → IsInTime plan log
+    → ((j : Job) → Contains (jobs log) j → j.collects ≡ true → j.task ≡ t → j.due ≤ now log) → pending_at plan log t ≡ 0
+pending_none plan log t in_time due_by = sum_zero (λ j. one_if ((j.task == t) && is_pending plan (λ n. acts n log) (is_waived log) j))
+    (jobs log) (λ k j e. ap one_if (each k j e _ refl))
   where
-    each : (k : ℕ) (j : Job) → slice_get (jobs log) k ≡ Some j → (b : Bool) → ((j.task == t) && is_pending plan (λ n. acts n log) (is_waived log) j) ≡ b → ((j.task == t) && is_pending plan (λ n. acts n log) (is_waived log) j) ≡ false
+    each : (k : ℕ) (j : Job) → slice_get (jobs log) k ≡ Some j → (b : Bool)
+        → ((j.task == t) && is_pending plan (λ n. acts n log) (is_waived log) j) ≡ b
+        → ((j.task == t) && is_pending plan (λ n. acts n log) (is_waived log) j) ≡ false
     each k j e false is = is
     each k j e true is =
         let task = and_parts (j.task == t) (is_pending plan (λ n. acts n log) (is_waived log) j) is in

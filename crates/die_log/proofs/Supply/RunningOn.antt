@@ -30,7 +30,8 @@ pub record RunsOn (plan : DiePlan) (past : Log) (rest : List Event) : Type 0 whe
   pub exact : IsExact plan log
   pub entered : AreEntered rest past log
 
-with_entry : (plan : DiePlan) (past : Log) (event : Event) (rest : List Event) (reply : Reply) → RunsOn plan (entry 0 event reply ∷ past) rest → RunsOn plan past (event ∷ rest)
+with_entry : (plan : DiePlan) (past : Log) (event : Event) (rest : List Event) (reply : Reply)
+    → RunsOn plan (entry 0 event reply ∷ past) rest → RunsOn plan past (event ∷ rest)
 with_entry plan past event rest reply r =
     let e = entry 0 event reply in
     record {
@@ -41,30 +42,46 @@ with_entry plan past event rest reply r =
       entered = (e ∷ past, inl (0, reply, refl), r.entered);
     }
 
-without_entry : (plan : DiePlan) (past : Log) (event : Event) (rest : List Event) → IsArrival event → RunsOn plan past rest → RunsOn plan past (event ∷ rest)
-without_entry plan past event rest is r = record { log = r.log; later = r.later; is = r.is; exact = r.exact; entered = (past, inr (is, refl), r.entered) }
+without_entry : (plan : DiePlan) (past : Log) (event : Event) (rest : List Event) → IsArrival event → RunsOn plan past rest
+    → RunsOn plan past (event ∷ rest)
+without_entry plan past event rest is r = record {
+  log = r.log;
+  later = r.later;
+  is = r.is;
+  exact = r.exact;
+  entered =
+      (past, inr (is, refl), r.entered);
+}
 
 -- an event that is accepted
-accepted_on : (plan : DiePlan) (past : Log) (event : Event) (rest : List Event) → refusal_of plan past event ≡ None → IsAccepted (accepted plan past event) → IsExact plan past
-    → (IsExact plan (entry 0 event (accepted plan past event) ∷ past) → RunsOn plan (entry 0 event (accepted plan past event) ∷ past) rest) → RunsOn plan past (event ∷ rest)
-accepted_on plan past event rest none takes exact further = with_entry plan past event rest (accepted plan past event) (further (exact, sym (accepted_answer plan past event none), takes))
+accepted_on : (plan : DiePlan) (past : Log) (event : Event) (rest : List Event) → refusal_of plan past event ≡ None
+    → IsAccepted (accepted plan past event) → IsExact plan past
+    → (IsExact plan (entry 0 event (accepted plan past event) ∷ past) → RunsOn plan (entry 0 event (accepted plan past event) ∷ past) rest)
+    → RunsOn plan past (event ∷ rest)
+accepted_on plan past event rest none takes exact further = with_entry plan past event rest (accepted plan past event)
+    (further (exact, sym (accepted_answer plan past event none), takes))
 
 -- a job or a collection, refused or not
-arrival_on : (plan : DiePlan) (past : Log) (event : Event) (rest : List Event) (o : Option Refusal) → IsArrival event → IsAccepted (accepted plan past event) → refusal_of plan past event ≡ o → IsExact plan past
-    → (IsExact plan (entry 0 event (accepted plan past event) ∷ past) → RunsOn plan (entry 0 event (accepted plan past event) ∷ past) rest) → RunsOn plan past rest → RunsOn plan past (event ∷ rest)
+arrival_on : (plan : DiePlan) (past : Log) (event : Event) (rest : List Event) (o : Option Refusal) → IsArrival event
+    → IsAccepted (accepted plan past event) → refusal_of plan past event ≡ o → IsExact plan past
+    → (IsExact plan (entry 0 event (accepted plan past event) ∷ past) → RunsOn plan (entry 0 event (accepted plan past event) ∷ past) rest)
+    → RunsOn plan past rest → RunsOn plan past (event ∷ rest)
 arrival_on plan past event rest None is takes e exact further stays = accepted_on plan past event rest e takes exact further
 arrival_on plan past event rest (Some refusal) is takes e exact further stays = without_entry plan past event rest is stays
 
-pub runs_on : (plan : DiePlan) (past : Log) (rest : List Event) → IsExact plan past → now past + slots rest ≤ MAX_SLOT → RunsOn plan past rest
+pub runs_on : (plan : DiePlan) (past : Log) (rest : List Event) → IsExact plan past → now past + slots rest ≤ MAX_SLOT
+    → RunsOn plan past rest
 runs_on plan past [] exact le = record { log = past; later = []; is = refl; exact = exact; entered = refl }
 runs_on plan past (events.Submit task release due ops ∷ rest) exact le =
     let event : Event = events.Submit task release due ops in
     let fits : now past + slots rest ≤ MAX_SLOT = omega (arith, le, slots_append (event ∷ []) rest) in
-    arrival_on plan past event rest (refusal_of plan past event) tt tt refl exact (λ next. runs_on plan (entry 0 event (accepted plan past event) ∷ past) rest next fits) (runs_on plan past rest exact fits)
+    arrival_on plan past event rest (refusal_of plan past event) tt tt refl exact
+    (λ next. runs_on plan (entry 0 event (accepted plan past event) ∷ past) rest next fits) (runs_on plan past rest exact fits)
 runs_on plan past (events.Collect task release due ∷ rest) exact le =
     let event : Event = events.Collect task release due in
     let fits : now past + slots rest ≤ MAX_SLOT = omega (arith, le, slots_append (event ∷ []) rest) in
-    arrival_on plan past event rest (refusal_of plan past event) tt tt refl exact (λ next. runs_on plan (entry 0 event (accepted plan past event) ∷ past) rest next fits) (runs_on plan past rest exact fits)
+    arrival_on plan past event rest (refusal_of plan past event) tt tt refl exact
+    (λ next. runs_on plan (entry 0 event (accepted plan past event) ∷ past) rest next fits) (runs_on plan past rest exact fits)
 runs_on plan past (events.Slot ∷ rest) exact le =
     let one = slots_append (events.Slot ∷ []) rest in
     let later = length_push (carried past) (slot_reply plan past (choice plan past).waived (choice plan past).head).ran in
@@ -80,10 +97,16 @@ entered_append (x ∷ xs) ys a b c h k = (h.0, h.1, entered_append xs ys h.0 b c
 -- a log's own events leave it
 entered_told : (log : Log) → AreEntered (told log) [] log
 entered_told [] = refl
-entered_told (e ∷ past) = entered_append (told past) (e.event ∷ []) [] past (e ∷ past) (entered_told past) (e ∷ past, inl (e.caller, e.reply, refl), refl)
+entered_told (e ∷ past) = entered_append (told past) (e.event ∷ []) [] past (e ∷ past) (entered_told past) (
+  e
+      ∷ past,
+  inl (e.caller, e.reply, refl),
+  refl,
+)
 
 -- so nothing is late at a moment that events reach unrefused which keep a passing plan
-pub never_late : (plan : DiePlan) (times : Times) → MeetsBound plan → Passes plan times → (moment : Log) → IsExact plan moment → (rest : List Event) → KeepsPlan plan times (told moment ++ rest) → IsInTime plan moment
+pub never_late : (plan : DiePlan) (times : Times) → MeetsBound plan → Passes plan times → (moment : Log) → IsExact plan moment
+    → (rest : List Event) → KeepsPlan plan times (told moment ++ rest) → IsInTime plan moment
 never_late plan times bound passes moment exact rest keeps =
     let f = follows plan times moment exact rest keeps in
     let r = runs_on plan moment rest exact (omega (arith, keeps.few_slots, slots_append (told moment) rest, f.clock)) in

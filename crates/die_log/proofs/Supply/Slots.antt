@@ -28,42 +28,52 @@ pub record Leaves (plan : DiePlan) (past log : Log) (task : ℕ) : Type 0 where
   pub rises : Rises (accounts plan past) (accounts plan log) task
   pub gains : 1 ≤ pending_at plan past task → pending_at plan log task ≤ 0 → Gains plan (accounts plan past) (accounts plan log) task
 
-leaves_idle : (plan : DiePlan) (past : Log) (caller slot : ℕ) (ws : List Waived) (finished : Option ℕ) (t : ℕ) → AreTrue plan past → CellsServe plan past → AreWaivers plan past (waived past) (accounts plan past) ws
+leaves_idle : (plan : DiePlan) (past : Log) (caller slot : ℕ) (ws : List Waived) (finished : Option ℕ) (t : ℕ) → AreTrue plan past
+    → CellsServe plan past → AreWaivers plan past (waived past) (accounts plan past) ws
     → Leaves plan past (slot_entry caller slot ws None finished ∷ past) t
 leaves_idle plan past caller slot ws finished t h c are = record {
   rises = waivers_rise past ws (accounts plan past) t;
   gains = idle_gains plan past caller slot ws finished t h c are;
 }
 
-leaves_act : (plan : DiePlan) (past : Log) (caller : ℕ) (ws : List Waived) (j : Job) (o : Option Act) (t : ℕ) → AreTrue plan past → CellsServe plan past → AreWaivers plan past (waived past) (accounts plan past) ws
-    → Waits plan past (waived past ++ ws) j → act_for plan past j ≡ o → Leaves plan past (entry caller events.Slot (replies.Slot (reply_with plan past ws j o)) ∷ past) t
+leaves_act : (plan : DiePlan) (past : Log) (caller : ℕ) (ws : List Waived) (j : Job) (o : Option Act) (t : ℕ) → AreTrue plan past
+    → CellsServe plan past → AreWaivers plan past (waived past) (accounts plan past) ws
+    → Waits plan past (waived past ++ ws) j → act_for plan past j ≡ o
+    → Leaves plan past (entry caller events.Slot (replies.Slot (reply_with plan past ws j o)) ∷ past) t
 leaves_act plan past caller ws j None t h c are waits e = leaves_idle plan past caller (now past) ws None t h c are
 leaves_act plan past caller ws j (Some act) t h c are waits e =
     let a : Accounts = accounts plan past in
     let b : Accounts = after_waivers past ws a in
     record {
-      rises = rises_then a b (after_act plan (job_at past j.number) (acts j.number past) act b) t (waivers_rise past ws a t) (act_rises plan (job_at past j.number) (acts j.number past) act b t);
-      gains = turn_gains plan past caller (now past) ws (reply_with plan past ws j (Some act)).finished j act t (record { true_before = h; serve = c; waivers = are; waits = waits; does_it = e });
+      rises = rises_then a b (after_act plan (job_at past j.number) (acts j.number past) act b) t (waivers_rise past ws a t)
+          (act_rises plan (job_at past j.number) (acts j.number past) act b t);
+      gains = turn_gains plan past caller (now past) ws (reply_with plan past ws j (Some act)).finished j act t
+          (record { true_before = h; serve = c; waivers = are; waits = waits; does_it = e });
     }
 
-leaves_head : (plan : DiePlan) (past : Log) (caller : ℕ) (ws : List Waived) (o : Option Job) (t : ℕ) → AreTrue plan past → CellsServe plan past → AreWaivers plan past (waived past) (accounts plan past) ws
-    → MatchOption o (Unit {0}) (λ j. Waits plan past (waived past ++ ws) j) → Leaves plan past (entry caller events.Slot (replies.Slot (slot_reply plan past ws o)) ∷ past) t
+leaves_head : (plan : DiePlan) (past : Log) (caller : ℕ) (ws : List Waived) (o : Option Job) (t : ℕ) → AreTrue plan past
+    → CellsServe plan past → AreWaivers plan past (waived past) (accounts plan past) ws
+    → MatchOption o (Unit {0}) (λ j. Waits plan past (waived past ++ ws) j)
+    → Leaves plan past (entry caller events.Slot (replies.Slot (slot_reply plan past ws o)) ∷ past) t
 leaves_head plan past caller ws None t h c are waits = leaves_idle plan past caller (now past) ws None t h c are
 leaves_head plan past caller ws (Some j) t h c are waits = leaves_act plan past caller ws j (act_for plan past j) t h c are waits refl
 
-pub slot_leaves : (plan : DiePlan) (past : Log) (caller : ℕ) (t : ℕ) → AreTrue plan past → CellsServe plan past → Leaves plan past (entry caller events.Slot (accepted plan past events.Slot) ∷ past) t
+pub slot_leaves : (plan : DiePlan) (past : Log) (caller : ℕ) (t : ℕ) → AreTrue plan past → CellsServe plan past
+    → Leaves plan past (entry caller events.Slot (accepted plan past events.Slot) ∷ past) t
 slot_leaves plan past caller t h c =
     let is = choice_is plan past (all_known past c.numbered) in
     leaves_head plan past caller (choice plan past).waived (choice plan past).head t h c is.waivers is.head
 
 -- a slot keeps a task supplied of which not too many collections have come: a gift of alpha pages makes up for the
 -- collection that is closed, and one that fills up to the cap leaves nothing to make up for
-pub slot_supplied : (plan : DiePlan) (p q w : ℕ) (past : Log) (caller : ℕ) (t : ℕ) → AreTrue plan past → CellsServe plan past → w * q ≤ plan.alpha * p → q * collections_of (jobs past) t ≤ now past + q
+pub slot_supplied : (plan : DiePlan) (p q w : ℕ) (past : Log) (caller : ℕ) (t : ℕ) → AreTrue plan past → CellsServe plan past → w * q
+    ≤ plan.alpha * p → q * collections_of (jobs past) t ≤ now past + q
     → IsSupplied plan p q w past t → IsSupplied plan p q w (entry caller events.Slot (accepted plan past events.Slot) ∷ past) t
 slot_supplied plan p q w past caller t h c regained few s =
     let log : Log = entry caller events.Slot (accepted plan past events.Slot) ∷ past in
     let l = slot_leaves plan past caller t h c in
-    let later : now log ≡ now past + 1 = length_push (carried past) (slot_reply plan past (choice plan past).waived (choice plan past).head).ran in
+    let later : now log ≡ now past + 1 = length_push (carried past)
+    (slot_reply plan past (choice plan past).waived (choice plan past).head).ran in
     let one : pending_at plan past t ≤ 1 = h.one_each t in
     record {
       few_held = omega (arith, s.few_held, l.rises.hold);
@@ -73,9 +83,12 @@ slot_supplied plan p q w past caller t h c regained few s =
             | inl closed ↦
                 let g = l.gains (omega (arith, closed)) (omega (arith, closed, one)) in
                 elim g.gain [
-                  | inl more ↦ given p w (w * q) plan.alpha (slice_index plan.caps t) (balance_of plan past t) (balance_of plan log t) (collections_of (jobs past) t) next (pending_at plan past t) (pending_at plan log t) before more one regained
-                  | inr full ↦ filled p q w (slice_index plan.caps t) (balance_of plan log t) (hold_of plan past t) (collections_of (jobs past) t) next (pending_at plan log t) full s.few_held (omega (arith, few, le, later))
+                  | inl more ↦ given p w (w * q) plan.alpha (slice_index plan.caps t) (balance_of plan past t) (balance_of plan log t)
+                      (collections_of (jobs past) t) next (pending_at plan past t) (pending_at plan log t) before more one regained
+                  | inr full ↦ filled p q w (slice_index plan.caps t) (balance_of plan log t) (hold_of plan past t)
+                      (collections_of (jobs past) t) next (pending_at plan log t) full s.few_held (omega (arith, few, le, later))
                 ]
-            | inr unclosed ↦ kept p w (w * q) (slice_index plan.caps t) (balance_of plan past t) (balance_of plan log t) (collections_of (jobs past) t) next (pending_at plan past t) (pending_at plan log t) before l.rises.balance unclosed
+            | inr unclosed ↦ kept p w (w * q) (slice_index plan.caps t) (balance_of plan past t) (balance_of plan log t)
+                (collections_of (jobs past) t) next (pending_at plan past t) (pending_at plan log t) before l.rises.balance unclosed
           ];
     }

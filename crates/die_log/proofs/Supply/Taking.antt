@@ -1,5 +1,6 @@
 -- A job or a collection that is taken keeps a task supplied.
-use Rattle.std.proofs.Common.{◌≡◌, ℕ, ◌+◌, ◌*◌, ◌<◌, ◌≤◌, ◌==◌, ◌&&◌, not, Bool, true, false, List, [], ◌∷◌, ◌++◌, length, refl, ap, sym, subst, ◌∙◌, arith, slice_index}
+use Rattle.std.proofs.Common.{◌≡◌, ℕ, ◌+◌, ◌*◌, ◌<◌, ◌≤◌, ◌==◌, ◌&&◌, not, Bool, true, false, List, [], ◌∷◌, ◌++◌, length, refl, ap, sym}
+use Rattle.std.proofs.Common.{subst, ◌∙◌, arith, slice_index}
 use Rattle.std.proofs.lemmas.Bool.Decides.{nat_tests}
 use Rattle.std.proofs.lemmas.List.Sums.{sum_by_push}
 use Rattle.std.proofs.lemmas.List.Elements.{Contains-append_left, Contains-push}
@@ -32,20 +33,41 @@ never false = refl
 -- A job
 
 abbrev job_of : Log → ℕ → ℕ → ℕ → List Op → Job
-job_of past task release due ops = record { number = length (jobs past); collects = false; task = task; release = release; due = due; ops = ops }
+job_of past task release due ops = record {
+  number = length (jobs past);
+  collects = false;
+  task = task;
+  release = release;
+  due = due;
+  ops =
+      ops;
+}
 
 -- what a taken job does to its task: the collections stay as they are
-same_collections : (past : Log) (task release due : ℕ) (ops : List Op) (t : ℕ) → collections_of (jobs past ++ job_of past task release due ops ∷ []) t ≡ collections_of (jobs past) t
-same_collections past task release due ops t = omega (arith, sum_by_push (λ i. one_if (i.collects && (i.task == t))) (jobs past) (job_of past task release due ops))
+same_collections : (past : Log) (task release due : ℕ) (ops : List Op) (t : ℕ)
+    → collections_of (jobs past ++ job_of past task release due ops ∷ []) t ≡ collections_of (jobs past) t
+same_collections past task release due ops t = omega (
+  arith,
+  sum_by_push (λ i. one_if (i.collects && (i.task == t))) (jobs past)
+      (job_of past task release due ops),
+)
 
 same_pending : (plan : DiePlan) (past : Log) (caller task release due : ℕ) (ops : List Op) (t : ℕ)
-    → pending_at plan (entry caller (events.Submit task release due ops) (accepted plan past (events.Submit task release due ops)) ∷ past) t ≡ pending_at plan past t
+    → pending_at plan (entry caller (events.Submit task release due ops) (accepted plan past (events.Submit task release due ops)) ∷ past) t
+    ≡ pending_at plan past t
 same_pending plan past caller task release due ops t =
-    omega (arith, sum_by_push (λ i. one_if ((i.task == t) && is_pending plan (λ n. acts n past) (is_waived past) i)) (jobs past) (job_of past task release due ops), never (task == t))
+    omega (
+      arith,
+      sum_by_push (λ i. one_if ((i.task == t) && is_pending plan (λ n. acts n past) (is_waived past) i)) (jobs past)
+          (job_of past task release due ops),
+      never (task == t),
+    )
 
 -- a job of another task
-pub other_submit_supplied : (plan : DiePlan) (p q w : ℕ) (past : Log) (caller task release due : ℕ) (ops : List Op) (t : ℕ) → AreTrue plan past → task < length plan.caps → writes ops ≤ balance_of plan past task
-    → (t ≡ task → ⊥) → IsSupplied plan p q w past t → IsSupplied plan p q w (entry caller (events.Submit task release due ops) (accepted plan past (events.Submit task release due ops)) ∷ past) t
+pub other_submit_supplied : (plan : DiePlan) (p q w : ℕ) (past : Log) (caller task release due : ℕ) (ops : List Op) (t : ℕ)
+    → AreTrue plan past → task < length plan.caps → writes ops ≤ balance_of plan past task
+    → (t ≡ task → ⊥) → IsSupplied plan p q w past t → IsSupplied plan p q w
+    (entry caller (events.Submit task release due ops) (accepted plan past (events.Submit task release due ops)) ∷ past) t
 other_submit_supplied plan p q w past caller task release due ops t h within has apart s =
     let log : Log = entry caller (events.Submit task release due ops) (accepted plan past (events.Submit task release due ops)) ∷ past in
     let a : Accounts = accounts plan past in
@@ -56,16 +78,21 @@ other_submit_supplied plan p q w past caller task release due ops t h within has
     record {
       few_held = omega (arith, s.few_held, added_at a.holds task (writes ops) t d, none);
       covered = λ next le due_by.
-          subst (λ (count : ℕ). p * slice_index plan.caps t + w * q * count ≤ p * balance_of plan log t + p * w + w * q + w * next + w * q * pending_at plan log t) (sym (same_collections past task release due ops t))
-          (kept p w (w * q) (slice_index plan.caps t) (balance_of plan past t) (balance_of plan log t) (collections_of (jobs past) t) next (pending_at plan past t) (pending_at plan log t)
+          subst (λ (count : ℕ). p * slice_index plan.caps t + w * q * count
+          ≤ p * balance_of plan log t + p * w + w * q + w * next + w * q * pending_at plan log t)
+          (sym (same_collections past task release due ops t))
+          (kept p w (w * q) (slice_index plan.caps t) (balance_of plan past t) (balance_of plan log t) (collections_of (jobs past) t) next
+          (pending_at plan past t) (pending_at plan log t)
           (s.covered next le (fewer_due (jobs past) (job_of past task release due ops) t next due_by))
           (omega (arith, same)) (omega (arith, same_pending plan past caller task release due ops t)));
     }
 
 -- a job of the task itself, a period after its last one, when nothing is held any longer
-pub submit_supplied : (plan : DiePlan) (p q w : ℕ) (past : Log) (caller task release due : ℕ) (ops : List Op) → AreTrue plan past → task < length plan.caps → writes ops ≤ balance_of plan past task
+pub submit_supplied : (plan : DiePlan) (p q w : ℕ) (past : Log) (caller task release due : ℕ) (ops : List Op) → AreTrue plan past → task
+    < length plan.caps → writes ops ≤ balance_of plan past task
     → writes ops ≤ w → hold_of plan past task ≡ 0 → AreDueBy (jobs past) task (now past) → due ≡ now past + p
-    → IsSupplied plan p q w past task → IsSupplied plan p q w (entry caller (events.Submit task release due ops) (accepted plan past (events.Submit task release due ops)) ∷ past) task
+    → IsSupplied plan p q w past task → IsSupplied plan p q w
+    (entry caller (events.Submit task release due ops) (accepted plan past (events.Submit task release due ops)) ∷ past) task
 submit_supplied plan p q w past caller task release due ops h within has few none dues due_is s =
     let log : Log = entry caller (events.Submit task release due ops) (accepted plan past (events.Submit task release due ops)) ∷ past in
     let a : Accounts = accounts plan past in
@@ -77,9 +104,14 @@ submit_supplied plan p q w past caller task release due ops h within has few non
       few_held = omega (arith, few, none, added_at a.holds task (writes ops) task d, itself);
       covered = λ next le due_by.
           let later : due ≤ next = due_by j (Contains-push (jobs past) j) refl refl in
-          subst (λ (count : ℕ). p * slice_index plan.caps task + w * q * count ≤ p * balance_of plan log task + p * w + w * q + w * next + w * q * pending_at plan log task) (sym (same_collections past task release due ops task))
-          (subst (λ (pend : ℕ). p * slice_index plan.caps task + w * q * collections_of (jobs past) task ≤ p * balance_of plan log task + p * w + w * q + w * next + w * q * pend) (sym (same_pending plan past caller task release due ops task))
-          (taken p w (w * q) (slice_index plan.caps task) (balance_of plan past task) (balance_of plan log task) (writes ops) (collections_of (jobs past) task) (now past) next (pending_at plan past task)
+          subst (λ (count : ℕ). p * slice_index plan.caps task + w * q * count
+          ≤ p * balance_of plan log task + p * w + w * q + w * next + w * q * pending_at plan log task)
+          (sym (same_collections past task release due ops task))
+          (subst (λ (pend : ℕ). p * slice_index plan.caps task + w * q * collections_of (jobs past) task
+          ≤ p * balance_of plan log task + p * w + w * q + w * next + w * q * pend)
+          (sym (same_pending plan past caller task release due ops task))
+          (taken p w (w * q) (slice_index plan.caps task) (balance_of plan past task) (balance_of plan log task) (writes ops)
+          (collections_of (jobs past) task) (now past) next (pending_at plan past task)
           (s.covered (now past) (omega arith) dues)
           (omega (arith, taken_at a.balances task (writes ops) task b has, itself)) few (omega (arith, later, due_is))));
     }
@@ -87,15 +119,25 @@ submit_supplied plan p q w past caller task release due ops h within has few non
 -- A collection
 
 abbrev collection_of : Log → ℕ → ℕ → ℕ → Job
-collection_of past task release due = record { number = length (jobs past); collects = true; task = task; release = release; due = due; ops = [] }
+collection_of past task release due = record {
+  number = length (jobs past);
+  collects = true;
+  task = task;
+  release = release;
+  due = due;
+  ops
+      = [];
+}
 
 zero_apart : (k : ℕ) → 0 < k → (0 == k) ≡ false
 zero_apart k h = grind (arith, nat_tests)
 
 -- a collection that was just taken is neither done nor waived
-new_pending : (plan : DiePlan) (past : Log) (task release due : ℕ) → IsExact plan past → 0 < plan.shape.erase_slots → is_pending plan (λ n. acts n past) (is_waived past) (collection_of past task release due) ≡ true
+new_pending : (plan : DiePlan) (past : Log) (task release due : ℕ) → IsExact plan past → 0 < plan.shape.erase_slots
+    → is_pending plan (λ n. acts n past) (is_waived past) (collection_of past task release due) ≡ true
 new_pending plan past task release due exact some =
-    ap (λ (l : List Act). not (are_all plan (collection_of past task release due) l) && not (is_waived past (length (jobs past)))) (no_acts plan past exact)
+    ap (λ (l : List Act). not (are_all plan (collection_of past task release due) l) && not (is_waived past (length (jobs past))))
+    (no_acts plan past exact)
     ∙ (ap (λ (b : Bool). not b && not (is_waived past (length (jobs past)))) (zero_apart plan.shape.erase_slots some)
     ∙ ap (λ (b : Bool). not b) (not_waived plan past exact))
 
@@ -104,12 +146,15 @@ with_true true = refl
 with_true false = refl
 
 -- a collection, of this task or another
-pub collect_supplied : (plan : DiePlan) (p q w : ℕ) (past : Log) (caller task release due : ℕ) (t : ℕ) → IsExact plan past → 0 < plan.shape.erase_slots
-    → IsSupplied plan p q w past t → IsSupplied plan p q w (entry caller (events.Collect task release due) (accepted plan past (events.Collect task release due)) ∷ past) t
+pub collect_supplied : (plan : DiePlan) (p q w : ℕ) (past : Log) (caller task release due : ℕ) (t : ℕ) → IsExact plan past → 0
+    < plan.shape.erase_slots
+    → IsSupplied plan p q w past t → IsSupplied plan p q w
+    (entry caller (events.Collect task release due) (accepted plan past (events.Collect task release due)) ∷ past) t
 collect_supplied plan p q w past caller task release due t exact some s =
     let log : Log = entry caller (events.Collect task release due) (accepted plan past (events.Collect task release due)) ∷ past in
     let j : Job = collection_of past task release due in
-    let count : collections_of (jobs past ++ j ∷ []) t ≡ collections_of (jobs past) t + one_if (task == t) = sum_by_push (λ i. one_if (i.collects && (i.task == t))) (jobs past) j in
+    let count : collections_of (jobs past ++ j ∷ []) t ≡ collections_of (jobs past) t + one_if (task == t) = sum_by_push
+    (λ i. one_if (i.collects && (i.task == t))) (jobs past) j in
     let pend : pending_at plan log t ≡ pending_at plan past t + one_if (task == t) =
     sum_by_push (λ i. one_if ((i.task == t) && is_pending plan (λ n. acts n past) (is_waived past) i)) (jobs past) j
     ∙ (ap (λ (b : Bool). pending_at plan past t + one_if ((task == t) && b)) (new_pending plan past task release due exact some)
@@ -122,13 +167,19 @@ collect_supplied plan p q w past caller task release due t exact some s =
     }
   where
     by_task : (b : Bool) (next : ℕ)
-        → p * slice_index plan.caps t + w * q * collections_of (jobs past) t ≤ p * balance_of plan past t + p * w + w * q + w * next + w * q * pending_at plan past t
+        → p * slice_index plan.caps t + w * q * collections_of (jobs past) t
+        ≤ p * balance_of plan past t + p * w + w * q + w * next + w * q * pending_at plan past t
         → collections_of (jobs past ++ collection_of past task release due ∷ []) t ≡ collections_of (jobs past) t + one_if b
-        → pending_at plan (entry caller (events.Collect task release due) (accepted plan past (events.Collect task release due)) ∷ past) t ≡ pending_at plan past t + one_if b
+        → pending_at plan (entry caller (events.Collect task release due) (accepted plan past (events.Collect task release due)) ∷ past) t
+        ≡ pending_at plan past t + one_if b
         → p * slice_index plan.caps t + w * q * collections_of (jobs past ++ collection_of past task release due ∷ []) t
-        ≤ p * balance_of plan past t + p * w + w * q + w * next + w * q * pending_at plan (entry caller (events.Collect task release due) (accepted plan past (events.Collect task release due)) ∷ past) t
+        ≤ p * balance_of plan past t + p * w + w * q + w * next + w * q * pending_at plan
+        (entry caller (events.Collect task release due) (accepted plan past (events.Collect task release due)) ∷ past) t
     by_task true next before count pend =
-        rw count (opened p w (w * q) (slice_index plan.caps t) (balance_of plan past t) (collections_of (jobs past) t) next (pending_at plan past t) _ before (omega (arith, pend)))
+        rw count (opened p w (w * q) (slice_index plan.caps t) (balance_of plan past t) (collections_of (jobs past) t) next
+        (pending_at plan past t) _ before (omega (arith, pend)))
     by_task false next before count pend =
-        let same : collections_of (jobs past ++ collection_of past task release due ∷ []) t ≡ collections_of (jobs past) t = omega (arith, count) in
-        rw same (kept p w (w * q) (slice_index plan.caps t) (balance_of plan past t) (balance_of plan past t) (collections_of (jobs past) t) next (pending_at plan past t) _ before (omega arith) (omega (arith, pend)))
+        let same : collections_of (jobs past ++ collection_of past task release due ∷ []) t
+        ≡ collections_of (jobs past) t = omega (arith, count) in
+        rw same (kept p w (w * q) (slice_index plan.caps t) (balance_of plan past t) (balance_of plan past t) (collections_of (jobs past) t)
+        next (pending_at plan past t) _ before (omega arith) (omega (arith, pend)))

@@ -1,5 +1,6 @@
 -- No event of those that keep a passing plan is refused.
-use Rattle.std.proofs.Common.{◌≡◌, ℕ, ◌*◌, ◌<◌, ◌≤◌, ◌==◌, ◌||◌, ◌&&◌, not, nat_lt, nat_le, Bool, true, false, cond, List, [], ◌∷◌, ◌++◌, length, map, Some, None, is_some, find, option_map, refl, ap, sym, subst, ◌∙◌, inl, inr, arith, append_assoc}
+use Rattle.std.proofs.Common.{◌≡◌, ℕ, ◌*◌, ◌<◌, ◌≤◌, ◌==◌, ◌||◌, ◌&&◌, not, nat_lt, nat_le, Bool, true, false, cond, List, [], ◌∷◌, ◌++◌}
+use Rattle.std.proofs.Common.{length, map, Some, None, is_some, find, option_map, refl, ap, sym, subst, ◌∙◌, inl, inr, arith, append_assoc}
 use Rattle.std.specs.Prelude.{Contains}
 use Rattle.std.specs.List.{AllByRecursion, list_any}
 use Rattle.std.proofs.lemmas.Bool.{true≢false, lt-leb, and_parts, eqb-true, not-true}
@@ -20,7 +21,8 @@ use Rattle.plan_rules.proofs.Moments.{next_job, next_collection, next_slot, next
 use Rattle.slot_types.specs.Operations.{writes, page_of}
 use Rattle.die_log.specs.Log.{Log, Job, jobs, now, is_waived}
 use Rattle.die_log.specs.Work.{is_done, is_collecting}
-use Rattle.die_log.specs.Answers.{bad_page, first_standing, refusals, refusal_of, accepted, answer, IsAccepted, IsExact, with_answer, after_call}
+use Rattle.die_log.specs.Answers.{bad_page, first_standing, refusals, refusal_of, accepted, answer, IsAccepted, IsExact, with_answer}
+use Rattle.die_log.specs.Answers.{after_call}
 use Rattle.die_log.specs.Planned.{IsInTime, told, AreAccepted}
 use Rattle.die_log.specs.Supply.{collections_of}
 use Rattle.die_log.proofs.Legality.{entry, accepted_answer}
@@ -50,7 +52,8 @@ no_bad_page : (plan : DiePlan) (ops : List Op) → AllByRecursion (λ op. page_o
 no_bad_page plan [] h = refl
 no_bad_page plan (op ∷ ops) h = by_test (nat_le plan.logical (page_of op)) (lt-leb plan.logical (page_of op) h.0) (no_bad_page plan ops h.1)
   where
-    by_test : (b : Bool) → b ≡ false → is_some (bad_page plan ops) ≡ false → is_some (option_map page_of (cond b (Some op) (find (λ o. nat_le plan.logical (page_of o)) ops))) ≡ false
+    by_test : (b : Bool) → b ≡ false → is_some (bad_page plan ops) ≡ false
+        → is_some (option_map page_of (cond b (Some op) (find (λ o. nat_le plan.logical (page_of o)) ops))) ≡ false
     by_test true e rest = absurd (true≢false e)
     by_test false e rest = rest
 
@@ -58,31 +61,43 @@ length_mapped : {X Y : Type 0} (f : X → Y) (xs : List X) → length (map f xs)
 length_mapped f [] = refl
 length_mapped f (x ∷ xs) = omega (arith, length_mapped f xs)
 
-few_jobs : (plan : DiePlan) (times : Times) (past : Log) → Follows plan times past → length (arrivals 0 (told past)) < MAX_JOBS → nat_le MAX_JOBS (length (jobs past)) ≡ false
-few_jobs plan times past f h = lt-leb MAX_JOBS (length (jobs past)) (omega (arith, h, ap length f.came, length_mapped arrival_of (jobs past)))
+few_jobs : (plan : DiePlan) (times : Times) (past : Log) → Follows plan times past → length (arrivals 0 (told past)) < MAX_JOBS
+    → nat_le MAX_JOBS (length (jobs past)) ≡ false
+few_jobs plan times past f h = lt-leb MAX_JOBS (length (jobs past))
+    (omega (arith, h, ap length f.came, length_mapped arrival_of (jobs past)))
 
 none_found : {X : Type 0} (p : X → Bool) (xs : List X) → ((x : X) → Contains xs x → p x ≡ false) → list_any p xs ≡ false
 none_found p xs h = list_any_none p xs (λ k d lt. h _ (Contains-get_or xs k d lt))
 
 -- all collections of the task that came are due, so each is done or was waived
-not_busy : (plan : DiePlan) (times : Times) (past : Log) (task : ℕ) → Follows plan times past → task < length plan.caps → IsInTime plan past → now past ≡ (times_of times task).collect_period * collections_of (jobs past) task
+not_busy : (plan : DiePlan) (times : Times) (past : Log) (task : ℕ) → Follows plan times past → task < length plan.caps → IsInTime plan past
+    → now past ≡ (times_of times task).collect_period * collections_of (jobs past) task
     → is_collecting plan past task ≡ false
-not_busy plan times past task f lt in_time multiple = none_found (λ j. j.collects && (j.task == task) && not (is_done plan past j) && not (is_waived past j.number)) (jobs past) (λ j k. each j k _ refl)
+not_busy plan times past task f lt in_time multiple = none_found (λ j. j.collects && (j.task == task) && not (is_done plan past j)
+    && not (is_waived past j.number)) (jobs past) (λ j k. each j k _ refl)
   where
-    each : (j : Job) → Contains (jobs past) j → (b : Bool) → (j.collects && (j.task == task) && not (is_done plan past j) && not (is_waived past j.number)) ≡ b → (j.collects && (j.task == task) && not (is_done plan past j) && not (is_waived past j.number)) ≡ false
+    each : (j : Job) → Contains (jobs past) j → (b : Bool)
+        → (j.collects && (j.task == task) && not (is_done plan past j) && not (is_waived past j.number)) ≡ b
+        → (j.collects && (j.task == task) && not (is_done plan past j) && not (is_waived past j.number)) ≡ false
     each j k false is = is
     each j k true is =
         let gone = and_parts (j.collects && (j.task == task) && not (is_done plan past j)) (not (is_waived past j.number)) is in
         let done = and_parts (j.collects && (j.task == task)) (not (is_done plan past j)) gone.0 in
         let kind = and_parts j.collects (j.task == task) done.0 in
-        elim (in_time.due_by_now j k (omega (arith, multiple, collections_due plan times past task f lt j k kind.0 (eqb-true j.task task kind.1)))) [
+        elim (in_time.due_by_now j k (omega (
+          arith,
+          multiple,
+          collections_due plan times past task f lt j k kind.0
+              (eqb-true j.task task kind.1),
+        ))) [
           | inl over ↦ absurd (true≢false (sym over ∙ not-true (is_done plan past j) done.1))
           | inr waived ↦ absurd (true≢false (sym waived ∙ not-true (is_waived past j.number) gone.1))
         ]
 
 -- Events
 
-pub unrefused : (plan : DiePlan) (times : Times) → MeetsBound plan → Passes plan times → (past : Log) (event : Event) (rest : List Event) → IsExact plan past → KeepsPlan plan times (told past ++ event ∷ rest)
+pub unrefused : (plan : DiePlan) (times : Times) → MeetsBound plan → Passes plan times → (past : Log) (event : Event) (rest : List Event)
+    → IsExact plan past → KeepsPlan plan times (told past ++ event ∷ rest)
     → refusal_of plan past event ≡ None
 unrefused plan times bound passes past (events.Submit task release due ops) rest exact keeps =
     let n = (next_job plan times (told past) rest task release due ops keeps).planned in
@@ -118,7 +133,9 @@ unrefused plan times bound passes past (events.Collect task release due) rest ex
     let f = follows plan times past exact (events.Collect task release due ∷ rest) keeps in
     let t = task_times plan times task passes.timed n.task in
     let q : ℕ = (times_of times task).collect_period in
-    let multiple : now past ≡ q * collections_of (jobs past) task = sym f.clock ∙ ((at_multiple plan times (told past) rest task release due keeps (f.paced task n.task)).0 ∙ ap (λ m. q * m) (collections_are plan times past task f)) in
+    let multiple : now past ≡ q * collections_of (jobs past) task = sym f.clock
+    ∙ ((at_multiple plan times (told past) rest task release due keeps (f.paced task n.task)).0
+    ∙ ap (λ m. q * m) (collections_are plan times past task f)) in
     none_stand (refusals plan past (events.Collect task release due)) (
       lt-leb (length plan.caps) task n.task,
       (
@@ -126,7 +143,8 @@ unrefused plan times bound passes past (events.Collect task release due) rest ex
         (
           dates_fit release due (omega (arith, n.due, t.some_collect_period)) (omega (arith, n.due, n.slot.due_limit)),
           (
-            not_busy plan times past task f n.task (never_late plan times bound passes past exact (events.Collect task release due ∷ rest) keeps) multiple,
+            not_busy plan times past task f n.task (never_late plan times bound passes past exact (events.Collect task release due ∷ rest)
+                keeps) multiple,
             (
               few_jobs plan times past f (next_fits plan times (told past) rest _ _ (events.Collect task release due) keeps refl),
               tt,
@@ -137,25 +155,34 @@ unrefused plan times bound passes past (events.Collect task release due) rest ex
     )
 unrefused plan times bound passes past events.Slot rest exact keeps =
     let f = follows plan times past exact (events.Slot ∷ rest) keeps in
-    none_stand (refusals plan past events.Slot) (lt-leb MAX_SLOT (now past) (omega (arith, next_slot plan times (told past) rest keeps, f.clock)), tt)
+    none_stand (refusals plan past events.Slot) (
+      lt-leb MAX_SLOT (now past)
+          (omega (arith, next_slot plan times (told past) rest keeps, f.clock)),
+      tt,
+    )
 
 -- Runs
 
 -- an accepted event is answered by no refusal, and is an entry of the log
-pub entered : (plan : DiePlan) (past : Log) (caller : ℕ) (event : Event) → IsAccepted (accepted plan past event) × (with_answer caller event (accepted plan past event) past ≡ entry caller event (accepted plan past event) ∷ past)
+pub entered : (plan : DiePlan) (past : Log) (caller : ℕ) (event : Event) → IsAccepted (accepted plan past event)
+    × (with_answer caller event (accepted plan past event) past ≡ entry caller event (accepted plan past event) ∷ past)
 entered plan past caller (events.Submit task release due ops) = (tt, refl)
 entered plan past caller (events.Collect task release due) = (tt, refl)
 entered plan past caller events.Slot = (tt, refl)
 
 -- none of the events that keep the plan is refused, from any moment on
-pub run_accepted : (plan : DiePlan) (times : Times) → MeetsBound plan → Passes plan times → (past : Log) (calls : List (ℕ × Event)) → IsExact plan past → KeepsPlan plan times (told past ++ map (λ call. call.1) calls)
+pub run_accepted : (plan : DiePlan) (times : Times) → MeetsBound plan → Passes plan times → (past : Log) (calls : List (ℕ × Event))
+    → IsExact plan past → KeepsPlan plan times (told past ++ map (λ call. call.1) calls)
     → AreAccepted plan past calls
 run_accepted plan times bound passes past [] exact keeps = tt
 run_accepted plan times bound passes past (call ∷ calls) exact keeps =
-    let is : answer plan past call.1 ≡ accepted plan past call.1 = accepted_answer plan past call.1 (unrefused plan times bound passes past call.1 (map (λ c. c.1) calls) exact keeps) in
+    let is : answer plan past call.1 ≡ accepted plan past call.1 = accepted_answer plan past call.1
+    (unrefused plan times bound passes past call.1 (map (λ c. c.1) calls) exact keeps) in
     let more = entered plan past call.0 call.1 in
-    let next : after_call plan past call ≡ entry call.0 call.1 (accepted plan past call.1) ∷ past = ap (λ r. with_answer call.0 call.1 r past) is ∙ more.1 in (
+    let next : after_call plan past call ≡ entry call.0 call.1 (accepted plan past call.1)
+    ∷ past = ap (λ r. with_answer call.0 call.1 r past) is ∙ more.1 in (
       subst IsAccepted (sym is) more.0,
       run_accepted plan times bound passes (after_call plan past call) calls (call_exact plan past call exact)
-          (subst (λ l. KeepsPlan plan times (told l ++ map (λ c. c.1) calls)) (sym next) (subst (KeepsPlan plan times) (sym (append_assoc (told past) (call.1 ∷ []) (map (λ c. c.1) calls))) keeps)),
+          (subst (λ l. KeepsPlan plan times (told l ++ map (λ c. c.1) calls)) (sym next)
+          (subst (KeepsPlan plan times) (sym (append_assoc (told past) (call.1 ∷ []) (map (λ c. c.1) calls))) keeps)),
     )

@@ -31,24 +31,31 @@ WaivesCollections log = (number : ℕ) → is_waived log number ≡ true → IsC
 pub earlier_at : {X : Type 0} (xs : List X) (y : X) (k : ℕ) (x : X) → slice_get xs k ≡ Some x → slice_get (xs ++ y ∷ []) k ≡ Some x
 earlier_at xs y k x e = elsewhere xs y k (λ is. absurd (omega (arith, is, slice_get_within xs k x e))) ∙ e
 
-among_collections : (plan : DiePlan) (past : Log) (earlier ws : List Waived) (a : Accounts) (number : ℕ) → AreWaivers plan past earlier a ws → is_among number ws ≡ true → IsCollection past number
+among_collections : (plan : DiePlan) (past : Log) (earlier ws : List Waived) (a : Accounts) (number : ℕ) → AreWaivers plan past earlier a ws
+    → is_among number ws ≡ true → IsCollection past number
 among_collections plan past earlier [] a number h is = absurd cc
 among_collections plan past earlier (w ∷ ws) a number (j, one, rest) is = elim (or_cases (w.number == number) (is_among number ws) is) [
   | inl here ↦ (j, sym (ap (job_at past) (eqb-true w.number number here)) ∙ one.known, one.collects)
   | inr later ↦ among_collections plan past (earlier ++ w ∷ []) ws (moves.waived a j.task) number rest later
 ]
 
-pub waives_collections : (plan : DiePlan) → MeetsBound plan → (log : Log) → IsExact plan log → (number : ℕ) → is_waived log number ≡ true → (j : Job) × (job_at log number ≡ Some j) × (j.collects ≡ true)
+pub waives_collections : (plan : DiePlan) → MeetsBound plan → (log : Log) → IsExact plan log → (number : ℕ) → is_waived log number ≡ true
+    → (j : Job) × (job_at log number ≡ Some j) × (j.collects ≡ true)
 waives_collections plan bound = exact_induction plan WaivesCollections (λ number is. absurd cc) step
   where
-    step : (past : Log) (caller : ℕ) (event : Event) → IsExact plan past → WaivesCollections past → AllByRecursion (λ c. c.0 ≡ false) (refusals plan past event) → WaivesCollections (entry caller event (accepted plan past event) ∷ past)
-    step past caller (events.Submit task release due ops) exact h none = λ number is. let c = h number is in (c.0, earlier_at (jobs past) _ number c.0 c.1, c.2)
-    step past caller (events.Collect task release due) exact h none = λ number is. let c = h number is in (c.0, earlier_at (jobs past) _ number c.0 c.1, c.2)
+    step : (past : Log) (caller : ℕ) (event : Event) → IsExact plan past → WaivesCollections past
+        → AllByRecursion (λ c. c.0 ≡ false) (refusals plan past event)
+        → WaivesCollections (entry caller event (accepted plan past event) ∷ past)
+    step past caller (events.Submit task release due ops) exact h none = λ number is. let c = h number is in
+        (c.0, earlier_at (jobs past) _ number c.0 c.1, c.2)
+    step past caller (events.Collect task release due) exact h none = λ number is. let c = h number is in
+        (c.0, earlier_at (jobs past) _ number c.0 c.1, c.2)
     step past caller events.Slot exact h none = λ number is.
         let c = choice plan past in
         let ws = (slot_reply plan past c.waived c.head).waived in
         let chosen = chosen_is plan past (well_served plan past bound (stands_well plan bound past exact)) in
         elim (or_cases (is_waived past number) (is_among number ws) (sym (list_any-append (λ w. w.number == number) (waived past) ws) ∙ is)) [
           | inl before ↦ h number before
-          | inr now_waived ↦ among_collections plan past (waived past) c.waived (accounts plan past) number chosen.waivers (sym (ap (is_among number) (waived_is plan past c.waived c.head)) ∙ now_waived)
+          | inr now_waived ↦ among_collections plan past (waived past) c.waived (accounts plan past) number chosen.waivers
+              (sym (ap (is_among number) (waived_is plan past c.waived c.head)) ∙ now_waived)
         ]

@@ -1,5 +1,6 @@
 -- Lists of amounts, of which one is changed.
-use Rattle.std.proofs.Common.{◌≡◌, ℕ, ◌+◌, ◌-◌, ◌*◌, suc, ◌<◌, ◌≤◌, cond, List, [], ◌∷◌, length, sum, get_or, slice_index, slice_set, inl, inr, ap, refl, arith}
+use Rattle.std.proofs.Common.{◌≡◌, ℕ, ◌+◌, ◌-◌, ◌*◌, suc, ◌<◌, ◌≤◌, cond, List, [], ◌∷◌, length, sum, get_or, slice_index, slice_set, inl}
+use Rattle.std.proofs.Common.{inr, ap, refl, arith}
 use Rattle.std.proofs.lemmas.Bool.{cases_eq, eq-eqb, ne_eqb}
 use Rattle.std.proofs.lemmas.List.{length-set, get_or-set_same, get_or-set_other}
 use Rattle.std.proofs.lemmas.List.Sums.{sum_by-set, sum_by-cons, get_or-le-sum_by}
@@ -24,7 +25,8 @@ added_at xs task n i h =
       | inr apart ↦ omega (arith, get_or-set_other xs task i (get_or xs task 0 + n) 0 apart, at_other task n i apart)
     ]
 
-pub taken_at : (xs : List ℕ) (task n i : ℕ) → task < length xs → n ≤ get_or xs task 0 → get_or (taken xs task n) i 0 + at_task task n i ≡ get_or xs i 0
+pub taken_at : (xs : List ℕ) (task n i : ℕ) → task < length xs → n ≤ get_or xs task 0 → get_or (taken xs task n) i 0 + at_task task n i
+    ≡ get_or xs i 0
 taken_at xs task n i h le =
     elim (cases_eq i task) [
       | inl e ↦ rw e (omega (arith, get_or-set_same xs task (get_or xs task 0 - n) 0 h, at_itself task n))
@@ -53,4 +55,12 @@ pub sum_le : (xs : List ℕ) (m k : ℕ) → length xs ≡ k → ((i : ℕ) → 
 sum_le [] m k e _ = omega arith
 sum_le (x ∷ xs) m k e below =
     let is : k * m ≡ (length xs + 1) * m = ap (λ n. n * m) (omega (arith, e)) in
-    omega (arith, sum_by-cons (λ (n : ℕ). n) x xs, below 0 (omega (arith, e)), sum_le xs m (length xs) refl (λ i h. below (suc i) (omega (arith, h, e))), is, one-more (length xs) m)
+    omega (
+      arith,
+      sum_by-cons (λ (n : ℕ). n) x xs,
+      below 0 (omega (arith, e)),
+      sum_le xs m (length xs) refl
+          (λ i h. below (suc i) (omega (arith, h, e))),
+      is,
+      one-more (length xs) m,
+    )

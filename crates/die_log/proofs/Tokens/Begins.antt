@@ -22,24 +22,32 @@ use Rattle.die_log.proofs.Tokens.Finding.{takable, victim_found}
 
 -- A collection that begins
 
-pub is_pending_if : (plan : DiePlan) (past : Log) (j : Job) → is_ready plan past j ≡ true → j.collects ≡ true → is_pending plan (λ n. acts n past) (is_waived past) j ≡ true
+pub is_pending_if : (plan : DiePlan) (past : Log) (j : Job) → is_ready plan past j ≡ true → j.collects ≡ true
+    → is_pending plan (λ n. acts n past) (is_waived past) j ≡ true
 is_pending_if plan past j ready is =
     let parts = and_parts (nat_le j.release (now past) && not (is_done plan past j)) (not (is_waived past j.number)) ready in
     let undone = (and_parts (nat_le j.release (now past)) (not (is_done plan past j)) parts.0).1 in
-    and_from (j.collects && not (is_done plan past j)) (not (is_waived past j.number)) (and_from j.collects (not (is_done plan past j)) is undone) parts.1
+    and_from (j.collects && not (is_done plan past j)) (not (is_waived past j.number))
+    (and_from j.collects (not (is_done plan past j)) is undone) parts.1
 
-too_few : (plan : DiePlan) (past : Log) (a : Accounts) (j : Job) → is_waivable plan past a j ≡ false → j.collects ≡ true → work j.number past ≡ 0 → a.spare < plan.alpha
+too_few : (plan : DiePlan) (past : Log) (a : Accounts) (j : Job) → is_waivable plan past a j ≡ false → j.collects ≡ true
+    → work j.number past ≡ 0 → a.spare < plan.alpha
 too_few plan past a j e is fresh = elim (and_cases (j.collects && (work j.number past == 0)) (nat_le plan.alpha a.spare) e) [
   | inl never ↦ absurd (true≢false (sym (and_from j.collects (work j.number past == 0) is (eq-eqb (work j.number past) 0 fresh)) ∙ never))
   | inr short ↦ leb-false plan.alpha a.spare short
 ]
 
 -- a head that begins finds its block, which has so few placed pages that they fit its collector's reserve
-pub fresh_finds : (plan : DiePlan) (past : Log) (ws : List Waived) (j : Job) → MeetsBound plan → AreTrue plan past → CellsServe plan past → AreWaivers plan past (waived past) (accounts plan past) ws
-    → Waits plan past (waived past ++ ws) j → is_waivable plan past (after_waivers past ws (accounts plan past)) j ≡ false → j.collects ≡ true → work j.number past ≡ 0
+pub fresh_finds : (plan : DiePlan) (past : Log) (ws : List Waived) (j : Job) → MeetsBound plan → AreTrue plan past → CellsServe plan past
+    → AreWaivers plan past (waived past) (accounts plan past) ws
+    → Waits plan past (waived past ++ ws) j → is_waivable plan past (after_waivers past ws (accounts plan past)) j ≡ false → j.collects
+    ≡ true → work j.number past ≡ 0
     → (v : ℕ) × (victim plan past ≡ Some v) × (valid (cells plan past) v ≤ reserve_full plan)
 fresh_finds plan past ws j bound h c waivers waits unwaivable is fresh =
     let a : Accounts = after_waivers past ws (accounts plan past) in
-    let few = few_free plan a _ _ (owed past) (free plan past) (agree_waivers plan past (waived past) (accounts plan past) ws _ _ (owed past) (free plan past) h.taken h.agree waivers) (too_few plan past a j unwaivable is fresh) in
-    let t = takable plan past j bound h c.sound waits.known (is_pending_if plan past j waits.ready is) fresh few (λ i k e. (all_at (IsTaken plan) (jobs past) k i h.taken e).task) in
+    let few = few_free plan a _ _ (owed past) (free plan past)
+    (agree_waivers plan past (waived past) (accounts plan past) ws _ _ (owed past) (free plan past) h.taken h.agree waivers)
+    (too_few plan past a j unwaivable is fresh) in
+    let t = takable plan past j bound h c.sound waits.known (is_pending_if plan past j waits.ready is) fresh few
+    (λ i k e. (all_at (IsTaken plan) (jobs past) k i h.taken e).task) in
     victim_found plan past t.0 t.1

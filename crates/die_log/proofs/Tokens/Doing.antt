@@ -34,31 +34,53 @@ read_kind : (b : ℕ) (pages : List ℕ) → IsOfCollection (read_or_erase b pag
 read_kind b [] = tt
 read_kind b (page ∷ pages) = tt
 
-test_kind : (plan : DiePlan) (c : Cells) (page b : ℕ) (t : Bool) (act : Act) → cond t (Some (does.CopyProgram page)) (Some (read_or_erase b (valid_pages plan c b))) ≡ Some act → IsOfCollection act
+test_kind : (plan : DiePlan) (c : Cells) (page b : ℕ) (t : Bool) (act : Act)
+    → cond t (Some (does.CopyProgram page)) (Some (read_or_erase b (valid_pages plan c b))) ≡ Some act → IsOfCollection act
 test_kind plan c page b true act e = subst IsOfCollection (same_Some (does.CopyProgram page) act e) tt
-test_kind plan c page b false act e = subst IsOfCollection (same_Some (read_or_erase b (valid_pages plan c b)) act e) (read_kind b (valid_pages plan c b))
+test_kind plan c page b false act e = subst IsOfCollection (same_Some (read_or_erase b (valid_pages plan c b)) act e)
+    (read_kind b (valid_pages plan c b))
 
-collect_kind : (plan : DiePlan) (c : Cells) (buffer block : Option ℕ) (act : Act) → collect_act plan c buffer block ≡ Some act → IsOfCollection act
+collect_kind : (plan : DiePlan) (c : Cells) (buffer block : Option ℕ) (act : Act) → collect_act plan c buffer block ≡ Some act
+    → IsOfCollection act
 collect_kind plan c buffer None act e = absurd cc
 collect_kind plan c buffer (Some b) act e = test_kind plan c _ b (is_placed_in c b buffer) act e
 
-op_kind : (plan : DiePlan) (past : Log) (o : Option Op) (act : Act) → act_of_op plan past o ≡ Some act → (op : Op) × (o ≡ Some op) × Does op act
+op_kind : (plan : DiePlan) (past : Log) (o : Option Op) (act : Act) → act_of_op plan past o ≡ Some act → (op : Op) × (o ≡ Some op)
+    × Does op act
 op_kind plan past None act e = absurd cc
-op_kind plan past (Some (asks.Read page)) act e = (asks.Read page, refl, subst (Does (asks.Read page)) (same_Some (does.Read page (content plan past page)) act e) refl)
-op_kind plan past (Some (asks.Write page bytes)) act e = (asks.Write page bytes, refl, subst (Does (asks.Write page bytes)) (same_Some (does.Write page bytes) act e) (refl, refl))
-op_kind plan past (Some (asks.Trim page)) act e = (asks.Trim page, refl, subst (Does (asks.Trim page)) (same_Some (does.Trim page) act e) refl)
+op_kind plan past (Some (asks.Read page)) act e = (
+  asks.Read page,
+  refl,
+  subst (Does (asks.Read page))
+      (same_Some (does.Read page (content plan past page)) act e) refl,
+)
+op_kind plan past (Some (asks.Write page bytes)) act e =
+    (asks.Write page bytes, refl, subst (Does (asks.Write page bytes)) (same_Some (does.Write page bytes) act e) (refl, refl))
+op_kind plan past (Some (asks.Trim page)) act e = (
+  asks.Trim page,
+  refl,
+  subst (Does (asks.Trim page)) (same_Some (does.Trim page) act e)
+      refl,
+)
 
-job_act : (past : Log) (j : Job) (act : Act) → j.collects ≡ false → (op : Op) × (slice_get j.ops (work j.number past) ≡ Some op) × Does op act → IsJobAct past j act
+job_act : (past : Log) (j : Job) (act : Act) → j.collects ≡ false → (op : Op) × (slice_get j.ops (work j.number past) ≡ Some op)
+    × Does op act → IsJobAct past j act
 job_act past j act is k = record { job = is; op = k.0; next = k.1; done = k.2 }
 
 abbrev pub buffer_of : DiePlan → Log → Job → Option ℕ
 buffer_of plan past j = buffer_after (last_or None (acts j.number past))
 
 by_collects : (plan : DiePlan) (past : Log) (j : Job) (act : Act) (b : Bool) → j.collects ≡ b
-    → cond b (collect_act plan (cells plan past) (buffer_of plan past j) (block_for plan past j)) (act_of_op plan past (slice_get j.ops (work j.number past))) ≡ Some act
+    → cond b (collect_act plan (cells plan past) (buffer_of plan past j) (block_for plan past j))
+    (act_of_op plan past (slice_get j.ops (work j.number past))) ≡ Some act
     → IsJobAct past j act ⊎ IsCollectionAct j act
-by_collects plan past j act true is e = inr (record { collection = is; kind = collect_kind plan (cells plan past) (buffer_of plan past j) (block_for plan past j) act e })
+by_collects plan past j act true is e = inr (record {
+  collection = is;
+  kind = collect_kind plan (cells plan past) (buffer_of plan past j)
+      (block_for plan past j) act e;
+})
 by_collects plan past j act false is e = inl (job_act past j act is (op_kind plan past (slice_get j.ops (work j.number past)) act e))
 
-pub act_kind : (plan : DiePlan) (past : Log) (j : Job) (act : Act) → act_for plan past j ≡ Some act → IsJobAct past j act ⊎ IsCollectionAct j act
+pub act_kind : (plan : DiePlan) (past : Log) (j : Job) (act : Act) → act_for plan past j ≡ Some act → IsJobAct past j act
+    ⊎ IsCollectionAct j act
 act_kind plan past j act e = by_collects plan past j act j.collects refl e

@@ -1,5 +1,6 @@
 -- What a collection copies fits its collector's reserve.
-use Rattle.std.proofs.Common.{◌≡◌, ℕ, ◌+◌, ◌<◌, ◌≤◌, ◌==◌, ◌&&◌, not, Bool, true, false, cond, List, [], ◌∷◌, count_by, get_or, Option, Some, None, refl, ap, sym, subst, ◌∙◌, inl, inr, arith, slice_get, position, option_map}
+use Rattle.std.proofs.Common.{◌≡◌, ℕ, ◌+◌, ◌<◌, ◌≤◌, ◌==◌, ◌&&◌, not, Bool, true, false, cond, List, [], ◌∷◌, count_by, get_or, Option}
+use Rattle.std.proofs.Common.{Some, None, refl, ap, sym, subst, ◌∙◌, inl, inr, arith, slice_get, position, option_map}
 use Rattle.std.specs.List.{cons_option, filter_map, range_with_len, last_or}
 use Rattle.std.proofs.lemmas.Bool.{true≢false, cases_lt, cases_eq, and_parts, eqb-true, eq-eqb, ne_eqb, cond-true, cond-false}
 use Rattle.std.proofs.lemmas.Option.{same_Some}
@@ -34,14 +35,19 @@ use Rattle.die_log.proofs.Tokens.Copying.{set_fewer, program_elsewhere, program_
 
 -- The act of a collection
 
-collect_of : (plan : DiePlan) (past : Log) (j : Job) (act : Act) → j.collects ≡ true → act_for plan past j ≡ Some act → collect_act plan (cells plan past) (buffer_of plan past j) (block_for plan past j) ≡ Some act
-collect_of plan past j act is e = sym (ap (λ (t : Bool). cond t (collect_act plan (cells plan past) (buffer_of plan past j) (block_for plan past j)) (act_of_op plan past (slice_get j.ops (work j.number past)))) is) ∙ e
+collect_of : (plan : DiePlan) (past : Log) (j : Job) (act : Act) → j.collects ≡ true → act_for plan past j ≡ Some act
+    → collect_act plan (cells plan past) (buffer_of plan past j) (block_for plan past j) ≡ Some act
+collect_of plan past j act is e = sym (ap (λ (t : Bool). cond t
+    (collect_act plan (cells plan past) (buffer_of plan past j) (block_for plan past j))
+    (act_of_op plan past (slice_get j.ops (work j.number past)))) is) ∙ e
 
 begun_block : (plan : DiePlan) (past : Log) (j : Job) → 0 < work j.number past → block_for plan past j ≡ victim_of plan j.number past
-begun_block plan past j h = cond-false (work j.number past == 0) (victim plan past) (victim_of plan j.number past) (ne_eqb (work j.number past) 0 (λ e. absurd (omega (arith, h, e))))
+begun_block plan past j h = cond-false (work j.number past == 0) (victim plan past) (victim_of plan j.number past)
+    (ne_eqb (work j.number past) 0 (λ e. absurd (omega (arith, h, e))))
 
 fresh_block : (plan : DiePlan) (past : Log) (j : Job) → work j.number past ≡ 0 → block_for plan past j ≡ victim plan past
-fresh_block plan past j e = cond-true (work j.number past == 0) (victim plan past) (victim_of plan j.number past) (eq-eqb (work j.number past) 0 e)
+fresh_block plan past j e = cond-true (work j.number past == 0) (victim plan past) (victim_of plan j.number past)
+    (eq-eqb (work j.number past) 0 e)
 
 -- without acts the buffer is empty
 fresh_buffer : (plan : DiePlan) (past : Log) (j : Job) → work j.number past ≡ 0 → buffer_of plan past j ≡ None
@@ -56,22 +62,30 @@ some_none : (page : ℕ) (o : Option ℕ) → o ≡ Some page → o ≡ None →
 some_none page None e h = absurd cc
 some_none page (Some p) e h = absurd cc
 
-pub copy_facts : (plan : DiePlan) (past : Log) (j : Job) (page : ℕ) → j.collects ≡ true → act_for plan past j ≡ Some (does.CopyProgram page) → IsCopy plan past j page
+pub copy_facts : (plan : DiePlan) (past : Log) (j : Job) (page : ℕ) → j.collects ≡ true → act_for plan past j ≡ Some (does.CopyProgram page)
+    → IsCopy plan past j page
 copy_facts plan past j page is e =
     let c : Cells = cells plan past in
     let buffer : Option ℕ = buffer_of plan past j in
     let does_it = collect_of plan past j (does.CopyProgram page) is e in
     let b = block_some plan c buffer (block_for plan past j) (does.CopyProgram page) does_it in
     let k = copy_is plan c b.0 page buffer (sym (ap (λ o. collect_act plan c buffer o) b.1) ∙ does_it) in
-    let begun : 0 < work j.number past = elim (cases_lt 0 (work j.number past)) [ inl h ↦ h | inr h ↦ absurd (some_none page buffer k.0 (fresh_buffer plan past j (omega (arith, h)))) ] in
+    let begun : 0 < work j.number past = elim (cases_lt 0 (work j.number past))
+    [ inl h ↦ h | inr h ↦ absurd (some_none page buffer k.0 (fresh_buffer plan past j (omega (arith, h)))) ] in
     record { block = b.0; victim_is = sym (begun_block plan past j begun) ∙ b.1; placed = placed_at c page b.0 k.1 }
 
 -- a copy finds the reserve above 0
-pub few_now : (plan : DiePlan) (past : Log) (j : Job) (page : ℕ) → FewCopies plan past → job_at past j.number ≡ Some j → is_ready plan past j ≡ true → j.collects ≡ true → act_for plan past j ≡ Some (does.CopyProgram page)
+pub few_now : (plan : DiePlan) (past : Log) (j : Job) (page : ℕ) → FewCopies plan past → job_at past j.number ≡ Some j
+    → is_ready plan past j ≡ true → j.collects ≡ true → act_for plan past j ≡ Some (does.CopyProgram page)
     → copied_of (λ n. acts n past) j < reserve_full plan
 few_now plan past j page few known ready is e =
     let k = copy_facts plan past j page is e in
-    omega (arith, few.few j k.block known (is_pending_if plan past j ready is) k.victim_is, some_valid (cells plan past) page k.block k.placed)
+    omega (
+      arith,
+      few.few j k.block known (is_pending_if plan past j ready is) k.victim_is,
+      some_valid (cells plan past) page k.block
+          k.placed,
+    )
 
 -- A collection that begins shows its block
 
@@ -79,7 +93,8 @@ abbrev first_of_list : {Y : Type 0} → Y → List Y → Option Y
 first_of_list d [] = Some d
 first_of_list d (y ∷ ys) = Some y
 
-first_by : {X Y : Type 0} (h : X → Option Y) (x : X) (rest : List Y) (y : Y) (ys : List Y) (o : Option Y) → h x ≡ o → cons_option o rest ≡ y ∷ ys → (rest ≡ y ∷ ys → (z : X) × (h z ≡ Some y)) → (z : X) × (h z ≡ Some y)
+first_by : {X Y : Type 0} (h : X → Option Y) (x : X) (rest : List Y) (y : Y) (ys : List Y) (o : Option Y) → h x ≡ o → cons_option o rest ≡ y
+    ∷ ys → (rest ≡ y ∷ ys → (z : X) × (h z ≡ Some y)) → (z : X) × (h z ≡ Some y)
 first_by h x rest y ys None is e ih = ih e
 first_by h x rest y ys (Some v) is e ih = (x, is ∙ ap (λ l. first_of_list v l) e)
 
@@ -96,7 +111,8 @@ place_in b cell None e = absurd cc
 place_in b cell (Some q) e = ap (λ (n : ℕ). Some n) (eqb-true q.block b (and_parts (q.block == b) (q.page == cell) e).0)
 
 -- the first page of a block is placed in it
-shown_first : (plan : DiePlan) (c : Cells) (b : ℕ) (pages : List ℕ) → valid_pages plan c b ≡ pages → block_shown c (read_or_erase b pages) ≡ Some b
+shown_first : (plan : DiePlan) (c : Cells) (b : ℕ) (pages : List ℕ) → valid_pages plan c b ≡ pages → block_shown c (read_or_erase b pages)
+    ≡ Some b
 shown_first plan c b [] e = refl
 shown_first plan c b (page ∷ pages) e =
     let f = filter_first (λ cell. position (in_cell b cell) c.places) (range_with_len 0 plan.shape.pages) page pages e in
@@ -112,68 +128,101 @@ pub record MayShow (plan : DiePlan) (past : Log) (ws : List Waived) (j : Job) : 
   pub unwaivable : is_waivable plan past (after_waivers past ws (accounts plan past)) j ≡ false
 
 copies_more : (plan : DiePlan) (past : Log) (caller slot : ℕ) (ws : List Waived) (finished : Option ℕ) (j : Job) (act : Act)
-    → copied_of (λ n. acts n (turn_log past caller slot ws finished j act)) j ≡ copied_of (λ n. acts n past) j + one_if (is_copy_program act)
+    → copied_of (λ n. acts n (turn_log past caller slot ws finished j act)) j
+    ≡ copied_of (λ n. acts n past) j + one_if (is_copy_program act)
 copies_more plan past caller slot ws finished j act =
-    ap (λ (l : List Act). count_by is_copy_program l) (ran_acts caller slot ws finished past j.number act).more ∙ sum_by_push (λ x. one_if (is_copy_program x)) (acts j.number past) act
+    ap (λ (l : List Act). count_by is_copy_program l) (ran_acts caller slot ws finished past j.number act).more
+    ∙ sum_by_push (λ x. one_if (is_copy_program x)) (acts j.number past) act
 
 -- a begun collection keeps its block
-begun_shows : (plan : DiePlan) (past : Log) (number b : ℕ) (act : Option Act) (b' : ℕ) → victim_of plan number past ≡ Some b → shown_by plan past (victim_of plan number past) act ≡ Some b' → b ≡ b'
+begun_shows : (plan : DiePlan) (past : Log) (number b : ℕ) (act : Option Act) (b' : ℕ) → victim_of plan number past ≡ Some b
+    → shown_by plan past (victim_of plan number past) act ≡ Some b' → b ≡ b'
 begun_shows plan past number b act b' e h = same_Some b b' (sym (ap (λ o. shown_by plan past o act) e) ∙ h)
 
 -- an act that programs nothing: a begun collection keeps its block, and one that begins shows its victim
-pub still_few : (plan : DiePlan) (past : Log) (ws : List Waived) (j : Job) (act : Act) (b' : ℕ) → IsTurn plan past ws j act → MayShow plan past ws j → j.collects ≡ true
-    → shown_by plan past (victim_of plan j.number past) (Some act) ≡ Some b' → copied_of (λ n. acts n past) j + valid (cells plan past) b' ≤ reserve_full plan
+pub still_few : (plan : DiePlan) (past : Log) (ws : List Waived) (j : Job) (act : Act) (b' : ℕ) → IsTurn plan past ws j act
+    → MayShow plan past ws j → j.collects ≡ true
+    → shown_by plan past (victim_of plan j.number past) (Some act) ≡ Some b' → copied_of (λ n. acts n past) j + valid (cells plan past) b'
+    ≤ reserve_full plan
 still_few plan past ws j act b' h m is shows = elim (cases_lt 0 (work j.number past)) [
   | inl begun ↦
       let c : Cells = cells plan past in
       let b = block_some plan c (buffer_of plan past j) (block_for plan past j) act (collect_of plan past j act is h.does_it) in
       let known : victim_of plan j.number past ≡ Some b.0 = sym (begun_block plan past j begun) ∙ b.1 in
       let few = m.few_before.few j b.0 h.waits.known (was_pending plan past ws j act h is) known in
-      subst (λ n. copied_of (λ n. acts n past) j + valid (cells plan past) n ≤ reserve_full plan) (begun_shows plan past j.number b.0 (Some act) b' known shows) few
+      subst (λ n. copied_of (λ n. acts n past) j + valid (cells plan past) n ≤ reserve_full plan)
+      (begun_shows plan past j.number b.0 (Some act) b' known shows) few
   | inr none ↦
       let fresh : work j.number past ≡ 0 = omega (arith, none) in
       let c : Cells = cells plan past in
       let v = fresh_finds plan past ws j m.bound h.true_before h.serve h.waivers h.waits m.unwaivable is fresh in
       let block : block_for plan past j ≡ Some v.0 = fresh_block plan past j fresh ∙ v.1 in
       let does_it : collect_act plan c None (Some v.0) ≡ Some act =
-      sym (ap (λ o. collect_act plan c (buffer_of plan past j) o) block ∙ ap (λ o. collect_act plan c o (Some v.0)) (fresh_buffer plan past j fresh)) ∙ collect_of plan past j act is h.does_it in
+      sym (ap (λ o. collect_act plan c (buffer_of plan past j) o) block
+      ∙ ap (λ o. collect_act plan c o (Some v.0)) (fresh_buffer plan past j fresh)) ∙ collect_of plan past j act is h.does_it in
       let act_is : read_or_erase v.0 (valid_pages plan c v.0) ≡ act = same_Some (read_or_erase v.0 (valid_pages plan c v.0)) act does_it in
-      let here : shown_by plan past (victim_of plan j.number past) (Some act) ≡ block_shown c act = ap (λ o. shown_by plan past o (Some act)) (no_victim plan j.number past (empty_if (acts j.number past) fresh)) in
+      let here : shown_by plan past (victim_of plan j.number past) (Some act)
+      ≡ block_shown c act = ap (λ o. shown_by plan past o (Some act))
+      (no_victim plan j.number past (empty_if (acts j.number past) fresh)) in
       let shown : block_shown c act ≡ Some v.0 = sym (ap (block_shown c) act_is) ∙ shown_first plan c v.0 (valid_pages plan c v.0) refl in
       let same : v.0 ≡ b' = same_Some v.0 b' (sym shown ∙ (sym here ∙ shows)) in
-      let nothing : copied_of (λ n. acts n past) j ≡ 0 = ap (λ (l : List Act). count_by is_copy_program l) (empty_if (acts j.number past) fresh) in
+      let nothing : copied_of (λ n. acts n past) j ≡ 0 = ap (λ (l : List Act). count_by is_copy_program l)
+      (empty_if (acts j.number past) fresh) in
       subst (λ n. copied_of (λ n. acts n past) j + valid (cells plan past) n ≤ reserve_full plan) same (omega (arith, nothing, v.2))
 ]
 
 -- the collection that has its turn
-few_own : (plan : DiePlan) (past : Log) (caller slot : ℕ) (ws : List Waived) (finished : Option ℕ) (j : Job) (act : Act) (b' : ℕ) → IsTurn plan past ws j act → MayShow plan past ws j → j.collects ≡ true → IsOfCollection act
+few_own : (plan : DiePlan) (past : Log) (caller slot : ℕ) (ws : List Waived) (finished : Option ℕ) (j : Job) (act : Act) (b' : ℕ)
+    → IsTurn plan past ws j act → MayShow plan past ws j → j.collects ≡ true → IsOfCollection act
     → shown_by plan past (victim_of plan j.number past) (Some act) ≡ Some b'
-    → copied_of (λ n. acts n (turn_log past caller slot ws finished j act)) j + valid (cells plan (turn_log past caller slot ws finished j act)) b' ≤ reserve_full plan
+    → copied_of (λ n. acts n (turn_log past caller slot ws finished j act)) j + valid
+    (cells plan (turn_log past caller slot ws finished j act)) b' ≤ reserve_full plan
 few_own plan past caller slot ws finished j (does.Read page bytes) b' h m is kind shows = absurd kind
 few_own plan past caller slot ws finished j (does.Write page bytes) b' h m is kind shows = absurd kind
 few_own plan past caller slot ws finished j (does.Trim page) b' h m is kind shows = absurd kind
 few_own plan past caller slot ws finished j (does.CopyRead page) b' h m is kind shows =
-    omega (arith, copies_more plan past caller slot ws finished j (does.CopyRead page), still_few plan past ws j (does.CopyRead page) b' h m is shows)
+    omega (
+      arith,
+      copies_more plan past caller slot ws finished j (does.CopyRead page),
+      still_few plan past ws j (does.CopyRead page) b' h m
+          is shows,
+    )
 few_own plan past caller slot ws finished j (does.Erase block) b' h m is kind shows =
-    omega (arith, copies_more plan past caller slot ws finished j (does.Erase block), still_few plan past ws j (does.Erase block) b' h m is shows)
+    omega (
+      arith,
+      copies_more plan past caller slot ws finished j (does.Erase block),
+      still_few plan past ws j (does.Erase block) b' h m is
+          shows,
+    )
 few_own plan past caller slot ws finished j (does.CopyProgram page) b' h m is kind shows =
     let c : Cells = cells plan past in
     let k = copy_facts plan past j page is h.does_it in
     let same : k.block ≡ b' = begun_shows plan past j.number k.block (Some (does.CopyProgram page)) b' k.victim_is shows in
     let pending_now = was_pending plan past ws j (does.CopyProgram page) h is in
     let o = opens plan c (turn_copy plan past caller slot ws finished j page m.bound h is).1 in
-    let away = program_away plan c page k.block o.0 k.placed.place (omega (arith, m.bound.shape.some_pages)) h.serve.sound (h.serve.victims_full j k.block h.waits.known pending_now k.victim_is) o.1 k.placed.stands k.placed.inside in
-    subst (λ n. copied_of (λ n. acts n (turn_log past caller slot ws finished j (does.CopyProgram page))) j + valid (cells plan (turn_log past caller slot ws finished j (does.CopyProgram page))) n ≤ reserve_full plan) same
-    (omega (arith, copies_more plan past caller slot ws finished j (does.CopyProgram page), m.few_before.few j k.block h.waits.known pending_now k.victim_is, away))
+    let away = program_away plan c page k.block o.0 k.placed.place (omega (arith, m.bound.shape.some_pages)) h.serve.sound
+    (h.serve.victims_full j k.block h.waits.known pending_now k.victim_is) o.1 k.placed.stands k.placed.inside in
+    subst (λ n. copied_of (λ n. acts n (turn_log past caller slot ws finished j (does.CopyProgram page))) j + valid
+    (cells plan (turn_log past caller slot ws finished j (does.CopyProgram page))) n ≤ reserve_full plan) same
+    (omega (
+      arith,
+      copies_more plan past caller slot ws finished j (does.CopyProgram page),
+      m.few_before.few j k.block h.waits.known
+          pending_now k.victim_is,
+      away,
+    ))
 
 -- no act places a page in a closed block
-pub valid_less : (plan : DiePlan) (past : Log) (caller slot : ℕ) (ws : List Waived) (finished : Option ℕ) (j : Job) (act : Act) (b : ℕ) → MeetsBound plan → IsTurn plan past ws j act → (block_at (cells plan past) b).filled ≡ plan.shape.pages
+pub valid_less : (plan : DiePlan) (past : Log) (caller slot : ℕ) (ws : List Waived) (finished : Option ℕ) (j : Job) (act : Act) (b : ℕ)
+    → MeetsBound plan → IsTurn plan past ws j act → (block_at (cells plan past) b).filled ≡ plan.shape.pages
     → valid (cells plan (turn_log past caller slot ws finished j act)) b ≤ valid (cells plan past) b
 valid_less plan past caller slot ws finished j (does.Read page bytes) b bound h closed = omega arith
-valid_less plan past caller slot ws finished j (does.Write page bytes) b bound h closed = program_elsewhere plan (cells plan past) page b (omega (arith, bound.shape.some_pages)) h.serve.sound closed
+valid_less plan past caller slot ws finished j (does.Write page bytes) b bound h closed = program_elsewhere plan (cells plan past) page b
+    (omega (arith, bound.shape.some_pages)) h.serve.sound closed
 valid_less plan past caller slot ws finished j (does.Trim page) b bound h closed = set_fewer (cells plan past).places page b None refl
 valid_less plan past caller slot ws finished j (does.CopyRead page) b bound h closed = omega arith
-valid_less plan past caller slot ws finished j (does.CopyProgram page) b bound h closed = program_elsewhere plan (cells plan past) page b (omega (arith, bound.shape.some_pages)) h.serve.sound closed
+valid_less plan past caller slot ws finished j (does.CopyProgram page) b bound h closed = program_elsewhere plan (cells plan past) page b
+    (omega (arith, bound.shape.some_pages)) h.serve.sound closed
 valid_less plan past caller slot ws finished j (does.Erase block) b bound h closed = omega arith
 
 own_kind : (plan : DiePlan) (past : Log) (j : Job) (act : Act) → j.collects ≡ true → act_for plan past j ≡ Some act → IsOfCollection act
@@ -183,27 +232,45 @@ own_kind plan past j act is e = elim (act_kind plan past j act e) [
 ]
 
 -- a slot in which the head does an act keeps the copies few
-pub few_turn : (plan : DiePlan) (past : Log) (caller slot : ℕ) (ws : List Waived) (finished : Option ℕ) (j : Job) (act : Act) → IsTurn plan past ws j act → MayShow plan past ws j → FewCopies plan (turn_log past caller slot ws finished j act)
+pub few_turn : (plan : DiePlan) (past : Log) (caller slot : ℕ) (ws : List Waived) (finished : Option ℕ) (j : Job) (act : Act)
+    → IsTurn plan past ws j act → MayShow plan past ws j → FewCopies plan (turn_log past caller slot ws finished j act)
 few_turn plan past caller slot ws finished j act h m = record { few = each }
   where
-    each : (i : Job) (b : ℕ) → job_at past i.number ≡ Some i → is_pending plan (λ n. acts n (turn_log past caller slot ws finished j act)) (is_waived (turn_log past caller slot ws finished j act)) i ≡ true
+    each : (i : Job) (b : ℕ) → job_at past i.number ≡ Some i
+        → is_pending plan (λ n. acts n (turn_log past caller slot ws finished j act))
+        (is_waived (turn_log past caller slot ws finished j act)) i ≡ true
         → victim_of plan i.number (turn_log past caller slot ws finished j act) ≡ Some b
-        → copied_of (λ n. acts n (turn_log past caller slot ws finished j act)) i + valid (cells plan (turn_log past caller slot ws finished j act)) b ≤ reserve_full plan
+        → copied_of (λ n. acts n (turn_log past caller slot ws finished j act)) i + valid
+        (cells plan (turn_log past caller slot ws finished j act)) b ≤ reserve_full plan
     each i b known is shows =
         let log : Log = turn_log past caller slot ws finished j act in
         let a = ran_acts caller slot ws finished past j.number act in
         elim (cases_eq i.number j.number) [
           | inl e ↦
               let same : j ≡ i = same_Some j i (sym h.waits.known ∙ (ap (λ n. job_at past n) (sym e) ∙ known)) in
-              let of_i : i.collects ≡ true = (and_parts i.collects (not (are_all plan i (acts i.number log))) (and_parts (i.collects && not (are_all plan i (acts i.number log))) (not (is_waived log i.number)) is).0).0 in
+              let of_i : i.collects ≡ true = (and_parts i.collects (not (are_all plan i (acts i.number log)))
+              (and_parts (i.collects && not (are_all plan i (acts i.number log))) (not (is_waived log i.number)) is).0).0 in
               let of_j : j.collects ≡ true = ap (λ (x : Job). x.collects) same ∙ of_i in
-              let shown : shown_by plan past (victim_of plan j.number past) (Some act) ≡ Some b = ap (λ o. shown_by plan past (victim_of plan j.number past) o) (sym (act_own j.number act)) ∙ (ap (λ (x : Job). victim_of plan x.number log) same ∙ shows) in
-              subst (λ (x : Job). copied_of (λ n. acts n log) x + valid (cells plan log) b ≤ reserve_full plan) same (few_own plan past caller slot ws finished j act b h m of_j (own_kind plan past j act of_j h.does_it) shown)
+              let shown : shown_by plan past (victim_of plan j.number past) (Some act)
+              ≡ Some b = ap (λ o. shown_by plan past (victim_of plan j.number past) o) (sym (act_own j.number act))
+              ∙ (ap (λ (x : Job). victim_of plan x.number log) same ∙ shows) in
+              subst (λ (x : Job). copied_of (λ n. acts n log) x + valid (cells plan log) b ≤ reserve_full plan) same
+              (few_own plan past caller slot ws finished j act b h m of_j (own_kind plan past j act of_j h.does_it) shown)
           | inr apart ↦
               let w = slot_waives plan caller slot ws (Some (j.number, act)) finished past h.serve.numbered h.waivers in
-              let was = pending_other plan (λ n. acts n past) (λ n. acts n log) (is_waived past) (is_waived log) (λ n. is_among n ws) i w (a.other i.number apart) is in
-              let none : act_of i.number (Some (j.number, act)) ≡ None = cond-false (j.number == i.number) (Some act) None (ne_eqb j.number i.number (λ e. apart (sym e))) in
-              let before : victim_of plan i.number past ≡ Some b = sym (shown_other plan past (victim_of plan i.number past) (act_of i.number (Some (j.number, act))) none) ∙ shows in
-              let copied : copied_of (λ n. acts n past) i ≡ copied_of (λ n. acts n log) i = ap (λ (l : List Act). count_by is_copy_program l) (a.other i.number apart) in
-              omega (arith, copied, m.few_before.few i b known was before, valid_less plan past caller slot ws finished j act b m.bound h (h.serve.victims_full i b known was before))
+              let was = pending_other plan (λ n. acts n past) (λ n. acts n log) (is_waived past) (is_waived log) (λ n. is_among n ws) i w
+              (a.other i.number apart) is in
+              let none : act_of i.number (Some (j.number, act))
+              ≡ None = cond-false (j.number == i.number) (Some act) None (ne_eqb j.number i.number (λ e. apart (sym e))) in
+              let before : victim_of plan i.number past ≡ Some b = sym
+              (shown_other plan past (victim_of plan i.number past) (act_of i.number (Some (j.number, act))) none) ∙ shows in
+              let copied : copied_of (λ n. acts n past) i
+              ≡ copied_of (λ n. acts n log) i = ap (λ (l : List Act). count_by is_copy_program l) (a.other i.number apart) in
+              omega (
+                arith,
+                copied,
+                m.few_before.few i b known was before,
+                valid_less plan past caller slot ws finished j act b m.bound h
+                    (h.serve.victims_full i b known was before),
+              )
         ]

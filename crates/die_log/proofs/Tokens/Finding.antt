@@ -1,7 +1,9 @@
 -- A collection that begins while few pages are spare finds its block.
-use Rattle.std.proofs.Common.{◌≡◌, ℕ, ◌+◌, ◌<◌, ◌≤◌, ◌==◌, ◌&&◌, nat_lt, not, Bool, true, false, List, [], length, map, sum_by, count_by, get_or, Option, Some, None, refl, ap, sym, ◌∙◌, inl, inr, ◌⊎◌, arith, slice_get, position}
+use Rattle.std.proofs.Common.{◌≡◌, ℕ, ◌+◌, ◌<◌, ◌≤◌, ◌==◌, ◌&&◌, nat_lt, not, Bool, true, false, List, [], length, map, sum_by, count_by}
+use Rattle.std.proofs.Common.{get_or, Option, Some, None, refl, ap, sym, ◌∙◌, inl, inr, ◌⊎◌, arith, slice_get, position}
 use Rattle.std.specs.List.{list_any, range_with_len}
-use Rattle.std.proofs.lemmas.Bool.{true≢false, false_from_ne_true, cases_eq, cases_lt, cases_Bool, and_parts, and_from, ltb-true, lt-ltb, eq-eqb, not_from_false}
+use Rattle.std.proofs.lemmas.Bool.{true≢false, false_from_ne_true, cases_eq, cases_lt, cases_Bool, and_parts, and_from, ltb-true, lt-ltb}
+use Rattle.std.proofs.lemmas.Bool.{eq-eqb, not_from_false}
 use Rattle.std.proofs.lemmas.Option.{same_Some, slice_get-get_or}
 use Rattle.std.proofs.lemmas.List.FromFn.{length-map-range_with_len, get_or-map-range_with_len}
 use Rattle.std.proofs.lemmas.List.Quantifiers.{position-Some}
@@ -33,21 +35,26 @@ no_work : (l : List Act) → l ≡ [] → 0 < length l → ⊥
 no_work l e h = omega (arith, h, ap (λ (x : List Act). length x) e)
 
 -- what runs is open
-running_pending : (plan : DiePlan) (past : Log) (j : Job) → AreTrue plan past → is_running plan past j ≡ true → is_pending plan (λ n. acts n past) (is_waived past) j ≡ true
+running_pending : (plan : DiePlan) (past : Log) (j : Job) → AreTrue plan past → is_running plan past j ≡ true
+    → is_pending plan (λ n. acts n past) (is_waived past) j ≡ true
 running_pending plan past j h is =
     let parts = and_parts (j.collects && nat_lt 0 (work j.number past)) (not (is_done plan past j)) is in
     let begun = and_parts j.collects (nat_lt 0 (work j.number past)) parts.0 in
     let there : 0 < work j.number past = ltb-true 0 (work j.number past) begun.1 in
-    let stays : is_waived past j.number ≡ false = false_from_ne_true (is_waived past j.number) (λ e. no_work (acts j.number past) (h.idle_waived j.number e) there) in
-    and_from (j.collects && not (is_done plan past j)) (not (is_waived past j.number)) (and_from j.collects (not (is_done plan past j)) begun.0 parts.1) (not_from_false (is_waived past j.number) stays)
+    let stays : is_waived past j.number ≡ false = false_from_ne_true (is_waived past j.number)
+    (λ e. no_work (acts j.number past) (h.idle_waived j.number e) there) in
+    and_from (j.collects && not (is_done plan past j)) (not (is_waived past j.number))
+    (and_from j.collects (not (is_done plan past j)) begun.0 parts.1) (not_from_false (is_waived past j.number) stays)
 
 few_run : (plan : DiePlan) (past : Log) (task : ℕ) → AreTrue plan past → count_by (runs plan past task) (jobs past) ≤ 1
 few_run plan past task h =
     omega (
       arith,
       h.one_each task,
-      le_at (λ i. one_if (runs plan past task i)) (λ i. one_if ((i.task == task) && is_pending plan (λ n. acts n past) (is_waived past) i)) (jobs past)
-          (λ k i e. one_less (i.task == task) (is_pending plan (λ n. acts n past) (is_waived past) i) (is_running plan past i) (running_pending plan past i h)),
+      le_at (λ i. one_if (runs plan past task i)) (λ i. one_if ((i.task == task) && is_pending plan (λ n. acts n past) (is_waived past) i))
+          (jobs past)
+          (λ k i e. one_less (i.task == task) (is_pending plan (λ n. acts n past) (is_waived past) i) (is_running plan past i)
+          (running_pending plan past i h)),
     )
 
 abbrev block_in : DiePlan → Log → Option Job → Option ℕ
@@ -61,24 +68,31 @@ victim_by plan past task = block_in plan past (first_with (runs plan past task) 
 abbrev pub victims : DiePlan → Log → List (Option ℕ)
 victims plan past = map (victim_by plan past) (range_with_len 0 (length plan.caps))
 
-victim_at : (plan : DiePlan) (past : Log) (task : ℕ) → task < length plan.caps → get_or (victims plan past) task None ≡ victim_by plan past task
+victim_at : (plan : DiePlan) (past : Log) (task : ℕ) → task < length plan.caps → get_or (victims plan past) task None
+    ≡ victim_by plan past task
 victim_at plan past task h = get_or-map-range_with_len (victim_by plan past) 0 (length plan.caps) task task None h (omega arith)
 
 -- each running collection is in the list
-victim_listed : (plan : DiePlan) (past : Log) (k : ℕ) (j : Job) → AreTrue plan past → slice_get (jobs past) k ≡ Some j → is_running plan past j ≡ true → victim_by plan past j.task ≡ victim_of plan j.number past
+victim_listed : (plan : DiePlan) (past : Log) (k : ℕ) (j : Job) → AreTrue plan past → slice_get (jobs past) k ≡ Some j
+    → is_running plan past j ≡ true → victim_by plan past j.task ≡ victim_of plan j.number past
 victim_listed plan past k j h e is =
-    ap (block_in plan past) (finds_it (runs plan past j.task) (jobs past) k j (few_run plan past j.task h) e (and_from (j.task == j.task) (is_running plan past j) (eq-eqb j.task j.task refl) is))
+    ap (block_in plan past) (finds_it (runs plan past j.task) (jobs past) k j (few_run plan past j.task h) e
+    (and_from (j.task == j.task) (is_running plan past j) (eq-eqb j.task j.task refl) is))
 
-in_victims : (plan : DiePlan) (past : Log) (task : ℕ) → task < length plan.caps → slice_get (victims plan past) task ≡ Some (victim_by plan past task)
+in_victims : (plan : DiePlan) (past : Log) (task : ℕ) → task < length plan.caps → slice_get (victims plan past) task
+    ≡ Some (victim_by plan past task)
 in_victims plan past task h =
-    slice_get-get_or (victims plan past) task None (omega (arith, h, length-map-range_with_len (victim_by plan past) 0 (length plan.caps))) ∙ ap (λ (v : Option ℕ). Some v) (victim_at plan past task h)
+    slice_get-get_or (victims plan past) task None (omega (arith, h, length-map-range_with_len (victim_by plan past) 0 (length plan.caps)))
+    ∙ ap (λ (v : Option ℕ). Some v) (victim_at plan past task h)
 
 is_of_block : (b : ℕ) (o : Option ℕ) → is_block b o ≡ true → is_of b o ≡ true
 is_of_block b None e = e
 is_of_block b (Some v) e = e
 
 -- a block that is nobody's in the list is collected by nobody
-free_of : (plan : DiePlan) (past : Log) (b : ℕ) → AreTrue plan past → ((j : Job) (k : ℕ) → slice_get (jobs past) k ≡ Some j → j.task < length plan.caps) → list_any (is_of b) (victims plan past) ≡ false → is_collected plan past b ≡ false
+free_of : (plan : DiePlan) (past : Log) (b : ℕ) → AreTrue plan past
+    → ((j : Job) (k : ℕ) → slice_get (jobs past) k ≡ Some j → j.task < length plan.caps) → list_any (is_of b) (victims plan past) ≡ false
+    → is_collected plan past b ≡ false
 free_of plan past b h within none = false_from_ne_true (is_collected plan past b) contradicts
   where
     contradicts : is_collected plan past b ≡ true → ⊥
@@ -86,19 +100,25 @@ free_of plan past b h within none = false_from_ne_true (is_collected plan past b
         let f = any_found (λ j. is_running plan past j && is_block b (victim_of plan j.number past)) (jobs past) e in
         let both = and_parts (is_running plan past f.0) (is_block b (victim_of plan f.0.number past)) f.1.passes in
         let task_in = within f.0 f.1.place f.1.stands in
-        let there : is_of b (victim_by plan past f.0.task) ≡ true = ap (is_of b) (victim_listed plan past f.1.place f.0 h f.1.stands both.0) ∙ is_of_block b (victim_of plan f.0.number past) both.1 in
-        true≢false (sym (any_from (is_of b) (victims plan past) f.0.task (victim_by plan past f.0.task) (in_victims plan past f.0.task task_in) there) ∙ none)
+        let there : is_of b (victim_by plan past f.0.task) ≡ true = ap (is_of b) (victim_listed plan past f.1.place f.0 h f.1.stands both.0)
+        ∙ is_of_block b (victim_of plan f.0.number past) both.1 in
+        true≢false (sym (any_from (is_of b) (victims plan past) f.0.task (victim_by plan past f.0.task)
+        (in_victims plan past f.0.task task_in) there) ∙ none)
 
 -- a collection that is open and has no act leaves its task without a running one
-none_runs : (plan : DiePlan) (past : Log) (j : Job) (o : Option Job) → AreTrue plan past → job_at past j.number ≡ Some j → is_pending plan (λ n. acts n past) (is_waived past) j ≡ true → work j.number past ≡ 0
+none_runs : (plan : DiePlan) (past : Log) (j : Job) (o : Option Job) → AreTrue plan past → job_at past j.number ≡ Some j
+    → is_pending plan (λ n. acts n past) (is_waived past) j ≡ true → work j.number past ≡ 0
     → first_with (runs plan past j.task) (jobs past) ≡ o → block_in plan past o ≡ None
 none_runs plan past j None h known is fresh e = refl
 none_runs plan past j (Some i) h known is fresh e =
     let f = is_found (runs plan past j.task) (jobs past) i e in
     let test : Job → Bool = λ x. (x.task == j.task) && is_pending plan (λ n. acts n past) (is_waived past) x in
     let both = and_parts (i.task == j.task) (is_running plan past i) f.passes in
-    let first_i : first_with test (jobs past) ≡ Some i = finds_it test (jobs past) f.place i (h.one_each j.task) f.stands (and_from (i.task == j.task) (is_pending plan (λ n. acts n past) (is_waived past) i) both.0 (running_pending plan past i h both.1)) in
-    let first_j : first_with test (jobs past) ≡ Some j = finds_it test (jobs past) j.number j (h.one_each j.task) known (and_from (j.task == j.task) (is_pending plan (λ n. acts n past) (is_waived past) j) (eq-eqb j.task j.task refl) is) in
+    let first_i : first_with test (jobs past) ≡ Some i = finds_it test (jobs past) f.place i (h.one_each j.task) f.stands
+    (and_from (i.task == j.task) (is_pending plan (λ n. acts n past) (is_waived past) i) both.0 (running_pending plan past i h both.1))
+    in
+    let first_j : first_with test (jobs past) ≡ Some j = finds_it test (jobs past) j.number j (h.one_each j.task) known
+    (and_from (j.task == j.task) (is_pending plan (λ n. acts n past) (is_waived past) j) (eq-eqb j.task j.task refl) is) in
     let same : i ≡ j = same_Some i j (sym first_i ∙ first_j) in
     let parts = and_parts (i.collects && nat_lt 0 (work i.number past)) (not (is_done plan past i)) both.1 in
     let begun : 0 < work i.number past = ltb-true 0 (work i.number past) (and_parts i.collects (nat_lt 0 (work i.number past)) parts.0).1 in
@@ -109,8 +129,10 @@ none_runs plan past j (Some i) h known is fresh e =
 abbrev free_at : DiePlan → Cells → ℕ → ℕ
 free_at plan c b = free_in plan (block_at c b)
 
-free_sum : (plan : DiePlan) (c : Cells) → length c.blocks ≡ plan.shape.blocks → sum_by (free_at plan c) (range_with_len 0 plan.shape.blocks) ≡ sum_by (free_in plan) c.blocks + 0
-free_sum plan c e = sum_places (free_in plan) (free_at plan c) free_block 0 plan.shape.blocks c.blocks e (λ i. ap (free_at plan c) (omega arith))
+free_sum : (plan : DiePlan) (c : Cells) → length c.blocks ≡ plan.shape.blocks → sum_by (free_at plan c) (range_with_len 0 plan.shape.blocks)
+    ≡ sum_by (free_in plan) c.blocks + 0
+free_sum plan c e = sum_places (free_in plan) (free_at plan c) free_block 0 plan.shape.blocks c.blocks e
+    (λ i. ap (free_at plan c) (omega arith))
 
 -- the block that is open, if there is one
 abbrev opened : DiePlan → Cells → Option ℕ
@@ -121,7 +143,8 @@ opened_of plan c b h =
     let parts = and_parts (nat_lt 0 (block_at c b).filled) (nat_lt (block_at c b).filled plan.shape.pages) h in
     (ltb-true 0 (block_at c b).filled parts.0, ltb-true (block_at c b).filled plan.shape.pages parts.1)
 
-writing_is : (plan : DiePlan) (c : Cells) (b : ℕ) (o : Option ℕ) → AreSound plan c → b < length c.blocks → is_open plan (block_at c b) ≡ true → opened plan c ≡ o → o ≡ Some b
+writing_is : (plan : DiePlan) (c : Cells) (b : ℕ) (o : Option ℕ) → AreSound plan c → b < length c.blocks → is_open plan (block_at c b)
+    ≡ true → opened plan c ≡ o → o ≡ Some b
 writing_is plan c b None are h is e =
     absurd (true≢false (sym is ∙ no_position (is_open plan) c.blocks e b free_block h))
 writing_is plan c b (Some d) are h is e =
@@ -133,7 +156,8 @@ other_free : (plan : DiePlan) (s : Block) → is_open plan s ≡ false → (free
 other_free plan s e = elim (cases_eq s.erasing 0) [
   | inl idle ↦ elim (cases_lt 0 s.filled) [
     | inl some ↦ elim (cases_lt s.filled plan.shape.pages) [
-      | inl few ↦ absurd (true≢false (sym (and_from (nat_lt 0 s.filled) (nat_lt s.filled plan.shape.pages) (lt-ltb 0 s.filled some) (lt-ltb s.filled plan.shape.pages few)) ∙ e))
+      | inl few ↦ absurd (true≢false (sym (and_from (nat_lt 0 s.filled) (nat_lt s.filled plan.shape.pages) (lt-ltb 0 s.filled some)
+          (lt-ltb s.filled plan.shape.pages few)) ∙ e))
       | inr closed ↦ inl (omega (arith, closed, free_idle plan s idle))
     ]
     | inr none ↦ inr (omega (arith, none, free_idle plan s idle))
@@ -141,13 +165,15 @@ other_free plan s e = elim (cases_eq s.erasing 0) [
   | inr busy ↦ inl (free_erasing plan s busy)
 ]
 
-one_open : (plan : DiePlan) (c : Cells) (b : ℕ) → AreSound plan c → b < plan.shape.blocks → (opened plan c ≡ Some b) ⊎ ((free_at plan c b ≡ 0) ⊎ (plan.shape.pages ≤ free_at plan c b))
+one_open : (plan : DiePlan) (c : Cells) (b : ℕ) → AreSound plan c → b < plan.shape.blocks → (opened plan c ≡ Some b)
+    ⊎ ((free_at plan c b ≡ 0) ⊎ (plan.shape.pages ≤ free_at plan c b))
 one_open plan c b are h = elim (cases_Bool (is_open plan (block_at c b))) [
   | inl is ↦ inl (writing_is plan c b (opened plan c) are (omega (arith, h, are.blocks)) is refl)
   | inr no_part ↦ inr (other_free plan (block_at c b) no_part)
 ]
 
-closed_if : (plan : DiePlan) (c : Cells) (b : ℕ) → AreSound plan c → b < plan.shape.blocks → free_at plan c b ≡ 0 → is_closed plan (block_at c b) ≡ true
+closed_if : (plan : DiePlan) (c : Cells) (b : ℕ) → AreSound plan c → b < plan.shape.blocks → free_at plan c b ≡ 0
+    → is_closed plan (block_at c b) ≡ true
 closed_if plan c b are h e =
     let s : Block = block_at c b in
     eq-eqb s.filled plan.shape.pages (elim (cases_lt 0 s.erasing) [
@@ -164,7 +190,8 @@ pub record IsTakable (plan : DiePlan) (past : Log) (b : ℕ) : Type 0 where
 
 -- with few cells free, a collection that begins finds a block that it may take
 pub takable : (plan : DiePlan) (past : Log) (j : Job) → MeetsBound plan → AreTrue plan past → AreSound plan (cells plan past)
-    → job_at past j.number ≡ Some j → is_pending plan (λ n. acts n past) (is_waived past) j ≡ true → work j.number past ≡ 0 → free plan past ≤ fmax_of plan → ((i : Job) (k : ℕ) → slice_get (jobs past) k ≡ Some i → i.task < length plan.caps)
+    → job_at past j.number ≡ Some j → is_pending plan (λ n. acts n past) (is_waived past) j ≡ true → work j.number past ≡ 0 → free plan past
+    ≤ fmax_of plan → ((i : Job) (k : ℕ) → slice_get (jobs past) k ≡ Some i → i.task < length plan.caps)
     → (b : ℕ) × IsTakable plan past b
 takable plan past j bound h are known is fresh few within =
     let c : Cells = cells plan past in
@@ -172,7 +199,12 @@ takable plan past j bound h are known is fresh few within =
     let found = choice plan (free_at plan c) c.places (victims plan past) (opened plan c) bound (record {
       places_len = are.places;
       victims_len = length-map-range_with_len (victim_by plan past) 0 (length plan.caps);
-      none_yet = (j.task, omega (arith, inside, length-map-range_with_len (victim_by plan past) 0 (length plan.caps)), victim_at plan past j.task inside ∙ none_runs plan past j (first_with (runs plan past j.task) (jobs past)) h known is fresh refl);
+      none_yet = (
+        j.task,
+        omega (arith, inside, length-map-range_with_len (victim_by plan past) 0 (length plan.caps)),
+        victim_at plan past
+            j.task inside ∙ none_runs plan past j (first_with (runs plan past j.task) (jobs past)) h known is fresh refl,
+      );
       one_open = λ b below. one_open plan c b are below;
       few_free = omega (arith, few, free_sum plan c are.blocks);
     }) in (
@@ -186,10 +218,13 @@ takable plan past j bound h are known is fresh few within =
     )
 
 -- and the victim rule takes one with as few placed pages, or fewer
-pub victim_found : (plan : DiePlan) (past : Log) (b : ℕ) → IsTakable plan past b → (v : ℕ) × (victim plan past ≡ Some v) × (valid (cells plan past) v ≤ reserve_full plan)
+pub victim_found : (plan : DiePlan) (past : Log) (b : ℕ) → IsTakable plan past b → (v : ℕ) × (victim plan past ≡ Some v)
+    × (valid (cells plan past) v ≤ reserve_full plan)
 victim_found plan past b t =
     let c : Cells = cells plan past in
     let test : ℕ → Bool = λ d. is_closed plan (block_at c d) && not (is_collected plan past d) in
-    let s = keeps_passing test (range_with_len 0 plan.shape.blocks) b b (range_at 0 plan.shape.blocks b t.in_range ∙ ap (λ (n : ℕ). Some n) (omega arith)) (and_from (is_closed plan (block_at c b)) (not (is_collected plan past b)) t.closed (not_from_false (is_collected plan past b) t.alone)) in
+    let s = keeps_passing test (range_with_len 0 plan.shape.blocks) b b (range_at 0 plan.shape.blocks b t.in_range
+    ∙ ap (λ (n : ℕ). Some n) (omega arith)) (and_from (is_closed plan (block_at c b)) (not (is_collected plan past b)) t.closed
+    (not_from_false (is_collected plan past b) t.alone)) in
     let v = least_le (valid c) (λ (d : ℕ). (block_at c d).erases) (candidates plan past) s.place b s.is in
     (v.0, v.1, omega (arith, v.2, t.few_valid))

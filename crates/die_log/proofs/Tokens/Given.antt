@@ -15,7 +15,9 @@ use Rattle.die_log.specs.Held.{is_pending}
 pub record CellsServe (plan : DiePlan) (past : Log) : Type 0 where
   pub numbered : (k : ℕ) (j : Job) → job_at past k ≡ Some j → j.number ≡ k
   pub sound : AreSound plan (cells plan past)
-  pub few_copies : (j : Job) (page : ℕ) → job_at past j.number ≡ Some j → is_ready plan past j ≡ true → act_for plan past j ≡ Some (does.CopyProgram page) → count_by is_copy_program (acts j.number past) < reserve_full plan
+  pub few_copies : (j : Job) (page : ℕ) → job_at past j.number ≡ Some j → is_ready plan past j ≡ true → act_for plan past j
+      ≡ Some (does.CopyProgram page) → count_by is_copy_program (acts j.number past) < reserve_full plan
   pub erases : (j : Job) (b : ℕ) → job_at past j.number ≡ Some j → is_ready plan past j ≡ true → act_for plan past j ≡ Some (does.Erase b)
       → IsClosed plan (cells plan past) b × ((block_at (cells plan past) b).erasing ≡ count_by is_erase (acts j.number past))
-  pub victims_full : (j : Job) (b : ℕ) → job_at past j.number ≡ Some j → is_pending plan (λ n. acts n past) (is_waived past) j ≡ true → victim_of plan j.number past ≡ Some b → IsClosed plan (cells plan past) b
+  pub victims_full : (j : Job) (b : ℕ) → job_at past j.number ≡ Some j → is_pending plan (λ n. acts n past) (is_waived past) j ≡ true
+      → victim_of plan j.number past ≡ Some b → IsClosed plan (cells plan past) b

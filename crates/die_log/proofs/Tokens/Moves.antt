@@ -8,7 +8,8 @@ use Rattle.die_log.specs.Held.{at_task}
 use Rattle.die_log.proofs.Tokens.Amounts.{added, at_itself, at_other, added_at, taken_at, sum_added, sum_taken, length_added, length_taken}
 
 -- the same accounts, with the same amounts otherwise said
-pub agree_same : (plan : DiePlan) (a : Accounts) (held lent held' lent' : ℕ → ℕ) (owed free owed' free' : ℕ) → Agree plan a held lent owed free
+pub agree_same : (plan : DiePlan) (a : Accounts) (held lent held' lent' : ℕ → ℕ) (owed free owed' free' : ℕ)
+    → Agree plan a held lent owed free
     → ((t : ℕ) → held t ≡ held' t) → ((t : ℕ) → lent t ≡ lent' t) → owed ≡ owed' → free ≡ free' → Agree plan a held' lent' owed' free'
 agree_same plan a held lent held' lent' owed free owed' free' g hs ls os fs = record {
   plan_is = g.plan_is;
@@ -42,7 +43,8 @@ agree_admitted plan a held lent held' owed free task w g h le hs =
     }
 
 -- a write is carried
-pub agree_written : (plan : DiePlan) (a : Accounts) (held lent held' : ℕ → ℕ) (owed free task owed' free' : ℕ) → Agree plan a held lent owed free
+pub agree_written : (plan : DiePlan) (a : Accounts) (held lent held' : ℕ → ℕ) (owed free task owed' free' : ℕ)
+    → Agree plan a held lent owed free
     → task < length plan.caps → ((t : ℕ) → held t ≡ held' t + at_task task 1 t) → owed ≡ owed' + 1 → free ≡ free' + 1
     → Agree plan (hold_spent a task) held' lent owed' free'
 agree_written plan a held lent held' owed free task owed' free' g h hs os fs =
@@ -80,12 +82,20 @@ agree_copied plan a held lent lent' owed free task free' g h few ls fs =
     }
 
 -- what is given keeps to the cap
-gift_fits : (plan : DiePlan) (a : Accounts) (held lent : ℕ → ℕ) (owed free task : ℕ) → Agree plan a held lent owed free → task < length plan.caps
+gift_fits : (plan : DiePlan) (a : Accounts) (held lent : ℕ → ℕ) (owed free task : ℕ) → Agree plan a held lent owed free → task
+    < length plan.caps
     → (t : ℕ) → get_or (added a.balances task (given_of a task)) t 0 + get_or a.holds t 0 ≤ get_or plan.caps t 0
 gift_fits plan a held lent owed free task g h t =
     let b : task < length a.balances = omega (arith, g.balances_len) in
     elim (cases_eq t task) [
-      | inl e ↦ rw e (omega (arith, g.owned task, ap (λ (p : DiePlan). get_or p.caps task 0) g.plan_is, added_at a.balances task (given_of a task) task b, at_itself task (given_of a task)))
+      | inl e ↦ rw e (omega (
+        arith,
+        g.owned task,
+        ap (λ (p : DiePlan). get_or p.caps task 0) g.plan_is,
+        added_at a.balances task
+            (given_of a task) task b,
+        at_itself task (given_of a task),
+      ))
       | inr apart ↦ omega (arith, g.owned t, added_at a.balances task (given_of a task) t b, at_other task (given_of a task) t apart)
     ]
 
@@ -107,8 +117,10 @@ agree_waived plan a held lent owed free task g h le =
     }
 
 -- a collection is done
-pub agree_settled : (plan : DiePlan) (a : Accounts) (held lent lent' : ℕ → ℕ) (owed free task copied free' : ℕ) → Agree plan a held lent owed free
-    → plan.alpha ≤ plan.shape.pages → task < length plan.caps → ((t : ℕ) → lent t ≡ lent' t + at_task task copied t) → free' ≡ free + plan.shape.pages
+pub agree_settled : (plan : DiePlan) (a : Accounts) (held lent lent' : ℕ → ℕ) (owed free task copied free' : ℕ)
+    → Agree plan a held lent owed free
+    → plan.alpha ≤ plan.shape.pages → task < length plan.caps → ((t : ℕ) → lent t ≡ lent' t + at_task task copied t) → free'
+    ≡ free + plan.shape.pages
     → Agree plan (settled a task copied) held lent' owed free'
 agree_settled plan a held lent lent' owed free task copied free' g fits h ls fs =
     let b : task < length a.balances = omega (arith, g.balances_len) in
@@ -123,5 +135,14 @@ agree_settled plan a held lent lent' owed free task copied free' g fits h ls fs 
       holds_are = g.holds_are;
       reserves_are = λ t k. omega (arith, g.reserves_are t k, added_at a.reserves task copied t d, ls t);
       owed_is = g.owed_is;
-      total_is = omega (arith, g.total_is, ap (λ (p : DiePlan). p.alpha) g.plan_is, ap (λ (p : DiePlan). p.shape.pages) g.plan_is, sum_added a.balances task (given_of a task) b, sum_added a.reserves task copied d, few);
+      total_is = omega (
+        arith,
+        g.total_is,
+        ap (λ (p : DiePlan). p.alpha) g.plan_is,
+        ap (λ (p : DiePlan). p.shape.pages) g.plan_is,
+        sum_added
+            a.balances task (given_of a task) b,
+        sum_added a.reserves task copied d,
+        few,
+      );
     }

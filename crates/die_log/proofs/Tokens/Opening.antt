@@ -45,4 +45,9 @@ agree_opening plan bound =
     }
 
 pub true_opening : (plan : DiePlan) → MeetsBound plan → AreTrue plan []
-true_opening plan bound = record { agree = agree_opening plan bound; taken = tt; one_each = λ t. omega arith; idle_waived = λ n e. absurd cc }
+true_opening plan bound = record {
+  agree = agree_opening plan bound;
+  taken = tt;
+  one_each = λ t. omega arith;
+  idle_waived = λ n e. absurd cc;
+}

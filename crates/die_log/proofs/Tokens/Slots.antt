@@ -1,5 +1,6 @@
 -- A slot keeps the accounts true.
-use Rattle.std.proofs.Common.{◌≡◌, ℕ, ◌<◌, ◌==◌, ◌&&◌, not, nat_le, Bool, true, List, [], ◌∷◌, ◌++◌, length, drop, Option, Some, None, refl, ap, sym, subst, ◌∙◌, inl, inr, arith, append-nil}
+use Rattle.std.proofs.Common.{◌≡◌, ℕ, ◌<◌, ◌==◌, ◌&&◌, not, nat_le, Bool, true, List, [], ◌∷◌, ◌++◌, length, drop, Option, Some, None, refl}
+use Rattle.std.proofs.Common.{ap, sym, subst, ◌∙◌, inl, inr, arith, append-nil}
 use Rattle.std.specs.List.{AllByRecursion, filter_map}
 use Rattle.std.proofs.lemmas.Bool.{true≢false, cases_eq, eqb-true, eq-eqb, ne_eqb, and_parts, and_from, or_cases, cond-true, cond-false}
 use Rattle.std.proofs.lemmas.List.Elements.{filter_map-append}
@@ -30,14 +31,16 @@ use Rattle.die_log.proofs.Tokens.Changes.{Waives, Acts, lent_idle, pending_idle,
 
 -- Waivers
 
-pub agree_waivers : (plan : DiePlan) (past : Log) (earlier : List Waived) (a : Accounts) (ws : List Waived) (held lent : ℕ → ℕ) (owed free : ℕ) → AllByRecursion (IsTaken plan) (jobs past)
+pub agree_waivers : (plan : DiePlan) (past : Log) (earlier : List Waived) (a : Accounts) (ws : List Waived) (held lent : ℕ → ℕ)
+    (owed free : ℕ) → AllByRecursion (IsTaken plan) (jobs past)
     → Agree plan a held lent owed free → AreWaivers plan past earlier a ws → Agree plan (after_waivers past ws a) held lent owed free
 agree_waivers plan past earlier a [] held lent owed free taken g h = g
 agree_waivers plan past earlier a (w ∷ ws) held lent owed free taken g (j, is, rest) =
     let next : after_waiver (job_at past w.number) a ≡ moves.waived a j.task = ap (λ o. after_waiver o a) is.known in
     let within : j.task < length plan.caps = (all_at (IsTaken plan) (jobs past) w.number j taken is.known).task in
     subst (λ b. Agree plan (after_waivers past ws b) held lent owed free) (sym next) (
-    agree_waivers plan past (earlier ++ w ∷ []) (moves.waived a j.task) ws held lent owed free taken (agree_waived plan a held lent owed free j.task g within is.spare) rest
+    agree_waivers plan past (earlier ++ w ∷ []) (moves.waived a j.task) ws held lent owed free taken
+    (agree_waived plan a held lent owed free j.task g within is.spare) rest
     )
 
 pub empty_if : {X : Type 0} (xs : List X) → length xs ≡ 0 → xs ≡ []
@@ -45,7 +48,8 @@ empty_if [] e = refl
 empty_if (x ∷ xs) e = absurd (omega (arith, e))
 
 -- what is waived in a slot has no act
-pub waived_idle : (plan : DiePlan) (past : Log) (earlier : List Waived) (a : Accounts) (ws : List Waived) (n : ℕ) → ((k : ℕ) (j : Job) → job_at past k ≡ Some j → j.number ≡ k)
+pub waived_idle : (plan : DiePlan) (past : Log) (earlier : List Waived) (a : Accounts) (ws : List Waived) (n : ℕ)
+    → ((k : ℕ) (j : Job) → job_at past k ≡ Some j → j.number ≡ k)
     → AreWaivers plan past earlier a ws → is_among n ws ≡ true → acts n past ≡ []
 waived_idle plan past earlier a [] n numbered h is = absurd cc
 waived_idle plan past earlier a (w ∷ ws) n numbered (j, one, rest) is =
@@ -59,9 +63,11 @@ waived_idle plan past earlier a (w ∷ ws) n numbered (j, one, rest) is =
 -- Acts
 
 abbrev pub slot_entry : ℕ → ℕ → List Waived → Carried → Option ℕ → Entry
-slot_entry caller slot ws ran finished = entry caller events.Slot (replies.Slot (record { slot = slot; waived = ws; ran = ran; finished = finished }))
+slot_entry caller slot ws ran finished = entry caller events.Slot
+    (replies.Slot (record { slot = slot; waived = ws; ran = ran; finished = finished }))
 
-pub idle_acts : (caller slot : ℕ) (ws : List Waived) (finished : Option ℕ) (past : Log) (n : ℕ) → acts n past ≡ acts n (slot_entry caller slot ws None finished ∷ past)
+pub idle_acts : (caller slot : ℕ) (ws : List Waived) (finished : Option ℕ) (past : Log) (n : ℕ) → acts n past
+    ≡ acts n (slot_entry caller slot ws None finished ∷ past)
 idle_acts caller slot ws finished past n = sym (filter_map-append (λ c. act_of n c) (carried past) (None ∷ []) ∙ append-nil (acts n past))
 
 abbrev listed : Option Act → List Act
@@ -79,27 +85,33 @@ ran_acts caller slot ws finished past number act =
     record {
       other = λ n apart.
           let none : act_of n c ≡ None = cond-false (number == n) (Some act) None (ne_eqb number n (λ e. apart (sym e))) in
-          sym (filter_map-append (λ d. act_of n d) (carried past) (c ∷ []) ∙ (ap (λ (l : List Act). acts n past ++ l) (one_listed n c None none) ∙ append-nil (acts n past)));
+          sym (filter_map-append (λ d. act_of n d) (carried past) (c ∷ [])
+          ∙ (ap (λ (l : List Act). acts n past ++ l) (one_listed n c None none) ∙ append-nil (acts n past)));
       more =
           let here : act_of number c ≡ Some act = cond-true (number == number) (Some act) None (eq-eqb number number refl) in
-          filter_map-append (λ d. act_of number d) (carried past) (c ∷ []) ∙ ap (λ (l : List Act). acts number past ++ l) (one_listed number c (Some act) here);
+          filter_map-append (λ d. act_of number d) (carried past) (c ∷ [])
+          ∙ ap (λ (l : List Act). acts number past ++ l) (one_listed number c (Some act) here);
     }
 
-pub slot_waives : (plan : DiePlan) (caller slot : ℕ) (ws : List Waived) (ran : Carried) (finished : Option ℕ) (past : Log) → ((k : ℕ) (j : Job) → job_at past k ≡ Some j → j.number ≡ k)
-    → AreWaivers plan past (waived past) (accounts plan past) ws → Waives (λ n. acts n past) (is_waived past) (is_waived (slot_entry caller slot ws ran finished ∷ past)) (λ n. is_among n ws)
+pub slot_waives : (plan : DiePlan) (caller slot : ℕ) (ws : List Waived) (ran : Carried) (finished : Option ℕ) (past : Log)
+    → ((k : ℕ) (j : Job) → job_at past k ≡ Some j → j.number ≡ k)
+    → AreWaivers plan past (waived past) (accounts plan past) ws
+    → Waives (λ n. acts n past) (is_waived past) (is_waived (slot_entry caller slot ws ran finished ∷ past)) (λ n. is_among n ws)
 slot_waives plan caller slot ws ran finished past numbered h = record {
   gone_is = λ n. list_any-append (λ w. w.number == n) (waived past) ws;
   idle = λ n. waived_idle plan past (waived past) (accounts plan past) ws n numbered h;
 }
 
-waived_empty : (own : ℕ → List Act) (gone gone' am : ℕ → Bool) → Waives own gone gone' am → ((n : ℕ) → gone n ≡ true → own n ≡ []) → (n : ℕ) → gone' n ≡ true → own n ≡ []
+waived_empty : (own : ℕ → List Act) (gone gone' am : ℕ → Bool) → Waives own gone gone' am → ((n : ℕ) → gone n ≡ true → own n ≡ []) → (n : ℕ)
+    → gone' n ≡ true → own n ≡ []
 waived_empty own gone gone' am w before n e = elim (or_cases (gone n) (am n) (sym (w.gone_is n) ∙ e)) [
   | inl earlier ↦ before n earlier
   | inr here ↦ w.idle n here
 ]
 
 -- a slot that carries nothing
-pub keeps_idle : (plan : DiePlan) (past : Log) (caller slot : ℕ) (ws : List Waived) (finished : Option ℕ) → AreTrue plan past → CellsServe plan past
+pub keeps_idle : (plan : DiePlan) (past : Log) (caller slot : ℕ) (ws : List Waived) (finished : Option ℕ) → AreTrue plan past
+    → CellsServe plan past
     → AreWaivers plan past (waived past) (accounts plan past) ws → AreTrue plan (slot_entry caller slot ws None finished ∷ past)
 keeps_idle plan past caller slot ws finished h c are =
     let log : Log = slot_entry caller slot ws None finished ∷ past in
@@ -108,15 +120,24 @@ keeps_idle plan past caller slot ws finished h c are =
     let w = slot_waives plan caller slot ws None finished past c.numbered are in
     let same = idle_acts caller slot ws finished past in
     record {
-      agree = agree_same plan (after_waivers past ws (accounts plan past)) (held_of own (jobs past)) (lent_to plan own (is_waived past) (jobs past)) (held_of own' (jobs past)) (lent_to plan own' (is_waived log) (jobs past)) (owed past) (free plan past) (owed log) (free plan log)
+      agree = agree_same plan (after_waivers past ws (accounts plan past)) (held_of own (jobs past))
+          (lent_to plan own (is_waived past) (jobs past)) (held_of own' (jobs past)) (lent_to plan own' (is_waived log) (jobs past))
+          (owed past) (free plan past) (owed log) (free plan log)
           (agree_waivers plan past (waived past) (accounts plan past) ws _ _ (owed past) (free plan past) h.taken h.agree are)
           (held_same own own' (jobs past) (λ k i e. ap (λ (l : List Act). writes (drop (length l) i.ops)) (same i.number)))
           (lent_idle plan own own' (is_waived past) (is_waived log) (λ n. is_among n ws) (jobs past) w same)
-          (sum_same (left_of own) (left_of own') (jobs past) (λ k i e. ap (λ (l : List Act). writes (drop (length l) i.ops)) (same i.number)))
+          (sum_same (left_of own) (left_of own') (jobs past)
+          (λ k i e. ap (λ (l : List Act). writes (drop (length l) i.ops)) (same i.number)))
           refl;
       taken = h.taken;
-      one_each = λ t. omega (arith, h.one_each t, pending_idle plan own own' (is_waived past) (is_waived log) (λ n. is_among n ws) (jobs past) w same t);
-      idle_waived = λ n e. sym (same n) ∙ waived_empty (λ n. acts n past) (is_waived past) (is_waived log) (λ n. is_among n ws) w h.idle_waived n e;
+      one_each = λ t. omega (
+        arith,
+        h.one_each t,
+        pending_idle plan own own' (is_waived past) (is_waived log) (λ n. is_among n ws)
+            (jobs past) w same t,
+      );
+      idle_waived = λ n e. sym (same n) ∙ waived_empty (λ n. acts n past) (is_waived past) (is_waived log) (λ n. is_among n ws) w
+          h.idle_waived n e;
     }
 
 -- The head
@@ -129,41 +150,58 @@ pub record IsTurn (plan : DiePlan) (past : Log) (ws : List Waived) (j : Job) (ac
   pub waits : Waits plan past (waived past ++ ws) j
   pub does_it : act_for plan past j ≡ Some act
 
-pub is_undone : (plan : DiePlan) (past : Log) (ws : List Waived) (j : Job) (act : Act) → IsTurn plan past ws j act → not (is_done plan past j) ≡ true
+pub is_undone : (plan : DiePlan) (past : Log) (ws : List Waived) (j : Job) (act : Act) → IsTurn plan past ws j act
+    → not (is_done plan past j) ≡ true
 is_undone plan past ws j act h =
     let ready = and_parts (nat_le j.release (now past) && not (is_done plan past j)) (not (is_waived past j.number)) h.waits.ready in
     (and_parts (nat_le j.release (now past)) (not (is_done plan past j)) ready.0).1
 
-is_unwaived : (plan : DiePlan) (past : Log) (ws : List Waived) (j : Job) (act : Act) → IsTurn plan past ws j act → not (is_waived past j.number) ≡ true
-is_unwaived plan past ws j act h = (and_parts (nat_le j.release (now past) && not (is_done plan past j)) (not (is_waived past j.number)) h.waits.ready).1
+is_unwaived : (plan : DiePlan) (past : Log) (ws : List Waived) (j : Job) (act : Act) → IsTurn plan past ws j act
+    → not (is_waived past j.number) ≡ true
+is_unwaived plan past ws j act h = (and_parts (nat_le j.release (now past) && not (is_done plan past j)) (not (is_waived past j.number))
+    h.waits.ready).1
 
-pub was_pending : (plan : DiePlan) (past : Log) (ws : List Waived) (j : Job) (act : Act) → IsTurn plan past ws j act → j.collects ≡ true → is_pending plan (λ n. acts n past) (is_waived past) j ≡ true
+pub was_pending : (plan : DiePlan) (past : Log) (ws : List Waived) (j : Job) (act : Act) → IsTurn plan past ws j act → j.collects ≡ true
+    → is_pending plan (λ n. acts n past) (is_waived past) j ≡ true
 was_pending plan past ws j act h is =
-    and_from (j.collects && not (is_done plan past j)) (not (is_waived past j.number)) (and_from j.collects (not (is_done plan past j)) is (is_undone plan past ws j act h)) (is_unwaived plan past ws j act h)
+    and_from (j.collects && not (is_done plan past j)) (not (is_waived past j.number))
+    (and_from j.collects (not (is_done plan past j)) is (is_undone plan past ws j act h)) (is_unwaived plan past ws j act h)
 
 -- the accounts before the act
 pub before_act : (plan : DiePlan) (past : Log) (ws : List Waived) (j : Job) (act : Act) → IsTurn plan past ws j act
-    → Agree plan (after_waivers past ws (accounts plan past)) (held_of (λ n. acts n past) (jobs past)) (lent_to plan (λ n. acts n past) (is_waived past) (jobs past)) (owed past) (free plan past)
-before_act plan past ws j act h = agree_waivers plan past (waived past) (accounts plan past) ws _ _ (owed past) (free plan past) h.true_before.taken h.true_before.agree h.waivers
+    → Agree plan (after_waivers past ws (accounts plan past)) (held_of (λ n. acts n past) (jobs past))
+    (lent_to plan (λ n. acts n past) (is_waived past) (jobs past)) (owed past) (free plan past)
+before_act plan past ws j act h = agree_waivers plan past (waived past) (accounts plan past) ws _ _ (owed past) (free plan past)
+    h.true_before.taken h.true_before.agree h.waivers
 
 pub of_job : (plan : DiePlan) (past : Log) (ws : List Waived) (j : Job) (act : Act) → IsTurn plan past ws j act → IsTaken plan j
 of_job plan past ws j act h = all_at (IsTaken plan) (jobs past) j.number j h.true_before.taken h.waits.known
 
 -- the accounts after a slot agree, if those after its act do
-pub from_act : (plan : DiePlan) (past : Log) (caller slot : ℕ) (ws : List Waived) (finished : Option ℕ) (j : Job) (act : Act) → IsTurn plan past ws j act
+pub from_act : (plan : DiePlan) (past : Log) (caller slot : ℕ) (ws : List Waived) (finished : Option ℕ) (j : Job) (act : Act)
+    → IsTurn plan past ws j act
     → (let log : Log = slot_entry caller slot ws (Some (j.number, act)) finished ∷ past in
-    Agree plan (after_act plan (Some j) (acts j.number past) act (after_waivers past ws (accounts plan past))) (held_of (λ n. acts n log) (jobs past)) (lent_to plan (λ n. acts n log) (is_waived log) (jobs past)) (owed log) (free plan log))
+    Agree plan (after_act plan (Some j) (acts j.number past) act (after_waivers past ws (accounts plan past)))
+    (held_of (λ n. acts n log) (jobs past)) (lent_to plan (λ n. acts n log) (is_waived log) (jobs past)) (owed log) (free plan log))
     → AreTrue plan (slot_entry caller slot ws (Some (j.number, act)) finished ∷ past)
 from_act plan past caller slot ws finished j act h agree =
     let log : Log = slot_entry caller slot ws (Some (j.number, act)) finished ∷ past in
     let w = slot_waives plan caller slot ws (Some (j.number, act)) finished past h.serve.numbered h.waivers in
     let a = ran_acts caller slot ws finished past j.number act in
     record {
-      agree = subst (λ o. Agree plan (after_act plan o (acts j.number past) act (after_waivers past ws (accounts plan past))) (held_of (λ n. acts n log) (jobs past)) (lent_to plan (λ n. acts n log) (is_waived log) (jobs past)) (owed log) (free plan log)) (sym h.waits.known) agree;
+      agree = subst (λ o. Agree plan (after_act plan o (acts j.number past) act (after_waivers past ws (accounts plan past)))
+          (held_of (λ n. acts n log) (jobs past)) (lent_to plan (λ n. acts n log) (is_waived log) (jobs past)) (owed log) (free plan log))
+          (sym h.waits.known) agree;
       taken = h.true_before.taken;
-      one_each = λ t. omega (arith, h.true_before.one_each t, pending_after plan (λ n. acts n past) (λ n. acts n log) (is_waived past) (is_waived log) (λ n. is_among n ws) (jobs past) j act h.serve.numbered h.waits.known w a (was_pending plan past ws j act h) t);
+      one_each = λ t. omega (
+        arith,
+        h.true_before.one_each t,
+        pending_after plan (λ n. acts n past) (λ n. acts n log) (is_waived past)
+            (is_waived log) (λ n. is_among n ws) (jobs past) j act h.serve.numbered h.waits.known w a (was_pending plan past ws j act h) t,
+      );
       idle_waived = λ n e. elim (cases_eq n j.number) [
         | inl is ↦ absurd (true≢false (sym e ∙ (ap (is_waived log) is ∙ h.waits.new)))
-        | inr apart ↦ sym (a.other n apart) ∙ waived_empty (λ n. acts n past) (is_waived past) (is_waived log) (λ n. is_among n ws) w h.true_before.idle_waived n e
+        | inr apart ↦ sym (a.other n apart) ∙ waived_empty (λ n. acts n past) (is_waived past) (is_waived log) (λ n. is_among n ws) w
+            h.true_before.idle_waived n e
       ];
     }

@@ -1,5 +1,6 @@
 -- A job or collection that is taken keeps the accounts true.
-use Rattle.std.proofs.Common.{◌≡◌, ℕ, ◌+◌, ◌<◌, ◌≤◌, ◌==◌, ◌&&◌, not, Bool, true, false, cond, eqb, List, [], ◌∷◌, ◌++◌, length, drop, count_by, inl, inr, refl, ap, sym, ◌∙◌, arith}
+use Rattle.std.proofs.Common.{◌≡◌, ℕ, ◌+◌, ◌<◌, ◌≤◌, ◌==◌, ◌&&◌, not, Bool, true, false, cond, eqb, List, [], ◌∷◌, ◌++◌, length, drop}
+use Rattle.std.proofs.Common.{count_by, inl, inr, refl, ap, sym, ◌∙◌, arith}
 use Rattle.std.specs.List.{AllByRecursion, list_any}
 use Rattle.std.proofs.lemmas.Bool.{cases_eq, leb-false, ltb-false, or_parts, ne_eqb}
 use Rattle.std.proofs.lemmas.List.Sums.{sum_by-cons, sum_by_push}
@@ -21,7 +22,8 @@ use Rattle.die_log.proofs.Tokens.Sums.{one_if, some_if}
 use Rattle.die_log.proofs.Tokens.Moves.{agree_same, agree_admitted}
 
 -- where no test passes, none is counted
-none_counted : {X : Type 0} (p q : X → Bool) (xs : List X) → ((x : X) → p x ≡ false → q x ≡ false) → list_any p xs ≡ false → count_by q xs ≡ 0
+none_counted : {X : Type 0} (p q : X → Bool) (xs : List X) → ((x : X) → p x ≡ false → q x ≡ false) → list_any p xs ≡ false → count_by q xs
+    ≡ 0
 none_counted p q [] f h = refl
 none_counted p q (x ∷ xs) f h =
     let parts = or_parts (p x) (list_any p xs) h in
@@ -53,7 +55,8 @@ at_most true true = omega arith
 at_most true false = omega arith
 at_most false c = omega arith
 
-pub keeps_submit : (plan : DiePlan) (past : Log) (caller : ℕ) (task : ℕ) (release due : ℕ) (ops : List Op) → IsExact plan past → AreTrue plan past
+pub keeps_submit : (plan : DiePlan) (past : Log) (caller : ℕ) (task : ℕ) (release due : ℕ) (ops : List Op) → IsExact plan past
+    → AreTrue plan past
     → AllByRecursion (λ c. c.0 ≡ false) (refusals plan past (events.Submit task release due ops))
     → AreTrue plan (entry caller (events.Submit task release due ops) (accepted plan past (events.Submit task release due ops)) ∷ past)
 keeps_submit plan past caller task release due ops exact h refused =
@@ -64,15 +67,24 @@ keeps_submit plan past caller task release due ops exact h refused =
     let left : left_of own j ≡ writes ops = ap (λ (l : List Act). writes (drop (length l) ops)) (no_acts plan past exact) in
     let old = held_of own (jobs past) in
     record {
-      agree = agree_same plan _ (held_of own (jobs past ++ j ∷ [])) (lent_to plan own (is_waived past) (jobs past)) (held_of own (jobs past ++ j ∷ [])) (lent_to plan own (is_waived past) (jobs past ++ j ∷ [])) (owed past + writes ops) (free plan past) _ (free plan past)
-          (agree_admitted plan (accounts plan past) old (lent_to plan own (is_waived past) (jobs past)) (held_of own (jobs past ++ j ∷ [])) (owed past) (free plan past) task (writes ops) h.agree within has
+      agree = agree_same plan _ (held_of own (jobs past ++ j ∷ [])) (lent_to plan own (is_waived past) (jobs past))
+          (held_of own (jobs past ++ j ∷ [])) (lent_to plan own (is_waived past) (jobs past ++ j ∷ [])) (owed past + writes ops)
+          (free plan past) _ (free plan past)
+          (agree_admitted plan (accounts plan past) old (lent_to plan own (is_waived past) (jobs past)) (held_of own (jobs past ++ j ∷ []))
+          (owed past) (free plan past) task (writes ops) h.agree within has
           (λ t. sum_by_push (λ i. at_task i.task (left_of own i) t) (jobs past) j ∙ ap (λ n. old t + at_task task n t) left))
           (λ t. refl)
           (λ t. omega (arith, sum_by_push (λ i. at_task i.task (lent_of plan own (is_waived past) i) t) (jobs past) j, at_none task t))
           (omega (arith, sum_by_push (λ i. left_of own i) (jobs past) j, left))
           refl;
       taken = all_append (IsTaken plan) (jobs past) (j ∷ []) h.taken (record { task = within; none = λ e. absurd cc }, tt);
-      one_each = λ t. omega (arith, h.one_each t, sum_by_push (λ i. cond ((i.task == t) && is_pending plan own (is_waived past) i) 1 0) (jobs past) j, never (eqb task t));
+      one_each = λ t. omega (
+        arith,
+        h.one_each t,
+        sum_by_push (λ i. cond ((i.task == t) && is_pending plan own (is_waived past) i) 1 0)
+            (jobs past) j,
+        never (eqb task t),
+      );
       idle_waived = h.idle_waived;
     }
 
@@ -87,17 +99,36 @@ keeps_collect plan past caller task release due exact h refused =
     let left : left_of own j ≡ 0 = ap (λ (l : List Act). writes (drop (length l) [])) (no_acts plan past exact) in
     let copied : copied_of own j ≡ 0 = ap (λ (l : List Act). count_by is_copy_program l) (no_acts plan past exact) in
     let lent : lent_of plan own gone j ≡ 0 = lent_nothing (is_pending plan own gone j) (copied_of own j) copied in
-    let idle : pending_of plan own gone (jobs past) task ≡ 0 = none_counted _ (λ i. (i.task == task) && is_pending plan own gone i) (jobs past) (λ i e. turned i.collects (i.task == task) (not (are_all plan i (own i.number))) (not (gone i.number)) e) refused.1.1.1.0 in
+    let idle : pending_of plan own gone (jobs past) task
+    ≡ 0 = none_counted _ (λ i. (i.task == task) && is_pending plan own gone i) (jobs past)
+    (λ i e. turned i.collects (i.task == task) (not (are_all plan i (own i.number))) (not (gone i.number)) e) refused.1.1.1.0 in
     record {
-      agree = agree_same plan (accounts plan past) (held_of own (jobs past)) (lent_to plan own gone (jobs past)) (held_of own (jobs past ++ j ∷ [])) (lent_to plan own gone (jobs past ++ j ∷ [])) (owed past) (free plan past) _ (free plan past)
+      agree = agree_same plan (accounts plan past) (held_of own (jobs past)) (lent_to plan own gone (jobs past))
+          (held_of own (jobs past ++ j ∷ [])) (lent_to plan own gone (jobs past ++ j ∷ [])) (owed past) (free plan past) _ (free plan past)
           h.agree
-          (λ t. omega (arith, sum_by_push (λ i. at_task i.task (left_of own i) t) (jobs past) j, ap (λ n. at_task task n t) left, at_none task t))
-          (λ t. omega (arith, sum_by_push (λ i. at_task i.task (lent_of plan own gone i) t) (jobs past) j, ap (λ n. at_task task n t) lent, at_none task t))
+          (λ t. omega (
+            arith,
+            sum_by_push (λ i. at_task i.task (left_of own i) t) (jobs past) j,
+            ap (λ n. at_task task n t) left,
+            at_none
+                task t,
+          ))
+          (λ t. omega (
+            arith,
+            sum_by_push (λ i. at_task i.task (lent_of plan own gone i) t) (jobs past) j,
+            ap (λ n. at_task task n t) lent,
+            at_none task t,
+          ))
           (omega (arith, sum_by_push (λ i. left_of own i) (jobs past) j, left))
           refl;
       taken = all_append (IsTaken plan) (jobs past) (j ∷ []) h.taken (record { task = within; none = λ e. refl }, tt);
       one_each = λ t. elim (cases_eq t task) [
-        | inl e ↦ rw e (omega (arith, idle, sum_by_push (λ i. cond ((i.task == task) && is_pending plan own gone i) 1 0) (jobs past) j, at_most (eqb task task) (is_pending plan own gone j)))
+        | inl e ↦ rw e (omega (
+          arith,
+          idle,
+          sum_by_push (λ i. cond ((i.task == task) && is_pending plan own gone i) 1 0) (jobs past) j,
+          at_most (eqb task task) (is_pending plan own gone j),
+        ))
         | inr apart ↦ omega (
           arith,
           h.one_each t,

@@ -27,7 +27,8 @@ unfolding answer
 after_five_slots = refl
 
 -- a job that is not done has no completion in its row
-rows_after_four : rows roomy four ≡ record { number = 0; release = 2; due = 5; work = 2; completion = Some 4 } ∷ record { number = 1; release = 0; due = 5; work = 2; completion = None } ∷ []
+rows_after_four : rows roomy four ≡ record { number = 0; release = 2; due = 5; work = 2; completion = Some 4 }
+    ∷ record { number = 1; release = 0; due = 5; work = 2; completion = None } ∷ []
 unfolding answer
 rows_after_four = refl
 

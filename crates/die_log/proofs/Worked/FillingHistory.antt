@@ -31,7 +31,8 @@ full = run tight [] full_calls
 abbrev pub one_less : Log
 one_less = run tight [] (opening_calls ++ waiver 16 (submit 17 19 (put 4 ∷ []) ∷ slot ∷ []))
 
-carries : numbers full ≡ Some 0 ∷ Some 0 ∷ Some 0 ∷ Some 0 ∷ None ∷ Some 2 ∷ Some 2 ∷ None ∷ Some 4 ∷ Some 4 ∷ None ∷ Some 6 ∷ Some 6 ∷ None ∷ Some 8 ∷ Some 8 ∷ None ∷ Some 10 ∷ Some 10 ∷ []
+carries : numbers full ≡ Some 0 ∷ Some 0 ∷ Some 0 ∷ Some 0 ∷ None ∷ Some 2 ∷ Some 2 ∷ None ∷ Some 4 ∷ Some 4 ∷ None ∷ Some 6 ∷ Some 6 ∷ None
+    ∷ Some 8 ∷ Some 8 ∷ None ∷ Some 10 ∷ Some 10 ∷ []
 unfolding answer
 carries = refl
 

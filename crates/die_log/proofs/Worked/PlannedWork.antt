@@ -40,8 +40,24 @@ tokens = refl
 
 bound : MeetsBound (small 6)
 bound = record {
-  shape = record { some_blocks = omega arith; few_blocks = omega arith; some_pages = omega arith; few_pages = omega arith; some_slots = omega arith; few_slots = omega arith };
-  limits = record { some_tasks = omega arith; few_tasks = omega arith; some_logical = omega arith; some_alpha = omega arith; alpha_fits = omega arith; some_cap = All-from_recursion (λ (c : ℕ). 1 ≤ c) (6 ∷ []) (omega arith, tt) };
+  shape = record {
+    some_blocks = omega arith;
+    few_blocks = omega arith;
+    some_pages = omega arith;
+    few_pages = omega arith;
+    some_slots =
+        omega arith;
+    few_slots = omega arith;
+  };
+  limits = record {
+    some_tasks = omega arith;
+    few_tasks = omega arith;
+    some_logical = omega arith;
+    some_alpha = omega arith;
+    alpha_fits =
+        omega arith;
+    some_cap = All-from_recursion (λ (c : ℕ). 1 ≤ c) (6 ∷ []) (omega arith, tt);
+  };
   closed = omega arith;
   live = omega arith;
 }

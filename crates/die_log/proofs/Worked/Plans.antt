@@ -22,7 +22,14 @@ tight = record { shape = record { blocks = 4; pages = 4; erase_slots = 3 }; logi
 
 -- the accounts of a plan of one task
 abbrev pub amounts : DiePlan → ℕ → ℕ → ℕ → ℕ → Accounts
-amounts plan spare balance hold reserve = record { plan = plan; spare = spare; balances = balance ∷ []; holds = hold ∷ []; reserves = reserve ∷ [] }
+amounts plan spare balance hold reserve = record {
+  plan = plan;
+  spare = spare;
+  balances = balance ∷ [];
+  holds = hold
+      ∷ [];
+  reserves = reserve ∷ [];
+}
 
 -- a page of sixteen bytes of one value
 abbrev pub bytes : ℕ → PageData

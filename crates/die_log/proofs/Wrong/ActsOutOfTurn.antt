@@ -1,4 +1,5 @@
--- Acts of a job that wasn't taken, before its release, behind its end, and out of the order of its operations; and one of a waived collection.
+-- Acts of a job that wasn't taken, before its release, behind its end, and out of the order of its operations; and one of a waived
+-- collection.
 use Rattle.std.proofs.Common.{◌≡◌, false, [], ◌∷◌, Some, refl, arith}
 use Rattle.std.proofs.lemmas.Option.{none-some}
 use Rattle.slot_types.specs.declared.acts.Act.TheVariants as does

@@ -1,5 +1,6 @@
 -- Entries made by hand, and what legal ones would have to meet.
-use Rattle.std.proofs.Common.{◌≡◌, ℕ, true, false, Bool, List, [], ◌∷◌, ◌++◌, Option, Some, None, MatchBool, MatchOption, slice_get, sym, ◌∙◌, subst}
+use Rattle.std.proofs.Common.{◌≡◌, ℕ, true, false, Bool, List, [], ◌∷◌, ◌++◌, Option, Some, None, MatchBool, MatchOption, slice_get, sym}
+use Rattle.std.proofs.Common.{◌∙◌, subst}
 use Rattle.std.proofs.lemmas.Option.{same_Some}
 use Rattle.slot_types.specs.declared.plans.DiePlan.{DiePlan}
 use Rattle.slot_types.specs.declared.acts.Act.{Act}
@@ -17,26 +18,40 @@ abbrev pub idle : ℕ → Entry
 idle now = record { caller = 0; event = Slot; reply = replies.Slot (record { slot = now; waived = []; ran = None; finished = None }) }
 
 abbrev pub ran : ℕ → ℕ → Act → Entry
-ran now number act = record { caller = 0; event = Slot; reply = replies.Slot (record { slot = now; waived = []; ran = Some (number, act); finished = None }) }
+ran now number act = record {
+  caller = 0;
+  event = Slot;
+  reply = replies.Slot
+      (record { slot = now; waived = []; ran = Some (number, act); finished = None });
+}
 
 abbrev pub waives : ℕ → ℕ → ℕ → Entry
-waives now number given = record { caller = 0; event = Slot; reply = replies.Slot (record { slot = now; waived = record { number = number; given = given } ∷ []; ran = None; finished = None }) }
+waives now number given = record {
+  caller = 0;
+  event = Slot;
+  reply = replies.Slot
+      (record { slot = now; waived = record { number = number; given = given } ∷ []; ran = None; finished = None });
+}
 
 -- a job of task 0 that was taken under this number
 abbrev pub taken : ℕ → ℕ → List Op → ℕ → Entry
 taken release due ops number = record { caller = 0; event = Submit 0 release due ops; reply = replies.Taken number }
 
 -- the act is one of the job that its number names
-pub act_of_job : (plan : DiePlan) (past : Log) (now number : ℕ) (act : Act) (j : Job) → job_at past number ≡ Some j → IsLegal plan (ran now number act ∷ past) → IsLegalAct plan past (waived past ++ []) j number act
+pub act_of_job : (plan : DiePlan) (past : Log) (now number : ℕ) (act : Act) (j : Job) → job_at past number ≡ Some j
+    → IsLegal plan (ran now number act ∷ past) → IsLegalAct plan past (waived past ++ []) j number act
 act_of_job plan past now number act j is h =
-    let a = h.1.slot.1.1 in subst (λ (i : Job). IsLegalAct plan past (waived past ++ []) i number act) (same_Some h.1.slot.1.0 j (sym a.known ∙ is)) a
+    let a = h.1.slot.1.1 in subst (λ (i : Job). IsLegalAct plan past (waived past ++ []) i number act)
+    (same_Some h.1.slot.1.0 j (sym a.known ∙ is)) a
 
 -- the waiver is one of the collection that its number names
-pub waiver_of_job : (plan : DiePlan) (past : Log) (now number given : ℕ) (j : Job) → job_at past number ≡ Some j → IsLegal plan (waives now number given ∷ past)
+pub waiver_of_job : (plan : DiePlan) (past : Log) (now number given : ℕ) (j : Job) → job_at past number ≡ Some j
+    → IsLegal plan (waives now number given ∷ past)
     → IsWaiver plan past (waived past) (accounts plan past) j (record { number = number; given = given })
 waiver_of_job plan past now number given j is h =
     let w = h.1.slot.0.1 in
-    subst (λ (i : Job). IsWaiver plan past (waived past) (accounts plan past) i (record { number = number; given = given })) (same_Some h.1.slot.0.0 j (sym w.known ∙ is)) w
+    subst (λ (i : Job). IsWaiver plan past (waived past) (accounts plan past) i (record { number = number; given = given }))
+    (same_Some h.1.slot.0.0 j (sym w.known ∙ is)) w
 
 -- no operation is done by an act of a collection
 abbrev pub IsOfCollection : Act → Type 0
@@ -69,10 +84,13 @@ no_operation : (op : Option Op) (act : Act) → IsOfCollection act → MatchOpti
 no_operation None act c h = h
 no_operation (Some op) act c h = not_done op act c h
 
-either : (plan : DiePlan) (past : Log) (number : ℕ) (act : Act) (b : Bool) (op : Option Op) → IsOfCollection act → MatchBool b (IsNextCollectAct plan past number act) (MatchOption op ⊥ (λ o. Does o act)) → IsNextCollectAct plan past number act
+either : (plan : DiePlan) (past : Log) (number : ℕ) (act : Act) (b : Bool) (op : Option Op) → IsOfCollection act
+    → MatchBool b (IsNextCollectAct plan past number act) (MatchOption op ⊥ (λ o. Does o act)) → IsNextCollectAct plan past number act
 either plan past number act true op c h = h
 either plan past number act false op c h = absurd (no_operation op act c h)
 
 -- whichever job the number names, its act is a collection's next one
-pub next_of : (plan : DiePlan) (past : Log) (now number : ℕ) (act : Act) → IsOfCollection act → IsLegal plan (ran now number act ∷ past) → IsNextCollectAct plan past number act
-next_of plan past now number act c h = let j = h.1.slot.1.0 in either plan past number act j.collects (slice_get j.ops (work j.number past)) c h.1.slot.1.1.next
+pub next_of : (plan : DiePlan) (past : Log) (now number : ℕ) (act : Act) → IsOfCollection act → IsLegal plan (ran now number act ∷ past)
+    → IsNextCollectAct plan past number act
+next_of plan past now number act c h = let j = h.1.slot.1.0 in either plan past number act j.collects (slice_get j.ops (work j.number past))
+    c h.1.slot.1.1.next

@@ -18,7 +18,12 @@ abbrev resumed : Log
 resumed = run tight full (collect 19 40 ∷ slot ∷ slot ∷ slot ∷ submit 22 30 (Read 2 ∷ []) ∷ slot ∷ [])
 
 abbrev ends_early : Entry
-ends_early = record { caller = 0; event = Slot; reply = replies.Slot (record { slot = 23; waived = []; ran = Some (11, does.Erase 1); finished = Some 11 }) }
+ends_early = record {
+  caller = 0;
+  event = Slot;
+  reply = replies.Slot
+      (record { slot = 23; waived = []; ran = Some (11, does.Erase 1); finished = Some 11 });
+}
 
 abbrev finished_of : Reply → Option ℕ
 finished_of (replies.Slot s) = s.finished

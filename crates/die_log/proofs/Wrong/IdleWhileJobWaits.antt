@@ -28,7 +28,22 @@ read_legal = (
   record {
     numbered = refl;
     in_time = tt;
-    slot = (tt, (its_job, record { known = refl; released = omega arith; undone = refl; unwaived = refl; next = refl; tells = refl; finds = tt }));
+    slot = (
+      tt,
+      (
+        its_job,
+        record {
+          known = refl;
+          released = omega arith;
+          undone = refl;
+          unwaived = refl;
+          next = refl;
+          tells = refl;
+          finds =
+              tt;
+        },
+      ),
+    );
     room = omega arith;
   },
 )

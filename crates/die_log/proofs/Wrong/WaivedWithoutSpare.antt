@@ -13,7 +13,12 @@ abbrev late : Log
 late = run tight full (collect 19 40 ∷ [])
 
 abbrev waives : Entry
-waives = record { caller = 0; event = Slot; reply = replies.Slot (record { slot = 19; waived = record { number = 11; given = 2 } ∷ []; ran = None; finished = None }) }
+waives = record {
+  caller = 0;
+  event = Slot;
+  reply = replies.Slot
+      (record { slot = 19; waived = record { number = 11; given = 2 } ∷ []; ran = None; finished = None });
+}
 
 not_legal : IsLegal tight (waives ∷ late) → ⊥
 unfolding answer

@@ -1,5 +1,6 @@
 -- Events that keep to a plan, and two lists that don't.
-use Rattle.std.proofs.Common.{◌≡◌, ℕ, zero, suc, ◌+◌, ◌-◌, ◌<◌, ◌≤◌, ◌%◌, ◌++◌, false, List, [], ◌∷◌, replicate, length, count_by, refl, arith}
+use Rattle.std.proofs.Common.{◌≡◌, ℕ, zero, suc, ◌+◌, ◌-◌, ◌<◌, ◌≤◌, ◌%◌, ◌++◌, false, List, [], ◌∷◌, replicate, length, count_by, refl}
+use Rattle.std.proofs.Common.{arith}
 use Rattle.std.specs.Prelude.{All, AllPairs}
 use Rattle.std.specs.List.{AllByRecursion}
 use Rattle.std.proofs.Math.Nat.{mod-eq_of_lt}
@@ -33,14 +34,45 @@ three = refl
 
 planned : All (IsPlanned (small 6) (each_ten 2) 20) (come (Read 0) 10)
 planned = All-from_recursion (IsPlanned (small 6) (each_ten 2) 20) (come (Read 0) 10) (
-  record { task = omega arith; comes = refl; slot = record { multiple = refl; before_end = omega arith; due_limit = omega arith }; due = refl },
+  record {
+    task = omega arith;
+    comes = refl;
+    slot = record { multiple = refl; before_end = omega arith; due_limit = omega arith };
+    due =
+        refl;
+  },
   (
-    record { task = omega arith; comes = refl; due = refl; due_limit = omega arith; some = omega arith; few = omega arith; pages = All-from_recursion (λ op. page_of op < 2) (Read 0 ∷ []) (omega arith, tt); few_writes = omega arith },
-    (record { task = omega arith; comes = refl; due = refl; due_limit = omega arith; some = omega arith; few = omega arith; pages = All-from_recursion (λ op. page_of op < 2) (Write 1 (record { 0 = replicate 16 17 }) ∷ []) (omega arith, tt); few_writes = omega arith }, tt),
+    record {
+      task = omega arith;
+      comes = refl;
+      due = refl;
+      due_limit = omega arith;
+      some = omega arith;
+      few = omega arith;
+      pages =
+          All-from_recursion (λ op. page_of op < 2) (Read 0 ∷ []) (omega arith, tt);
+      few_writes = omega arith;
+    },
+    (
+      record {
+        task = omega arith;
+        comes = refl;
+        due = refl;
+        due_limit = omega arith;
+        some = omega arith;
+        few = omega arith;
+        pages =
+            All-from_recursion (λ op. page_of op < 2) (Write 1 (record { 0 = replicate 16 17 }) ∷ []) (omega arith, tt);
+        few_writes = omega
+            arith;
+      },
+      tt,
+    ),
   ),
 )
 
-collected : (task slot : ℕ) → task < 1 → IsCollectSlot (each_ten 2) 20 task slot → count_by (is_collection_at task slot) (come (Read 0) 10) ≡ 1
+collected : (task slot : ℕ) → task < 1 → IsCollectSlot (each_ten 2) 20 task slot → count_by (is_collection_at task slot) (come (Read 0) 10)
+    ≡ 1
 collected zero zero lt at = refl
 collected zero (suc slot) lt at = absurd (omega (arith, mod-eq_of_lt {n = suc slot} {m = 20} at.before_end, at.multiple))
 collected (suc task) slot lt at = absurd (omega (arith, lt))
@@ -73,7 +105,11 @@ keeps = record {
 
 -- a second job after nine slots comes too early
 early : KeepsPlan (small 6) (each_ten 2) (history (Read 0) 9) → ⊥
-early h = omega (arith, h.apart 1 2 (record { at = 0; collects = false; task = 0; release = 0; due = 0; ops = [] }) (omega arith) (omega arith) refl refl refl)
+early h = omega (
+  arith,
+  h.apart 1 2 (record { at = 0; collects = false; task = 0; release = 0; due = 0; ops = [] }) (omega arith)
+      (omega arith) refl refl refl,
+)
 
 -- and page 2 is not on the die
 beyond : KeepsPlan (small 6) (each_ten 2) (history (Read 2) 10) → ⊥

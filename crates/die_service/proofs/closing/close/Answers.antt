@@ -11,7 +11,8 @@ close_each-requires-clause-own g c =
     let ps = c.args.passes.items in
     let qs = c.first_out-out.new.passes in
     let zero : c.first_out-out.result ≡ 0 = omega (arith, c.if-out-gt0.false) in
-    let told : AreTold ps 0 qs = subst (λ (n : ℕ). AreTold ps n qs) zero (subst (λ (xs : List DiePass). AreTold xs c.first_out-out.result qs) c.as_mut_slice.ensures.value c.first_out-out.ensures.told) in
+    let told : AreTold ps 0 qs = subst (λ (n : ℕ). AreTold ps n qs) zero
+    (subst (λ (xs : List DiePass). AreTold xs c.first_out-out.result qs) c.as_mut_slice.ensures.value c.first_out-out.ensures.told) in
     let whole = written c.args.passes.len ps qs (told_length ps 0 qs told) (search rules) in
     rw whole (told_locks ps 0 qs told ∙ (c.requires.own ∙ sym c.store.view_is))
 
@@ -20,7 +21,8 @@ close_each-requires-clause-sole g c =
     let ps = c.args.passes.items in
     let qs = c.first_out-out.new.passes in
     let zero : c.first_out-out.result ≡ 0 = omega (arith, c.if-out-gt0.false) in
-    let told : AreTold ps 0 qs = subst (λ (n : ℕ). AreTold ps n qs) zero (subst (λ (xs : List DiePass). AreTold xs c.first_out-out.result qs) c.as_mut_slice.ensures.value c.first_out-out.ensures.told) in
+    let told : AreTold ps 0 qs = subst (λ (n : ℕ). AreTold ps n qs) zero
+    (subst (λ (xs : List DiePass). AreTold xs c.first_out-out.result qs) c.as_mut_slice.ensures.value c.first_out-out.ensures.told) in
     let whole = written c.args.passes.len ps qs (told_length ps 0 qs told) (search rules) in
     All-from_recursion (λ (p : DiePass). p.view.sole ≡ true) _ (rw whole (told_sole ps qs told))
 
@@ -29,19 +31,23 @@ returns-clause-closed g c =
     let ps = c.args.passes.items in
     let qs = c.first_out-out.new.passes in
     let zero : c.first_out-out.result ≡ 0 = omega (arith, c.if-out-gt0.false) in
-    let told : AreTold ps 0 qs = subst (λ (n : ℕ). AreTold ps n qs) zero (subst (λ (xs : List DiePass). AreTold xs c.first_out-out.result qs) c.as_mut_slice.ensures.value c.first_out-out.ensures.told) in
+    let told : AreTold ps 0 qs = subst (λ (n : ℕ). AreTold ps n qs) zero
+    (subst (λ (xs : List DiePass). AreTold xs c.first_out-out.result qs) c.as_mut_slice.ensures.value c.first_out-out.ensures.told) in
     let whole = written c.args.passes.len ps qs (told_length ps 0 qs told) (search rules) in
-    closed_each g.N.Nand.never_fails ps qs c.close_each.result.items told (subst (λ (xs : List DiePass). AllZip (HasLogOf g.N.Nand.never_fails) xs c.close_each.result.items) whole c.close_each.ensures)
+    closed_each g.N.Nand.never_fails ps qs c.close_each.result.items told
+    (subst (λ (xs : List DiePass). AllZip (HasLogOf g.N.Nand.never_fails) xs c.close_each.result.items) whole c.close_each.ensures)
 
 pub returns-clause-runs : goal.returns-clause-runs
-returns-clause-runs g c = λ never. All-from_recursion (λ (die : Core g.row.N.Denot). die.stopped ≡ false) _ (none_stopped g.N.Nand.never_fails _ _ never c.close_each.ensures)
+returns-clause-runs g c = λ never. All-from_recursion (λ (die : Core g.row.N.Denot). die.stopped ≡ false) _
+    (none_stopped g.N.Nand.never_fails _ _ never c.close_each.ensures)
 
 pub returns-then-out-gt0-clause-own : goal.returns-then-out-gt0-clause-own
 returns-then-out-gt0-clause-own g c =
     let ps = c.args.passes.items in
     let qs = c.first_out-out.new.passes in
     let out = c.first_out-out.result in
-    let told : AreTold ps out qs = subst (λ (xs : List DiePass). AreTold xs out qs) c.as_mut_slice.ensures.value c.first_out-out.ensures.told in
+    let told : AreTold ps out qs = subst (λ (xs : List DiePass). AreTold xs out qs) c.as_mut_slice.ensures.value
+    c.first_out-out.ensures.told in
     let whole = written c.args.passes.len ps qs (told_length ps out qs told) (search rules) in
     rw whole (told_locks ps out qs told ∙ c.requires.own)
 
@@ -50,7 +56,8 @@ returns-then-out-gt0-clause-sole g c = λ sole.
     let ps = c.args.passes.items in
     let qs = c.first_out-out.new.passes in
     let out = c.first_out-out.result in
-    let told : AreTold ps out qs = subst (λ (xs : List DiePass). AreTold xs out qs) c.as_mut_slice.ensures.value c.first_out-out.ensures.told in
+    let told : AreTold ps out qs = subst (λ (xs : List DiePass). AreTold xs out qs) c.as_mut_slice.ensures.value
+    c.first_out-out.ensures.told in
     let zero = sole_none_out ps out qs told (recursion_from_All (λ (p : DiePass). p.view.sole ≡ true) ps sole) in
     absurd (omega (arith, zero, c.if-out-gt0.true))
 
@@ -59,6 +66,7 @@ returns-in-Err-clause-own g c =
     let ps = c.args.passes.items in
     let qs = c.first_out-out.new.passes in
     let out = c.first_out-out.result in
-    let told : AreTold ps out qs = subst (λ (xs : List DiePass). AreTold xs out qs) c.as_mut_slice.ensures.value c.first_out-out.ensures.told in
+    let told : AreTold ps out qs = subst (λ (xs : List DiePass). AreTold xs out qs) c.as_mut_slice.ensures.value
+    c.first_out-out.ensures.told in
     let whole = written c.args.passes.len ps qs (told_length ps out qs told) (search rules) in
     rw whole (told_locks ps out qs told ∙ c.requires.own)

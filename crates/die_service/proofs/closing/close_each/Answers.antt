@@ -40,11 +40,13 @@ loop-pass-preserved g c =
       can_next = tt;
       is_finite = tt;
       room = rw c.push_reserved.ensures.capacity i.room;
-      passes = i.passes ∙ (ap (λ xs. c.loop-pass.yielded ++ xs) step ∙ sym (append_assoc c.loop-pass.yielded (c.in-Some.pass ∷ []) (into_iter_items c.next.new.self)));
+      passes = i.passes ∙ (ap (λ xs. c.loop-pass.yielded ++ xs) step
+          ∙ sym (append_assoc c.loop-pass.yielded (c.in-Some.pass ∷ []) (into_iter_items c.next.new.self)));
       cores = c.push_reserved.ensures.len ∙ (ap (λ n. n + 1) i.cores ∙ sym (length-append c.loop-pass.yielded (c.in-Some.pass ∷ [])));
       own = next_own (λ (p : DiePass). p.lock) _ _ _ _ c.in-Some.pass c.in-Some-next.die i.own step c.in-Some-next.ensures.items;
       sole = (subst (AllByRecursion (λ (p : DiePass). p.view.sole ≡ true)) step i.sole).1;
-      closed = rw c.push_reserved.ensures.items (one_closed g.N.Nand.never_fails c.loop-pass.yielded c.loop-pass.cores.items c.in-Some.pass c.into_core-core.result i.closed has);
+      closed = rw c.push_reserved.ensures.items (one_closed g.N.Nand.never_fails c.loop-pass.yielded c.loop-pass.cores.items c.in-Some.pass
+          c.into_core-core.result i.closed has);
     }
 
 pub returns : goal.returns
@@ -52,5 +54,6 @@ returns g c =
     let gives = c.into_iter-pass-iterator.ensures.into_iter_gives in
     let whole : vec_len c.args.passes ≡ length c.args.passes.items = search rules in
     let given = YieldsList-from_vec c.args.passes.items gives.0 (gives.1 ∙ whole) in
-    let all = YieldsList-end given c.loop-pass.yielded c.loop-pass.pass-iterator c.loop-pass.yielded_by c.next.result c.next.new.self c.in-None.is c.next.ensures.steps in
+    let all = YieldsList-end given c.loop-pass.yielded c.loop-pass.pass-iterator c.loop-pass.yielded_by c.next.result c.next.new.self
+    c.in-None.is c.next.ensures.steps in
     rw (sym all.0, as_they_are c.loop-pass.yielded) c.loop-pass.invariant.closed

@@ -13,5 +13,6 @@ invariant-loop-pass g l = record {
   drivers : vec_len l.drivers ≡ length l.yielded;
   own : map (λ pass. pass.lock) (into_iter_items l.pass-iterator) ≡ l.dies;
   courses : length (into_iter_items l.courses) ≡ length (into_iter_items l.pass-iterator);
-  made : l.drivers.items ++ first_standings (into_iter_items l.pass-iterator) (into_iter_items l.courses) ≡ first_standings l.fn.passes.items l.fn.courses.items;
+  made : l.drivers.items ++ first_standings (into_iter_items l.pass-iterator) (into_iter_items l.courses)
+      ≡ first_standings l.fn.passes.items l.fn.courses.items;
 }

@@ -15,5 +15,7 @@ loop-plan-init g c =
       passes = c.in_ok-passes.ensures.len;
       own = rw (c.in_ok-dies.ensures.items, c.in_ok-passes.ensures.items) refl;
       first = rw c.in_ok-passes.ensures.items refl;
-      ready = rw (c.into_iter-plan-iterator.ensures.into_iter_gives.0, c.into_iter-nands.ensures.rest) (all_ready g.N.Nand.shape_of g.N.Nand.blocks g.N.Nand.failures c.args.plans.items c.args.nands.items c.requires.fresh c.requires.fit served);
+      ready = rw (c.into_iter-plan-iterator.ensures.into_iter_gives.0, c.into_iter-nands.ensures.rest)
+          (all_ready g.N.Nand.shape_of g.N.Nand.blocks g.N.Nand.failures c.args.plans.items c.args.nands.items c.requires.fresh
+          c.requires.fit served);
     }

@@ -6,4 +6,5 @@ use Rattle.die_wear.proofs.wear_texts.put_blocks.Given as goal
 
 abbrev pub invariant-loop-block : goal.invariant-loop-block
 invariant-loop-block l =
-    l.text.items ++ flat_map (λ (p : ℕ × ℕ). block_record l.die p.0 p.1) (enumerate_from l.block (drop l.block l.erases)) ≡ l.initial.text.items ++ block_records l.die l.erases
+    l.text.items ++ flat_map (λ (p : ℕ × ℕ). block_record l.die p.0 p.1) (enumerate_from l.block (drop l.block l.erases))
+    ≡ l.initial.text.items ++ block_records l.die l.erases

@@ -8,7 +8,8 @@ use Rattle.due_queue.proofs.tests.a_thousand_keys_leave_in_order.Goals as goal
 
 pub insert-requires-clause-absent : goal.insert-requires-clause-absent
 insert-requires-clause-absent g c =
-    absent-every (λ (key : Key). key.number < c.loop-number.number) _ _ (λ (below : c.loop-number.number < c.loop-number.number). omega arith) c.loop-number.invariant.1
+    absent-every (λ (key : Key). key.number < c.loop-number.number) _ _
+    (λ (below : c.loop-number.number < c.loop-number.number). omega arith) c.loop-number.invariant.1
 
 pub loop-number-init : goal.loop-number-init
 loop-number-init g c =
@@ -18,5 +19,9 @@ loop-number-init g c =
 pub loop-number-preserved : goal.loop-number-preserved
 loop-number-preserved g c =
     let n = c.loop-number.number in
-    let risen = every (λ (key : Key). key.number < n) (λ (key : Key). key.number < n + 1) (λ key below. omega arith) _ c.loop-number.invariant.1 in
-    (omega (arith, c.insert.ensures.spare, c.loop-number.invariant.0), rw c.insert.ensures.keys (every-inserted is_due_before (λ (key : Key). key.number < n + 1) _ _ (omega arith) risen))
+    let risen = every (λ (key : Key). key.number < n) (λ (key : Key). key.number < n + 1) (λ key below. omega arith) _
+    c.loop-number.invariant.1 in (
+      omega (arith, c.insert.ensures.spare, c.loop-number.invariant.0),
+      rw c.insert.ensures.keys
+          (every-inserted is_due_before (λ (key : Key). key.number < n + 1) _ _ (omega arith) risen),
+    )

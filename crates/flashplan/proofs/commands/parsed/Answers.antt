@@ -10,14 +10,17 @@ use Rattle.flashplan.proofs.commands.parsed.Goals as goal
 pub returns-in_err-matches-clause-fault : goal.returns-in_err-matches-clause-fault
 returns-in_err-matches-clause-fault c =
     fails_still (fault_of flashplan_app (map string_bytes c.args.words.now)) c.in_err-matches.field-0.0 c.from_residual.result
-    (subst (λ a. HasKind (fault_of a (map string_bytes c.args.words.now)) c.in_err-matches.field-0.0) c.requires (c.in_err-matches.ensures.kinds (ap is_simple_and_free c.requires ∙ free_words)))
+    (subst (λ a. HasKind (fault_of a (map string_bytes c.args.words.now)) c.in_err-matches.field-0.0) c.requires
+    (c.in_err-matches.ensures.kinds (ap is_simple_and_free c.requires ∙ free_words)))
     c.from_residual.ensures.1
 
 pub returns-clause-ok : goal.returns-clause-ok
 returns-clause-ok c =
     c.command_met.ensures.asked
-    ∙ ap asked_by ((c.in_ok-matches.ensures.ok.2 (ap is_simple c.requires ∙ simple_words)).1 ∙ ap (λ a. subcommand_of a (map string_bytes c.args.words.now)) c.requires)
+    ∙ ap asked_by ((c.in_ok-matches.ensures.ok.2 (ap is_simple c.requires ∙ simple_words)).1
+    ∙ ap (λ a. subcommand_of a (map string_bytes c.args.words.now)) c.requires)
 
 pub returns-clause-fault : goal.returns-clause-fault
 returns-clause-fault c =
-    sym (ap (λ a. fault_of a (map string_bytes c.args.words.now)) c.requires) ∙ c.in_ok-matches.ensures.kinds (ap is_simple_and_free c.requires ∙ free_words)
+    sym (ap (λ a. fault_of a (map string_bytes c.args.words.now)) c.requires)
+    ∙ c.in_ok-matches.ensures.kinds (ap is_simple_and_free c.requires ∙ free_words)

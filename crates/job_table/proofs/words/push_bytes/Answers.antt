@@ -1,4 +1,5 @@
-use Rattle.std.proofs.Common.{◌+◌, ◌∷◌, ◌++◌, [], Some, List, take, vec_items, vec_len, vec_capacity, append_assoc, append-nil, arith, sym, ap, ◌∙◌}
+use Rattle.std.proofs.Common.{◌+◌, ◌∷◌, ◌++◌, [], Some, List, take, vec_items, vec_len, vec_capacity, append_assoc, append-nil, arith, sym}
+use Rattle.std.proofs.Common.{ap, ◌∙◌}
 use Rattle.std.proofs.lemmas.Option.{slice_get-get_or}
 use Rattle.slot_types.specs.declared.events.Op.TheVariants.{Read, Write, Trim}
 use Rattle.slot_types.specs.declared.pages.PageData.{PageData}
@@ -15,7 +16,8 @@ loop-op-preserved c = elim c.match-op.branch [
         bytes =
             ap vec_items w.bytes-is ∙ c.loop-op.invariant.bytes
             ∙ ap (λ (l : List PageData). c.args.bytes.now.items ++ l)
-            (sym (bytes_more c.args.ops.now c.loop-op.op-index (Read w.in-Read.field-0) at_n ∙ append-nil (bytes_of (take c.loop-op.op-index c.args.ops.now))));
+            (sym (bytes_more c.args.ops.now c.loop-op.op-index (Read w.in-Read.field-0) at_n
+            ∙ append-nil (bytes_of (take c.loop-op.op-index c.args.ops.now))));
         room =
             let left = reads_left c.args.ops.now c.loop-op.op-index (Read w.in-Read.field-0) at_n in
             let len = ap vec_len w.bytes-is in
@@ -31,7 +33,8 @@ loop-op-preserved c = elim c.match-op.branch [
             ap vec_items w.bytes-is ∙ w.push_reserved.ensures.items
             ∙ ap (λ (l : List PageData). l ++ w.in-Write.page ∷ []) c.loop-op.invariant.bytes
             ∙ append_assoc c.args.bytes.now.items (bytes_of (take c.loop-op.op-index c.args.ops.now)) (w.in-Write.page ∷ [])
-            ∙ ap (λ (l : List PageData). c.args.bytes.now.items ++ l) (sym (bytes_more c.args.ops.now c.loop-op.op-index (Write w.in-Write.field-0 w.in-Write.page) at_n));
+            ∙ ap (λ (l : List PageData). c.args.bytes.now.items ++ l)
+            (sym (bytes_more c.args.ops.now c.loop-op.op-index (Write w.in-Write.field-0 w.in-Write.page) at_n));
         room =
             let left = reads_left c.args.ops.now c.loop-op.op-index (Write w.in-Write.field-0 w.in-Write.page) at_n in
             let len = ap vec_len w.bytes-is in
@@ -49,7 +52,8 @@ loop-op-preserved c = elim c.match-op.branch [
             ap vec_items w.bytes-is ∙ w.push_reserved-in-Trim.ensures.items
             ∙ ap (λ (l : List PageData). l ++ blank ∷ []) c.loop-op.invariant.bytes
             ∙ append_assoc c.args.bytes.now.items (bytes_of (take c.loop-op.op-index c.args.ops.now)) (blank ∷ [])
-            ∙ ap (λ (l : List PageData). c.args.bytes.now.items ++ l) (sym (bytes_more c.args.ops.now c.loop-op.op-index (Trim w.in-Trim.field-0) at_n));
+            ∙ ap (λ (l : List PageData). c.args.bytes.now.items ++ l)
+            (sym (bytes_more c.args.ops.now c.loop-op.op-index (Trim w.in-Trim.field-0) at_n));
         room =
             let left = reads_left c.args.ops.now c.loop-op.op-index (Trim w.in-Trim.field-0) at_n in
             let len = ap vec_len w.bytes-is in

@@ -16,7 +16,8 @@ pub loop-low-preserved : goal.loop-low-preserved
 loop-low-preserved c = record {
   inside = omega arith;
   below = c.loop-low.invariant.below;
-  above = λ k d a b. rows-above _ c.requires _ _ c.index-rows-middle.result (omega arith) (cmp-not-less _ _ _ c.lt.ensures c.if-lt.false) k a b d;
+  above = λ k d a b. rows-above _ c.requires _ _ c.index-rows-middle.result (omega arith) (cmp-not-less _ _ _ c.lt.ensures c.if-lt.false) k
+      a b d;
 }
 
 pub returns-then-eq-clause-row : goal.returns-then-eq-clause-row

@@ -31,7 +31,8 @@ returns-in_default-clause-start c =
     last-run c.runs-runs.result.now c.args.carried.now c.loop-i.i c.index-runs-i.result c.loop-i.end c.runs-runs.ensures (omega arith)
     c.loop-i.invariant.inside c.loop-i.invariant.ends c.index-runs-i.is in
     sym (c.loop-i.invariant.same
-    ∙ start-stays c.args.rows.now c.args.carried.now c.args.job c.loop-i.start (c.loop-i.start - 1) c.index-runs-i.result.number (omega arith)
+    ∙ start-stays c.args.rows.now c.args.carried.now c.args.job c.loop-i.start (c.loop-i.start - 1) c.index-runs-i.result.number
+    (omega arith)
     (q.carries (c.loop-i.start - 1) (omega arith) (let r = c.loop-i.invariant.reached in omega arith)) c.in_default.ensures.outside)
 
 pub loop-i-preserved : goal.loop-i-preserved
@@ -55,7 +56,8 @@ loop-i-preserved c =
                 ∙ ap (start_of c.args.rows.now c.args.carried.now c.args.job) (sym same);
             marked =
                 rw (w.start-is, w.marks-is)
-                (marks-step c.args.rows.now c.requires.rise c.args.carried.now c.args.job begin c.loop-i.start c.args.completion c.index-runs-i.result.number _ _
+                (marks-step c.args.rows.now c.requires.rise c.args.carried.now c.args.job begin c.loop-i.start c.args.completion
+                c.index-runs-i.result.number _ _
                 c.loop-i.invariant.marked w.if-begin-start.true c.loop-i.invariant.ordered (λ t a b. q.carries t a (omega arith))
                 w.in-Some.ensures.within w.in-Some.ensures.inside w.in-Some.ensures.named);
           }

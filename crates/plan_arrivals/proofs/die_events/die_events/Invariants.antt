@@ -8,5 +8,6 @@ use Rattle.plan_arrivals.proofs.die_events.die_events.Given as goal
 abbrev pub invariant-loop : goal.invariant-loop
 invariant-loop g l = record {
   within : l.now ≤ l.slots;
-  come : HasCome (option_map (script_of (length l.plan) l.slots) (g.R.Read.remaining l.fn.reader)) (script_left g.R.Read.remaining l.script) l.slots l.now l.die l.events;
+  come : HasCome (option_map (script_of (length l.plan) l.slots) (g.R.Read.remaining l.fn.reader)) (script_left g.R.Read.remaining l.script)
+      l.slots l.now l.die l.events;
 }

@@ -11,4 +11,5 @@ loop-die-preserved c =
     c.in_ok-events.ensures.events (c.if-not-keeps_its_plan.ensures refl) c.loop-die.invariant
 
 pub returns : goal.returns
-returns c kept = all_kept c.args.plan.now c.args.slots c.args.text.now c.loop-die.die c.requires.some (omega (arith, ap (λ (plans : List DiePlan). length plans) c.as_slice-plans.ensures)) c.loop-die.invariant
+returns c kept = all_kept c.args.plan.now c.args.slots c.args.text.now c.loop-die.die c.requires.some
+    (omega (arith, ap (λ (plans : List DiePlan). length plans) c.as_slice-plans.ensures)) c.loop-die.invariant

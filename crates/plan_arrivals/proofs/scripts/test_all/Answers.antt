@@ -10,4 +10,5 @@ loop-plan-preserved c =
     (subst HasPassed c.plan-item.is (c.in-Ok.ensures.passes.0 refl))
 
 pub returns-clause-passed : goal.returns-clause-passed
-returns-clause-passed c = All-same HasPassed c.args.plans.now _ (sym (take_all c.loop-plan.plan-index c.args.plans.now (omega (arith, c.loop-plan-test.false)))) c.loop-plan.invariant
+returns-clause-passed c = All-same HasPassed c.args.plans.now _
+    (sym (take_all c.loop-plan.plan-index c.args.plans.now (omega (arith, c.loop-plan-test.false)))) c.loop-plan.invariant

@@ -5,7 +5,8 @@ use Rattle.std.proofs.lemmas.Result.{IfOk-weaker}
 use Rattle.service_tests.proofs.noted.split_at.Goals as goal
 
 pub returns-clause-same : goal.returns-clause-same
-returns-clause-same g c = map-set_same (λ pass. pass.lock) c.args.passes.now c.args.number c.split.new.pass _ c.split.ensures.same ∙ c.requires
+returns-clause-same g c = map-set_same (λ pass. pass.lock) c.args.passes.now c.args.number c.split.new.pass _ c.split.ensures.same
+    ∙ c.requires
 
 pub returns-clause-own : goal.returns-clause-own
 returns-clause-own g c =

@@ -6,7 +6,10 @@ use Rattle.slot_core.proofs.certificates.rows_in.Goals.{in-Some+in-Some-row_in+i
 pub loop-number-preserved : goal.loop-number-preserved
 loop-number-preserved c =
     elim c.match-job.branch [
-      | in-Some+in-Some-row_in+in-Ok w ↦ w.rows-is ∙ (w.in-Ok.ensures.ok ∙ rows_added _ _ _ _ _ w.in-Some.ensures (sym w.row_in.ensures ∙ w.in-Some-row_in.is) c.loop-number.invariant)
-      | in-Some+in_default-row_in w ↦ w.rows-is ∙ rows_passed _ _ _ _ w.in-Some.ensures (sym w.row_in.ensures ∙ w.in_default-row_in.is) c.loop-number.invariant
-      | in_default w ↦ w.rows-is ∙ rows_past c.args.table.now.jobs c.loop-number.number c.loop-number.rows w.in_default.ensures c.loop-number.invariant
+      | in-Some+in-Some-row_in+in-Ok w ↦ w.rows-is ∙ (w.in-Ok.ensures.ok
+          ∙ rows_added _ _ _ _ _ w.in-Some.ensures (sym w.row_in.ensures ∙ w.in-Some-row_in.is) c.loop-number.invariant)
+      | in-Some+in_default-row_in w ↦ w.rows-is ∙ rows_passed _ _ _ _ w.in-Some.ensures (sym w.row_in.ensures ∙ w.in_default-row_in.is)
+          c.loop-number.invariant
+      | in_default w ↦ w.rows-is ∙ rows_past c.args.table.now.jobs c.loop-number.number c.loop-number.rows w.in_default.ensures
+          c.loop-number.invariant
     ]

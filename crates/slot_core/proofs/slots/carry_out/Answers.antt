@@ -26,99 +26,200 @@ choose-requires g c κs within = (
   (
     c.requires.1.0,
     (
-      subst (λ (ws : List Waived). InSlot c.args.volume.now.accounts.plan g.log c.args.present ws (record c.args.table.now { clock = c.args.present }) (flash_of g.N.Nand.blocks c.args.volume.now)) (sym (ap (λ (r : SlotReply). r.waived) c.requires.1.1.1.1.1.1.1.1.1))
-          (slot_starts g.N.Nand.blocks g.log c.args.present c.args.table.now c.args.volume.now c.requires.1.1.1.1.1.1.1.1.0 c.requires.1.0 c.requires.1.1.1.1.0),
+      subst (λ (ws : List Waived). InSlot c.args.volume.now.accounts.plan g.log c.args.present ws
+          (record c.args.table.now { clock = c.args.present }) (flash_of g.N.Nand.blocks c.args.volume.now))
+          (sym (ap (λ (r : SlotReply). r.waived) c.requires.1.1.1.1.1.1.1.1.1))
+          (slot_starts g.N.Nand.blocks g.log c.args.present c.args.table.now c.args.volume.now c.requires.1.1.1.1.1.1.1.1.0 c.requires.1.0
+          c.requires.1.1.1.1.0),
       c.requires.1.1.1.1.1.0,
     ),
   ),
 )
 
 pub push_idle-requires-clause-few : goal.push_idle-requires-clause-few
-push_idle-requires-clause-few g c = few_of c.args.volume.now.accounts.plan c.args.table.now.jobs c.args.events.now.notes g.log c.requires.1.1.0 c.requires.1.1.1.1.1.1.1.1.0.exact c.requires.1.1.1.0
+push_idle-requires-clause-few g c = few_of c.args.volume.now.accounts.plan c.args.table.now.jobs c.args.events.now.notes g.log
+    c.requires.1.1.0 c.requires.1.1.1.1.1.1.1.1.0.exact c.requires.1.1.1.0
 
 -- An idle slot
 
 pub returns-in_default-clause-logged : goal.returns-in_default-clause-logged
 returns-in_default-clause-logged g c =
-    let grew = slot_grew c.args.volume.now.accounts.plan c.choose.new.volume.accounts.plan g.log c.args.table.now.jobs c.choose.new.table.jobs c.choose.new.told c.in_default.ensures.plan c.requires.1.1.1.1.1.1.1.1.0.jobs_are c.in_default.ensures.idle.0.table.were in
-    rw (c.push_idle.ensures.events, c.as_slice.ensures, ap (λ (r : SlotReply). record r { waived = c.choose.new.told }) c.requires.1.1.1.1.1.1.1.1.1)
-    (idle_told c.args.table.now.jobs c.choose.new.table.jobs c.args.events.now.notes g.log c.args.caller c.args.present c.choose.new.told c.requires.1.1.0 c.requires.1.1.1.0 grew c.requires.1.1.1.1.1.1.1.1.0.now_is)
+    let grew = slot_grew c.args.volume.now.accounts.plan c.choose.new.volume.accounts.plan g.log c.args.table.now.jobs
+    c.choose.new.table.jobs c.choose.new.told c.in_default.ensures.plan c.requires.1.1.1.1.1.1.1.1.0.jobs_are
+    c.in_default.ensures.idle.0.table.were in
+    rw (
+      c.push_idle.ensures.events,
+      c.as_slice.ensures,
+      ap (λ (r : SlotReply). record r { waived = c.choose.new.told })
+          c.requires.1.1.1.1.1.1.1.1.1,
+    )
+    (idle_told c.args.table.now.jobs c.choose.new.table.jobs c.args.events.now.notes g.log c.args.caller c.args.present c.choose.new.told
+    c.requires.1.1.0 c.requires.1.1.1.0 grew c.requires.1.1.1.1.1.1.1.1.0.now_is)
 
 pub returns-in_default-clause-fit : goal.returns-in_default-clause-fit
 returns-in_default-clause-fit g c =
-    let grew = slot_grew c.args.volume.now.accounts.plan c.choose.new.volume.accounts.plan g.log c.args.table.now.jobs c.choose.new.table.jobs c.choose.new.told c.in_default.ensures.plan c.requires.1.1.1.1.1.1.1.1.0.jobs_are c.in_default.ensures.idle.0.table.were in
-    rw c.push_idle.ensures.events (tt, all_fit_stay c.args.table.now.jobs c.choose.new.table.jobs c.args.events.now.notes grew c.requires.1.1.1.0)
+    let grew = slot_grew c.args.volume.now.accounts.plan c.choose.new.volume.accounts.plan g.log c.args.table.now.jobs
+    c.choose.new.table.jobs c.choose.new.told c.in_default.ensures.plan c.requires.1.1.1.1.1.1.1.1.0.jobs_are
+    c.in_default.ensures.idle.0.table.were in
+    rw c.push_idle.ensures.events (
+      tt,
+      all_fit_stay c.args.table.now.jobs c.choose.new.table.jobs c.args.events.now.notes grew
+          c.requires.1.1.1.0,
+    )
 
 pub returns-in_default-clause-kept : goal.returns-in_default-clause-kept
 returns-in_default-clause-kept g c =
-    (idle_kept g.N.Nand.blocks g.log (log_of c.choose.new.table c.push_idle.new.self.notes) c.args.present c.args.caller c.choose.new.told c.choose.new.table c.choose.new.volume _
-    c.in_default.ensures.idle.0 c.in_default.ensures.idle.1 c.in_default.ensures.alive (ap (λ (r : SlotReply). record r { waived = c.choose.new.told }) c.requires.1.1.1.1.1.1.1.1.1) (returns-in_default-clause-logged g c)).0
+    (idle_kept g.N.Nand.blocks g.log (log_of c.choose.new.table c.push_idle.new.self.notes) c.args.present c.args.caller c.choose.new.told
+    c.choose.new.table c.choose.new.volume _
+    c.in_default.ensures.idle.0 c.in_default.ensures.idle.1 c.in_default.ensures.alive
+    (ap (λ (r : SlotReply). record r { waived = c.choose.new.told }) c.requires.1.1.1.1.1.1.1.1.1)
+    (returns-in_default-clause-logged g c)).0
 
 pub returns-in_default-clause-answered : goal.returns-in_default-clause-answered
 returns-in_default-clause-answered g c =
     ap (λ (p : DiePlan). answer p g.log Slot) (sym c.in_default.ensures.plan)
-    ∙ (idle_kept g.N.Nand.blocks g.log (log_of c.choose.new.table c.push_idle.new.self.notes) c.args.present c.args.caller c.choose.new.told c.choose.new.table c.choose.new.volume _
-    c.in_default.ensures.idle.0 c.in_default.ensures.idle.1 c.in_default.ensures.alive (ap (λ (r : SlotReply). record r { waived = c.choose.new.told }) c.requires.1.1.1.1.1.1.1.1.1) (returns-in_default-clause-logged g c)).1
+    ∙ (idle_kept g.N.Nand.blocks g.log (log_of c.choose.new.table c.push_idle.new.self.notes) c.args.present c.args.caller c.choose.new.told
+    c.choose.new.table c.choose.new.volume _
+    c.in_default.ensures.idle.0 c.in_default.ensures.idle.1 c.in_default.ensures.alive
+    (ap (λ (r : SlotReply). record r { waived = c.choose.new.told }) c.requires.1.1.1.1.1.1.1.1.1)
+    (returns-in_default-clause-logged g c)).1
 
 -- A turn
 
 pub take_turn-turn-requires-clause-fits : goal.take_turn-turn-requires-clause-fits
 take_turn-turn-requires-clause-fits g c =
-    head_fits g.N.Nand.blocks g.log c.args.present c.choose.new.told c.choose.new.table c.in-Some.number c.choose.new.volume c.in-Some-job.job c.in-Some.ensures.turn c.in-Some-job.ensures
+    head_fits g.N.Nand.blocks g.log c.args.present c.choose.new.told c.choose.new.table c.in-Some.number c.choose.new.volume
+    c.in-Some-job.job c.in-Some.ensures.turn c.in-Some-job.ensures
 
 pub stop-requires : goal.stop-requires
 stop-requires g c =
     subst (λ (ws : List Waived). AreWaived c.choose.new.table.jobs ws) (sym c.as_slice-in-Err.ensures)
-    (all_waived c.choose.new.volume.accounts.plan g.log c.args.present c.choose.new.told c.choose.new.table (flash_of g.N.Nand.blocks c.choose.new.volume) c.in-Some.number c.in-Some.ensures.turn)
+    (all_waived c.choose.new.volume.accounts.plan g.log c.args.present c.choose.new.told c.choose.new.table
+    (flash_of g.N.Nand.blocks c.choose.new.volume) c.in-Some.number c.in-Some.ensures.turn)
 
 pub note_turn-requires-clause-room : goal.note_turn-requires-clause-room
 note_turn-requires-clause-room g c =
-    work_fits c.choose.new.volume.accounts.plan g.log c.args.present c.choose.new.told c.choose.new.table (flash_of g.N.Nand.blocks c.choose.new.volume) c.in-Some.number c.in-Some.ensures.turn
+    work_fits c.choose.new.volume.accounts.plan g.log c.args.present c.choose.new.told c.choose.new.table
+    (flash_of g.N.Nand.blocks c.choose.new.volume) c.in-Some.number c.in-Some.ensures.turn
 
 pub note_turn-requires-clause-reads : goal.note_turn-requires-clause-reads
 note_turn-requires-clause-reads g c =
-    turn_reads g.N.Nand.blocks g.log c.args.present c.choose.new.told c.choose.new.table c.in-Some.number c.choose.new.volume c.take_turn-turn.new.volume c.in-Some-job.job c.in-Ok.turn c.in-Some.ensures.turn c.in-Some-job.ensures c.in-Ok.ensures.did
+    turn_reads g.N.Nand.blocks g.log c.args.present c.choose.new.told c.choose.new.table c.in-Some.number c.choose.new.volume
+    c.take_turn-turn.new.volume c.in-Some-job.job c.in-Ok.turn c.in-Some.ensures.turn c.in-Some-job.ensures c.in-Ok.ensures.did
 
 pub push_reserved-requires-clause-few : goal.push_reserved-requires-clause-few
-push_reserved-requires-clause-few g c = few_of c.args.volume.now.accounts.plan c.args.table.now.jobs c.args.events.now.notes g.log c.requires.1.1.0 c.requires.1.1.1.1.1.1.1.1.0.exact c.requires.1.1.1.0
+push_reserved-requires-clause-few g c = few_of c.args.volume.now.accounts.plan c.args.table.now.jobs c.args.events.now.notes g.log
+    c.requires.1.1.0 c.requires.1.1.1.1.1.1.1.1.0.exact c.requires.1.1.1.0
 
 pub returns-in-Ok-clause-logged : goal.returns-in-Ok-clause-logged
-returns-in-Ok-clause-logged g c = (turn_told g.N.Nand.blocks c.args.table.now.jobs c.args.events.now.notes c.push_reserved.new.self.notes g.log c.args.caller c.args.present c.work_of-place.result c.choose.new.told c.choose.new.table c.note_turn.new.table c.in-Some.number c.in-Some-job.job c.choose.new.volume c.take_turn-turn.new.volume c.in-Ok.turn c.deed_of-deed.result _
+returns-in-Ok-clause-logged g c = (turn_told g.N.Nand.blocks c.args.table.now.jobs c.args.events.now.notes c.push_reserved.new.self.notes
+    g.log c.args.caller c.args.present c.work_of-place.result c.choose.new.told c.choose.new.table c.note_turn.new.table c.in-Some.number
+    c.in-Some-job.job c.choose.new.volume c.take_turn-turn.new.volume c.in-Ok.turn c.deed_of-deed.result _
     c.requires.1.1.0 c.requires.1.1.1.0
-    (slot_grew c.args.volume.now.accounts.plan c.choose.new.volume.accounts.plan g.log c.args.table.now.jobs c.choose.new.table.jobs c.choose.new.told c.in-Some.ensures.plan c.requires.1.1.1.1.1.1.1.1.0.jobs_are c.in-Some.ensures.turn.table.were)
-    c.requires.1.1.1.1.1.1.1.1.0.now_is c.in-Some-job.ensures c.in-Ok.ensures.did (c.work_of-place.ensures.reads c.in-Some-job.job c.in-Some-job.ensures) (c.work_of-place.ensures.work ∙ ap work_of c.in-Some-job.ensures)
-    c.note_turn.ensures c.deed_of-deed.ensures (c.push_reserved.ensures.events ∙ ap (λ (ws : List Waived). record { caller = c.args.caller; deed = c.deed_of-deed.result; waived = ws } ∷ c.args.events.now.notes) c.as_slice-in-Ok.ensures) (ap (λ (r : SlotReply). record r { waived = c.choose.new.told; ran = Some (c.in-Some.number, c.in-Ok.turn.act); finished = c.finished-reply.result }) c.requires.1.1.1.1.1.1.1.1.1 ∙ ap (λ (o : Option ℕ). record { slot = c.args.present; waived = c.choose.new.told; ran = Some (c.in-Some.number, c.in-Ok.turn.act); finished = o }) c.finished-reply.ensures)).tells
+    (slot_grew c.args.volume.now.accounts.plan c.choose.new.volume.accounts.plan g.log c.args.table.now.jobs c.choose.new.table.jobs
+    c.choose.new.told c.in-Some.ensures.plan c.requires.1.1.1.1.1.1.1.1.0.jobs_are c.in-Some.ensures.turn.table.were)
+    c.requires.1.1.1.1.1.1.1.1.0.now_is c.in-Some-job.ensures c.in-Ok.ensures.did
+    (c.work_of-place.ensures.reads c.in-Some-job.job c.in-Some-job.ensures) (c.work_of-place.ensures.work
+    ∙ ap work_of c.in-Some-job.ensures)
+    c.note_turn.ensures c.deed_of-deed.ensures (c.push_reserved.ensures.events
+    ∙ ap (λ (ws : List Waived). record { caller = c.args.caller; deed = c.deed_of-deed.result; waived = ws } ∷ c.args.events.now.notes)
+    c.as_slice-in-Ok.ensures) (ap (λ (r : SlotReply). record r
+    { waived = c.choose.new.told; ran = Some (c.in-Some.number, c.in-Ok.turn.act); finished = c.finished-reply.result })
+    c.requires.1.1.1.1.1.1.1.1.1 ∙ ap (λ (o : Option ℕ). record
+    { slot = c.args.present; waived = c.choose.new.told; ran = Some (c.in-Some.number, c.in-Ok.turn.act); finished = o })
+    c.finished-reply.ensures)).tells
 
 pub returns-in-Ok-clause-fit : goal.returns-in-Ok-clause-fit
-returns-in-Ok-clause-fit g c = (turn_told g.N.Nand.blocks c.args.table.now.jobs c.args.events.now.notes c.push_reserved.new.self.notes g.log c.args.caller c.args.present c.work_of-place.result c.choose.new.told c.choose.new.table c.note_turn.new.table c.in-Some.number c.in-Some-job.job c.choose.new.volume c.take_turn-turn.new.volume c.in-Ok.turn c.deed_of-deed.result _
+returns-in-Ok-clause-fit g c = (turn_told g.N.Nand.blocks c.args.table.now.jobs c.args.events.now.notes c.push_reserved.new.self.notes g.log
+    c.args.caller c.args.present c.work_of-place.result c.choose.new.told c.choose.new.table c.note_turn.new.table c.in-Some.number
+    c.in-Some-job.job c.choose.new.volume c.take_turn-turn.new.volume c.in-Ok.turn c.deed_of-deed.result _
     c.requires.1.1.0 c.requires.1.1.1.0
-    (slot_grew c.args.volume.now.accounts.plan c.choose.new.volume.accounts.plan g.log c.args.table.now.jobs c.choose.new.table.jobs c.choose.new.told c.in-Some.ensures.plan c.requires.1.1.1.1.1.1.1.1.0.jobs_are c.in-Some.ensures.turn.table.were)
-    c.requires.1.1.1.1.1.1.1.1.0.now_is c.in-Some-job.ensures c.in-Ok.ensures.did (c.work_of-place.ensures.reads c.in-Some-job.job c.in-Some-job.ensures) (c.work_of-place.ensures.work ∙ ap work_of c.in-Some-job.ensures)
-    c.note_turn.ensures c.deed_of-deed.ensures (c.push_reserved.ensures.events ∙ ap (λ (ws : List Waived). record { caller = c.args.caller; deed = c.deed_of-deed.result; waived = ws } ∷ c.args.events.now.notes) c.as_slice-in-Ok.ensures) (ap (λ (r : SlotReply). record r { waived = c.choose.new.told; ran = Some (c.in-Some.number, c.in-Ok.turn.act); finished = c.finished-reply.result }) c.requires.1.1.1.1.1.1.1.1.1 ∙ ap (λ (o : Option ℕ). record { slot = c.args.present; waived = c.choose.new.told; ran = Some (c.in-Some.number, c.in-Ok.turn.act); finished = o }) c.finished-reply.ensures)).fits
+    (slot_grew c.args.volume.now.accounts.plan c.choose.new.volume.accounts.plan g.log c.args.table.now.jobs c.choose.new.table.jobs
+    c.choose.new.told c.in-Some.ensures.plan c.requires.1.1.1.1.1.1.1.1.0.jobs_are c.in-Some.ensures.turn.table.were)
+    c.requires.1.1.1.1.1.1.1.1.0.now_is c.in-Some-job.ensures c.in-Ok.ensures.did
+    (c.work_of-place.ensures.reads c.in-Some-job.job c.in-Some-job.ensures) (c.work_of-place.ensures.work
+    ∙ ap work_of c.in-Some-job.ensures)
+    c.note_turn.ensures c.deed_of-deed.ensures (c.push_reserved.ensures.events
+    ∙ ap (λ (ws : List Waived). record { caller = c.args.caller; deed = c.deed_of-deed.result; waived = ws } ∷ c.args.events.now.notes)
+    c.as_slice-in-Ok.ensures) (ap (λ (r : SlotReply). record r
+    { waived = c.choose.new.told; ran = Some (c.in-Some.number, c.in-Ok.turn.act); finished = c.finished-reply.result })
+    c.requires.1.1.1.1.1.1.1.1.1 ∙ ap (λ (o : Option ℕ). record
+    { slot = c.args.present; waived = c.choose.new.told; ran = Some (c.in-Some.number, c.in-Ok.turn.act); finished = o })
+    c.finished-reply.ensures)).fits
 
 pub returns-in-Ok-clause-kept : goal.returns-in-Ok-clause-kept
-returns-in-Ok-clause-kept g c = (turn_kept g.N.Nand.blocks g.log (log_of c.note_turn.new.table c.push_reserved.new.self.notes) c.args.present c.args.caller c.choose.new.told c.choose.new.table c.note_turn.new.table c.in-Some.number c.choose.new.volume c.take_turn-turn.new.volume c.in-Some-job.job c.in-Ok.turn _
-    c.in-Some.ensures.turn c.in-Some-job.ensures c.in-Ok.ensures.did c.in-Ok.ensures.plan c.in-Ok.ensures.well c.note_turn.ensures (ap (λ (r : SlotReply). record r { waived = c.choose.new.told; ran = Some (c.in-Some.number, c.in-Ok.turn.act); finished = c.finished-reply.result }) c.requires.1.1.1.1.1.1.1.1.1 ∙ ap (λ (o : Option ℕ). record { slot = c.args.present; waived = c.choose.new.told; ran = Some (c.in-Some.number, c.in-Ok.turn.act); finished = o }) c.finished-reply.ensures) (returns-in-Ok-clause-logged g c)).0
+returns-in-Ok-clause-kept g c = (turn_kept g.N.Nand.blocks g.log (log_of c.note_turn.new.table c.push_reserved.new.self.notes)
+    c.args.present c.args.caller c.choose.new.told c.choose.new.table c.note_turn.new.table c.in-Some.number c.choose.new.volume
+    c.take_turn-turn.new.volume c.in-Some-job.job c.in-Ok.turn _
+    c.in-Some.ensures.turn c.in-Some-job.ensures c.in-Ok.ensures.did c.in-Ok.ensures.plan c.in-Ok.ensures.well c.note_turn.ensures
+    (ap (λ (r : SlotReply). record r {
+      waived = c.choose.new.told;
+      ran = Some (c.in-Some.number, c.in-Ok.turn.act);
+      finished =
+          c.finished-reply.result;
+    }) c.requires.1.1.1.1.1.1.1.1.1
+    ∙ ap (λ (o : Option ℕ). record {
+      slot = c.args.present;
+      waived = c.choose.new.told;
+      ran = Some (c.in-Some.number, c.in-Ok.turn.act);
+      finished = o;
+    }) c.finished-reply.ensures) (returns-in-Ok-clause-logged g c)).0
 
 pub returns-in-Ok-clause-answered : goal.returns-in-Ok-clause-answered
 returns-in-Ok-clause-answered g c =
     ap (λ (p : DiePlan). answer p g.log Slot) (sym c.in-Some.ensures.plan)
-    ∙ (turn_kept g.N.Nand.blocks g.log (log_of c.note_turn.new.table c.push_reserved.new.self.notes) c.args.present c.args.caller c.choose.new.told c.choose.new.table c.note_turn.new.table c.in-Some.number c.choose.new.volume c.take_turn-turn.new.volume c.in-Some-job.job c.in-Ok.turn _
-    c.in-Some.ensures.turn c.in-Some-job.ensures c.in-Ok.ensures.did c.in-Ok.ensures.plan c.in-Ok.ensures.well c.note_turn.ensures (ap (λ (r : SlotReply). record r { waived = c.choose.new.told; ran = Some (c.in-Some.number, c.in-Ok.turn.act); finished = c.finished-reply.result }) c.requires.1.1.1.1.1.1.1.1.1 ∙ ap (λ (o : Option ℕ). record { slot = c.args.present; waived = c.choose.new.told; ran = Some (c.in-Some.number, c.in-Ok.turn.act); finished = o }) c.finished-reply.ensures) (returns-in-Ok-clause-logged g c)).1
+    ∙ (turn_kept g.N.Nand.blocks g.log (log_of c.note_turn.new.table c.push_reserved.new.self.notes) c.args.present c.args.caller
+    c.choose.new.told c.choose.new.table c.note_turn.new.table c.in-Some.number c.choose.new.volume c.take_turn-turn.new.volume
+    c.in-Some-job.job c.in-Ok.turn _
+    c.in-Some.ensures.turn c.in-Some-job.ensures c.in-Ok.ensures.did c.in-Ok.ensures.plan c.in-Ok.ensures.well c.note_turn.ensures
+    (ap (λ (r : SlotReply). record r {
+      waived = c.choose.new.told;
+      ran = Some (c.in-Some.number, c.in-Ok.turn.act);
+      finished =
+          c.finished-reply.result;
+    }) c.requires.1.1.1.1.1.1.1.1.1
+    ∙ ap (λ (o : Option ℕ). record {
+      slot = c.args.present;
+      waived = c.choose.new.told;
+      ran = Some (c.in-Some.number, c.in-Ok.turn.act);
+      finished = o;
+    }) c.finished-reply.ensures) (returns-in-Ok-clause-logged g c)).1
 
 -- Room for the waivers
 
 pub push_idle-requires-clause-waiver_room : goal.push_idle-requires-clause-waiver_room
 push_idle-requires-clause-waiver_room g c =
-    omega (arith, c.requires.1.1.1.1.1.1.1.0, c.in_default.ensures.closed, ap (λ (ws : List Waived). length ws) c.as_slice.ensures, ap (λ (r : SlotReply). length r.waived) c.requires.1.1.1.1.1.1.1.1.1)
+    omega (
+      arith,
+      c.requires.1.1.1.1.1.1.1.0,
+      c.in_default.ensures.closed,
+      ap (λ (ws : List Waived). length ws) c.as_slice.ensures,
+      ap
+          (λ (r : SlotReply). length r.waived) c.requires.1.1.1.1.1.1.1.1.1,
+    )
 
 pub returns-in_default-clause-waiver_room : goal.returns-in_default-clause-waiver_room
 returns-in_default-clause-waiver_room g c =
-    omega (arith, c.requires.1.1.1.1.1.1.1.0, c.in_default.ensures.closed, c.push_idle.ensures.waiver_room, ap (λ (ws : List Waived). length ws) c.as_slice.ensures, ap (λ (r : SlotReply). length r.waived) c.requires.1.1.1.1.1.1.1.1.1)
+    omega (
+      arith,
+      c.requires.1.1.1.1.1.1.1.0,
+      c.in_default.ensures.closed,
+      c.push_idle.ensures.waiver_room,
+      ap
+          (λ (ws : List Waived). length ws) c.as_slice.ensures,
+      ap (λ (r : SlotReply). length r.waived) c.requires.1.1.1.1.1.1.1.1.1,
+    )
 
 pub push_reserved-requires-clause-waiver_room : goal.push_reserved-requires-clause-waiver_room
 push_reserved-requires-clause-waiver_room g c =
-    omega (arith, c.requires.1.1.1.1.1.1.1.0, c.in-Some.ensures.closed, ap (λ (ws : List Waived). length ws) c.as_slice-in-Ok.ensures, ap (λ (r : SlotReply). length r.waived) c.requires.1.1.1.1.1.1.1.1.1)
+    omega (
+      arith,
+      c.requires.1.1.1.1.1.1.1.0,
+      c.in-Some.ensures.closed,
+      ap (λ (ws : List Waived). length ws) c.as_slice-in-Ok.ensures,
+      ap
+          (λ (r : SlotReply). length r.waived) c.requires.1.1.1.1.1.1.1.1.1,
+    )
 
 pub returns-in-Ok-clause-waiver_room : goal.returns-in-Ok-clause-waiver_room
 returns-in-Ok-clause-waiver_room g c =
@@ -135,8 +236,12 @@ returns-in-Ok-clause-waiver_room g c =
 
 pub returns-in-Err-clause-waiver_room : goal.returns-in-Err-clause-waiver_room
 returns-in-Err-clause-waiver_room g c =
-    let taken_back : c.stop.new.self.jobs ≡ records c.choose.new.volume.accounts.plan g.log = c.stop.ensures.as_before (records c.choose.new.volume.accounts.plan g.log)
-    (subst (λ (ws : List Waived). WerePending (records c.choose.new.volume.accounts.plan g.log) ws) (sym c.as_slice-in-Err.ensures) c.in-Some.ensures.turn.table.were_pending)
-    (c.in-Some.ensures.turn.table.were ∙ ap (λ (ws : List Waived). waived_in (records c.choose.new.volume.accounts.plan g.log) ws) (sym c.as_slice-in-Err.ensures)) in
-    let same : c.stop.new.self.jobs ≡ c.args.table.now.jobs = taken_back ∙ (ap (λ (p : DiePlan). records p g.log) c.in-Some.ensures.plan ∙ sym c.requires.1.1.1.1.1.1.1.1.0.jobs_are) in
+    let taken_back : c.stop.new.self.jobs ≡ records c.choose.new.volume.accounts.plan g.log = c.stop.ensures.as_before
+    (records c.choose.new.volume.accounts.plan g.log)
+    (subst (λ (ws : List Waived). WerePending (records c.choose.new.volume.accounts.plan g.log) ws) (sym c.as_slice-in-Err.ensures)
+    c.in-Some.ensures.turn.table.were_pending)
+    (c.in-Some.ensures.turn.table.were ∙ ap (λ (ws : List Waived). waived_in (records c.choose.new.volume.accounts.plan g.log) ws)
+    (sym c.as_slice-in-Err.ensures)) in
+    let same : c.stop.new.self.jobs ≡ c.args.table.now.jobs = taken_back
+    ∙ (ap (λ (p : DiePlan). records p g.log) c.in-Some.ensures.plan ∙ sym c.requires.1.1.1.1.1.1.1.1.0.jobs_are) in
     omega (arith, c.requires.1.1.1.1.1.1.1.0, ap (λ (js : List JobRecord). open_collections js) same)

@@ -23,7 +23,8 @@ head-requires-clause-forward g c = c.loop-number.invariant.clock
 
 pub returns-in_default-clause-idle : goal.returns-in_default-clause-idle
 returns-in_default-clause-idle g c = (
-  looks_idle g.N.Nand.blocks g.log c.args.present c.loop-number.told (record c.loop-number.table { clock = c.args.present }) c.head.new.self c.loop-number.volume c.loop-number.invariant.within c.head.ensures.clock,
+  looks_idle g.N.Nand.blocks g.log c.args.present c.loop-number.told (record c.loop-number.table { clock = c.args.present }) c.head.new.self
+      c.loop-number.volume c.loop-number.invariant.within c.head.ensures.clock,
   c.in_default.ensures.idle,
 )
 
@@ -41,36 +42,44 @@ begin-waived-requires-clause-alive g c = c.loop-number.invariant.alive
 
 pub begin-waived-requires-clause-task : goal.begin-waived-requires-clause-task
 begin-waived-requires-clause-task g c =
-    (looks_fit g.N.Nand.blocks g.log c.args.present c.loop-number.told (record c.loop-number.table { clock = c.args.present }) c.head.new.self c.in-Some.number c.loop-number.volume c.in-Some-job.job
+    (looks_fit g.N.Nand.blocks g.log c.args.present c.loop-number.told (record c.loop-number.table { clock = c.args.present })
+    c.head.new.self c.in-Some.number c.loop-number.volume c.in-Some-job.job
     c.loop-number.invariant.within c.in-Some.ensures.clock c.in-Some.ensures.head c.in-Some-job.ensures).0
 
 pub begin-waived-requires-clause-idle : goal.begin-waived-requires-clause-idle
 begin-waived-requires-clause-idle g c =
-    (looks_fit g.N.Nand.blocks g.log c.args.present c.loop-number.told (record c.loop-number.table { clock = c.args.present }) c.head.new.self c.in-Some.number c.loop-number.volume c.in-Some-job.job
+    (looks_fit g.N.Nand.blocks g.log c.args.present c.loop-number.told (record c.loop-number.table { clock = c.args.present })
+    c.head.new.self c.in-Some.number c.loop-number.volume c.in-Some-job.job
     c.loop-number.invariant.within c.in-Some.ensures.clock c.in-Some.ensures.head c.in-Some-job.ensures).1
 
 pub returns-in-None-waived-clause-turn : goal.returns-in-None-waived-clause-turn
 returns-in-None-waived-clause-turn g c =
-    looks_turn g.N.Nand.blocks g.log c.args.present c.loop-number.told (record c.loop-number.table { clock = c.args.present }) c.head.new.self c.in-Some.number c.loop-number.volume c.begin-waived.new.volume c.in-Some-job.job
+    looks_turn g.N.Nand.blocks g.log c.args.present c.loop-number.told (record c.loop-number.table { clock = c.args.present })
+    c.head.new.self c.in-Some.number c.loop-number.volume c.begin-waived.new.volume c.in-Some-job.job
     c.loop-number.invariant.within c.in-Some.ensures.clock c.in-Some.ensures.head c.in-Some-job.ensures c.in-None-waived.ensures
 
 pub returns-in-None-waived-clause-plan : goal.returns-in-None-waived-clause-plan
-returns-in-None-waived-clause-plan g c = (begin_leaves g.N.Nand.blocks c.loop-number.volume c.begin-waived.new.volume c.in-Some-job.job _ c.begin-waived.ensures).plan ∙ c.loop-number.invariant.plan
+returns-in-None-waived-clause-plan g c = (begin_leaves g.N.Nand.blocks c.loop-number.volume c.begin-waived.new.volume c.in-Some-job.job _
+    c.begin-waived.ensures).plan ∙ c.loop-number.invariant.plan
 
 pub returns-in-None-waived-clause-alive : goal.returns-in-None-waived-clause-alive
-returns-in-None-waived-clause-alive g c = (begin_leaves g.N.Nand.blocks c.loop-number.volume c.begin-waived.new.volume c.in-Some-job.job _ c.begin-waived.ensures).failed ∙ c.loop-number.invariant.alive
+returns-in-None-waived-clause-alive g c = (begin_leaves g.N.Nand.blocks c.loop-number.volume c.begin-waived.new.volume c.in-Some-job.job _
+    c.begin-waived.ensures).failed ∙ c.loop-number.invariant.alive
 
 pub returns-in-None-waived-clause-device : goal.returns-in-None-waived-clause-device
-returns-in-None-waived-clause-device g c = (begin_leaves g.N.Nand.blocks c.loop-number.volume c.begin-waived.new.volume c.in-Some-job.job _ c.begin-waived.ensures).device ∙ c.loop-number.invariant.device
+returns-in-None-waived-clause-device g c = (begin_leaves g.N.Nand.blocks c.loop-number.volume c.begin-waived.new.volume c.in-Some-job.job _
+    c.begin-waived.ensures).device ∙ c.loop-number.invariant.device
 
 pub waive-requires-clause-running : goal.waive-requires-clause-running
 waive-requires-clause-running g c =
-    (looks_idle g.N.Nand.blocks g.log c.args.present c.loop-number.told (record c.loop-number.table { clock = c.args.present }) c.head.new.self c.loop-number.volume c.loop-number.invariant.within c.head.ensures.clock).table.running
+    (looks_idle g.N.Nand.blocks g.log c.args.present c.loop-number.told (record c.loop-number.table { clock = c.args.present })
+    c.head.new.self c.loop-number.volume c.loop-number.invariant.within c.head.ensures.clock).table.running
 
 pub push_within-requires : goal.push_within-requires
 push_within-requires g c = (
   omega arith,
-  looks_few g.N.Nand.blocks g.log c.args.present c.loop-number.told (record c.loop-number.table { clock = c.args.present }) c.head.new.self c.in-Some.number c.in-Some-waived.given c.loop-number.volume c.begin-waived.new.volume c.in-Some-job.job
+  looks_few g.N.Nand.blocks g.log c.args.present c.loop-number.told (record c.loop-number.table { clock = c.args.present }) c.head.new.self
+      c.in-Some.number c.in-Some-waived.given c.loop-number.volume c.begin-waived.new.volume c.in-Some-job.job
       c.loop-number.invariant.within c.in-Some.ensures.clock c.in-Some.ensures.head c.in-Some-job.ensures c.in-Some-waived.ensures,
 )
 
@@ -80,30 +89,47 @@ loop-number-smaller g c =
       arith,
       ap (λ (ws : List Waived). length ws) c.push_within.ensures,
       length-append c.loop-number.told (record { number = c.in-Some.number; given = c.in-Some-waived.given } ∷ []),
-      looks_few g.N.Nand.blocks g.log c.args.present c.loop-number.told (record c.loop-number.table { clock = c.args.present }) c.head.new.self c.in-Some.number c.in-Some-waived.given c.loop-number.volume c.begin-waived.new.volume c.in-Some-job.job
+      looks_few g.N.Nand.blocks g.log c.args.present c.loop-number.told (record c.loop-number.table { clock = c.args.present })
+          c.head.new.self c.in-Some.number c.in-Some-waived.given c.loop-number.volume c.begin-waived.new.volume c.in-Some-job.job
           c.loop-number.invariant.within c.in-Some.ensures.clock c.in-Some.ensures.head c.in-Some-job.ensures c.in-Some-waived.ensures,
     )
 
 pub loop-number-preserved : goal.loop-number-preserved
 loop-number-preserved g c = record {
-  within = looks_waived g.N.Nand.blocks g.log c.args.present c.loop-number.told c.push_within.new.self (record c.loop-number.table { clock = c.args.present }) c.head.new.self c.waive.new.self c.in-Some.number c.in-Some-waived.given
-      c.loop-number.volume c.begin-waived.new.volume c.in-Some-job.job c.loop-number.invariant.within c.in-Some.ensures.clock c.in-Some.ensures.head c.in-Some-job.ensures c.in-Some-waived.ensures c.waive.ensures c.push_within.ensures;
+  within = looks_waived g.N.Nand.blocks g.log c.args.present c.loop-number.told c.push_within.new.self
+      (record c.loop-number.table { clock = c.args.present }) c.head.new.self c.waive.new.self c.in-Some.number c.in-Some-waived.given
+      c.loop-number.volume c.begin-waived.new.volume c.in-Some-job.job c.loop-number.invariant.within c.in-Some.ensures.clock
+      c.in-Some.ensures.head c.in-Some-job.ensures c.in-Some-waived.ensures c.waive.ensures c.push_within.ensures;
   clock = omega (arith, ap (λ (t : Table). t.clock) c.waive.ensures, ap (λ (t : Table). t.clock) c.head.ensures.clock);
   closed = omega (
     arith,
     c.loop-number.invariant.closed,
-    looks_closed g.N.Nand.blocks c.args.present (record c.loop-number.table { clock = c.args.present }) c.head.new.self c.waive.new.self c.in-Some.number c.in-Some-waived.given c.loop-number.volume c.begin-waived.new.volume c.in-Some-job.job
+    looks_closed g.N.Nand.blocks c.args.present (record c.loop-number.table { clock = c.args.present }) c.head.new.self c.waive.new.self
+        c.in-Some.number c.in-Some-waived.given c.loop-number.volume c.begin-waived.new.volume c.in-Some-job.job
         c.in-Some.ensures.clock c.in-Some.ensures.head c.in-Some-job.ensures c.in-Some-waived.ensures c.waive.ensures,
     ap (λ (ws : List Waived). length ws) c.push_within.ensures,
     length-append c.loop-number.told (record { number = c.in-Some.number; given = c.in-Some-waived.given } ∷ []),
   );
-  plan = (begin_leaves g.N.Nand.blocks c.loop-number.volume c.begin-waived.new.volume c.in-Some-job.job _ c.begin-waived.ensures).plan ∙ c.loop-number.invariant.plan;
-  alive = (begin_leaves g.N.Nand.blocks c.loop-number.volume c.begin-waived.new.volume c.in-Some-job.job _ c.begin-waived.ensures).failed ∙ c.loop-number.invariant.alive;
-  device = (begin_leaves g.N.Nand.blocks c.loop-number.volume c.begin-waived.new.volume c.in-Some-job.job _ c.begin-waived.ensures).device ∙ c.loop-number.invariant.device;
+  plan = (begin_leaves g.N.Nand.blocks c.loop-number.volume c.begin-waived.new.volume c.in-Some-job.job _ c.begin-waived.ensures).plan
+      ∙ c.loop-number.invariant.plan;
+  alive = (begin_leaves g.N.Nand.blocks c.loop-number.volume c.begin-waived.new.volume c.in-Some-job.job _ c.begin-waived.ensures).failed
+      ∙ c.loop-number.invariant.alive;
+  device = (begin_leaves g.N.Nand.blocks c.loop-number.volume c.begin-waived.new.volume c.in-Some-job.job _ c.begin-waived.ensures).device
+      ∙ c.loop-number.invariant.device;
 }
 
 pub returns-in_default-clause-closed : goal.returns-in_default-clause-closed
-returns-in_default-clause-closed g c = omega (arith, c.loop-number.invariant.closed, ap (λ (t : Table). open_collections t.jobs) c.head.ensures.clock)
+returns-in_default-clause-closed g c = omega (
+  arith,
+  c.loop-number.invariant.closed,
+  ap (λ (t : Table). open_collections t.jobs)
+      c.head.ensures.clock,
+)
 
 pub returns-in-None-waived-clause-closed : goal.returns-in-None-waived-clause-closed
-returns-in-None-waived-clause-closed g c = omega (arith, c.loop-number.invariant.closed, ap (λ (t : Table). open_collections t.jobs) c.head.ensures.clock)
+returns-in-None-waived-clause-closed g c = omega (
+  arith,
+  c.loop-number.invariant.closed,
+  ap (λ (t : Table). open_collections t.jobs)
+      c.head.ensures.clock,
+)

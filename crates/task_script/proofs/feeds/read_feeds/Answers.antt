@@ -10,7 +10,8 @@ loop-init g c = record {
 }
 
 pub returns-in-Ok-None-clause-feeds : goal.returns-in-Ok-None-clause-feeds
-returns-in-Ok-None-clause-feeds g c = deals_all _ _ _ _ c.args.slots _ (rw c.in-Ok-None.field-0-is at c.in-Ok-None.ensures.item) c.loop.invariant.dealt
+returns-in-Ok-None-clause-feeds g c = deals_all _ _ _ _ c.args.slots _ (rw c.in-Ok-None.field-0-is at c.in-Ok-None.ensures.item)
+    c.loop.invariant.dealt
 
 pub returns-in-Err-clause-refused : goal.returns-in-Err-clause-refused
 returns-in-Err-clause-refused g c = deals_fault _ _ _ _ c.args.slots _ c.in-Err.refusal c.in-Err.ensures.item c.loop.invariant.dealt
@@ -23,7 +24,8 @@ loop-preserved g c =
     record {
       dies = c.next.ensures.dies ∙ c.loop.invariant.dies;
       slots = c.next.ensures.slots ∙ c.loop.invariant.slots;
-      dealt = deals_more _ _ _ _ _ _ _ c.in-Ok-Some.item _ _ (rw (c.loop.invariant.dies, c.loop.invariant.slots) at row) paged c.index_mut.ensures.value c.in-Ok.ensures.ok refl step c.loop.invariant.dealt;
+      dealt = deals_more _ _ _ _ _ _ _ c.in-Ok-Some.item _ _ (rw (c.loop.invariant.dies, c.loop.invariant.slots) at row) paged
+          c.index_mut.ensures.value c.in-Ok.ensures.ok refl step c.loop.invariant.dealt;
     }
 
 pub add-requires : goal.add-requires
@@ -31,5 +33,6 @@ add-requires g c =
     let row = rw c.in-Ok-Some.field-0-is at c.in-Ok-Some.ensures.row in
     record {
       arrives = row.1.1;
-      one_die = dealt_own _ _ _ _ _ c.in-Ok-Some.item _ (rw (c.loop.invariant.dies, c.loop.invariant.slots) at row) c.index_mut.ensures.value c.loop.invariant.dealt;
+      one_die = dealt_own _ _ _ _ _ c.in-Ok-Some.item _ (rw (c.loop.invariant.dies, c.loop.invariant.slots) at row)
+          c.index_mut.ensures.value c.loop.invariant.dealt;
     }

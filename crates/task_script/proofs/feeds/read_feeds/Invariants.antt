@@ -9,5 +9,6 @@ abbrev pub invariant-loop : goal.invariant-loop
 invariant-loop g l = record {
   dies : dies_of l.script ≡ length l.plan;
   slots : slots_of l.script ≡ l.slots;
-  dealt : HasDealt (option_map (script_of (length l.plan) l.slots) (g.R.Read.remaining l.fn.reader)) (script_left g.R.Read.remaining l.script) (length l.plan) l.slots l.feeds.items;
+  dealt : HasDealt (option_map (script_of (length l.plan) l.slots) (g.R.Read.remaining l.fn.reader))
+      (script_left g.R.Read.remaining l.script) (length l.plan) l.slots l.feeds.items;
 }

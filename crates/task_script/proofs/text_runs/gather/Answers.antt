@@ -19,10 +19,25 @@ loop-die-preserved c =
       report = report_more c.loop-die.number c.in-Some.die (into_iter_items c.next.new.self) c.loop-die.ran.report c.add_report.new.report
           (reports_of 0 c.args.dies.items) c.in_ok-made.made c.in_ok-made.ensures.ok c.in_ok-add_report.ensures.ok
           (rw here at c.loop-die.invariant.report);
-      count = ends_more c.loop-die.number c.args.lines.now c.args.ends.now c.index-lines-number.result c.index-ends-number.result c.loop-die.ran.count
+      count = ends_more c.loop-die.number c.args.lines.now c.args.ends.now c.index-lines-number.result c.index-ends-number.result
+          c.loop-die.ran.count
           c.add_rows.new.count _
-          (omega (arith, c.requires.lines, c.loop-die.invariant.number, ap length dies, length-append c.loop-die.yielded (c.in-Some.die ∷ into_iter_items c.next.new.self)))
-          (omega (arith, c.requires.ends, c.loop-die.invariant.number, ap length dies, length-append c.loop-die.yielded (c.in-Some.die ∷ into_iter_items c.next.new.self)))
+          (omega (
+            arith,
+            c.requires.lines,
+            c.loop-die.invariant.number,
+            ap length dies,
+            length-append c.loop-die.yielded (c.in-Some.die
+                ∷ into_iter_items c.next.new.self),
+          ))
+          (omega (
+            arith,
+            c.requires.ends,
+            c.loop-die.invariant.number,
+            ap length dies,
+            length-append c.loop-die.yielded (c.in-Some.die
+                ∷ into_iter_items c.next.new.self),
+          ))
           (search rules) (search rules) (search rules) c.loop-die.invariant.count;
     }
 

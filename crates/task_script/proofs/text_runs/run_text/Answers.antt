@@ -16,5 +16,7 @@ returns-in-Ok-clause-planned g c =
 
 pub returns-clause-part : goal.returns-clause-part
 returns-clause-part g c =
-    runs_in_part g.W.Write.contents _ c.args.plan.now c.args.slots c.in_ok-rows.rows.items _ _ _ _ c.in-Err.refusal c.requires.bound c.in_ok-rows.ensures.feeds
-    (rw c.as_slice.ensures at c.in_ok-ran.ensures.ran) (λ is. c.in-Err.ensures.memory (ap Err is)) (λ is. c.in-Err.ensures.part (ap Err is)) c.in-Err.ensures.refused
+    runs_in_part g.W.Write.contents _ c.args.plan.now c.args.slots c.in_ok-rows.rows.items _ _ _ _ c.in-Err.refusal c.requires.bound
+    c.in_ok-rows.ensures.feeds
+    (rw c.as_slice.ensures at c.in_ok-ran.ensures.ran) (λ is. c.in-Err.ensures.memory (ap Err is)) (λ is. c.in-Err.ensures.part (ap Err is))
+    c.in-Err.ensures.refused

@@ -13,4 +13,5 @@ pub returns-in-Ok-table_from_str : goal.returns-in-Ok-table_from_str
 returns-in-Ok-table_from_str c =
     let short : nat_lt 1048576 (length c.args.text.now) ≡ false = search rules in
     let same = c.in-Ok.ensures.cases.0 in
-    table-found c.args.text.now (table_view c.in-Ok-table_from_str.table) short c.in-Ok.ensures.cases.1 (rw same at c.in-Ok-table_from_str.ensures.ok)
+    table-found c.args.text.now (table_view c.in-Ok-table_from_str.table) short c.in-Ok.ensures.cases.1
+    (rw same at c.in-Ok-table_from_str.ensures.ok)

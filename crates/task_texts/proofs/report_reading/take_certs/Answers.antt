@@ -22,13 +22,16 @@ loop-i-preserved g c =
     let dies = c.loop-i.dies.items in
     let i = c.loop-i.i in
     let below : i < length dies = omega (arith, c.loop-i.invariant.len) in
-    let old : IsNumbered c.index_mut.result.now.rows = subst (λ die. IsNumbered die.rows) (sym c.index_mut.ensures.value) (c.loop-i.invariant.numbered i c.index_mut.result.now below) in
+    let old : IsNumbered c.index_mut.result.now.rows = subst (λ die. IsNumbered die.rows) (sym c.index_mut.ensures.value)
+    (c.loop-i.invariant.numbered i c.index_mut.result.now below) in
     record {
       ready = c.in-Ok.ensures.ready;
       fits = stays-then _ _ _ c.loop-i.invariant.fits c.in-Ok.ensures.fits;
-      numbered = All-set (λ (die : DieReport). IsNumbered die.rows) dies i c.take_cert.new.die (subst (λ rows. IsNumbered rows) (sym c.in-Ok.ensures.rows) old) c.loop-i.invariant.numbered;
+      numbered = All-set (λ (die : DieReport). IsNumbered die.rows) dies i c.take_cert.new.die
+          (subst (λ rows. IsNumbered rows) (sym c.in-Ok.ensures.rows) old) c.loop-i.invariant.numbered;
       len = length-set dies i c.take_cert.new.die ∙ c.loop-i.invariant.len;
-      read = certs-more dies i c.index_mut.result.now c.take_cert.new.die (record_line c.loop-i.records) (record_line c.take_cert.new.records) _ _ _ below c.index_mut.ensures.value
+      read = certs-more dies i c.index_mut.result.now c.take_cert.new.die (record_line c.loop-i.records)
+          (record_line c.take_cert.new.records) _ _ _ below c.index_mut.ensures.value
           (c.in-Ok.ensures.read (certs_from (drop (i + 1) dies))) c.loop-i.invariant.read;
     }
 
@@ -37,7 +40,8 @@ returns-then-has_one-clause-report g c =
     let dies = c.loop-i.dies.items in
     let records = c.loop-i.records in
     let above : length dies ≤ c.loop-i.i = omega (arith, c.loop-i.invariant.len) in
-    rw c.line.ensures (certs-over dies c.loop-i.i (record_line records) records.found (fields_of records.fields) _ _ above (sym c.if-has_one.ensures)
+    rw c.line.ensures (certs-over dies c.loop-i.i (record_line records) records.found (fields_of records.fields) _ _ above
+    (sym c.if-has_one.ensures)
     (rw c.into_vec-dies.ensures at c.loop-i.invariant.read))
 
 pub returns-clause-report : goal.returns-clause-report
@@ -45,5 +49,6 @@ returns-clause-report g c =
     let dies = c.loop-i.dies.items in
     let records = c.loop-i.records in
     let above : length dies ≤ c.loop-i.i = omega (arith, c.loop-i.invariant.len) in
-    rw c.from_vec.ensures (certs-end dies c.loop-i.i (record_line records) records.found (fields_of records.fields) _ _ above (sym c.if-has_one.ensures)
+    rw c.from_vec.ensures (certs-end dies c.loop-i.i (record_line records) records.found (fields_of records.fields) _ _ above
+    (sym c.if-has_one.ensures)
     (rw c.into_vec-dies.ensures at c.loop-i.invariant.read))

@@ -12,6 +12,8 @@ invariant-loop-i g l = record {
   numbered : AreNumbered l.dies.items;
   fits : Stays (records_fit g.R.Read.remaining l.initial.records) (records_fit g.R.Read.remaining l.records);
   len : length l.dies.items ≡ l.i-end;
-  read : Stays (option_map (certs_from l.initial.dies.items (record_line l.initial.records)) (records_left g.R.Read.remaining l.initial.records))
-      (option_map (λ records. front_dies (take l.i l.dies.items) (certs_from (drop l.i l.dies.items) (record_line l.records) records)) (records_left g.R.Read.remaining l.records));
+  read : Stays (option_map (certs_from l.initial.dies.items (record_line l.initial.records))
+      (records_left g.R.Read.remaining l.initial.records))
+      (option_map (λ records. front_dies (take l.i l.dies.items) (certs_from (drop l.i l.dies.items) (record_line l.records) records))
+      (records_left g.R.Read.remaining l.records));
 }

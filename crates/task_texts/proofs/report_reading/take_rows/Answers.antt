@@ -14,11 +14,13 @@ returns-then-not-branch-clause-read g c =
     let rows = c.loop-fields.gathered in
     let none = sym (rw c.if-not-branch.true at c.in_ok-gather.ensures.row) in
     rw c.line.ensures (reads-on _ (rows_from rows (record_line records)) _ _ _ _ _ c.loop-fields.invariant.read
-    (rows-broken _ rows (record_line records) records.found (fields_of records.fields) (fields_of c.in-Some.fields.now) _ _ (sym c.in-Some.ensures) none))
+    (rows-broken _ rows (record_line records) records.found (fields_of records.fields) (fields_of c.in-Some.fields.now) _ _
+    (sym c.in-Some.ensures) none))
 
 pub returns-in-Err-clause-read : goal.returns-in-Err-clause-read
 returns-in-Err-clause-read g c =
-    reads-on _ (rows_from c.loop-fields.gathered (record_line c.loop-fields.records)) _ _ _ _ (Err c.in-Err.refusal) c.loop-fields.invariant.read
+    reads-on _ (rows_from c.loop-fields.gathered (record_line c.loop-fields.records)) _ _ _ _ (Err c.in-Err.refusal)
+    c.loop-fields.invariant.read
     (reads-outside _ _ _ _ c.in-Err.refusal c.in-Err.ensures.refused)
 
 pub loop-fields-preserved : goal.loop-fields-preserved
@@ -28,10 +30,13 @@ loop-fields-preserved g c =
     record {
       ready = c.in-Ok.ensures.ready;
       fits = stays-then _ _ _ c.loop-fields.invariant.fits c.in-Ok.ensures.fits;
-      numbered = numbered-more c.loop-fields.gathered c.gather.new.gathered (fields_of c.in-Some.fields.now) more c.loop-fields.invariant.numbered;
+      numbered = numbered-more c.loop-fields.gathered c.gather.new.gathered (fields_of c.in-Some.fields.now) more
+          c.loop-fields.invariant.numbered;
       few = c.in_ok-gather.ensures.few c.if-not-branch.false;
-      read = rows-more c.loop-fields.gathered c.gather.new.gathered (record_line records) (record_line c.advance.new.self) records.found (fields_of records.fields)
-          (fields_of c.in-Some.fields.now) _ _ _ (sym c.in-Some.ensures) more c.in-Ok.ensures.line c.in-Ok.ensures.next c.loop-fields.invariant.read;
+      read = rows-more c.loop-fields.gathered c.gather.new.gathered (record_line records) (record_line c.advance.new.self) records.found
+          (fields_of records.fields)
+          (fields_of c.in-Some.fields.now) _ _ _ (sym c.in-Some.ensures) more c.in-Ok.ensures.line c.in-Ok.ensures.next
+          c.loop-fields.invariant.read;
     }
 
 pub returns-clause-read : goal.returns-clause-read
@@ -39,7 +44,9 @@ returns-clause-read g c =
     let records = c.loop-fields.records in
     let rows = c.loop-fields.gathered in
     reads-on _ (rows_from rows (record_line records)) _ _ _ _ (Ok c.in_ok-dies.dies) c.loop-fields.invariant.read
-    (rows-end rows c.in_ok-dies.dies (record_line records) records.found (fields_of records.fields) _ (sym c.in_default.ensures) c.in_ok-dies.ensures)
+    (rows-end rows c.in_ok-dies.dies (record_line records) records.found (fields_of records.fields) _ (sym c.in_default.ensures)
+    c.in_ok-dies.ensures)
 
 pub returns-clause-numbered : goal.returns-clause-numbered
-returns-clause-numbered g c = subst AreNumbered (sym c.in_ok-dies.ensures) (numbered-dies c.loop-fields.gathered c.loop-fields.invariant.numbered)
+returns-clause-numbered g c = subst AreNumbered (sym c.in_ok-dies.ensures)
+    (numbered-dies c.loop-fields.gathered c.loop-fields.invariant.numbered)

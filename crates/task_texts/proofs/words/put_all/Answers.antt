@@ -8,7 +8,8 @@ returns-in-None g c = rw c.in-None.ensures.word at (rw c.in-Some.is at c.loop-le
 pub loop-left-preserved : goal.loop-left-preserved
 loop-left-preserved g c =
     let found = c.in-Some-first_word.ensures.word in
-    word-more g.T.Word.word_of c.loop-left.items _ c.in-Some-first_word.item found.word _ _ _ found.parts found.says c.in_ok-push-in-Some-first_word.ensures.ok
+    word-more g.T.Word.word_of c.loop-left.items _ c.in-Some-first_word.item found.word _ _ _ found.parts found.says
+    c.in_ok-push-in-Some-first_word.ensures.ok
     (rw c.in-Some.is at c.loop-left.invariant)
 
 pub returns : goal.returns

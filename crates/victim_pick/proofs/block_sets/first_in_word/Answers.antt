@@ -9,14 +9,19 @@ loop-step-init c = so_far_none c.args.word c.args.start c.args.erases.now c.args
 
 pub returns-then-rest-eq0 : goal.returns-then-rest-eq0
 returns-then-rest-eq0 c =
-    so_far_all c.args.word c.loop-step.rest c.loop-step._step c.args.start c.args.erases.now c.args.one c.loop-step.first c.loop-step.invariant (λ i below. ap (λ (r : ℕ). bit_at r i) c.if-rest-eq0.true ∙ bit_at-zero i)
+    so_far_all c.args.word c.loop-step.rest c.loop-step._step c.args.start c.args.erases.now c.args.one c.loop-step.first
+    c.loop-step.invariant (λ i below. ap (λ (r : ℕ). bit_at r i) c.if-rest-eq0.true ∙ bit_at-zero i)
 
 pub loop-step-preserved : goal.loop-step-preserved
 loop-step-preserved c =
     let rest = c.loop-step.rest in
     let lowest = bit_at-trailing_zeros w64 rest (omega (arith, c.if-rest-eq0.false)) (omega (arith, c.loop-step.auto.rest-fits)) in
-    so_far_step c.args.word rest _ c.loop-step._step c.args.start (trailing_zeros w64 rest) c.earlier.result c.args.erases.now c.args.one c.loop-step.first c.loop-step.invariant (omega arith) lowest.0 lowest.1 lowest.2 (bit_at_clear_same w64 rest (trailing_zeros w64 rest) lowest.0) (λ i below other. bit_at_clear_other w64 rest (trailing_zeros w64 rest) lowest.0 i below other) c.earlier.ensures
+    so_far_step c.args.word rest _ c.loop-step._step c.args.start (trailing_zeros w64 rest) c.earlier.result c.args.erases.now c.args.one
+    c.loop-step.first c.loop-step.invariant (omega arith) lowest.0 lowest.1 lowest.2
+    (bit_at_clear_same w64 rest (trailing_zeros w64 rest) lowest.0)
+    (λ i below other. bit_at_clear_other w64 rest (trailing_zeros w64 rest) lowest.0 i below other) c.earlier.ensures
 
 pub returns : goal.returns
 returns c =
-    so_far_all c.args.word c.loop-step.rest c.loop-step._step c.args.start c.args.erases.now c.args.one c.loop-step.first c.loop-step.invariant (λ i below. c.loop-step.invariant.below i (omega (arith, below)))
+    so_far_all c.args.word c.loop-step.rest c.loop-step._step c.args.start c.args.erases.now c.args.one c.loop-step.first
+    c.loop-step.invariant (λ i below. c.loop-step.invariant.below i (omega (arith, below)))

@@ -9,10 +9,12 @@ returns-after-submit-clause-refused g c =
     let never = g.N.Nand.never_fails in
     let die = c.deref_mut.result.now in
     let same : die ≡ c.args.self.now = c.deref_mut.ensures.value ∙ c.self.view_is in
-    let runs : never ≡ true → die.stopped ≡ false = λ yes. ap (λ (k : Core g.row.N.Denot). k.stopped) c.deref_mut.ensures.value ∙ c.self.invariant yes in
+    let runs : never ≡ true → die.stopped ≡ false = λ yes. ap (λ (k : Core g.row.N.Denot). k.stopped) c.deref_mut.ensures.value
+    ∙ c.self.invariant yes in
     elim c.match-submit.branch [
       | in-Ok w ↦ rw w.result-is tt
-      | in-Err w ↦ rw (w.result-is, c.in-Submit.is, ← same) (may_refuse never die.stopped die.plan die.log _ w.in-Err.refusal runs w.in-Err.ensures.stopped w.in-Err.ensures.refused)
+      | in-Err w ↦ rw (w.result-is, c.in-Submit.is, ← same)
+          (may_refuse never die.stopped die.plan die.log _ w.in-Err.refusal runs w.in-Err.ensures.stopped w.in-Err.ensures.refused)
     ]
 
 pub returns-after-collect-clause-refused : goal.returns-after-collect-clause-refused
@@ -20,10 +22,13 @@ returns-after-collect-clause-refused g c =
     let never = g.N.Nand.never_fails in
     let die = c.deref_mut-in-Collect.result.now in
     let same : die ≡ c.args.self.now = c.deref_mut-in-Collect.ensures.value ∙ c.self.view_is in
-    let runs : never ≡ true → die.stopped ≡ false = λ yes. ap (λ (k : Core g.row.N.Denot). k.stopped) c.deref_mut-in-Collect.ensures.value ∙ c.self.invariant yes in
+    let runs : never ≡ true → die.stopped ≡ false = λ yes. ap (λ (k : Core g.row.N.Denot). k.stopped) c.deref_mut-in-Collect.ensures.value
+    ∙ c.self.invariant yes in
     elim c.match-collect.branch [
       | in-Ok-collect w ↦ rw w.result-is tt
-      | in-Err-collect w ↦ rw (w.result-is, c.in-Collect.is, ← same) (may_refuse never die.stopped die.plan die.log _ w.in-Err-collect.refusal runs w.in-Err-collect.ensures.stopped w.in-Err-collect.ensures.refused)
+      | in-Err-collect w ↦ rw (w.result-is, c.in-Collect.is, ← same)
+          (may_refuse never die.stopped die.plan die.log _ w.in-Err-collect.refusal runs w.in-Err-collect.ensures.stopped
+          w.in-Err-collect.ensures.refused)
     ]
 
 pub returns-after-slot-clause-refused : goal.returns-after-slot-clause-refused
@@ -31,8 +36,11 @@ returns-after-slot-clause-refused g c =
     let never = g.N.Nand.never_fails in
     let die = c.deref_mut-in-Slot.result.now in
     let same : die ≡ c.args.self.now = c.deref_mut-in-Slot.ensures.value ∙ c.self.view_is in
-    let runs : never ≡ true → die.stopped ≡ false = λ yes. ap (λ (k : Core g.row.N.Denot). k.stopped) c.deref_mut-in-Slot.ensures.value ∙ c.self.invariant yes in
+    let runs : never ≡ true → die.stopped ≡ false = λ yes. ap (λ (k : Core g.row.N.Denot). k.stopped) c.deref_mut-in-Slot.ensures.value
+    ∙ c.self.invariant yes in
     elim c.match-slot.branch [
       | in-Ok-slot w ↦ rw w.result-is tt
-      | in-Err-slot w ↦ rw (w.result-is, c.in-Slot.is, ← same) (may_refuse_slot never die.stopped die.plan die.log w.in-Err-slot.refusal runs w.in-Err-slot.ensures.stopped w.in-Err-slot.ensures.refused w.in-Err-slot.ensures.never)
+      | in-Err-slot w ↦ rw (w.result-is, c.in-Slot.is, ← same)
+          (may_refuse_slot never die.stopped die.plan die.log w.in-Err-slot.refusal runs w.in-Err-slot.ensures.stopped
+          w.in-Err-slot.ensures.refused w.in-Err-slot.ensures.never)
     ]

@@ -1,7 +1,8 @@
 use Rattle.std.proofs.Common.{◌≡◌, true, false, ◌∙◌, ap}
 use Rattle.slot_core.specs.Core.{Core}
 use Rattle.die_service.proofs.Replying.{may_refuse, may_refuse_slot}
-use Rattle.die_service.proofs.book.DieBook.perform_noted.Goals.{in-Ok, in-Err, in-Ok-collect, in-Err-collect, in-Ok-note_slot, in-Err-note_slot}
+use Rattle.die_service.proofs.book.DieBook.perform_noted.Goals.{in-Ok, in-Err, in-Ok-collect, in-Err-collect, in-Ok-note_slot}
+use Rattle.die_service.proofs.book.DieBook.perform_noted.Goals.{in-Err-note_slot}
 use Rattle.die_service.proofs.book.DieBook.perform_noted.Goals as goal
 
 pub returns-after-submit_lent-clause-refused : goal.returns-after-submit_lent-clause-refused
@@ -9,10 +10,12 @@ returns-after-submit_lent-clause-refused g c =
     let never = g.N.Nand.never_fails in
     let die = c.deref_mut.result.now in
     let same : die ≡ c.args.self.now = c.deref_mut.ensures.value ∙ c.self.view_is in
-    let runs : never ≡ true → die.stopped ≡ false = λ yes. ap (λ (k : Core g.row.N.Denot). k.stopped) c.deref_mut.ensures.value ∙ c.self.invariant yes in
+    let runs : never ≡ true → die.stopped ≡ false = λ yes. ap (λ (k : Core g.row.N.Denot). k.stopped) c.deref_mut.ensures.value
+    ∙ c.self.invariant yes in
     elim c.match-submit_lent.branch [
       | in-Ok w ↦ rw w.result-is tt
-      | in-Err w ↦ rw (w.result-is, c.in-Submit.is, ← same) (may_refuse never die.stopped die.plan die.log _ w.in-Err.refusal runs w.in-Err.ensures.stopped w.in-Err.ensures.refused)
+      | in-Err w ↦ rw (w.result-is, c.in-Submit.is, ← same)
+          (may_refuse never die.stopped die.plan die.log _ w.in-Err.refusal runs w.in-Err.ensures.stopped w.in-Err.ensures.refused)
     ]
 
 pub returns-after-collect-clause-refused : goal.returns-after-collect-clause-refused
@@ -20,10 +23,13 @@ returns-after-collect-clause-refused g c =
     let never = g.N.Nand.never_fails in
     let die = c.deref_mut-in-Collect.result.now in
     let same : die ≡ c.args.self.now = c.deref_mut-in-Collect.ensures.value ∙ c.self.view_is in
-    let runs : never ≡ true → die.stopped ≡ false = λ yes. ap (λ (k : Core g.row.N.Denot). k.stopped) c.deref_mut-in-Collect.ensures.value ∙ c.self.invariant yes in
+    let runs : never ≡ true → die.stopped ≡ false = λ yes. ap (λ (k : Core g.row.N.Denot). k.stopped) c.deref_mut-in-Collect.ensures.value
+    ∙ c.self.invariant yes in
     elim c.match-collect.branch [
       | in-Ok-collect w ↦ rw w.result-is tt
-      | in-Err-collect w ↦ rw (w.result-is, c.in-Collect.is, ← same) (may_refuse never die.stopped die.plan die.log _ w.in-Err-collect.refusal runs w.in-Err-collect.ensures.stopped w.in-Err-collect.ensures.refused)
+      | in-Err-collect w ↦ rw (w.result-is, c.in-Collect.is, ← same)
+          (may_refuse never die.stopped die.plan die.log _ w.in-Err-collect.refusal runs w.in-Err-collect.ensures.stopped
+          w.in-Err-collect.ensures.refused)
     ]
 
 pub returns-after-note_slot-clause-refused : goal.returns-after-note_slot-clause-refused
@@ -31,8 +37,11 @@ returns-after-note_slot-clause-refused g c =
     let never = g.N.Nand.never_fails in
     let die = c.deref_mut-in-Slot.result.now in
     let same : die ≡ c.args.self.now = c.deref_mut-in-Slot.ensures.value ∙ c.self.view_is in
-    let runs : never ≡ true → die.stopped ≡ false = λ yes. ap (λ (k : Core g.row.N.Denot). k.stopped) c.deref_mut-in-Slot.ensures.value ∙ c.self.invariant yes in
+    let runs : never ≡ true → die.stopped ≡ false = λ yes. ap (λ (k : Core g.row.N.Denot). k.stopped) c.deref_mut-in-Slot.ensures.value
+    ∙ c.self.invariant yes in
     elim c.match-note_slot.branch [
       | in-Ok-note_slot w ↦ rw w.result-is tt
-      | in-Err-note_slot w ↦ rw (w.result-is, c.in-Slot.is, ← same) (may_refuse_slot never die.stopped die.plan die.log w.in-Err-note_slot.refusal runs w.in-Err-note_slot.ensures.stopped w.in-Err-note_slot.ensures.refused w.in-Err-note_slot.ensures.never)
+      | in-Err-note_slot w ↦ rw (w.result-is, c.in-Slot.is, ← same)
+          (may_refuse_slot never die.stopped die.plan die.log w.in-Err-note_slot.refusal runs w.in-Err-note_slot.ensures.stopped
+          w.in-Err-note_slot.ensures.refused w.in-Err-note_slot.ensures.never)
     ]

@@ -9,5 +9,6 @@ returns-in-Ok-clause-gives g c = rw (log_of_calls c.args.self.now.log) (c.in-Ok.
 pub returns-in-Err-clause-gives : goal.returns-in-Err-clause-gives
 returns-in-Err-clause-gives g c =
     let log = c.args.self.now.log in
-    let entries : c.len-entries.result ≡ length log = c.len-entries.ensures ∙ ap (λ (k : Core g.row.N.Denot). length k.log) (c.deref.ensures ∙ c.self.view_is) in
+    let entries : c.len-entries.result ≡ length log = c.len-entries.ensures
+    ∙ ap (λ (k : Core g.row.N.Denot). length k.log) (c.deref.ensures ∙ c.self.view_is) in
     rw (log_of_calls log) (entries ∙ sym (length_of_calls log), c.in-Err.ensures.refused)

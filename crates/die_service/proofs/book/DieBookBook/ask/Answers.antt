@@ -12,14 +12,15 @@ pub returns-in-Worst : goal.returns-in-Worst
 returns-in-Worst g c = rw (c.in-Worst.is, log_of_calls c.args.self.now.log, ← c.self.view_is, ← c.deref-in-Worst.ensures) c.worst.ensures
 
 pub returns-in-Certificate : goal.returns-in-Certificate
-returns-in-Certificate g c = rw (c.in-Certificate.is, log_of_calls c.args.self.now.log, ← c.self.view_is, ← c.deref-in-Certificate.ensures) (record {
-  ok = c.certificate.ensures.ok;
-  none = c.certificate.ensures.none;
-  worst = c.certificate.ensures.worst;
-  holds = c.certificate.ensures.holds;
-  binds = c.certificate.ensures.binds;
-  refused = c.certificate.ensures.refused;
-})
+returns-in-Certificate g c = rw (c.in-Certificate.is, log_of_calls c.args.self.now.log, ← c.self.view_is, ← c.deref-in-Certificate.ensures)
+    (record {
+      ok = c.certificate.ensures.ok;
+      none = c.certificate.ensures.none;
+      worst = c.certificate.ensures.worst;
+      holds = c.certificate.ensures.holds;
+      binds = c.certificate.ensures.binds;
+      refused = c.certificate.ensures.refused;
+    })
 
 pub returns-in-Now : goal.returns-in-Now
 returns-in-Now g c = rw (c.in-Now.is, log_of_calls c.args.self.now.log, ← c.self.view_is, ← c.deref-in-Now.ensures) c.now.ensures

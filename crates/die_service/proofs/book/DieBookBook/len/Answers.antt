@@ -7,7 +7,8 @@ use Rattle.die_service.proofs.book.DieBookBook.len.Goals as goal
 pub returns-clause-most : goal.returns-clause-most
 returns-clause-most g c =
     let die = c.deref.result.now in
-    let entries : c.len.result ≡ length die.log = c.len.ensures ∙ ap (λ (k : Core g.row.N.Denot). length k.log) (c.deref-2.ensures ∙ sym c.deref.ensures) in
+    let entries : c.len.result ≡ length die.log = c.len.ensures
+    ∙ ap (λ (k : Core g.row.N.Denot). length k.log) (c.deref-2.ensures ∙ sym c.deref.ensures) in
     rw entries (few_entries die.plan die.log c.promises.ensures.exact)
 
 pub returns-clause-fits : goal.returns-clause-fits

@@ -2,7 +2,8 @@ use Rattle.std.proofs.Common.{◌≡◌, ◌+◌, ◌≤◌, length, arith, subs
 use Rattle.die_service.specs.Feeds.{with_ops}
 use Rattle.die_service.specs.Drives.{Course, Comes, NoneDue}
 use Rattle.die_service.proofs.Feeding.{on, none_left, none_yet, comes_now}
-use Rattle.die_service.proofs.courses.Course.next_due.Goals.{then-place-len-via-then-place-len, then-place-len-via-else-place-len+then-at-clock}
+use Rattle.die_service.proofs.courses.Course.next_due.Goals.{then-place-len-via-then-place-len}
+use Rattle.die_service.proofs.courses.Course.next_due.Goals.{then-place-len-via-else-place-len+then-at-clock}
 use Rattle.die_service.proofs.courses.Course.next_due.Goals as goal
 
 pub returns-then-place-len-clause-none : goal.returns-then-place-len-clause-none
@@ -10,12 +11,16 @@ returns-then-place-len-clause-none c =
     let f = c.self.inside in
     let len = c.len.ensures in
     subst (λ (k : Course). NoneDue c.args.clock k.rest) c.self.view_is (elim c.then-place-len.branch [
-      | then-place-len-via-then-place-len w ↦ none_left c.args.clock f.place f.feed (let past = w.if-place-len.true in omega (arith, len, past))
-      | then-place-len-via-else-place-len+then-at-clock w ↦ none_yet c.args.clock f.place w.at.result f.feed w.at.ensures (let later = w.if-at-clock.true in omega (arith, later))
+      | then-place-len-via-then-place-len w ↦ none_left c.args.clock f.place f.feed
+          (let past = w.if-place-len.true in omega (arith, len, past))
+      | then-place-len-via-else-place-len+then-at-clock w ↦ none_yet c.args.clock f.place w.at.result f.feed w.at.ensures
+          (let later = w.if-at-clock.true in omega (arith, later))
     ])
 
 pub returns-clause-due : goal.returns-clause-due
 returns-clause-due c =
     let f = c.self.inside in
-    subst (λ (k : Course). Comes c.args.clock k (with_ops c.read.result c.read.new.ops.items) (on (f.place + 1) f.feed c.read.new.ops.items f.refused.items)) c.self.view_is
-    (comes_now c.args.clock f.place c.at.result f.feed (with_ops c.read.result c.read.new.ops.items) f.ops.items c.read.new.ops.items f.refused.items c.at.ensures (let by = c.if-at-clock.false in omega (arith, by)) c.read.ensures.event c.self.invariant.0)
+    subst (λ (k : Course). Comes c.args.clock k (with_ops c.read.result c.read.new.ops.items)
+    (on (f.place + 1) f.feed c.read.new.ops.items f.refused.items)) c.self.view_is
+    (comes_now c.args.clock f.place c.at.result f.feed (with_ops c.read.result c.read.new.ops.items) f.ops.items c.read.new.ops.items
+    f.refused.items c.at.ensures (let by = c.if-at-clock.false in omega (arith, by)) c.read.ensures.event c.self.invariant.0)

@@ -3,10 +3,13 @@ use Rattle.die_service.proofs.Passing.{noted_accepted, noted_added, noted_left}
 use Rattle.die_service.proofs.die.Die.note.Goals as goal
 
 pub returns-clause-accepted : goal.returns-clause-accepted
-returns-clause-accepted g c = noted_accepted g.N.Nand.never_fails c.args.pass.now.view (with_ops c.args.head c.args.ops.now) c.note.result c.note.new.pass.view c.note.ensures.reply
+returns-clause-accepted g c = noted_accepted g.N.Nand.never_fails c.args.pass.now.view (with_ops c.args.head c.args.ops.now) c.note.result
+    c.note.new.pass.view c.note.ensures.reply
 
 pub returns-clause-added : goal.returns-clause-added
-returns-clause-added g c = noted_added g.N.Nand.never_fails c.args.pass.now.view (with_ops c.args.head c.args.ops.now) c.note.result c.note.new.pass.view c.note.ensures.reply c.note.ensures.own
+returns-clause-added g c = noted_added g.N.Nand.never_fails c.args.pass.now.view (with_ops c.args.head c.args.ops.now) c.note.result
+    c.note.new.pass.view c.note.ensures.reply c.note.ensures.own
 
 pub returns-clause-refused : goal.returns-clause-refused
-returns-clause-refused g c = noted_left g.N.Nand.never_fails c.args.pass.now.view (with_ops c.args.head c.args.ops.now) c.note.result c.note.new.pass.view c.note.ensures.reply c.note.ensures.own
+returns-clause-refused g c = noted_left g.N.Nand.never_fails c.args.pass.now.view (with_ops c.args.head c.args.ops.now) c.note.result
+    c.note.new.pass.view c.note.ensures.reply c.note.ensures.own

@@ -1,4 +1,5 @@
-use Rattle.std.proofs.Common.{◌≡◌, ◌+◌, ◌-◌, ◌<◌, ◌++◌, ℕ, List, Some, length, take, drop, slice_get, vec_len, vec_capacity, rules, arith, refl, sym, ap, ◌∙◌, subst}
+use Rattle.std.proofs.Common.{◌≡◌, ◌+◌, ◌-◌, ◌<◌, ◌++◌, ℕ, List, Some, length, take, drop, slice_get, vec_len, vec_capacity, rules, arith}
+use Rattle.std.proofs.Common.{refl, sym, ap, ◌∙◌, subst}
 use Rattle.std.specs.Prelude.{option_map}
 use Rattle.std.proofs.lemmas.List.{length-map}
 use Rattle.std.proofs.lemmas.Option.{slice_get_read}
@@ -18,7 +19,8 @@ copy_to-requires c =
     let within : c.args.place < length f.rows.items = omega (arith, len, there, length-map f.rows.items (arrival_at f.ops)) in
     let at_n = slice_get_read f.rows.items (length f.rows.items) c.args.place row refl within c.index-row.ensures in
     let is = row_at f.ops f.most f.rows.items c.args.place row at_n c.self.invariant in
-    let few = room_at f.ops f.most (vec_capacity c.args.ops.now) f.rows.items c.args.place row at_n c.if-row.false is (subst (HaveAtMost (vec_capacity c.args.ops.now)) (sym c.self.view_is) c.requires.room) in
+    let few = room_at f.ops f.most (vec_capacity c.args.ops.now) f.rows.items c.args.place row at_n c.if-row.false is
+    (subst (HaveAtMost (vec_capacity c.args.ops.now)) (sym c.self.view_is) c.requires.room) in
     let none = c.clear.ensures.len in
     let same = c.clear.ensures.capacity in
     record { there = is.there; room = omega (arith, few, none, same) }

@@ -7,5 +7,9 @@ use Rattle.due_queue.proofs.due_queue.DueQueue.insert.Goals as goal
 
 pub returns-clause-keys : goal.returns-clause-keys
 returns-clause-keys c =
-    rw (c.insert.ensures.keys, map-inserted is_pair_before is_due_before key_of (λ p q. refl) (c.args.key.due, c.args.key.number) c.self.inside.pairs.keys)
+    rw (
+      c.insert.ensures.keys,
+      map-inserted is_pair_before is_due_before key_of (λ p q. refl) (c.args.key.due, c.args.key.number)
+          c.self.inside.pairs.keys,
+    )
     (ap (λ (queue : Queue _). inserted is_due_before c.args.key queue.keys) c.self.view_is)

@@ -15,10 +15,12 @@ invariant_of-self c =
     let spare = ap (λ (queue : Queue _). queue.spare) c.self.view_is in
     record {
       in_order = c.in-Ok.ensures.heap_order c.self.invariant.in_order;
-      rising = rw held (rising-inserted is_pair_before pairs_strict c.args.pair (pairs_in (heap_items c.self.inside.heap)) absent c.self.invariant.rising);
+      rising = rw held (rising-inserted is_pair_before pairs_strict c.args.pair (pairs_in (heap_items c.self.inside.heap)) absent
+          c.self.invariant.rising);
       room = omega (arith, c.in-Ok.ensures.len, c.in-Ok.ensures.capacity);
     }
 
 pub returns-clause-keys : goal.returns-clause-keys
 returns-clause-keys c =
-    pairs_in-IsPermutation _ _ c.in-Ok.ensures.permutation ∙ ap (λ (queue : Queue _). inserted is_pair_before c.args.pair queue.keys) c.self.view_is
+    pairs_in-IsPermutation _ _ c.in-Ok.ensures.permutation
+    ∙ ap (λ (queue : Queue _). inserted is_pair_before c.args.pair queue.keys) c.self.view_is

@@ -10,5 +10,6 @@ use Rattle.due_queue.proofs.pair_heap.PairHeap.len.Goals as goal
 pub returns-clause-len : goal.returns-clause-len
 returns-clause-len c =
     c.len.ensures ∙ c.self.inside.heap.data.ok.0
-    ∙ sym (length-in_order is_pair_before (map (λ (item : Item). item.0) (heap_items c.self.inside.heap)) ∙ length-map (heap_items c.self.inside.heap) (λ (item : Item). item.0))
+    ∙ sym (length-in_order is_pair_before (map (λ (item : Item). item.0) (heap_items c.self.inside.heap))
+    ∙ length-map (heap_items c.self.inside.heap) (λ (item : Item). item.0))
     ∙ ap (λ (queue : Queue _). length queue.keys) c.self.view_is

@@ -6,4 +6,5 @@ use Rattle.due_queue.proofs.wait_list.WaitList.len.Goals as goal
 
 pub returns-clause-rising : goal.returns-clause-rising
 returns-clause-rising c =
-    rw (← c.self.view_is) (rising-map is_pair_before is_released_before wait_key_of (λ p q. refl) c.self.inside.pairs.keys c.len.ensures.rising)
+    rw (← c.self.view_is) (rising-map is_pair_before is_released_before wait_key_of (λ p q. refl) c.self.inside.pairs.keys
+    c.len.ensures.rising)

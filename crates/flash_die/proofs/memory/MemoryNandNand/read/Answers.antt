@@ -9,7 +9,8 @@ use Rattle.flash_die.proofs.memory.MemoryNandNand.read.Goals.{After-self}
 programmed : (c : After-self) → Within c.self.inside.shape (cells_of c.self.inside) c.self.inside.filled.items c.args.place
 programmed c =
     let m = c.self.inside in
-    within m.shape (cells_of m) m.filled.items m.erasing.items m.erases.items c.args.place c.self.invariant.memory (rw (← c.self.view_is) at c.requires.programmed)
+    within m.shape (cells_of m) m.filled.items m.erasing.items m.erases.items c.args.place c.self.invariant.memory
+    (rw (← c.self.view_is) at c.requires.programmed)
 
 pub overflow_mul-at : goal.overflow_mul-at
 overflow_mul-at c = omega (arith, (programmed (goal.at.overflow_mul-at c).After-self).small)
@@ -22,4 +23,6 @@ returns-clause-cell c =
     let m = c.self.inside in
     let is = programmed (goal.at.returns-clause-cell c).After-self in
     let at = c.args.place.block * m.shape.pages + c.args.place.page in
-    rw (← c.self.view_is) (rw c.deref.ensures.value at c.read_cell.ensures ∙ sym (read-laid (m.shape.blocks * m.shape.pages) m.cells.items at) ∙ sym (cell_is m.shape (cells_of m) m.filled.items m.erasing.items m.erases.items c.args.place is))
+    rw (← c.self.view_is) (rw c.deref.ensures.value at c.read_cell.ensures
+    ∙ sym (read-laid (m.shape.blocks * m.shape.pages) m.cells.items at)
+    ∙ sym (cell_is m.shape (cells_of m) m.filled.items m.erasing.items m.erases.items c.args.place is))

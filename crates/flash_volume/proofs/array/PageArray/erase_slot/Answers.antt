@@ -1,13 +1,15 @@
 use Rattle.std.proofs.Common.{◌+◌, [], arith}
 use Rattle.flash_die.specs.Flash.{block_at}
 use Rattle.flash_volume.proofs.Opening.{seen}
-use Rattle.flash_volume.proofs.Erasing.{IsEmptied, erases_are_counted, unplaced_of, stands_going, stands_freed, contents_erased, erased_last, erased_going}
+use Rattle.flash_volume.proofs.Erasing.{IsEmptied, erases_are_counted, unplaced_of, stands_going, stands_freed, contents_erased}
+use Rattle.flash_volume.proofs.Erasing.{erased_last, erased_going}
 use Rattle.flash_volume.proofs.array.PageArray.erase_slot.Given.{Over}
 use Rattle.flash_volume.proofs.array.PageArray.erase_slot.Goals as goal
 use Rattle.flash_volume.proofs.array.PageArray.erase_slot.Goals.{After-erase_slot}
 
 -- the block is closed, and no page lies in it
-emptied : (g : Over) (c : After-erase_slot g) → IsEmptied (g.N.Nand.shape_of c.self.inside.device) (g.N.Nand.blocks c.self.inside.device) c.self.inside.map.places c.args.block
+emptied : (g : Over) (c : After-erase_slot g) → IsEmptied (g.N.Nand.shape_of c.self.inside.device) (g.N.Nand.blocks c.self.inside.device)
+    c.self.inside.map.places c.args.block
 emptied g c =
     let stands = c.self.invariant (rw (← c.self.view_is) at c.requires.alive) in
     let in_range = rw (← c.self.view_is) at c.requires.block in
@@ -26,23 +28,28 @@ invariant_of-self-in-Ok-true g c = λ _.
     let stands = c.self.invariant (rw (← c.self.view_is) at c.requires.alive) in
     let clear = emptied g (goal.at.invariant_of-self-in-Ok-true g c).After-erase_slot in
     let b = g.N.Nand.blocks c.self.inside.device in
-    let is = erased_last b (g.N.Nand.blocks c.erase_slot.new.self) (g.N.Nand.shape_of c.self.inside.device).erase_slots c.args.block c.in-Ok-true.field-0 c.in-Ok-true.ensures.blocks c.in-Ok-true.ensures.last c.in-Ok-true.field-0-test in
-    let worn_is = erases_are_counted c.args.block c.index_mut-in-Ok-true.result.now stands clear.in_range c.index_mut-in-Ok-true.ensures.value in
-    rw (c.erase_slot.ensures.shape, c.in-Ok-true.ensures.well, is, worn_is) (stands_freed ((block_at b c.args.block).erases + 1) stands clear (rw (← c.self.view_is) at c.requires.taken))
+    let is = erased_last b (g.N.Nand.blocks c.erase_slot.new.self) (g.N.Nand.shape_of c.self.inside.device).erase_slots c.args.block
+    c.in-Ok-true.field-0 c.in-Ok-true.ensures.blocks c.in-Ok-true.ensures.last c.in-Ok-true.field-0-test in
+    let worn_is = erases_are_counted c.args.block c.index_mut-in-Ok-true.result.now stands clear.in_range
+    c.index_mut-in-Ok-true.ensures.value in
+    rw (c.erase_slot.ensures.shape, c.in-Ok-true.ensures.well, is, worn_is)
+    (stands_freed ((block_at b c.args.block).erases + 1) stands clear (rw (← c.self.view_is) at c.requires.taken))
 
 pub invariant_of-self-in-Ok-false : goal.invariant_of-self-in-Ok-false
 invariant_of-self-in-Ok-false g c = λ _.
     let stands = c.self.invariant (rw (← c.self.view_is) at c.requires.alive) in
     let clear = emptied g (goal.at.invariant_of-self-in-Ok-false g c).After-erase_slot in
     let b = g.N.Nand.blocks c.self.inside.device in
-    let is = erased_going b (g.N.Nand.blocks c.erase_slot.new.self) (g.N.Nand.shape_of c.self.inside.device).erase_slots c.args.block c.in-Ok-false.field-0 c.in-Ok-false.ensures.blocks c.in-Ok-false.ensures.last c.in-Ok-false.field-0-test in
+    let is = erased_going b (g.N.Nand.blocks c.erase_slot.new.self) (g.N.Nand.shape_of c.self.inside.device).erase_slots c.args.block
+    c.in-Ok-false.field-0 c.in-Ok-false.ensures.blocks c.in-Ok-false.ensures.last c.in-Ok-false.field-0-test in
     rw (c.erase_slot.ensures.shape, c.in-Ok-false.ensures.well, is) (stands_going stands clear (rw (← c.self.view_is) at c.requires.taken))
 
 pub returns-in-Ok-true-clause-contents : goal.returns-in-Ok-true-clause-contents
 returns-in-Ok-true-clause-contents g c =
     let clear = emptied g (goal.at.returns-in-Ok-true-clause-contents g c).After-erase_slot in
     let b = g.N.Nand.blocks c.self.inside.device in
-    let is = erased_last b (g.N.Nand.blocks c.erase_slot.new.self) (g.N.Nand.shape_of c.self.inside.device).erase_slots c.args.block c.in-Ok-true.field-0 c.in-Ok-true.ensures.blocks c.in-Ok-true.ensures.last c.in-Ok-true.field-0-test in
+    let is = erased_last b (g.N.Nand.blocks c.erase_slot.new.self) (g.N.Nand.shape_of c.self.inside.device).erase_slots c.args.block
+    c.in-Ok-true.field-0 c.in-Ok-true.ensures.blocks c.in-Ok-true.ensures.last c.in-Ok-true.field-0-test in
     rw (is, ← c.self.view_is) (contents_erased (record { pages = []; erasing = 0; erases = (block_at b c.args.block).erases + 1 }) clear)
 
 pub returns-in-Ok-true-clause-sound : goal.returns-in-Ok-true-clause-sound

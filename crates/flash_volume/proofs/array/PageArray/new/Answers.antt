@@ -4,12 +4,21 @@ use Rattle.flash_volume.proofs.array.PageArray.new.Goals as goal
 
 pub invariant_of-result : goal.invariant_of-result
 invariant_of-result g c = λ _.
-    rw (c.in_ok-new.ensures.ok, c.in_ok-new-2.ensures.ok, c.shape-shape.ensures, c.in_ok-vec.ensures.items_if_clones_equal (λ _ same. same), c.in_ok-vec-2.ensures.items_if_clones_equal (λ _ same. same), c.shape-shape.ensures) (
-    stands_fresh (g.N.Nand.shape_of c.args.device) (g.N.Nand.failures c.args.device) (g.N.Nand.blocks c.args.device) c.args.logical c.requires.limits c.requires.fresh
+    rw (
+      c.in_ok-new.ensures.ok,
+      c.in_ok-new-2.ensures.ok,
+      c.shape-shape.ensures,
+      c.in_ok-vec.ensures.items_if_clones_equal (λ _ same. same),
+      c.in_ok-vec-2.ensures.items_if_clones_equal (λ _ same. same),
+      c.shape-shape.ensures,
+    ) (
+    stands_fresh (g.N.Nand.shape_of c.args.device) (g.N.Nand.failures c.args.device) (g.N.Nand.blocks c.args.device) c.args.logical
+    c.requires.limits c.requires.fresh
     )
 
 pub returns-clause-sound : goal.returns-clause-sound
 returns-clause-sound g c = λ _.
     rw (c.in_ok-new.ensures.ok, c.in_ok-new-2.ensures.ok, c.shape-shape.ensures) (
-    seen (stands_fresh (g.N.Nand.shape_of c.args.device) (g.N.Nand.failures c.args.device) (g.N.Nand.blocks c.args.device) c.args.logical c.requires.limits c.requires.fresh)
+    seen (stands_fresh (g.N.Nand.shape_of c.args.device) (g.N.Nand.failures c.args.device) (g.N.Nand.blocks c.args.device) c.args.logical
+    c.requires.limits c.requires.fresh)
     )

@@ -6,4 +6,5 @@ pub invariant_of-self : goal.invariant_of-self
 invariant_of-self g c = λ alive. rw (c.take_least.ensures.taken, c.unwrap.ensures) (stands_without c.unwrap.result (c.self.invariant alive))
 
 pub returns-clause-sound : goal.returns-clause-sound
-returns-clause-sound g c = λ alive. rw (c.take_least.ensures.taken, c.unwrap.ensures) (seen (stands_without c.unwrap.result (c.self.invariant alive)))
+returns-clause-sound g c = λ alive. rw (c.take_least.ensures.taken, c.unwrap.ensures)
+    (seen (stands_without c.unwrap.result (c.self.invariant alive)))

@@ -10,13 +10,16 @@ leave-requires g c = λ place n lay counted.
 
 pub invariant_of-self : goal.invariant_of-self
 invariant_of-self g c = λ alive.
-    rw (c.leave.ensures, c.place-before.ensures.place, c.unbind.ensures.gone) (stands_trimmed c.args.page (c.self.invariant alive) (rw (← c.self.view_is) at c.requires.page))
+    rw (c.leave.ensures, c.place-before.ensures.place, c.unbind.ensures.gone)
+    (stands_trimmed c.args.page (c.self.invariant alive) (rw (← c.self.view_is) at c.requires.page))
 
 pub returns-clause-sound : goal.returns-clause-sound
 returns-clause-sound g c = λ alive. seen (invariant_of-self g c alive)
 
 pub returns-clause-candidates : goal.returns-clause-candidates
-returns-clause-candidates g c = λ block. rw (← c.self.view_is, c.leave.ensures) (left_some c.place-before.result c.self.inside.victims.counts block)
+returns-clause-candidates g c = λ block. rw (← c.self.view_is, c.leave.ensures)
+    (left_some c.place-before.result c.self.inside.victims.counts block)
 
 pub returns-clause-contents : goal.returns-clause-contents
-returns-clause-contents g c = rw (← c.self.view_is, c.unbind.ensures.gone) (contents_trimmed (g.N.Nand.blocks c.self.inside.device) c.self.inside.map.places c.args.page)
+returns-clause-contents g c = rw (← c.self.view_is, c.unbind.ensures.gone)
+    (contents_trimmed (g.N.Nand.blocks c.self.inside.device) c.self.inside.map.places c.args.page)

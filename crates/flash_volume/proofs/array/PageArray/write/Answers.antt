@@ -9,7 +9,9 @@ use Rattle.flash_volume.proofs.array.PageArray.write.Goals as goal
 use Rattle.flash_volume.proofs.array.PageArray.write.Goals.{After-next_cell-place}
 
 -- the array stands, and the cell that was found is the next one
-ready : (g : Over) (c : After-next_cell-place g) → Ready (g.N.Nand.shape_of c.self.inside.device) (g.N.Nand.failures c.self.inside.device) (g.N.Nand.blocks c.self.inside.device) c.self.inside.map c.self.inside.fills.items c.self.inside.erases.items c.self.inside.writing c.self.inside.victims c.args.page c.next_cell-place.result
+ready : (g : Over) (c : After-next_cell-place g) → Ready (g.N.Nand.shape_of c.self.inside.device) (g.N.Nand.failures c.self.inside.device)
+    (g.N.Nand.blocks c.self.inside.device) c.self.inside.map c.self.inside.fills.items c.self.inside.erases.items c.self.inside.writing
+    c.self.inside.victims c.args.page c.next_cell-place.result
 ready g c =
     let stands = c.self.invariant (rw (← c.self.view_is) at c.requires.alive) in
     let is = rw (← c.self.view_is) at c.next_cell-place.ensures in
@@ -43,7 +45,13 @@ leave-requires g c =
 pub close_when_filled-requires-clause-in_range : goal.close_when_filled-requires-clause-in_range
 close_when_filled-requires-clause-in_range g c =
     let k = ready g (goal.at.close_when_filled-requires-clause-in_range g c).After-next_cell-place in
-    rw c.leave.ensures (omega (arith, left_len c.place-before.result c.self.inside.victims.counts, k.stands.candidates_len, k.fit.in_range, k.stands.count))
+    rw c.leave.ensures (omega (
+      arith,
+      left_len c.place-before.result c.self.inside.victims.counts,
+      k.stands.candidates_len,
+      k.fit.in_range,
+      k.stands.count,
+    ))
 
 pub close_when_filled-requires-clause-open : goal.close_when_filled-requires-clause-open
 close_when_filled-requires-clause-open g c =
@@ -60,9 +68,29 @@ invariant_of-self-in-Ok g c = λ _.
     let k = ready g (goal.at.invariant_of-self-in-Ok g c).After-next_cell-place in
     let worn = c.self.inside.erases.items in
     let block = c.next_cell-place.result.block in
-    let below : block < length worn = omega (arith, k.fit.in_range, ap length k.stands.erases_are, length-map (g.N.Nand.blocks c.self.inside.device) (λ (b : Block). b.erases)) in
-    let worn_read : c.index-erases.result.now ≡ get_or worn block 0 = get_or_read worn block c.index-erases.result.now below c.index-erases.ensures 0 in
-    rw (c.program.ensures.shape, c.in-Ok.ensures.well, c.in-Ok.ensures.blocks, c.left_open-still_open.ensures, c.close_when_filled.ensures, c.leave.ensures, c.valid-valid.ensures, c.bind.ensures, c.place-before.ensures.place, c.shape-pages.ensures, c.program.ensures.shape, worn_read) (stands_written c.args.page c.args.bytes k.stands k.fit k.in_list)
+    let below : block < length worn = omega (
+      arith,
+      k.fit.in_range,
+      ap length k.stands.erases_are,
+      length-map
+          (g.N.Nand.blocks c.self.inside.device) (λ (b : Block). b.erases),
+    ) in
+    let worn_read : c.index-erases.result.now ≡ get_or worn block 0 = get_or_read worn block c.index-erases.result.now below
+    c.index-erases.ensures 0 in
+    rw (
+      c.program.ensures.shape,
+      c.in-Ok.ensures.well,
+      c.in-Ok.ensures.blocks,
+      c.left_open-still_open.ensures,
+      c.close_when_filled.ensures,
+      c.leave.ensures,
+      c.valid-valid.ensures,
+      c.bind.ensures,
+      c.place-before.ensures.place,
+      c.shape-pages.ensures,
+      c.program.ensures.shape,
+      worn_read,
+    ) (stands_written c.args.page c.args.bytes k.stands k.fit k.in_list)
 
 pub returns-in-Ok-clause-sound : goal.returns-in-Ok-clause-sound
 returns-in-Ok-clause-sound g c = λ again. seen (invariant_of-self-in-Ok g c again)
@@ -80,10 +108,24 @@ returns-in-Ok-clause-free g c =
 pub returns-in-Ok-clause-closes : goal.returns-in-Ok-clause-closes
 returns-in-Ok-clause-closes g c =
     let k = ready g (goal.at.returns-in-Ok-clause-closes g c).After-next_cell-place in
-    rw (← c.self.view_is, c.in-Ok.ensures.blocks, c.close_when_filled.ensures, c.leave.ensures, c.valid-valid.ensures, c.bind.ensures, c.place-before.ensures.place, c.shape-pages.ensures, c.program.ensures.shape, k.is) (closes_filled c.args.page c.args.bytes k.stands (rw k.is at k.fit))
+    rw (
+      ← c.self.view_is,
+      c.in-Ok.ensures.blocks,
+      c.close_when_filled.ensures,
+      c.leave.ensures,
+      c.valid-valid.ensures,
+      c.bind.ensures,
+      c.place-before.ensures.place,
+      c.shape-pages.ensures,
+      c.program.ensures.shape,
+      k.is,
+    )
+    (closes_filled c.args.page c.args.bytes k.stands (rw k.is at k.fit))
 
 pub returns-in-Err-clause-finds : goal.returns-in-Err-clause-finds
-returns-in-Err-clause-finds g c = some_open (g.N.Nand.shape_of c.args.self.now.device).pages (g.N.Nand.blocks c.args.self.now.device) c.requires.free
+returns-in-Err-clause-finds g c = some_open (g.N.Nand.shape_of c.args.self.now.device).pages (g.N.Nand.blocks c.args.self.now.device)
+    c.requires.free
 
 pub returns-in-Ok-clause-finds : goal.returns-in-Ok-clause-finds
-returns-in-Ok-clause-finds g c = some_open (g.N.Nand.shape_of c.args.self.now.device).pages (g.N.Nand.blocks c.args.self.now.device) c.requires.free
+returns-in-Ok-clause-finds g c = some_open (g.N.Nand.shape_of c.args.self.now.device).pages (g.N.Nand.blocks c.args.self.now.device)
+    c.requires.free

@@ -14,7 +14,8 @@ erase_slot-requires-clause-unplaced g c =
 
 pub settle-given-requires-clause-room : goal.settle-given-requires-clause-room
 settle-given-requires-clause-room g c =
-    room c.args.task c.args.collection (c.self.invariant (rw (← c.self.view_is) at c.requires.alive)) (rw (← c.self.view_is) at c.requires.runs)
+    room c.args.task c.args.collection (c.self.invariant (rw (← c.self.view_is) at c.requires.alive))
+    (rw (← c.self.view_is) at c.requires.runs)
 
 pub invariant_of-self-in-Ok-true : goal.invariant_of-self-in-Ok-true
 invariant_of-self-in-Ok-true g c = λ again.
@@ -23,14 +24,28 @@ invariant_of-self-in-Ok-true g c = λ again.
     let runs = rw (← c.self.view_is) at c.requires.runs in
     let s = g.N.Nand.shape_of c.self.inside.array.device in
     let b = g.N.Nand.blocks c.self.inside.array.device in
-    let is = erased_last b (g.N.Nand.blocks c.erase_slot.new.self.device) s.erase_slots c.args.collection.victim c.in-Ok-true.field-0 c.in-Ok-true.ensures.cells c.in-Ok-true.ensures.last c.in-Ok-true.field-0-test in
+    let is = erased_last b (g.N.Nand.blocks c.erase_slot.new.self.device) s.erase_slots c.args.collection.victim c.in-Ok-true.field-0
+    c.in-Ok-true.ensures.cells c.in-Ok-true.ensures.last c.in-Ok-true.field-0-test in
     let own = c.reserve-reserve.ensures.sound in
     let a = c.self.inside.ledger in
     let copied = c.plan.result.now.shape.pages - c.plan-2.result.now.alpha - c.reserve-reserve.result in
-    let refilled : get_or a.reserves c.args.task 0 + copied ≡ a.plan.shape.pages - a.plan.alpha = omega (arith, own.reserved c.args.task, c.reserve-reserve.ensures.reserve, ap (λ p. p.shape.pages) c.plan.ensures, ap (λ p. p.alpha) c.plan-2.ensures) in
+    let refilled : get_or a.reserves c.args.task 0 + copied
+    ≡ a.plan.shape.pages - a.plan.alpha = omega (
+      arith,
+      own.reserved c.args.task,
+      c.reserve-reserve.ensures.reserve,
+      ap
+          (λ p. p.shape.pages) c.plan.ensures,
+      ap (λ p. p.alpha) c.plan-2.ensures,
+    ) in
     let in_reserves : c.args.task < length a.reserves = omega (arith, own.reserves_len, task) in
     rw (c.task.view_is, c.erase_slot.ensures.placing, c.erase_slot.ensures.candidates) (
-    sound_ended c.settle-given.new.self c.args.task ((block_at b c.args.collection.victim).erases + 1) (get_or a.reserves c.args.task 0 + copied) c.args.collection sound task runs (rw (c.erase_slot.ensures.placing, c.erase_slot.ensures.candidates) at (c.erase_slot.ensures.sound again)) c.erase_slot.ensures.shape is (c.in-Ok-true.ensures.ends (rw c.in-Ok-true.field-0-test refl)) (ap (λ x. x.plan) c.settle-given.ensures.moved) (ap (λ x. x.reserves) c.settle-given.ensures.moved) refilled in_reserves c.settle-given.ensures.total
+    sound_ended c.settle-given.new.self c.args.task ((block_at b c.args.collection.victim).erases + 1)
+    (get_or a.reserves c.args.task 0 + copied) c.args.collection sound task runs
+    (rw (c.erase_slot.ensures.placing, c.erase_slot.ensures.candidates) at (c.erase_slot.ensures.sound again))
+    c.erase_slot.ensures.shape is (c.in-Ok-true.ensures.ends (rw c.in-Ok-true.field-0-test refl))
+    (ap (λ x. x.plan) c.settle-given.ensures.moved) (ap (λ x. x.reserves) c.settle-given.ensures.moved) refilled in_reserves
+    c.settle-given.ensures.total
     )
 
 pub invariant_of-self-in-Ok-false : goal.invariant_of-self-in-Ok-false
@@ -40,20 +55,26 @@ invariant_of-self-in-Ok-false g c = λ again.
     let runs = rw (← c.self.view_is) at c.requires.runs in
     let s = g.N.Nand.shape_of c.self.inside.array.device in
     let b = g.N.Nand.blocks c.self.inside.array.device in
-    let is = erased_going b (g.N.Nand.blocks c.erase_slot.new.self.device) s.erase_slots c.args.collection.victim c.in-Ok-false.field-0 c.in-Ok-false.ensures.cells c.in-Ok-false.ensures.last c.in-Ok-false.field-0-test in
-    rw (c.task-in-Ok-false.view_is, c.erase_slot.ensures.placing, c.erase_slot.ensures.candidates) (sound_going c.args.task c.args.collection sound task runs (rw (c.erase_slot.ensures.placing, c.erase_slot.ensures.candidates) at (c.erase_slot.ensures.sound again)) c.erase_slot.ensures.shape is (c.in-Ok-false.ensures.goes_on (rw c.in-Ok-false.field-0-test refl)))
+    let is = erased_going b (g.N.Nand.blocks c.erase_slot.new.self.device) s.erase_slots c.args.collection.victim c.in-Ok-false.field-0
+    c.in-Ok-false.ensures.cells c.in-Ok-false.ensures.last c.in-Ok-false.field-0-test in
+    rw (c.task-in-Ok-false.view_is, c.erase_slot.ensures.placing, c.erase_slot.ensures.candidates)
+    (sound_going c.args.task c.args.collection sound task runs
+    (rw (c.erase_slot.ensures.placing, c.erase_slot.ensures.candidates) at (c.erase_slot.ensures.sound again))
+    c.erase_slot.ensures.shape is (c.in-Ok-false.ensures.goes_on (rw c.in-Ok-false.field-0-test refl)))
 
 pub returns-in-Ok-true-clause-did : goal.returns-in-Ok-true-clause-did
 returns-in-Ok-true-clause-did g c =
     let sound = c.self.invariant (rw (← c.self.view_is) at c.requires.alive) in
     let run = sound.runs.each c.args.task c.args.collection (rw (← c.self.view_is) at c.requires.runs) in
-    let clear = unplaced_of c.args.collection.victim sound.stands run.in_range run.closed (rw (← c.self.view_is, ← sound.shape_is) at c.requires.unplaced) in
+    let clear = unplaced_of c.args.collection.victim sound.stands run.in_range run.closed
+    (rw (← c.self.view_is, ← sound.shape_is) at c.requires.unplaced) in
     let s = g.N.Nand.shape_of c.self.inside.array.device in
     let b = g.N.Nand.blocks c.self.inside.array.device in
     let own = c.reserve-reserve.ensures.sound in
     let a = c.self.inside.ledger in
     let copied = c.plan.result.now.shape.pages - c.plan-2.result.now.alpha - c.reserve-reserve.result in
-    let copied_is : copied ≡ a.plan.shape.pages - a.plan.alpha - get_or a.reserves c.args.task 0 = rw (c.plan.ensures, c.plan-2.ensures, c.reserve-reserve.ensures.reserve) refl in
+    let copied_is : copied ≡ a.plan.shape.pages - a.plan.alpha - get_or a.reserves c.args.task 0 = rw
+    (c.plan.ensures, c.plan-2.ensures, c.reserve-reserve.ensures.reserve) refl in
     rw (← c.self.view_is) (
     record {
       dropped = dropped run (rw (← c.self.view_is) at c.requires.left);
@@ -66,7 +87,8 @@ returns-in-Ok-true-clause-did g c =
         pages = c.in-Ok-true.ensures.contents;
         well = c.in-Ok-true.ensures.failed;
       };
-      last = rw (← sound.shape_is) (eqb-true ((block_at b c.args.collection.victim).erasing + 1) s.erase_slots (sym c.in-Ok-true.ensures.last ∙ c.in-Ok-true.field-0-test));
+      last = rw (← sound.shape_is) (eqb-true ((block_at b c.args.collection.victim).erasing + 1) s.erase_slots
+          (sym c.in-Ok-true.ensures.last ∙ c.in-Ok-true.field-0-test));
       given = c.settle-given.ensures.given;
       accounts = c.settle-given.ensures.moved ∙ ap (λ (n : ℕ). settled a c.args.task n) copied_is;
       running = rw c.task.view_is refl;
@@ -77,7 +99,8 @@ pub returns-in-Ok-false-clause-did : goal.returns-in-Ok-false-clause-did
 returns-in-Ok-false-clause-did g c =
     let sound = c.self.invariant (rw (← c.self.view_is) at c.requires.alive) in
     let run = sound.runs.each c.args.task c.args.collection (rw (← c.self.view_is) at c.requires.runs) in
-    let clear = unplaced_of c.args.collection.victim sound.stands run.in_range run.closed (rw (← c.self.view_is, ← sound.shape_is) at c.requires.unplaced) in
+    let clear = unplaced_of c.args.collection.victim sound.stands run.in_range run.closed
+    (rw (← c.self.view_is, ← sound.shape_is) at c.requires.unplaced) in
     let s = g.N.Nand.shape_of c.self.inside.array.device in
     let b = g.N.Nand.blocks c.self.inside.array.device in
     rw (← c.self.view_is) (
@@ -92,7 +115,8 @@ returns-in-Ok-false-clause-did g c =
         pages = c.in-Ok-false.ensures.contents;
         well = c.in-Ok-false.ensures.failed;
       };
-      going = rw (← sound.shape_is) (eqb-false ((block_at b c.args.collection.victim).erasing + 1) s.erase_slots (sym c.in-Ok-false.ensures.last ∙ c.in-Ok-false.field-0-test));
+      going = rw (← sound.shape_is) (eqb-false ((block_at b c.args.collection.victim).erasing + 1) s.erase_slots
+          (sym c.in-Ok-false.ensures.last ∙ c.in-Ok-false.field-0-test));
       accounts = refl;
       running = rw c.task-in-Ok-false.view_is refl;
     }

@@ -17,7 +17,8 @@ lent g c =
 
 pub write-requires-clause-free : goal.write-requires-clause-free
 write-requires-clause-free g c =
-    some_lent c.args.task (c.self.invariant (rw (← c.self.view_is) at c.requires.alive)) (lent g (goal.at.write-requires-clause-free g c).After-self)
+    some_lent c.args.task (c.self.invariant (rw (← c.self.view_is) at c.requires.alive))
+    (lent g (goal.at.write-requires-clause-free g c).After-self)
 
 pub spend_reserve-requires-clause-reserved : goal.spend_reserve-requires-clause-reserved
 spend_reserve-requires-clause-reserved g c = lent g (goal.at.spend_reserve-requires-clause-reserved g c).After-self
@@ -31,7 +32,19 @@ invariant_of-self-in-Ok g c = λ again.
     let reserve = lent g (goal.at.invariant_of-self-in-Ok g c).After-self in
     let fit = next_fits sound.stands (some_lent c.args.task sound reserve) in
     rw c.task.view_is (
-    sound_copied c.spend_reserve.new.self c.args.task c.args.collection c.args.copied sound fit task runs c.requires.holds lies (record { stands = c.write.ensures.sound again; shape_is = c.write.ensures.shape; cells = c.in-Ok.ensures.cells; placing_is = c.in-Ok.ensures.placing; free = c.in-Ok.ensures.free; others = c.in-Ok.ensures.candidates; closes = c.in-Ok.ensures.closes }) (ap (λ x. x.plan) c.spend_reserve.ensures.moved) (ap (λ x. x.reserves) c.spend_reserve.ensures.moved) (in_list c.self.inside.ledger.reserves c.args.task reserve) c.spend_reserve.ensures.total
+    sound_copied c.spend_reserve.new.self c.args.task c.args.collection c.args.copied sound fit task runs c.requires.holds lies
+    (record {
+      stands = c.write.ensures.sound again;
+      shape_is = c.write.ensures.shape;
+      cells = c.in-Ok.ensures.cells;
+      placing_is =
+          c.in-Ok.ensures.placing;
+      free = c.in-Ok.ensures.free;
+      others = c.in-Ok.ensures.candidates;
+      closes = c.in-Ok.ensures.closes;
+    })
+    (ap (λ x. x.plan) c.spend_reserve.ensures.moved) (ap (λ x. x.reserves) c.spend_reserve.ensures.moved)
+    (in_list c.self.inside.ledger.reserves c.args.task reserve) c.spend_reserve.ensures.total
     )
 
 pub returns-in-Ok-clause-did : goal.returns-in-Ok-clause-did
@@ -52,7 +65,8 @@ returns-in-Ok-clause-did g c =
       finds = rw (← sound.shape_is) c.write.ensures.finds;
       cells = rw (← sound.shape_is) c.in-Ok.ensures.cells;
       places = rw (c.in-Ok.ensures.placing, ← sound.shape_is);
-      pages = rw c.in-Ok.ensures.contents (same_contents b places k.page k.source k.bytes (within places k.page k.source lies) lies (run.bytes k c.requires.holds lies));
+      pages = rw c.in-Ok.ensures.contents (same_contents b places k.page k.source k.bytes (within places k.page k.source lies) lies
+          (run.bytes k c.requires.holds lies));
       accounts = c.spend_reserve.ensures.moved;
       running = rw c.task.view_is;
       well = c.in-Ok.ensures.failed;

@@ -11,7 +11,16 @@ invariant_of-self-in-Ok g c = λ again.
     let runs = rw (← c.self.view_is) at c.requires.runs in
     let first = rw (← c.self.view_is) at c.requires.first in
     let bytes_are = c.in-Ok.ensures.page ∙ ap (content_at (g.N.Nand.blocks c.self.inside.array.device)) first.lies in
-    rw (c.task.view_is, c.in-Ok.ensures.cells, c.in-Ok.ensures.well, c.read.ensures.shape, c.read.ensures.placing, c.read.ensures.candidates, bytes_are) (sound_read c.args.task c.args.page c.args.source c.args.collection sound task runs first.here first.lies)
+    rw (
+      c.task.view_is,
+      c.in-Ok.ensures.cells,
+      c.in-Ok.ensures.well,
+      c.read.ensures.shape,
+      c.read.ensures.placing,
+      c.read.ensures.candidates,
+      bytes_are,
+    ) (sound_read c.args.task c.args.page c.args.source c.args.collection sound task runs first.here
+    first.lies)
 
 pub returns-in-Ok-clause-did : goal.returns-in-Ok-clause-did
 returns-in-Ok-clause-did g c =

@@ -9,5 +9,11 @@ invariant_of-self g c = λ alive.
     let sound = c.self.invariant (sym c.failed.ensures ∙ c.if-failed.false) in
     let page = rw (← c.self.view_is) at c.requires in
     let places = c.self.inside.array.placing.places in
-    let below : c.args.page < length places = omega (arith, page, length-map places (content_at (g.N.Nand.blocks c.self.inside.array.device))) in
-    rw c.trim.ensures.device (sound_trimmed c.args.page sound below (rw c.trim.ensures.device at (c.trim.ensures.sound alive)) c.trim.ensures.placing c.trim.ensures.candidates)
+    let below : c.args.page < length places = omega (
+      arith,
+      page,
+      length-map places
+          (content_at (g.N.Nand.blocks c.self.inside.array.device)),
+    ) in
+    rw c.trim.ensures.device (sound_trimmed c.args.page sound below (rw c.trim.ensures.device at (c.trim.ensures.sound alive))
+    c.trim.ensures.placing c.trim.ensures.candidates)

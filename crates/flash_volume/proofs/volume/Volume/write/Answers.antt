@@ -11,6 +11,21 @@ invariant_of-self-in-Ok g c = λ again.
     let held = rw (← c.self.view_is) at c.requires.held in
     let page = rw (← c.self.view_is) at c.requires.page in
     let places = c.self.inside.array.placing.places in
-    let below : c.args.page < length places = omega (arith, page, length-map places (content_at (g.N.Nand.blocks c.self.inside.array.device))) in
+    let below : c.args.page < length places = omega (
+      arith,
+      page,
+      length-map places
+          (content_at (g.N.Nand.blocks c.self.inside.array.device)),
+    ) in
     let fit = next_fits sound.stands (some_free c.args.task sound held) in
-    sound_written c.spend_hold.new.self sound fit below (record { stands = c.write.ensures.sound again; shape_is = c.write.ensures.shape; cells = c.in-Ok.ensures.cells; placing_is = c.in-Ok.ensures.placing; free = c.in-Ok.ensures.free; others = c.in-Ok.ensures.candidates; closes = c.in-Ok.ensures.closes }) (ap (λ x. x.plan) c.spend_hold.ensures.moved) (ap (λ x. x.reserves) c.spend_hold.ensures.moved) c.spend_hold.ensures.total
+    sound_written c.spend_hold.new.self sound fit below (record {
+      stands = c.write.ensures.sound again;
+      shape_is = c.write.ensures.shape;
+      cells = c.in-Ok.ensures.cells;
+      placing_is =
+          c.in-Ok.ensures.placing;
+      free = c.in-Ok.ensures.free;
+      others = c.in-Ok.ensures.candidates;
+      closes = c.in-Ok.ensures.closes;
+    })
+    (ap (λ x. x.plan) c.spend_hold.ensures.moved) (ap (λ x. x.reserves) c.spend_hold.ensures.moved) c.spend_hold.ensures.total

@@ -24,6 +24,8 @@ slice_bounds-count_reads_in-end c =
 
 pub returns : goal.returns
 returns c =
-    subst (λ (l : List Op). count_by is_read (take c.args.from l) + c.count_reads_in.result ≡ count_by is_read (take c.args.to l)) c.self.view_is
+    subst (λ (l : List Op). count_by is_read (take c.args.from l) + c.count_reads_in.result ≡ count_by is_read (take c.args.to l))
+    c.self.view_is
     (words_between c.self.inside.words.items c.self.inside.bytes.items c.args.from c.args.to c.count_reads_in.result c.requires.rise
-    (c.count_reads_in.ensures ∙ ap (λ (l : List ℕ). count_by is_read_in (take (c.args.to - c.args.from) (drop c.args.from l))) c.deref.ensures.value))
+    (c.count_reads_in.ensures ∙ ap (λ (l : List ℕ). count_by is_read_in (take (c.args.to - c.args.from) (drop c.args.from l)))
+    c.deref.ensures.value))

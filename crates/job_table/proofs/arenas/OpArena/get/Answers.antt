@@ -1,4 +1,5 @@
-use Rattle.std.proofs.Common.{◌≡◌, ◌<◌, ◌-◌, ℕ, List, Some, length, take, slice_get, get_or, count_by, vec_len, rules, arith, sym, ap, ◌∙◌, refl}
+use Rattle.std.proofs.Common.{◌≡◌, ◌<◌, ◌-◌, ℕ, List, Some, length, take, slice_get, get_or, count_by, vec_len, rules, arith, sym, ap, ◌∙◌}
+use Rattle.std.proofs.Common.{refl}
 use Rattle.std.proofs.lemmas.List.{get_or_default}
 use Rattle.std.proofs.lemmas.Option.{slice_get_read}
 use Rattle.slot_types.specs.declared.events.Op.{Op}
@@ -25,9 +26,12 @@ index-requires c =
     let len = ap length c.self.view_is in
     let words = length-ops_of c.self.inside.words.items c.self.inside.bytes.items in
     let within : c.args.place < length c.self.inside.words.items = omega arith in
-    let at_n = slice_get_read c.self.inside.words.items (length c.self.inside.words.items) c.args.place c.index-word.result.now refl within c.index-word.ensures in
-    let rank = c.requires.reads ∙ sym (ap (λ (l : List Op). count_by is_read (take c.args.place l)) c.self.view_is) ∙ count_words c.self.inside.words.items c.self.inside.bytes.items c.args.place in
-    let h = bytes_there c.self.inside.words.items c.self.inside.bytes.items c.args.place c.index-word.result.now c.args.reads at_n (sym c.is_read_in.ensures ∙ c.if-is_read_in.false) rank within c.self.invariant in
+    let at_n = slice_get_read c.self.inside.words.items (length c.self.inside.words.items) c.args.place c.index-word.result.now refl within
+    c.index-word.ensures in
+    let rank = c.requires.reads ∙ sym (ap (λ (l : List Op). count_by is_read (take c.args.place l)) c.self.view_is)
+    ∙ count_words c.self.inside.words.items c.self.inside.bytes.items c.args.place in
+    let h = bytes_there c.self.inside.words.items c.self.inside.bytes.items c.args.place c.index-word.result.now c.args.reads at_n
+    (sym c.is_read_in.ensures ∙ c.if-is_read_in.false) rank within c.self.invariant in
     omega arith
 
 pub returns-then-is_read_in : goal.returns-then-is_read_in
@@ -36,9 +40,11 @@ returns-then-is_read_in c =
     let len = ap length c.self.view_is in
     let words = length-ops_of c.self.inside.words.items c.self.inside.bytes.items in
     let within : c.args.place < length c.self.inside.words.items = omega arith in
-    let at_n = slice_get_read c.self.inside.words.items (length c.self.inside.words.items) c.args.place c.index-word.result.now refl within c.index-word.ensures in
+    let at_n = slice_get_read c.self.inside.words.items (length c.self.inside.words.items) c.args.place c.index-word.result.now refl within
+    c.index-word.ensures in
     sym (ap (λ (l : List Op). slice_get l c.args.place) c.self.view_is)
-    ∙ read_at c.self.inside.words.items c.self.inside.bytes.items c.args.place c.index-word.result.now at_n (sym c.is_read_in.ensures ∙ c.if-is_read_in.true)
+    ∙ read_at c.self.inside.words.items c.self.inside.bytes.items c.args.place c.index-word.result.now at_n (sym c.is_read_in.ensures
+    ∙ c.if-is_read_in.true)
     ∙ ap (λ (page : ℕ). Some (Read page)) (sym c.page_in.ensures)
 
 pub returns-then-is_trim_in : goal.returns-then-is_trim_in
@@ -47,13 +53,17 @@ returns-then-is_trim_in c =
     let len = ap length c.self.view_is in
     let words = length-ops_of c.self.inside.words.items c.self.inside.bytes.items in
     let within : c.args.place < length c.self.inside.words.items = omega arith in
-    let at_n = slice_get_read c.self.inside.words.items (length c.self.inside.words.items) c.args.place c.index-word.result.now refl within c.index-word.ensures in
-    let rank = c.requires.reads ∙ sym (ap (λ (l : List Op). count_by is_read (take c.args.place l)) c.self.view_is) ∙ count_words c.self.inside.words.items c.self.inside.bytes.items c.args.place in
+    let at_n = slice_get_read c.self.inside.words.items (length c.self.inside.words.items) c.args.place c.index-word.result.now refl within
+    c.index-word.ensures in
+    let rank = c.requires.reads ∙ sym (ap (λ (l : List Op). count_by is_read (take c.args.place l)) c.self.view_is)
+    ∙ count_words c.self.inside.words.items c.self.inside.bytes.items c.args.place in
     let isnt = sym c.is_read_in.ensures ∙ c.if-is_read_in.false in
     let few = count_take_le c.self.inside.words.items c.args.place in
     sym (ap (λ (l : List Op). slice_get l c.args.place) c.self.view_is)
-    ∙ changing_at c.self.inside.words.items c.self.inside.bytes.items c.args.place c.index-word.result.now (c.args.place - c.args.reads) at_n isnt (omega arith)
-    ∙ ap Some (is_trimmed c.index-word.result.now (get_or c.self.inside.bytes.items (c.args.place - c.args.reads) blank) (sym c.is_trim_in.ensures ∙ c.if-is_trim_in.true))
+    ∙ changing_at c.self.inside.words.items c.self.inside.bytes.items c.args.place c.index-word.result.now (c.args.place - c.args.reads)
+    at_n isnt (omega arith)
+    ∙ ap Some (is_trimmed c.index-word.result.now (get_or c.self.inside.bytes.items (c.args.place - c.args.reads) blank)
+    (sym c.is_trim_in.ensures ∙ c.if-is_trim_in.true))
     ∙ ap (λ (page : ℕ). Some (Trim page)) (sym c.page_in-then-is_trim_in.ensures)
 
 pub returns-else-is_trim_in : goal.returns-else-is_trim_in
@@ -62,13 +72,18 @@ returns-else-is_trim_in c =
     let len = ap length c.self.view_is in
     let words = length-ops_of c.self.inside.words.items c.self.inside.bytes.items in
     let within : c.args.place < length c.self.inside.words.items = omega arith in
-    let at_n = slice_get_read c.self.inside.words.items (length c.self.inside.words.items) c.args.place c.index-word.result.now refl within c.index-word.ensures in
-    let rank = c.requires.reads ∙ sym (ap (λ (l : List Op). count_by is_read (take c.args.place l)) c.self.view_is) ∙ count_words c.self.inside.words.items c.self.inside.bytes.items c.args.place in
+    let at_n = slice_get_read c.self.inside.words.items (length c.self.inside.words.items) c.args.place c.index-word.result.now refl within
+    c.index-word.ensures in
+    let rank = c.requires.reads ∙ sym (ap (λ (l : List Op). count_by is_read (take c.args.place l)) c.self.view_is)
+    ∙ count_words c.self.inside.words.items c.self.inside.bytes.items c.args.place in
     let isnt = sym c.is_read_in.ensures ∙ c.if-is_read_in.false in
-    let bytes = bytes_there c.self.inside.words.items c.self.inside.bytes.items c.args.place c.index-word.result.now c.args.reads at_n isnt rank within c.self.invariant in
+    let bytes = bytes_there c.self.inside.words.items c.self.inside.bytes.items c.args.place c.index-word.result.now c.args.reads at_n isnt
+    rank within c.self.invariant in
     let few = count_take_le c.self.inside.words.items c.args.place in
     sym (ap (λ (l : List Op). slice_get l c.args.place) c.self.view_is)
-    ∙ changing_at c.self.inside.words.items c.self.inside.bytes.items c.args.place c.index-word.result.now (c.args.place - c.args.reads) at_n isnt (omega arith)
-    ∙ ap (λ (b : PageData). Some (changing_in c.index-word.result.now b)) (get_or_default c.self.inside.bytes.items (c.args.place - c.args.reads) blank c.index.result.now bytes ∙ sym c.index.ensures)
+    ∙ changing_at c.self.inside.words.items c.self.inside.bytes.items c.args.place c.index-word.result.now (c.args.place - c.args.reads)
+    at_n isnt (omega arith)
+    ∙ ap (λ (b : PageData). Some (changing_in c.index-word.result.now b))
+    (get_or_default c.self.inside.bytes.items (c.args.place - c.args.reads) blank c.index.result.now bytes ∙ sym c.index.ensures)
     ∙ ap Some (is_written c.index-word.result.now c.index.result.now (sym c.is_trim_in.ensures ∙ c.if-is_trim_in.false))
     ∙ ap (λ (page : ℕ). Some (Write page c.index.result.now)) (sym c.page_in-else-is_trim_in.ensures)

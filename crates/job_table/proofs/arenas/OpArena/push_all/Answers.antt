@@ -12,7 +12,9 @@ invariant_of-self-2 c =
 
 pub returns-clause-ok : goal.returns-clause-ok
 returns-clause-ok c =
-    ap (λ (l : List ℕ). ops_of l c.push_bytes.new.bytes.items) (c.push_words.ensures ∙ ap (λ (l : List ℕ). l ++ map word_of c.args.ops.now) c.in_ok-reserve.ensures.items)
-    ∙ ap (ops_of (c.self.inside.words.items ++ map word_of c.args.ops.now)) (c.push_bytes.ensures ∙ ap (λ (l : List PageData). l ++ bytes_of c.args.ops.now) c.in_ok-reserve-2.ensures.items)
+    ap (λ (l : List ℕ). ops_of l c.push_bytes.new.bytes.items) (c.push_words.ensures
+    ∙ ap (λ (l : List ℕ). l ++ map word_of c.args.ops.now) c.in_ok-reserve.ensures.items)
+    ∙ ap (ops_of (c.self.inside.words.items ++ map word_of c.args.ops.now)) (c.push_bytes.ensures
+    ∙ ap (λ (l : List PageData). l ++ bytes_of c.args.ops.now) c.in_ok-reserve-2.ensures.items)
     ∙ ops_pushed c.self.inside.words.items c.self.inside.bytes.items c.args.ops.now c.self.invariant
     ∙ ap (λ (l : List Op). l ++ c.args.ops.now) c.self.view_is

@@ -6,11 +6,18 @@ use Rattle.job_table.proofs.flat_jobs.FlatJobs.at.Goals as goal
 
 pub invariant_of-result : goal.invariant_of-result
 invariant_of-result c =
-    let at_n = row_read c.self.inside.rows.items c.self.inside.ops c.self.inside.reads.items c.args.self.now c.number.inside.0 c.args.number c.index.result.now c.self.view_is c.number.view_is c.requires c.index.ensures in
-    record { fits = c.self.invariant.each c.number.inside.0 c.index.result.now at_n; places = rw c.as_slice.ensures.value c.self.invariant.places }
+    let at_n = row_read c.self.inside.rows.items c.self.inside.ops c.self.inside.reads.items c.args.self.now c.number.inside.0 c.args.number
+    c.index.result.now c.self.view_is c.number.view_is c.requires c.index.ensures in
+    record {
+      fits = c.self.invariant.each c.number.inside.0 c.index.result.now at_n;
+      places = rw c.as_slice.ensures.value
+          c.self.invariant.places;
+    }
 
 pub returns : goal.returns
 returns c =
-    let at_n = row_read c.self.inside.rows.items c.self.inside.ops c.self.inside.reads.items c.args.self.now c.number.inside.0 c.args.number c.index.result.now c.self.view_is c.number.view_is c.requires c.index.ensures in
-    job_there c.self.inside.rows.items c.self.inside.ops c.self.inside.reads.items c.args.self.now c.number.inside.0 c.args.number (Some c.index.result.now) c.self.view_is c.number.view_is at_n
+    let at_n = row_read c.self.inside.rows.items c.self.inside.ops c.self.inside.reads.items c.args.self.now c.number.inside.0 c.args.number
+    c.index.result.now c.self.view_is c.number.view_is c.requires c.index.ensures in
+    job_there c.self.inside.rows.items c.self.inside.ops c.self.inside.reads.items c.args.self.now c.number.inside.0 c.args.number
+    (Some c.index.result.now) c.self.view_is c.number.view_is at_n
     ∙ ap (λ (l : List PageData). Some (job_at c.self.inside.ops l c.index.result.now)) (sym c.as_slice.ensures.value)

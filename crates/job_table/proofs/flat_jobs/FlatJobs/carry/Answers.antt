@@ -8,16 +8,21 @@ use Rattle.job_table.proofs.flat_jobs.FlatJobs.carry.Goals as goal
 pub invariant_of-self : goal.invariant_of-self
 invariant_of-self c =
     let row : Row = c.index_mut-row.result.now in
-    let at_n = row_read c.self.inside.rows.items c.self.inside.ops c.self.inside.reads.items c.args.self.now c.number.inside.0 c.args.number row c.self.view_is c.number.view_is c.requires.there c.index_mut-row.ensures.value in
-    let there = job_there c.self.inside.rows.items c.self.inside.ops c.self.inside.reads.items c.args.self.now c.number.inside.0 c.args.number (Some row) c.self.view_is c.number.view_is at_n in
+    let at_n = row_read c.self.inside.rows.items c.self.inside.ops c.self.inside.reads.items c.args.self.now c.number.inside.0 c.args.number
+    row c.self.view_is c.number.view_is c.requires.there c.index_mut-row.ensures.value in
+    let there = job_there c.self.inside.rows.items c.self.inside.ops c.self.inside.reads.items c.args.self.now c.number.inside.0
+    c.args.number (Some row) c.self.view_is c.number.view_is at_n in
     let next = sym (ap reads_next_of there) ∙ c.requires.reads in
     let fits = row_carried c.self.inside.ops row next (c.self.invariant.each c.number.inside.0 row at_n) in
-    laid_set c.self.inside.rows.items c.self.inside.ops c.self.inside.reads.items c.self.inside.reads.items c.number.inside.0 row _ at_n refl refl fits refl c.self.invariant
+    laid_set c.self.inside.rows.items c.self.inside.ops c.self.inside.reads.items c.self.inside.reads.items c.number.inside.0 row _ at_n
+    refl refl fits refl c.self.invariant
 
 pub returns : goal.returns
 returns c =
     let row : Row = c.index_mut-row.result.now in
-    let at_n = row_read c.self.inside.rows.items c.self.inside.ops c.self.inside.reads.items c.args.self.now c.number.inside.0 c.args.number row c.self.view_is c.number.view_is c.requires.there c.index_mut-row.ensures.value in
-    jobs_set c.self.inside.rows.items c.self.inside.ops c.self.inside.reads.items c.number.inside.0 row (record row { work = row.work + 1 }) carried at_n refl
+    let at_n = row_read c.self.inside.rows.items c.self.inside.ops c.self.inside.reads.items c.args.self.now c.number.inside.0 c.args.number
+    row c.self.view_is c.number.view_is c.requires.there c.index_mut-row.ensures.value in
+    jobs_set c.self.inside.rows.items c.self.inside.ops c.self.inside.reads.items c.number.inside.0 row (record row { work = row.work + 1 })
+    carried at_n refl
     ∙ ap (λ (l : List JobRecord). changed_at l c.number.inside.0 carried) c.self.view_is
     ∙ ap (λ (n : ℕ). changed_at c.args.self.now n carried) c.number.view_is

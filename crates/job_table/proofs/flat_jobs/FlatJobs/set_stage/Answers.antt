@@ -9,15 +9,20 @@ use Rattle.job_table.proofs.flat_jobs.FlatJobs.set_stage.Goals as goal
 pub invariant_of-self : goal.invariant_of-self
 invariant_of-self c =
     let row : Row = c.index_mut-row.result.now in
-    let at_n = row_read c.self.inside.rows.items c.self.inside.ops c.self.inside.reads.items c.args.self.now c.number.inside.0 c.args.number row c.self.view_is c.number.view_is c.requires c.index_mut-row.ensures.value in
+    let at_n = row_read c.self.inside.rows.items c.self.inside.ops c.self.inside.reads.items c.args.self.now c.number.inside.0 c.args.number
+    row c.self.view_is c.number.view_is c.requires c.index_mut-row.ensures.value in
     let old = c.self.invariant.each c.number.inside.0 row at_n in
-    let fits : IsRowOf c.self.inside.ops (record row { stage = c.args.stage }) = record { ops_there = old.ops_there; first_read_is = old.first_read_is; reads_done_is = old.reads_done_is } in
-    laid_set c.self.inside.rows.items c.self.inside.ops c.self.inside.reads.items c.self.inside.reads.items c.number.inside.0 row _ at_n refl refl fits refl c.self.invariant
+    let fits : IsRowOf c.self.inside.ops (record row { stage = c.args.stage }) = record
+    { ops_there = old.ops_there; first_read_is = old.first_read_is; reads_done_is = old.reads_done_is } in
+    laid_set c.self.inside.rows.items c.self.inside.ops c.self.inside.reads.items c.self.inside.reads.items c.number.inside.0 row _ at_n
+    refl refl fits refl c.self.invariant
 
 pub returns : goal.returns
 returns c =
     let row : Row = c.index_mut-row.result.now in
-    let at_n = row_read c.self.inside.rows.items c.self.inside.ops c.self.inside.reads.items c.args.self.now c.number.inside.0 c.args.number row c.self.view_is c.number.view_is c.requires c.index_mut-row.ensures.value in
-    jobs_set c.self.inside.rows.items c.self.inside.ops c.self.inside.reads.items c.number.inside.0 row (record row { stage = c.args.stage }) (with_stage c.args.stage) at_n refl
+    let at_n = row_read c.self.inside.rows.items c.self.inside.ops c.self.inside.reads.items c.args.self.now c.number.inside.0 c.args.number
+    row c.self.view_is c.number.view_is c.requires c.index_mut-row.ensures.value in
+    jobs_set c.self.inside.rows.items c.self.inside.ops c.self.inside.reads.items c.number.inside.0 row
+    (record row { stage = c.args.stage }) (with_stage c.args.stage) at_n refl
     ∙ ap (λ (l : List JobRecord). changed_at l c.number.inside.0 (with_stage c.args.stage)) c.self.view_is
     ∙ ap (λ (n : ℕ). changed_at c.args.self.now n (with_stage c.args.stage)) c.number.view_is

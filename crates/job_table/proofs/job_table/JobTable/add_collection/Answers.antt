@@ -17,9 +17,11 @@ invariant_of-self-2 c =
     let ready = rw (c.in_ok-number.ensures.number, c.in_ok-reserve.ensures.ready) at c.enter.ensures.ready in
     let r = c.self.invariant.running runs in
     rw (c.in_ok-number.ensures.ok, c.task.view_is)
-    (collection_sound c.self.inside.jobs job c.self.inside.clock c.self.inside.ended c.self.inside.collecting.items c.self.inside.queues c.enter.new.self c.self.inside.worst
+    (collection_sound c.self.inside.jobs job c.self.inside.clock c.self.inside.ended c.self.inside.collecting.items c.self.inside.queues
+    c.enter.new.self c.self.inside.worst
     runs few refl refl in_range single
-    (has_entered c.self.inside.jobs job c.self.inside.clock c.self.inside.queues.waiting c.enter.new.self.waiting c.self.inside.queues.ready c.enter.new.self.ready
+    (has_entered c.self.inside.jobs job c.self.inside.clock c.self.inside.queues.waiting c.enter.new.self.waiting c.self.inside.queues.ready
+    c.enter.new.self.ready
     refl waiting ready r.queued r.later)
     c.self.invariant)
 

@@ -13,10 +13,12 @@ invariant_of-self-2 c =
     let waiting = rw (c.in_ok-number.ensures.number, c.in_ok-reserve.ensures.waiting) at c.enter.ensures.waiting in
     let ready = rw (c.in_ok-number.ensures.number, c.in_ok-reserve.ensures.ready) at c.enter.ensures.ready in
     rw c.in_ok-number.ensures.ok
-    (job_sound c.self.inside.jobs job c.self.inside.clock c.self.inside.ended c.self.inside.collecting.items c.self.inside.queues c.enter.new.self c.self.inside.worst
+    (job_sound c.self.inside.jobs job c.self.inside.clock c.self.inside.ended c.self.inside.collecting.items c.self.inside.queues
+    c.enter.new.self c.self.inside.worst
     few refl refl
     (λ runs. let r = c.self.invariant.running runs in
-    has_entered c.self.inside.jobs job c.self.inside.clock c.self.inside.queues.waiting c.enter.new.self.waiting c.self.inside.queues.ready c.enter.new.self.ready
+    has_entered c.self.inside.jobs job c.self.inside.clock c.self.inside.queues.waiting c.enter.new.self.waiting c.self.inside.queues.ready
+    c.enter.new.self.ready
     refl waiting ready r.queued r.later)
     c.self.invariant)
 

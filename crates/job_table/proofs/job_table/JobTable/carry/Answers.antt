@@ -17,7 +17,8 @@ pub invariant_of-self : goal.invariant_of-self
 invariant_of-self c =
     let seen = subst (λ (t : Table). IsHead t c.args.number) (sym c.self.view_is) c.requires.head in
     rw c.carry.ensures
-    (quiet_sound c.self.inside.jobs c.args.number carried seen.head c.self.inside.clock c.self.inside.ended c.self.inside.collecting.items c.self.inside.queues c.self.inside.worst
+    (quiet_sound c.self.inside.jobs c.args.number carried seen.head c.self.inside.clock c.self.inside.ended c.self.inside.collecting.items
+    c.self.inside.queues c.self.inside.worst
     carried_quiet seen.is_at (ready_pending c.self.inside.clock seen.head seen.ready) c.self.invariant)
 
 pub returns-clause-carried : goal.returns-clause-carried
@@ -25,4 +26,5 @@ returns-clause-carried c = viewed _ _ _ _ _ carried c.self.view_is refl c.carry.
 
 pub returns-clause-head : goal.returns-clause-head
 returns-clause-head c =
-    subst (λ (t : Table). IsHead t c.args.number) (sym (returns-clause-carried c)) (head_goes_on c.args.self.now c.args.number carried carried_quiet c.requires.head)
+    subst (λ (t : Table). IsHead t c.args.number) (sym (returns-clause-carried c))
+    (head_goes_on c.args.self.now c.args.number carried carried_quiet c.requires.head)

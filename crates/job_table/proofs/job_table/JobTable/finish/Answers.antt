@@ -22,7 +22,8 @@ worse_of-requires-clause-others c =
     let head : IsHead table c.args.number = record { head = seen.head; is_at = seen.is_at; ready = seen.ready; first = seen.first } in
     let stage : Stage = stages.Done c.args.completion c.args.given in
     rw (c.end_job.ensures.jobs, c.number.view_is)
-    (worst_of_others table.jobs c.args.number (with_stage stage) c.self.inside.worst (head_undone table c.args.number head) c.self.invariant.worst_is)
+    (worst_of_others table.jobs c.args.number (with_stage stage) c.self.inside.worst (head_undone table c.args.number head)
+    c.self.invariant.worst_is)
 
 pub invariant_of-self : goal.invariant_of-self
 invariant_of-self c =
@@ -32,5 +33,6 @@ invariant_of-self c =
     let runs = subst (λ (t : Table). t.ended ≡ false) (sym c.self.view_is) c.requires.running in
     let worst = rw c.end_job.ensures.jobs at c.worse_of.ensures in
     rw (c.end_job.ensures.jobs, c.end_job.ensures.marks)
-    (over_sound table c.args.number (stages.Done c.args.completion c.args.given) c.self.inside.ended c.self.inside.collecting.items c.self.inside.queues c.drop_first.new.self c.self.inside.worst (Some c.worse_of.result)
+    (over_sound table c.args.number (stages.Done c.args.completion c.args.given) c.self.inside.ended c.self.inside.collecting.items
+    c.self.inside.queues c.drop_first.new.self c.self.inside.worst (Some c.worse_of.result)
     runs head refl c.drop_first.ensures.rising c.drop_first.ensures.waiting c.drop_first.ensures.ready c.self.invariant worst)

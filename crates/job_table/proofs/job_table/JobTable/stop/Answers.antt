@@ -10,9 +10,11 @@ invariant_of-self c =
     rw c.take_back.ensures (record {
       few = rw length-without_waivers c.self.invariant.few;
       running = λ e. absurd cc;
-      worst_is = without_worst c.self.inside.jobs c.args.waived.now c.self.inside.worst (undone-waived c.self.inside.jobs c.args.waived.now waived) c.self.invariant.worst_is;
+      worst_is = without_worst c.self.inside.jobs c.args.waived.now c.self.inside.worst
+          (undone-waived c.self.inside.jobs c.args.waived.now waived) c.self.invariant.worst_is;
     })
 
 pub returns-clause-as_before : goal.returns-clause-as_before
 returns-clause-as_before c = λ jobs were old_is.
-    c.take_back.ensures ∙ ap (λ l. without_waivers l c.args.waived.now) (ap (λ (t : Table). t.jobs) c.self.view_is ∙ old_is) ∙ without_waivers-waived_in jobs c.args.waived.now were
+    c.take_back.ensures ∙ ap (λ l. without_waivers l c.args.waived.now) (ap (λ (t : Table). t.jobs) c.self.view_is ∙ old_is)
+    ∙ without_waivers-waived_in jobs c.args.waived.now were

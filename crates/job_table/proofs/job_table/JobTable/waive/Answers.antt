@@ -16,6 +16,8 @@ invariant_of-self c =
     let runs = subst (λ (t : Table). t.ended ≡ false) (sym c.self.view_is) c.requires.running in
     let stage : Stage = stages.Waived c.args.given in
     rw (c.end_job.ensures.jobs, c.end_job.ensures.marks)
-    (over_sound table c.args.number stage c.self.inside.ended c.self.inside.collecting.items c.self.inside.queues c.drop_first.new.self c.self.inside.worst c.self.inside.worst
+    (over_sound table c.args.number stage c.self.inside.ended c.self.inside.collecting.items c.self.inside.queues c.drop_first.new.self
+    c.self.inside.worst c.self.inside.worst
     runs head refl c.drop_first.ensures.rising c.drop_first.ensures.waiting c.drop_first.ensures.ready c.self.invariant
-    (undone_worst table.jobs c.args.number (with_stage stage) c.self.inside.worst (λ job at_n. (head_undone table c.args.number head job at_n, refl)) c.self.invariant.worst_is))
+    (undone_worst table.jobs c.args.number (with_stage stage) c.self.inside.worst
+    (λ job at_n. (head_undone table c.args.number head job at_n, refl)) c.self.invariant.worst_is))

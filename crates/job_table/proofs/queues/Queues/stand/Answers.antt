@@ -6,7 +6,8 @@ use Rattle.job_table.proofs.queues.Queues.stand.Goals as goal
 pub invariant_of-self : goal.invariant_of-self
 invariant_of-self c =
     rw c.insert.ensures.keys
-    (stand_roomy c.args.key c.self.inside.waiting.keys c.self.inside.ready.keys c.self.inside.waiting.spare c.self.inside.ready.spare c.insert.new.self.spare
+    (stand_roomy c.args.key c.self.inside.waiting.keys c.self.inside.ready.keys c.self.inside.waiting.spare c.self.inside.ready.spare
+    c.insert.new.self.spare
     (subst (λ (l : Lines). 0 < l.room) (sym c.self.view_is) c.requires.room)
     (subst (λ (l : Lines). Contains l.ready c.args.key → ⊥) (sym c.self.view_is) c.requires.absent)
     c.insert.ensures.spare c.self.invariant)

@@ -10,7 +10,13 @@ invariant_of-result c =
     let places = c.in_ok-with_capacity.field-0.items in
     let owners = c.in_ok-with_capacity-2.field-0.items in
     record {
-      tables = rw (laid-none Place c.args.logical places c.in_ok-with_capacity.ensures.items, laid-none ℕ (c.args.shape.blocks * c.args.shape.pages) owners c.in_ok-with_capacity-2.ensures.items, c.in_ok-vec.ensures.items_if_clones_equal (λ _ same. same)) (
+      tables = rw (
+        laid-none Place c.args.logical places c.in_ok-with_capacity.ensures.items,
+        laid-none ℕ
+            (c.args.shape.blocks * c.args.shape.pages) owners c.in_ok-with_capacity-2.ensures.items,
+        c.in_ok-vec.ensures.items_if_clones_equal
+            (λ _ same. same),
+      ) (
           tables_blank c.args.shape c.args.logical (omega arith)
           );
       some_places = omega (arith, ap length c.in_ok-with_capacity.ensures.items);

@@ -15,5 +15,6 @@ returns-clause-place c =
 pub returns-clause-in_range : goal.returns-clause-in_range
 returns-clause-in_range c =
     let m = c.self.inside in
-    let read : c.read.result ≡ get_or (places_of m) c.args.page None = rw c.deref.ensures.value at c.read.ensures ∙ sym (read-laid m.logical m.places.items c.args.page) in
+    let read : c.read.result ≡ get_or (places_of m) c.args.page None = rw c.deref.ensures.value at c.read.ensures
+    ∙ sym (read-laid m.logical m.places.items c.args.page) in
     rw (← c.self.view_is) (in_range m.shape c.read.result (λ q is. c.self.invariant.tables.within c.args.page q (sym read ∙ is)))

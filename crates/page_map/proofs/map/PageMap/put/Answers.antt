@@ -11,7 +11,8 @@ use Rattle.page_map.proofs.map.PageMap.put.Goals as goal
 use Rattle.page_map.proofs.map.PageMap.put.Goals.{After-self}
 
 -- the entries after the write
-written : {X : Type 0} (count at some : ℕ) (entries longer : List (Option X)) (entry : Option X) → longer ≡ laid some entries → some ≤ count → at < some → length entries ≤ count → laid count (set longer at entry) ≡ set (laid count entries) at entry
+written : {X : Type 0} (count at some : ℕ) (entries longer : List (Option X)) (entry : Option X) → longer ≡ laid some entries → some ≤ count
+    → at < some → length entries ≤ count → laid count (set longer at entry) ≡ set (laid count entries) at entry
 written {X} count at some entries longer entry is few below entries_few =
     ap (λ (l : List (Option X)). laid count (set l at entry)) is ∙ write-laid count some entries at entry few below entries_few
 
@@ -31,19 +32,28 @@ pub lay_down-requires : goal.lay_down-requires
 lay_down-requires c = record { room = omega (arith, of_logical (goal.at.lay_down-requires c).After-self, c.self.invariant.room_places) }
 
 pub lay_down-requires-2 : goal.lay_down-requires-2
-lay_down-requires-2 c = record { room = omega (arith, of_map (goal.at.lay_down-requires-2 c).After-self, c.cell-index.ensures, c.self.invariant.room_owners) }
+lay_down-requires-2 c = record {
+  room = omega (
+    arith,
+    of_map (goal.at.lay_down-requires-2 c).After-self,
+    c.cell-index.ensures,
+    c.self.invariant.room_owners,
+  );
+}
 
 pub overflow_add-index_mut : goal.overflow_add-index_mut
 overflow_add-index_mut c =
     let m = c.self.inside in
     let here = (goal.at.overflow_add-index_mut c).After-self in
     let in_valid : c.args.place.block < length m.valid.items = omega (arith, (is_cell here).block, c.self.invariant.tables.valid_len) in
-    let read : c.index_mut-3.result.now ≡ get_or m.valid.items c.args.place.block 0 = get_or_read m.valid.items c.args.place.block c.index_mut-3.result.now in_valid c.index_mut-3.ensures.value 0 in
+    let read : c.index_mut-3.result.now ≡ get_or m.valid.items c.args.place.block 0 = get_or_read m.valid.items c.args.place.block
+    c.index_mut-3.result.now in_valid c.index_mut-3.ensures.value 0 in
     omega (
       arith,
       read,
       c.self.invariant.tables.valid_are c.args.place.block (is_cell here).block,
-      one_more_here (places_of m) c.args.page c.args.place.block c.args.place (is_page here) (rw (← c.self.view_is) at c.requires.nowhere) refl,
+      one_more_here (places_of m) c.args.page c.args.place.block c.args.place (is_page here) (rw (← c.self.view_is) at c.requires.nowhere)
+          refl,
       count_by-le-length (is_in c.args.place.block) (set (places_of m) c.args.page (Some c.args.place)),
       length-set (places_of m) c.args.page (Some c.args.place),
       c.self.invariant.tables.few,
@@ -56,19 +66,46 @@ invariant_of-self c =
     let index = cell_index m.shape c.args.place in
     let n = m.shape.blocks * m.shape.pages in
     let in_valid : c.args.place.block < length m.valid.items = omega (arith, (is_cell here).block, c.self.invariant.tables.valid_len) in
-    let read : c.index_mut-3.result.now ≡ get_or m.valid.items c.args.place.block 0 = get_or_read m.valid.items c.args.place.block c.index_mut-3.result.now in_valid c.index_mut-3.ensures.value 0 in
+    let read : c.index_mut-3.result.now ≡ get_or m.valid.items c.args.place.block 0 = get_or_read m.valid.items c.args.place.block
+    c.index_mut-3.result.now in_valid c.index_mut-3.ensures.value 0 in
     let valid = set m.valid.items c.args.place.block (c.index_mut-3.result.now + 1) in
-    let longer : c.lay_down-2.new.entries.items ≡ laid (index + 1) m.owners.items = c.lay_down-2.ensures.entries ∙ ap (λ (k : ℕ). laid (k + 1) m.owners.items) c.cell-index.ensures in
-    let places : laid m.logical (set c.lay_down.new.entries.items c.args.page (Some c.args.place)) ≡ set (places_of m) c.args.page (Some c.args.place) = written m.logical c.args.page (c.args.page + 1) m.places.items c.lay_down.new.entries.items (Some c.args.place) c.lay_down.ensures.entries (of_logical here) (omega arith) c.self.invariant.some_places in
-    let owners : laid n (set c.lay_down-2.new.entries.items index (Some c.args.page)) ≡ set (owners_of m) index (Some c.args.page) = written n index (index + 1) m.owners.items c.lay_down-2.new.entries.items (Some c.args.page) longer (of_map here) (omega arith) c.self.invariant.some_owners in
-    let tables : AreTables m.shape (set (places_of m) c.args.page (Some c.args.place)) (set (owners_of m) index (Some c.args.page)) valid = tables_with m.shape (places_of m) (owners_of m) m.valid.items c.args.page c.index_mut-3.result.now c.args.place c.self.invariant.tables (is_page here) (is_cell here) (rw (← c.self.view_is) at c.requires.free) (rw (← c.self.view_is) at c.requires.nowhere) read in
-    let with_places : AreTables m.shape (laid m.logical (set c.lay_down.new.entries.items c.args.page (Some c.args.place))) (set (owners_of m) index (Some c.args.page)) valid = subst (λ (l : List (Option Place)). AreTables m.shape l (set (owners_of m) index (Some c.args.page)) valid) (sym places) tables in
-    let with_owners : AreTables m.shape (laid m.logical (set c.lay_down.new.entries.items c.args.page (Some c.args.place))) (laid n (set c.lay_down-2.new.entries.items index (Some c.args.page))) valid = subst (λ (l : List (Option ℕ)). AreTables m.shape (laid m.logical (set c.lay_down.new.entries.items c.args.page (Some c.args.place))) l valid) (sym owners) with_places in
+    let longer : c.lay_down-2.new.entries.items ≡ laid (index + 1) m.owners.items = c.lay_down-2.ensures.entries
+    ∙ ap (λ (k : ℕ). laid (k + 1) m.owners.items) c.cell-index.ensures in
+    let places : laid m.logical (set c.lay_down.new.entries.items c.args.page (Some c.args.place))
+    ≡ set (places_of m) c.args.page (Some c.args.place) = written m.logical c.args.page (c.args.page + 1) m.places.items
+    c.lay_down.new.entries.items (Some c.args.place) c.lay_down.ensures.entries (of_logical here) (omega arith)
+    c.self.invariant.some_places in
+    let owners : laid n (set c.lay_down-2.new.entries.items index (Some c.args.page))
+    ≡ set (owners_of m) index (Some c.args.page) = written n index (index + 1) m.owners.items c.lay_down-2.new.entries.items
+    (Some c.args.page) longer (of_map here) (omega arith) c.self.invariant.some_owners in
+    let tables : AreTables m.shape (set (places_of m) c.args.page (Some c.args.place)) (set (owners_of m) index (Some c.args.page)) valid =
+    tables_with m.shape (places_of m) (owners_of m) m.valid.items c.args.page c.index_mut-3.result.now c.args.place
+    c.self.invariant.tables (is_page here) (is_cell here) (rw (← c.self.view_is) at c.requires.free)
+    (rw (← c.self.view_is) at c.requires.nowhere) read in
+    let with_places : AreTables m.shape (laid m.logical (set c.lay_down.new.entries.items c.args.page (Some c.args.place)))
+    (set (owners_of m) index (Some c.args.page)) valid = subst
+    (λ (l : List (Option Place)). AreTables m.shape l (set (owners_of m) index (Some c.args.page)) valid) (sym places) tables in
+    let with_owners : AreTables m.shape (laid m.logical (set c.lay_down.new.entries.items c.args.page (Some c.args.place)))
+    (laid n (set c.lay_down-2.new.entries.items index (Some c.args.page))) valid = subst
+    (λ (l : List (Option ℕ)). AreTables m.shape (laid m.logical (set c.lay_down.new.entries.items c.args.page (Some c.args.place))) l
+    valid) (sym owners) with_places in
     record {
-      tables = subst (λ (k : ℕ). AreTables m.shape (laid m.logical (set c.lay_down.new.entries.items c.args.page (Some c.args.place))) (laid n (set c.lay_down-2.new.entries.items k (Some c.args.page))) valid) (sym c.cell-index.ensures) with_owners;
-      some_places = omega (arith, length-set c.lay_down.new.entries.items c.args.page (Some c.args.place), ap length c.lay_down.ensures.entries, some-laid m.logical (c.args.page + 1) m.places.items (of_logical here) c.self.invariant.some_places);
+      tables = subst (λ (k : ℕ). AreTables m.shape (laid m.logical (set c.lay_down.new.entries.items c.args.page (Some c.args.place)))
+          (laid n (set c.lay_down-2.new.entries.items k (Some c.args.page))) valid) (sym c.cell-index.ensures) with_owners;
+      some_places = omega (
+        arith,
+        length-set c.lay_down.new.entries.items c.args.page (Some c.args.place),
+        ap length
+            c.lay_down.ensures.entries,
+        some-laid m.logical (c.args.page + 1) m.places.items (of_logical here) c.self.invariant.some_places,
+      );
       room_places = omega (arith, c.self.invariant.room_places, c.lay_down.ensures.room);
-      some_owners = omega (arith, length-set c.lay_down-2.new.entries.items c.cell-index.result (Some c.args.page), ap length longer, some-laid n (index + 1) m.owners.items (of_map here) c.self.invariant.some_owners);
+      some_owners = omega (
+        arith,
+        length-set c.lay_down-2.new.entries.items c.cell-index.result (Some c.args.page),
+        ap length longer,
+        some-laid n (index + 1) m.owners.items (of_map here) c.self.invariant.some_owners,
+      );
       room_owners = omega (arith, c.self.invariant.room_owners, c.lay_down-2.ensures.room);
     }
 
@@ -77,4 +114,5 @@ returns c =
     let m = c.self.inside in
     let here = (goal.at.returns c).After-self in
     let P : List (Option Place) → Placing = λ l. record { shape = m.shape; places = l } in
-    rw (← c.self.view_is) (ap P (written m.logical c.args.page (c.args.page + 1) m.places.items c.lay_down.new.entries.items (Some c.args.place) c.lay_down.ensures.entries (of_logical here) (omega arith) c.self.invariant.some_places))
+    rw (← c.self.view_is) (ap P (written m.logical c.args.page (c.args.page + 1) m.places.items c.lay_down.new.entries.items
+    (Some c.args.place) c.lay_down.ensures.entries (of_logical here) (omega arith) c.self.invariant.some_places))

@@ -29,7 +29,9 @@ in_places c = laid_below c.self.inside.logical c.self.inside.places.items c.args
 in_owners : (c : In-Some) → cell_index c.self.inside.shape c.in-Some.place < length c.self.inside.owners.items
 in_owners c =
     let m = c.self.inside in
-    laid_below (m.shape.blocks * m.shape.pages) m.owners.items (cell_index m.shape c.in-Some.place) c.args.page (c.self.invariant.tables.owners_are c.in-Some.place (is_cell c) ∙ owner_is (places_of m) c.args.page c.in-Some.place c.self.invariant.tables.apart (lies c))
+    laid_below (m.shape.blocks * m.shape.pages) m.owners.items (cell_index m.shape c.in-Some.place) c.args.page
+    (c.self.invariant.tables.owners_are c.in-Some.place (is_cell c)
+    ∙ owner_is (places_of m) c.args.page c.in-Some.place c.self.invariant.tables.apart (lies c))
 
 pub cell-requires : goal.cell-requires
 cell-requires c = is_cell (goal.at.cell-requires c).In-Some
@@ -39,7 +41,8 @@ index_mut-requires c = search (rules, in_places (goal.at.index_mut-requires c).I
 
 pub index_mut-requires-in-Some : goal.index_mut-requires-in-Some
 index_mut-requires-in-Some c =
-    let below : c.cell.result < length c.self.inside.owners.items = omega (arith, in_owners (goal.at.index_mut-requires-in-Some c).In-Some, c.cell.ensures) in
+    let below : c.cell.result < length c.self.inside.owners.items = omega
+    (arith, in_owners (goal.at.index_mut-requires-in-Some c).In-Some, c.cell.ensures) in
     search (rules, below)
 
 pub index_mut-requires-in-Some-2 : goal.index_mut-requires-in-Some-2
@@ -49,8 +52,15 @@ pub overflow_sub-index_mut : goal.overflow_sub-index_mut
 overflow_sub-index_mut c =
     let m = c.self.inside in
     let here = (goal.at.overflow_sub-index_mut c).In-Some in
-    let read : c.index_mut-in-Some-2.result.now ≡ get_or m.valid.items c.in-Some.place.block 0 = get_or_read m.valid.items c.in-Some.place.block c.index_mut-in-Some-2.result.now (in_valid here) c.index_mut-in-Some-2.ensures.value 0 in
-    omega (arith, read, c.self.invariant.tables.valid_are c.in-Some.place.block (is_cell here).block, one_less (places_of m) c.args.page c.in-Some.place (rw (← c.self.view_is) at c.requires) (lies here))
+    let read : c.index_mut-in-Some-2.result.now ≡ get_or m.valid.items c.in-Some.place.block 0 = get_or_read m.valid.items
+    c.in-Some.place.block c.index_mut-in-Some-2.result.now (in_valid here) c.index_mut-in-Some-2.ensures.value 0 in
+    omega (
+      arith,
+      read,
+      c.self.invariant.tables.valid_are c.in-Some.place.block (is_cell here).block,
+      one_less (places_of m) c.args.page
+          c.in-Some.place (rw (← c.self.view_is) at c.requires) (lies here),
+    )
 
 pub invariant_of-self : goal.invariant_of-self
 invariant_of-self c =
@@ -58,13 +68,21 @@ invariant_of-self c =
     let here = (goal.at.invariant_of-self c).In-Some in
     let index = cell_index m.shape c.in-Some.place in
     let n = m.shape.blocks * m.shape.pages in
-    let read : c.index_mut-in-Some-2.result.now ≡ get_or m.valid.items c.in-Some.place.block 0 = get_or_read m.valid.items c.in-Some.place.block c.index_mut-in-Some-2.result.now (in_valid here) c.index_mut-in-Some-2.ensures.value 0 in
+    let read : c.index_mut-in-Some-2.result.now ≡ get_or m.valid.items c.in-Some.place.block 0 = get_or_read m.valid.items
+    c.in-Some.place.block c.index_mut-in-Some-2.result.now (in_valid here) c.index_mut-in-Some-2.ensures.value 0 in
     let valid = set m.valid.items c.in-Some.place.block (c.index_mut-in-Some-2.result.now - 1) in
-    let tables : AreTables m.shape (set (places_of m) c.args.page None) (set (owners_of m) index None) valid = tables_without m.shape (places_of m) (owners_of m) m.valid.items c.args.page c.index_mut-in-Some-2.result.now c.in-Some.place c.self.invariant.tables (rw (← c.self.view_is) at c.requires) (lies here) read in
-    let with_places : AreTables m.shape (laid m.logical (set m.places.items c.args.page None)) (set (owners_of m) index None) valid = subst (λ (l : List (Option Place)). AreTables m.shape l (set (owners_of m) index None) valid) (sym (set-laid m.logical m.places.items c.args.page None (in_places here))) tables in
-    let with_owners : AreTables m.shape (laid m.logical (set m.places.items c.args.page None)) (laid n (set m.owners.items index None)) valid = subst (λ (l : List (Option ℕ)). AreTables m.shape (laid m.logical (set m.places.items c.args.page None)) l valid) (sym (set-laid n m.owners.items index None (in_owners here))) with_places in
+    let tables : AreTables m.shape (set (places_of m) c.args.page None) (set (owners_of m) index None) valid = tables_without m.shape
+    (places_of m) (owners_of m) m.valid.items c.args.page c.index_mut-in-Some-2.result.now c.in-Some.place c.self.invariant.tables
+    (rw (← c.self.view_is) at c.requires) (lies here) read in
+    let with_places : AreTables m.shape (laid m.logical (set m.places.items c.args.page None)) (set (owners_of m) index None) valid = subst
+    (λ (l : List (Option Place)). AreTables m.shape l (set (owners_of m) index None) valid)
+    (sym (set-laid m.logical m.places.items c.args.page None (in_places here))) tables in
+    let with_owners : AreTables m.shape (laid m.logical (set m.places.items c.args.page None)) (laid n (set m.owners.items index None))
+    valid = subst (λ (l : List (Option ℕ)). AreTables m.shape (laid m.logical (set m.places.items c.args.page None)) l valid)
+    (sym (set-laid n m.owners.items index None (in_owners here))) with_places in
     record {
-      tables = subst (λ (k : ℕ). AreTables m.shape (laid m.logical (set m.places.items c.args.page None)) (laid n (set m.owners.items k None)) valid) (sym c.cell.ensures) with_owners;
+      tables = subst (λ (k : ℕ). AreTables m.shape (laid m.logical (set m.places.items c.args.page None))
+          (laid n (set m.owners.items k None)) valid) (sym c.cell.ensures) with_owners;
       some_places = omega (arith, length-set m.places.items c.args.page None, c.self.invariant.some_places);
       room_places = c.self.invariant.room_places;
       some_owners = omega (arith, length-set m.owners.items c.cell.result None, c.self.invariant.some_owners);
@@ -75,14 +93,17 @@ pub returns-in-None-clause-gone : goal.returns-in-None-clause-gone
 returns-in-None-clause-gone c =
     let m = c.self.inside in
     let P : List (Option Place) → Placing = λ l. record { shape = m.shape; places = l } in
-    let nothing : get_or (places_of m) c.args.page None ≡ None = read-laid m.logical m.places.items c.args.page ∙ sym (rw c.deref.ensures.value at c.read.ensures) ∙ c.in-None.is in
-    rw (← c.self.view_is) (ap P (sym (set-get_or (places_of m) c.args.page None) ∙ ap (λ (o : Option Place). set (places_of m) c.args.page o) nothing))
+    let nothing : get_or (places_of m) c.args.page None ≡ None = read-laid m.logical m.places.items c.args.page
+    ∙ sym (rw c.deref.ensures.value at c.read.ensures) ∙ c.in-None.is in
+    rw (← c.self.view_is) (ap P (sym (set-get_or (places_of m) c.args.page None)
+    ∙ ap (λ (o : Option Place). set (places_of m) c.args.page o) nothing))
 
 pub returns-in-Some-clause-gone : goal.returns-in-Some-clause-gone
 returns-in-Some-clause-gone c =
     let m = c.self.inside in
     let P : List (Option Place) → Placing = λ l. record { shape = m.shape; places = l } in
-    rw (← c.self.view_is) (ap P (set-laid m.logical m.places.items c.args.page None (in_places (goal.at.returns-in-Some-clause-gone c).In-Some)))
+    rw (← c.self.view_is) (ap P (set-laid m.logical m.places.items c.args.page None
+    (in_places (goal.at.returns-in-Some-clause-gone c).In-Some)))
 
 pub returns-in-Some-clause-nowhere : goal.returns-in-Some-clause-nowhere
 returns-in-Some-clause-nowhere c =

@@ -14,40 +14,56 @@ returns-in-Some-clause-refused g c alive = inl (refused_answer _ _ _ _ (sym c.co
 
 pub enter_collection-requires-clause-single : goal.enter_collection-requires-clause-single
 enter_collection-requires-clause-single g c =
-    let none : refusal_of c.self.inside.volume.accounts.plan (log_of c.self.inside.table c.self.inside.events.notes) (Collect c.args.task c.args.release c.args.due) ≡ None =
-    ap (λ (d : Core g.row.N.Denot). refusal_of d.plan d.log (Collect c.args.task c.args.release c.args.due)) c.self.view_is ∙ (sym c.collect_refusal.ensures ∙ c.in-None.is) in
-    collecting_is c.self.inside.volume.accounts.plan (log_of c.self.inside.table c.self.inside.events.notes) c.self.inside.table.jobs c.args.task c.self.invariant.0.kept.jobs_are ∙ (may_collect c.self.inside.volume.accounts.plan (log_of c.self.inside.table c.self.inside.events.notes) c.args.task c.args.release c.args.due none).single
+    let none : refusal_of c.self.inside.volume.accounts.plan (log_of c.self.inside.table c.self.inside.events.notes)
+    (Collect c.args.task c.args.release c.args.due) ≡ None =
+    ap (λ (d : Core g.row.N.Denot). refusal_of d.plan d.log (Collect c.args.task c.args.release c.args.due)) c.self.view_is
+    ∙ (sym c.collect_refusal.ensures ∙ c.in-None.is) in
+    collecting_is c.self.inside.volume.accounts.plan (log_of c.self.inside.table c.self.inside.events.notes) c.self.inside.table.jobs
+    c.args.task c.self.invariant.0.kept.jobs_are ∙ (may_collect c.self.inside.volume.accounts.plan
+    (log_of c.self.inside.table c.self.inside.events.notes) c.args.task c.args.release c.args.due none).single
 
 pub invariant_of-self : goal.invariant_of-self
 invariant_of-self g c =
-    let none : refusal_of c.self.inside.volume.accounts.plan (log_of c.self.inside.table c.self.inside.events.notes) (Collect c.args.task c.args.release c.args.due) ≡ None =
-    ap (λ (d : Core g.row.N.Denot). refusal_of d.plan d.log (Collect c.args.task c.args.release c.args.due)) c.self.view_is ∙ (sym c.collect_refusal.ensures ∙ c.in-None.is) in
-    let entered = collect_enters g.N.Nand.blocks c.self.inside.events.notes c.enter_collection.new.events.notes c.self.inside.present c.args.caller c.args.task c.args.release c.args.due c.self.inside.table c.enter_collection.new.table
-    c.self.inside.volume c.enter_collection.result c.self.invariant.0 (sym c.failed.ensures ∙ c.if-failed.false) none c.enter_collection.ensures.table c.enter_collection.ensures.number c.enter_collection.ensures.logged c.enter_collection.ensures.table_stays c.enter_collection.ensures.log_stays in (
+    let none : refusal_of c.self.inside.volume.accounts.plan (log_of c.self.inside.table c.self.inside.events.notes)
+    (Collect c.args.task c.args.release c.args.due) ≡ None =
+    ap (λ (d : Core g.row.N.Denot). refusal_of d.plan d.log (Collect c.args.task c.args.release c.args.due)) c.self.view_is
+    ∙ (sym c.collect_refusal.ensures ∙ c.in-None.is) in
+    let entered = collect_enters g.N.Nand.blocks c.self.inside.events.notes c.enter_collection.new.events.notes c.self.inside.present
+    c.args.caller c.args.task c.args.release c.args.due c.self.inside.table c.enter_collection.new.table
+    c.self.inside.volume c.enter_collection.result c.self.invariant.0 (sym c.failed.ensures ∙ c.if-failed.false) none
+    c.enter_collection.ensures.table c.enter_collection.ensures.number c.enter_collection.ensures.logged
+    c.enter_collection.ensures.table_stays c.enter_collection.ensures.log_stays in (
       entered,
       record {
         slots = c.enter_collection.ensures.reserved;
-        waivers = collect_room c.enter_collection.result c.self.inside.volume.accounts.plan (log_of c.enter_collection.new.table c.enter_collection.new.events.notes) c.self.inside.table c.enter_collection.new.table
-            c.self.inside.events.waiver_room c.enter_collection.new.events.waiver_room entered.kept.bound entered.kept.exact entered.kept.jobs_are c.self.invariant.0.kept.tasks_are
-            c.enter_collection.ensures.waiver_room c.enter_collection.ensures.table_stays c.self.invariant.1.waivers c.enter_collection.ensures.waiver_room_stays;
+        waivers = collect_room c.enter_collection.result c.self.inside.volume.accounts.plan
+            (log_of c.enter_collection.new.table c.enter_collection.new.events.notes) c.self.inside.table c.enter_collection.new.table
+            c.self.inside.events.waiver_room c.enter_collection.new.events.waiver_room entered.kept.bound entered.kept.exact
+            entered.kept.jobs_are c.self.invariant.0.kept.tasks_are
+            c.enter_collection.ensures.waiver_room c.enter_collection.ensures.table_stays c.self.invariant.1.waivers
+            c.enter_collection.ensures.waiver_room_stays;
       },
     )
 
 pub returns-clause-taken : goal.returns-clause-taken
 returns-clause-taken g c =
     rw (← c.self.view_is) (collect_answered _ _ c.self.inside.table c.args.task c.args.release c.args.due c.enter_collection.result
-    (ap (λ (d : Core g.row.N.Denot). refusal_of d.plan d.log (Collect c.args.task c.args.release c.args.due)) c.self.view_is ∙ (sym c.collect_refusal.ensures ∙ c.in-None.is))
+    (ap (λ (d : Core g.row.N.Denot). refusal_of d.plan d.log (Collect c.args.task c.args.release c.args.due)) c.self.view_is
+    ∙ (sym c.collect_refusal.ensures ∙ c.in-None.is))
     c.self.invariant.0.kept.jobs_are c.enter_collection.ensures.number)
 
 pub returns-clause-refused : goal.returns-clause-refused
-returns-clause-refused g c alive = collect_short _ _ c.args.task c.args.release c.args.due c.enter_collection.result (sym c.collect_refusal.ensures ∙ c.in-None.is) c.enter_collection.ensures.refused
+returns-clause-refused g c alive = collect_short _ _ c.args.task c.args.release c.args.due c.enter_collection.result
+    (sym c.collect_refusal.ensures ∙ c.in-None.is) c.enter_collection.ensures.refused
 
 pub enter_collection-requires-clause-few_events : goal.enter_collection-requires-clause-few_events
-enter_collection-requires-clause-few_events g c = few_told c.self.inside.volume.accounts.plan c.self.inside.table.jobs c.self.inside.events.notes c.self.invariant.0.kept.exact c.self.invariant.0.fits
+enter_collection-requires-clause-few_events g c = few_told c.self.inside.volume.accounts.plan c.self.inside.table.jobs
+    c.self.inside.events.notes c.self.invariant.0.kept.exact c.self.invariant.0.fits
 
 pub returns-clause-logged : goal.returns-clause-logged
 returns-clause-logged g c =
     if_ok c.enter_collection.result _ _
-    (collect_logged c.self.inside.table c.enter_collection.new.table c.self.inside.events.notes c.enter_collection.new.events.notes c.args.caller c.args.task c.args.release c.args.due c.enter_collection.result
+    (collect_logged c.self.inside.table c.enter_collection.new.table c.self.inside.events.notes c.enter_collection.new.events.notes
+    c.args.caller c.args.task c.args.release c.args.due c.enter_collection.result
     c.self.invariant.0.fits c.enter_collection.ensures.table c.enter_collection.ensures.number c.enter_collection.ensures.logged)
     (λ number tells. rw (tells, ← c.self.view_is) refl)

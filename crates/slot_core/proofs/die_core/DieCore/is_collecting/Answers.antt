@@ -4,4 +4,6 @@ use Rattle.slot_core.specs.Told.{log_of}
 use Rattle.slot_core.proofs.die_core.DieCore.is_collecting.Goals as goal
 
 pub returns : goal.returns
-returns g c = rw (← c.self.view_is) (c.is_collecting.ensures ∙ collecting_is c.self.inside.volume.accounts.plan (log_of c.self.inside.table c.self.inside.events.notes) c.self.inside.table.jobs c.args.task c.self.invariant.0.kept.jobs_are)
+returns g c = rw (← c.self.view_is) (c.is_collecting.ensures
+    ∙ collecting_is c.self.inside.volume.accounts.plan (log_of c.self.inside.table c.self.inside.events.notes) c.self.inside.table.jobs
+    c.args.task c.self.invariant.0.kept.jobs_are)

@@ -15,8 +15,10 @@ pub invariant_of-result : goal.invariant_of-result
 invariant_of-result g c =
     let same : c.shape.result ≡ c.args.plan.shape = same_shape c.shape.result c.args.plan.shape c.if-ne.ensures in (
       record {
-        kept = keeps_start g.N.Nand.blocks c.args.plan c.args.nand (log_of c.in_ok-table.table c.new-3.result.notes) c.in_ok-table.table c.in_ok-volume.volume
-            (c.in_ok-bound.ensures.ok.0 refl) (c.requires.fresh.unused ∙ ap (λ (s : Shape). fresh_blocks s) (sym c.shape.ensures ∙ same)) (rw c.new-3.ensures refl)
+        kept = keeps_start g.N.Nand.blocks c.args.plan c.args.nand (log_of c.in_ok-table.table c.new-3.result.notes) c.in_ok-table.table
+            c.in_ok-volume.volume
+            (c.in_ok-bound.ensures.ok.0 refl) (c.requires.fresh.unused ∙ ap (λ (s : Shape). fresh_blocks s) (sym c.shape.ensures ∙ same))
+            (rw c.new-3.ensures refl)
             (c.in_ok-table.ensures.ok ∙ ap empty_table c.len.ensures) c.in_ok-volume.ensures.ok;
         fits = rw c.new-3.ensures tt;
       },

@@ -6,9 +6,11 @@ use Rattle.slot_core.proofs.die_core.DieCore.rows.Goals as goal
 
 pub returns-clause-ok : goal.returns-clause-ok
 returns-clause-ok g c =
-    rw (← c.self.view_is) (ok_where c.rows_in.result _ _ c.rows_in.ensures.ok (λ made is. rows_are _ _ _ made c.self.invariant.0.kept.bound c.self.invariant.0.kept.exact c.self.invariant.0.kept.jobs_are is))
+    rw (← c.self.view_is) (ok_where c.rows_in.result _ _ c.rows_in.ensures.ok
+    (λ made is. rows_are _ _ _ made c.self.invariant.0.kept.bound c.self.invariant.0.kept.exact c.self.invariant.0.kept.jobs_are is))
 
 pub returns-clause-rise : goal.returns-clause-rise
 returns-clause-rise g c =
     ok_where c.rows_in.result _ _ c.rows_in.ensures.ok
-    (λ made is. subst RowsRise (sym (rows_are _ _ _ made c.self.invariant.0.kept.bound c.self.invariant.0.kept.exact c.self.invariant.0.kept.jobs_are is)) (rising _ _ c.self.invariant.0.kept.bound c.self.invariant.0.kept.exact))
+    (λ made is. subst RowsRise (sym (rows_are _ _ _ made c.self.invariant.0.kept.bound c.self.invariant.0.kept.exact
+    c.self.invariant.0.kept.jobs_are is)) (rising _ _ c.self.invariant.0.kept.bound c.self.invariant.0.kept.exact))

@@ -16,19 +16,29 @@ pub returns-in-Some-clause-refused : goal.returns-in-Some-clause-refused
 returns-in-Some-clause-refused g c alive = inl (refused_answer _ _ _ _ (sym c.submit_refusal.ensures ∙ c.in-Some.is))
 
 pub returns-in-Err-clause-refused : goal.returns-in-Err-clause-refused
-returns-in-Err-clause-refused g c alive = inr (submit_accepts _ _ _ _ _ _ (sym c.submit_refusal.ensures ∙ c.in-None.is), c.in-Err.ensures.refused)
+returns-in-Err-clause-refused g c alive = inr (
+  submit_accepts _ _ _ _ _ _ (sym c.submit_refusal.ensures ∙ c.in-None.is),
+  c.in-Err.ensures.refused,
+)
 
 pub invariant_of-self-in-Ok : goal.invariant_of-self-in-Ok
 invariant_of-self-in-Ok g c =
     let f = c.self.inside in
-    let none : refusal_of f.volume.accounts.plan (log_of f.table f.events.notes) (Submit c.args.task c.args.release c.args.due c.args.ops.now) ≡ None =
-    ap (λ (d : Core g.row.N.Denot). refusal_of d.plan d.log (Submit c.args.task c.args.release c.args.due c.args.ops.now)) c.self.view_is ∙ (sym c.submit_refusal.ensures ∙ c.in-None.is) in
+    let none : refusal_of f.volume.accounts.plan (log_of f.table f.events.notes)
+    (Submit c.args.task c.args.release c.args.due c.args.ops.now) ≡ None =
+    ap (λ (d : Core g.row.N.Denot). refusal_of d.plan d.log (Submit c.args.task c.args.release c.args.due c.args.ops.now)) c.self.view_is
+    ∙ (sym c.submit_refusal.ensures ∙ c.in-None.is) in
     let alive = sym c.failed.ensures ∙ c.if-failed.false in
     let made = admit_made f.volume c.admit.new.self c.args.task _ c.args.ops.now c.admit.result (c.count_writes-writes.ensures)
-    (tokens_suffice f.volume.accounts.plan (log_of f.table f.events.notes) c.args.task c.args.release c.args.due c.args.ops.now f.volume.accounts (c.self.invariant.0.kept.flash alive).accounts_are none) c.admit.ensures.ok (c.admit.ensures.accepted alive) in
-    let tells = submit_tells f.table c.enter_job.new.table f.events.notes c.enter_job.new.events.notes c.args.caller c.in-Ok.number c.args.task c.args.release c.args.due c.args.ops.now c.in-Ok.ensures.table c.in-Ok.ensures.number c.in-Ok.ensures.logged c.self.invariant.0.fits in (
+    (tokens_suffice f.volume.accounts.plan (log_of f.table f.events.notes) c.args.task c.args.release c.args.due c.args.ops.now
+    f.volume.accounts (c.self.invariant.0.kept.flash alive).accounts_are none) c.admit.ensures.ok (c.admit.ensures.accepted alive) in
+    let tells = submit_tells f.table c.enter_job.new.table f.events.notes c.enter_job.new.events.notes c.args.caller c.in-Ok.number
+    c.args.task c.args.release c.args.due c.args.ops.now c.in-Ok.ensures.table c.in-Ok.ensures.number c.in-Ok.ensures.logged
+    c.self.invariant.0.fits in (
       record {
-        kept = submit_kept g.N.Nand.blocks (log_of f.table f.events.notes) (log_of c.enter_job.new.table c.enter_job.new.events.notes) f.present c.args.caller c.in-Ok.number c.args.task c.args.release c.args.due c.args.ops.now f.table c.enter_job.new.table f.volume c.admit.new.self
+        kept = submit_kept g.N.Nand.blocks (log_of f.table f.events.notes) (log_of c.enter_job.new.table c.enter_job.new.events.notes)
+            f.present c.args.caller c.in-Ok.number c.args.task c.args.release c.args.due c.args.ops.now f.table c.enter_job.new.table
+            f.volume c.admit.new.self
             c.self.invariant.0.kept alive none c.in-Ok.ensures.number c.in-Ok.ensures.table made tells.0;
         fits = tells.1;
       },
@@ -45,18 +55,26 @@ invariant_of-self-in-Ok g c =
     )
 
 pub returns-in-Ok-clause-taken : goal.returns-in-Ok-clause-taken
-returns-in-Ok-clause-taken g c = rw (← c.self.view_is) (submit_taken _ _ c.self.inside.table _ _ _ _ _ (ap (λ (d : Core g.row.N.Denot). refusal_of d.plan d.log (Submit c.args.task c.args.release c.args.due c.args.ops.now)) c.self.view_is ∙ (sym c.submit_refusal.ensures ∙ c.in-None.is)) c.self.invariant.0.kept.jobs_are c.in-Ok.ensures.number)
+returns-in-Ok-clause-taken g c = rw (← c.self.view_is) (submit_taken _ _ c.self.inside.table _ _ _ _ _
+    (ap (λ (d : Core g.row.N.Denot). refusal_of d.plan d.log (Submit c.args.task c.args.release c.args.due c.args.ops.now)) c.self.view_is
+    ∙ (sym c.submit_refusal.ensures ∙ c.in-None.is)) c.self.invariant.0.kept.jobs_are c.in-Ok.ensures.number)
 
 pub enter_job-requires-clause-few_events : goal.enter_job-requires-clause-few_events
-enter_job-requires-clause-few_events g c = few_told c.self.inside.volume.accounts.plan c.self.inside.table.jobs c.self.inside.events.notes c.self.invariant.0.kept.exact c.self.invariant.0.fits
+enter_job-requires-clause-few_events g c = few_told c.self.inside.volume.accounts.plan c.self.inside.table.jobs c.self.inside.events.notes
+    c.self.invariant.0.kept.exact c.self.invariant.0.fits
 
 pub returns-in-Ok-clause-logged : goal.returns-in-Ok-clause-logged
 returns-in-Ok-clause-logged g c =
     let f = c.self.inside in
-    let none : refusal_of f.volume.accounts.plan (log_of f.table f.events.notes) (Submit c.args.task c.args.release c.args.due c.args.ops.now) ≡ None =
-    ap (λ (d : Core g.row.N.Denot). refusal_of d.plan d.log (Submit c.args.task c.args.release c.args.due c.args.ops.now)) c.self.view_is ∙ (sym c.submit_refusal.ensures ∙ c.in-None.is) in
+    let none : refusal_of f.volume.accounts.plan (log_of f.table f.events.notes)
+    (Submit c.args.task c.args.release c.args.due c.args.ops.now) ≡ None =
+    ap (λ (d : Core g.row.N.Denot). refusal_of d.plan d.log (Submit c.args.task c.args.release c.args.due c.args.ops.now)) c.self.view_is
+    ∙ (sym c.submit_refusal.ensures ∙ c.in-None.is) in
     let alive = sym c.failed.ensures ∙ c.if-failed.false in
     let made = admit_made f.volume c.admit.new.self c.args.task _ c.args.ops.now c.admit.result (c.count_writes-writes.ensures)
-    (tokens_suffice f.volume.accounts.plan (log_of f.table f.events.notes) c.args.task c.args.release c.args.due c.args.ops.now f.volume.accounts (c.self.invariant.0.kept.flash alive).accounts_are none) c.admit.ensures.ok (c.admit.ensures.accepted alive) in
-    let tells = submit_tells f.table c.enter_job.new.table f.events.notes c.enter_job.new.events.notes c.args.caller c.in-Ok.number c.args.task c.args.release c.args.due c.args.ops.now c.in-Ok.ensures.table c.in-Ok.ensures.number c.in-Ok.ensures.logged c.self.invariant.0.fits in
+    (tokens_suffice f.volume.accounts.plan (log_of f.table f.events.notes) c.args.task c.args.release c.args.due c.args.ops.now
+    f.volume.accounts (c.self.invariant.0.kept.flash alive).accounts_are none) c.admit.ensures.ok (c.admit.ensures.accepted alive) in
+    let tells = submit_tells f.table c.enter_job.new.table f.events.notes c.enter_job.new.events.notes c.args.caller c.in-Ok.number
+    c.args.task c.args.release c.args.due c.args.ops.now c.in-Ok.ensures.table c.in-Ok.ensures.number c.in-Ok.ensures.logged
+    c.self.invariant.0.fits in
     rw (tells.0, made, ← c.self.view_is) refl

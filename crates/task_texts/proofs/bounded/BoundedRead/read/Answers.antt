@@ -36,7 +36,14 @@ returns-clause-bytes g c =
     let size : length given ≡ length (take c.min-most.result c.args.buf.now) = c.read-2.auto.buf in
     let within : n ≤ room = omega (arith, few, size, length-take c.min-most.result c.args.buf.now, c.min-most.ensures) in
     let some : 0 < length c.args.buf.now = search rules in
-    let there : 0 < length given = omega (arith, some, size, length-take c.min-most.result c.args.buf.now, c.min-most.ensures, c.if-self-eq0-2.false) in
+    let there : 0 < length given = omega (
+      arith,
+      some,
+      size,
+      length-take c.min-most.result c.args.buf.now,
+      c.min-most.ensures,
+      c.if-self-eq0-2.false,
+    ) in
     let same : take n (given ++ behind) ≡ take n given = take-append-le n given behind few in
     let whole : All IsByte (given ++ behind) = All-from_get_or IsByte (given ++ behind) 0 (λ i lt. (c.type_inv.buf i).fits) in
     let bytes : All IsByte (take n given) = subst (All IsByte) same (All-take IsByte n (given ++ behind) whole) in

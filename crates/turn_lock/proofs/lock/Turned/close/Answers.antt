@@ -8,16 +8,21 @@ returns-then-out-gt0-clause-out g c = rw (← c.pass.view_is) (
   refl,
   search rules,
   (
-    grown g.B.Book.log g.B.Book.about g.B.Book.fits _ c.take-kept.new.seat.me.0 _ c.take-kept.result c.take-kept.result.book c.take-kept.ensures.won.1 c.pass.invariant.2 refl c.release.ensures.view,
+    grown g.B.Book.log g.B.Book.about g.B.Book.fits _ c.take-kept.new.seat.me.0 _ c.take-kept.result c.take-kept.result.book
+        c.take-kept.ensures.won.1 c.pass.invariant.2 refl c.release.ensures.view,
     search rules,
-    λ zero. sole_after g.B.Book.log g.B.Book.about g.B.Book.fits _ c.take-kept.new.seat.me.0 _ c.take-kept.result c.take-kept.result.book _ c.take-kept.ensures.won.1 c.pass.invariant.1 c.release.ensures.view (search rules) zero,
-    λ zero. seen_before g.B.Book.log g.B.Book.about g.B.Book.fits _ c.take-kept.new.seat.me.0 _ c.take-kept.result _ c.take-kept.ensures.won.1 c.pass.invariant.1 c.release.ensures.view (search rules) zero,
-    λ sole. none_out g.B.Book.log g.B.Book.about g.B.Book.fits _ c.take-kept.new.seat.me.0 c.take-kept.result _ c.take-kept.ensures.won.1 c.pass.invariant.1 (search rules) sole,
+    λ zero. sole_after g.B.Book.log g.B.Book.about g.B.Book.fits _ c.take-kept.new.seat.me.0 _ c.take-kept.result c.take-kept.result.book _
+        c.take-kept.ensures.won.1 c.pass.invariant.1 c.release.ensures.view (search rules) zero,
+    λ zero. seen_before g.B.Book.log g.B.Book.about g.B.Book.fits _ c.take-kept.new.seat.me.0 _ c.take-kept.result _
+        c.take-kept.ensures.won.1 c.pass.invariant.1 c.release.ensures.view (search rules) zero,
+    λ sole. none_out g.B.Book.log g.B.Book.about g.B.Book.fits _ c.take-kept.new.seat.me.0 c.take-kept.result _ c.take-kept.ensures.won.1
+        c.pass.invariant.1 (search rules) sole,
   ),
 )
 
 pub returns-then-out-gt0-clause-sole : goal.returns-then-out-gt0-clause-sole
 returns-then-out-gt0-clause-sole g c = λ sole.
     let v = c.pass.inside.seat.me.0 in
-    let l : length v.joined + 1 ≡ c.take-kept.result.made = none_left g.B.Book.log g.B.Book.about g.B.Book.fits v c.take-kept.new.seat.me.0 c.take-kept.result c.take-kept.ensures.won.1 c.pass.invariant.1 (ap (λ x. x.view.sole) c.pass.view_is ∙ sole) in
+    let l : length v.joined + 1 ≡ c.take-kept.result.made = none_left g.B.Book.log g.B.Book.about g.B.Book.fits v c.take-kept.new.seat.me.0
+    c.take-kept.result c.take-kept.ensures.won.1 c.pass.invariant.1 (ap (λ x. x.view.sole) c.pass.view_is ∙ sole) in
     absurd (omega arith)

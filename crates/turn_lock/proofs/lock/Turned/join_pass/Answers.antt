@@ -6,14 +6,22 @@ use Rattle.turn_lock.proofs.Keeps.{joins, compares}
 use Rattle.turn_lock.proofs.lock.Turned.join_pass.Goals as goal
 
 pub join_seat-requires : goal.join_seat-requires
-join_seat-requires g c = (search rules, search rules, search rules, search rules, joins _ _ _ _ _ _ _ c.pass.invariant.1 c.other.invariant.1 c.pass.invariant.2)
+join_seat-requires g c = (
+  search rules,
+  search rules,
+  search rules,
+  search rules,
+  joins _ _ _ _ _ _ _ c.pass.invariant.1 c.other.invariant.1
+      c.pass.invariant.2,
+)
 
 pub load-requires : goal.load-requires
 load-requires g c = (search rules, search rules, compares _ _ _ _ _ _ (ap (λ m. m.0.live) c.join_seat.ensures.2 ∙ c.pass.invariant.1))
 
 pub returns-clause-joined : goal.returns-clause-joined
 returns-clause-joined g c = let told = c.load.ensures.2 in
-    rw (← c.pass.view_is, ← c.other.view_is) (joined_seen _ _ _ _ c.pass.invariant.1 (ap (λ m. m.0) told.0) (ap (λ m. m.0) c.join_seat.ensures.2) told.1 told.2)
+    rw (← c.pass.view_is, ← c.other.view_is) (joined_seen _ _ _ _ c.pass.invariant.1 (ap (λ m. m.0) told.0)
+    (ap (λ m. m.0) c.join_seat.ensures.2) told.1 told.2)
 
 pub invariant_of-pass : goal.invariant_of-pass
 invariant_of-pass g c =

@@ -9,11 +9,13 @@ split_seat-seat-requires g c = let view_is = c.take-kept.ensures.won.1.view_is i
 
 pub returns-clause-parts : goal.returns-clause-parts
 returns-clause-parts g c = let cut = c.split_seat-seat.ensures in
-    rw (← c.pass.view_is) (parts g.B.Book.log g.B.Book.about g.B.Book.fits _ c.take-kept.new.seat.me.0 c.split_seat-seat.new.seat.me.0 _ _ c.take-kept.result c.take-kept.result.book c.take-kept.ensures.won.1 c.pass.invariant.2
+    rw (← c.pass.view_is) (parts g.B.Book.log g.B.Book.about g.B.Book.fits _ c.take-kept.new.seat.me.0 c.split_seat-seat.new.seat.me.0 _ _
+    c.take-kept.result c.take-kept.result.book c.take-kept.ensures.won.1 c.pass.invariant.2
     c.if-number-ge-MAX_PASSES.false (ap (λ m. m.0) cut.2) (ap (λ m. m.0) cut.4) c.release-pass-inside-2.ensures.view refl)
 
 pub returns-then-number-ge-MAX_PASSES-clause-full : goal.returns-then-number-ge-MAX_PASSES-clause-full
 returns-then-number-ge-MAX_PASSES-clause-full g c = rw (← c.pass.view_is) (
-  grown g.B.Book.log g.B.Book.about g.B.Book.fits _ c.take-kept.new.seat.me.0 _ c.take-kept.result c.take-kept.result.book c.take-kept.ensures.won.1 c.pass.invariant.2 refl c.release-pass-inside.ensures.view,
+  grown g.B.Book.log g.B.Book.about g.B.Book.fits _ c.take-kept.new.seat.me.0 _ c.take-kept.result c.take-kept.result.book
+      c.take-kept.ensures.won.1 c.pass.invariant.2 refl c.release-pass-inside.ensures.view,
   search rules,
 )

@@ -10,8 +10,10 @@ pub returns-clause-put : goal.returns-clause-put
 returns-clause-put c =
     let old = c.index_mut.result.now in
     let i = c.args.block % 64 in
-    let at : c.args.count * c.args.self.now.words + c.args.block / 64 < length c.args.self.now.bits.items = omega (arith, c.requires.set.whole) in
-    rw c.place-at.ensures (changed c.args.self.now.words c.args.self.now.bits.items c.args.count c.args.block _ 1 at (bit_at_set_same w64 old i (mod_below c.args.block 64 (lit< tt))))
+    let at : c.args.count * c.args.self.now.words + c.args.block / 64
+    < length c.args.self.now.bits.items = omega (arith, c.requires.set.whole) in
+    rw c.place-at.ensures (changed c.args.self.now.words c.args.self.now.bits.items c.args.count c.args.block _ 1 at
+    (bit_at_set_same w64 old i (mod_below c.args.block 64 (lit< tt))))
 
 pub returns-clause-others : goal.returns-clause-others
 returns-clause-others c =
@@ -20,5 +22,7 @@ returns-clause-others c =
     let old = c.index_mut.result.now in
     let i = c.args.block % 64 in
     let at : c.args.count * words + c.args.block / 64 < length bits = omega (arith, c.requires.set.whole) in
-    let read : old ≡ get_or bits (c.args.count * words + c.args.block / 64) 0 = get_or_read bits (c.args.count * words + c.args.block / 64) old at (rw c.place-at.ensures at c.index_mut.ensures.value) 0 in
-    rw c.place-at.ensures (only_change words bits c.args.count c.args.block _ c.requires.block at (λ j j_below other. bit_at_set_other w64 old i (mod_below c.args.block 64 (lit< tt)) j other ∙ ap (λ (w : ℕ). bit_at w j) read))
+    let read : old ≡ get_or bits (c.args.count * words + c.args.block / 64) 0 = get_or_read bits (c.args.count * words + c.args.block / 64)
+    old at (rw c.place-at.ensures at c.index_mut.ensures.value) 0 in
+    rw c.place-at.ensures (only_change words bits c.args.count c.args.block _ c.requires.block at
+    (λ j j_below other. bit_at_set_other w64 old i (mod_below c.args.block 64 (lit< tt)) j other ∙ ap (λ (w : ℕ). bit_at w j) read))

@@ -16,13 +16,20 @@ invariant_of-self c =
     let worn = c.self.inside.erases.items in
     let in_set = in_sets v.pages v.counts.items worn v.firsts.items v.lists.words bits v.least c.args.block c.self.invariant below in
     let put = rw c.insert.ensures.words at c.insert.ensures.put in
-    let move = move_in v.pages v.counts.items v.lists.words bits changed c.args.valid c.args.block c.self.invariant.sets in_set free c.insert.ensures.others put in
+    let move = move_in v.pages v.counts.items v.lists.words bits changed c.args.valid c.args.block c.self.invariant.sets in_set free
+    c.insert.ensures.others put in
     let in_firsts : c.args.valid < length v.firsts.items = omega (arith, fits, c.self.invariant.firsts_len) in
-    let read : c.index.result.now ≡ get_or v.firsts.items c.args.valid None = get_or_read v.firsts.items c.args.valid c.index.result.now in_firsts c.index.ensures None in
-    let first : IsFirstOf v.counts.items worn c.args.valid c.index.result.now = subst (λ (o : Option ℕ). IsFirstOf v.counts.items worn c.args.valid o) (sym read) (c.self.invariant.firsts_are c.args.valid fits) in
-    let joined = first_joined v.counts.items worn c.args.valid c.args.block c.args.erases c.earlier-first.result c.index.result.now below free first (rw c.deref.ensures.value at c.earlier-first.ensures) in
+    let read : c.index.result.now ≡ get_or v.firsts.items c.args.valid None = get_or_read v.firsts.items c.args.valid c.index.result.now
+    in_firsts c.index.ensures None in
+    let first : IsFirstOf v.counts.items worn c.args.valid c.index.result.now = subst
+    (λ (o : Option ℕ). IsFirstOf v.counts.items worn c.args.valid o) (sym read) (c.self.invariant.firsts_are c.args.valid fits) in
+    let joined = first_joined v.counts.items worn c.args.valid c.args.block c.args.erases c.earlier-first.result c.index.result.now below
+    free first (rw c.deref.ensures.value at c.earlier-first.ensures) in
     rw c.insert.ensures.words (
-    lists_moved v.pages v.counts.items worn v.firsts.items v.lists.words bits changed v.least c.min-self-inside.result c.args.valid c.args.block (Some c.args.valid) (Some c.args.erases) (Some c.earlier-first.result) c.self.invariant below fits refl c.insert.ensures.len c.insert.ensures.others move joined (λ b n is. elim (counted_after v.counts.items c.args.block b n (Some c.args.valid) below is) [
+    lists_moved v.pages v.counts.items worn v.firsts.items v.lists.words bits changed v.least c.min-self-inside.result c.args.valid
+    c.args.block (Some c.args.valid) (Some c.args.erases) (Some c.earlier-first.result) c.self.invariant below fits refl
+    c.insert.ensures.len c.insert.ensures.others move joined
+    (λ b n is. elim (counted_after v.counts.items c.args.block b n (Some c.args.valid) below is) [
       | inl moved ↦ omega (arith, move.new_is n moved, c.min-self-inside.ensures)
       | inr stayed ↦ omega (arith, c.self.invariant.least_is b n stayed, c.min-self-inside.ensures)
     ])
