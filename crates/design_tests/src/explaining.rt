@@ -144,28 +144,6 @@ die 0: it has 0 tasks, and has to have from 1 to 16.
     ),
 ];
 
-/// Faults of the text.
-const TEXTS: [Said; 2] = [
-    (
-        "version = 1",
-        "version = 3",
-        false,
-        "The plan is refused: PlanText BadVersion.
-plan: version has to be 1 or 2.
-",
-    ),
-    (
-        "alpha = 2\n",
-        "",
-        false,
-        "The plan is refused: PlanText MissingKey.
-plan: a key is missing.
-plan: its keys are version, dies, blocks, pages, erase_slots, logical, alpha and task; in each [[task]] die and cap.
-plan: where version is 2, it also has common; in each [[task]] period, collect_period, work and writes.
-",
-    ),
-];
-
 /// Loads that fit, and not.
 const LOADS: [Said; 5] = [
     (
@@ -290,14 +268,6 @@ fn numbers_out_of_their_limits_are_told(rt: HostRuntime) -> Result<(), Fail> {
     }
     for said in TIMES {
         assert!(rt; is_said(rt.alloc(), TIMED, said)?, "{}", said.1);
-    }
-    Ok(())
-}
-
-#[test]
-fn faults_of_the_text_are_told(rt: HostRuntime) -> Result<(), Fail> {
-    for said in TEXTS {
-        assert!(rt; is_said(rt.alloc(), PLAN, said)?, "{}", said.1);
     }
     Ok(())
 }

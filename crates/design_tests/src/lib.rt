@@ -3,3 +3,5 @@
 
 #[cfg(test)]
 mod explaining;
+#[cfg(test)]
+mod text_faults;

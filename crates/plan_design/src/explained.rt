@@ -86,7 +86,7 @@ fn tell_plan(alloc: Global, text: &mut Vec<u8>, plan: &[u8]) -> Result<(), Refus
 {
     match plan_numbers(alloc, plan) {
         Ok(numbers) => tell_numbers(alloc, text, &numbers),
-        Err(Refusal::PlanText { cause }) => match tell_cause(text, cause) {
+        Err(Refusal::PlanText { cause }) => match tell_cause(alloc, text, plan, cause) {
             Ok(()) => Ok(()),
             Err(_) => Err(Refusal::NoMemory),
         },

@@ -4,6 +4,8 @@
 mod bounds;
 mod causes;
 mod explained;
+mod faults;
+mod first_faults;
 mod limits;
 mod loads;
 mod subjects;
