@@ -76,12 +76,12 @@ const EXTRA: [Said; 7] = [
     (
         "cap = 4",
         "caps = 4",
-        "task 0 has the key `caps`, which no plan of version 1 has.",
+        "[[task]] number 1 has the key `caps`, which no plan of version 1 has.",
     ),
     (
         "cap = 4\n",
         "cap = 4\n[[task]]\ndie = 0\ncap = 4\n[[task]]\ndie = 0\ncap = 4\nwork = 1\n",
-        "task 2 has the key `work`, which no plan of version 1 has.",
+        "[[task]] number 3 has the key `work`, which no plan of version 1 has.",
     ),
 ];
 
@@ -98,7 +98,7 @@ const MISSING: [Said; 5] = [
     (
         "cap = 4\n",
         "cap = 4\n[[task]]\ndie = \"one\"\n",
-        "task 1 has no `cap`.",
+        "[[task]] number 2 has no `cap`.",
     ),
 ];
 
@@ -132,12 +132,12 @@ const KINDS: [Said; 7] = [
     (
         "cap = 4",
         "cap = -1",
-        "task 0 has to have a whole number from 0 to 4294967295 at `cap`.",
+        "[[task]] number 1 has to have a whole number from 0 to 4294967295 at `cap`.",
     ),
     (
         "cap = 4\n",
         "cap = 4\n[[task]]\ndie = true\ncap = []\n",
-        "task 1 has to have a whole number from 0 to 4294967295 at `die`.",
+        "[[task]] number 2 has to have a whole number from 0 to 4294967295 at `die`.",
     ),
 ];
 
@@ -179,7 +179,7 @@ const TIMED_EXTRA: [Said; 2] = [
     (
         "cap = 6",
         "cap = 6\nslack = 1",
-        "task 0 has the key `slack`, which no plan of version 2 has.",
+        "[[task]] number 1 has the key `slack`, which no plan of version 2 has.",
     ),
     (
         "version = 2",
@@ -191,7 +191,7 @@ const TIMED_EXTRA: [Said; 2] = [
 /// Keys that a plan with times lacks.
 const TIMED_MISSING: [Said; 2] = [
     ("common = 20\n", "", "it has no `common`."),
-    ("writes = 1\n", "", "task 0 has no `writes`."),
+    ("writes = 1\n", "", "[[task]] number 1 has no `writes`."),
 ];
 
 /// Values of another kind in a plan with times.
@@ -204,7 +204,7 @@ const TIMED_KINDS: [Said; 2] = [
     (
         "collect_period = 20",
         "collect_period = 1979-05-27",
-        "task 0 has to have a whole number from 0 to 4294967295 at `collect_period`.",
+        "[[task]] number 1 has to have a whole number from 0 to 4294967295 at `collect_period`.",
     ),
 ];
 

@@ -16,7 +16,7 @@ impl Display for Place {
     fn fmt<W: Write>(&self, f: &mut Formatter<W>) -> fmt::Result {
         match self {
             Place::Top => f.write_str("it"),
-            Place::Task(task) => write!(f, "task {task}"),
+            Place::Task(task) => write!(f, "[[task]] number {}", task.saturating_add(1)),
         }
     }
 }
