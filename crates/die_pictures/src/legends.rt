@@ -6,8 +6,9 @@ use std::io;
 use std::io::Write;
 
 /// The styles and the marks. The colours differ in brightness too, for prints without colour and for eyes that see less of
-/// it.
+/// it. On paper a picture is as wide as the page.
 const STYLES: &str = "<style>
+@media print{svg{width:100%;height:auto}}
 svg{background:#fff;print-color-adjust:exact;-webkit-print-color-adjust:exact}
 text{font:11px sans-serif;fill:#222}
 .h{font-size:16px;font-weight:bold}
