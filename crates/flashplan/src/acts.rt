@@ -1,7 +1,6 @@
 //! Commands that are carried out.
 
-ghost use Rattle.std.specs.Prelude.{◌≡◌, ◌≤◌, IfErr, IfOk, OnOk, true};
-ghost use Rattle.std.specs.Io.KnownBytes.{Appends};
+ghost use Rattle.std.specs.Prelude.{◌≡◌, ◌≤◌, IfErr, IfOk, OnOk};
 ghost use Rattle.flashplan.specs.Acts.{IsDone, IsHostFault, IsUnwritten, PrintsArrivals, SaysOf};
 ghost use Rattle.flashplan.specs.Commands.{FitsRun};
 
@@ -12,19 +11,8 @@ use plan_design::explain;
 use slot_types::{MAX_SLOT, Refusal};
 use std::alloc::Global;
 use std::io::{Read, Write};
-use task_texts::{plan_text, read_plan_from};
+use task_texts::{plan_text, read_plan_from, write_whole};
 use watched_runs::{RefusedRows, draw, wear};
-
-/// Writes a text that is whole.
-fn put<W: Write>(out: &mut W, text: &[u8]) -> Result<(), Refusal>
-    ensures written { OnOk result (Appends (W.contents out.old) (W.contents out.new) text.now) }
-    ensures refused { IfErr result (λ refusal. refusal ≡ Refusal.WriteFault) }
-{
-    match out.write_all(text) {
-        Ok(()) => Ok(()),
-        Err(_) => Err(Refusal::WriteFault),
-    }
-}
 
 /// Prints what is said of a plan, and says whether it is accepted.
 fn print_explained<R: Read + Drop, W: Write>(
@@ -37,7 +25,7 @@ fn print_explained<R: Read + Drop, W: Write>(
 {
     let text = plan_text(alloc, plan)?;
     let explained = explain(alloc, &text)?;
-    put(out, &explained.text)?;
+    write_whole(out, &explained.text)?;
     Ok(explained.is_accepted)
 }
 
@@ -59,7 +47,7 @@ fn print_arrivals<R: Read + Drop, W: Write>(
 {
     let store = read_plan_from(alloc, plan)?;
     let script = arrivals(alloc, &store, slots, seed)?;
-    put(out, &script)?;
+    write_whole(out, &script)?;
     Ok(())
 }
 
@@ -93,7 +81,7 @@ fn print_wear<P: Read + Drop, S: Read + Drop, W: Write>(
 {
     let store = read_plan_from(alloc, plan)?;
     let worn = wear(alloc, store, script, slots)?;
-    put(out, &worn.text)?;
+    write_whole(out, &worn.text)?;
     Ok(worn.refused)
 }
 
@@ -112,7 +100,7 @@ fn print_drawn<P: Read + Drop, S: Read + Drop, W: Write>(
 {
     let store = read_plan_from(alloc, plan)?;
     let drawn = draw(alloc, store, script, slots, die, from, to)?;
-    put(out, &drawn.text)?;
+    write_whole(out, &drawn.text)?;
     Ok(drawn.refused)
 }
 
