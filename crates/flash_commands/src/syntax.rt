@@ -102,7 +102,10 @@ fn name<'a>(alloc: Global) -> Command<'a>
         .about(
             "A real-time flash store. Without words it runs a plan and a script that are built in",
         )
-        .after_help("Example: flashrec run plan.toml script.csv --slots 1000")
+        .after_help(
+            "Example: flashrec run plan.toml script.csv --slots 1000\n\
+             docs/TEXTS.md has what plans, scripts and reports say",
+        )
 }
 
 /// A program with one more command.

@@ -189,7 +189,10 @@ fn name<'a>(alloc: Global) -> Command<'a>
     Command::new(alloc, "flashplan")
         .version("0.1.0")
         .about("Helps to design the plan of a real-time flash store")
-        .after_help("Example: flashplan explain plan.toml")
+        .after_help(
+            "Example: flashplan explain plan.toml\n\
+             docs/DESIGNING.md walks through a recorder's plan, docs/TEXTS.md has the texts",
+        )
 }
 
 /// A program with one more command.
