@@ -4,7 +4,7 @@ ghost use Rattle.std.specs.Prelude.{◌≡◌, [], length, replicate, IfOk, IfEr
 ghost use Rattle.task_script.specs.Feeds.{AreFeedsOf, RefusesScript};
 
 use crate::rows::DieRows;
-use slot_types::{Refusal, StorePlan};
+use slot_types::{OpList, Refusal, StorePlan};
 use std::alloc::Global;
 use std::io::Read;
 use task_texts::ScriptReader;
@@ -36,11 +36,13 @@ pub fn read_feeds<R: Read + Drop>(
 {
     let mut feeds = no_feeds(alloc, plan.len())?;
     let mut script = ScriptReader::new(alloc, reader, plan, slots)?;
+    // The operations of all rows are read into this one list.
+    let mut ops = OpList::new(alloc);
     for _ in 0..u64::MAX {
-        match script.next() {
-            Ok(Some(item)) => {
-                let die = item.die as usize;
-                match feeds[die].add(item) {
+        match script.next_into(&mut ops) {
+            Ok(Some(head)) => {
+                let die = head.die as usize;
+                match feeds[die].add(&head, ops.as_slice()) {
                     Ok(()) => {}
                     Err(refusal) => return Err(refusal),
                 }

@@ -1,14 +1,14 @@
 //! The rows of a die, as its run needs them.
 
 ghost use Rattle.std.specs.Prelude.{◌≡◌, ◌∷◌, ◌++◌, [], All, IfErr, OnErr, OnOk};
-ghost use Rattle.slot_types.specs.Arrivals.{IsArrival};
 ghost use Rattle.task_script.specs.RowEnds.{arrivals_of, lines_of};
+ghost use Rattle.task_texts.specs.Heads.{asked_by, row_of};
 
 use die_service::Feed;
-use slot_types::{Event, Items, Refusal};
+use slot_types::{Items, Op, Refusal};
 use std::alloc::Global;
 use std::marker::Model;
-use task_texts::ScriptItem;
+use task_texts::RowHead;
 
 /// The lines of rows, in their order.
 pub type Lines = Items<u32>;
@@ -34,22 +34,23 @@ impl Model for DieRows {
     ghost invariant = { λ r. length r.lines.items ≡ length r.feed };
 }
 
-/// Adds an event that comes before slot `at`. The only refusal is for want of memory.
-fn add_event(feed: &mut Feed, at: u32, event: Event) -> Result<(), Refusal>
-    requires arrives { IsArrival event }
-    ensures ok { OnOk result (feed.new ≡ feed.old ++ record { at = at; event = event } ∷ []) }
+/// Adds what a row asks: a job of these operations, or a collection. The only refusal is for want of memory.
+fn add_asked(feed: &mut Feed, head: &RowHead, ops: &[Op]) -> Result<(), Refusal>
+    ensures ok { OnOk result (feed.new ≡ feed.old ++ record { at = head.now.at; event = asked_by head.now ops.now } ∷ []) }
     ensures refused { IfErr result (λ refusal. refusal ≡ Refusal.NoMemory) }
     ensures err { OnErr result (feed.new ≡ feed.old) }
 {
-    match event {
-        Event::Submit {
-            task,
-            release,
-            due,
-            ops,
-        } => feed.push_job(at, task, release, due, ops.as_slice()),
-        Event::Collect { task, release, due } => feed.push_collection(at, task, release, due),
-        Event::Slot => unreachable!(),
+    let RowHead {
+        at,
+        task,
+        release,
+        due,
+        ..
+    } = *head;
+    if head.collects {
+        feed.push_collection(at, task, release, due)
+    } else {
+        feed.push_job(at, task, release, due, ops)
     }
 }
 
@@ -65,17 +66,17 @@ impl DieRows {
         }
     }
 
-    /// Adds a row of the same die. The only refusal is for want of memory.
-    pub fn add(&mut self, item: ScriptItem) -> Result<(), Refusal>
-        requires arrives { IsArrival item.event }
-        requires one_die { All (λ row. row.die ≡ item.die) self.old }
-        ensures ok { OnOk result (self.new ≡ self.old ++ item ∷ []) }
+    /// Adds a row of the same die, of its head and its operations; a collection leaves them aside. The only refusal is for
+    /// want of memory.
+    pub fn add(&mut self, head: &RowHead, ops: &[Op]) -> Result<(), Refusal>
+        requires one_die { All (λ row. row.die ≡ head.now.die) self.old }
+        ensures ok { OnOk result (self.new ≡ self.old ++ row_of head.now ops.now ∷ []) }
         ensures refused { IfErr result (λ refusal. refusal ≡ Refusal.NoMemory) }
     {
         self.lines.reserve(1)?;
-        add_event(&mut self.feed, item.at, item.event)?;
-        self.lines.push_reserved(item.line);
-        self.die = item.die;
+        add_asked(&mut self.feed, head, ops)?;
+        self.lines.push_reserved(head.line);
+        self.die = head.die;
         Ok(())
     }
 

@@ -1,4 +1,5 @@
 use Rattle.std.proofs.Common.{◌∙◌, refl}
+use Rattle.task_texts.specs.Heads.{row_of}
 use Rattle.task_script.proofs.Dealing.{dealt_own, deals_none, deals_more, deals_all, deals_fault}
 use Rattle.task_script.proofs.feeds.read_feeds.Goals as goal
 
@@ -21,18 +22,20 @@ loop-preserved g c =
     let row = rw c.in-Ok-Some.field-0-is at c.in-Ok-Some.ensures.row in
     let paged = rw c.in-Ok-Some.field-0-is at c.in-Ok-Some.ensures.pages in
     let step = rw c.in-Ok-Some.field-0-is at c.in-Ok-Some.ensures.item in
+    let added = rw c.as_slice.ensures at c.in-Ok.ensures.ok in
     record {
-      dies = c.next.ensures.dies ∙ c.loop.invariant.dies;
-      slots = c.next.ensures.slots ∙ c.loop.invariant.slots;
-      dealt = deals_more _ _ _ _ _ _ _ c.in-Ok-Some.item _ _ (rw (c.loop.invariant.dies, c.loop.invariant.slots) at row) paged
-          c.index_mut.ensures.value c.in-Ok.ensures.ok refl step c.loop.invariant.dealt;
+      dies = c.next_into.ensures.dies ∙ c.loop.invariant.dies;
+      slots = c.next_into.ensures.slots ∙ c.loop.invariant.slots;
+      dealt = deals_more _ _ _ _ _ _ _ (row_of c.in-Ok-Some.head c.next_into.new.ops) _ _
+          (rw (c.loop.invariant.dies, c.loop.invariant.slots) at row) paged
+          c.index_mut.ensures.value added refl step c.loop.invariant.dealt;
     }
 
 pub add-requires : goal.add-requires
 add-requires g c =
     let row = rw c.in-Ok-Some.field-0-is at c.in-Ok-Some.ensures.row in
     record {
-      arrives = row.1.1;
-      one_die = dealt_own _ _ _ _ _ c.in-Ok-Some.item _ (rw (c.loop.invariant.dies, c.loop.invariant.slots) at row)
+      one_die = dealt_own _ _ _ _ _ (row_of c.in-Ok-Some.head c.next_into.new.ops) _
+          (rw (c.loop.invariant.dies, c.loop.invariant.slots) at row)
           c.index_mut.ensures.value c.loop.invariant.dealt;
     }

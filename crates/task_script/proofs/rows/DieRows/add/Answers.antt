@@ -1,4 +1,5 @@
 use Rattle.std.proofs.Common.{◌≡◌, ◌∷◌, ◌++◌, [], All, List, sym, ap, ◌∙◌, subst}
+use Rattle.task_texts.specs.Heads.{row_of}
 use Rattle.task_texts.specs.declared.items.ScriptItem.{ScriptItem}
 use Rattle.task_script.proofs.KeptRows.{rows_more}
 use Rattle.task_script.proofs.rows.DieRows.add.Goals as goal
@@ -6,7 +7,8 @@ use Rattle.task_script.proofs.rows.DieRows.add.Goals as goal
 pub returns-clause-ok : goal.returns-clause-ok
 returns-clause-ok c =
     let f = c.self.inside in
-    rows_more f.die c.args.item f.lines.items c.push_reserved.new.self.items f.feed c.add_event.new.feed c.self.invariant
-    (c.push_reserved.ensures.items ∙ ap (λ l. l ++ c.args.item.line ∷ []) c.in_ok-reserve.ensures.items) c.in_ok-add_event.ensures.ok
-    (subst (λ (rows : List ScriptItem). All (λ (row : ScriptItem). row.die ≡ c.args.item.die) rows) (sym c.self.view_is) c.requires.one_die)
-    ∙ ap (λ (rows : List ScriptItem). rows ++ c.args.item ∷ []) c.self.view_is
+    let item : ScriptItem = row_of c.args.head.now c.args.ops.now in
+    rows_more f.die item f.lines.items c.push_reserved.new.self.items f.feed c.add_asked.new.feed c.self.invariant
+    (c.push_reserved.ensures.items ∙ ap (λ l. l ++ item.line ∷ []) c.in_ok-reserve.ensures.items) c.in_ok-add_asked.ensures.ok
+    (subst (λ (rows : List ScriptItem). All (λ (row : ScriptItem). row.die ≡ item.die) rows) (sym c.self.view_is) c.requires.one_die)
+    ∙ ap (λ (rows : List ScriptItem). rows ++ item ∷ []) c.self.view_is
