@@ -33,21 +33,16 @@ fn clean_page(digits: &[u8]) -> Option<PageData>
     if digits.len() != 32 {
         return None;
     }
-    let mut values = [0u8; 32];
+    let mut bytes = [0u8; 16];
     let mut most = 0u8;
-    'digit: for i in 0..32 {
-        let value = digit_value(digits[i]);
-        values[i] = value;
-        most = most.max(value);
+    for i in 0..16 {
+        let high = digit_value(digits[2 * i]);
+        let low = digit_value(digits[2 * i + 1]);
+        most = most.max(high).max(low);
+        bytes[i] = high.wrapping_mul(16).wrapping_add(low);
     }
     if most > 15 {
         return None;
-    }
-    let mut bytes = [0u8; 16];
-    'byte: for i in 0..16 {
-        bytes[i] = values[2 * i]
-            .wrapping_mul(16)
-            .wrapping_add(values[2 * i + 1]);
     }
     Some(PageData(bytes))
 }
