@@ -23,3 +23,5 @@ pub mod CertsBack
 pub mod StoreLaws
 pub mod ScriptPages
 pub mod ReportsBack
+pub mod WorkLaws
+pub mod WorkTold

@@ -25,7 +25,8 @@ row-sound fields x e = elim (cases_Bool (length fields == 11)) [
   | inr other ↦ absurd (cc (rw other at e))
 ]
 
-sound-place : (x : DieRow) → is_sound x ≡ true → (x.die < 8) × (x.row.job < 65536)
+-- its numbers are within their limits
+pub sound-place : (x : DieRow) → is_sound x ≡ true → (x.die < 8) × (x.row.job < 65536)
 sound-place x sound =
     let placed = (and_parts (is_placed x) (is_timed x.row && has_outcome x.row x.row.row x.row.completion) sound).0 in
     let parts = and_parts (nat_lt x.die 8) (nat_lt x.row.task 16 && nat_lt x.row.job 65536) placed in

@@ -1,7 +1,7 @@
 -- How the words of a field are read, one by one.
 use Rattle.std.proofs.Common.{◌≡◌, ℕ, ◌+◌, List, [], ◌∷◌, ◌++◌, Bool, Option, Some, None, ◌-◌, length, take, drop, length-drop, refl, sym}
 use Rattle.std.proofs.Common.{ap, ◌∙◌, append_assoc, arith, inl, inr}
-use Rattle.std.specs.Prelude.{nat_lt}
+use Rattle.std.specs.Prelude.{◌<◌, ◌≤◌, IfSome, nat_lt, option_map}
 use Rattle.std.specs.List.{position, position_or_len, slice_split}
 use Rattle.std.proofs.lemmas.Bool.{cases_Bool}
 use Rattle.std.proofs.lemmas.List.{append-nil, take_all}
@@ -14,10 +14,20 @@ abbrev pub front_words : {A : Type 0} → List A → Option (List A) → Option 
 front_words xs None = None
 front_words xs (Some more) = Some (xs ++ more)
 
+-- so many, and then those that are read
+abbrev pub front_count : {A : Type 0} → ℕ → Option (List A) → Option ℕ
+front_count n None = None
+front_count n (Some more) = Some (n + length more)
+
 -- more than the bytes that are left, if any are
 abbrev pub size_left : Option (List ℕ) → ℕ
 size_left None = 0
 size_left (Some text) = length text + 1
+
+pub size-left : {A : Type 0} (f : A → List ℕ) (rest : Option A) (n : ℕ) → IfSome rest (λ more. length (f more) < n)
+    → size_left (option_map f rest) ≤ n
+size-left f None n few = omega arith
+size-left f (Some more) n few = omega (arith, few)
 
 -- a list that is one part
 split-one : {A : Type 0} (p : A → Bool) (xs : List A) → position_or_len p xs ≡ length xs → slice_split p xs ≡ xs ∷ []
@@ -51,6 +61,10 @@ front-more : {A : Type 0} (xs : List A) (x : A) (more : Option (List A)) → fro
 front-more xs x None = refl
 front-more xs x (Some more) = ap Some (append_assoc xs (x ∷ []) more)
 
+count-first : {A : Type 0} (n : ℕ) (x : A) (more : Option (List A)) → front_count (n + 1) more ≡ front_count n (and_word (Some x) more)
+count-first n x None = refl
+count-first n x (Some more) = ap Some (omega arith)
+
 -- one more word says something
 pub word-more : {A : Type 0} (read : List ℕ → Option A) (xs new : List A) (x : A) (word : List ℕ) (words more : List (List ℕ))
     (whole : Option (List A)) → words ≡ word ∷ more
@@ -71,6 +85,18 @@ pub words-end : {A : Type 0} (read : List ℕ → Option A) (xs : List A) (left 
     → front_words xs (all_of read (words_of left)) ≡ whole → Some xs ≡ whole
 unfolding all_of
 words-end read xs left whole none so-far = sym (ap Some (append-nil xs)) ∙ rw none at so-far
+
+-- one more word says something, and is counted
+pub count-more : {A : Type 0} (read : List ℕ → Option A) (n : ℕ) (x : A) (word : List ℕ) (words more : List (List ℕ)) (whole : Option ℕ)
+    → words ≡ word ∷ more → Some x ≡ read word → front_count n (all_of read words) ≡ whole → front_count (n + 1) (all_of read more) ≡ whole
+unfolding all_of
+count-more read n x word words more whole split is so-far = count-first n x (all_of read more) ∙ rw (split, ← is) at so-far
+
+-- no word is left to count
+pub count-end : {A : Type 0} (read : List ℕ → Option A) (n : ℕ) (left : Option (List ℕ)) (whole : Option ℕ) → left ≡ None
+    → front_count n (all_of read (words_of left)) ≡ whole → Some n ≡ whole
+unfolding all_of
+count-end read n left whole none so-far = ap Some (omega arith) ∙ rw none at so-far
 
 -- a list from a place on, as a slice from that place on has it
 pub from-place : {A : Type 0} (xs : List A) (n : ℕ) → take (length xs - n) (drop n xs) ≡ drop n xs

@@ -22,11 +22,14 @@ pub mod Heads
 pub mod Script
 pub mod Left
 pub mod ReportRows
+pub mod RowNumbers
 pub mod Worst
 pub mod RecordsLeft
 pub mod ReportOf
 pub mod Progress
 pub mod Numbered
+pub mod ReportWork
+pub mod GatheredWork
 pub mod WellFormed
 pub mod AskedPages
 pub mod Arrivals

@@ -8,8 +8,8 @@ ghost use Rattle.task_texts.specs.ReportRows.{is_late, lateness_in};
 ghost use Rattle.task_texts.specs.Words.{list_of};
 ghost use Rattle.task_texts.specs.Worst.{cert_of, finish_of, is_cert, is_empty, is_of, is_worse, late, says, worse, worst_of};
 
-use crate::report_rows::{number_in, read_lateness};
 use crate::reports::ReportRow;
+use crate::row_numbers::{number_in, read_lateness};
 use crate::rows::{field_in, is_named};
 use crate::words::list;
 use csv::ByteRecord;
@@ -57,7 +57,7 @@ fn finish_in(row: &ReportRow) -> Option<Finish>
 }
 
 /// The worse of two, the first where neither is.
-fn worse_of(best: Option<Finish>, next: Option<Finish>) -> Option<Finish>
+pub fn worse_of(best: Option<Finish>, next: Option<Finish>) -> Option<Finish>
     ensures { result ≡ worse best next }
 {
     let Some(next) = next else {

@@ -18,7 +18,7 @@ use std::alloc::Global;
 use std::io::Read;
 
 /// Takes the header.
-fn take_header<R: Read>(records: &mut Records<R>) -> Result<(), Refusal>
+pub fn take_header<R: Read>(records: &mut Records<R>) -> Result<(), Refusal>
     requires ready { IsReady records.old }
     requires first { record_line records.old ≡ 1 }
     ensures read { Reads report_from (λ _. rows_from no_rows (record_line records.new)) (records_left R.remaining records.old)

@@ -1,21 +1,18 @@
 //! One row of a report.
 
-ghost use Rattle.std.specs.Prelude.{◌≡◌, ℕ, IfOk};
-ghost use Rattle.csv.specs.Records.{field_at, fields_of};
-ghost use Rattle.task_texts.specs.Header.{has_text};
+ghost use Rattle.std.specs.Prelude.{◌≡◌, IfOk};
+ghost use Rattle.csv.specs.Records.{fields_of};
 ghost use Rattle.task_texts.specs.Items.{field_or};
-ghost use Rattle.task_texts.specs.Number.{number_of};
-ghost use Rattle.task_texts.specs.ReportRows.{has_outcome, if_filled, is_done, is_placed, is_sound, is_timed, kind_in, lateness_in};
-ghost use Rattle.task_texts.specs.ReportRows.{number_at, row_in, sound_row};
+ghost use Rattle.task_texts.specs.ReportRows.{sound_row};
+ghost use Rattle.task_texts.specs.RowNumbers.{die_row};
 ghost use Rattle.task_texts.specs.Words.{list_of, page_of};
 
-use crate::numbers::number;
-use crate::reports::{ReportRow, RowKind};
-use crate::rows::{field_in, is_named};
+use crate::reports::ReportRow;
+use crate::row_numbers::{RowNumbers, row_numbers, stands};
+use crate::rows::field_in;
 use crate::words::list;
 use csv::ByteRecord;
-use late_cert::lateness;
-use slot_types::{JobNo, MAX_DIES, MAX_JOBS, MAX_OPS, MAX_SLOT, MAX_TASKS, Reads, TaskNo};
+use slot_types::Reads;
 use std::alloc::{AllocError, Global};
 
 /// A row, and the die that it is of.
@@ -25,74 +22,6 @@ pub struct DieRow {
     pub row: ReportRow,
 }
 
-/// What a row is about.
-fn kind(fields: &ByteRecord) -> Option<RowKind>
-    ensures { result ≡ kind_in (field_at (fields_of fields.now) 0) }
-{
-    if is_named(fields, 0, "job") {
-        Some(RowKind::Job)
-    } else if is_named(fields, 0, "collect") {
-        Some(RowKind::Collect)
-    } else if is_named(fields, 0, "waived") {
-        Some(RowKind::Waived)
-    } else {
-        None
-    }
-}
-
-/// The number in a field.
-pub fn number_in(fields: &ByteRecord, place: usize) -> Option<u32>
-    ensures { result ≡ number_at (fields_of fields.now) place }
-{
-    match fields.get(place) {
-        Some(field) => number(field),
-        None => None,
-    }
-}
-
-/// The number in a field that may be empty.
-fn number_if_filled(field: &[u8]) -> Option<Option<u32>>
-    ensures { result ≡ if_filled number_of field.now }
-{
-    if field.is_empty() {
-        return Some(None);
-    }
-    match number(field) {
-        Some(n) => Some(Some(n)),
-        None => None,
-    }
-}
-
-/// A lateness: a number, with `-` before it where it is below 0.
-pub fn read_lateness(field: &[u8]) -> Option<i64>
-    ensures { result ≡ lateness_in field.now }
-{
-    let Some((sign, digits)) = field.split_first() else {
-        return None;
-    };
-    if *sign != b'-' {
-        return Some(i64::from(number(field)?));
-    }
-    let size = number(digits)?;
-    if size == 0 {
-        return None;
-    }
-    Some(-i64::from(size))
-}
-
-/// The lateness in a field that may be empty.
-fn lateness_if_filled(field: &[u8]) -> Option<Option<i64>>
-    ensures { result ≡ if_filled lateness_in field.now }
-{
-    if field.is_empty() {
-        return Some(None);
-    }
-    match read_lateness(field) {
-        Some(late) => Some(Some(late)),
-        None => None,
-    }
-}
-
 /// What the reads of a row gave.
 fn reads(alloc: Global, fields: &ByteRecord) -> Result<Option<Reads>, AllocError>
     ensures { IfOk result (λ reads. reads ≡ list_of page_of (field_or (fields_of fields.now) 10)) }
@@ -100,90 +29,25 @@ fn reads(alloc: Global, fields: &ByteRecord) -> Result<Option<Reads>, AllocError
     list(alloc, field_in(fields, 10))
 }
 
-/// The row of a record whose reads are known.
-#[tactic(auto, unfolding(crate::specs::ReportRows::row_in))]
-fn row(fields: &ByteRecord, reads: Option<Reads>) -> Option<DieRow>
-    requires { reads ≡ list_of page_of (field_or (fields_of fields.now) 10) }
-    ensures { result ≡ row_in (fields_of fields.now) }
+/// The row of these numbers and reads.
+fn row(numbers: RowNumbers, reads: Reads) -> DieRow
+    ensures { result ≡ die_row numbers reads }
 {
-    let row = kind(fields)?;
-    let die = number_in(fields, 1)?;
-    let job = number_in(fields, 2)?;
-    let task = number_in(fields, 3)?;
-    let release = number_in(fields, 4)?;
-    let due = number_in(fields, 5)?;
-    let work = number_in(fields, 6)?;
-    let completion = number_if_filled(field_in(fields, 7))?;
-    let lateness = lateness_if_filled(field_in(fields, 8))?;
-    let given = number_if_filled(field_in(fields, 9))?;
-    let reads = reads?;
-    Some(DieRow {
-        die,
+    DieRow {
+        die: numbers.die,
         row: ReportRow {
-            row,
-            job: JobNo(job),
-            task: TaskNo(task),
-            release,
-            due,
-            work,
-            completion,
-            lateness,
-            given,
+            row: numbers.row,
+            job: numbers.job,
+            task: numbers.task,
+            release: numbers.release,
+            due: numbers.due,
+            work: numbers.work,
+            completion: numbers.completion,
+            lateness: numbers.lateness,
+            given: numbers.given,
             reads,
         },
-    })
-}
-
-/// Whether the numbers of a done row agree.
-fn agrees(row: &ReportRow, completion: u32) -> bool
-    ensures { result ≡ is_done row.now completion }
-{
-    completion <= MAX_SLOT && 1 <= row.work && row.lateness == Some(lateness(completion, row.due))
-}
-
-/// Whether a row fills the fields that it should, and no others.
-fn fills(row: &ReportRow) -> bool
-    ensures { result ≡ has_outcome row.now row.now.row row.now.completion }
-{
-    match (row.row, row.completion) {
-        (RowKind::Job, Some(completion)) => {
-            agrees(row, completion) && row.given.is_none() && row.reads.len() <= MAX_OPS as usize
-        }
-        (RowKind::Collect, Some(completion)) => {
-            agrees(row, completion) && row.given.is_some() && row.reads.is_empty()
-        }
-        (RowKind::Waived, Some(_)) => false,
-        (RowKind::Job, None) => {
-            row.lateness.is_none() && row.given.is_none() && row.reads.is_empty()
-        }
-        (RowKind::Collect, None) => {
-            row.lateness.is_none() && row.given.is_none() && row.reads.is_empty()
-        }
-        (RowKind::Waived, None) => {
-            row.lateness.is_none() && row.given.is_some() && row.reads.is_empty() && row.work == 0
-        }
     }
-}
-
-/// Whether the numbers of die, task and job are within their limits.
-fn has_place(found: &DieRow) -> bool
-    ensures { result ≡ is_placed found.now }
-{
-    found.die < MAX_DIES && found.row.task.0 < MAX_TASKS && found.row.job.0 < MAX_JOBS
-}
-
-/// Whether the due is above the release, and within its limit.
-fn has_times(row: &ReportRow) -> bool
-    ensures { result ≡ is_timed row.now }
-{
-    row.release < row.due && row.due <= MAX_SLOT
-}
-
-/// Whether the numbers of a row are within their limits, and it fills its fields.
-fn stands(found: &DieRow) -> bool
-    ensures { result ≡ is_sound found.now }
-{
-    has_place(found) && has_times(&found.row) && fills(&found.row)
 }
 
 /// The row that a record says, if it is of the right shape.
@@ -193,12 +57,14 @@ pub fn read_row(alloc: Global, fields: &ByteRecord) -> Result<Option<DieRow>, Al
     if fields.len() != 11 {
         return Ok(None);
     }
-    let reads = reads(alloc, fields)?;
-    let Some(found) = row(fields, reads) else {
+    let Some(numbers) = row_numbers(fields) else {
         return Ok(None);
     };
-    if !stands(&found) {
+    let Some(reads) = reads(alloc, fields)? else {
+        return Ok(None);
+    };
+    if !stands(&numbers, reads.len()) {
         return Ok(None);
     }
-    Ok(Some(found))
+    Ok(Some(row(numbers, reads)))
 }

@@ -170,3 +170,31 @@ pub fn list<T: Word + Drop>(alloc: Global, field: &[u8]) -> Result<Option<Items<
     let whole = put_list(&mut items, field)?;
     Ok(if whole { Some(items) } else { None })
 }
+
+/// How many words a text has, if all of them say something.
+fn count_all<T: Word + Drop>(text: &[u8]) -> Option<usize>
+    ensures { result ≡ option_map length (all_of T.word_of (slice_split (λ b. b == 32) text.now)) }
+{
+    let mut count = 0;
+    let mut left = Some(text);
+    while let Some(text) = left {
+        match first_word::<T>(text) {
+            Some((_, rest)) => {
+                count += 1;
+                left = rest;
+            }
+            None => return None,
+        }
+    }
+    Some(count)
+}
+
+/// How many words a field has, if all of them say something: nothing is kept of what they say. An empty field has none.
+pub fn count<T: Word + Drop>(field: &[u8]) -> Option<usize>
+    ensures { result ≡ option_map length (list_of T.word_of field.now) }
+{
+    if field.is_empty() {
+        return Some(0);
+    }
+    count_all::<T>(field)
+}
