@@ -5,10 +5,11 @@ use Rattle.std.specs.Prelude.{if◌then◌else◌}
 use Rattle.std.specs.List.{list_any}
 use Rattle.std.proofs.lemmas.Option.{same_Some}
 use Rattle.late_cert.specs.declared.certificates.Certificate.{Certificate}
+use Rattle.late_cert.specs.declared.rows.JobRow.{JobRow}
 use Rattle.slot_types.specs.declared.refusals.Refusal.{Refusal}
+use Rattle.task_texts.specs.JobRows.{job_rows_of}
 use Rattle.task_texts.specs.Writing.{InPart, IsNotWhole}
 use Rattle.task_texts.specs.declared.reports.DieReport.{DieReport}
-use Rattle.task_texts.specs.declared.reports.ReportRow.{ReportRow}
 use Rattle.flash_commands.specs.Acts.{FindsRefused, HasThree, IsRefused, Prints, PrintsAudit, PrintsSome, TellsRefused}
 use Rattle.flash_commands.specs.Audit.{audit_status, audit_text, cert_line, is_refused}
 use Rattle.flash_commands.specs.declared.commands.Command.{Command}
@@ -16,14 +17,14 @@ use Rattle.flash_commands.specs.declared.commands.Command.TheVariants as command
 
 -- Lengths
 
-line-front : (die : ℕ) (rows : List ReportRow) (cert : Option Certificate) → (bs : List ℕ) × (cert_line die rows cert ≡ 100 ∷ bs)
+line-front : (die : ℕ) (rows : List JobRow) (cert : Option Certificate) → (bs : List ℕ) × (cert_line die rows cert ≡ 100 ∷ bs)
 line-front die rows None = (_, refl)
 line-front die rows (Some cert) = (_, refl)
 
 audit-front : (report : List DieReport) → list_any is_refused report ≡ true → (bs : List ℕ) × (audit_text report ≡ 100 ∷ bs)
 audit-front [] refused = absurd cc
 audit-front (die ∷ report) refused =
-    let front = line-front die.die die.rows die.cert in
+    let front = line-front die.die (job_rows_of die.rows) die.cert in
     (front.0 ++ audit_text report, ap (λ l. l ++ audit_text report) front.1)
 
 not-all : (old text : List ℕ) (n : ℕ) → n < length text → old ++ take n text ≡ old ++ text → ⊥

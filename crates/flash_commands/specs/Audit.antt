@@ -6,14 +6,15 @@ use Rattle.late_cert.specs.Check.{verdict_of}
 use Rattle.late_cert.specs.Schedule.{lateness_of}
 use Rattle.late_cert.specs.Verdict.{fault_number, is_holds, name_of}
 use Rattle.late_cert.specs.declared.certificates.Certificate.{Certificate}
+use Rattle.late_cert.specs.declared.rows.JobRow.{JobRow}
 use Rattle.late_cert.specs.declared.verdicts.Verdict.{Verdict}
-use Rattle.task_texts.specs.JobRows.{job_rows_of}
+use Rattle.task_texts.specs.ReportWork.{work_of}
+use Rattle.task_texts.specs.declared.report_work.DieWork.{DieWork}
 use Rattle.task_texts.specs.declared.reports.DieReport.{DieReport}
-use Rattle.task_texts.specs.declared.reports.ReportRow.{ReportRow}
 
 -- the verdict on a certificate, by the rows that its die has in the report
-abbrev pub verdict_on : List ReportRow → Certificate → Verdict
-verdict_on rows cert = verdict_of (job_rows_of rows) cert.start cert.due cert.completion cert.jobs
+abbrev pub verdict_on : List JobRow → Certificate → Verdict
+verdict_on rows cert = verdict_of rows cert.start cert.due cert.completion cert.jobs
 
 abbrev pub fault_text : Option ℕ → List ℕ → List ℕ
 fault_text None name = codes "holds"
@@ -28,25 +29,33 @@ abbrev pub worst_text : ℕ → Certificate → List ℕ
 worst_text die cert = codes "die " ++ decimal die ++ codes " worst " ++ signed_decimal (lateness_of cert.completion cert.due)
     ++ codes " job " ++ decimal cert.job ++ codes " "
 
-abbrev pub cert_line : ℕ → List ReportRow → Option Certificate → List ℕ
+abbrev pub cert_line : ℕ → List JobRow → Option Certificate → List ℕ
 cert_line die rows None = codes "die " ++ decimal die ++ codes " no lateness" ++ 10 ∷ []
 cert_line die rows (Some cert) = worst_text die cert ++ verdict_text (verdict_on rows cert) ++ 10 ∷ []
 
+-- the line of a die's work
+abbrev pub work_line : DieWork → List ℕ
+work_line work = cert_line work.die work.rows work.cert
+
 -- the line of a die
 abbrev pub die_line : DieReport → List ℕ
-die_line die = cert_line die.die die.rows die.cert
+die_line die = work_line (work_of die)
 
 -- the lines of all dies, in order
 abbrev pub audit_text : List DieReport → List ℕ
 audit_text report = flat_map die_line report
 
-abbrev pub refuses : List ReportRow → Option Certificate → Bool
+abbrev pub refuses : List JobRow → Option Certificate → Bool
 refuses rows None = false
 refuses rows (Some cert) = not (is_holds (verdict_on rows cert))
 
--- whether a die has a certificate that is refused
+-- whether a die's work has a certificate that is refused
+abbrev pub is_refused_work : DieWork → Bool
+is_refused_work work = refuses work.rows work.cert
+
+-- whether a die has one
 abbrev pub is_refused : DieReport → Bool
-is_refused die = refuses die.rows die.cert
+is_refused die = is_refused_work (work_of die)
 
 -- the status of an audit: 3 where some certificate is refused
 abbrev pub audit_status : List DieReport → ℕ

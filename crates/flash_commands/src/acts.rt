@@ -17,8 +17,8 @@ use std::alloc::Global;
 use std::io::{Read, Write};
 use std::sync::Wait;
 use std::thread::Threads;
-use task_script::{RunCount, read_report, run_text};
-use task_texts::{read_plan_from, write_whole};
+use task_script::{RunCount, run_text};
+use task_texts::{read_plan_from, read_work, write_whole};
 
 /// Prints the figures of a plan.
 fn print_figures<R: Read + Drop, W: Write>(
@@ -48,8 +48,8 @@ fn print_audit<R: Read + Drop, W: Write>(
     ensures unwritten { IfErr result (IsUnwritten out.old out.new) }
     ensures part { OnErr result (IsNotWhole W.contents (AuditsSome (R.remaining first)) out.old out.new) }
 {
-    let report = read_report(alloc, first)?;
-    let audit = audit_report(alloc, &report)?;
+    let work = read_work(alloc, first)?;
+    let audit = audit_report(alloc, &work)?;
     write_whole(out, &audit.text)?;
     Ok(audit.refused)
 }

@@ -1,16 +1,17 @@
 //! Audits of reports: the verdict on each certificate.
 
-ghost use Rattle.std.specs.Prelude.{◌≡◌, ◌++◌, ◌∷◌, [], codes, decimal, IfOk, IfErr, OnOk, Some, None};
+ghost use Rattle.std.specs.Prelude.{◌≡◌, ◌++◌, ◌∷◌, [], codes, decimal, flat_map, IfOk, IfErr, OnOk, Some, None};
 ghost use Rattle.std.specs.List.{list_any};
-ghost use Rattle.task_texts.specs.Numbered.{AreNumbered, IsNumbered};
-ghost use Rattle.flash_commands.specs.Audit.{audit_text, cert_line, die_line, is_refused, refuses, verdict_on, verdict_text, worst_text};
+ghost use Rattle.late_cert.specs.Rows.{RowsRise};
+ghost use Rattle.task_texts.specs.ReportWork.{AllRise};
+ghost use Rattle.flash_commands.specs.Audit.{cert_line, is_refused_work, refuses, verdict_on, verdict_text, work_line, worst_text};
 
 use late_cert::{Certificate, Verdict, check, lateness};
 use slot_types::Refusal;
 use std::alloc::Global;
 use std::io;
 use std::io::Write;
-use task_script::{DieReport, Report};
+use task_texts::{DieWork, ReportWork};
 
 /// What an audit found.
 #[derive(Drop)]
@@ -42,16 +43,6 @@ fn put_worst(text: &mut Vec<u8>, die: u32, cert: &Certificate) -> io::Result<()>
     write!(text, "die {die} worst {late} job {job} ")
 }
 
-/// The verdict on a die's certificate.
-fn verdict(alloc: Global, die: &DieReport, cert: &Certificate) -> Result<Verdict, Refusal>
-    requires { IsNumbered die.now.rows }
-    ensures ok { IfOk result (λ verdict. verdict ≡ verdict_on die.now.rows cert.now) }
-    ensures refused { IfErr result (λ refusal. refusal ≡ Refusal.NoMemory) }
-{
-    let rows = die.job_rows(alloc)?;
-    Ok(check(&rows, cert))
-}
-
 /// Adds the line of a die without a certificate.
 fn put_none(text: &mut Vec<u8>, die: u32) -> io::Result<()>
     ensures { OnOk result (text.new.items ≡ text.old.items ++ cert_line die [] None) }
@@ -71,11 +62,11 @@ fn put_cert(text: &mut Vec<u8>, die: u32, cert: &Certificate, verdict: Verdict) 
     Ok(())
 }
 
-/// Adds the line of a die, and says whether its certificate is refused.
-fn put_die(alloc: Global, text: &mut Vec<u8>, die: &DieReport) -> Result<bool, Refusal>
-    requires { IsNumbered die.now.rows }
-    ensures text { OnOk result (text.new.items ≡ text.old.items ++ die_line die.now) }
-    ensures refusal { IfOk result (λ is. is ≡ is_refused die.now) }
+/// Adds the line of a die's work, and says whether its certificate is refused.
+fn put_die(text: &mut Vec<u8>, die: &DieWork) -> Result<bool, Refusal>
+    requires { RowsRise die.now.rows }
+    ensures text { OnOk result (text.new.items ≡ text.old.items ++ work_line die.now) }
+    ensures refusal { IfOk result (λ is. is ≡ is_refused_work die.now) }
     ensures refused { IfErr result (λ refusal. refusal ≡ Refusal.NoMemory) }
 {
     let Some(cert) = &die.cert else {
@@ -84,36 +75,36 @@ fn put_die(alloc: Global, text: &mut Vec<u8>, die: &DieReport) -> Result<bool, R
         }
         return Ok(false);
     };
-    let verdict = verdict(alloc, die, cert)?;
+    let verdict = check(&die.rows, cert);
     if put_cert(text, die.die, cert, verdict).is_err() {
         return Err(Refusal::NoMemory);
     }
     Ok(verdict.number().is_some())
 }
 
-/// Adds the lines of dies, and says whether a certificate of theirs is refused.
-fn put_dies(alloc: Global, text: &mut Vec<u8>, dies: &[DieReport]) -> Result<bool, Refusal>
-    requires { AreNumbered dies.now }
-    ensures text { OnOk result (text.new.items ≡ text.old.items ++ audit_text dies.now) }
-    ensures refusal { IfOk result (λ is. is ≡ list_any is_refused dies.now) }
+/// Adds the lines of the work of dies, and says whether a certificate of theirs is refused.
+fn put_dies(text: &mut Vec<u8>, dies: &[DieWork]) -> Result<bool, Refusal>
+    requires { AllRise dies.now }
+    ensures text { OnOk result (text.new.items ≡ text.old.items ++ flat_map work_line dies.now) }
+    ensures refusal { IfOk result (λ is. is ≡ list_any is_refused_work dies.now) }
     ensures refused { IfErr result (λ refusal. refusal ≡ Refusal.NoMemory) }
 {
     let mut refused = false;
     for die in dies {
-        let is_refused = put_die(alloc, text, die)?;
+        let is_refused = put_die(text, die)?;
         refused |= is_refused;
     }
     Ok(refused)
 }
 
-/// What an audit of a report finds. The only refusal is NoMemory.
-pub fn audit_report(alloc: Global, report: &Report) -> Result<Audit, Refusal>
-    requires { AreNumbered report.now }
-    ensures text { IfOk result (λ audit. audit.text.items ≡ audit_text report.now) }
-    ensures refusal { IfOk result (λ audit. audit.refused ≡ list_any is_refused report.now) }
+/// What an audit of a report finds, by its work. The only refusal is NoMemory.
+pub fn audit_report(alloc: Global, work: &ReportWork) -> Result<Audit, Refusal>
+    requires { AllRise work.now }
+    ensures text { IfOk result (λ audit. audit.text.items ≡ flat_map work_line work.now) }
+    ensures refusal { IfOk result (λ audit. audit.refused ≡ list_any is_refused_work work.now) }
     ensures refused { IfErr result (λ refusal. refusal ≡ Refusal.NoMemory) }
 {
     let mut text = Vec::new(alloc);
-    let refused = put_dies(alloc, &mut text, report.as_slice())?;
+    let refused = put_dies(&mut text, work.as_slice())?;
     Ok(Audit { text, refused })
 }
