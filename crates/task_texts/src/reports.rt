@@ -1,13 +1,7 @@
 //! Reports: what became of the jobs and collections of each die.
 
-ghost use Rattle.std.specs.Prelude.{◌≡◌, IfOk, IfErr};
-ghost use Rattle.late_cert.specs.Rows.{RowsRise};
-ghost use Rattle.task_texts.specs.JobRows.{job_rows_of};
-ghost use Rattle.task_texts.specs.Numbered.{IsNumbered};
-
-use late_cert::{Certificate, JobRow, JobRows};
-use slot_types::{Items, JobNo, Reads, Refusal, TaskNo};
-use std::alloc::Global;
+use late_cert::Certificate;
+use slot_types::{Items, JobNo, Reads, TaskNo};
 
 /// What a row of a report is about.
 #[derive(Clone, Copy, PartialEq, Eq, Debug, Drop)]
@@ -55,28 +49,3 @@ pub struct DieReport {
 
 /// The dies that have rows, by number.
 pub type Report = Items<DieReport>;
-
-impl DieReport {
-    /// The rows that a certificate is checked against: those of jobs and collections, without the waived ones, in
-    /// their order. They rise by number where the die's rows are numbered from 0, as those of a report that was read
-    /// are. The only refusal is NoMemory.
-    pub fn job_rows(&self, alloc: Global) -> Result<JobRows, Refusal>
-        ensures rows { IfOk result (λ rows. rows ≡ job_rows_of self.now.rows) }
-        ensures rise { IsNumbered self.now.rows → IfOk result RowsRise }
-        ensures refused { IfErr result (λ refusal. refusal ≡ Refusal.NoMemory) }
-    {
-        let mut rows = JobRows::new(alloc);
-        for row in self.rows.as_slice() {
-            if row.row != RowKind::Waived {
-                rows.push(JobRow {
-                    number: row.job,
-                    release: row.release,
-                    due: row.due,
-                    work: row.work,
-                    completion: row.completion,
-                })?;
-            }
-        }
-        Ok(rows)
-    }
-}

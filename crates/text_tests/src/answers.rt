@@ -6,6 +6,7 @@ use std::io::Read;
 use std::process::Abort;
 use std::test::Fail;
 use task_script::{Report, ScriptItem, ScriptReader, read_plan, read_report};
+use task_texts::read_work;
 
 /// A plan of one die: eight blocks of four pages, one task that may own four pages.
 pub const PLAN: &str = "version = 1
@@ -134,12 +135,23 @@ pub fn report_refusal<R: Read + Drop>(alloc: Global, reader: R) -> Option<Refusa
     read_report(alloc, reader).err()
 }
 
-/// What a text answers where it isn't read.
+/// What the reading of a report's work answers where it isn't read.
+pub fn work_refusal<R: Read + Drop>(alloc: Global, reader: R) -> Option<Refusal> {
+    read_work(alloc, reader).err()
+}
+
+/// What a text answers where it isn't read. Both readings of a report have to answer the same.
 pub fn refusal(alloc: Global, kind: Text, text: &[u8]) -> Option<Refusal> {
     match kind {
         Text::Plan => read_plan(alloc, text).err(),
         Text::Script => script_refusal(alloc, text),
-        Text::Report => report_refusal(alloc, text),
+        Text::Report => {
+            let refusal = report_refusal(alloc, text);
+            if work_refusal(alloc, text) != refusal {
+                return Some(Refusal::UnknownJob);
+            }
+            refusal
+        }
     }
 }
 

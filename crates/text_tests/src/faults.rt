@@ -1,4 +1,4 @@
-use crate::answers::{TWO_REPORT, TWO_SCRIPT, report_refusal, script_refusal};
+use crate::answers::{TWO_REPORT, TWO_SCRIPT, report_refusal, script_refusal, work_refusal};
 use slot_types::Refusal;
 use std::io;
 use std::io::{ErrorKind, Read, Write};
@@ -83,6 +83,8 @@ fn a_failing_reader_is_a_read_fault(rt: HostRuntime) {
                 },
             "{call}"
         );
+        let work = work_refusal(rt.alloc(), failing_at(TWO_REPORT, call));
+        assert!(rt; work == report, "{call}");
     }
 }
 
