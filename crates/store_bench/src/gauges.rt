@@ -1,6 +1,6 @@
 //! What is measured: times, and memory.
 
-ghost use Rattle.std.specs.Prelude.{◌≡◌, ◌<◌, ◌*◌, ◌/◌, None, IfSome};
+ghost use Rattle.std.specs.Prelude.{◌≡◌, ◌<◌, ◌*◌, ◌/◌, None, Some};
 
 use std::io::Read;
 use std::rt::Files;
@@ -23,7 +23,7 @@ pub fn nanos_since<R: Clock>(rt: &R, then: Option<Instant>) -> Option<u128> {
 /// went by.
 pub fn a_second(count: u64, nanos: u128) -> Option<u128>
     ensures none { nanos ≡ 0 → result ≡ None }
-    ensures rate { 0 < nanos → IfSome result (λ rate. rate ≡ count * 1000000000 / nanos) }
+    ensures rate { 0 < nanos → result ≡ Some (count * 1000000000 / nanos) }
 {
     (u128::from(count) * 1_000_000_000).checked_div(nanos)
 }
