@@ -15,7 +15,7 @@ use std::sync::Wait;
 use std::thread::Threads;
 use std::time::Clock;
 use task_script::run_text;
-use task_texts::{Report, ScriptReader, read_plan, read_report};
+use task_texts::{ReportWork, ScriptReader, read_plan, read_work};
 
 /// What each phase took, in nanoseconds, where the clock could be read.
 #[derive(Clone, Copy, Drop)]
@@ -64,9 +64,9 @@ fn count_rows(alloc: Global, script: &[u8], plan: &StorePlan, slots: u32) -> Res
 }
 
 /// How many jobs and collections of a report are done.
-fn count_done(report: &Report) -> u64 {
+fn count_done(work: &ReportWork) -> u64 {
     let mut done: u64 = 0;
-    for die in report.as_slice() {
+    for die in work.as_slice() {
         for row in die.rows.as_slice() {
             if row.completion.is_some() {
                 done = done.saturating_add(1);
@@ -77,9 +77,9 @@ fn count_done(report: &Report) -> u64 {
 }
 
 /// The greatest lateness of which a report has a certificate.
-fn worst_in(report: &Report) -> Option<i64> {
+fn worst_in(work: &ReportWork) -> Option<i64> {
     let mut worst = None;
-    for die in report.as_slice() {
+    for die in work.as_slice() {
         if let Some(cert) = &die.cert {
             worst = worst.max(Some(lateness(cert.completion, cert.due)));
         }
@@ -133,17 +133,17 @@ pub fn measure<R: Threads + Wait + Sync + Clock + Files>(
     let peak = peak_bytes(rt);
 
     let start = now(rt);
-    let report = read_report(alloc, text.as_slice())?;
-    let audit = audit_report(alloc, &report)?;
+    let work = read_work(alloc, text.as_slice())?;
+    let audit = audit_report(alloc, &work)?;
     let audit_time = nanos_since(rt, start);
 
     Ok(Outcome {
         rows,
         refused: count.refused,
-        done: count_done(&report),
+        done: count_done(&work),
         script_bytes: script.len(),
         report_bytes: text.len(),
-        worst: worst_in(&report),
+        worst: worst_in(&work),
         holds: !audit.refused,
         peak,
         times: Times {
