@@ -22,7 +22,8 @@ use Rattle.slot_core.specs.declared.outcomes.JobHead.{JobHead}
 use Rattle.slot_core.specs.Outcomes.{outcome_by}
 use Rattle.slot_core.specs.Records.{given, reads_of, waiver_among}
 use Rattle.task_texts.specs.ReportRows.{has_outcome, is_done as is_done_row, is_late, is_placed, is_sound, is_timed}
-use Rattle.task_texts.specs.WellFormed.{AreDies, AreRows, IsDie, IsPage, IsReport, IsRow, on_die}
+use Rattle.task_texts.specs.WellFormed.{AreDies, AreRows, IsDie, IsReport, IsRow, on_die}
+use Rattle.task_texts.specs.Pages.{IsPage}
 use Rattle.task_texts.specs.declared.report_rows.DieRow.{DieRow}
 use Rattle.task_texts.specs.declared.reports.DieReport.{DieReport}
 use Rattle.task_texts.specs.declared.reports.ReportRow.{ReportRow}

@@ -15,9 +15,11 @@ use Rattle.hex.specs.Hex.{lower_digits}
 use Rattle.slot_types.specs.declared.pages.PageData.{PageData}
 use Rattle.task_texts.specs.Number.{number_from, number_of}
 use Rattle.task_texts.specs.ReportRows.{above_zero, if_filled, lateness_in}
-use Rattle.task_texts.specs.ReportText.{lateness_field, number_field, numbers_field, page_word, pages_field}
-use Rattle.task_texts.specs.WellFormed.{IsPage}
-use Rattle.task_texts.specs.Words.{all_of, list_of, page_of}
+use Rattle.task_texts.specs.ReportText.{lateness_field, number_field, numbers_field, pages_field}
+use Rattle.task_texts.specs.Pages.{page_word}
+use Rattle.task_texts.specs.Pages.{IsPage}
+use Rattle.task_texts.specs.Words.{all_of, list_of}
+use Rattle.task_texts.specs.Pages.{page_of}
 use Rattle.task_texts.proofs.PlainFields.{Lacks, PassesLow, lacks-decimal, lacks-encode, lacks-head, lacks-tail}
 
 -- Numbers

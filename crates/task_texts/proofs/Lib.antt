@@ -10,6 +10,7 @@ pub mod MarkLaws
 pub mod RowLaws
 pub mod WordLaws
 pub mod StartLaws
+pub mod OpStarts
 pub mod LineLaws
 pub mod StepLaws
 pub mod RecordLaws

@@ -3,7 +3,7 @@ use Rattle.std.proofs.Common.{◌≡◌, ℕ, ◌+◌, ◌*◌, ◌%◌, ◌<◌
 use Rattle.std.proofs.Common.{Option, Some, None, unwrap_or, Ok, refl, sym, ap, arith}
 use Rattle.hex.specs.Hex.{decode_pairs, digit_or_error, hex_digit_value, pair_value}
 use Rattle.hex.proofs.Pairs.{decode_done, decode_sized-pairs, decode_step, prepend}
-use Rattle.task_texts.specs.Words.{page_of}
+use Rattle.task_texts.specs.Pages.{page_of}
 
 -- the value of a digit, and 255 of any other byte
 abbrev pub value_of : ℕ → ℕ

@@ -3,7 +3,8 @@ use Rattle.std.proofs.Common.{ℕ, Option, Some, None, refl}
 use Rattle.std.specs.Prelude.{ℤ, decimal}
 use Rattle.late_cert.specs.Schedule.{lateness_of}
 use Rattle.late_cert.specs.declared.certificates.Certificate.{Certificate}
-use Rattle.task_texts.specs.ReportText.{kind_word, number_field, lateness_field, page_word, row_fields, cert_fields}
+use Rattle.task_texts.specs.ReportText.{kind_word, number_field, lateness_field, row_fields, cert_fields}
+use Rattle.task_texts.specs.Pages.{page_word}
 use Rattle.task_texts.specs.declared.reports.ReportRow.{ReportRow}
 use Rattle.task_texts.specs.declared.reports.RowKind.{RowKind}
 use Rattle.task_texts.specs.declared.reports.RowKind.TheVariants as kind

@@ -19,8 +19,9 @@ use Rattle.task_texts.specs.declared.items.RowHead.{RowHead}
 use Rattle.task_texts.specs.Items.{fault}
 use Rattle.task_texts.specs.Number.{number_of}
 use Rattle.task_texts.specs.Ops.{op_of, ops_of, ops_or, write_of, write_to}
-use Rattle.task_texts.specs.WellFormed.{IsPage}
-use Rattle.task_texts.specs.Words.{all_of, and_word, page_of, page_or}
+use Rattle.task_texts.specs.Pages.{IsPage}
+use Rattle.task_texts.specs.Words.{all_of, and_word}
+use Rattle.task_texts.specs.Pages.{page_of, page_or}
 
 -- Operations
 

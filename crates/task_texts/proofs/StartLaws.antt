@@ -13,11 +13,10 @@ use Rattle.std.proofs.Math.Seq.{take-append_seam}
 use Rattle.hex.proofs.HexLemmas.{decode_of-ok, decode_sized-ok, decode_sized-twice}
 use Rattle.hex.specs.Hex.{decode_sized, is_hex_digit}
 use Rattle.hex.specs.declared.error.FromHexError.{FromHexError}
-use Rattle.slot_types.specs.declared.events.Op.TheVariants.{Read, Write, Trim}
 use Rattle.slot_types.specs.declared.pages.PageData.{PageData}
 use Rattle.task_texts.specs.Number.{HasDigits, number_from, number_of}
-use Rattle.task_texts.specs.Ops.{op_of, write_of}
-use Rattle.task_texts.specs.Words.{IsFirst, StartsWith, all_of, behind, page_of, page_or, words_of}
+use Rattle.task_texts.specs.Words.{IsFirst, StartsWith, all_of, behind, words_of}
+use Rattle.task_texts.specs.Pages.{page_of, page_or}
 
 abbrev pub NoSpace : ℕ → Type 0
 NoSpace b = (b == 32) ≡ false
@@ -75,7 +74,7 @@ hex-no_space c digit = elim (cases_Bool (c == 32)) [
 ]
 
 -- the digits of a page are 32, and no spaces
-page-digits : (digits : List ℕ) (page : PageData) → page_of digits ≡ Some page → (length digits ≡ 32) × All NoSpace digits
+pub page-digits : (digits : List ℕ) (page : PageData) → page_of digits ≡ Some page → (length digits ≡ 32) × All NoSpace digits
 page-digits digits page = by_bytes (decode_sized digits 16) refl
   where
     by_bytes : (r : Result (List ℕ) FromHexError) → decode_sized digits 16 ≡ r → page_or r ≡ Some page → (length digits ≡ 32)
@@ -93,58 +92,6 @@ page-starts text page read = record {
   says = read;
   whole = (page-digits (take 32 text) page read).1;
 }
-
--- Operations
-
-pub read-starts : (text rest : List ℕ) (n : ℕ) → StartsWith number_of text n rest → StartsWith op_of (82 ∷ text) (Read n) rest
-read-starts text rest n s = record {
-  front = 82 ∷ s.front;
-  parts = ap (λ (t : List ℕ). 82 ∷ t) s.parts;
-  says = ap (option_map Read) s.says;
-  whole = All-cons NoSpace 82 s.front refl s.whole;
-}
-
-pub trim-starts : (text rest : List ℕ) (n : ℕ) → StartsWith number_of text n rest → StartsWith op_of (84 ∷ text) (Trim n) rest
-trim-starts text rest n s = record {
-  front = 84 ∷ s.front;
-  parts = ap (λ (t : List ℕ). 84 ∷ t) s.parts;
-  says = ap (option_map Trim) s.says;
-  whole = All-cons NoSpace 84 s.front refl s.whole;
-}
-
-at-seam : (xs : List ℕ) (y : ℕ) (ys : List ℕ) → slice_index (xs ++ y ∷ ys) (length xs) ≡ y
-at-seam [] y ys = refl
-at-seam (x ∷ xs) y ys = at-seam xs y ys
-
-past-seam : (xs : List ℕ) (y : ℕ) (ys : List ℕ) → drop (length xs + 1) (xs ++ y ∷ ys) ≡ ys
-past-seam [] y ys = refl
-past-seam (x ∷ xs) y ys =
-    let next : suc (length xs) + 1 ≡ suc (length xs + 1) = omega arith in
-    rw next (past-seam xs y ys)
-
-write-reads : (number digits : List ℕ) (n : ℕ) (page : PageData) → number_of number ≡ Some n → page_of digits ≡ Some page → length digits
-    ≡ 32
-    → write_of (number ++ 61 ∷ digits) ≡ Some (Write n page)
-write-reads number digits n page says read long =
-    let word : List ℕ = number ++ 61 ∷ digits in
-    let len : length (number ++ 61 ∷ digits) ≡ length number + 33 = omega (arith, length-append number (61 ∷ digits), long) in
-    let enough : nat_lt (length number + 33) 33 ≡ false = grind (arith) in
-    let place : length number + 33 - 33 ≡ length number = omega arith in
-    rw (len, enough, place, at-seam number 61 digits, take-append_seam number (61 ∷ digits), past-seam number 61 digits, says, read) refl
-
-pub write-starts : (text left digits rest : List ℕ) (n : ℕ) (page : PageData) → StartsWith number_of text n left → left ≡ 61 ∷ digits
-    → StartsWith page_of digits page rest
-    → StartsWith op_of (87 ∷ text) (Write n page) rest
-write-starts text left digits rest n page s sign p =
-    let of_page = page-digits p.front page p.says in
-    record {
-      front = 87 ∷ (s.front ++ 61 ∷ p.front);
-      parts = ap (λ (t : List ℕ). 87 ∷ t)
-          (s.parts ∙ ap (λ (t : List ℕ). s.front ++ t) (sign ∙ ap (λ (t : List ℕ). 61 ∷ t) p.parts)
-          ∙ sym (append_assoc s.front (61 ∷ p.front) rest));
-      says = write-reads s.front p.front n page s.says p.says of_page.0;
-      whole = All-cons NoSpace 87 _ refl (All-append NoSpace s.front (61 ∷ p.front) s.whole (All-cons NoSpace 61 p.front refl of_page.1));
-    }
 
 -- Words
 

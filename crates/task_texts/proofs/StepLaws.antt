@@ -7,7 +7,7 @@ use Rattle.slot_types.specs.declared.refusals.Cause.TheVariants as cause
 use Rattle.slot_types.specs.declared.refusals.Refusal.{Refusal}
 use Rattle.slot_types.specs.declared.refusals.Refusal.TheVariants.{NoMemory, ScriptRow}
 use Rattle.task_texts.specs.declared.items.ScriptItem.{ScriptItem}
-use Rattle.task_texts.specs.Header.{is_script_header}
+use Rattle.task_texts.specs.ScriptHeader.{is_script_header}
 use Rattle.task_texts.specs.Items.{item_of}
 use Rattle.task_texts.specs.Left.{unless_refused}
 use Rattle.task_texts.specs.Readings.{IsOutside}

@@ -4,7 +4,7 @@ use Rattle.slot_types.specs.declared.events.Op.{Op}
 use Rattle.slot_types.specs.declared.events.Op.TheVariants as asks
 use Rattle.slot_types.specs.declared.events.Event.{Event}
 use Rattle.slot_types.specs.declared.events.Event.TheVariants as events
-use Rattle.task_texts.specs.WellFormed.{IsPage}
+use Rattle.task_texts.specs.Pages.{IsPage}
 use Rattle.task_texts.specs.declared.items.ScriptItem.{ScriptItem}
 
 -- what an operation writes is a page

@@ -13,6 +13,7 @@ use Rattle.task_texts.specs.Number.{number_of}
 use Rattle.task_texts.specs.Ops.{ops_of, ops_or}
 use Rattle.task_texts.specs.Readings.{◌>>=◌}
 use Rattle.task_texts.specs.declared.items.ScriptItem.{ScriptItem}
+use Rattle.task_texts.specs.Fields.{field_or}
 
 -- a fault of the record of this number
 abbrev pub fault : {A : Type 0} → ℕ → Cause → Result A Refusal
@@ -40,10 +41,6 @@ kind_or line (Some field) = collects_of line field
 
 abbrev pub collects_at : ℕ → List (List ℕ) → Result Bool Refusal
 collects_at line fields = kind_or line (field_at fields 3)
-
--- a field, or nothing
-abbrev pub field_or : List (List ℕ) → ℕ → List ℕ
-field_or fields i = unwrap_or (field_at fields i) []
 
 -- what a row asks of its die: a collection has no operations
 abbrev pub event_of : ℕ → Bool → ℕ → ℕ → ℕ → List ℕ → Result Event Refusal

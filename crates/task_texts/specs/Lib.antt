@@ -10,13 +10,16 @@ pub mod Stores
 pub mod Readings
 pub mod PlanReading
 pub mod Words
+pub mod Pages
 pub mod Ops
 pub mod Marked
 pub mod Bounded
 pub mod Plain
 pub mod Rows
 pub mod RowsLeft
-pub mod Header
+pub mod Fields
+pub mod ScriptHeader
+pub mod ReportHeader
 pub mod Items
 pub mod Heads
 pub mod Script

@@ -8,7 +8,8 @@ use Rattle.slot_types.specs.declared.refusals.Cause.TheVariants as cause
 use Rattle.slot_types.specs.declared.refusals.Refusal.{Refusal}
 use Rattle.slot_types.specs.declared.refusals.Refusal.TheVariants.{ScriptRow}
 use Rattle.task_texts.specs.Number.{number_of}
-use Rattle.task_texts.specs.Words.{list_of, page_of}
+use Rattle.task_texts.specs.Words.{list_of}
+use Rattle.task_texts.specs.Pages.{page_of}
 
 abbrev pub write_to : Option ℕ → Option PageData → Option Op
 write_to None bytes = None

@@ -4,7 +4,7 @@ use Rattle.std.specs.Prelude.{Err, if◌then◌else◌}
 use Rattle.late_cert.specs.declared.certificates.Certificate.{Certificate}
 use Rattle.slot_types.specs.declared.refusals.Refusal.{Refusal}
 use Rattle.slot_types.specs.declared.refusals.Refusal.TheVariants.{ReportText}
-use Rattle.task_texts.specs.Header.{is_report_header}
+use Rattle.task_texts.specs.ReportHeader.{is_report_header}
 use Rattle.task_texts.specs.Readings.{IsOutside}
 use Rattle.task_texts.specs.ReportRows.{◌>>=◌, sound_row}
 use Rattle.task_texts.specs.Rows.{Fields, rows_of}

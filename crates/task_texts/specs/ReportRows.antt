@@ -4,10 +4,11 @@ use Rattle.std.specs.Prelude.{None, option_map, option_and_then, ℤ, pos, negsu
 use Rattle.std.specs.Ordering.{int_eq}
 use Rattle.csv.specs.Records.{field_at}
 use Rattle.late_cert.specs.Schedule.{lateness_of}
-use Rattle.task_texts.specs.Header.{has_text}
-use Rattle.task_texts.specs.Items.{field_or}
+use Rattle.task_texts.specs.Fields.{has_text}
+use Rattle.task_texts.specs.Fields.{field_or}
 use Rattle.task_texts.specs.Number.{number_of}
-use Rattle.task_texts.specs.Words.{list_of, page_of}
+use Rattle.task_texts.specs.Words.{list_of}
+use Rattle.task_texts.specs.Pages.{page_of}
 use Rattle.task_texts.specs.declared.report_rows.DieRow.{DieRow}
 use Rattle.task_texts.specs.declared.reports.ReportRow.{ReportRow}
 use Rattle.task_texts.specs.declared.reports.RowKind.{RowKind}

@@ -11,6 +11,7 @@ use Rattle.task_texts.specs.declared.reports.DieReport.{DieReport}
 use Rattle.task_texts.specs.declared.reports.ReportRow.{ReportRow}
 use Rattle.task_texts.specs.declared.reports.RowKind.{RowKind}
 use Rattle.task_texts.specs.declared.reports.RowKind.TheVariants as kind
+use Rattle.task_texts.specs.Pages.{page_word}
 
 -- the first field of a row
 abbrev pub kind_word : RowKind → List ℕ
@@ -26,10 +27,6 @@ number_field (Some n) = decimal n
 abbrev pub lateness_field : Option ℤ → List ℕ
 lateness_field None = []
 lateness_field (Some n) = signed_decimal n
-
--- a page in 32 lower-case hexadecimal digits
-abbrev pub page_word : PageData → List ℕ
-page_word page = encode_lower page.0
 
 -- pages, and numbers, with one space between two
 abbrev pub pages_field : List PageData → List ℕ

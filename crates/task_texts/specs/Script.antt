@@ -3,7 +3,7 @@ use Rattle.std.specs.Prelude.{◌≡◌, ℕ, ◌+◌, ◌==◌, nat_lt, Bool, t
 use Rattle.std.specs.Prelude.{slice_set, if◌then◌else◌}
 use Rattle.slot_types.specs.declared.refusals.Cause.TheVariants as cause
 use Rattle.slot_types.specs.declared.refusals.Refusal.{Refusal}
-use Rattle.task_texts.specs.Header.{is_script_header}
+use Rattle.task_texts.specs.ScriptHeader.{is_script_header}
 use Rattle.task_texts.specs.Items.{fault, item_of}
 use Rattle.task_texts.specs.Readings.{IsOutside}
 use Rattle.task_texts.specs.Rows.{Fields, rows_of}

@@ -9,11 +9,7 @@ use Rattle.task_texts.specs.declared.report_certs.Finish.{Finish}
 use Rattle.task_texts.specs.declared.report_rows.DieRow.{DieRow}
 use Rattle.task_texts.specs.declared.reports.DieReport.{DieReport}
 use Rattle.task_texts.specs.declared.reports.ReportRow.{ReportRow}
-
--- sixteen bytes
-pub record IsPage (page : PageData) : Type 0 where
-  pub len : length page.0 ≡ 16
-  pub bytes : IsBytes page.0
+use Rattle.task_texts.specs.Pages.{IsPage}
 
 abbrev pub on_die : ℕ → ReportRow → DieRow
 on_die die row = record { die = die; row = row }

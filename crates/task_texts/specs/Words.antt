@@ -29,14 +29,6 @@ list_of read (b ∷ bytes) = all_of read (slice_split (λ c. c == 32) (b ∷ byt
 abbrev pub if_whole : {A : Type 0} → Bool → List A → Option (List A)
 if_whole whole items = if whole then Some items else None
 
-abbrev pub page_or : Result (List ℕ) FromHexError → Option PageData
-page_or (Ok bytes) = Some (record { 0 = bytes })
-page_or (Err fault) = None
-
--- the page that 32 hexadecimal digits write, in either case
-abbrev pub page_of : List ℕ → Option PageData
-page_of digits = page_or (decode_sized digits 16)
-
 -- what stands behind a word: nothing, or a space and more
 abbrev pub behind : Option (List ℕ) → List ℕ
 behind None = []

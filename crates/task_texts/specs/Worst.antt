@@ -4,8 +4,8 @@ use Rattle.std.specs.Prelude.{if◌then◌else◌}
 use Rattle.csv.specs.Records.{field_at}
 use Rattle.late_cert.specs.Schedule.{lateness_of}
 use Rattle.late_cert.specs.declared.certificates.Certificate.{Certificate}
-use Rattle.task_texts.specs.Header.{has_text}
-use Rattle.task_texts.specs.Items.{field_or}
+use Rattle.task_texts.specs.Fields.{has_text}
+use Rattle.task_texts.specs.Fields.{field_or}
 use Rattle.task_texts.specs.Number.{number_of}
 use Rattle.task_texts.specs.ReportRows.{◌>>=◌, is_late, lateness_in, number_at}
 use Rattle.task_texts.specs.Words.{list_of}

@@ -6,11 +6,12 @@ ghost use Rattle.task_texts.specs.AskedPages.{AsksPages, RowHasPages};
 ghost use Rattle.task_texts.specs.Arrivals.{Arrives};
 ghost use Rattle.task_texts.specs.Heads.{HasOwnOps, asked_by, row_of};
 ghost use Rattle.task_texts.specs.Items.{collects_at, event_of, item_of, number_at};
+ghost use Rattle.task_texts.specs.Ops.{ops_of, ops_or};
 ghost use Rattle.task_texts.specs.Readings.{Shows};
 
 use crate::numbers::number;
-use crate::ops::put_ops;
 use crate::rows::field_in;
+use crate::words::put_list;
 use csv::ByteRecord;
 use slot_types::{Cause, Event, OpList, Refusal, TaskNo};
 
@@ -103,6 +104,20 @@ fn collects_in(row: &ByteRecord, line: u32) -> Result<bool, Refusal>
         Ok(true)
     } else {
         Err(fault)
+    }
+}
+
+/// Puts the operations of a field in place of others, in their memory, or tells the fault of its record.
+fn put_ops(ops: &mut OpList, field: &[u8], line: u32) -> Result<(), Refusal>
+    ensures { Shows (λ _. ops.new) result (ops_or line (ops_of field.now)) }
+{
+    if put_list(ops, field)? {
+        Ok(())
+    } else {
+        Err(Refusal::ScriptRow {
+            line,
+            cause: Cause::Ops,
+        })
     }
 }
 

@@ -1,14 +1,12 @@
 //! The operations of a job, as a script writes them.
 
 ghost use Rattle.std.specs.Prelude.{◌≡◌, ◌∷◌, IfSome};
-ghost use Rattle.task_texts.specs.Ops.{op_of, ops_of, ops_or, write_of};
-ghost use Rattle.task_texts.specs.Readings.{Shows};
+ghost use Rattle.task_texts.specs.Ops.{op_of, write_of};
 ghost use Rattle.task_texts.specs.Words.{StartsWith};
 
 use crate::numbers::{leading_number, number};
 use crate::pages::{leading_page, page};
-use crate::words::put_list;
-use slot_types::{Cause, Op, OpList, Refusal};
+use slot_types::Op;
 
 /// A write: a page number, `=` and the digits of a page.
 fn write(word: &[u8]) -> Option<Op>
@@ -89,18 +87,4 @@ pub fn leading_op(text: &[u8]) -> Option<(Op, &[u8])>
         return leading_trim(left);
     }
     None
-}
-
-/// Puts the operations of a field in place of others, in their memory, or tells the fault of its record.
-pub fn put_ops(ops: &mut OpList, field: &[u8], line: u32) -> Result<(), Refusal>
-    ensures { Shows (λ _. ops.new) result (ops_or line (ops_of field.now)) }
-{
-    if put_list(ops, field)? {
-        Ok(())
-    } else {
-        Err(Refusal::ScriptRow {
-            line,
-            cause: Cause::Ops,
-        })
-    }
 }

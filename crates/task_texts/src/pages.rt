@@ -2,8 +2,9 @@
 
 ghost use Rattle.std.specs.Prelude.{◌≡◌, ◌<◌, IfSome, Some, OnOk, ◌++◌, slice_index, unwrap_or};
 ghost use Rattle.hex.specs.Hex.{hex_digit_value, lower_digits};
-ghost use Rattle.task_texts.specs.ReportText.{page_word};
-ghost use Rattle.task_texts.specs.Words.{StartsWith, page_of};
+ghost use Rattle.task_texts.specs.Pages.{page_word};
+ghost use Rattle.task_texts.specs.Words.{StartsWith};
+ghost use Rattle.task_texts.specs.Pages.{page_of};
 
 use slot_types::PageData;
 use std::io;

@@ -2,7 +2,7 @@
 
 ghost use Rattle.std.specs.Prelude.{◌≡◌, IfOk};
 ghost use Rattle.csv.specs.Records.{fields_of};
-ghost use Rattle.task_texts.specs.Items.{field_or};
+ghost use Rattle.task_texts.specs.Fields.{field_or};
 ghost use Rattle.task_texts.specs.Number.{number_of};
 ghost use Rattle.task_texts.specs.ReportRows.{is_late, lateness_in};
 ghost use Rattle.task_texts.specs.Words.{list_of};

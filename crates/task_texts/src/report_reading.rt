@@ -1,7 +1,9 @@
 //! Reports read from texts.
 
 ghost use Rattle.std.specs.Prelude.{◌≡◌, ◌≤◌, ℕ, List, true, IfOk, IfSome, OnOk, length, option_map};
+ghost use Rattle.csv.specs.Records.{fields_of};
 ghost use Rattle.task_texts.specs.Numbered.{AreNumbered};
+ghost use Rattle.task_texts.specs.ReportHeader.{is_report_header};
 ghost use Rattle.task_texts.specs.ReportOf.{Reading, Reads, Tells, certs_for, certs_from, no_rows, report_from, report_of, rows_from};
 ghost use Rattle.task_texts.specs.ReportOf.{with_die};
 ghost use Rattle.task_texts.specs.RecordsLeft.{IsReady, Stays, record_line, records_fit, records_left};
@@ -12,10 +14,29 @@ use crate::gathered::{dies_in, gather, no_rows};
 use crate::records::{Records, records_in};
 use crate::report_certs::{cert, worst};
 use crate::reports::{DieReport, Report};
-use crate::rows::heads_report;
+use crate::rows::is_named;
+use csv::ByteRecord;
 use slot_types::{Items, Refusal};
 use std::alloc::Global;
 use std::io::Read;
+
+/// Whether a record is the header of a report.
+fn heads_report(row: &ByteRecord) -> bool
+    ensures { result ≡ is_report_header (fields_of row.now) }
+{
+    row.len() == 11
+        && is_named(row, 0, "row")
+        && is_named(row, 1, "die")
+        && is_named(row, 2, "job")
+        && is_named(row, 3, "task")
+        && is_named(row, 4, "release")
+        && is_named(row, 5, "due")
+        && is_named(row, 6, "work")
+        && is_named(row, 7, "completion")
+        && is_named(row, 8, "lateness")
+        && is_named(row, 9, "given")
+        && is_named(row, 10, "items")
+}
 
 /// Takes the header.
 pub fn take_header<R: Read>(records: &mut Records<R>) -> Result<(), Refusal>

@@ -2,10 +2,11 @@
 
 ghost use Rattle.std.specs.Prelude.{◌≡◌, IfOk};
 ghost use Rattle.csv.specs.Records.{fields_of};
-ghost use Rattle.task_texts.specs.Items.{field_or};
+ghost use Rattle.task_texts.specs.Fields.{field_or};
 ghost use Rattle.task_texts.specs.ReportRows.{sound_row};
 ghost use Rattle.task_texts.specs.RowNumbers.{die_row};
-ghost use Rattle.task_texts.specs.Words.{list_of, page_of};
+ghost use Rattle.task_texts.specs.Words.{list_of};
+ghost use Rattle.task_texts.specs.Pages.{page_of};
 
 use crate::reports::ReportRow;
 use crate::row_numbers::{RowNumbers, row_numbers, stands};

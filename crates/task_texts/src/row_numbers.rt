@@ -3,13 +3,14 @@
 ghost use Rattle.std.specs.Prelude.{◌≡◌, [], List, length, option_map};
 ghost use Rattle.csv.specs.Records.{field_at, fields_of};
 ghost use Rattle.slot_types.specs.declared.pages.PageData.{PageData};
-ghost use Rattle.task_texts.specs.Header.{has_text};
-ghost use Rattle.task_texts.specs.Items.{field_or};
+ghost use Rattle.task_texts.specs.Fields.{has_text};
+ghost use Rattle.task_texts.specs.Fields.{field_or};
 ghost use Rattle.task_texts.specs.Number.{number_of};
 ghost use Rattle.task_texts.specs.ReportRows.{has_outcome, if_filled, is_done, is_placed, is_sound, is_timed, kind_in, lateness_in};
 ghost use Rattle.task_texts.specs.ReportRows.{number_at, row_in, sound_row};
 ghost use Rattle.task_texts.specs.RowNumbers.{die_row, numbers_of, row_with, with_reads};
-ghost use Rattle.task_texts.specs.Words.{list_of, page_of};
+ghost use Rattle.task_texts.specs.Words.{list_of};
+ghost use Rattle.task_texts.specs.Pages.{page_of};
 
 use crate::numbers::number;
 use crate::reports::RowKind;

@@ -3,8 +3,8 @@
 ghost use Rattle.std.specs.Prelude.{◌≡◌, ◌<◌, true, All, IfOk, IfErr, option_map};
 ghost use Rattle.csv.specs.Reading.{error_kind, is_io};
 ghost use Rattle.csv.specs.Records.{fields_of, field_at};
-ghost use Rattle.task_texts.specs.Header.{has_text, is_report_header, is_script_header};
-ghost use Rattle.task_texts.specs.Items.{field_or};
+ghost use Rattle.task_texts.specs.Fields.{has_text};
+ghost use Rattle.task_texts.specs.Fields.{field_or};
 ghost use Rattle.task_texts.specs.Plain.{IsPlain};
 ghost use Rattle.task_texts.specs.Readings.{IsOutside};
 ghost use Rattle.task_texts.specs.Marked.{is_within};
@@ -85,36 +85,4 @@ pub fn is_named(row: &ByteRecord, place: usize, name: &str) -> bool
         Some(field) => field == name.as_bytes(),
         None => false,
     }
-}
-
-/// Whether a record is the header of a script.
-pub fn heads_script(row: &ByteRecord) -> bool
-    ensures { result ≡ is_script_header (fields_of row.now) }
-{
-    row.len() == 7
-        && is_named(row, 0, "at")
-        && is_named(row, 1, "die")
-        && is_named(row, 2, "task")
-        && is_named(row, 3, "kind")
-        && is_named(row, 4, "release")
-        && is_named(row, 5, "due")
-        && is_named(row, 6, "ops")
-}
-
-/// Whether a record is the header of a report.
-pub fn heads_report(row: &ByteRecord) -> bool
-    ensures { result ≡ is_report_header (fields_of row.now) }
-{
-    row.len() == 11
-        && is_named(row, 0, "row")
-        && is_named(row, 1, "die")
-        && is_named(row, 2, "job")
-        && is_named(row, 3, "task")
-        && is_named(row, 4, "release")
-        && is_named(row, 5, "due")
-        && is_named(row, 6, "work")
-        && is_named(row, 7, "completion")
-        && is_named(row, 8, "lateness")
-        && is_named(row, 9, "given")
-        && is_named(row, 10, "items")
 }

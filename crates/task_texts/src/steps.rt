@@ -4,19 +4,35 @@ ghost use Rattle.std.specs.Prelude.{◌≡◌, ◌<◌, ◌+◌, ◌≤◌, leng
 ghost use Rattle.task_texts.specs.AskedPages.{RowHasPages};
 ghost use Rattle.task_texts.specs.Arrivals.{Arrives};
 ghost use Rattle.task_texts.specs.Heads.{HasOwnOps, row_of, row_read};
+ghost use Rattle.csv.specs.Records.{fields_of};
 ghost use Rattle.task_texts.specs.Plain.{IsPlain};
+ghost use Rattle.task_texts.specs.ScriptHeader.{is_script_header};
 ghost use Rattle.task_texts.specs.RowsLeft.{fits_left, rows_left};
 ghost use Rattle.task_texts.specs.Script.{EndsFit, StepOf, after_item, items_from, script_at, script_from};
 
 use crate::bounded::Bounded;
 use crate::items::{RowHead, take_item};
-use crate::rows::{heads_script, take_row};
+use crate::rows::{is_named, take_row};
 use csv::{ByteRecord, Reader};
 use slot_types::{Cause, OpList, Refusal};
 use std::io::Read;
 
 /// The greatest number of a record.
 const MAX_LINE: u32 = 1_000_001;
+
+/// Whether a record is the header of a script.
+fn heads_script(row: &ByteRecord) -> bool
+    ensures { result ≡ is_script_header (fields_of row.now) }
+{
+    row.len() == 7
+        && is_named(row, 0, "at")
+        && is_named(row, 1, "die")
+        && is_named(row, 2, "task")
+        && is_named(row, 3, "kind")
+        && is_named(row, 4, "release")
+        && is_named(row, 5, "due")
+        && is_named(row, 6, "ops")
+}
 
 /// The item of the next record, which has this number: its head, and its operations in place of others.
 #[tactic(auto, unfolding(crate::specs::Script::items_from))]

@@ -4,7 +4,8 @@ ghost use Rattle.std.specs.Prelude.{◌≡◌, ◌∷◌, [], ◌==◌, ◌<◌,
 ghost use Rattle.std.specs.List.{position, slice_split};
 ghost use Rattle.task_texts.specs.Number.{number_of};
 ghost use Rattle.task_texts.specs.Ops.{op_of};
-ghost use Rattle.task_texts.specs.Words.{IsFirst, StartsWith, all_of, behind, if_whole, list_of, page_of, words_of};
+ghost use Rattle.task_texts.specs.Words.{IsFirst, StartsWith, all_of, behind, if_whole, list_of, words_of};
+ghost use Rattle.task_texts.specs.Pages.{page_of};
 
 use crate::numbers::{leading_number, number};
 use crate::ops::{leading_op, op};

@@ -1,4 +1,4 @@
-use Rattle.task_texts.proofs.StartLaws.{read-starts}
+use Rattle.task_texts.proofs.OpStarts.{read-starts}
 use Rattle.task_texts.proofs.ops.leading_read.Goals as goal
 
 pub returns : goal.returns

@@ -1,4 +1,4 @@
-use Rattle.task_texts.proofs.StartLaws.{trim-starts}
+use Rattle.task_texts.proofs.OpStarts.{trim-starts}
 use Rattle.task_texts.proofs.ops.leading_trim.Goals as goal
 
 pub returns : goal.returns

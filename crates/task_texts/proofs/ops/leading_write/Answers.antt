@@ -1,5 +1,5 @@
 use Rattle.std.proofs.Common.{◌≡◌, ◌∷◌}
-use Rattle.task_texts.proofs.StartLaws.{write-starts}
+use Rattle.task_texts.proofs.OpStarts.{write-starts}
 use Rattle.task_texts.proofs.ops.leading_write.Goals as goal
 
 pub returns : goal.returns

@@ -1,6 +1,6 @@
 use Rattle.std.proofs.Common.{◌≡◌, ◌*◌, ◌++◌, length, take, drop}
 use Rattle.hex.specs.Hex.{encode_lower}
-use Rattle.task_texts.specs.ReportText.{page_word}
+use Rattle.task_texts.specs.Pages.{page_word}
 use Rattle.task_texts.proofs.pages.digits_of.Given as goal
 
 abbrev pub invariant-loop-i : goal.invariant-loop-i

@@ -1,6 +1,6 @@
 use Rattle.std.proofs.Common.{rules, ◌≡◌, true, ap, sym, refl, ◌+◌}
 use Rattle.csv.specs.Records.{fields_of}
-use Rattle.task_texts.specs.Header.{is_report_header}
+use Rattle.task_texts.specs.ReportHeader.{is_report_header}
 use Rattle.task_texts.specs.RecordsLeft.{record_line}
 use Rattle.task_texts.specs.ReportOf.{no_rows, report_from, rows_from}
 use Rattle.task_texts.proofs.RecordLaws.{reads-advance}

@@ -1,6 +1,6 @@
 use Rattle.std.proofs.Common.{◌≡◌, ◌++◌, ◌∷◌, drop}
 use Rattle.std.specs.Prelude.{flat_map}
-use Rattle.task_texts.specs.ReportText.{page_word}
+use Rattle.task_texts.specs.Pages.{page_word}
 use Rattle.task_texts.proofs.report_texts.put_more_pages.Given as goal
 
 abbrev pub invariant-loop-page : goal.invariant-loop-page

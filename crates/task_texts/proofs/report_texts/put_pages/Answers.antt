@@ -1,5 +1,5 @@
 use Rattle.task_texts.proofs.PlainFields.{joined-made}
-use Rattle.task_texts.specs.ReportText.{page_word}
+use Rattle.task_texts.specs.Pages.{page_word}
 use Rattle.task_texts.proofs.report_texts.put_pages.Goals as goal
 
 pub returns : goal.returns
