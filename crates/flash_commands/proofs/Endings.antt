@@ -1,7 +1,7 @@
 -- An outcome with the status of a refusal is one.
 use Rattle.std.proofs.Common.{◌≡◌, ℕ, List, [], Option, Some, Result, Ok, Err, IfErr, arith, inl, inr}
 use Rattle.slot_types.specs.declared.refusals.Refusal.{Refusal}
-use Rattle.task_texts.specs.Writing.{IsNotWhole}
+use Rattle.text_base.specs.Writing.{IsNotWhole}
 use Rattle.flash_commands.specs.Acts.{IsFaultOf, IsRefusedFor, IsUnwritten, PrintsSome, Refuses}
 use Rattle.flash_commands.specs.Faults.{outcome_status}
 use Rattle.flash_commands.specs.declared.commands.Command.{Command}

@@ -7,9 +7,9 @@ use Rattle.std.proofs.lemmas.Option.{same_Some}
 use Rattle.late_cert.specs.declared.certificates.Certificate.{Certificate}
 use Rattle.late_cert.specs.declared.rows.JobRow.{JobRow}
 use Rattle.slot_types.specs.declared.refusals.Refusal.{Refusal}
-use Rattle.task_texts.specs.JobRows.{job_rows_of}
-use Rattle.task_texts.specs.Writing.{InPart, IsNotWhole}
-use Rattle.task_texts.specs.declared.reports.DieReport.{DieReport}
+use Rattle.report_texts.specs.JobRows.{job_rows_of}
+use Rattle.text_base.specs.Writing.{InPart, IsNotWhole}
+use Rattle.report_texts.specs.declared.reports.DieReport.{DieReport}
 use Rattle.flash_commands.specs.Acts.{FindsRefused, HasThree, IsRefused, Prints, PrintsAudit, PrintsSome, TellsRefused}
 use Rattle.flash_commands.specs.Audit.{audit_status, audit_text, cert_line, is_refused}
 use Rattle.flash_commands.specs.declared.commands.Command.{Command}

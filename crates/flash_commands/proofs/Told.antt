@@ -2,9 +2,9 @@
 use Rattle.std.proofs.Common.{◌≡◌, ℕ, List, [], ◌∷◌, ◌++◌, Option, Some, None, Ok, ap, refl}
 use Rattle.std.specs.Prelude.{◌||◌, flat_map, option_map}
 use Rattle.std.specs.List.{list_any}
-use Rattle.task_texts.specs.ReportOf.{Tells, report_of}
-use Rattle.task_texts.specs.ReportWork.{works_of}
-use Rattle.task_texts.specs.declared.reports.DieReport.{DieReport}
+use Rattle.report_texts.specs.ReportOf.{Tells, report_of}
+use Rattle.report_texts.specs.ReportWork.{works_of}
+use Rattle.report_texts.specs.declared.reports.DieReport.{DieReport}
 use Rattle.flash_commands.specs.Acts.{IsReportOf}
 use Rattle.flash_commands.specs.Audit.{audit_text, die_line, is_refused, is_refused_work, work_line}
 

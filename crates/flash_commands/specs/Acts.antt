@@ -5,13 +5,13 @@ use Rattle.std.specs.Io.KnownBytes.{Appends}
 use Rattle.slot_types.specs.declared.plans.DiePlan.{DiePlan}
 use Rattle.slot_types.specs.declared.refusals.Refusal.{Refusal}
 use Rattle.slot_types.specs.declared.refusals.Refusal.TheVariants.{WriteFault}
-use Rattle.task_texts.specs.PlanReading.{IsStoreOf}
-use Rattle.task_texts.specs.PlanText.{plan_of}
-use Rattle.task_texts.specs.Readings.{IsOutside}
-use Rattle.task_texts.specs.ReportOf.{report_of}
-use Rattle.task_texts.specs.Stores.{RefusesPlan}
-use Rattle.task_texts.specs.Writing.{IsNotWhole}
-use Rattle.task_texts.specs.declared.reports.DieReport.{DieReport}
+use Rattle.plan_texts.specs.PlanReading.{IsStoreOf}
+use Rattle.plan_texts.specs.PlanText.{plan_of}
+use Rattle.text_base.specs.Readings.{IsOutside}
+use Rattle.report_texts.specs.ReportOf.{report_of}
+use Rattle.plan_texts.specs.Stores.{RefusesPlan}
+use Rattle.text_base.specs.Writing.{IsNotWhole}
+use Rattle.report_texts.specs.declared.reports.DieReport.{DieReport}
 use Rattle.flash_commands.specs.Audit.{audit_status, audit_text, is_refused}
 use Rattle.flash_commands.specs.Figures.{plan_text}
 use Rattle.task_script.specs.PlannedRuns.{RunsAsPlanned}

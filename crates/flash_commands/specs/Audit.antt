@@ -8,9 +8,9 @@ use Rattle.late_cert.specs.Verdict.{fault_number, is_holds, name_of}
 use Rattle.late_cert.specs.declared.certificates.Certificate.{Certificate}
 use Rattle.late_cert.specs.declared.rows.JobRow.{JobRow}
 use Rattle.late_cert.specs.declared.verdicts.Verdict.{Verdict}
-use Rattle.task_texts.specs.ReportWork.{work_of}
-use Rattle.task_texts.specs.declared.report_work.DieWork.{DieWork}
-use Rattle.task_texts.specs.declared.reports.DieReport.{DieReport}
+use Rattle.report_texts.specs.ReportWork.{work_of}
+use Rattle.report_texts.specs.declared.report_work.DieWork.{DieWork}
+use Rattle.report_texts.specs.declared.reports.DieReport.{DieReport}
 
 -- the verdict on a certificate, by the rows that its die has in the report
 abbrev pub verdict_on : List JobRow → Certificate → Verdict

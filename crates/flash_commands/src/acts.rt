@@ -5,20 +5,22 @@ ghost use Rattle.flash_commands.specs.Acts.{AuditsSome, HasThree, IsFaultOf, IsR
 ghost use Rattle.flash_commands.specs.Acts.{PrintsFigures, PrintsRun, RefusesAudit, RefusesFigures, RefusesRun};
 ghost use Rattle.flash_commands.specs.Commands.{FitsRun};
 ghost use Rattle.flash_commands.specs.Faults.{outcome_status};
-ghost use Rattle.task_texts.specs.Writing.{IsNotWhole};
+ghost use Rattle.text_base.specs.Writing.{IsNotWhole};
 
 use crate::audits::audit_report;
 use crate::built_in;
 use crate::commands::Command;
 use crate::faults::{Fault, end};
 use crate::figures::figures_text;
+use plan_texts::read_plan_from;
+use report_texts::read_work;
 use slot_types::{MAX_SLOT, Refusal};
 use std::alloc::Global;
 use std::io::{Read, Write};
 use std::sync::Wait;
 use std::thread::Threads;
 use task_script::{RunCount, run_text};
-use task_texts::{read_plan_from, read_work, write_whole};
+use text_base::write_whole;
 
 /// Prints the figures of a plan.
 fn print_figures<R: Read + Drop, W: Write>(

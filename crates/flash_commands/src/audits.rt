@@ -3,15 +3,15 @@
 ghost use Rattle.std.specs.Prelude.{◌≡◌, ◌++◌, ◌∷◌, [], codes, decimal, flat_map, IfOk, IfErr, OnOk, Some, None};
 ghost use Rattle.std.specs.List.{list_any};
 ghost use Rattle.late_cert.specs.Rows.{RowsRise};
-ghost use Rattle.task_texts.specs.ReportWork.{AllRise};
+ghost use Rattle.report_texts.specs.ReportWork.{AllRise};
 ghost use Rattle.flash_commands.specs.Audit.{cert_line, is_refused_work, refuses, verdict_on, verdict_text, work_line, worst_text};
 
 use late_cert::{Certificate, Verdict, check, lateness};
+use report_texts::{DieWork, ReportWork};
 use slot_types::Refusal;
 use std::alloc::Global;
 use std::io;
 use std::io::Write;
-use task_texts::{DieWork, ReportWork};
 
 /// What an audit found.
 #[derive(Drop)]

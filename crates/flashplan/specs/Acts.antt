@@ -4,8 +4,8 @@ use Rattle.std.specs.Io.KnownBytes.{Appends}
 use Rattle.slot_types.specs.declared.plans.DiePlan.{DiePlan}
 use Rattle.slot_types.specs.declared.refusals.Refusal.{Refusal}
 use Rattle.slot_types.specs.declared.refusals.Refusal.TheVariants.{WriteFault}
-use Rattle.task_texts.specs.PlanReading.{IsStoreOf}
-use Rattle.task_texts.specs.Readings.{IsOutside}
+use Rattle.plan_texts.specs.PlanReading.{IsStoreOf}
+use Rattle.text_base.specs.Readings.{IsOutside}
 use Rattle.plan_arrivals.specs.Planned.{IsPlannedScript}
 use Rattle.plan_arrivals.specs.declared.faults.Fault.{Fault as Unplanned}
 use Rattle.plan_arrivals.specs.declared.faults.Fault.TheVariants.{Refused}

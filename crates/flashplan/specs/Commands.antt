@@ -5,7 +5,7 @@ use Rattle.clap.specs.Words.{Row, Text, first_of, subcommand_of}
 use Rattle.clap.specs.Kinds.{Kinds, or_else}
 use Rattle.clap.specs.Faults.{fault_of}
 use Rattle.clap.specs.declared.error.kind.ErrorKind.TheVariants.{ValueValidation}
-use Rattle.task_texts.specs.Number.{number_of}
+use Rattle.text_base.specs.Number.{number_of}
 use Rattle.flashplan.specs.Syntax.{flashplan_app}
 use Rattle.flashplan.specs.declared.commands.Command.{Command}
 use Rattle.flashplan.specs.declared.commands.Command.TheVariants as command

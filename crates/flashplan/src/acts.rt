@@ -8,10 +8,11 @@ use crate::commands::Command;
 use flash_commands::{Fault, end};
 use plan_arrivals::{Fault as Unplanned, arrivals};
 use plan_design::explain;
+use plan_texts::{plan_text, read_plan_from};
 use slot_types::{MAX_SLOT, Refusal};
 use std::alloc::Global;
 use std::io::{Read, Write};
-use task_texts::{plan_text, read_plan_from, write_whole};
+use text_base::write_whole;
 use watched_runs::{RefusedRows, draw, wear};
 
 /// Prints what is said of a plan, and says whether it is accepted.

@@ -13,7 +13,7 @@ use clap::error::ErrorKind;
 use clap::{ArgMatches, Error};
 use slot_types::MAX_SLOT;
 use std::alloc::Global;
-use task_texts::number;
+use text_base::number;
 
 /// What the words of a command line ask for. Files stand by their names.
 #[derive(Clone, Copy, PartialEq, Eq, Debug)]

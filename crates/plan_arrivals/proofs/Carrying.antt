@@ -7,7 +7,7 @@ use Rattle.std.proofs.lemmas.List.{replicate_more}
 use Rattle.std.proofs.lemmas.List.Sums.{take_while-cons}
 use Rattle.slot_types.specs.declared.events.Event.{Event}
 use Rattle.slot_types.specs.declared.events.Event.TheVariants as events
-use Rattle.task_texts.specs.declared.items.ScriptItem.{ScriptItem}
+use Rattle.script_texts.specs.declared.script_rows.ScriptItem.{ScriptItem}
 use Rattle.task_script.specs.DieRuns.{Call, Row, Slot, calls_from, due_by, is_due, later_than}
 use Rattle.task_script.specs.PlannedRuns.{event_of}
 use Rattle.plan_arrivals.specs.Steps.{later_events}

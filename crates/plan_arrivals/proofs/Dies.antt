@@ -10,8 +10,8 @@ use Rattle.slot_types.specs.declared.plans.Times.{Times}
 use Rattle.slot_types.specs.declared.refusals.Refusal.{Refusal}
 use Rattle.plan_rules.specs.Times.{Passes}
 use Rattle.plan_rules.specs.Keeping.{KeepsPlan}
-use Rattle.task_texts.specs.Script.{script_of}
-use Rattle.task_texts.specs.declared.items.ScriptItem.{ScriptItem}
+use Rattle.script_texts.specs.Script.{script_of}
+use Rattle.script_texts.specs.declared.script_rows.ScriptItem.{ScriptItem}
 use Rattle.task_script.specs.DieRuns.{DieRun}
 use Rattle.task_script.specs.Feeds.{feed_of}
 use Rattle.task_script.specs.PlannedRuns.{AreAsPlanned, GoesAsPlanned, KeepsItsPlan, events_of}

@@ -6,8 +6,8 @@ use Rattle.std.proofs.lemmas.Bool.{eq-eqb, ne_eqb}
 use Rattle.std.proofs.lemmas.List.{append-nil}
 use Rattle.slot_types.specs.declared.events.Event.{Event}
 use Rattle.slot_types.specs.declared.events.Event.TheVariants as events
-use Rattle.task_texts.specs.Script.{Script, Yields, script_of, with_front}
-use Rattle.task_texts.specs.declared.items.ScriptItem.{ScriptItem}
+use Rattle.script_texts.specs.Script.{Script, Yields, script_of, with_front}
+use Rattle.script_texts.specs.declared.script_rows.ScriptItem.{ScriptItem}
 use Rattle.task_script.specs.DieRuns.{calls_from}
 use Rattle.task_script.specs.Feeds.{AreItemsOf, IsReadTo, feed_of, with_items}
 use Rattle.task_script.specs.PlannedRuns.{event_of, events_of}

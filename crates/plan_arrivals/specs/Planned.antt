@@ -6,8 +6,8 @@ use Rattle.slot_types.specs.declared.plans.Times.{Times}
 use Rattle.slot_types.specs.declared.refusals.Refusal.TheVariants.{NoMemory, BadPlan}
 use Rattle.plan_rules.specs.Times.{Passes}
 use Rattle.plan_rules.specs.Keeping.{KeepsPlan}
-use Rattle.task_texts.specs.Script.{script_of}
-use Rattle.task_texts.specs.declared.items.ScriptItem.{ScriptItem}
+use Rattle.script_texts.specs.Script.{script_of}
+use Rattle.script_texts.specs.declared.script_rows.ScriptItem.{ScriptItem}
 use Rattle.task_script.specs.Feeds.{AreItemsOf, feed_of}
 use Rattle.task_script.specs.PlannedRuns.{KeepsItsPlan, events_of}
 use Rattle.plan_arrivals.specs.declared.faults.Fault.{Fault}

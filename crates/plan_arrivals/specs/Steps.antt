@@ -1,7 +1,7 @@
 -- What is left of a run.
 use Rattle.std.specs.Prelude.{ℕ, ◌-◌, List, map}
 use Rattle.slot_types.specs.declared.events.Event.{Event}
-use Rattle.task_texts.specs.declared.items.ScriptItem.{ScriptItem}
+use Rattle.script_texts.specs.declared.script_rows.ScriptItem.{ScriptItem}
 use Rattle.task_script.specs.DieRuns.{calls_from}
 use Rattle.task_script.specs.PlannedRuns.{event_of}
 

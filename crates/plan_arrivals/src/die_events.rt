@@ -2,14 +2,14 @@
 
 ghost use Rattle.std.specs.Prelude.{◌≡◌, ◌-◌, ◌≤◌, ◌++◌, ◌∷◌, List, IfOk, IfErr, OnOk, length, replicate};
 ghost use Rattle.task_script.specs.Feeds.{feed_of};
-ghost use Rattle.task_texts.specs.declared.items.ScriptItem.{ScriptItem};
+ghost use Rattle.script_texts.specs.declared.script_rows.ScriptItem.{ScriptItem};
 ghost use Rattle.plan_arrivals.specs.Planned.{AreEventsOf};
 ghost use Rattle.plan_arrivals.specs.Steps.{later_events};
 
+use script_texts::{ScriptItem, ScriptReader};
 use slot_types::{Event, Items, Refusal, StorePlan};
 use std::alloc::Global;
 use std::io::Read;
-use task_texts::{ScriptItem, ScriptReader};
 
 /// Events, in their order.
 pub type Events = Items<Event>;

@@ -1,8 +1,8 @@
 -- Which plans are accepted.
 use Rattle.std.specs.Prelude.{◌≡◌, ℕ, List, Ok}
-use Rattle.task_texts.specs.PlanText.{plan_of}
-use Rattle.task_texts.specs.Stores.{IsShaped, IsServed}
-use Rattle.task_texts.specs.declared.plan_texts.PlanNumbers.{PlanNumbers}
+use Rattle.plan_texts.specs.PlanText.{plan_of}
+use Rattle.plan_texts.specs.Stores.{IsShaped, IsServed}
+use Rattle.plan_texts.specs.declared.numbers.PlanNumbers.{PlanNumbers}
 
 -- the text is that of a plan whose numbers make a store
 pub record IsAccepted (text : List ℕ) : Type 0 where

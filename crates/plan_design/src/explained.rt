@@ -7,11 +7,11 @@ use crate::bounds::tell_bound;
 use crate::causes::tell_cause;
 use crate::limits::{tell_die_limits, tell_shape, tell_strays};
 use crate::loads::tell_load;
+use plan_texts::{PlanNumbers, die_plan, plan_numbers, read_plan};
 use slot_types::{DiePlan, MAX_DIES, Refusal};
 use std::alloc::Global;
 use std::io;
 use std::io::Write;
-use task_texts::{PlanNumbers, die_plan, plan_numbers, read_plan};
 
 /// What is said of a plan.
 #[derive(Drop)]
@@ -95,7 +95,7 @@ fn tell_plan(alloc: Global, text: &mut Vec<u8>, plan: &[u8]) -> Result<(), Refus
 }
 
 /// Explains the text of a plan, in sentences of a line each: whether the plan is accepted, as
-/// [`read_plan`](task_texts::read_plan) judges it, and if not, the fault of the text, or each number that is out of its
+/// [`read_plan`](plan_texts::read_plan) judges it, and if not, the fault of the text, or each number that is out of its
 /// limits; by die the figures of its bound with what is missing, and the least number of blocks and the greatest number
 /// of logical pages that would do; and for a plan with times the load, by task and in sum, with what is to spare or
 /// missing. The only refusal is NoMemory.

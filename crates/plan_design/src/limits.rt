@@ -1,13 +1,13 @@
 //! Numbers that are out of their limits, in sentences.
 
 use crate::subjects::Subject;
+use plan_texts::{TaskNumbers, TopNumbers};
 use slot_types::{
     DiePlan, MAX_BLOCKS, MAX_DIES, MAX_ERASE_SLOTS, MAX_OPS, MAX_PAGES, MAX_SLOT, MAX_TASKS,
     MIN_BLOCKS, MIN_PAGES, TaskTimes, Times,
 };
 use std::io;
 use std::io::Write;
-use task_texts::{TaskNumbers, TopNumbers};
 
 /// Tells a number that isn't from `least` to `most`.
 fn tell_between(

@@ -3,6 +3,7 @@
 use plan_arrivals::{Fault, arrivals};
 use rand_core::utils::NextWord;
 use rand_pcg::Pcg32;
+use report_texts::Report;
 use slot_types::Refusal;
 use std::alloc::Global;
 use std::io;
@@ -11,7 +12,6 @@ use std::sync::Wait;
 use std::test::Fail;
 use std::thread::Threads;
 use task_script::{read_plan, read_report, run_text};
-use task_texts::Report;
 
 /// How many plans are tried.
 const PLANS: u32 = 10;

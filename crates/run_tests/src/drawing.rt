@@ -1,9 +1,9 @@
 //! The pictures of runs: their texts behind the styles.
 
 use crate::texts::{PLAN, SCRIPT};
+use plan_texts::read_plan;
 use std::alloc::Global;
 use std::test::Fail;
-use task_texts::read_plan;
 use watched_runs::draw;
 
 /// The picture of the slots 19 to 25.

@@ -1,10 +1,10 @@
 //! What runs wear: the counts are worked out by hand.
 
 use crate::texts::{HEADER, PLAN, SCRIPT};
+use plan_texts::read_plan;
 use slot_types::MAX_SLOT;
 use std::alloc::Global;
 use std::test::Fail;
-use task_texts::read_plan;
 use watched_runs::{RefusedRows, wear};
 
 /// The last row is refused: it is released before the slot that is present then.

@@ -7,6 +7,9 @@ use crate::loads::Load;
 use crate::texts::{plan_text, script_text};
 use flash_commands::audits::audit_report;
 use late_cert::lateness;
+use plan_texts::read_plan;
+use report_texts::{ReportWork, read_work};
+use script_texts::ScriptReader;
 use slot_types::{OpList, Refusal, StorePlan};
 use std::alloc::Global;
 use std::io;
@@ -15,7 +18,6 @@ use std::sync::Wait;
 use std::thread::Threads;
 use std::time::Clock;
 use task_script::run_text;
-use task_texts::{ReportWork, ScriptReader, read_plan, read_work};
 
 /// What each phase took, in nanoseconds, where the clock could be read.
 #[derive(Clone, Copy, Drop)]

@@ -32,10 +32,10 @@ use Rattle.slot_core.specs.Calls.{RefusedBy}
 use Rattle.slot_core.specs.Core.{with_entry}
 use Rattle.slot_core.specs.Outcomes.{outcome_by, head_of}
 use Rattle.slot_core.specs.declared.outcomes.JobHead.{JobHead}
-use Rattle.task_texts.specs.Arrivals.{Arrives}
-use Rattle.task_texts.specs.declared.items.ScriptItem.{ScriptItem}
-use Rattle.task_texts.specs.ReportText.{report_text}
-use Rattle.task_texts.specs.declared.reports.DieReport.{DieReport}
+use Rattle.script_texts.specs.Arrivals.{Arrives}
+use Rattle.script_texts.specs.declared.script_rows.ScriptItem.{ScriptItem}
+use Rattle.report_texts.specs.ReportText.{report_text}
+use Rattle.report_texts.specs.declared.reports.DieReport.{DieReport}
 use Rattle.task_script.specs.DieReports.{row_as, report_row_of}
 use Rattle.task_script.specs.DieRuns.{Call, Row, Slot, DieRun, Accepts, Ends, IsRun, Runs, end_of, fresh_run}
 use Rattle.task_script.specs.Feeds.{AllArrive, AreFeedsOf, feed_of}

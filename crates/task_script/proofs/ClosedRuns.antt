@@ -22,8 +22,8 @@ use Rattle.die_service.specs.Logs.{Call, log_of, calls_of}
 use Rattle.die_service.specs.Replies.{MayRefuse}
 use Rattle.slot_types.specs.Arrivals.{IsArrival}
 use Rattle.die_service.specs.Runs.{Said, accepted_by}
-use Rattle.task_texts.specs.declared.items.ScriptItem.{ScriptItem}
-use Rattle.task_texts.specs.Arrivals.{Arrives}
+use Rattle.script_texts.specs.declared.script_rows.ScriptItem.{ScriptItem}
+use Rattle.script_texts.specs.Arrivals.{Arrives}
 use Rattle.task_script.specs.DieRuns.{IsRun, Runs, run_at}
 use Rattle.task_script.specs.DieRuns as script
 use Rattle.task_script.specs.RowEnds.{arrivals_of, lines_of, ends_from}

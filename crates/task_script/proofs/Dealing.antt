@@ -10,11 +10,11 @@ use Rattle.std.proofs.lemmas.List.Elements.{All-get_or, All-nil, All-push, All-r
 use Rattle.std.proofs.lemmas.List.Elements.{filter_passes}
 use Rattle.std.proofs.Math.ListN.{set}
 use Rattle.slot_types.specs.declared.refusals.Refusal.{Refusal}
-use Rattle.task_texts.specs.AskedPages.{RowHasPages, RowsHavePages}
-use Rattle.task_texts.specs.Arrivals.{Arrives, IsRowFor}
-use Rattle.task_texts.specs.Readings.{IsOutside}
-use Rattle.task_texts.specs.Script.{Script, Yields, script_of, with_front}
-use Rattle.task_texts.specs.declared.items.ScriptItem.{ScriptItem}
+use Rattle.script_texts.specs.AskedPages.{RowHasPages, RowsHavePages}
+use Rattle.script_texts.specs.Arrivals.{Arrives, IsRowFor}
+use Rattle.text_base.specs.Readings.{IsOutside}
+use Rattle.script_texts.specs.Script.{Script, Yields, script_of, with_front}
+use Rattle.script_texts.specs.declared.script_rows.ScriptItem.{ScriptItem}
 use Rattle.task_script.specs.Feeds.{AllArrive, feed_of, IsDealt, AreFeedsOf, RefusesScript, with_items, IsReadTo, HasDealt}
 
 -- Feeds

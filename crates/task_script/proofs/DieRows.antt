@@ -23,7 +23,7 @@ use Rattle.slot_core.specs.declared.outcomes.Outcome.{Outcome}
 use Rattle.slot_core.specs.Outcomes.{outcome_by, outcome_of, outcome_at, head_of, head_at}
 use Rattle.slot_core.specs.Records.{waiver_among, given, reads_of}
 use Rattle.slot_core.proofs.Worsts.{waiver_stands}
-use Rattle.task_texts.specs.declared.reports.ReportRow.{ReportRow}
+use Rattle.report_texts.specs.declared.reports.ReportRow.{ReportRow}
 use Rattle.task_script.specs.DieReports.{row_as, own_work, rows_behind, report_row_of, report_rows_of}
 
 -- Numbers

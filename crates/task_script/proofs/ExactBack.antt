@@ -1,9 +1,9 @@
 -- The report of exact logs is read back from its text.
 use Rattle.std.proofs.Common.{◌≡◌, ◌≤◌, List, Ok, length}
 use Rattle.slot_types.specs.declared.plans.DiePlan.{DiePlan}
-use Rattle.task_texts.specs.ReportOf.{report_of}
-use Rattle.task_texts.specs.ReportText.{report_text}
-use Rattle.task_texts.proofs.ReportsBack.{report_back}
+use Rattle.report_texts.specs.ReportOf.{report_of}
+use Rattle.report_texts.specs.ReportText.{report_text}
+use Rattle.report_texts.proofs.ReportsBack.{report_back}
 use Rattle.task_script.specs.DieRuns.{DieRun}
 use Rattle.task_script.specs.ExactRuns.{AreExact}
 use Rattle.task_script.specs.TextRuns.{reports_from}

@@ -31,8 +31,8 @@ use Rattle.die_log.proofs.Legal.Exact.{stands_well}
 use Rattle.die_log.proofs.Standing.Longer.{number_at, stands_at}
 use Rattle.die_log.proofs.Tokens.Whole.{all_known}
 use Rattle.slot_core.specs.Records.{reads_of}
-use Rattle.task_texts.specs.AskedPages.{WritesPage}
-use Rattle.task_texts.specs.Pages.{IsPage}
+use Rattle.script_texts.specs.AskedPages.{WritesPage}
+use Rattle.text_base.specs.Pages.{IsPage}
 use Rattle.task_script.specs.LogPages.{EntryHasPages, HasPages}
 
 -- Lists

@@ -21,13 +21,13 @@ use Rattle.die_log.proofs.Limits.{few_work, keeps_limits}
 use Rattle.slot_core.specs.declared.outcomes.JobHead.{JobHead}
 use Rattle.slot_core.specs.Outcomes.{outcome_by}
 use Rattle.slot_core.specs.Records.{given, reads_of, waiver_among}
-use Rattle.task_texts.specs.ReportRows.{has_outcome, is_done as is_done_row, is_late, is_placed, is_sound, is_timed}
-use Rattle.task_texts.specs.WellFormed.{AreDies, AreRows, IsDie, IsReport, IsRow, on_die}
-use Rattle.task_texts.specs.Pages.{IsPage}
-use Rattle.task_texts.specs.declared.report_rows.DieRow.{DieRow}
-use Rattle.task_texts.specs.declared.reports.DieReport.{DieReport}
-use Rattle.task_texts.specs.declared.reports.ReportRow.{ReportRow}
-use Rattle.task_texts.proofs.RowsBack.{HasNumbers}
+use Rattle.report_texts.specs.ReportRows.{has_outcome, is_done as is_done_row, is_late, is_placed, is_sound, is_timed}
+use Rattle.report_texts.specs.WellFormed.{AreDies, AreRows, IsDie, IsReport, IsRow, on_die}
+use Rattle.text_base.specs.Pages.{IsPage}
+use Rattle.report_texts.specs.declared.report_rows.DieRow.{DieRow}
+use Rattle.report_texts.specs.declared.reports.DieReport.{DieReport}
+use Rattle.report_texts.specs.declared.reports.ReportRow.{ReportRow}
+use Rattle.report_texts.proofs.RowsBack.{HasNumbers}
 use Rattle.task_script.specs.LogPages.{HasPages}
 use Rattle.task_script.specs.DieReports.{die_report_of, report_row_of, report_rows_of, row_as}
 use Rattle.task_script.specs.DieRuns.{DieRun}

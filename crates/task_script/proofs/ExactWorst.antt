@@ -31,10 +31,10 @@ use Rattle.slot_core.specs.declared.outcomes.JobHead.{JobHead}
 use Rattle.slot_core.specs.Outcomes.{outcome_by, head_of}
 use Rattle.slot_core.specs.Records.{waiver_among, given, reads_of}
 use Rattle.slot_core.proofs.Worsts.{waiver_stands}
-use Rattle.task_texts.specs.WellFormed.{HasCert, IsCert}
-use Rattle.task_texts.specs.Worst.{finish_of, worse, worst_from, worst_of}
-use Rattle.task_texts.specs.Worst as report
-use Rattle.task_texts.specs.declared.report_certs.Finish.{Finish}
+use Rattle.report_texts.specs.WellFormed.{HasCert, IsCert}
+use Rattle.report_texts.specs.Worst.{finish_of, worse, worst_from, worst_of}
+use Rattle.report_texts.specs.Worst as report
+use Rattle.report_texts.specs.declared.report_certs.Finish.{Finish}
 use Rattle.task_script.specs.DieReports.{report_row_of, report_rows_of, row_as}
 use Rattle.task_script.proofs.ExactNumbers.{completed_by_now, done_worked}
 

@@ -27,7 +27,7 @@ use Rattle.die_service.specs.declared.refused.RefusedAt.{RefusedAt}
 use Rattle.die_service.specs.Runs as feed
 use Rattle.slot_types.specs.Arrivals.{IsArrival}
 use Rattle.die_service.specs.Runs.{Said, said, AreAsked, InClockOrder, noted, place_behind, refused_from, stop_of}
-use Rattle.task_texts.specs.declared.items.ScriptItem.{ScriptItem}
+use Rattle.script_texts.specs.declared.script_rows.ScriptItem.{ScriptItem}
 use Rattle.task_script.specs.declared.run_counts.RowEnd.{RowEnd}
 use Rattle.task_script.specs.DieRuns.{Call, Row, Slot, DieRun, Accepts, Ends, Runs, run_at, end_of, is_due, due_by, later_than, calls_from}
 use Rattle.task_script.specs.RowEnds.{arrival_of, arrivals_of, lines_of, row_end, ends_from}

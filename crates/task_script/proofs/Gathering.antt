@@ -14,10 +14,10 @@ use Rattle.slot_types.specs.declared.refusals.Refusal.TheVariants.{NoMemory}
 use Rattle.slot_core.specs.Core.{Core}
 use Rattle.die_service.specs.declared.ends.DieEnd.{DieEnd}
 use Rattle.die_service.specs.declared.ends.RefusedEvent.{RefusedEvent}
-use Rattle.task_texts.specs.AskedPages.{RowsHavePages}
-use Rattle.task_texts.specs.ReportText.{report_text}
-use Rattle.task_texts.specs.declared.items.ScriptItem.{ScriptItem}
-use Rattle.task_texts.specs.declared.reports.DieReport.{DieReport}
+use Rattle.script_texts.specs.AskedPages.{RowsHavePages}
+use Rattle.report_texts.specs.ReportText.{report_text}
+use Rattle.script_texts.specs.declared.script_rows.ScriptItem.{ScriptItem}
+use Rattle.report_texts.specs.declared.reports.DieReport.{DieReport}
 use Rattle.task_script.specs.DieReports.{die_report_of}
 use Rattle.task_script.specs.DieRuns.{DieRun, IsRun, run_at}
 use Rattle.task_script.specs.Feeds.{AllArrive, AreFeedsOf, feed_of}

@@ -5,10 +5,10 @@ use Rattle.slot_types.specs.declared.plans.DiePlan.{DiePlan}
 use Rattle.slot_types.specs.declared.refusals.Refusal.{Refusal}
 use Rattle.slot_types.specs.declared.refusals.Refusal.TheVariants.{NoMemory, WriteFault}
 use Rattle.plan_rules.specs.Bound.{MeetsBound}
-use Rattle.task_texts.specs.ReportText.{report_text}
-use Rattle.task_texts.specs.Writing.{AppendsPart, IsNotWhole}
-use Rattle.task_texts.specs.declared.items.ScriptItem.{ScriptItem}
-use Rattle.task_texts.specs.declared.reports.DieReport.{DieReport}
+use Rattle.report_texts.specs.ReportText.{report_text}
+use Rattle.text_base.specs.Writing.{AppendsPart, IsNotWhole}
+use Rattle.script_texts.specs.declared.script_rows.ScriptItem.{ScriptItem}
+use Rattle.report_texts.specs.declared.reports.DieReport.{DieReport}
 use Rattle.task_script.specs.Feeds.{AreFeedsOf}
 use Rattle.task_script.specs.PlannedRuns.{RunsSo}
 use Rattle.task_script.specs.TextRuns.{HaveRun}

@@ -4,7 +4,7 @@ use Rattle.std.specs.Prelude.{All}
 use Rattle.std.specs.List.{AllByRecursion}
 use Rattle.std.proofs.lemmas.List.Elements.{recursion_from_All}
 use Rattle.die_service.specs.declared.feeds.Arrival.{Arrival}
-use Rattle.task_texts.specs.declared.items.ScriptItem.{ScriptItem}
+use Rattle.script_texts.specs.declared.script_rows.ScriptItem.{ScriptItem}
 use Rattle.task_script.specs.RowEnds.{arrival_of, arrivals_of, lines_of, rows_of}
 
 pub arrivals_back : (die : ℕ) (lines : List ℕ) (feed : List Arrival) → length lines ≡ length feed → feed

@@ -8,8 +8,8 @@ use Rattle.slot_types.specs.declared.plans.DiePlan.{DiePlan}
 use Rattle.slot_types.specs.declared.events.Event.{Event}
 use Rattle.slot_types.specs.declared.refusals.Refusal.{Refusal}
 use Rattle.die_log.specs.Log.{Log}
-use Rattle.task_texts.specs.AskedPages.{AsksPages, RowHasPages, RowsHavePages}
-use Rattle.task_texts.specs.declared.items.ScriptItem.{ScriptItem}
+use Rattle.script_texts.specs.AskedPages.{AsksPages, RowHasPages, RowsHavePages}
+use Rattle.script_texts.specs.declared.script_rows.ScriptItem.{ScriptItem}
 use Rattle.task_script.specs.LogPages.{EntryHasPages, HasPages}
 use Rattle.task_script.specs.DieRuns.{Call, Row, Slot, DieRun, Ends, IsRun, IsStep, Runs, fresh_run}
 use Rattle.task_script.specs.ExactRuns.{AreExact}

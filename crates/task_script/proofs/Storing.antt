@@ -19,8 +19,8 @@ use Rattle.slot_types.specs.Arrivals.{IsArrival}
 use Rattle.die_service.specs.Runs.{HaveRun}
 use Rattle.die_service.specs.Runs as feed
 use Rattle.die_service.specs.Stores.{DiePass, Fit, IsShaped, IsServed, IsClosed}
-use Rattle.task_texts.specs.declared.items.ScriptItem.{ScriptItem}
-use Rattle.task_texts.specs.Arrivals.{Arrives}
+use Rattle.script_texts.specs.declared.script_rows.ScriptItem.{ScriptItem}
+use Rattle.script_texts.specs.Arrivals.{Arrives}
 use Rattle.task_script.specs.Feeds.{AllArrive}
 use Rattle.task_script.specs.RowEnds.{arrival_of, arrivals_of}
 use Rattle.task_script.specs.StoreRuns.{RanFeeds}

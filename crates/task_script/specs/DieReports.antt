@@ -9,10 +9,10 @@ use Rattle.slot_core.specs.declared.outcomes.JobHead.{JobHead}
 use Rattle.slot_core.specs.declared.outcomes.Outcome.{Outcome}
 use Rattle.slot_core.specs.declared.outcomes.Outcome.TheVariants as outcomes
 use Rattle.slot_core.specs.Outcomes.{outcome_of, head_of}
-use Rattle.task_texts.specs.declared.reports.DieReport.{DieReport}
-use Rattle.task_texts.specs.declared.reports.ReportRow.{ReportRow}
-use Rattle.task_texts.specs.declared.reports.RowKind.{RowKind}
-use Rattle.task_texts.specs.declared.reports.RowKind.TheVariants as kind
+use Rattle.report_texts.specs.declared.reports.DieReport.{DieReport}
+use Rattle.report_texts.specs.declared.reports.ReportRow.{ReportRow}
+use Rattle.report_texts.specs.declared.reports.RowKind.{RowKind}
+use Rattle.report_texts.specs.declared.reports.RowKind.TheVariants as kind
 
 abbrev pub kind_of : Bool → RowKind
 kind_of true = kind.Collect

@@ -9,7 +9,7 @@ use Rattle.die_log.specs.Log.{Log, now}
 use Rattle.die_log.specs.Answers.{answer, IsAccepted, IsExact}
 use Rattle.slot_core.specs.Calls.{RefusedBy}
 use Rattle.slot_core.specs.Core.{with_entry}
-use Rattle.task_texts.specs.declared.items.ScriptItem.{ScriptItem}
+use Rattle.script_texts.specs.declared.script_rows.ScriptItem.{ScriptItem}
 use Rattle.task_script.specs.declared.run_counts.RowEnd.{RowEnd}
 
 -- Calls

@@ -1,11 +1,11 @@
 -- The rows of a script, by die.
 use Rattle.std.specs.Prelude.{◌≡◌, ◌==◌, ◌⊎◌, ⊤, ℕ, ◌<◌, List, [], ◌++◌, All, filter, length, get_or, Option, Some, None, IfSome, Ok, Err}
 use Rattle.slot_types.specs.declared.refusals.Refusal.{Refusal}
-use Rattle.task_texts.specs.Arrivals.{Arrives}
-use Rattle.task_texts.specs.AskedPages.{RowsHavePages}
-use Rattle.task_texts.specs.Readings.{IsOutside}
-use Rattle.task_texts.specs.Script.{Script, script_of}
-use Rattle.task_texts.specs.declared.items.ScriptItem.{ScriptItem}
+use Rattle.script_texts.specs.Arrivals.{Arrives}
+use Rattle.script_texts.specs.AskedPages.{RowsHavePages}
+use Rattle.text_base.specs.Readings.{IsOutside}
+use Rattle.script_texts.specs.Script.{Script, script_of}
+use Rattle.script_texts.specs.declared.script_rows.ScriptItem.{ScriptItem}
 
 -- so do all of these rows: each asks for any event but a slot, by the end of so many slots
 abbrev pub AllArrive : ℕ → List ScriptItem → Type 0

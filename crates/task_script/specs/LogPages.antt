@@ -2,7 +2,7 @@
 use Rattle.std.specs.Prelude.{All}
 use Rattle.slot_types.specs.declared.replies.Entry.{Entry}
 use Rattle.die_log.specs.Log.{Log}
-use Rattle.task_texts.specs.AskedPages.{AsksPages}
+use Rattle.script_texts.specs.AskedPages.{AsksPages}
 
 -- what an entry asks to write are pages
 abbrev pub EntryHasPages : Entry → Type 0

@@ -8,8 +8,8 @@ use Rattle.slot_types.specs.declared.refusals.Refusal.TheVariants.{NoMemory}
 use Rattle.plan_rules.specs.Times.{Passes}
 use Rattle.plan_rules.specs.Keeping.{KeepsPlan}
 use Rattle.die_log.specs.Planned.{IsInTime}
-use Rattle.task_texts.specs.declared.items.ScriptItem.{ScriptItem}
-use Rattle.task_texts.specs.declared.reports.ReportRow.{ReportRow}
+use Rattle.script_texts.specs.declared.script_rows.ScriptItem.{ScriptItem}
+use Rattle.report_texts.specs.declared.reports.ReportRow.{ReportRow}
 use Rattle.task_script.specs.DieReports.{report_rows_of}
 use Rattle.task_script.specs.DieRuns.{Call, Row, Slot, DieRun, calls_of}
 use Rattle.task_script.specs.Feeds.{feed_of}

@@ -7,7 +7,7 @@ use Rattle.die_service.specs.declared.ends.DieEnd.{DieEnd}
 use Rattle.die_service.specs.declared.feeds.Arrival.{Arrival}
 use Rattle.die_service.specs.Runs.{HasRun}
 use Rattle.die_service.specs.Stores.{DiePass, IsClosed}
-use Rattle.task_texts.specs.declared.reports.DieReport.{DieReport}
+use Rattle.report_texts.specs.declared.reports.DieReport.{DieReport}
 use Rattle.task_script.specs.DieReports.{die_report_of}
 use Rattle.task_script.specs.RowEnds.{ends_from}
 use Rattle.task_script.specs.TextRuns.{with_rows}

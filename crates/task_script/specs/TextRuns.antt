@@ -4,10 +4,10 @@ use Rattle.std.specs.Io.KnownBytes.{Appends}
 use Rattle.slot_types.specs.declared.plans.DiePlan.{DiePlan}
 use Rattle.slot_types.specs.declared.refusals.Refusal.{Refusal}
 use Rattle.slot_types.specs.declared.refusals.Refusal.TheVariants.{WriteFault}
-use Rattle.task_texts.specs.AskedPages.{RowsHavePages}
-use Rattle.task_texts.specs.ReportText.{report_text}
-use Rattle.task_texts.specs.declared.items.ScriptItem.{ScriptItem}
-use Rattle.task_texts.specs.declared.reports.DieReport.{DieReport}
+use Rattle.script_texts.specs.AskedPages.{RowsHavePages}
+use Rattle.report_texts.specs.ReportText.{report_text}
+use Rattle.script_texts.specs.declared.script_rows.ScriptItem.{ScriptItem}
+use Rattle.report_texts.specs.declared.reports.DieReport.{DieReport}
 use Rattle.task_script.specs.DieReports.{die_report_of}
 use Rattle.task_script.specs.DieRuns.{DieRun, IsRun}
 use Rattle.task_script.specs.Feeds.{AreItemsOf, RefusesScript, feed_of}

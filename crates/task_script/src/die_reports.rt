@@ -7,10 +7,10 @@ ghost use Rattle.task_script.specs.DieReports.{die_report_of, report_rows_of, ro
 use die_log::exact_keeps_limits;
 use flash_die::Nand;
 use late_cert::JobRow;
+use report_texts::{DieReport, ReportRow, ReportRows, RowKind};
 use slot_core::{DieCore, JobHead, Outcome};
 use slot_types::{JobNo, MAX_JOBS, Reads, Refusal};
 use std::alloc::Global;
-use task_texts::{DieReport, ReportRow, ReportRows, RowKind};
 
 /// What a row is about that wasn't waived.
 fn kind_of(collects: bool) -> RowKind

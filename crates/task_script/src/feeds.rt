@@ -4,10 +4,10 @@ ghost use Rattle.std.specs.Prelude.{◌≡◌, [], length, replicate, IfOk, IfEr
 ghost use Rattle.task_script.specs.Feeds.{AreFeedsOf, RefusesScript};
 
 use crate::rows::DieRows;
+use script_texts::ScriptReader;
 use slot_types::{OpList, Refusal, StorePlan};
 use std::alloc::Global;
 use std::io::Read;
-use task_texts::ScriptReader;
 
 /// By die no row.
 fn no_feeds(alloc: Global, dies: usize) -> Result<Vec<DieRows>, Refusal>

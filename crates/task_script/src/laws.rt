@@ -3,10 +3,10 @@
 ghost use Rattle.std.specs.Prelude.{◌≡◌, ◌≤◌, ℕ, List, Option, All, Ok, length};
 ghost use Rattle.plan_rules.specs.Bound.{MeetsBound};
 ghost use Rattle.slot_types.specs.declared.plans.DiePlan.{DiePlan};
-ghost use Rattle.task_texts.specs.ReportOf.{report_of};
-ghost use Rattle.task_texts.specs.ReportText.{report_text};
-ghost use Rattle.task_texts.specs.WellFormed.{IsReport};
-ghost use Rattle.task_texts.specs.declared.items.ScriptItem.{ScriptItem};
+ghost use Rattle.report_texts.specs.ReportOf.{report_of};
+ghost use Rattle.report_texts.specs.ReportText.{report_text};
+ghost use Rattle.report_texts.specs.WellFormed.{IsReport};
+ghost use Rattle.script_texts.specs.declared.script_rows.ScriptItem.{ScriptItem};
 ghost use Rattle.task_script.specs.DieRuns.{DieRun, IsRun};
 ghost use Rattle.task_script.specs.ExactRuns.{AreExact};
 ghost use Rattle.task_script.specs.Feeds.{AllArrive};

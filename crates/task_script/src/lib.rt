@@ -1,4 +1,5 @@
-//! Scripts that are run on a store, and their reports. Their texts are those of `task_texts`.
+//! Scripts that are run on a store, and their reports. Their texts are those of `plan_texts`, `script_texts` and
+//! `report_texts`.
 #![tactic(auto)]
 
 mod die_reports;
@@ -11,9 +12,11 @@ mod text_runs;
 
 pub use die_reports::die_report;
 pub use laws::{exact_reports_come_back, planned_runs_go_as_planned, run_reports_come_back};
-pub use run_counts::RunCount;
-pub use task_texts::{
-    DieReport, Report, ReportRow, ReportRows, RowKind, ScriptItem, ScriptReader, number, read_plan,
-    read_report, reports_come_back, write_report,
+pub use plan_texts::read_plan;
+pub use report_texts::{
+    DieReport, Report, ReportRow, ReportRows, RowKind, read_report, reports_come_back, write_report,
 };
+pub use run_counts::RunCount;
+pub use script_texts::{ScriptItem, ScriptReader};
+pub use text_base::number;
 pub use text_runs::run_text;

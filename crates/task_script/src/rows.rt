@@ -2,13 +2,13 @@
 
 ghost use Rattle.std.specs.Prelude.{◌≡◌, ◌∷◌, ◌++◌, [], All, IfErr, OnErr, OnOk};
 ghost use Rattle.task_script.specs.RowEnds.{arrivals_of, lines_of};
-ghost use Rattle.task_texts.specs.Heads.{asked_by, row_of};
+ghost use Rattle.script_texts.specs.Heads.{asked_by, row_of};
 
 use die_service::Feed;
+use script_texts::RowHead;
 use slot_types::{Items, Op, Refusal};
 use std::alloc::Global;
 use std::marker::Model;
-use task_texts::RowHead;
 
 /// The lines of rows, in their order.
 pub type Lines = Items<u32>;
@@ -24,7 +24,7 @@ pub struct DieRows {
 
 impl Model for DieRows {
     ghost use Rattle.std.specs.Prelude.{◌≡◌, List, length};
-    ghost use Rattle.task_texts.specs.declared.items.ScriptItem.{ScriptItem};
+    ghost use Rattle.script_texts.specs.declared.script_rows.ScriptItem.{ScriptItem};
     ghost use Rattle.task_script.specs.RowEnds.{rows_of};
 
     ghost Value = { List ScriptItem };

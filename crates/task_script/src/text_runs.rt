@@ -9,7 +9,7 @@ ghost use Rattle.task_script.specs.RowEnds.{ends_from, taken_at};
 ghost use Rattle.task_script.specs.RunCounts.{count_of, counted_behind};
 ghost use Rattle.task_script.specs.StoreRuns.{all_ends, reports_of};
 ghost use Rattle.task_script.specs.TextRuns.{HaveRun, RefusesText, RunsText, with_rows};
-ghost use Rattle.task_texts.specs.Writing.{IsNotWhole};
+ghost use Rattle.text_base.specs.Writing.{IsNotWhole};
 
 use crate::die_reports::die_report;
 use crate::die_runs::{run_store, split_all};
@@ -18,13 +18,13 @@ use crate::rows::{DieRows, Lines};
 use crate::run_counts::{RowEnd, RunCount};
 use die_service::{DieEnd, RefusedEvent};
 use flash_die::MemoryNand;
+use report_texts::{DieReport, Report, write_report};
 use slot_core::DieCore;
 use slot_types::{DiePlan, MAX_SLOT, Refusal, StorePlan};
 use std::alloc::Global;
 use std::io::{Read, Write};
 use std::sync::Wait;
 use std::thread::Threads;
-use task_texts::{DieReport, Report, write_report};
 
 /// Dies that carried out their slots: their report, and how many of their rows were accepted and refused.
 #[derive(Drop)]

@@ -1,4 +1,4 @@
-//! What fields say, read without `task_texts`.
+//! What fields say, read without the crates of texts.
 
 use slot_types::PageData;
 use std::alloc::{AllocError, Global};

@@ -1,9 +1,9 @@
 //! Reads plans, scripts and reports that are changed by chance, and compares each answer with what the rules of texts
-//! say, read a second time without `task_texts`. It stops at the first text that is answered otherwise.
+//! say, read a second time without the crates of texts. It stops at the first text that is answered otherwise.
 //!
 //! `text_fuzz COUNT SEED`: so many texts, the same for the same seed.
 //!
-//! The second reading has no contracts: were it tied to the definitions that `task_texts` is proved against, it would
+//! The second reading has no contracts: were it tied to the definitions that those are proved against, it would
 //! be the first one again, and could no longer show a definition that is wrong. A fault of its own shows as a text that
 //! is answered otherwise. So the only wrong body is of the numbers by chance.
 #![tactic(auto)]
@@ -20,14 +20,13 @@ mod script_texts;
 
 use chance::Chance;
 use mutants::mutant;
-use plan_texts::Checked;
+use plan_texts::{Checked, read_plan};
 use slot_types::{Refusal, StorePlan};
 use std::alloc::Global;
 use std::env::Env;
 use std::io::Write;
 use std::process::ExitCode;
 use std::{env, io};
-use task_texts::read_plan;
 
 /// Of which kind a text is.
 #[derive(Clone, Copy, PartialEq, Eq, Debug, Drop)]

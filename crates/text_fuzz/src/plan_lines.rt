@@ -1,8 +1,8 @@
 //! Plans of plain lines: `key = number`, `[[task]]` and blank ones. They are judged without the crate `toml`.
 
+use plan_texts::{TaskNumbers, TopNumbers};
 use slot_types::{Cause, TaskTimes};
 use std::alloc::{AllocError, Global};
-use task_texts::{TaskNumbers, TopNumbers};
 
 /// A table: its keys, each with its number.
 type Pairs<'a> = Vec<(&'a [u8], u64)>;

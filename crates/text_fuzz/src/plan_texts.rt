@@ -1,10 +1,10 @@
-//! Plans: what the rules of a plan say of its numbers, beside what `task_texts` reads.
+//! Plans: what the rules of a plan say of its numbers, beside what the crate `plan_texts` reads.
 
 use crate::plan_lines::judged;
+use plan_texts::{PlanNumbers, TaskNumbers, TopNumbers, plan_numbers, read_plan};
 use slot_types::{Caps, DiePlan, Items, Refusal, Shape, StorePlan, TaskTimes, Times, TimesList};
 use std::alloc::{AllocError, Global};
 use std::io::Write;
-use task_texts::{PlanNumbers, TaskNumbers, TopNumbers, plan_numbers, read_plan};
 
 fn is_within(number: u32, least: u32, most: u32) -> bool {
     least <= number && number <= most

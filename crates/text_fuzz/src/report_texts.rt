@@ -1,11 +1,11 @@
-//! Reports: what the rules of a report say of a text, beside what `task_texts` reads.
+//! Reports: what the rules of a report say of a text, beside what the crate `report_texts` reads.
 
 use crate::fields::{are_named, field, lateness, number, number_if, page, words};
 use crate::records::{Fields, records};
 use late_cert::{Certificate, JobList};
+use report_texts::{DieReport, Report, ReportRow, ReportRows, RowKind, read_report, write_report};
 use slot_types::{JobNo, Reads, Refusal, TaskNo};
 use std::alloc::{AllocError, Global};
-use task_texts::{DieReport, Report, ReportRow, ReportRows, RowKind, read_report, write_report};
 
 const HEADER: &str = "row,die,job,task,release,due,work,completion,lateness,given,items";
 
@@ -248,7 +248,7 @@ pub fn judged(alloc: Global, text: &[u8]) -> Result<ReportAnswer, AllocError> {
     Ok(Ok(Report::from_vec(dies)))
 }
 
-/// What `task_texts` reads.
+/// What the crate `report_texts` reads.
 pub fn read(alloc: Global, text: &[u8]) -> Result<ReportAnswer, Refusal> {
     match read_report(alloc, text) {
         Ok(report) => Ok(Ok(report)),

@@ -1,10 +1,10 @@
-//! Scripts: what the rules of a script say of a text, beside what `task_texts` reads.
+//! Scripts: what the rules of a script say of a text, beside what the crate `script_texts` reads.
 
 use crate::fields::{are_named, field, number, page, words};
 use crate::records::{Fields, records};
+use script_texts::{ScriptItem, ScriptReader};
 use slot_types::{Cause, Event, Items, Op, OpList, Refusal, StorePlan, TaskNo};
 use std::alloc::{AllocError, Global};
-use task_texts::{ScriptItem, ScriptReader};
 
 /// What reading a script gives: its items up to the first fault, and that.
 #[derive(PartialEq, Eq, Debug, Drop)]

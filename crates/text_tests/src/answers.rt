@@ -1,12 +1,12 @@
 //! What reading a text answers, as `Debug` prints it.
 
+use report_texts::read_work;
 use slot_types::{Items, Refusal, StorePlan};
 use std::alloc::Global;
 use std::io::Read;
 use std::process::Abort;
 use std::test::Fail;
 use task_script::{Report, ScriptItem, ScriptReader, read_plan, read_report};
-use task_texts::read_work;
 
 /// A plan of one die: eight blocks of four pages, one task that may own four pages.
 pub const PLAN: &str = "version = 1

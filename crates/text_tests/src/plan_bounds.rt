@@ -2,11 +2,11 @@
 
 use crate::answers::PLAN;
 use crate::bounds::{Counting, Ended, KINDS};
+use plan_texts::read_plan_from;
 use slot_types::{Cause, Refusal};
 use std::alloc::Global;
 use std::io::ErrorKind;
 use std::process::Abort;
-use task_texts::read_plan_from;
 
 /// The most bytes of a plan.
 const MAX_BYTES: usize = 1_048_576;

@@ -1,9 +1,9 @@
 use crate::answers::{REPORT, TWO_REPORT, Text, check_cases};
+use report_texts::{DieWork, read_work};
 use std::alloc::Global;
 use std::process::Abort;
 use std::test::Fail;
 use task_script::{DieReport, Report, RowKind, read_report, write_report};
-use task_texts::{DieWork, read_work};
 
 /// The header of reports.
 const HEADER: &str = "row,die,job,task,release,due,work,completion,lateness,given,items\n";

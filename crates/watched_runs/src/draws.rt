@@ -7,11 +7,11 @@ use crate::die_runs::{DieRun, whose};
 use crate::script_runs::{Told, run_rows};
 use die_pictures::{End, Row, Scene, Window, Worst, picture};
 use flash_die::MemoryNand;
+use script_texts::ScriptReader;
 use slot_core::{DieCore, Outcome};
 use slot_types::{JobNo, MAX_JOBS, MAX_SLOT, Refusal, StorePlan};
 use std::alloc::Global;
 use std::io::Read;
-use task_texts::ScriptReader;
 
 /// What became of a job. The only refusal is NoMemory.
 fn end_of(alloc: Global, core: &DieCore<MemoryNand>, job: JobNo) -> Result<End, Refusal>

@@ -7,10 +7,10 @@ use crate::die_runs::DieRun;
 use crate::refused::RefusedRows;
 use die_pictures::Window;
 use die_wear::{Tally, wear_text};
+use script_texts::ScriptReader;
 use slot_types::{MAX_SLOT, Refusal, StorePlan};
 use std::alloc::Global;
 use std::io::Read;
-use task_texts::ScriptReader;
 
 /// What is told of a run, as a text, and which rows were refused.
 #[derive(Drop)]

@@ -2,7 +2,7 @@ use Rattle.std.proofs.Common.{◌≡◌, Bool, refl, inr, ap, subst, ◌∙◌}
 use Rattle.std.specs.Prelude.{flat_map, if◌then◌else◌}
 use Rattle.std.specs.List.{list_any}
 use Rattle.std.specs.Io.KnownBytes.{Appends}
-use Rattle.task_texts.proofs.WritingLaws.{on-error}
+use Rattle.text_base.proofs.WritingLaws.{on-error}
 use Rattle.flash_commands.specs.Audit.{audit_status, audit_text, is_refused_work, work_line}
 use Rattle.flash_commands.proofs.Told.{refused-works, text-works, told-report}
 use Rattle.flash_commands.proofs.acts.print_audit.Goals as goal

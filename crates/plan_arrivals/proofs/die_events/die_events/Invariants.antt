@@ -1,7 +1,7 @@
 use Rattle.std.proofs.Common.{◌≡◌, ◌≤◌, length}
 use Rattle.std.specs.Prelude.{option_map}
-use Rattle.task_texts.specs.Left.{dies_of, script_left, slots_of}
-use Rattle.task_texts.specs.Script.{script_of}
+use Rattle.script_texts.specs.Left.{dies_of, script_left, slots_of}
+use Rattle.script_texts.specs.Script.{script_of}
 use Rattle.plan_arrivals.proofs.Reading.{HasCome}
 use Rattle.plan_arrivals.proofs.die_events.die_events.Given as goal
 

@@ -1,5 +1,5 @@
 use Rattle.std.proofs.Common.{◌∙◌, refl}
-use Rattle.task_texts.specs.Heads.{row_of}
+use Rattle.script_texts.specs.Heads.{row_of}
 use Rattle.task_script.proofs.Dealing.{dealt_own, deals_none, deals_more, deals_all, deals_fault}
 use Rattle.task_script.proofs.feeds.read_feeds.Goals as goal
 

@@ -1,7 +1,7 @@
 use Rattle.std.proofs.Common.{◌≡◌, length}
 use Rattle.std.specs.Prelude.{option_map}
-use Rattle.task_texts.specs.Left.{dies_of, script_left, slots_of}
-use Rattle.task_texts.specs.Script.{script_of}
+use Rattle.script_texts.specs.Left.{dies_of, script_left, slots_of}
+use Rattle.script_texts.specs.Script.{script_of}
 use Rattle.task_script.specs.Feeds.{HasDealt}
 use Rattle.task_script.proofs.feeds.read_feeds.Given as goal
 

@@ -1,6 +1,6 @@
 use Rattle.std.proofs.Common.{◌≡◌, ◌∷◌, ◌++◌, [], All, List, sym, ap, ◌∙◌, subst}
-use Rattle.task_texts.specs.Heads.{row_of}
-use Rattle.task_texts.specs.declared.items.ScriptItem.{ScriptItem}
+use Rattle.script_texts.specs.Heads.{row_of}
+use Rattle.script_texts.specs.declared.script_rows.ScriptItem.{ScriptItem}
 use Rattle.task_script.proofs.KeptRows.{rows_more}
 use Rattle.task_script.proofs.rows.DieRows.add.Goals as goal
 

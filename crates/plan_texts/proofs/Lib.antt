@@ -1,0 +1,4 @@
+pub mod TableLaws
+pub mod PlanLaws
+pub mod PlanFronts
+pub mod StoreLaws

@@ -1,0 +1,4 @@
+pub mod Tables
+pub mod PlanText
+pub mod Stores
+pub mod PlanReading

@@ -1,0 +1,15 @@
+pub mod PlainFields
+pub mod Written
+pub mod PlainRecords
+pub mod LineLaws
+pub mod RecordLaws
+pub mod ProgressLaws
+pub mod ReadingLaws
+pub mod NumberLaws
+pub mod FieldsBack
+pub mod RecordsBack
+pub mod RowsBack
+pub mod CertsBack
+pub mod ReportsBack
+pub mod WorkLaws
+pub mod WorkTold

@@ -1,0 +1,14 @@
+use Rattle.report_texts.specs.ReportText.{kind_word, pages_field, row_start}
+use Rattle.report_texts.proofs.PlainFields.{field-made, record-made}
+use Rattle.report_texts.proofs.PlainRecords.{row-fields-plain}
+use Rattle.report_texts.proofs.report_writing.put_row.Goals as goal
+
+pub returns : goal.returns
+returns c =
+    let old = c.args.text.now.items in
+    let row = c.args.row.now in
+    let kind = kind_word row.row in
+    let fields = field-made old kind (row_start c.args.die row) (pages_field row.reads) _ _ _ c.in_ok-put_row_start.ensures
+    c.in_ok-push.ensures.items
+    (rw c.as_slice.ensures at c.in_ok-put_pages.ensures) in
+    record-made old kind _ _ _ _ (row-fields-plain c.args.die row) fields c.in_ok-push-2.ensures.items

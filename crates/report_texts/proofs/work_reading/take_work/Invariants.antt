@@ -1,0 +1,20 @@
+use Rattle.std.proofs.Common.{◌≤◌, ◌-◌}
+use Rattle.std.specs.Prelude.{option_map}
+use Rattle.report_texts.specs.GatheredWork.{work_progress}
+use Rattle.report_texts.specs.RecordsLeft.{IsReady, Stays, record_line, records_fit, records_left}
+use Rattle.report_texts.specs.ReportOf.{no_rows, rows_from}
+use Rattle.report_texts.proofs.WorkLaws.{IsWorkRead}
+use Rattle.report_texts.proofs.work_reading.take_work.Given as goal
+
+abbrev pub decreases-loop-fields : goal.decreases-loop-fields
+decreases-loop-fields g l = 524288 - work_progress l.work
+
+abbrev pub invariant-loop-fields : goal.invariant-loop-fields
+invariant-loop-fields g l = record {
+  ready : IsReady l.records;
+  fits : Stays (records_fit g.R.Read.remaining l.initial.records) (records_fit g.R.Read.remaining l.records);
+  few : l.work.rows ≤ 65536;
+  read : IsWorkRead l.work
+      (option_map (rows_from no_rows (record_line l.initial.records)) (records_left g.R.Read.remaining l.initial.records))
+      (record_line l.records) (records_left g.R.Read.remaining l.records);
+}

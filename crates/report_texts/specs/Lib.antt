@@ -1,0 +1,15 @@
+pub mod JobRows
+pub mod ReportText
+pub mod Commas
+pub mod Lines
+pub mod ReportHeader
+pub mod ReportRows
+pub mod RowNumbers
+pub mod Worst
+pub mod RecordsLeft
+pub mod ReportOf
+pub mod Progress
+pub mod Numbered
+pub mod ReportWork
+pub mod GatheredWork
+pub mod WellFormed

@@ -1,0 +1,48 @@
+-- A row of a report in two parts: its numbers, and what its reads gave.
+use Rattle.std.specs.Prelude.{ℕ, ◌==◌, ◌&&◌, nat_lt, Bool, List, Option, Some, if◌then◌else◌}
+use Rattle.slot_types.specs.declared.pages.PageData.{PageData}
+use Rattle.report_texts.specs.ReportRows.{◌>>=◌}
+use Rattle.report_texts.specs.declared.report_rows.DieRow.{DieRow}
+use Rattle.report_texts.specs.declared.reports.ReportRow.{ReportRow}
+use Rattle.report_texts.specs.declared.row_numbers.RowNumbers.{RowNumbers}
+
+abbrev pub row_with : RowNumbers → List PageData → ReportRow
+row_with n reads = record {
+  row = n.row;
+  job = n.job;
+  task = n.task;
+  release = n.release;
+  due = n.due;
+  work = n.work;
+  completion = n.completion;
+  lateness = n.lateness;
+  given = n.given;
+  reads = reads;
+}
+
+-- the row of these numbers and reads, and its die
+abbrev pub die_row : RowNumbers → List PageData → DieRow
+die_row n reads = record { die = n.die; row = row_with n reads }
+
+-- so it is, where both are known
+abbrev pub with_reads : Option RowNumbers → Option (List PageData) → Option DieRow
+with_reads numbers known = numbers >>= (λ n. known >>= (λ reads. Some (die_row n reads)))
+
+-- the numbers of a row
+abbrev pub numbers_of : DieRow → RowNumbers
+numbers_of x = record {
+  die = x.die;
+  row = x.row.row;
+  job = x.row.job;
+  task = x.row.task;
+  release = x.row.release;
+  due = x.row.due;
+  work = x.row.work;
+  completion = x.row.completion;
+  lateness = x.row.lateness;
+  given = x.row.given;
+}
+
+-- whether a row may come next where the last die has so many rows: the next number of that die, or number 0 of a later one
+abbrev pub comes_next : ℕ → ℕ → RowNumbers → Bool
+comes_next die rows n = if n.die == die then n.job == rows else nat_lt die n.die && (n.job == 0)

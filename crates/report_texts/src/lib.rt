@@ -1,0 +1,24 @@
+//! Reports as texts: their readers and their writer.
+#![tactic(auto)]
+
+mod gathered;
+mod gathered_work;
+mod laws;
+mod lines;
+mod report_certs;
+mod report_reading;
+mod report_records;
+mod report_rows;
+mod report_work;
+mod report_writing;
+mod reports;
+mod row_numbers;
+mod work_reading;
+
+pub use laws::reports_come_back;
+pub use report_certs::Finish;
+pub use report_reading::read_report;
+pub use report_work::{DieWork, ReportWork};
+pub use report_writing::write_report;
+pub use reports::{DieReport, Report, ReportRow, ReportRows, RowKind};
+pub use work_reading::read_work;

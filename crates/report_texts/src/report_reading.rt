@@ -1,0 +1,161 @@
+//! Reports read from texts.
+
+ghost use Rattle.std.specs.Prelude.{◌≡◌, ◌≤◌, ℕ, List, true, IfOk, IfSome, OnOk, length, option_map};
+ghost use Rattle.csv.specs.Records.{fields_of};
+ghost use Rattle.report_texts.specs.Numbered.{AreNumbered};
+ghost use Rattle.report_texts.specs.ReportHeader.{is_report_header};
+ghost use Rattle.report_texts.specs.ReportOf.{Reading, Reads, Tells, certs_for, certs_from, no_rows, report_from, report_of, rows_from};
+ghost use Rattle.report_texts.specs.ReportOf.{with_die};
+ghost use Rattle.report_texts.specs.RecordsLeft.{IsReady, Stays, record_line, records_fit, records_left};
+ghost use Rattle.text_base.specs.CsvRecords.{Fields};
+ghost use Rattle.report_texts.specs.Worst.{worst_of};
+
+use crate::gathered::{dies_in, gather, no_rows};
+use crate::report_certs::{cert, worst};
+use crate::report_records::{Records, records_in};
+use crate::reports::{DieReport, Report};
+use csv::ByteRecord;
+use slot_types::{Items, Refusal};
+use std::alloc::Global;
+use std::io::Read;
+use text_base::is_named;
+
+/// Whether a record is the header of a report.
+fn heads_report(row: &ByteRecord) -> bool
+    ensures { result ≡ is_report_header (fields_of row.now) }
+{
+    row.len() == 11
+        && is_named(row, 0, "row")
+        && is_named(row, 1, "die")
+        && is_named(row, 2, "job")
+        && is_named(row, 3, "task")
+        && is_named(row, 4, "release")
+        && is_named(row, 5, "due")
+        && is_named(row, 6, "work")
+        && is_named(row, 7, "completion")
+        && is_named(row, 8, "lateness")
+        && is_named(row, 9, "given")
+        && is_named(row, 10, "items")
+}
+
+/// Takes the header.
+pub fn take_header<R: Read>(records: &mut Records<R>) -> Result<(), Refusal>
+    requires ready { IsReady records.old }
+    requires first { record_line records.old ≡ 1 }
+    ensures read { Reads report_from (λ _. rows_from no_rows (record_line records.new)) (records_left R.remaining records.old)
+        (records_left R.remaining records.new) result }
+    ensures fits { OnOk result (Stays (records_fit R.remaining records.old) (records_fit R.remaining records.new)) }
+    ensures ready { OnOk result (IsReady records.new) }
+{
+    let Some(fields) = records.get() else {
+        return Err(Refusal::ReportText { line: 1 });
+    };
+    if !heads_report(fields) {
+        return Err(Refusal::ReportText { line: 1 });
+    }
+    records.advance()
+}
+
+/// Takes the rows of all dies.
+fn take_rows<R: Read>(alloc: Global, records: &mut Records<R>) -> Result<Items<DieReport>, Refusal>
+    requires { IsReady records.old }
+    ensures read { Reads (rows_from no_rows (record_line records.old)) (λ dies. certs_from dies (record_line records.new))
+        (records_left R.remaining records.old) (records_left R.remaining records.new) result }
+    ensures fits { OnOk result (Stays (records_fit R.remaining records.old) (records_fit R.remaining records.new)) }
+    ensures ready { OnOk result (IsReady records.new) }
+    ensures numbered { IfOk result AreNumbered }
+{
+    let mut gathered = no_rows(alloc);
+    while let Some(fields) = records.get_row() {
+        if !gather(alloc, &mut gathered, fields)? {
+            return Err(Refusal::ReportText {
+                line: records.line(),
+            });
+        }
+        match records.advance() {
+            Ok(()) => {}
+            Err(refusal) => return Err(refusal),
+        }
+    }
+    let dies = dies_in(gathered)?;
+    Ok(dies)
+}
+
+/// Takes the certificate of a die that has a done row.
+fn take_cert<R: Read>(
+    alloc: Global,
+    records: &mut Records<R>,
+    die: &mut DieReport,
+) -> Result<(), Refusal>
+    requires { IsReady records.old }
+    ensures read { (more : ℕ → List Fields → Reading) → Reads (certs_for die.old more (worst_of die.old.rows) (record_line records.old))
+        (λ _ rest. with_die die.new (more (record_line records.new) rest)) (records_left R.remaining records.old)
+        (records_left R.remaining records.new) result }
+    ensures fits { OnOk result (Stays (records_fit R.remaining records.old) (records_fit R.remaining records.new)) }
+    ensures ready { OnOk result (IsReady records.new) }
+    ensures rows { OnOk result (die.new.rows ≡ die.old.rows) }
+{
+    let Some(worst) = worst(die.rows.as_slice()) else {
+        return Ok(());
+    };
+    let line = records.line();
+    let Some(fields) = records.get() else {
+        return Err(Refusal::ReportText { line });
+    };
+    let Some(cert) = cert(alloc, fields, die.die, &worst)? else {
+        return Err(Refusal::ReportText { line });
+    };
+    die.cert = Some(cert);
+    records.advance()
+}
+
+/// Takes the certificates of all dies, behind which no record may stand.
+fn take_certs<R: Read>(
+    alloc: Global,
+    records: &mut Records<R>,
+    dies: Items<DieReport>,
+) -> Result<Report, Refusal>
+    requires ready { IsReady records.old }
+    requires numbered { AreNumbered dies }
+    ensures report { Tells (option_map (certs_from dies (record_line records.old)) (records_left R.remaining records.old)) result }
+    ensures fits { OnOk result (IfSome (records_fit R.remaining records.old) (λ fits. fits ≡ true)) }
+    ensures numbered { IfOk result AreNumbered }
+{
+    let mut dies = dies.into_vec();
+    for i in 0..dies.len() {
+        match take_cert(alloc, records, &mut dies[i]) {
+            Ok(()) => {}
+            Err(refusal) => return Err(refusal),
+        }
+    }
+    if records.has_one() {
+        return Err(Refusal::ReportText {
+            line: records.line(),
+        });
+    }
+    Ok(Items::from_vec(dies))
+}
+
+/// Reads a report, csv as `ScriptReader` reads it, within the same bound.
+///
+/// Record 1 is the header, and each record has 11 fields. The rows of jobs and collections stand in rising order of
+/// die, from 0 to 7, and on each die their numbers are 0, 1, 2, .. up to at most 65,535; tasks are from 0 to 15. A due
+/// is above its release and at most 1,048,576. A done row has a completion of at most 1,048,576, a lateness that is
+/// its completion less its due, and at least one slot of work; a job's has what its reads gave, at most 64 pages, a
+/// collection's what it gave its task. A waiting row has none of these, and a row of a waived collection only what it
+/// gave, and no work. Behind all rows each die that has a done one has a certificate, by die, with the number, due,
+/// completion and lateness of its worst job; its start and the jobs that it lists may be anything of the right shape.
+///
+/// ReportText has the number of the first record that breaks this, or that a missing one would have had. ReadFault
+/// comes where the reader fails or goes on beyond its bound; the records before it are judged first. NoMemory comes
+/// where memory is refused.
+pub fn read_report<R: Read + Drop>(alloc: Global, reader: R) -> Result<Report, Refusal>
+    ensures report { Tells (option_map report_of (R.remaining reader)) result }
+    ensures bound { OnOk result (IfSome (R.remaining reader) (λ text. length text ≤ 67108864)) }
+    ensures numbered { IfOk result AreNumbered }
+{
+    let mut records = records_in(alloc, reader)?;
+    take_header(&mut records)?;
+    let dies = take_rows(alloc, &mut records)?;
+    take_certs(alloc, &mut records, dies)
+}

@@ -1,0 +1,12 @@
+-- What the rows of a script ask.
+use Rattle.std.specs.Prelude.{ℕ, ◌<◌, ◌≤◌}
+use Rattle.slot_types.specs.Arrivals.{IsArrival}
+use Rattle.script_texts.specs.declared.script_rows.ScriptItem.{ScriptItem}
+
+-- what a row asks: any event but a slot, by the end of so many slots
+abbrev pub Arrives : ℕ → ScriptItem → Type 0
+Arrives slots item = (item.at ≤ slots) × IsArrival item.event
+
+-- a row for one of so many dies
+abbrev pub IsRowFor : ℕ → ℕ → ScriptItem → Type 0
+IsRowFor dies slots item = (item.die < dies) × Arrives slots item

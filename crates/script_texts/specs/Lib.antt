@@ -1,0 +1,7 @@
+pub mod ScriptHeader
+pub mod ScriptRows
+pub mod Heads
+pub mod Script
+pub mod Left
+pub mod AskedPages
+pub mod Arrivals

@@ -1,0 +1,9 @@
+//! Scripts as texts: their reader.
+#![tactic(auto)]
+
+mod script_rows;
+mod scripts;
+mod steps;
+
+pub use script_rows::{RowHead, ScriptItem};
+pub use scripts::ScriptReader;

@@ -1,0 +1,144 @@
+//! Scripts, row by row.
+
+ghost use Rattle.std.specs.Prelude.{◌≡◌, ◌<◌, ◌≤◌, IfOk, IfErr, IfSome, None, length, option_map};
+ghost use Rattle.text_base.specs.Plain.{IsPlain};
+
+use crate::script_rows::{RowHead, ScriptItem};
+use crate::steps::read_step;
+use csv::{ByteRecord, Reader};
+use slot_types::{OpList, Refusal, StorePlan};
+use std::alloc::Global;
+use std::io::Read;
+use text_base::{Bounded, rows_in};
+
+/// Reads a script, row by row, in the memory of its longest row.
+///
+/// A script is csv, read with the defaults of the crate `csv` and without trimming: empty lines are no records,
+/// fields may be quoted, a record ends with a line feed, a carriage return or both, and a byte order mark at the start
+/// is passed over. Record 1 is the header `at,die,task,kind,release,due,ops`. Each later record has these seven
+/// fields: numbers of 1 to 10 digits, of at most 4,294,967,295; the kind `job` or `collect`; and for a job its
+/// operations with one space between two, `R` and a page, or `W`, a page, `=` and 32 hexadecimal digits. The `at` of a
+/// die's rows never falls and is at most the number of slots.
+///
+/// No more of the text is read than 67,108,864 bytes, in at most 67,108,865 calls of the reader.
+#[derive(Drop)]
+pub struct ScriptReader<R> {
+    alloc: Global,
+    rows: Reader<Bounded<R>>,
+    row: ByteRecord,
+    /// By die the `at` of its last row.
+    lasts: Vec<u32>,
+    slots: u32,
+    line: u32,
+    ended: bool,
+    refused: Option<Refusal>,
+    ghost plain: { refused ≡ None → IsPlain rows },
+    ghost counted: { 0 < line },
+    ghost bounded: { line ≤ 1000002 },
+}
+
+impl<R: Read> ScriptReader<R> {
+    ghost use Rattle.script_texts.specs.Script.{EndsFit, Yields, script_of};
+    ghost use Rattle.script_texts.specs.AskedPages.{RowHasPages};
+    ghost use Rattle.script_texts.specs.Arrivals.{IsRowFor};
+    ghost use Rattle.script_texts.specs.Heads.{HasOwnOps, row_of, row_read};
+    ghost use Rattle.script_texts.specs.Left.{Recalls, dies_of, script_fits, script_left, slots_of};
+    ghost use Rattle.text_base.specs.Marked.{is_within};
+
+    /// A reader of a script for the dies of a store and so many slots. The only refusal is NoMemory.
+    pub fn new(
+        alloc: Global,
+        reader: R,
+        plan: &StorePlan,
+        slots: u32,
+    ) -> Result<ScriptReader<R>, Refusal>
+    where
+        R: Drop,
+        ensures dies { IfOk result (λ script. dies_of script ≡ length plan.now) }
+        ensures slots { IfOk result (λ script. slots_of script ≡ slots) }
+        ensures script { IfOk result (λ script. script_left R.remaining script
+            ≡ option_map (script_of (length plan.now) slots) (R.remaining reader)) }
+        ensures bound { IfOk result (λ script. script_fits R.remaining script ≡ option_map (is_within 67108864) (R.remaining reader)) }
+        ensures refused { IfErr result (λ refusal. refusal ≡ Refusal.NoMemory) }
+    {
+        let lasts = vec![in alloc; 0u32; plan.len()]?;
+        Ok(ScriptReader {
+            alloc,
+            rows: rows_in(alloc, reader),
+            row: ByteRecord::new(alloc),
+            lasts,
+            slots,
+            line: 1,
+            ended: false,
+            refused: None,
+        })
+    }
+
+    /// The next item, or none at the end. After a refusal it answers the same again.
+    ///
+    /// ScriptRow has the number of the first record at fault, and its first fault in this order: TooManyRows for a
+    /// record numbered above 1,000,001; Header where record 1 isn't the header or there is no record; Fields where it
+    /// doesn't have seven fields; Number; Kind; Die for a die that isn't there; At; Ops. ReadFault comes where the
+    /// reader fails or goes on beyond its bound; the records before it are judged first. NoMemory comes where memory
+    /// is refused.
+    pub fn next(&mut self) -> Result<Option<ScriptItem>, Refusal>
+        ensures item { Yields (script_left R.remaining self.old) (script_left R.remaining self.new) result }
+        ensures bound { EndsFit (script_fits R.remaining self.old) (script_fits R.remaining self.new) result }
+        ensures row { IfOk result (λ o. IfSome o (IsRowFor (dies_of self.old) (slots_of self.old))) }
+        ensures pages { IfOk result (λ o. IfSome o RowHasPages) }
+        ensures dies { dies_of self.new ≡ dies_of self.old }
+        ensures slots { slots_of self.new ≡ slots_of self.old }
+        ensures again { Recalls self.old self.new result }
+    {
+        let mut ops = OpList::new(self.alloc);
+        match self.next_into(&mut ops)? {
+            Some(head) => Ok(Some(head.with_ops(ops))),
+            None => Ok(None),
+        }
+    }
+
+    /// The next item, as [`next`](ScriptReader::next) answers it, but its operations are put into a list of the
+    /// caller's, in place of those that it has and in their memory: a reader that is given one list for all rows takes
+    /// memory for its longest job alone. A collection has no operations. Where there is no item, nothing is said of
+    /// the list.
+    pub fn next_into(&mut self, ops: &mut OpList) -> Result<Option<RowHead>, Refusal>
+        ensures item { Yields (script_left R.remaining self.old) (script_left R.remaining self.new) (row_read result ops.new) }
+        ensures bound { EndsFit (script_fits R.remaining self.old) (script_fits R.remaining self.new) (row_read result ops.new) }
+        ensures row { IfOk result (λ o. IfSome o (λ head. IsRowFor (dies_of self.old) (slots_of self.old) (row_of head ops.new))) }
+        ensures pages { IfOk result (λ o. IfSome o (λ head. RowHasPages (row_of head ops.new))) }
+        ensures own { IfOk result (λ o. IfSome o (λ head. HasOwnOps head ops.new)) }
+        ensures dies { dies_of self.new ≡ dies_of self.old }
+        ensures slots { slots_of self.new ≡ slots_of self.old }
+        ensures again { Recalls self.old self.new (row_read result ops.new) }
+    {
+        if let Some(refusal) = self.refused {
+            return Err(refusal);
+        }
+        if self.ended {
+            return Ok(None);
+        }
+        let line = self.line;
+        match read_step(
+            &mut self.rows,
+            &mut self.row,
+            self.slots,
+            &self.lasts,
+            line,
+            ops,
+        ) {
+            Ok(Some(head)) => {
+                self.line = line.max(2) + 1;
+                self.lasts[head.die as usize] = head.at;
+                Ok(Some(head))
+            }
+            Ok(None) => {
+                self.ended = true;
+                Ok(None)
+            }
+            Err(refusal) => {
+                self.refused = Some(refusal);
+                Err(refusal)
+            }
+        }
+    }
+}

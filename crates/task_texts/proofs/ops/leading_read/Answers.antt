@@ -1,5 +1,0 @@
-use Rattle.task_texts.proofs.OpStarts.{read-starts}
-use Rattle.task_texts.proofs.ops.leading_read.Goals as goal
-
-pub returns : goal.returns
-returns c = read-starts c.args.text.now c.in_ok-page.rest.now c.in_ok-page.page c.in_ok-page.ensures

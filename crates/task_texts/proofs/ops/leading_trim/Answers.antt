@@ -1,5 +1,0 @@
-use Rattle.task_texts.proofs.OpStarts.{trim-starts}
-use Rattle.task_texts.proofs.ops.leading_trim.Goals as goal
-
-pub returns : goal.returns
-returns c = trim-starts c.args.text.now c.in_ok-page.rest.now c.in_ok-page.page c.in_ok-page.ensures

@@ -1,6 +1,0 @@
-use Rattle.std.proofs.Common.{◌∙◌}
-use Rattle.task_texts.proofs.PlanLaws.{tables-view}
-use Rattle.task_texts.proofs.plan_texts.is_of_tables.Goals as goal
-
-pub returns : goal.returns
-returns c = c.hold_tables.ensures ∙ tables-view c.args.items.now

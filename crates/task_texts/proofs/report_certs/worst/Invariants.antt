@@ -1,6 +1,0 @@
-use Rattle.std.proofs.Common.{◌≡◌, drop}
-use Rattle.task_texts.specs.Worst.{worst_from, worst_of}
-use Rattle.task_texts.proofs.report_certs.worst.Given as goal
-
-abbrev pub invariant-loop-row : goal.invariant-loop-row
-invariant-loop-row l = worst_from l.best (drop l.row-index l.rows) ≡ worst_of l.rows

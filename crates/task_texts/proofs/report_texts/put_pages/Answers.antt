@@ -1,6 +1,0 @@
-use Rattle.task_texts.proofs.PlainFields.{joined-made}
-use Rattle.task_texts.specs.Pages.{page_word}
-use Rattle.task_texts.proofs.report_texts.put_pages.Goals as goal
-
-pub returns : goal.returns
-returns c = joined-made page_word _ _ _ _ _ _ _ c.in-Some.ensures.cases.0 c.in_ok-put_page.ensures c.put_more_pages.ensures

@@ -1,6 +1,0 @@
-use Rattle.std.proofs.Common.{◌≡◌, ◌++◌, drop}
-use Rattle.task_texts.specs.Stores.{caps_of}
-use Rattle.task_texts.proofs.stores.caps.Given as goal
-
-abbrev pub invariant-loop-task : goal.invariant-loop-task
-invariant-loop-task l = l.caps ++ caps_of (drop l.task-index l.tasks) l.die ≡ caps_of l.tasks l.die

@@ -1,0 +1,7 @@
+pub mod PageLaws
+pub mod WritingLaws
+pub mod MarkLaws
+pub mod RowLaws
+pub mod WordLaws
+pub mod StartLaws
+pub mod OpStarts

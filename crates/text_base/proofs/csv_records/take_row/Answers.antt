@@ -1,0 +1,17 @@
+use Rattle.text_base.proofs.MarkLaws.{row-bytes}
+use Rattle.text_base.proofs.RowLaws.{rows-read, ready}
+use Rattle.text_base.proofs.csv_records.take_row.Goals as goal
+
+pub returns-in-Ok-clause-takes : goal.returns-in-Ok-clause-takes
+returns-in-Ok-clause-takes g c =
+    let plain = c.requires in
+    let read = c.in-Ok.ensures.reads plain.1 (ready c.args.rows.now plain.3) in
+    let bytes = row-bytes c.read_byte_record.new.row c.as_slice.result.now c.as_slice.ensures c.check_bytes.ensures in
+    (rows-read g.R.Read.remaining c.args.rows.now c.read_byte_record.new.self c.in-Ok.found _ plain.0 read bytes).0
+
+pub returns-in-Ok-clause-fits : goal.returns-in-Ok-clause-fits
+returns-in-Ok-clause-fits g c =
+    let plain = c.requires in
+    let read = c.in-Ok.ensures.reads plain.1 (ready c.args.rows.now plain.3) in
+    let bytes = row-bytes c.read_byte_record.new.row c.as_slice.result.now c.as_slice.ensures c.check_bytes.ensures in
+    (rows-read g.R.Read.remaining c.args.rows.now c.read_byte_record.new.self c.in-Ok.found _ plain.0 read bytes).1

@@ -1,0 +1,12 @@
+pub mod Number
+pub mod Writing
+pub mod Readings
+pub mod Words
+pub mod Pages
+pub mod Ops
+pub mod Marked
+pub mod Bounded
+pub mod Plain
+pub mod CsvRecords
+pub mod CsvRecordsLeft
+pub mod Fields

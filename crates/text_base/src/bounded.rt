@@ -1,0 +1,71 @@
+//! A reader that is given up at a bound.
+
+ghost use Rattle.std.specs.Prelude.{◌≡◌, option_map};
+ghost use Rattle.std.specs.Io.{ReadsAtMost};
+ghost use Rattle.std.specs.Io.KnownBytes.{ReadConsumes};
+ghost use Rattle.text_base.specs.Bounded.{bounded_remaining};
+ghost use Rattle.text_base.specs.Marked.{marked};
+
+use std::io;
+use std::io::{ErrorKind, Read};
+
+/// The most bytes that a text may have.
+pub const MAX_BYTES: usize = 67_108_864;
+
+/// The most calls that a text is read with.
+pub const MAX_CALLS: usize = 67_108_865;
+
+/// A reader that fails where a text goes on past `MAX_BYTES`, or at a call past `MAX_CALLS`.
+#[derive(Drop)]
+pub struct Bounded<R> {
+    inner: R,
+    room: usize,
+    calls: usize,
+    past: Option<u8>,
+    ended: bool,
+}
+
+impl<R: Read> Bounded<R> {
+    pub fn new(inner: R) -> Bounded<R>
+        ensures { bounded_remaining R.remaining result ≡ option_map (marked 67108864) (R.remaining inner) }
+    {
+        Bounded {
+            inner,
+            room: MAX_BYTES,
+            calls: MAX_CALLS,
+            past: None,
+            ended: false,
+        }
+    }
+}
+
+impl<R: Read> Read for Bounded<R> {
+    ghost remaining = { bounded_remaining R.remaining };
+
+    fn read(&mut self, buf: &mut [u8]) -> io::Result<usize>
+        ensures bound { ReadsAtMost result buf.new }
+        ensures bytes { ReadConsumes (bounded_remaining R.remaining self.old) (bounded_remaining R.remaining self.new) result buf.new }
+    {
+        if self.ended || buf.is_empty() {
+            return Ok(0);
+        }
+        if self.past.is_some() || self.calls == 0 {
+            return Err(io::Error::from(ErrorKind::Other));
+        }
+        self.calls -= 1;
+        if self.room == 0 {
+            let mut one = [0u8];
+            if self.inner.read(&mut one)? == 0 {
+                self.ended = true;
+                return Ok(0);
+            }
+            self.past = Some(one[0]);
+            return Err(io::Error::from(ErrorKind::Other));
+        }
+        let most = buf.len().min(self.room);
+        let n = self.inner.read(&mut buf[..most])?;
+        self.room -= n;
+        self.ended = n == 0;
+        Ok(n)
+    }
+}

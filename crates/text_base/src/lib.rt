@@ -1,0 +1,18 @@
+//! What the texts of plans, scripts and reports share: readers within a bound, records of csv, numbers, pages and lists of
+//! words, and a writer that says whether it wrote the whole.
+#![tactic(auto)]
+
+mod bounded;
+mod csv_records;
+mod numbers;
+mod ops;
+mod pages;
+mod words;
+mod writing;
+
+pub use bounded::Bounded;
+pub use csv_records::{field_in, is_named, rows_in, take_row};
+pub use numbers::number;
+pub use pages::put_page;
+pub use words::{count, list, put_list};
+pub use writing::write_whole;

@@ -1,0 +1,201 @@
+//! Fields that hold several words, with one space between two.
+
+ghost use Rattle.std.specs.Prelude.{◌≡◌, ◌∷◌, [], ◌==◌, ◌<◌, List, ℕ, Option, IfOk, IfSome, MatchOption, None, length, option_map};
+ghost use Rattle.std.specs.List.{position, slice_split};
+ghost use Rattle.text_base.specs.Number.{number_of};
+ghost use Rattle.text_base.specs.Ops.{op_of};
+ghost use Rattle.text_base.specs.Words.{IsFirst, StartsWith, all_of, behind, if_whole, list_of, words_of};
+ghost use Rattle.text_base.specs.Pages.{page_of};
+
+use crate::numbers::{leading_number, number};
+use crate::ops::{leading_op, op};
+use crate::pages::{leading_page, page};
+use slot_types::{Items, JobNo, Op, PageData};
+use std::alloc::{AllocError, Global};
+
+/// What a word may say.
+pub trait Word: Sized {
+    ghost word_of: { List ℕ → Option Self };
+
+    /// What the word says, if it is of the right shape.
+    fn read(word: &[u8]) -> Option<Self>
+        ensures { result ≡ word_of word.now };
+
+    /// What a word at the front of a text says, and what stands behind it. None says nothing: some words are left
+    /// to [`read`](Word::read).
+    fn start(text: &[u8]) -> Option<(Self, &[u8])>
+        ensures { IfSome result (λ found. StartsWith word_of text.now found.0 found.1.now) };
+}
+
+impl Word for Op {
+    ghost word_of = { op_of };
+
+    fn read(word: &[u8]) -> Option<Op> {
+        op(word)
+    }
+
+    fn start(text: &[u8]) -> Option<(Op, &[u8])> {
+        leading_op(text)
+    }
+}
+
+impl Word for PageData {
+    ghost word_of = { page_of };
+
+    fn read(word: &[u8]) -> Option<PageData> {
+        page(word)
+    }
+
+    fn start(text: &[u8]) -> Option<(PageData, &[u8])> {
+        leading_page(text)
+    }
+}
+
+impl Word for JobNo {
+    ghost word_of = { number_of };
+
+    fn read(word: &[u8]) -> Option<JobNo> {
+        match number(word) {
+            Some(n) => Some(JobNo(n)),
+            None => None,
+        }
+    }
+
+    fn start(text: &[u8]) -> Option<(JobNo, &[u8])> {
+        let (number, rest) = leading_number(text)?;
+        Some((JobNo(number), rest))
+    }
+}
+
+/// The place of the first space.
+fn space_in(text: &[u8]) -> Option<usize>
+    ensures { result ≡ position (λ b. b == 32) text.now }
+{
+    text.iter().position(|b| *b == b' ')
+}
+
+/// The first word, and what stands after the space behind it.
+fn cut(text: &[u8]) -> (&[u8], Option<&[u8]>)
+    ensures parts { slice_split (λ b. b == 32) text.now ≡ result.0.now ∷ words_of (option_map (λ rest. rest.now) result.1) }
+    ensures shorter { IfSome result.1 (λ rest. length rest.now < length text.now) }
+{
+    match space_in(text) {
+        Some(space) => (&text[..space], Some(&text[space + 1..])),
+        None => (text, None),
+    }
+}
+
+/// What stands behind a word: nothing, or a space and more.
+fn behind(left: &[u8]) -> Option<Option<&[u8]>>
+    ensures { IfSome result (λ rest. left.now ≡ behind (option_map (λ text. text.now) rest)) }
+{
+    let Some((first, rest)) = left.split_first() else {
+        return Some(None);
+    };
+    if *first == b' ' {
+        Some(Some(rest))
+    } else {
+        None
+    }
+}
+
+/// What the first word of a text says in one pass, and what stands after the space behind it. None says nothing.
+fn quick_word<T: Word + Drop>(text: &[u8]) -> Option<(T, Option<&[u8]>)>
+    ensures { IfSome result (λ found. StartsWith T.word_of text.now found.0 (behind (option_map (λ text. text.now) found.1))) }
+{
+    let (item, left) = T::start(text)?;
+    let rest = behind(left)?;
+    Some((item, rest))
+}
+
+/// What the first word of a text says, cut off first, and what stands after the space behind it.
+fn cut_word<T: Word + Drop>(text: &[u8]) -> Option<(T, Option<&[u8]>)>
+    ensures word { MatchOption result (all_of T.word_of (slice_split (λ b. b == 32) text.now) ≡ None)
+        (λ found. IsFirst T.word_of text.now found.0 (words_of (option_map (λ rest. rest.now) found.1))) }
+    ensures shorter { IfSome result (λ found. IfSome found.1 (λ rest. length rest.now < length text.now)) }
+{
+    let (word, rest) = cut(text);
+    match T::read(word) {
+        Some(item) => Some((item, rest)),
+        None => None,
+    }
+}
+
+/// What the first word of a text says, and what stands after the space behind it.
+fn first_word<T: Word + Drop>(text: &[u8]) -> Option<(T, Option<&[u8]>)>
+    ensures word { MatchOption result (all_of T.word_of (slice_split (λ b. b == 32) text.now) ≡ None)
+        (λ found. IsFirst T.word_of text.now found.0 (words_of (option_map (λ rest. rest.now) found.1))) }
+    ensures shorter { IfSome result (λ found. IfSome found.1 (λ rest. length rest.now < length text.now)) }
+{
+    match quick_word(text) {
+        Some(found) => Some(found),
+        None => cut_word(text),
+    }
+}
+
+/// Adds what the words of a text say, up to one that says nothing, and answers whether there is none.
+fn put_all<T: Word + Drop>(items: &mut Items<T>, text: &[u8]) -> Result<bool, AllocError>
+    requires { items.old ≡ [] }
+    ensures { IfOk result (λ whole. if_whole whole items.new ≡ all_of T.word_of (slice_split (λ b. b == 32) text.now)) }
+{
+    let mut left = Some(text);
+    while let Some(text) = left {
+        match first_word(text) {
+            Some((item, rest)) => {
+                items.push(item)?;
+                left = rest;
+            }
+            None => return Ok(false),
+        }
+    }
+    Ok(true)
+}
+
+/// Puts what the words of a field say in place of other items, in their memory, and answers whether all of them say
+/// something. An empty field has none.
+pub fn put_list<T: Word + Drop>(items: &mut Items<T>, field: &[u8]) -> Result<bool, AllocError>
+    ensures { IfOk result (λ whole. if_whole whole items.new ≡ list_of T.word_of field.now) }
+{
+    items.clear();
+    if field.is_empty() {
+        return Ok(true);
+    }
+    put_all(items, field)
+}
+
+/// What the words of a field say, if all of them say something. An empty field has none.
+pub fn list<T: Word + Drop>(alloc: Global, field: &[u8]) -> Result<Option<Items<T>>, AllocError>
+    ensures { IfOk result (λ found. found ≡ list_of T.word_of field.now) }
+{
+    let mut items = Items::new(alloc);
+    let whole = put_list(&mut items, field)?;
+    Ok(if whole { Some(items) } else { None })
+}
+
+/// How many words a text has, if all of them say something.
+fn count_all<T: Word + Drop>(text: &[u8]) -> Option<usize>
+    ensures { result ≡ option_map length (all_of T.word_of (slice_split (λ b. b == 32) text.now)) }
+{
+    let mut count = 0;
+    let mut left = Some(text);
+    while let Some(text) = left {
+        match first_word::<T>(text) {
+            Some((_, rest)) => {
+                count += 1;
+                left = rest;
+            }
+            None => return None,
+        }
+    }
+    Some(count)
+}
+
+/// How many words a field has, if all of them say something: nothing is kept of what they say. An empty field has none.
+pub fn count<T: Word + Drop>(field: &[u8]) -> Option<usize>
+    ensures { result ≡ option_map length (list_of T.word_of field.now) }
+{
+    if field.is_empty() {
+        return Some(0);
+    }
+    count_all::<T>(field)
+}
