@@ -6,6 +6,7 @@ use Rattle.report_texts.specs.declared.report_rows.DieRow.{DieRow}
 use Rattle.report_texts.specs.declared.reports.ReportRow.{ReportRow}
 use Rattle.report_texts.specs.declared.row_numbers.RowNumbers.{RowNumbers}
 
+-- the row of these numbers and reads
 abbrev pub row_with : RowNumbers → List PageData → ReportRow
 row_with n reads = record {
   row = n.row;
@@ -20,11 +21,11 @@ row_with n reads = record {
   reads = reads;
 }
 
--- the row of these numbers and reads, and its die
+-- so it is, with its die
 abbrev pub die_row : RowNumbers → List PageData → DieRow
 die_row n reads = record { die = n.die; row = row_with n reads }
 
--- so it is, where both are known
+-- the same, where both parts are known
 abbrev pub with_reads : Option RowNumbers → Option (List PageData) → Option DieRow
 with_reads numbers known = numbers >>= (λ n. known >>= (λ reads. Some (die_row n reads)))
 
