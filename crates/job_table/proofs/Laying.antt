@@ -1,19 +1,20 @@
 -- Rows over arenas, when one of them changes, or one is added.
-use Rattle.std.proofs.Common.{◌≡◌, ◌≢◌, ℕ, zero, suc, ◌+◌, ◌-◌, ◌<◌, ◌≤◌, true, false, refl, sym, ap, ◌∙◌, arith, List, [], ◌∷◌, ◌++◌}
+use Rattle.std.proofs.Common.{◌≡◌, ◌≢◌, ℕ, zero, suc, ◌+◌, ◌-◌, ◌^◌, ◌<◌, ◌≤◌, true, false, refl, sym, ap, ◌∙◌, arith, List, [], ◌∷◌, ◌++◌}
 use Rattle.std.proofs.Common.{length, take, drop, set, map, get_or, slice_get, Option, Some, option_map, count_by, length-append, ◌⊎◌, inl}
-use Rattle.std.proofs.Common.{inr}
+use Rattle.std.proofs.Common.{inr, ◌==◌, cond, sum_by}
 use Rattle.std.proofs.Math.Seq.{take-append_seam, drop-append_seam}
 use Rattle.std.proofs.lemmas.List.{length-map, length-drop, take_all, take-append-le, drop-append-le, take-set-le, take_more_set}
-use Rattle.std.proofs.lemmas.List.{drop-set-lt, drop-set-add, map-append}
-use Rattle.std.proofs.lemmas.List.Sums.{sum_by-append, sum_by-take-le}
-use Rattle.std.proofs.lemmas.Option.{slice_get_within, slice_get_read, slice_get-map}
+use Rattle.std.proofs.lemmas.List.{drop-set-lt, drop-set-add, map-append, length-set}
+use Rattle.std.proofs.lemmas.List.Sums.{sum_by-append, sum_by-cons, sum_by-set, sum_by_push, get_or-le-sum_by}
+use Rattle.std.proofs.lemmas.Option.{slice_get_within, slice_get_read, slice_get-map, get_or_from_slice_get}
 use Rattle.slot_types.specs.declared.events.Op.{Op}
 use Rattle.slot_types.specs.declared.pages.PageData.{PageData}
 use Rattle.job_table.specs.declared.rows.Row.{Row}
 use Rattle.job_table.specs.Jobs.{JobRecord, is_read, is_some_read, accepted, carried, with_read}
-use Rattle.job_table.specs.Table.{changed_at}
-use Rattle.job_table.specs.Flat.{ops_at, reads_at, job_at, jobs_at, IsRowOf, AreLaid}
-use Rattle.job_table.proofs.Reading.{read_of, one_more, done_within, next_within, reads_rise}
+use Rattle.job_table.specs.Table.{changed_at, reads_next_at, reads_next_of}
+use Rattle.job_table.specs.Flat.{ops_at, reads_at, job_at, jobs_at, read_count, place_count, lacking, place_from, IsRowOf, IsRowIn, AreLaid}
+use Rattle.job_table.specs.Flat.{HaveRoom}
+use Rattle.job_table.proofs.Reading.{read_of, one_more, has_read, lacks_all, lacks_none, done_placed, reads_there, next_of_all}
 
 -- Lists of rows
 
@@ -97,13 +98,33 @@ job_there rows ops reads jobs n number found view number_is at_n =
     ap (slice_get jobs) (sym number_is) ∙ ap (λ (l : List JobRecord). slice_get l n) (sym view) ∙ slice_get-map (job_at ops reads) rows n
     ∙ ap (option_map (job_at ops reads)) at_n
 
+-- the row of a number whose next operation is a read
+pub record IsReading (rows : List Row) (ops : List Op) (n : ℕ) (row : Row) : Type 0 where
+  pub there : slice_get rows n ≡ Some row
+  pub next : is_some_read (slice_get (ops_at ops row) row.work) ≡ true
+
+pub row_reading : (rows : List Row) (ops : List Op) (reads : List PageData) (jobs : List JobRecord) (n number : ℕ) (row : Row)
+    → jobs_at ops reads rows ≡ jobs → n ≡ number → number < length jobs → row ≡ get_or rows n row → reads_next_at jobs number ≡ true
+    → IsReading rows ops n row
+row_reading rows ops reads jobs n number row view number_is within read reads_next =
+    let at_n = row_read rows ops reads jobs n number row view number_is within read in
+    record {
+      there = at_n;
+      next = sym (ap reads_next_of (job_there rows ops reads jobs n number (Some row) view number_is at_n)) ∙ reads_next;
+    }
+
 -- A row that changes
+
+-- a row that took a slot in which it read, and whose places begin there
+abbrev pub after_read : Row → ℕ → Row
+after_read row from = record row { first_place = from; reads_done = row.reads_done + 1; work = row.work + 1 }
 
 -- one that took a slot more, and no read of its own
 pub row_carried : (ops : List Op) (row : Row) → is_some_read (slice_get (ops_at ops row) row.work) ≡ false → IsRowOf ops row
     → IsRowOf ops (record row { work = row.work + 1 })
 row_carried ops row next fits = record {
   ops_there = fits.ops_there;
+  ops_few = fits.ops_few;
   first_read_is = fits.first_read_is;
   reads_done_is =
       let more = one_more (ops_at ops row) row.work false next in
@@ -114,10 +135,11 @@ row_carried ops row next fits = record {
 }
 
 -- one that took a slot more, in which it read
-pub row_read_more : (ops : List Op) (row : Row) → is_some_read (slice_get (ops_at ops row) row.work) ≡ true → IsRowOf ops row
-    → IsRowOf ops (record row { reads_done = row.reads_done + 1; work = row.work + 1 })
-row_read_more ops row next fits = record {
+row_read_more : (ops : List Op) (row : Row) (from : ℕ) → is_some_read (slice_get (ops_at ops row) row.work) ≡ true → IsRowOf ops row
+    → IsRowOf ops (after_read row from)
+row_read_more ops row from next fits = record {
   ops_there = fits.ops_there;
+  ops_few = fits.ops_few;
   first_read_is = fits.first_read_is;
   reads_done_is =
       let more = one_more (ops_at ops row) row.work true next in
@@ -134,41 +156,135 @@ pub jobs_set : (rows : List Row) (ops : List Op) (reads : List PageData) (n : �
 jobs_set rows ops reads n row next change at_n is = map_changed (job_at ops reads) (job_at ops reads) rows n row next change at_n is
     (λ m other differs at_m. refl)
 
--- the rows stay laid where one keeps its operations, and what it carried of its reads is still what its work shows
-pub laid_set : (rows : List Row) (ops : List Op) (reads reads' : List PageData) (n : ℕ) (row next : Row) → slice_get rows n ≡ Some row
-    → next.first_op ≡ row.first_op → next.op_count ≡ row.op_count
-    → IsRowOf ops next → length reads' ≡ length reads → AreLaid rows ops reads → AreLaid (set rows n next) ops reads'
-laid_set rows ops reads reads' n row next e first count fits same laid = record {
-  each = λ m other at_m. elim (set_cases rows n next m other at_m) [ inl h ↦ rw (sym h.1) fits | inr h ↦ laid.each m other h ];
-  apart = λ m k one other at_m at_k before.
+-- the rows stay laid where one keeps its operations, and its places are still there and apart from those of all others
+laid_set : (rows : List Row) (ops : List Op) (reads reads' : List PageData) (n : ℕ) (row next : Row) → slice_get rows n ≡ Some row
+    → next.first_op ≡ row.first_op → next.op_count ≡ row.op_count → IsRowIn ops reads' next → length reads ≤ length reads'
+    → ((m : ℕ) (other : Row) → slice_get rows m ≡ Some other → m ≢ n
+    → (next.first_place + place_count ops next ≤ other.first_place) ⊎ (other.first_place + place_count ops other ≤ next.first_place))
+    → AreLaid rows ops reads → AreLaid (set rows n next) ops reads'
+laid_set rows ops reads reads' n row next e first count fits longer free laid = record {
+  each = λ m other at_m. elim (set_cases rows n next m other at_m) [
+    | inl h ↦ rw (sym h.1) fits
+    | inr h ↦ let old = laid.each m other h in record
+        { fits = old.fits; places_there = let there = old.places_there in omega arith }
+  ];
+  ops_apart = λ m k one other at_m at_k before.
       let a = span_kept rows n row next e first count m one at_m in
       let b = span_kept rows n row next e first count k other at_k in
-      let apart = laid.apart m k a.old b.old a.is_at b.is_at before in
+      let apart = laid.ops_apart m k a.old b.old a.is_at b.is_at before in
       let a_first = a.first_is in
       let a_count = a.count_is in
       let b_first = b.first_is in
       omega arith;
-  places = record { each = same ∙ laid.places.each };
+  places_apart = λ m k one other at_m at_k differs. elim (set_cases rows n next m one at_m) [
+    | inl h ↦ elim (set_cases rows n next k other at_k) [
+      | inl g ↦ absurd (differs (h.0 ∙ sym g.0))
+      | inr g ↦ rw (sym h.1) (free k other g (λ x. differs (h.0 ∙ sym x)))
+    ]
+    | inr h ↦ elim (set_cases rows n next k other at_k) [
+      | inl g ↦ rw (sym g.1) (either (free m one h (λ x. differs (x ∙ sym g.0))))
+      | inr g ↦ laid.places_apart m k one other h g differs
+    ]
+  ];
+}
+  where
+    either : {A B : Type 0} → A ⊎ B → B ⊎ A
+    either (inl a) = inr a
+    either (inr b) = inl b
+
+-- .. where it keeps its places as well
+pub laid_kept : (rows : List Row) (ops : List Op) (reads : List PageData) (n : ℕ) (row next : Row) → slice_get rows n ≡ Some row
+    → next.first_op ≡ row.first_op → next.op_count ≡ row.op_count → next.first_place ≡ row.first_place
+    → place_count ops next ≡ place_count ops row
+    → IsRowOf ops next → AreLaid rows ops reads → AreLaid (set rows n next) ops reads
+laid_kept rows ops reads n row next e first count place same fits laid =
+    laid_set rows ops reads reads n row next e first count
+    (record { fits = fits; places_there = let there = (laid.each n row e).places_there in omega arith }) (omega arith)
+    (λ m other at_m differs. elim (laid.places_apart n m row other e at_m (λ x. differs (sym x)))
+    [ inl h ↦ inl (omega arith) | inr h ↦ inr (omega arith) ]) laid
+
+-- there is room as before where the places that a row lacks no longer have been made
+room_set : (rows : List Row) (ops : List Op) (reads reads' : List PageData) (all capacity n : ℕ) (row next : Row)
+    → slice_get rows n ≡ Some row → length reads' + lacking ops next ≡ length reads + lacking ops row
+    → HaveRoom rows ops reads all capacity → HaveRoom (set rows n next) ops reads' all capacity
+room_set rows ops reads reads' all capacity n row next e made room = record {
+  all_is = room.all_is;
+  places =
+      let sum = sum_by-set (lacking ops) rows n next row (slice_get_within rows n row e) in
+      let old = ap (lacking ops) (get_or_from_slice_get rows n row row e) in
+      let before = room.places in
+      omega arith;
+  room = room.room;
 }
 
--- The place of a row's next read
+-- .. where it lacks as many as before
+pub room_kept : (rows : List Row) (ops : List Op) (reads : List PageData) (all capacity n : ℕ) (row next : Row)
+    → slice_get rows n ≡ Some row → lacking ops next ≡ lacking ops row
+    → HaveRoom rows ops reads all capacity → HaveRoom (set rows n next) ops reads all capacity
+room_kept rows ops reads all capacity n row next e same room =
+    room_set rows ops reads reads all capacity n row next e (ap (λ (k : ℕ). length reads + k) same) room
 
-pub place_there : (rows : List Row) (ops : List Op) (reads : List PageData) (n : ℕ) (row : Row) → slice_get rows n ≡ Some row
-    → is_some_read (slice_get (ops_at ops row) row.work) ≡ true → AreLaid rows ops reads
-    → row.first_read + row.reads_done < length reads
-place_there rows ops reads n row e next laid =
-    let within = next_within ops row (laid.each n row e) next in
-    let all = sum_by-take-le read_of ops (row.first_op + row.op_count) in
-    let places = laid.places.each in
+-- a row has as much room as it lacks places
+pub row_room : (rows : List Row) (ops : List Op) (reads : List PageData) (all capacity n : ℕ) (row : Row)
+    → slice_get rows n ≡ Some row → HaveRoom rows ops reads all capacity → length reads + lacking ops row ≤ all
+row_room rows ops reads all capacity n row e room =
+    let one = get_or-le-sum_by (lacking ops) rows n row (slice_get_within rows n row e) in
+    let same = ap (lacking ops) (get_or_from_slice_get rows n row row e) in
+    let places = room.places in
     omega arith
 
+-- The places of a row that reads
+
+-- what stands in the first of two lists
+cut : {A : Type 0} (xs ys : List A) (from count : ℕ) → from + count ≤ length xs → take count (drop from (xs ++ ys))
+    ≡ take count (drop from xs)
+cut xs ys from count within =
+    ap (take count) (drop-append-le from xs ys (omega arith))
+    ∙ take-append-le count (drop from xs) ys (omega (arith, length-drop from xs))
+
+-- from here on it has one for each of its reads, with the bytes of those that it carried, and apart from those of all others
+pub record IsMade (rows : List Row) (ops : List Op) (reads more : List PageData) (n : ℕ) (row : Row) (from : ℕ) : Type 0 where
+  pub there : from + read_count ops row ≤ length (reads ++ more)
+  pub own : take row.reads_done (drop from (reads ++ more)) ≡ reads_at reads row
+  pub apart : (m : ℕ) (other : Row) → slice_get rows m ≡ Some other → m ≢ n
+      → (from + read_count ops row ≤ other.first_place) ⊎ (other.first_place + place_count ops other ≤ from)
+
+-- .. where those that it lacks are made behind all others
+pub made : (rows : List Row) (ops : List Op) (reads more : List PageData) (n len : ℕ) (row : Row) → slice_get rows n ≡ Some row
+    → len ≡ length reads → length more ≡ lacking ops row → AreLaid rows ops reads
+    → IsMade rows ops reads more n row (place_from len row)
+made rows ops reads more n len row e end count laid = elim (has_read row) [
+  | inl none ↦
+      let lacks = lacks_all ops row none in
+      let all = lacks.lacks in
+      let from = lacks.from len in
+      record {
+        there = omega (arith, length-append reads more);
+        own = ap (λ (k : ℕ). take k (drop (place_from len row) (reads ++ more))) none
+            ∙ sym (ap (λ (k : ℕ). take k (drop row.first_place reads)) none);
+        apart = λ m other at_m differs. inr (let there = (laid.each m other at_m).places_there in omega arith);
+      }
+  | inr some ↦
+      let lacks = lacks_none ops row some in
+      let placed = lacks.placed in
+      let from = lacks.from len in
+      let in_table = laid.each n row e in
+      let there = in_table.places_there in
+      record {
+        there = omega (arith, length-append reads more);
+        own = ap (λ (k : ℕ). take row.reads_done (drop k (reads ++ more))) from
+            ∙ cut reads more row.first_place row.reads_done (reads_there ops reads row in_table);
+        apart = λ m other at_m differs. elim (laid.places_apart n m row other e at_m (λ x. differs (sym x)))
+            [ inl h ↦ inl (omega arith) | inr h ↦ inr (omega arith) ];
+      }
+]
+
 -- its own reads have the bytes behind them
-pub reads_more : (reads : List PageData) (row : Row) (bytes : PageData) → row.first_read + row.reads_done < length reads
-    → take (row.reads_done + 1) (drop row.first_read (set reads (row.first_read + row.reads_done) bytes))
-    ≡ take row.reads_done (drop row.first_read reads) ++ bytes ∷ []
-reads_more reads row bytes within =
-    ap (take (row.reads_done + 1)) (drop-set-add row.first_read reads row.reads_done bytes)
-    ∙ take_more_set (drop row.first_read reads) row.reads_done bytes (omega (arith, length-drop row.first_read reads))
+reads_more : (reads : List PageData) (from done : ℕ) (bytes : PageData) → from + done < length reads
+    → take (done + 1) (drop from (set reads (from + done) bytes)) ≡ take done (drop from reads) ++ bytes ∷ []
+reads_more reads from done bytes within =
+    ap (take (done + 1)) (drop-set-add from reads done bytes)
+    ∙ take_more_set (drop from reads) done bytes (omega (arith, length-drop from reads))
 
 -- those of another stay
 reads_stay : (reads : List PageData) (from count place : ℕ) (bytes : PageData) → (from + count ≤ place) ⊎ (place < from)
@@ -180,149 +296,205 @@ reads_stay reads from count place bytes (inl before) =
     ∙ take-set-le count (drop from reads) (place - from) bytes (omega arith)
 reads_stay reads from count place bytes (inr behind) = ap (take count) (drop-set-lt from reads place bytes behind)
 
--- two rows of different numbers have their reads at different places
-pub reads_apart : (rows : List Row) (ops : List Op) (reads : List PageData) (n m : ℕ) (row other : Row) → slice_get rows n ≡ Some row
-    → slice_get rows m ≡ Some other → m ≢ n
-    → is_some_read (slice_get (ops_at ops row) row.work) ≡ true → AreLaid rows ops reads
-    → (other.first_read + other.reads_done ≤ row.first_read + row.reads_done) ⊎ (row.first_read + row.reads_done < other.first_read)
-reads_apart rows ops reads n m row other at_n at_m differs next laid =
-    let fits = laid.each n row at_n in
-    let other_fits = laid.each m other at_m in
-    let within = next_within ops row fits next in
-    let other_within = done_within ops other other_fits in
-    let first = fits.first_read_is in
-    let other_first = other_fits.first_read_is in
-    elim (lt_or_lt m n differs) [
-      | inl before ↦
-          let rise = reads_rise ops (other.first_op + other.op_count) row.first_op (laid.apart m n other row at_m at_n before) in
-          inl (omega arith)
-      | inr behind ↦
-          let rise = reads_rise ops (row.first_op + row.op_count) other.first_op (laid.apart n m row other at_n at_m behind) in
-          inr (omega arith)
-    ]
+-- the place of its next read is there
+pub place_there : (rows : List Row) (ops : List Op) (reads more : List PageData) (n : ℕ) (row : Row) (from : ℕ) → IsReading rows ops n row
+    → AreLaid rows ops reads → IsMade rows ops reads more n row from → from + row.reads_done < length (reads ++ more)
+place_there rows ops reads more n row from reading laid made =
+    let few = next_of_all ops row (laid.each n row reading.there).fits reading.next in
+    let there = made.there in
+    omega arith
+
+pub laid_read : (rows : List Row) (ops : List Op) (reads more : List PageData) (n : ℕ) (row : Row) (from : ℕ) (bytes : PageData)
+    → IsReading rows ops n row → AreLaid rows ops reads → IsMade rows ops reads more n row from
+    → AreLaid (set rows n (after_read row from)) ops (set (reads ++ more) (from + row.reads_done) bytes)
+laid_read rows ops reads more n row from bytes reading laid made =
+    laid_set rows ops reads (set (reads ++ more) (from + row.reads_done) bytes) n row (after_read row from) reading.there refl refl
+    (record {
+      fits = row_read_more ops row from reading.next (laid.each n row reading.there).fits;
+      places_there = let there = made.there in omega (arith, placed, longer);
+    }) (omega (arith, longer, length-append reads more))
+    (λ m other at_m differs. elim (made.apart m other at_m differs)
+    [ inl h ↦ inl (omega (arith, placed)) | inr h ↦ inr (omega arith) ]) laid
   where
-    lt_or_lt : (m n : ℕ) → m ≢ n → (m < n) ⊎ (n < m)
-    lt_or_lt zero zero differs = absurd (differs refl)
-    lt_or_lt zero (suc n) differs = inl (omega arith)
-    lt_or_lt (suc m) zero differs = inr (omega arith)
-    lt_or_lt (suc m) (suc n) differs = elim (lt_or_lt m n (λ e. differs (ap suc e)))
-        [ inl h ↦ inl (omega arith) | inr h ↦ inr (omega arith) ]
+    placed : place_count ops (after_read row from) ≡ read_count ops row
+    placed = (lacks_none ops (after_read row from) (omega arith)).placed
+
+    longer : length (set (reads ++ more) (from + row.reads_done) bytes) ≡ length (reads ++ more)
+    longer = length-set (reads ++ more) (from + row.reads_done) bytes
+
+pub room_read : (rows : List Row) (ops : List Op) (reads more : List PageData) (all capacity n : ℕ) (row : Row) (from : ℕ)
+    (bytes : PageData)
+    → slice_get rows n ≡ Some row → length more ≡ lacking ops row → HaveRoom rows ops reads all capacity
+    → HaveRoom (set rows n (after_read row from)) ops (set (reads ++ more) (from + row.reads_done) bytes) all capacity
+room_read rows ops reads more all capacity n row from bytes e count room =
+    room_set rows ops reads (set (reads ++ more) (from + row.reads_done) bytes) all capacity n row (after_read row from) e
+    (let none = (lacks_none ops (after_read row from) (omega arith)).lacks in
+    omega (arith, length-set (reads ++ more) (from + row.reads_done) bytes, length-append reads more)) room
 
 -- the jobs after a read of one of them gave its bytes
-pub jobs_read : (rows : List Row) (ops : List Op) (reads : List PageData) (n : ℕ) (row next : Row) (bytes : PageData) → slice_get rows n
-    ≡ Some row → is_some_read (slice_get (ops_at ops row) row.work) ≡ true
-    → next ≡ record row { reads_done = row.reads_done + 1; work = row.work + 1 } → AreLaid rows ops reads
-    → jobs_at ops (set reads (row.first_read + row.reads_done) bytes) (set rows n next)
+pub jobs_read : (rows : List Row) (ops : List Op) (reads more : List PageData) (n : ℕ) (row : Row) (from : ℕ) (bytes : PageData)
+    → IsReading rows ops n row → AreLaid rows ops reads → IsMade rows ops reads more n row from
+    → jobs_at ops (set (reads ++ more) (from + row.reads_done) bytes) (set rows n (after_read row from))
     ≡ changed_at (jobs_at ops reads rows) n (λ (job : JobRecord). with_read bytes (carried job))
-jobs_read rows ops reads n row next bytes e reads_next next_is laid =
-    let place : ℕ = row.first_read + row.reads_done in
-    let more = reads_more reads row bytes (place_there rows ops reads n row e reads_next laid) in
-    map_changed (job_at ops reads) (job_at ops (set reads place bytes)) rows n row next (λ (job : JobRecord). with_read bytes (carried job))
-    e
-    (ap (job_at ops (set reads place bytes)) next_is ∙ ap
-    (λ (l : List PageData). record (job_at ops reads row) { reads = l; work = row.work + 1 }) more)
+jobs_read rows ops reads more n row from bytes reading laid made =
+    map_changed (job_at ops reads) (job_at ops after) rows n row (after_read row from) (λ (job : JobRecord). with_read bytes (carried job))
+    reading.there
+    (ap (λ (l : List PageData). record (job_at ops reads row) { reads = l; work = row.work + 1 })
+    (reads_more (reads ++ more) from row.reads_done bytes (place_there rows ops reads more n row from reading laid made)
+    ∙ ap (λ (l : List PageData). l ++ bytes ∷ []) made.own))
     (λ m other differs at_m. ap (λ (l : List PageData). record (job_at ops reads other) { reads = l })
-    (reads_stay reads other.first_read other.reads_done place bytes
-    (reads_apart rows ops reads n m row other e at_m differs reads_next laid)))
+    (reads_stay (reads ++ more) other.first_place other.reads_done (from + row.reads_done) bytes (beside m other at_m differs)
+    ∙ cut reads more other.first_place other.reads_done (reads_there ops reads other (laid.each m other at_m))))
+  where
+    after : List PageData
+    after = set (reads ++ more) (from + row.reads_done) bytes
+
+    beside : (m : ℕ) (other : Row) → slice_get rows m ≡ Some other → m ≢ n
+        → (other.first_place + other.reads_done ≤ from + row.reads_done) ⊎ (from + row.reads_done < other.first_place)
+    beside m other at_m differs =
+        let few = next_of_all ops row (laid.each n row reading.there).fits reading.next in
+        let done = done_placed ops other (laid.each m other at_m).fits in
+        elim (made.apart m other at_m differs) [ inl h ↦ inr (omega arith) | inr h ↦ inl (omega arith) ]
 
 -- A row that is added
 
--- what stood for a row stands for it over longer arenas
-job_stays : (ops more : List Op) (reads places : List PageData) (row : Row) → row.first_op + row.op_count ≤ length ops
-    → row.first_read + row.reads_done ≤ length reads
-    → job_at (ops ++ more) (reads ++ places) row ≡ job_at ops reads row
-job_stays ops more reads places row ops_there reads_there =
-    ap (λ (l : List Op). record (job_at ops (reads ++ places) row) { ops = l }) (cut ops more row.first_op row.op_count ops_there)
-    ∙ ap (λ (l : List PageData). record (job_at ops reads row) { reads = l }) (cut reads places row.first_read row.reads_done reads_there)
-  where
-    cut : {A : Type 0} (xs ys : List A) (from count : ℕ) → from + count ≤ length xs → take count (drop from (xs ++ ys))
-        ≡ take count (drop from xs)
-    cut xs ys from count within =
-        ap (take count) (drop-append-le from xs ys (omega arith))
-        ∙ take-append-le count (drop from xs) ys (omega (arith, length-drop from xs))
+ops_stay : (ops more : List Op) (row : Row) → row.first_op + row.op_count ≤ length ops → ops_at (ops ++ more) row ≡ ops_at ops row
+ops_stay ops more row there = cut ops more row.first_op row.op_count there
 
 row_stays : (ops more : List Op) (row : Row) → IsRowOf ops row → IsRowOf (ops ++ more) row
 row_stays ops more row fits = record {
   ops_there = let h = fits.ops_there in omega (arith, length-append ops more);
+  ops_few = fits.ops_few;
   first_read_is = fits.first_read_is ∙ sym (ap (count_by is_read)
       (take-append-le row.first_op ops more (let h = fits.ops_there in omega arith)));
   reads_done_is =
-      fits.reads_done_is
-      ∙ sym (ap (λ (l : List Op). count_by is_read (take row.work l))
-      (ap (take row.op_count) (drop-append-le row.first_op ops more (let h = fits.ops_there in omega arith))
-      ∙ take-append-le row.op_count (drop row.first_op ops) more
-      (let h = fits.ops_there in omega (arith, length-drop row.first_op ops))));
+      fits.reads_done_is ∙ sym (ap (λ (l : List Op). count_by is_read (take row.work l)) (ops_stay ops more row fits.ops_there));
 }
 
+-- it has as many places as before, and lacks as many
+places_stay : (ops more : List Op) (row : Row) → row.first_op + row.op_count ≤ length ops
+    → place_count (ops ++ more) row ≡ place_count ops row
+places_stay ops more row there =
+    ap (λ (l : List Op). cond (row.reads_done == 0) 0 (count_by is_read l)) (ops_stay ops more row there)
+
+lacks_stay : (ops more : List Op) (row : Row) → row.first_op + row.op_count ≤ length ops → lacking (ops ++ more) row ≡ lacking ops row
+lacks_stay ops more row there =
+    ap (λ (l : List Op). cond (row.reads_done == 0) (count_by is_read l) 0) (ops_stay ops more row there)
+
+sum_same : (f g : Row → ℕ) (rows : List Row) → ((n : ℕ) (row : Row) → slice_get rows n ≡ Some row → g row ≡ f row)
+    → sum_by g rows ≡ sum_by f rows
+sum_same f g [] same = refl
+sum_same f g (row ∷ rows) same =
+    let first = same 0 row refl in
+    let rest = sum_same f g rows (λ n other e. same (suc n) other e) in
+    omega (arith, sum_by-cons f row rows, sum_by-cons g row rows)
+
 -- a row that begins behind all others
-pub record IsBegun (row : Row) (ops : List Op) (reads : List PageData) (count : ℕ) : Type 0 where
+pub record IsBegun (row : Row) (ops : List Op) (count : ℕ) : Type 0 where
   pub first_op_is : row.first_op ≡ length ops
   pub op_count_is : row.op_count ≡ count
-  pub first_read_is : row.first_read ≡ length reads
+  pub op_count_few : row.op_count < 2 ^ 16
+  pub first_read_is : row.first_read ≡ count_by is_read ops
+  pub first_place_is : row.first_place ≡ 0
   pub reads_done_is : row.reads_done ≡ 0
   pub work_is : row.work ≡ 0
 
-pub laid_push : (rows : List Row) (ops more : List Op) (reads places : List PageData) (row : Row) → IsBegun row ops reads (length more)
-    → length places ≡ count_by is_read more → AreLaid rows ops reads
-    → AreLaid (rows ++ row ∷ []) (ops ++ more) (reads ++ places)
-laid_push rows ops more reads places row begun count laid = record {
-  each = λ n other at_n. elim (push_cases rows row n other at_n)
-      [ inl h ↦ row_stays ops more other (laid.each n other h) | inr h ↦ rw (sym h.1) new_row ];
-  apart = λ n m one other at_n at_m before. elim (push_cases rows row m other at_m) [
+begun_ops : (ops more : List Op) (row : Row) → IsBegun row ops (length more) → ops_at (ops ++ more) row ≡ more
+begun_ops ops more row begun =
+    ap (λ (n : ℕ). take row.op_count (drop n (ops ++ more))) begun.first_op_is
+    ∙ ap (take row.op_count) (drop-append_seam ops more)
+    ∙ take_all row.op_count more (let h = begun.op_count_is in omega arith)
+
+pub laid_push : (rows : List Row) (ops more : List Op) (reads : List PageData) (row : Row) → IsBegun row ops (length more)
+    → AreLaid rows ops reads → AreLaid (rows ++ row ∷ []) (ops ++ more) reads
+laid_push rows ops more reads row begun laid = record {
+  each = λ n other at_n. elim (push_cases rows row n other at_n) [ inl h ↦ old_row n other h | inr h ↦ rw (sym h.1) new_row ];
+  ops_apart = λ n m one other at_n at_m before. elim (push_cases rows row m other at_m) [
     | inl h ↦ elim (push_cases rows row n one at_n) [
-      | inl g ↦ laid.apart n m one other g h before
+      | inl g ↦ laid.ops_apart n m one other g h before
       | inr g ↦ absurd
           (let within = slice_get_within rows m other h in let at_end = g.0 in omega arith)
     ]
     | inr h ↦ elim (push_cases rows row n one at_n) [
-      | inl g ↦ let there = (laid.each n one g).ops_there in let first = begun.first_op_is in let is : other.first_op
+      | inl g ↦ let there = (laid.each n one g).fits.ops_there in let first = begun.first_op_is in let is : other.first_op
           ≡ row.first_op = ap (λ (r : Row). r.first_op) (sym h.1) in omega arith
       | inr g ↦ absurd (let a = h.0 in let b = g.0 in omega arith)
     ]
   ];
-  places = record { each = let old = laid.places.each in omega (arith, length-append reads places, sum_by-append read_of ops more) };
+  places_apart = λ n m one other at_n at_m differs. elim (push_cases rows row n one at_n) [
+    | inl h ↦ elim (push_cases rows row m other at_m) [
+      | inl g ↦
+          rw (places_stay ops more one (laid.each n one h).fits.ops_there)
+          (rw (places_stay ops more other (laid.each m other g).fits.ops_there) (laid.places_apart n m one other h g differs))
+      | inr g ↦ rw (sym g.1) (inr (omega (arith, new_ends)))
+    ]
+    | inr h ↦ rw (sym h.1) (inl (omega (arith, new_ends)))
+  ];
 }
   where
-    new_row : IsRowOf (ops ++ more) row
+    new_ends : row.first_place + place_count (ops ++ more) row ≡ 0
+    new_ends =
+        let placed = (lacks_all (ops ++ more) row begun.reads_done_is).placed in
+        let first = begun.first_place_is in
+        omega arith
+
+    new_row : IsRowIn (ops ++ more) reads row
     new_row = record {
-      ops_there = let a = begun.first_op_is in let b = begun.op_count_is in omega (arith, length-append ops more);
-      first_read_is = begun.first_read_is ∙ laid.places.each
-          ∙ sym (ap (λ (n : ℕ). count_by is_read (take n (ops ++ more))) begun.first_op_is
-          ∙ ap (count_by is_read) (take-append_seam ops more));
-      reads_done_is = begun.reads_done_is ∙ sym (ap (λ (n : ℕ). count_by is_read (take n (ops_at (ops ++ more) row))) begun.work_is);
+      fits = record {
+        ops_there = let a = begun.first_op_is in let b = begun.op_count_is in omega (arith, length-append ops more);
+        ops_few = begun.op_count_few;
+        first_read_is = begun.first_read_is
+            ∙ sym (ap (λ (n : ℕ). count_by is_read (take n (ops ++ more))) begun.first_op_is
+            ∙ ap (count_by is_read) (take-append_seam ops more));
+        reads_done_is = begun.reads_done_is ∙ sym (ap (λ (n : ℕ). count_by is_read (take n (ops_at (ops ++ more) row))) begun.work_is);
+      };
+      places_there = omega (arith, new_ends);
     }
 
+    old_row : (n : ℕ) (other : Row) → slice_get rows n ≡ Some other → IsRowIn (ops ++ more) reads other
+    old_row n other at_n =
+        let old = laid.each n other at_n in
+        record {
+          fits = row_stays ops more other old.fits;
+          places_there = let there = old.places_there in omega (arith, places_stay ops more other old.fits.ops_there);
+        }
+
+-- room for the reads of all jobs and for its own
+pub room_push : (rows : List Row) (ops more : List Op) (reads : List PageData) (all all' capacity capacity' : ℕ) (row : Row)
+    → IsBegun row ops (length more) → all' ≡ all + count_by is_read more → all' ≤ capacity' → AreLaid rows ops reads
+    → HaveRoom rows ops reads all capacity → HaveRoom (rows ++ row ∷ []) (ops ++ more) reads all' capacity'
+room_push rows ops more reads all all' capacity capacity' row begun count_is fits laid room = record {
+  all_is = let old = room.all_is in omega (arith, sum_by-append read_of ops more);
+  places =
+      let old = sum_same (lacking ops) (lacking (ops ++ more)) rows
+      (λ n other at_n. lacks_stay ops more other (laid.each n other at_n).fits.ops_there) in
+      let new = (lacks_all (ops ++ more) row begun.reads_done_is).lacks ∙ ap (count_by is_read) (begun_ops ops more row begun) in
+      let before = room.places in
+      omega (arith, sum_by_push (lacking (ops ++ more)) rows row);
+  room = fits;
+}
+
 -- the jobs with it
-pub jobs_pushed : (rows : List Row) (ops more : List Op) (reads places : List PageData) (row : Row) → IsBegun row ops reads (length more)
+pub jobs_pushed : (rows : List Row) (ops more : List Op) (reads : List PageData) (row : Row) → IsBegun row ops (length more)
     → AreLaid rows ops reads
-    → jobs_at (ops ++ more) (reads ++ places) (rows ++ row ∷ []) ≡ jobs_at ops reads rows
+    → jobs_at (ops ++ more) reads (rows ++ row ∷ []) ≡ jobs_at ops reads rows
     ++ record (accepted row.collects row.task row.release row.due more) { stage = row.stage } ∷ []
-jobs_pushed rows ops more reads places row begun laid =
-    map-append (job_at (ops ++ more) (reads ++ places)) rows (row ∷ [])
-    ∙ ap (λ (l : List JobRecord). l ++ job_at (ops ++ more) (reads ++ places) row ∷ [])
-    (map_same (job_at ops reads) (job_at (ops ++ more) (reads ++ places)) rows stays)
+jobs_pushed rows ops more reads row begun laid =
+    map-append (job_at (ops ++ more) reads) rows (row ∷ [])
+    ∙ ap (λ (l : List JobRecord). l ++ job_at (ops ++ more) reads row ∷ [])
+    (map_same (job_at ops reads) (job_at (ops ++ more) reads) rows stays)
     ∙ ap (λ (job : JobRecord). jobs_at ops reads rows ++ job ∷ []) new_job
   where
-    stays : (n : ℕ) (other : Row) → slice_get rows n ≡ Some other → job_at (ops ++ more) (reads ++ places) other ≡ job_at ops reads other
-    stays n other at_n =
-        let fits = laid.each n other at_n in
-        let within = done_within ops other fits in
-        let all = sum_by-take-le read_of ops (other.first_op + other.op_count) in
-        let each = laid.places.each in
-        job_stays ops more reads places other fits.ops_there (omega arith)
+    stays : (n : ℕ) (other : Row) → slice_get rows n ≡ Some other → job_at (ops ++ more) reads other ≡ job_at ops reads other
+    stays n other at_n = ap (λ (l : List Op). record (job_at ops reads other) { ops = l })
+        (ops_stay ops more other (laid.each n other at_n).fits.ops_there)
 
-    new_ops : ops_at (ops ++ more) row ≡ more
-    new_ops =
-        ap (λ (n : ℕ). take row.op_count (drop n (ops ++ more))) begun.first_op_is
-        ∙ ap (take row.op_count) (drop-append_seam ops more)
-        ∙ take_all row.op_count more (let h = begun.op_count_is in omega arith)
+    no_reads : reads_at reads row ≡ []
+    no_reads = ap (λ (n : ℕ). take n (drop row.first_place reads)) begun.reads_done_is
 
-    no_reads : reads_at (reads ++ places) row ≡ []
-    no_reads = ap (λ (n : ℕ). take n (drop row.first_read (reads ++ places))) begun.reads_done_is
-
-    new_job : job_at (ops ++ more) (reads ++ places) row
+    new_job : job_at (ops ++ more) reads row
         ≡ record (accepted row.collects row.task row.release row.due more) { stage = row.stage }
     new_job =
-        ap (λ (l : List Op). record (job_at (ops ++ more) (reads ++ places) row) { ops = l }) new_ops
-        ∙ ap (λ (l : List PageData). record (job_at (ops ++ more) (reads ++ places) row) { ops = more; reads = l }) no_reads
+        ap (λ (l : List Op). record (job_at (ops ++ more) reads row) { ops = l }) (begun_ops ops more row begun)
+        ∙ ap (λ (l : List PageData). record (job_at (ops ++ more) reads row) { ops = more; reads = l }) no_reads
         ∙ ap (λ (n : ℕ). record (accepted row.collects row.task row.release row.due more) { work = n; stage = row.stage }) begun.work_is

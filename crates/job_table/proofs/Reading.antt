@@ -1,6 +1,7 @@
 -- How many reads stand before a place.
-use Rattle.std.proofs.Common.{◌≡◌, ℕ, zero, suc, ◌+◌, ◌<◌, ◌≤◌, Bool, true, cond, refl, sym, ap, ◌∙◌, arith, List, [], ◌∷◌, None, length}
-use Rattle.std.proofs.Common.{take, drop, slice_get, count_by}
+use Rattle.std.proofs.Common.{◌≡◌, ℕ, zero, suc, ◌+◌, ◌^◌, ◌<◌, ◌≤◌, Bool, true, cond, refl, sym, ap, ◌∙◌, arith, List, [], ◌∷◌, length}
+use Rattle.std.proofs.Common.{None, take, drop, slice_get, count_by, ◌==◌, ◌⊎◌, inl, inr, false, eq-eqb}
+use Rattle.std.proofs.lemmas.Bool.Decides.{nat_tests}
 use Rattle.std.proofs.Math.Seq.{take-add}
 use Rattle.std.proofs.lemmas.List.{take-take, length-take, length-drop}
 use Rattle.std.proofs.lemmas.List.Sums.{sum_by-cons, sum_by-append, sum_by-take-le, count_by-le-length}
@@ -8,7 +9,7 @@ use Rattle.slot_types.specs.declared.events.Op.{Op}
 use Rattle.slot_types.specs.declared.pages.PageData.{PageData}
 use Rattle.job_table.specs.declared.rows.Row.{Row}
 use Rattle.job_table.specs.Jobs.{is_read, is_some_read}
-use Rattle.job_table.specs.Flat.{ops_at, reads_at, IsRowOf, IsRowIn}
+use Rattle.job_table.specs.Flat.{ops_at, reads_at, read_count, place_count, lacking, place_from, IsRowOf, IsRowIn}
 
 abbrev pub read_of : Op → ℕ
 read_of op = cond (is_read op) 1 0
@@ -34,34 +35,70 @@ reads_on ops from more = sym (ap (count_by is_read) (take-add from more ops)
 pub reads_rise : (ops : List Op) (a b : ℕ) → a ≤ b → count_by is_read (take a ops) ≤ count_by is_read (take b ops)
 reads_rise ops a b up = rw (sym (ap (count_by is_read) (take-take a b ops up))) (sum_by-take-le read_of (take b ops) a)
 
--- the reads of a row so far stand before its end
-pub done_within : (ops : List Op) (row : Row) → IsRowOf ops row → row.first_read + row.reads_done
-    ≤ count_by is_read (take (row.first_op + row.op_count) ops)
-done_within ops row fits =
-    let first = fits.first_read_is in
-    let done = fits.reads_done_is in
-    let all = sum_by-take-le read_of (ops_at ops row) row.work in
+-- What a row has of places
+
+pub has_read : (row : Row) → (row.reads_done ≡ 0) ⊎ (0 < row.reads_done)
+has_read row = by_count row.reads_done
+  where
+    by_count : (n : ℕ) → (n ≡ 0) ⊎ (0 < n)
+    by_count zero = inl refl
+    by_count (suc n) = inr (omega arith)
+
+-- nothing as long as it has not read
+pub record LacksAll (ops : List Op) (row : Row) : Type 0 where
+  pub placed : place_count ops row ≡ 0
+  pub lacks : lacking ops row ≡ read_count ops row
+  pub from : (len : ℕ) → place_from len row ≡ len
+
+pub lacks_all : (ops : List Op) (row : Row) → row.reads_done ≡ 0 → LacksAll ops row
+lacks_all ops row none =
+    let is = eq-eqb row.reads_done 0 none in
+    record {
+      placed = ap (λ (v : Bool). cond v 0 (read_count ops row)) is;
+      lacks = ap (λ (v : Bool). cond v (read_count ops row) 0) is;
+      from = λ len. ap (λ (v : Bool). cond v len row.first_place) is;
+    }
+
+-- .. which is what is counted from its first operation to its last
+pub lacks_counted : (ops : List Op) (row : Row) (count : ℕ) → row.reads_done ≡ 0
+    → count_by is_read (take row.first_op ops) + count ≡ count_by is_read (take (row.first_op + row.op_count) ops)
+    → count ≡ lacking ops row
+lacks_counted ops row count none is =
+    let all = (lacks_all ops row none).lacks in
     let on = reads_on ops row.first_op row.op_count in
     omega arith
 
--- and where a read is next, one more
-pub next_within : (ops : List Op) (row : Row) → IsRowOf ops row → is_some_read (slice_get (ops_at ops row) row.work) ≡ true
-    → row.first_read + row.reads_done < count_by is_read (take (row.first_op + row.op_count) ops)
-next_within ops row fits next =
-    let first = fits.first_read_is in
-    let done = fits.reads_done_is in
-    let more = one_more (ops_at ops row) row.work true next in
-    let all = sum_by-take-le read_of (ops_at ops row) (suc row.work) in
-    let on = reads_on ops row.first_op row.op_count in
-    omega arith
+-- and all once it has
+pub record LacksNone (ops : List Op) (row : Row) : Type 0 where
+  pub placed : place_count ops row ≡ read_count ops row
+  pub lacks : lacking ops row ≡ 0
+  pub from : (len : ℕ) → place_from len row ≡ row.first_place
 
--- the places of the reads that a row carried
-pub reads_there : (ops : List Op) (reads : List PageData) (row : Row) → IsRowIn ops reads row → row.first_read + row.reads_done
+pub lacks_none : (ops : List Op) (row : Row) → 0 < row.reads_done → LacksNone ops row
+lacks_none ops row some =
+    let isnt : (row.reads_done == 0) ≡ false = grind (arith, nat_tests) in
+    record {
+      placed = ap (λ (v : Bool). cond v 0 (read_count ops row)) isnt;
+      lacks = ap (λ (v : Bool). cond v (read_count ops row) 0) isnt;
+      from = λ len. ap (λ (v : Bool). cond v len row.first_place) isnt;
+    }
+
+-- what it has read is in its places
+pub done_placed : (ops : List Op) (row : Row) → IsRowOf ops row → row.reads_done ≤ place_count ops row
+done_placed ops row fits = elim (has_read row) [
+  | inl none ↦ omega arith
+  | inr some ↦
+      let placed = (lacks_none ops row some).placed in
+      let done = fits.reads_done_is in
+      let all = sum_by-take-le read_of (ops_at ops row) row.work in
+      omega arith
+]
+
+pub reads_there : (ops : List Op) (reads : List PageData) (row : Row) → IsRowIn ops reads row → row.first_place + row.reads_done
     ≤ length reads
 reads_there ops reads row in_table =
-    let within = done_within ops row in_table.fits in
-    let all = sum_by-take-le read_of ops (row.first_op + row.op_count) in
-    let places = in_table.places.each in
+    let within = done_placed ops row in_table.fits in
+    let there = in_table.places_there in
     omega arith
 
 pub reads_count : (ops : List Op) (reads : List PageData) (row : Row) → IsRowIn ops reads row → length (reads_at reads row)
@@ -69,13 +106,24 @@ pub reads_count : (ops : List Op) (reads : List PageData) (row : Row) → IsRowI
 reads_count ops reads row in_table =
     let there = reads_there ops reads row in_table in
     let done = in_table.fits.reads_done_is in
-    omega (arith, length-take row.reads_done (drop row.first_read reads), length-drop row.first_read reads)
+    omega (arith, length-take row.reads_done (drop row.first_place reads), length-drop row.first_place reads)
 
--- it carried as many reads as slots at most
-pub done_few : (ops : List Op) (row : Row) → IsRowOf ops row → row.reads_done ≤ row.work
-done_few ops row fits =
+-- where a read is next, it has fewer so far than in all
+pub next_of_all : (ops : List Op) (row : Row) → IsRowOf ops row → is_some_read (slice_get (ops_at ops row) row.work) ≡ true
+    → row.reads_done < read_count ops row
+next_of_all ops row fits next =
     let done = fits.reads_done_is in
-    omega (arith, count_by-le-length is_read (take row.work (ops_at ops row)), length-take row.work (ops_at ops row))
+    let more = one_more (ops_at ops row) row.work true next in
+    let all = sum_by-take-le read_of (ops_at ops row) (suc row.work) in
+    omega arith
+
+-- .. and so 16 bits count one more
+pub next_few : (ops : List Op) (row : Row) → IsRowOf ops row → is_some_read (slice_get (ops_at ops row) row.work) ≡ true
+    → row.reads_done + 1 < 2 ^ 16
+next_few ops row fits next =
+    let done = next_of_all ops row fits next in
+    let few = fits.ops_few in
+    omega (arith, count_by-le-length is_read (ops_at ops row), length-take row.op_count (drop row.first_op ops))
 
 -- The operation at a place of a row
 

@@ -1,5 +1,6 @@
--- Jobs as flat rows over two arenas: the operations of all jobs, one behind another, and a place for what each read gives.
-use Rattle.std.specs.Prelude.{◌≡◌, ℕ, ◌+◌, ◌<◌, ◌≤◌, List, Some, slice_get, length, take, drop, map, count_by}
+-- Jobs as flat rows over two arenas: the operations of all jobs, one behind another, and places for what reads give.
+use Rattle.std.specs.Prelude.{◌≡◌, ◌≢◌, ◌⊎◌, ◌==◌, ℕ, ◌+◌, ◌^◌, ◌<◌, ◌≤◌, List, Some, slice_get, length, take, drop, map, count_by}
+use Rattle.std.specs.Prelude.{sum_by, if◌then◌else◌}
 use Rattle.slot_types.specs.declared.events.Op.{Op}
 use Rattle.slot_types.specs.declared.pages.PageData.{PageData}
 use Rattle.job_table.specs.declared.rows.Row.{Row}
@@ -9,7 +10,7 @@ abbrev pub ops_at : List Op → Row → List Op
 ops_at ops row = take row.op_count (drop row.first_op ops)
 
 abbrev pub reads_at : List PageData → Row → List PageData
-reads_at reads row = take row.reads_done (drop row.first_read reads)
+reads_at reads row = take row.reads_done (drop row.first_place reads)
 
 -- the job that a row stands for
 abbrev pub job_at : List Op → List PageData → Row → JobRecord
@@ -27,25 +28,45 @@ job_at ops reads row = record {
 abbrev pub jobs_at : List Op → List PageData → List Row → List JobRecord
 jobs_at ops reads rows = map (job_at ops reads) rows
 
--- its operations are there, the places of its reads are behind those of all reads before its own, and it carried so many
--- reads as its work shows
+-- how many reads a job has
+abbrev pub read_count : List Op → Row → ℕ
+read_count ops row = count_by is_read (ops_at ops row)
+
+-- how many places it has: one for each of its reads, once it has read
+abbrev pub place_count : List Op → Row → ℕ
+place_count ops row = if row.reads_done == 0 then 0 else read_count ops row
+
+-- how many it lacks: one for each of its reads, until then
+abbrev pub lacking : List Op → Row → ℕ
+lacking ops row = if row.reads_done == 0 then read_count ops row else 0
+
+-- where its places begin, if those that it lacks are made behind so many
+abbrev pub place_from : ℕ → Row → ℕ
+place_from len row = if row.reads_done == 0 then len else row.first_place
+
+-- its operations are there, as many as 16 bits count, so many reads stand before them, and it carried so many reads as its
+-- work shows
 pub record IsRowOf (ops : List Op) (row : Row) : Type 0 where
   pub ops_there : row.first_op + row.op_count ≤ length ops
+  pub ops_few : row.op_count < 2 ^ 16
   pub first_read_is : row.first_read ≡ count_by is_read (take row.first_op ops)
   pub reads_done_is : row.reads_done ≡ count_by is_read (take row.work (ops_at ops row))
 
--- each read has a place
-pub record HasPlaces (ops : List Op) (reads : List PageData) : Type 0 where
-  pub each : length reads ≡ count_by is_read ops
-
--- one row of a table
+-- one row of a table: its places are there as well
 pub record IsRowIn (ops : List Op) (reads : List PageData) (row : Row) : Type 0 where
   pub fits : IsRowOf ops row
-  pub places : HasPlaces ops reads
+  pub places_there : row.first_place + place_count ops row ≤ length reads
 
--- the operations of a later row lie behind those of an earlier one
+-- the operations of a later row lie behind those of an earlier one, and no two rows share a place
 pub record AreLaid (rows : List Row) (ops : List Op) (reads : List PageData) : Type 0 where
-  pub each : (n : ℕ) (row : Row) → slice_get rows n ≡ Some row → IsRowOf ops row
-  pub apart : (n m : ℕ) (row other : Row) → slice_get rows n ≡ Some row → slice_get rows m ≡ Some other → n < m
+  pub each : (n : ℕ) (row : Row) → slice_get rows n ≡ Some row → IsRowIn ops reads row
+  pub ops_apart : (n m : ℕ) (row other : Row) → slice_get rows n ≡ Some row → slice_get rows m ≡ Some other → n < m
       → row.first_op + row.op_count ≤ other.first_op
-  pub places : HasPlaces ops reads
+  pub places_apart : (n m : ℕ) (row other : Row) → slice_get rows n ≡ Some row → slice_get rows m ≡ Some other → n ≢ m
+      → (row.first_place + place_count ops row ≤ other.first_place) ⊎ (other.first_place + place_count ops other ≤ row.first_place)
+
+-- so many reads the jobs have in all, and for each of them there is a place, or room for one
+pub record HaveRoom (rows : List Row) (ops : List Op) (reads : List PageData) (all capacity : ℕ) : Type 0 where
+  pub all_is : all ≡ count_by is_read ops
+  pub places : length reads + sum_by (lacking ops) rows ≡ all
+  pub room : all ≤ capacity

@@ -6,6 +6,7 @@ ghost use Rattle.slot_types.specs.declared.limits.TheConstants.{MAX_JOBS};
 ghost use Rattle.job_table.specs.Jobs.{JobRecord, new_job, new_collection, accepted, carried, with_read, with_stage};
 ghost use Rattle.job_table.specs.Table.{changed_at, work_at, reads_next_at};
 ghost use Rattle.job_table.specs.Words.{blank};
+ghost use Rattle.job_table.specs.Flat.{lacking, place_from};
 
 use crate::arenas::OpArena;
 use crate::jobs::{Job, count_reads};
@@ -21,8 +22,11 @@ use std::marker::Model;
 pub(crate) struct FlatJobs {
     rows: Vec<Row>,
     ops: OpArena,
-    /// A place for each read of all jobs, from acceptance on.
+    /// A place for each read of the jobs that have read, and room for those of all others: so a job that never runs
+    /// takes room for its reads, and none of it is touched.
     reads: Vec<PageData>,
+    /// How many reads all jobs have.
+    all_reads: u32,
 }
 
 impl Model for FlatJobs {
@@ -31,11 +35,13 @@ impl Model for FlatJobs {
 
     ghost Value = { List JobRecord };
 
-    ghost use Rattle.job_table.specs.Flat.{jobs_at, AreLaid};
+    ghost use Rattle.std.specs.Prelude.{vec_capacity};
+    ghost use Rattle.job_table.specs.Flat.{jobs_at, AreLaid, HaveRoom};
 
     ghost view = { λ j. jobs_at j.ops j.reads.items j.rows.items };
 
-    ghost invariant = { λ j. AreLaid j.rows.items j.ops j.reads.items };
+    ghost invariant = { λ j. AreLaid j.rows.items j.ops j.reads.items
+        × HaveRoom j.rows.items j.ops j.reads.items j.all_reads (vec_capacity j.reads) };
 }
 
 /// A length of an arena as a row keeps it. What 32 bits can't count finds no memory.
@@ -49,13 +55,42 @@ fn count_in_row(len: usize) -> Result<u32, Refusal>
     Ok(len as u32)
 }
 
+/// The number of a job's operations as a row keeps it. What 16 bits can't count finds no memory.
+fn ops_in_row(len: usize) -> Result<u16, Refusal>
+    ensures ok { IfOk result (λ count. count ≡ len) }
+    ensures refused { IfErr result (λ refusal. refusal ≡ Refusal.NoMemory) }
+{
+    if len > u16::MAX as usize {
+        return Err(Refusal::NoMemory);
+    }
+    Ok(len as u16)
+}
+
 /// Adds so many places, in room that was made.
 fn push_places(reads: &mut Vec<PageData>, count: usize)
     requires room { vec_len reads.old + count ≤ vec_capacity reads.old }
-    ensures { reads.new.items ≡ reads.old.items ++ replicate count blank }
+    ensures places { reads.new.items ≡ reads.old.items ++ replicate count blank }
+    ensures capacity { vec_capacity reads.new ≡ vec_capacity reads.old }
 {
     for _place in 0..count {
         reads.push_reserved(PageData::BLANK);
+    }
+}
+
+/// Makes the places of a row that has not read yet, in room that was made. One that has read keeps those that it has.
+fn make_places(row: &mut Row, ops: &OpArena, reads: &mut Vec<PageData>)
+    requires ops { row.old.first_op + row.old.op_count ≤ length ops.now }
+    requires room { vec_len reads.old + lacking ops.now row.old ≤ vec_capacity reads.old }
+    requires few { vec_len reads.old < 2 ^ 32 }
+    ensures row { row.new ≡ record row.old { first_place = place_from (vec_len reads.old) row.old } }
+    ensures places { reads.new.items ≡ reads.old.items ++ replicate (lacking ops.now row.old) blank }
+    ensures capacity { vec_capacity reads.new ≡ vec_capacity reads.old }
+{
+    if row.reads_done == 0 {
+        let from = row.first_op as usize;
+        let count = ops.count_reads(from, from + row.op_count as usize);
+        row.first_place = reads.len() as u32;
+        push_places(reads, count);
     }
 }
 
@@ -68,6 +103,7 @@ impl FlatJobs {
             rows: Vec::new(alloc),
             ops: OpArena::new(alloc),
             reads: Vec::new(alloc),
+            all_reads: 0,
         }
     }
 
@@ -150,25 +186,34 @@ impl FlatJobs {
         ensures err { OnErr result (self.new ≡ self.old) }
     {
         let reads = count_reads(ops);
+        let all_reads = count_in_row(self.all_reads as usize + reads)?;
         let row = Row {
             task,
             release,
             due,
             first_op: count_in_row(self.ops.len())?,
-            op_count: count_in_row(ops.len())?,
-            first_read: count_in_row(self.reads.len())?,
+            first_read: self.all_reads,
+            first_place: 0,
+            op_count: ops_in_row(ops.len())?,
             reads_done: 0,
             work: 0,
             stage: Stage::Pending,
             collects,
         };
         self.rows.reserve(1)?;
-        self.reads.reserve(reads)?;
+        // Room for the reads of all jobs that have no places yet, and of this one.
+        self.reads.reserve(all_reads as usize - self.reads.len())?;
         self.ops.push_all(ops, reads)?;
-        push_places(&mut self.reads, reads);
         let number = self.rows.len() as u32;
         self.rows.push_reserved(row);
+        self.all_reads = all_reads;
         Ok(number)
+    }
+
+    /// How many places for what reads give have been made.
+    #[cfg(test)]
+    pub(crate) fn place_count(&self) -> usize {
+        self.reads.len()
     }
 
     /// It took one more slot, which wasn't a read of a job.
@@ -190,7 +235,8 @@ impl FlatJobs {
         ensures { self.new ≡ changed_at self.old number (λ job. with_read bytes (carried job)) }
     {
         let row = &mut self.rows[number.0 as usize];
-        let place = row.first_read as usize + row.reads_done as usize;
+        make_places(row, &self.ops, &mut self.reads);
+        let place = row.first_place as usize + row.reads_done as usize;
         row.reads_done += 1;
         row.work += 1;
         self.reads[place] = bytes;

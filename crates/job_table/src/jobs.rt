@@ -70,7 +70,7 @@ impl<'a> Job<'a> {
     pub fn op(&self, place: u32) -> Option<Op>
         ensures { result ≡ slice_get self.now.ops place }
     {
-        if place >= self.row.op_count {
+        if place >= self.row.op_count as u32 {
             return None;
         }
         let from = self.row.first_op as usize;
@@ -83,7 +83,7 @@ impl<'a> Job<'a> {
     pub fn next_op(&self) -> Option<Op>
         ensures { result ≡ slice_get self.now.ops self.now.work }
     {
-        if self.row.work >= self.row.op_count {
+        if self.row.work >= self.row.op_count as u32 {
             return None;
         }
         let at = self.row.first_op as usize + self.row.work as usize;
@@ -104,7 +104,7 @@ impl<'a> Job<'a> {
     pub fn reads(&self) -> &[PageData]
         ensures { result.now ≡ self.now.reads }
     {
-        let from = self.row.first_read as usize;
+        let from = self.row.first_place as usize;
         &self.reads[from..from + self.row.reads_done as usize]
     }
 

@@ -26,8 +26,10 @@ fn add_ops(
     Ok(Some(number.0))
 }
 
-/// What each read gives.
-const BYTES: PageData = PageData([0x11; 16]);
+/// What the read of a slot gives.
+fn page_at(slot: u32) -> PageData {
+    PageData([(slot % 256) as u8; 16])
+}
 
 /// The slot is the head's, if there is one; it is done with its last operation.
 fn run_slot(table: &mut JobTable, now: u32) -> Option<JobNo> {
@@ -43,7 +45,7 @@ fn run_slot(table: &mut JobTable, now: u32) -> Option<JobNo> {
         return None;
     }
     match next {
-        Some(Op::Read(_)) => table.carry_read(number, BYTES),
+        Some(Op::Read(_)) => table.carry_read(number, page_at(now)),
         _ => table.carry(number),
     }
     if work as usize + 1 >= count {
@@ -156,8 +158,10 @@ enum Step<'a> {
     Row(RowOf, bool, bool),
     /// Job 0 has these operations at places 1 and 2.
     Ops([Option<Op>; 2]),
-    /// The reads of job 0 gave these pages.
-    Gave(&'a [PageData]),
+    /// The reads of the job of this number gave the pages of these slots.
+    Gave(u32, &'a [u32]),
+    /// So many places for what reads give have been made.
+    Places(usize),
 }
 
 /// Whether a step that only looks at job 0 is as it says.
@@ -169,9 +173,22 @@ fn is_so(job: &Job, step: &Step) -> bool {
                 & (job.is_pending() == *is_pending)
         }
         Step::Ops(ops) => [job.op(1), job.op(2)] == *ops,
-        Step::Gave(reads) => job.reads() == *reads,
         _ => false,
     }
+}
+
+/// Whether the reads of a job gave the pages of these slots.
+fn gave(job: &Job, slots: &[u32]) -> bool {
+    let reads = job.reads();
+    if reads.len() != slots.len() {
+        return false;
+    }
+    for (read, slot) in reads.iter().zip(slots) {
+        if *read != page_at(*slot) {
+            return false;
+        }
+    }
+    true
 }
 
 /// Whether a step goes as it says.
@@ -191,6 +208,11 @@ fn goes(table: &mut JobTable, alloc: Global, step: &Step) -> bool {
         Step::Is(clock, is_empty, ended) => {
             (table.clock() == *clock) & (table.is_empty() == *is_empty) & (table.ended() == *ended)
         }
+        Step::Places(count) => table.place_count() == *count,
+        Step::Gave(number, slots) => match table.job(JobNo(*number)) {
+            Some(job) => gave(&job, *slots),
+            None => false,
+        },
         _ => match table.job(JobNo(0)) {
             Some(job) => is_so(&job, step),
             None => false,
@@ -282,12 +304,48 @@ fn waivers_are_taken_back(rt: HostRuntime) -> Result<(), Fail> {
 #[test]
 fn a_job_keeps_what_its_reads_gave(rt: HostRuntime) -> Result<(), Fail> {
     const STEPS: &[Step] = &[
-        Step::Accepts(0, 4, &[Op::Write(3, BYTES), Op::Read(3)], 0),
+        Step::Accepts(0, 4, &[Op::Write(3, PageData::BLANK), Op::Read(3)], 0),
         Step::Carries(0, &[0, 0, 99]),
         Step::Is(2, false, false),
         Step::Row((0, 0, 4, 2), false, false),
         Step::Ops([Some(Op::Read(3)), None]),
-        Step::Gave(&[BYTES]),
+        Step::Gave(0, &[1]),
+    ];
+    assert_eq!(rt; first_wrong(rt.alloc(), 1, STEPS)?, None);
+    Ok(())
+}
+
+#[test]
+fn a_job_that_never_runs_makes_no_places(rt: HostRuntime) -> Result<(), Fail> {
+    const STEPS: &[Step] = &[
+        Step::Accepts(500, 900, &[R0, R1, R2], 0),
+        Step::Accepts(0, 9, &[Op::Trim(0), R0, R1], 1),
+        Step::Places(0),
+        // Its first operation isn't a read.
+        Step::Carries(0, &[1]),
+        Step::Places(0),
+        Step::Carries(1, &[1]),
+        Step::Places(2),
+        Step::Carries(2, &[1, 99]),
+        Step::Places(2),
+        Step::Gave(1, &[1, 2]),
+        Step::Gave(0, &[]),
+    ];
+    assert_eq!(rt; first_wrong(rt.alloc(), 1, STEPS)?, None);
+    Ok(())
+}
+
+#[test]
+fn jobs_that_read_by_turns_keep_their_bytes_apart(rt: HostRuntime) -> Result<(), Fail> {
+    const STEPS: &[Step] = &[
+        Step::Accepts(2, 4, &[R0], 0),
+        Step::Accepts(1, 5, &[R0, R1], 1),
+        Step::Accepts(0, 9, &[R2, R1], 2),
+        Step::Carries(0, &[2, 1, 0, 1, 2]),
+        Step::Places(5),
+        Step::Gave(0, &[2]),
+        Step::Gave(1, &[1, 3]),
+        Step::Gave(2, &[0, 4]),
     ];
     assert_eq!(rt; first_wrong(rt.alloc(), 1, STEPS)?, None);
     Ok(())

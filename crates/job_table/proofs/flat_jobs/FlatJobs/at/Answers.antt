@@ -8,11 +8,7 @@ pub invariant_of-result : goal.invariant_of-result
 invariant_of-result c =
     let at_n = row_read c.self.inside.rows.items c.self.inside.ops c.self.inside.reads.items c.args.self.now c.number.inside.0 c.args.number
     c.index.result.now c.self.view_is c.number.view_is c.requires c.index.ensures in
-    record {
-      fits = c.self.invariant.each c.number.inside.0 c.index.result.now at_n;
-      places = rw c.as_slice.ensures.value
-          c.self.invariant.places;
-    }
+    rw c.as_slice.ensures.value (c.self.invariant.0.each c.number.inside.0 c.index.result.now at_n)
 
 pub returns : goal.returns
 returns c =

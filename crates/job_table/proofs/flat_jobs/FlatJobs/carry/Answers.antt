@@ -1,8 +1,8 @@
-use Rattle.std.proofs.Common.{◌+◌, ℕ, List, Some, refl, sym, ap, ◌∙◌}
+use Rattle.std.proofs.Common.{◌+◌, ℕ, List, Some, vec_capacity, refl, sym, ap, ◌∙◌}
 use Rattle.job_table.specs.declared.rows.Row.{Row}
 use Rattle.job_table.specs.Jobs.{JobRecord, carried}
 use Rattle.job_table.specs.Table.{changed_at, reads_next_of}
-use Rattle.job_table.proofs.Laying.{row_read, job_there, row_carried, laid_set, jobs_set}
+use Rattle.job_table.proofs.Laying.{row_read, job_there, row_carried, laid_kept, room_kept, jobs_set}
 use Rattle.job_table.proofs.flat_jobs.FlatJobs.carry.Goals as goal
 
 pub invariant_of-self : goal.invariant_of-self
@@ -13,9 +13,12 @@ invariant_of-self c =
     let there = job_there c.self.inside.rows.items c.self.inside.ops c.self.inside.reads.items c.args.self.now c.number.inside.0
     c.args.number (Some row) c.self.view_is c.number.view_is at_n in
     let next = sym (ap reads_next_of there) ∙ c.requires.reads in
-    let fits = row_carried c.self.inside.ops row next (c.self.invariant.each c.number.inside.0 row at_n) in
-    laid_set c.self.inside.rows.items c.self.inside.ops c.self.inside.reads.items c.self.inside.reads.items c.number.inside.0 row _ at_n
-    refl refl fits refl c.self.invariant
+    let fits = row_carried c.self.inside.ops row next (c.self.invariant.0.each c.number.inside.0 row at_n).fits in (
+      laid_kept c.self.inside.rows.items c.self.inside.ops c.self.inside.reads.items c.number.inside.0 row _ at_n refl refl refl refl fits
+          c.self.invariant.0,
+      room_kept c.self.inside.rows.items c.self.inside.ops c.self.inside.reads.items c.self.inside.all_reads
+          (vec_capacity c.self.inside.reads) c.number.inside.0 row _ at_n refl c.self.invariant.1,
+    )
 
 pub returns : goal.returns
 returns c =

@@ -1,70 +1,86 @@
-use Rattle.std.proofs.Common.{◌≡◌, ◌+◌, ℕ, List, Some, length, set, vec_len, rules, arith, refl, sym, ap, ◌∙◌}
+use Rattle.std.proofs.Common.{◌≡◌, ℕ, List, Some, length, replicate, vec_len, vec_capacity, rules, arith, ap, ◌∙◌}
+use Rattle.std.proofs.lemmas.List.{length-replicate}
+use Rattle.slot_types.specs.declared.pages.PageData.{PageData}
 use Rattle.job_table.specs.declared.rows.Row.{Row}
 use Rattle.job_table.specs.Jobs.{JobRecord, carried, with_read}
-use Rattle.job_table.specs.Table.{changed_at, work_of, reads_next_of}
-use Rattle.job_table.proofs.Reading.{done_few}
-use Rattle.job_table.proofs.Laying.{row_read, job_there, row_read_more, place_there, laid_set, jobs_read}
-use Rattle.std.proofs.lemmas.List.{length-set}
+use Rattle.job_table.specs.Table.{changed_at, work_of}
+use Rattle.job_table.specs.Words.{blank}
+use Rattle.job_table.specs.Flat.{lacking, place_from}
+use Rattle.job_table.proofs.Reading.{next_few}
+use Rattle.job_table.proofs.Laying.{job_there, row_reading, made, place_there, laid_read, room_read, jobs_read}
 use Rattle.job_table.proofs.flat_jobs.FlatJobs.carry_read.Goals as goal
+
+pub make_places-requires-clause-ops : goal.make_places-requires-clause-ops
+make_places-requires-clause-ops c =
+    let row : Row = c.index_mut-row.result.now in
+    let reading = row_reading c.self.inside.rows.items c.self.inside.ops c.self.inside.reads.items c.args.self.now c.number.inside.0
+    c.args.number row c.self.view_is c.number.view_is c.requires.there c.index_mut-row.ensures.value c.requires.reads in
+    (c.self.invariant.0.each c.number.inside.0 row reading.there).fits.ops_there
 
 pub overflow_add-row : goal.overflow_add-row
 overflow_add-row c =
     let row : Row = c.index_mut-row.result.now in
-    let at_n = row_read c.self.inside.rows.items c.self.inside.ops c.self.inside.reads.items c.args.self.now c.number.inside.0 c.args.number
-    row c.self.view_is c.number.view_is c.requires.there c.index_mut-row.ensures.value in
-    let there = job_there c.self.inside.rows.items c.self.inside.ops c.self.inside.reads.items c.args.self.now c.number.inside.0
-    c.args.number (Some row) c.self.view_is c.number.view_is at_n in
-    let work = ap work_of there in
-    let room = c.requires.room in
-    let few = done_few c.self.inside.ops row (c.self.invariant.each c.number.inside.0 row at_n) in
-    omega arith
+    let reading = row_reading c.self.inside.rows.items c.self.inside.ops c.self.inside.reads.items c.args.self.now c.number.inside.0
+    c.args.number row c.self.view_is c.number.view_is c.requires.there c.index_mut-row.ensures.value c.requires.reads in
+    let few = next_few c.self.inside.ops row (c.self.invariant.0.each c.number.inside.0 row reading.there).fits reading.next in
+    rw c.make_places.ensures.row (omega arith)
 
 pub overflow_add-row-2 : goal.overflow_add-row-2
 overflow_add-row-2 c =
     let row : Row = c.index_mut-row.result.now in
-    let at_n = row_read c.self.inside.rows.items c.self.inside.ops c.self.inside.reads.items c.args.self.now c.number.inside.0 c.args.number
-    row c.self.view_is c.number.view_is c.requires.there c.index_mut-row.ensures.value in
-    let there = job_there c.self.inside.rows.items c.self.inside.ops c.self.inside.reads.items c.args.self.now c.number.inside.0
-    c.args.number (Some row) c.self.view_is c.number.view_is at_n in
-    let work = ap work_of there in
+    let reading = row_reading c.self.inside.rows.items c.self.inside.ops c.self.inside.reads.items c.args.self.now c.number.inside.0
+    c.args.number row c.self.view_is c.number.view_is c.requires.there c.index_mut-row.ensures.value c.requires.reads in
+    let work = ap work_of (job_there c.self.inside.rows.items c.self.inside.ops c.self.inside.reads.items c.args.self.now c.number.inside.0
+    c.args.number (Some row) c.self.view_is c.number.view_is reading.there) in
     let room = c.requires.room in
-    omega arith
+    rw c.make_places.ensures.row (omega arith)
 
 pub index_mut-requires : goal.index_mut-requires
 index_mut-requires c =
     let row : Row = c.index_mut-row.result.now in
-    let at_n = row_read c.self.inside.rows.items c.self.inside.ops c.self.inside.reads.items c.args.self.now c.number.inside.0 c.args.number
-    row c.self.view_is c.number.view_is c.requires.there c.index_mut-row.ensures.value in
-    let there = job_there c.self.inside.rows.items c.self.inside.ops c.self.inside.reads.items c.args.self.now c.number.inside.0
-    c.args.number (Some row) c.self.view_is c.number.view_is at_n in
-    let next = sym (ap reads_next_of there) ∙ c.requires.reads in
+    let reading = row_reading c.self.inside.rows.items c.self.inside.ops c.self.inside.reads.items c.args.self.now c.number.inside.0
+    c.args.number row c.self.view_is c.number.view_is c.requires.there c.index_mut-row.ensures.value c.requires.reads in
     let whole : vec_len c.self.inside.reads ≡ length c.self.inside.reads.items = search rules in
-    let place = place_there c.self.inside.rows.items c.self.inside.ops c.self.inside.reads.items c.number.inside.0 row at_n next
-    c.self.invariant in
-    omega arith
+    let more : List PageData = replicate (lacking c.self.inside.ops row) blank in
+    let made = made c.self.inside.rows.items c.self.inside.ops c.self.inside.reads.items more c.number.inside.0
+    (vec_len c.self.inside.reads) row reading.there whole (length-replicate (lacking c.self.inside.ops row) blank) c.self.invariant.0 in
+    let from : ℕ = place_from (vec_len c.self.inside.reads) row in
+    let there = place_there c.self.inside.rows.items c.self.inside.ops c.self.inside.reads.items more c.number.inside.0 row from reading
+    c.self.invariant.0 made in
+    let len : vec_len c.make_places.new.reads ≡ length c.make_places.new.reads.items = search rules in
+    let items = ap length c.make_places.ensures.places in
+    rw c.make_places.ensures.row (omega arith)
 
 pub invariant_of-self : goal.invariant_of-self
 invariant_of-self c =
     let row : Row = c.index_mut-row.result.now in
-    let at_n = row_read c.self.inside.rows.items c.self.inside.ops c.self.inside.reads.items c.args.self.now c.number.inside.0 c.args.number
-    row c.self.view_is c.number.view_is c.requires.there c.index_mut-row.ensures.value in
-    let there = job_there c.self.inside.rows.items c.self.inside.ops c.self.inside.reads.items c.args.self.now c.number.inside.0
-    c.args.number (Some row) c.self.view_is c.number.view_is at_n in
-    let next = sym (ap reads_next_of there) ∙ c.requires.reads in
-    laid_set c.self.inside.rows.items c.self.inside.ops c.self.inside.reads.items
-    (set c.self.inside.reads.items (row.first_read + row.reads_done) c.args.bytes) c.number.inside.0 row _ at_n refl refl
-    (row_read_more c.self.inside.ops row next (c.self.invariant.each c.number.inside.0 row at_n))
-    (length-set c.self.inside.reads.items (row.first_read + row.reads_done) c.args.bytes) c.self.invariant
+    let reading = row_reading c.self.inside.rows.items c.self.inside.ops c.self.inside.reads.items c.args.self.now c.number.inside.0
+    c.args.number row c.self.view_is c.number.view_is c.requires.there c.index_mut-row.ensures.value c.requires.reads in
+    let whole : vec_len c.self.inside.reads ≡ length c.self.inside.reads.items = search rules in
+    let more : List PageData = replicate (lacking c.self.inside.ops row) blank in
+    let made = made c.self.inside.rows.items c.self.inside.ops c.self.inside.reads.items more c.number.inside.0
+    (vec_len c.self.inside.reads) row reading.there whole (length-replicate (lacking c.self.inside.ops row) blank) c.self.invariant.0 in
+    let from : ℕ = place_from (vec_len c.self.inside.reads) row in
+    rw (c.make_places.ensures.row, c.make_places.ensures.places, c.make_places.ensures.capacity) (
+      laid_read c.self.inside.rows.items c.self.inside.ops c.self.inside.reads.items more c.number.inside.0 row from c.args.bytes reading
+          c.self.invariant.0 made,
+      room_read c.self.inside.rows.items c.self.inside.ops c.self.inside.reads.items more c.self.inside.all_reads
+          (vec_capacity c.self.inside.reads) c.number.inside.0 row from c.args.bytes reading.there
+          (length-replicate (lacking c.self.inside.ops row) blank) c.self.invariant.1,
+    )
 
 pub returns : goal.returns
 returns c =
     let row : Row = c.index_mut-row.result.now in
-    let at_n = row_read c.self.inside.rows.items c.self.inside.ops c.self.inside.reads.items c.args.self.now c.number.inside.0 c.args.number
-    row c.self.view_is c.number.view_is c.requires.there c.index_mut-row.ensures.value in
-    let there = job_there c.self.inside.rows.items c.self.inside.ops c.self.inside.reads.items c.args.self.now c.number.inside.0
-    c.args.number (Some row) c.self.view_is c.number.view_is at_n in
-    let next = sym (ap reads_next_of there) ∙ c.requires.reads in
-    jobs_read c.self.inside.rows.items c.self.inside.ops c.self.inside.reads.items c.number.inside.0 row
-    (record row { reads_done = row.reads_done + 1; work = row.work + 1 }) c.args.bytes at_n next refl c.self.invariant
+    let reading = row_reading c.self.inside.rows.items c.self.inside.ops c.self.inside.reads.items c.args.self.now c.number.inside.0
+    c.args.number row c.self.view_is c.number.view_is c.requires.there c.index_mut-row.ensures.value c.requires.reads in
+    let whole : vec_len c.self.inside.reads ≡ length c.self.inside.reads.items = search rules in
+    let more : List PageData = replicate (lacking c.self.inside.ops row) blank in
+    let made = made c.self.inside.rows.items c.self.inside.ops c.self.inside.reads.items more c.number.inside.0
+    (vec_len c.self.inside.reads) row reading.there whole (length-replicate (lacking c.self.inside.ops row) blank) c.self.invariant.0 in
+    let from : ℕ = place_from (vec_len c.self.inside.reads) row in
+    rw (c.make_places.ensures.row, c.make_places.ensures.places)
+    (jobs_read c.self.inside.rows.items c.self.inside.ops c.self.inside.reads.items more c.number.inside.0 row from c.args.bytes reading
+    c.self.invariant.0 made
     ∙ ap (λ (l : List JobRecord). changed_at l c.number.inside.0 (λ (job : JobRecord). with_read c.args.bytes (carried job))) c.self.view_is
-    ∙ ap (λ (n : ℕ). changed_at c.args.self.now n (λ (job : JobRecord). with_read c.args.bytes (carried job))) c.number.view_is
+    ∙ ap (λ (n : ℕ). changed_at c.args.self.now n (λ (job : JobRecord). with_read c.args.bytes (carried job))) c.number.view_is)

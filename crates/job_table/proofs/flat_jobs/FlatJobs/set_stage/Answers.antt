@@ -1,9 +1,9 @@
-use Rattle.std.proofs.Common.{ℕ, List, refl, ap, ◌∙◌}
+use Rattle.std.proofs.Common.{ℕ, List, vec_capacity, refl, ap, ◌∙◌}
 use Rattle.job_table.specs.declared.rows.Row.{Row}
 use Rattle.job_table.specs.Jobs.{JobRecord, with_stage}
 use Rattle.job_table.specs.Table.{changed_at}
 use Rattle.job_table.specs.Flat.{IsRowOf}
-use Rattle.job_table.proofs.Laying.{row_read, laid_set, jobs_set}
+use Rattle.job_table.proofs.Laying.{row_read, laid_kept, room_kept, jobs_set}
 use Rattle.job_table.proofs.flat_jobs.FlatJobs.set_stage.Goals as goal
 
 pub invariant_of-self : goal.invariant_of-self
@@ -11,11 +11,14 @@ invariant_of-self c =
     let row : Row = c.index_mut-row.result.now in
     let at_n = row_read c.self.inside.rows.items c.self.inside.ops c.self.inside.reads.items c.args.self.now c.number.inside.0 c.args.number
     row c.self.view_is c.number.view_is c.requires c.index_mut-row.ensures.value in
-    let old = c.self.invariant.each c.number.inside.0 row at_n in
+    let old = (c.self.invariant.0.each c.number.inside.0 row at_n).fits in
     let fits : IsRowOf c.self.inside.ops (record row { stage = c.args.stage }) = record
-    { ops_there = old.ops_there; first_read_is = old.first_read_is; reads_done_is = old.reads_done_is } in
-    laid_set c.self.inside.rows.items c.self.inside.ops c.self.inside.reads.items c.self.inside.reads.items c.number.inside.0 row _ at_n
-    refl refl fits refl c.self.invariant
+    { ops_there = old.ops_there; ops_few = old.ops_few; first_read_is = old.first_read_is; reads_done_is = old.reads_done_is } in (
+      laid_kept c.self.inside.rows.items c.self.inside.ops c.self.inside.reads.items c.number.inside.0 row _ at_n refl refl refl refl fits
+          c.self.invariant.0,
+      room_kept c.self.inside.rows.items c.self.inside.ops c.self.inside.reads.items c.self.inside.all_reads
+          (vec_capacity c.self.inside.reads) c.number.inside.0 row _ at_n refl c.self.invariant.1,
+    )
 
 pub returns : goal.returns
 returns c =
