@@ -17,7 +17,7 @@ use Rattle.slot_types.specs.declared.replies.Reply.TheVariants.{Refused}
 use Rattle.die_log.specs.Log.{Log}
 use Rattle.die_log.specs.Answers.{answer, answer_by, accepted, refusal_of, refusals, first_standing, IsAccepted}
 use Rattle.slot_core.specs.Core.{Core}
-use Rattle.slot_core.specs.Calls.{RefusedBy}
+use Rattle.slot_core.specs.Calls.{RefusedBy, HasRefusedSlot}
 use Rattle.slot_core.specs.Runs.{Moment, moment_of, AnsweredByLog, FoundNoMemory, StoppedByFault, FoundStopped, IsStep, IsRun}
 
 -- No submission is refused by the log for a fault
@@ -146,15 +146,11 @@ collect_refused failures task release due refusal old new stopped refused same =
     old new stopped refused same (no_collect_fault old.plan old.log task release due) (λ slot. absurd cc)
 
 -- a slot that is refused changes nothing, or is stopped by a fault
-pub slot_refused_step : {N : Type 0} (failures : N → ℕ) (refusal : Refusal) (old new : Core N)
-    → (refusal ≡ DieStopped ↔ (old.stopped ≡ true))
-    → (old.stopped ≡ false → RefusedBy old.plan old.log Slot refusal
-    ⊎ (IsAccepted (answer old.plan old.log Slot) × (refusal ≡ DeviceFault)))
-    → (refusal ≡ DeviceFault ↔ (failures new.device ≡ failures old.device + 1))
-    → (refusal ≡ DeviceFault → new.stopped ≡ true) → new.log ≡ old.log → ((refusal ≡ DeviceFault → ⊥) → new ≡ old)
-    → (0 < old.reserved → refusal ≡ NoMemory → ⊥) → new.reserved ≡ old.reserved
+pub slot_refused_step : {N : Type 0} (failures : N → ℕ) (never_fails : Bool) (refusal : Refusal) (old new : Core N)
+    → (refusal ≡ DieStopped ↔ (old.stopped ≡ true)) → (refusal ≡ DeviceFault ↔ (failures new.device ≡ failures old.device + 1))
+    → HasRefusedSlot never_fails refusal old new
     → IsStep old.plan Slot (Refused refusal) (moment_of failures old) (moment_of failures new)
-slot_refused_step {N} failures refusal old new stopped refused fault stops log_stays same memory reserve_stays = record {
+slot_refused_step {N} failures never_fails refusal old new stopped fault refused = record {
   answered = by_stopped old.stopped refl;
   faults = (
     (λ e. fault.0 (refused_is refusal DeviceFault e)),
@@ -168,7 +164,7 @@ slot_refused_step {N} failures refusal old new stopped refused fault stops log_s
       ⊎ FoundStopped old.plan Slot (Refused refusal) (moment_of failures old) (moment_of failures new)
 
   left : (refusal ≡ DeviceFault → ⊥) → moment_of failures new ≡ moment_of failures old
-  left other = ap (moment_of failures) (same other)
+  left other = ap (moment_of failures) (refused.unchanged other)
 
   slot_fault : answer old.plan old.log Slot ≡ Refused DeviceFault → ⊥
   slot_fault e = no_slot_fault old.plan old.log e
@@ -190,7 +186,7 @@ slot_refused_step {N} failures refusal old new stopped refused fault stops log_s
     accepted = h.0;
     reply_is = ap Refused h.1;
     unreserved = λ slot. none_left
-        old.reserved (λ some. memory some h.1);
+        old.reserved (λ some. refused.memory some h.1);
     unchanged = left (λ is. absurd cc);
   }))
   by_refused runs (inr h) = inr (inr (inl (record {
@@ -198,16 +194,15 @@ slot_refused_step {N} failures refusal old new stopped refused fault stops log_s
     slot = refl;
     accepted = h.0;
     reply_is = ap Refused h.1;
-    log_stays =
-        log_stays;
-    stops = stops h.1;
-    reserve_stays = reserve_stays;
+    log_stays = refused.log_stays;
+    stops = refused.stops h.1;
+    reserve_stays = refused.reserve_stays;
   })))
 
   by_stopped : (b : Bool) → old.stopped ≡ b → Answered
   by_stopped true is = let why = stopped.1 is in inr (inr
       (inr (record { was_stopped = is; reply_is = ap Refused why; unchanged = left (λ fault. absurd cc) })))
-  by_stopped false is = by_refused is (refused is)
+  by_stopped false is = by_refused is (refused.cause is)
 
 -- Iterations
 

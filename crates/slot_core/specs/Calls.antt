@@ -1,13 +1,35 @@
 -- What a call answers, and what it leaves.
-use Rattle.std.specs.Prelude.{◌≡◌, ◌⊎◌}
+use Rattle.std.specs.Prelude.{◌≡◌, ◌≢◌, ◌⊎◌, ℕ, ◌<◌, ◌-◌, Bool, true, false}
 use Rattle.slot_types.specs.declared.plans.DiePlan.{DiePlan}
 use Rattle.slot_types.specs.declared.events.Event.{Event}
+use Rattle.slot_types.specs.declared.events.Event.TheVariants as events
 use Rattle.slot_types.specs.declared.refusals.Refusal.{Refusal}
-use Rattle.slot_types.specs.declared.refusals.Refusal.TheVariants.{NoMemory}
-use Rattle.slot_types.specs.declared.replies.Reply.TheVariants.{Refused}
+use Rattle.slot_types.specs.declared.refusals.Refusal.TheVariants.{NoMemory, DeviceFault}
+use Rattle.slot_types.specs.declared.replies.SlotReply.{SlotReply}
+use Rattle.slot_types.specs.declared.replies.Reply.TheVariants.{Refused, Slot}
 use Rattle.die_log.specs.Log.{Log}
 use Rattle.die_log.specs.Answers.{answer, IsAccepted}
+use Rattle.slot_core.specs.Core.{Core, with_entry}
 
 -- the log's own refusal; or the log accepts the event, and memory is refused
 abbrev pub RefusedBy : DiePlan → Log → Event → Refusal → Type 0
 RefusedBy plan log event refusal = (answer plan log event ≡ Refused refusal) ⊎ (IsAccepted (answer plan log event) × (refusal ≡ NoMemory))
+
+-- A slot was carried out: the log's own answer is its next entry, and one of the reserved slots is used up, if there is one.
+pub record HasCarriedOut {N : Type 0} (caller : ℕ) (reply : SlotReply) (before after : Core N) : Type 0 where
+  pub answered : answer before.plan before.log events.Slot ≡ Slot reply
+  pub logged : after.log ≡ with_entry caller events.Slot (Slot reply) before.log
+  pub runs : after.stopped ≡ false
+  pub used : after.reserved ≡ before.reserved - 1
+
+-- A slot was refused: by the log; or the log accepts it, and memory is refused, or the device fails. A device that never fails gives no
+-- such refusal, and memory is never refused while slots are reserved. A fault stops the die; any other refusal changes nothing.
+pub record HasRefusedSlot {N : Type 0} (never_fails : Bool) (refusal : Refusal) (before after : Core N) : Type 0 where
+  pub cause : before.stopped ≡ false → RefusedBy before.plan before.log events.Slot refusal
+      ⊎ (IsAccepted (answer before.plan before.log events.Slot) × (refusal ≡ DeviceFault))
+  pub never : never_fails ≡ true → refusal ≢ DeviceFault
+  pub memory : 0 < before.reserved → refusal ≢ NoMemory
+  pub stops : refusal ≡ DeviceFault → after.stopped ≡ true
+  pub unchanged : refusal ≢ DeviceFault → after ≡ before
+  pub log_stays : after.log ≡ before.log
+  pub reserve_stays : after.reserved ≡ before.reserved

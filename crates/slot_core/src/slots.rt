@@ -7,9 +7,9 @@ ghost use Rattle.job_table.specs.Order.{NothingReady};
 ghost use Rattle.job_table.specs.Jobs.{JobRecord, is_read};
 ghost use Rattle.job_table.specs.Table.{work_at};
 ghost use Rattle.die_log.specs.Log.{Log};
-ghost use Rattle.die_log.specs.Answers.{answer, IsAccepted};
+ghost use Rattle.die_log.specs.Answers.{answer};
 ghost use Rattle.slot_core.specs.Core.{with_entry};
-ghost use Rattle.slot_core.specs.Calls.{RefusedBy};
+ghost use Rattle.slot_core.specs.Calls.{HasCarriedOut, HasRefusedSlot};
 ghost use Rattle.slot_core.specs.Device.{flash_of};
 ghost use Rattle.slot_core.specs.Kept.{Keeps};
 ghost use Rattle.slot_core.specs.Told.{log_of};
@@ -145,20 +145,10 @@ impl<N: Nand> DieCore<N> {
     fn fill_slot(&mut self, caller: u32, reply: &mut SlotReply) -> Result<(), Refusal>
         requires unfilled { reply.old ≡ idle_reply 0 [] }
         ensures stopped { (result ≡ Err Refusal.DieStopped) ↔ (self.old.stopped ≡ true) }
-        ensures answered { OnOk result (answer self.old.plan self.old.log Event.Slot ≡ Reply.Slot reply.new) }
-        ensures logged { OnOk result (self.new.log ≡ with_entry caller Event.Slot (Reply.Slot reply.new) self.old.log) }
-        ensures runs { OnOk result (self.new.stopped ≡ false) }
-        ensures plan { self.new.plan ≡ self.old.plan }
-        ensures refused { self.old.stopped ≡ false → IfErr result (λ refusal. RefusedBy self.old.plan self.old.log Event.Slot refusal
-            ⊎ (IsAccepted (answer self.old.plan self.old.log Event.Slot) × (refusal ≡ Refusal.DeviceFault))) }
+        ensures carried_out { OnOk result (HasCarriedOut caller reply.new self.old self.new) }
+        ensures refused { IfErr result (λ refusal. HasRefusedSlot N.never_fails refusal self.old self.new) }
         ensures fault { (result ≡ Err Refusal.DeviceFault) ↔ (N.failures self.new.device ≡ N.failures self.old.device + 1) }
-        ensures stops { result ≡ Err Refusal.DeviceFault → self.new.stopped ≡ true }
-        ensures log_stays { OnErr result (self.new.log ≡ self.old.log) }
-        ensures unchanged { IfErr result (λ refusal. (refusal ≡ Refusal.DeviceFault → ⊥) → self.new ≡ self.old) }
-        ensures never { N.never_fails ≡ true → result ≡ Err Refusal.DeviceFault → ⊥ }
-        ensures memory { 0 < self.old.reserved → result ≡ Err Refusal.NoMemory → ⊥ }
-        ensures used { OnOk result (self.new.reserved ≡ self.old.reserved - 1) }
-        ensures reserve_stays { OnErr result (self.new.reserved ≡ self.old.reserved) }
+        ensures plan { self.new.plan ≡ self.old.plan }
     {
         if self.volume.failed() {
             return Err(Refusal::DieStopped);
@@ -199,20 +189,10 @@ impl<N: Nand> DieCore<N> {
     /// While slots are reserved it takes no memory, and where it is answered one of them is used up.
     pub fn slot(&mut self, alloc: Global, caller: u32) -> Result<SlotReply, Refusal>
         ensures stopped { (result ≡ Err Refusal.DieStopped) ↔ (self.old.stopped ≡ true) }
-        ensures answered { IfOk result (λ reply. answer self.old.plan self.old.log Event.Slot ≡ Reply.Slot reply) }
-        ensures logged { IfOk result (λ reply. self.new.log ≡ with_entry caller Event.Slot (Reply.Slot reply) self.old.log) }
-        ensures runs { OnOk result (self.new.stopped ≡ false) }
-        ensures plan { self.new.plan ≡ self.old.plan }
-        ensures refused { self.old.stopped ≡ false → IfErr result (λ refusal. RefusedBy self.old.plan self.old.log Event.Slot refusal
-            ⊎ (IsAccepted (answer self.old.plan self.old.log Event.Slot) × (refusal ≡ Refusal.DeviceFault))) }
+        ensures carried_out { IfOk result (λ reply. HasCarriedOut caller reply self.old self.new) }
+        ensures refused { IfErr result (λ refusal. HasRefusedSlot N.never_fails refusal self.old self.new) }
         ensures fault { (result ≡ Err Refusal.DeviceFault) ↔ (N.failures self.new.device ≡ N.failures self.old.device + 1) }
-        ensures stops { result ≡ Err Refusal.DeviceFault → self.new.stopped ≡ true }
-        ensures log_stays { OnErr result (self.new.log ≡ self.old.log) }
-        ensures unchanged { IfErr result (λ refusal. (refusal ≡ Refusal.DeviceFault → ⊥) → self.new ≡ self.old) }
-        ensures never { N.never_fails ≡ true → result ≡ Err Refusal.DeviceFault → ⊥ }
-        ensures memory { 0 < self.old.reserved → result ≡ Err Refusal.NoMemory → ⊥ }
-        ensures used { OnOk result (self.new.reserved ≡ self.old.reserved - 1) }
-        ensures reserve_stays { OnErr result (self.new.reserved ≡ self.old.reserved) }
+        ensures plan { self.new.plan ≡ self.old.plan }
     {
         let mut reply = new_reply(alloc);
         match self.fill_slot(caller, &mut reply) {
@@ -224,20 +204,10 @@ impl<N: Nand> DieCore<N> {
     /// As `slot`, and hands back no more than the slot's number.
     pub fn note_slot(&mut self, alloc: Global, caller: u32) -> Result<SlotNote, Refusal>
         ensures stopped { (result ≡ Err Refusal.DieStopped) ↔ (self.old.stopped ≡ true) }
-        ensures answered { IfOk result (λ reply. answer self.old.plan self.old.log Event.Slot ≡ Reply.Slot reply) }
-        ensures logged { IfOk result (λ reply. self.new.log ≡ with_entry caller Event.Slot (Reply.Slot reply) self.old.log) }
-        ensures runs { OnOk result (self.new.stopped ≡ false) }
-        ensures plan { self.new.plan ≡ self.old.plan }
-        ensures refused { self.old.stopped ≡ false → IfErr result (λ refusal. RefusedBy self.old.plan self.old.log Event.Slot refusal
-            ⊎ (IsAccepted (answer self.old.plan self.old.log Event.Slot) × (refusal ≡ Refusal.DeviceFault))) }
+        ensures carried_out { IfOk result (λ reply. HasCarriedOut caller reply self.old self.new) }
+        ensures refused { IfErr result (λ refusal. HasRefusedSlot N.never_fails refusal self.old self.new) }
         ensures fault { (result ≡ Err Refusal.DeviceFault) ↔ (N.failures self.new.device ≡ N.failures self.old.device + 1) }
-        ensures stops { result ≡ Err Refusal.DeviceFault → self.new.stopped ≡ true }
-        ensures log_stays { OnErr result (self.new.log ≡ self.old.log) }
-        ensures unchanged { IfErr result (λ refusal. (refusal ≡ Refusal.DeviceFault → ⊥) → self.new ≡ self.old) }
-        ensures never { N.never_fails ≡ true → result ≡ Err Refusal.DeviceFault → ⊥ }
-        ensures memory { 0 < self.old.reserved → result ≡ Err Refusal.NoMemory → ⊥ }
-        ensures used { OnOk result (self.new.reserved ≡ self.old.reserved - 1) }
-        ensures reserve_stays { OnErr result (self.new.reserved ≡ self.old.reserved) }
+        ensures plan { self.new.plan ≡ self.old.plan }
     {
         let mut reply = new_reply(alloc);
         match self.fill_slot(caller, &mut reply) {

@@ -41,6 +41,6 @@ returns-after-slot-clause-refused g c =
     elim c.match-slot.branch [
       | in-Ok-slot w ↦ rw w.result-is tt
       | in-Err-slot w ↦ rw (w.result-is, c.in-Slot.is, ← same)
-          (may_refuse_slot never die.stopped die.plan die.log w.in-Err-slot.refusal runs w.in-Err-slot.ensures.stopped
-          w.in-Err-slot.ensures.refused w.in-Err-slot.ensures.never)
+          (may_refuse_slot never w.in-Err-slot.refusal die c.slot.new.self runs w.in-Err-slot.ensures.stopped
+          w.in-Err-slot.ensures.refused)
     ]

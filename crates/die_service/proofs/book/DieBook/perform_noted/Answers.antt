@@ -42,6 +42,6 @@ returns-after-note_slot-clause-refused g c =
     elim c.match-note_slot.branch [
       | in-Ok-note_slot w ↦ rw w.result-is tt
       | in-Err-note_slot w ↦ rw (w.result-is, c.in-Slot.is, ← same)
-          (may_refuse_slot never die.stopped die.plan die.log w.in-Err-note_slot.refusal runs w.in-Err-note_slot.ensures.stopped
-          w.in-Err-note_slot.ensures.refused w.in-Err-note_slot.ensures.never)
+          (may_refuse_slot never w.in-Err-note_slot.refusal die c.note_slot.new.self runs w.in-Err-note_slot.ensures.stopped
+          w.in-Err-note_slot.ensures.refused)
     ]

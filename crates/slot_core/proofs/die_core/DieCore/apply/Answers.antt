@@ -1,4 +1,3 @@
-use Rattle.std.proofs.Common.{ap, Err}
 use Rattle.slot_core.proofs.Running.{refused_where, submit_refused, collect_refused, slot_refused_step}
 use Rattle.slot_core.proofs.die_core.DieCore.apply.Goals as goal
 
@@ -14,7 +13,5 @@ returns-in-Err-collect-clause-step g c =
 
 pub returns-in-Err-slot-clause-step : goal.returns-in-Err-slot-clause-step
 returns-in-Err-slot-clause-step g c =
-    rw c.in-Slot.is (slot_refused_step g.N.Nand.failures c.in-Err-slot.refusal c.args.self.now c.slot.new.self
-    (refused_where _ _ c.in-Err-slot.ensures.stopped) c.in-Err-slot.ensures.refused (refused_where _ _ c.in-Err-slot.ensures.fault)
-    (λ is. c.in-Err-slot.ensures.stops (ap Err is)) c.in-Err-slot.ensures.log_stays c.in-Err-slot.ensures.unchanged
-    (λ some is. c.in-Err-slot.ensures.memory some (ap Err is)) c.in-Err-slot.ensures.reserve_stays)
+    rw c.in-Slot.is (slot_refused_step g.N.Nand.failures g.N.Nand.never_fails c.in-Err-slot.refusal c.args.self.now c.slot.new.self
+    (refused_where _ _ c.in-Err-slot.ensures.stopped) (refused_where _ _ c.in-Err-slot.ensures.fault) c.in-Err-slot.ensures.refused)
