@@ -1,10 +1,11 @@
 //! The operations of jobs, on a volume.
 
-ghost use Rattle.std.specs.Prelude.{◌≡◌, ◌+◌, ◌<◌, ◌↔◌, true, false, length, slice_index, IsOk, IfOk, IfErr, OnOk, OnErr, find, option_map};
+ghost use Rattle.std.specs.Prelude.{◌≡◌, ◌<◌, true, false, length, slice_index, IfOk, OnOk, find, option_map};
 ghost use Rattle.std.specs.Prelude.{nat_le};
 ghost use Rattle.slot_types.specs.Operations.{is_write, writes, page_of};
 ghost use Rattle.slot_core.specs.Device.{flash_of};
 ghost use Rattle.slot_core.specs.Acting.{act_by, operated};
+ghost use Rattle.slot_core.specs.Faults.{FailsWithDevice};
 
 use flash_die::Nand;
 use flash_volume::Volume;
@@ -52,11 +53,7 @@ pub(crate) fn operate<N: Nand>(volume: &mut Volume<N>, task: TaskNo, op: Op) -> 
     ensures act { IfOk result (λ act. act ≡ act_by (flash_of N.blocks volume.old) op) }
     ensures flash { OnOk result (flash_of N.blocks volume.new ≡ operated (flash_of N.blocks volume.old) task op) }
     ensures plan { volume.new.accounts.plan ≡ volume.old.accounts.plan }
-    ensures well { OnOk result (volume.new.failed ≡ false) }
-    ensures fault { IfErr result (λ refusal. refusal ≡ Refusal.DeviceFault) }
-    ensures failed { OnErr result (volume.new.failed ≡ true) }
-    ensures failures { (result ≡ Err Refusal.DeviceFault) ↔ (N.failures volume.new.device ≡ N.failures volume.old.device + 1) }
-    ensures never { N.never_fails ≡ true → IsOk result }
+    ensures fails { FailsWithDevice N.failures N.never_fails result volume.old volume.new }
 {
     match op {
         Op::Read(page) => {

@@ -1,6 +1,6 @@
 //! The slots of a die.
 
-ghost use Rattle.std.specs.Prelude.{◌≡◌, ◌+◌, ◌-◌, ◌<◌, ◌≤◌, ◌⊎◌, ◌↔◌, true, false, length, slice_get, take, count_by, IsOk, IfOk, IfErr};
+ghost use Rattle.std.specs.Prelude.{◌≡◌, ◌+◌, ◌-◌, ◌<◌, ◌≤◌, ◌↔◌, true, false, length, slice_get, take, count_by, IfOk, IfErr};
 ghost use Rattle.std.specs.Prelude.{IfSome, IfNone, OnOk, OnErr, []};
 ghost use Rattle.event_log.specs.Growth.{AllFit};
 ghost use Rattle.job_table.specs.Order.{NothingReady};
@@ -9,6 +9,7 @@ ghost use Rattle.job_table.specs.Table.{work_at};
 ghost use Rattle.die_log.specs.Log.{Log};
 ghost use Rattle.die_log.specs.Answers.{answer};
 ghost use Rattle.slot_core.specs.Core.{with_entry};
+ghost use Rattle.slot_core.specs.Faults.{FailsWithDevice};
 ghost use Rattle.slot_core.specs.Calls.{HasCarriedOut, HasRefusedSlot};
 ghost use Rattle.slot_core.specs.Device.{flash_of};
 ghost use Rattle.slot_core.specs.Kept.{Keeps};
@@ -89,16 +90,12 @@ fn carry_out<N: Nand>(
         (flash_of N.blocks volume.new)) }
     ensures answered { OnOk result (answer volume.old.accounts.plan log Event.Slot ≡ Reply.Slot reply.new) }
     ensures logged { OnOk result (log_of table.new events.new.notes ≡ with_entry caller Event.Slot (Reply.Slot reply.new) log) }
-    ensures well { OnOk result (volume.new.failed ≡ false) }
     ensures plan { volume.new.accounts.plan ≡ volume.old.accounts.plan }
-    ensures fault { IfErr result (λ refusal. refusal ≡ Refusal.DeviceFault) }
-    ensures failed { OnErr result (volume.new.failed ≡ true) }
+    ensures fails { FailsWithDevice N.failures N.never_fails result volume.old volume.new }
     ensures log_stays { OnErr result (log_of table.new events.new.notes ≡ log_of table.old events.old.notes) }
     ensures fit { AllFit table.new.jobs events.new.notes }
     ensures still_kept { OnErr result (Keeps volume.new.accounts.plan (log_of table.new events.new.notes) present table.new
         volume.new.failed (flash_of N.blocks volume.new)) }
-    ensures failures { (result ≡ Err Refusal.DeviceFault) ↔ (N.failures volume.new.device ≡ N.failures volume.old.device + 1) }
-    ensures never { N.never_fails ≡ true → IsOk result }
     ensures room { events.old.room ≤ events.new.room + 1 }
     ensures waiver_room { open_collections table.new.jobs ≤ events.new.waiver_room }
     ensures room_stays { OnErr result (events.new.room ≡ events.old.room) }

@@ -1,9 +1,10 @@
 //! The turn of a slot's head: a collection begins, and then the head does its act.
 
-ghost use Rattle.std.specs.Prelude.{◌≡◌, ◌+◌, ◌<◌, ◌↔◌, true, false, None, length, IsOk, IfOk, IfErr, OnOk, OnErr};
+ghost use Rattle.std.specs.Prelude.{◌≡◌, ◌+◌, ◌<◌, true, false, None, length, IfOk};
 ghost use Rattle.flash_die.specs.Flash.{block_at};
 ghost use Rattle.flash_volume.specs.declared.collection.Collection.{Collection};
 ghost use Rattle.flash_volume.specs.Running.{running_of};
+ghost use Rattle.slot_core.specs.Faults.{FailsWithDevice};
 ghost use Rattle.slot_core.specs.Turns.{is_fresh, BeginsAs, RunFits, HeadFits, turn_by, DidCollect, DidTurn};
 
 use crate::operations::operate;
@@ -36,11 +37,7 @@ pub(crate) fn take_turn<N: Nand>(volume: &mut Volume<N>, job: &Job) -> Result<Tu
     requires fits { HeadFits N.blocks volume.old job.now }
     ensures did { IfOk result (λ turn. DidTurn N.blocks volume.old job.now turn volume.new) }
     ensures plan { volume.new.accounts.plan ≡ volume.old.accounts.plan }
-    ensures well { OnOk result (volume.new.failed ≡ false) }
-    ensures fault { IfErr result (λ refusal. refusal ≡ Refusal.DeviceFault) }
-    ensures failed { OnErr result (volume.new.failed ≡ true) }
-    ensures failures { (result ≡ Err Refusal.DeviceFault) ↔ (N.failures volume.new.device ≡ N.failures volume.old.device + 1) }
-    ensures never { N.never_fails ≡ true → IsOk result }
+    ensures fails { FailsWithDevice N.failures N.never_fails result volume.old volume.new }
 {
     if job.collects() {
         collect(volume, job.task())
@@ -56,11 +53,7 @@ fn operate_next<N: Nand>(volume: &mut Volume<N>, job: &Job) -> Result<Turn, Refu
     requires fits { HeadFits N.blocks volume.old job.now }
     ensures did { IfOk result (λ turn. DidTurn N.blocks volume.old job.now turn volume.new) }
     ensures plan { volume.new.accounts.plan ≡ volume.old.accounts.plan }
-    ensures well { OnOk result (volume.new.failed ≡ false) }
-    ensures fault { IfErr result (λ refusal. refusal ≡ Refusal.DeviceFault) }
-    ensures failed { OnErr result (volume.new.failed ≡ true) }
-    ensures failures { (result ≡ Err Refusal.DeviceFault) ↔ (N.failures volume.new.device ≡ N.failures volume.old.device + 1) }
-    ensures never { N.never_fails ≡ true → IsOk result }
+    ensures fails { FailsWithDevice N.failures N.never_fails result volume.old volume.new }
 {
     let Some(op) = job.next_op() else {
         unreachable!()
@@ -83,11 +76,7 @@ fn collect<N: Nand>(volume: &mut Volume<N>, task: TaskNo) -> Result<Turn, Refusa
         × ((block_at (N.blocks volume.old.device) c.victim).erases < 4294967295) }
     ensures did { IfOk result (λ turn. DidCollect N.blocks volume.old task turn volume.new) }
     ensures plan { volume.new.accounts.plan ≡ volume.old.accounts.plan }
-    ensures well { OnOk result (volume.new.failed ≡ false) }
-    ensures fault { IfErr result (λ refusal. refusal ≡ Refusal.DeviceFault) }
-    ensures failed { OnErr result (volume.new.failed ≡ true) }
-    ensures failures { (result ≡ Err Refusal.DeviceFault) ↔ (N.failures volume.new.device ≡ N.failures volume.old.device + 1) }
-    ensures never { N.never_fails ≡ true → IsOk result }
+    ensures fails { FailsWithDevice N.failures N.never_fails result volume.old volume.new }
 {
     match volume.collect_slot(task) {
         Err(refusal) => Err(refusal),
