@@ -1,5 +1,5 @@
 -- What a die behind its turn may reply to an event.
-use Rattle.std.specs.Prelude.{◌≡◌, ◌⊎◌, Bool, false, List, length, Result, Ok, Err}
+use Rattle.std.specs.Prelude.{◌≡◌, ◌⊎◌, ℕ, Bool, false, List, length, Result, Ok, Err}
 use Rattle.slot_types.specs.declared.plans.DiePlan.{DiePlan}
 use Rattle.slot_types.specs.declared.events.Event.{Event}
 use Rattle.slot_types.specs.declared.events.Event.TheVariants.{Slot}
@@ -10,6 +10,7 @@ use Rattle.slot_types.specs.declared.replies.Reply.TheVariants as replies
 use Rattle.plan_rules.specs.Bound.{MeetsBound}
 use Rattle.die_log.specs.Log.{Log}
 use Rattle.die_log.specs.Answers.{answer, IsAccepted, IsExact}
+use Rattle.slot_core.specs.Core.{Core, with_entry}
 use Rattle.slot_core.specs.Calls.{RefusedBy}
 use Rattle.die_service.specs.declared.refused.RefusedAt.{RefusedAt}
 use Rattle.die_service.specs.declared.reply_note.ReplyNote.{ReplyNote}
@@ -28,6 +29,17 @@ MayRefuse never_fails plan log event refusal =
     RefusedBy plan log event refusal
     ⊎ ((never_fails ≡ false) × (event ≡ Slot) × IsAccepted (answer plan log event) × (refusal ≡ DeviceFault))
     ⊎ ((never_fails ≡ false) × (refusal ≡ DieStopped))
+
+-- a die accepted an event: the log's own answer, which is no refusal, is its next entry
+pub record HasAccepted {N : Type 0} (caller : ℕ) (event : Event) (reply : Reply) (before after : Core N) : Type 0 where
+  pub answered : answer before.plan before.log event ≡ reply
+  pub accepted : IsAccepted reply
+  pub logged : after.log ≡ with_entry caller event reply before.log
+
+-- a die refused an event: as it may, and its log stays
+pub record HasRefused {N : Type 0} (never_fails : Bool) (event : Event) (refusal : Refusal) (before after : Core N) : Type 0 where
+  pub cause : MayRefuse never_fails before.plan before.log event refusal
+  pub log_stays : after.log ≡ before.log
 
 -- an accepted event is answered by the log; a refused one tells how many entries there were
 abbrev pub MayReply : Bool → DiePlan → List Call → Event → Result Reply RefusedAt → Type 0

@@ -1,11 +1,9 @@
 //! A die as the book behind its turn.
 
-ghost use Rattle.std.specs.Prelude.{◌≡◌, true, false, IfOk, IfErr, OnErr};
+ghost use Rattle.std.specs.Prelude.{◌≡◌, true, false, IfOk, IfErr};
 ghost use Rattle.std.specs.Box.{box_value};
-ghost use Rattle.die_log.specs.Answers.{answer, IsAccepted};
-ghost use Rattle.slot_core.specs.Core.{with_entry};
 ghost use Rattle.die_service.specs.Feeds.{with_ops};
-ghost use Rattle.die_service.specs.Replies.{MayRefuse, noted};
+ghost use Rattle.die_service.specs.Replies.{HasAccepted, HasRefused, noted};
 
 use crate::heads::EventHead;
 use crate::queries::{Answer, Query};
@@ -59,11 +57,8 @@ impl<N: Nand> DieBook<N> {
     /// What the die says to an event.
     fn perform(&mut self, caller: u32, event: Event) -> Result<Reply, Refusal>
         ensures plan { self.new.plan ≡ self.old.plan }
-        ensures answered { IfOk result (λ reply. answer self.old.plan self.old.log event ≡ reply) }
-        ensures accepted { IfOk result IsAccepted }
-        ensures logged { IfOk result (λ reply. self.new.log ≡ with_entry caller event reply self.old.log) }
-        ensures refused { IfErr result (MayRefuse N.never_fails self.old.plan self.old.log event) }
-        ensures log_stays { OnErr result (self.new.log ≡ self.old.log) }
+        ensures accepted { IfOk result (λ reply. HasAccepted caller event reply self.old self.new) }
+        ensures refused { IfErr result (λ refusal. HasRefused N.never_fails event refusal self.old self.new) }
     {
         let alloc = self.alloc;
         match event {
@@ -97,11 +92,8 @@ impl<N: Nand> DieBook<N> {
         ops: &[Op],
     ) -> Result<ReplyNote, Refusal>
         ensures plan { self.new.plan ≡ self.old.plan }
-        ensures answered { IfOk result (λ note. answer self.old.plan self.old.log (with_ops head ops.now) ≡ noted note) }
-        ensures accepted { IfOk result (λ note. IsAccepted (noted note)) }
-        ensures logged { IfOk result (λ note. self.new.log ≡ with_entry caller (with_ops head ops.now) (noted note) self.old.log) }
-        ensures refused { IfErr result (MayRefuse N.never_fails self.old.plan self.old.log (with_ops head ops.now)) }
-        ensures log_stays { OnErr result (self.new.log ≡ self.old.log) }
+        ensures accepted { IfOk result (λ note. HasAccepted caller (with_ops head ops.now) (noted note) self.old self.new) }
+        ensures refused { IfErr result (λ refusal. HasRefused N.never_fails (with_ops head ops.now) refusal self.old self.new) }
     {
         let alloc = self.alloc;
         match head {

@@ -1,4 +1,4 @@
-use Rattle.std.proofs.Common.{◌≡◌, true, false, ◌∙◌, ap}
+use Rattle.std.proofs.Common.{◌≡◌, true, false, ◌∙◌, ap, rules}
 use Rattle.slot_core.specs.Core.{Core}
 use Rattle.die_service.proofs.Replying.{may_refuse, may_refuse_slot}
 use Rattle.die_service.proofs.book.DieBook.perform.Goals.{in-Ok, in-Err, in-Ok-collect, in-Err-collect, in-Ok-slot, in-Err-slot}
@@ -14,7 +14,11 @@ returns-after-submit-clause-refused g c =
     elim c.match-submit.branch [
       | in-Ok w ↦ rw w.result-is tt
       | in-Err w ↦ rw (w.result-is, c.in-Submit.is, ← same)
-          (may_refuse never die.stopped die.plan die.log _ w.in-Err.refusal runs w.in-Err.ensures.stopped w.in-Err.ensures.refused)
+          (record {
+            cause = may_refuse never die.stopped die.plan die.log _ w.in-Err.refusal runs
+                w.in-Err.ensures.stopped w.in-Err.ensures.refused;
+            log_stays = search rules;
+          })
     ]
 
 pub returns-after-collect-clause-refused : goal.returns-after-collect-clause-refused
@@ -27,8 +31,11 @@ returns-after-collect-clause-refused g c =
     elim c.match-collect.branch [
       | in-Ok-collect w ↦ rw w.result-is tt
       | in-Err-collect w ↦ rw (w.result-is, c.in-Collect.is, ← same)
-          (may_refuse never die.stopped die.plan die.log _ w.in-Err-collect.refusal runs w.in-Err-collect.ensures.stopped
-          w.in-Err-collect.ensures.refused)
+          (record {
+            cause = may_refuse never die.stopped die.plan die.log _ w.in-Err-collect.refusal runs
+                w.in-Err-collect.ensures.stopped w.in-Err-collect.ensures.refused;
+            log_stays = search rules;
+          })
     ]
 
 pub returns-after-slot-clause-refused : goal.returns-after-slot-clause-refused
@@ -41,6 +48,9 @@ returns-after-slot-clause-refused g c =
     elim c.match-slot.branch [
       | in-Ok-slot w ↦ rw w.result-is tt
       | in-Err-slot w ↦ rw (w.result-is, c.in-Slot.is, ← same)
-          (may_refuse_slot never w.in-Err-slot.refusal die c.slot.new.self runs w.in-Err-slot.ensures.stopped
-          w.in-Err-slot.ensures.refused)
+          (record {
+            cause = may_refuse_slot never w.in-Err-slot.refusal die c.slot.new.self runs
+                w.in-Err-slot.ensures.stopped w.in-Err-slot.ensures.refused;
+            log_stays = search rules;
+          })
     ]
