@@ -235,13 +235,21 @@ admit_made v w task count ops r is enough made accepted =
 
 -- What a collection's entry leaves, as it comes
 
-pub if_ok : {A E : Type 0} (r : Result A E) (P Q : A → Type 0) → IfOk r P → ((x : A) → P x → Q x) → IfOk r Q
+if_ok : {A E : Type 0} (r : Result A E) (P Q : A → Type 0) → IfOk r P → ((x : A) → P x → Q x) → IfOk r Q
 if_ok (Ok x) P Q h f = f x h
 if_ok (Err e) P Q h f = tt
 
 if_err : {A E : Type 0} (r : Result A E) (P Q : E → Type 0) → IfErr r P → ((e : E) → P e → Q e) → IfErr r Q
 if_err (Ok x) P Q h f = tt
 if_err (Err e) P Q h f = f e h
+
+pub if_ok_both : {A E : Type 0} (r : Result A E) (P Q R : A → Type 0) → IfOk r P → IfOk r Q → ((x : A) → P x → Q x → R x) → IfOk r R
+if_ok_both (Ok x) P Q R h k f = f x h k
+if_ok_both (Err e) P Q R h k f = tt
+
+pub if_err_both : {A E : Type 0} (r : Result A E) (P Q R : E → Type 0) → IfErr r P → IfErr r Q → ((e : E) → P e → Q e → R e) → IfErr r R
+if_err_both (Ok x) P Q R h k f = tt
+if_err_both (Err e) P Q R h k f = f e h k
 
 pub collect_answered : (plan : DiePlan) (log : Log) (t : Table) (task release due : ℕ) (r : Result ℕ Refusal)
     → refusal_of plan log (events.Collect task release due) ≡ None → t.jobs ≡ records plan log → IfOk r (λ number. number ≡ length t.jobs)

@@ -5,16 +5,15 @@ ghost use Rattle.std.specs.Prelude.{[]};
 ghost use Rattle.job_table.specs.Jobs.{new_job, new_collection};
 ghost use Rattle.job_table.specs.Table.{with_job, is_collecting};
 ghost use Rattle.die_log.specs.Work.{is_collecting as collecting};
-ghost use Rattle.die_log.specs.Answers.{answer, refusal_of};
-ghost use Rattle.slot_core.specs.Core.{with_entry};
-ghost use Rattle.slot_core.specs.Calls.{RefusedBy};
+ghost use Rattle.die_log.specs.Answers.{refusal_of};
+ghost use Rattle.slot_core.specs.Calls.{HasTaken, HasRefusedArrival};
 
 use crate::die_core::DieCore;
 use crate::operations::{bad_page, count_writes};
 use event_log::{Deed, EventLog};
 use flash_die::Nand;
 use job_table::JobTable;
-use slot_types::{Event, JobNo, MAX_JOBS, MAX_OPS, MAX_SLOT, Op, OpList, Refusal, Reply, TaskNo};
+use slot_types::{Event, JobNo, MAX_JOBS, MAX_OPS, MAX_SLOT, Op, OpList, Refusal, TaskNo};
 use std::alloc::Global;
 
 /// Enters an accepted job into the table and the log, or finds no memory and changes neither.
@@ -140,11 +139,8 @@ impl<N: Nand> DieCore<N> {
         ops: OpList,
     ) -> Result<JobNo, Refusal>
         ensures stopped { (result ≡ Err Refusal.DieStopped) ↔ (self.old.stopped ≡ true) }
-        ensures taken { IfOk result (λ number. answer self.old.plan self.old.log (Event.Submit task release due ops) ≡ Reply.Taken number) }
-        ensures logged { IfOk result (λ number. self.new
-            ≡ record self.old { log = with_entry caller (Event.Submit task release due ops) (Reply.Taken number) self.old.log }) }
-        ensures refused { self.old.stopped ≡ false → IfErr result (RefusedBy self.old.plan self.old.log (Event.Submit task release due ops)) }
-        ensures unchanged { OnErr result (self.new ≡ self.old) }
+        ensures taken { IfOk result (λ number. HasTaken caller (Event.Submit task release due ops) number self.old self.new) }
+        ensures refused { IfErr result (λ refusal. HasRefusedArrival (Event.Submit task release due ops) refusal self.old self.new) }
     {
         self.submit_lent(alloc, caller, task, release, due, ops.as_slice())
     }
@@ -160,13 +156,8 @@ impl<N: Nand> DieCore<N> {
         ops: &[Op],
     ) -> Result<JobNo, Refusal>
         ensures stopped { (result ≡ Err Refusal.DieStopped) ↔ (self.old.stopped ≡ true) }
-        ensures taken { IfOk result (λ number. answer self.old.plan self.old.log (Event.Submit task release due ops.now)
-            ≡ Reply.Taken number) }
-        ensures logged { IfOk result (λ number. self.new
-            ≡ record self.old { log = with_entry caller (Event.Submit task release due ops.now) (Reply.Taken number) self.old.log }) }
-        ensures refused { self.old.stopped ≡ false → IfErr result
-            (RefusedBy self.old.plan self.old.log (Event.Submit task release due ops.now)) }
-        ensures unchanged { OnErr result (self.new ≡ self.old) }
+        ensures taken { IfOk result (λ number. HasTaken caller (Event.Submit task release due ops.now) number self.old self.new) }
+        ensures refused { IfErr result (λ refusal. HasRefusedArrival (Event.Submit task release due ops.now) refusal self.old self.new) }
     {
         if self.volume.failed() {
             return Err(Refusal::DieStopped);
@@ -243,11 +234,8 @@ impl<N: Nand> DieCore<N> {
         due: u32,
     ) -> Result<JobNo, Refusal>
         ensures stopped { (result ≡ Err Refusal.DieStopped) ↔ (self.old.stopped ≡ true) }
-        ensures taken { IfOk result (λ number. answer self.old.plan self.old.log (Event.Collect task release due) ≡ Reply.Taken number) }
-        ensures logged { IfOk result (λ number. self.new
-            ≡ record self.old { log = with_entry caller (Event.Collect task release due) (Reply.Taken number) self.old.log }) }
-        ensures refused { self.old.stopped ≡ false → IfErr result (RefusedBy self.old.plan self.old.log (Event.Collect task release due)) }
-        ensures unchanged { OnErr result (self.new ≡ self.old) }
+        ensures taken { IfOk result (λ number. HasTaken caller (Event.Collect task release due) number self.old self.new) }
+        ensures refused { IfErr result (λ refusal. HasRefusedArrival (Event.Collect task release due) refusal self.old self.new) }
     {
         if self.volume.failed() {
             return Err(Refusal::DieStopped);

@@ -17,7 +17,7 @@ returns-after-submit_lent-clause-refused g c =
       | in-Err w ↦ rw (w.result-is, c.in-Submit.is, ← same)
           (record {
             cause = may_refuse never die.stopped die.plan die.log _ w.in-Err.refusal runs
-                w.in-Err.ensures.stopped w.in-Err.ensures.refused;
+                w.in-Err.ensures.stopped w.in-Err.ensures.refused.cause;
             log_stays = search rules;
           })
     ]
@@ -34,7 +34,7 @@ returns-after-collect-clause-refused g c =
       | in-Err-collect w ↦ rw (w.result-is, c.in-Collect.is, ← same)
           (record {
             cause = may_refuse never die.stopped die.plan die.log _ w.in-Err-collect.refusal runs
-                w.in-Err-collect.ensures.stopped w.in-Err-collect.ensures.refused;
+                w.in-Err-collect.ensures.stopped w.in-Err-collect.ensures.refused.cause;
             log_stays = search rules;
           })
     ]

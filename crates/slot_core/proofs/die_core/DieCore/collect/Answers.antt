@@ -1,16 +1,21 @@
-use Rattle.std.proofs.Common.{◌≡◌, refl, None, sym, ◌∙◌, ap, inl}
+use Rattle.std.proofs.Common.{◌≡◌, refl, None, sym, ◌∙◌, ap, inl, rules}
+use Rattle.std.specs.Prelude.{IfOk}
 use Rattle.slot_types.specs.declared.events.Event.TheVariants.{Collect}
-use Rattle.die_log.specs.Answers.{refusal_of}
+use Rattle.slot_types.specs.declared.replies.Reply.TheVariants.{Taken}
+use Rattle.die_log.specs.Answers.{answer, refusal_of}
 use Rattle.die_log.proofs.Legality.{refused_answer}
 use Rattle.slot_core.specs.Core.{Core}
-use Rattle.slot_core.proofs.Keeping.{collecting_is, may_collect, collect_answered, collect_short, if_ok}
+use Rattle.slot_core.proofs.Keeping.{collecting_is, may_collect, collect_answered, collect_short, if_ok_both, if_err_both}
 use Rattle.slot_core.specs.Told.{log_of}
 use Rattle.slot_core.proofs.Reserving.{collect_room}
 use Rattle.slot_core.proofs.Telling.{collect_enters, collect_logged, few_told}
 use Rattle.slot_core.proofs.die_core.DieCore.collect.Goals as goal
 
 pub returns-in-Some-clause-refused : goal.returns-in-Some-clause-refused
-returns-in-Some-clause-refused g c alive = inl (refused_answer _ _ _ _ (sym c.collect_refusal.ensures ∙ c.in-Some.is))
+returns-in-Some-clause-refused g c = record {
+  cause = λ alive. inl (refused_answer _ _ _ _ (sym c.collect_refusal.ensures ∙ c.in-Some.is));
+  unchanged = search rules;
+}
 
 pub enter_collection-requires-clause-single : goal.enter_collection-requires-clause-single
 enter_collection-requires-clause-single g c =
@@ -45,25 +50,32 @@ invariant_of-self g c =
       },
     )
 
-pub returns-clause-taken : goal.returns-clause-taken
-returns-clause-taken g c =
-    rw (← c.self.view_is) (collect_answered _ _ c.self.inside.table c.args.task c.args.release c.args.due c.enter_collection.result
-    (ap (λ (d : Core g.row.N.Denot). refusal_of d.plan d.log (Collect c.args.task c.args.release c.args.due)) c.self.view_is
-    ∙ (sym c.collect_refusal.ensures ∙ c.in-None.is))
-    c.self.invariant.0.kept.jobs_are c.enter_collection.ensures.number)
-
-pub returns-clause-refused : goal.returns-clause-refused
-returns-clause-refused g c alive = collect_short _ _ c.args.task c.args.release c.args.due c.enter_collection.result
-    (sym c.collect_refusal.ensures ∙ c.in-None.is) c.enter_collection.ensures.refused
-
 pub enter_collection-requires-clause-few_events : goal.enter_collection-requires-clause-few_events
 enter_collection-requires-clause-few_events g c = few_told c.self.inside.volume.accounts.plan c.self.inside.table.jobs
     c.self.inside.events.notes c.self.invariant.0.kept.exact c.self.invariant.0.fits
 
-pub returns-clause-logged : goal.returns-clause-logged
-returns-clause-logged g c =
-    if_ok c.enter_collection.result _ _
+pub returns-clause-taken : goal.returns-clause-taken
+returns-clause-taken g c =
+    let none : refusal_of c.args.self.now.plan c.args.self.now.log (Collect c.args.task c.args.release c.args.due) ≡ None =
+    sym c.collect_refusal.ensures ∙ c.in-None.is in
+    let answered : IfOk c.enter_collection.result (λ number. answer c.args.self.now.plan c.args.self.now.log
+    (Collect c.args.task c.args.release c.args.due) ≡ Taken number) =
+    rw (← c.self.view_is) (collect_answered _ _ c.self.inside.table c.args.task c.args.release c.args.due c.enter_collection.result
+    (rw (← c.self.view_is) at none) c.self.invariant.0.kept.jobs_are c.enter_collection.ensures.number) in
+    if_ok_both c.enter_collection.result _ _ _ answered
     (collect_logged c.self.inside.table c.enter_collection.new.table c.self.inside.events.notes c.enter_collection.new.events.notes
     c.args.caller c.args.task c.args.release c.args.due c.enter_collection.result
     c.self.invariant.0.fits c.enter_collection.ensures.table c.enter_collection.ensures.number c.enter_collection.ensures.logged)
-    (λ number tells. rw (tells, ← c.self.view_is) refl)
+    (λ number is tells. record { answered = is; logged = rw (tells, ← c.self.view_is) refl })
+
+pub returns-clause-refused : goal.returns-clause-refused
+returns-clause-refused g c =
+    let stays = if_err_both c.enter_collection.result (λ _. c.enter_collection.new.table ≡ c.self.inside.table)
+    (λ _. c.enter_collection.new.events.notes ≡ c.self.inside.events.notes)
+    (λ _. (c.enter_collection.new.table ≡ c.self.inside.table) × (c.enter_collection.new.events.notes ≡ c.self.inside.events.notes))
+    c.enter_collection.ensures.table_stays c.enter_collection.ensures.log_stays (λ refusal table log. (table, log)) in
+    if_err_both c.enter_collection.result _ _ _
+    (collect_short _ _ c.args.task c.args.release c.args.due c.enter_collection.result
+    (sym c.collect_refusal.ensures ∙ c.in-None.is) c.enter_collection.ensures.refused)
+    stays
+    (λ refusal short same. record { cause = λ alive. short; unchanged = rw (same.0, same.1, ← c.self.view_is) refl })

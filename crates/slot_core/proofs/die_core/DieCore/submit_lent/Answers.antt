@@ -1,4 +1,4 @@
-use Rattle.std.proofs.Common.{◌≡◌, refl, sym, ◌∙◌, ap, inl, inr, None, arith}
+use Rattle.std.proofs.Common.{◌≡◌, refl, sym, ◌∙◌, ap, inl, inr, None, arith, rules}
 use Rattle.slot_types.specs.declared.events.Event.TheVariants.{Submit}
 use Rattle.slot_types.specs.Operations.{writes}
 use Rattle.die_log.specs.Answers.{refusal_of}
@@ -13,13 +13,19 @@ use Rattle.slot_core.proofs.Telling.{submit_tells, few_told}
 use Rattle.slot_core.proofs.die_core.DieCore.submit_lent.Goals as goal
 
 pub returns-in-Some-clause-refused : goal.returns-in-Some-clause-refused
-returns-in-Some-clause-refused g c alive = inl (refused_answer _ _ _ _ (sym c.submit_refusal.ensures ∙ c.in-Some.is))
+returns-in-Some-clause-refused g c = record {
+  cause = λ alive. inl (refused_answer _ _ _ _ (sym c.submit_refusal.ensures ∙ c.in-Some.is));
+  unchanged = search rules;
+}
 
 pub returns-in-Err-clause-refused : goal.returns-in-Err-clause-refused
-returns-in-Err-clause-refused g c alive = inr (
-  submit_accepts _ _ _ _ _ _ (sym c.submit_refusal.ensures ∙ c.in-None.is),
-  c.in-Err.ensures.refused,
-)
+returns-in-Err-clause-refused g c = record {
+  cause = λ alive. inr (
+    submit_accepts _ _ _ _ _ _ (sym c.submit_refusal.ensures ∙ c.in-None.is),
+    c.in-Err.ensures.refused,
+  );
+  unchanged = search rules;
+}
 
 pub invariant_of-self-in-Ok : goal.invariant_of-self-in-Ok
 invariant_of-self-in-Ok g c =
@@ -54,17 +60,12 @@ invariant_of-self-in-Ok g c =
       },
     )
 
-pub returns-in-Ok-clause-taken : goal.returns-in-Ok-clause-taken
-returns-in-Ok-clause-taken g c = rw (← c.self.view_is) (submit_taken _ _ c.self.inside.table _ _ _ _ _
-    (ap (λ (d : Core g.row.N.Denot). refusal_of d.plan d.log (Submit c.args.task c.args.release c.args.due c.args.ops.now)) c.self.view_is
-    ∙ (sym c.submit_refusal.ensures ∙ c.in-None.is)) c.self.invariant.0.kept.jobs_are c.in-Ok.ensures.number)
-
 pub enter_job-requires-clause-few_events : goal.enter_job-requires-clause-few_events
 enter_job-requires-clause-few_events g c = few_told c.self.inside.volume.accounts.plan c.self.inside.table.jobs c.self.inside.events.notes
     c.self.invariant.0.kept.exact c.self.invariant.0.fits
 
-pub returns-in-Ok-clause-logged : goal.returns-in-Ok-clause-logged
-returns-in-Ok-clause-logged g c =
+pub returns-in-Ok-clause-taken : goal.returns-in-Ok-clause-taken
+returns-in-Ok-clause-taken g c =
     let f = c.self.inside in
     let none : refusal_of f.volume.accounts.plan (log_of f.table f.events.notes)
     (Submit c.args.task c.args.release c.args.due c.args.ops.now) ≡ None =
@@ -77,4 +78,8 @@ returns-in-Ok-clause-logged g c =
     let tells = submit_tells f.table c.enter_job.new.table f.events.notes c.enter_job.new.events.notes c.args.caller c.in-Ok.number
     c.args.task c.args.release c.args.due c.args.ops.now c.in-Ok.ensures.table c.in-Ok.ensures.number c.in-Ok.ensures.logged
     c.self.invariant.0.fits in
-    rw (tells.0, made, ← c.self.view_is) refl
+    record {
+      answered = rw (← c.self.view_is)
+          (submit_taken _ _ f.table _ _ _ _ _ none c.self.invariant.0.kept.jobs_are c.in-Ok.ensures.number);
+      logged = rw (tells.0, made, ← c.self.view_is) refl;
+    }
