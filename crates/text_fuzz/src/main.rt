@@ -12,15 +12,16 @@ mod chance;
 mod fields;
 mod mutants;
 mod plan_lines;
-mod plan_texts;
+mod plans;
 mod records;
-mod report_texts;
+mod reports;
 mod samples;
-mod script_texts;
+mod scripts;
 
 use chance::Chance;
 use mutants::mutant;
-use plan_texts::{Checked, read_plan};
+use plan_texts::read_plan;
+use plans::Checked;
 use slot_types::{Refusal, StorePlan};
 use std::alloc::Global;
 use std::env::Env;
@@ -75,9 +76,9 @@ fn check_script(
 ) -> Result<Checked, Refusal> {
     let plan = &plans[chance.below(2).min(1)];
     let slots = (chance.next() % 8) as u32;
-    let said = script_texts::judged(alloc, text, plan.len(), slots)?;
-    let read = script_texts::read(alloc, text, plan, slots)?;
-    let again = script_texts::read(alloc, text, plan, slots)?;
+    let said = scripts::judged(alloc, text, plan.len(), slots)?;
+    let read = scripts::read(alloc, text, plan, slots)?;
+    let again = scripts::read(alloc, text, plan, slots)?;
     Ok(Checked {
         is_read: said.refusal.is_none(),
         is_right: read == again && read == Some(said),
@@ -86,11 +87,11 @@ fn check_script(
 
 /// Reads a report, and compares what is read with what the rules say; one that is read has to come back from its text.
 fn check_report(alloc: Global, text: &[u8]) -> Result<Checked, Refusal> {
-    let read = report_texts::read(alloc, text)?;
-    let again = report_texts::read(alloc, text)?;
-    let said = report_texts::judged(alloc, text)?;
+    let read = reports::read(alloc, text)?;
+    let again = reports::read(alloc, text)?;
+    let said = reports::judged(alloc, text)?;
     let back = match &read {
-        Ok(report) => report_texts::comes_back(alloc, report)?,
+        Ok(report) => reports::comes_back(alloc, report)?,
         Err(_) => true,
     };
     Ok(Checked {
@@ -179,7 +180,7 @@ fn run(alloc: Global, count: u64, seed: u64) -> Result<Ended, Refusal> {
         let kind = kind_of(case);
         let text = text_of(alloc, &mut chance, kind)?;
         let checked = match kind {
-            Kind::Plan => plan_texts::check(alloc, &text)?,
+            Kind::Plan => plans::check(alloc, &text)?,
             Kind::Script => check_script(alloc, &mut chance, &plans, &text)?,
             Kind::Report => check_report(alloc, &text)?,
         };
