@@ -5,23 +5,36 @@ use std::alloc::{AllocError, Global};
 /// Plans of both versions.
 pub const PLANS: [&str; 4] = [
     "version = 1\ndies = 1\nblocks = 8\npages = 4\nerase_slots = 3\nlogical = 12\nalpha = 2\n\n[[task]]\ndie = 0\ncap = 4\n",
-    "version = 1\ndies = 2\nblocks = 8\npages = 4\nerase_slots = 3\nlogical = 12\nalpha = 2\n\n[[task]]\ndie = 0\ncap = 4\n\n[[task]]\ndie = 1\ncap = 4\n",
-    "version = 2\ndies = 1\nblocks = 5\npages = 4\nerase_slots = 3\nlogical = 2\nalpha = 2\ncommon = 20\n\n[[task]]\ndie = 0\ncap = 6\nperiod = 10\ncollect_period = 20\nwork = 2\nwrites = 1\n",
-    "version = 2\ndies = 2\nblocks = 16\npages = 4\nerase_slots = 1\nlogical = 3\nalpha = 2\ncommon = 40\n[[task]]\ndie = 1\ncap = 6\nperiod = 20\ncollect_period = 40\nwork = 3\nwrites = 1\n[[task]]\ndie = 0\ncap = 6\nperiod = 40\ncollect_period = 40\nwork = 1\nwrites = 0\n",
+    "version = 1\ndies = 2\nblocks = 8\npages = 4\nerase_slots = 3\nlogical = 12\nalpha = 2\n\n\
+     [[task]]\ndie = 0\ncap = 4\n\n[[task]]\ndie = 1\ncap = 4\n",
+    "version = 2\ndies = 1\nblocks = 5\npages = 4\nerase_slots = 3\nlogical = 2\nalpha = 2\n\
+     common = 20\n\n[[task]]\ndie = 0\ncap = 6\nperiod = 10\ncollect_period = 20\nwork = 2\nwrites = 1\n",
+    "version = 2\ndies = 2\nblocks = 16\npages = 4\nerase_slots = 1\nlogical = 3\nalpha = 2\n\
+     common = 40\n[[task]]\ndie = 1\ncap = 6\nperiod = 20\ncollect_period = 40\nwork = 3\nwrites = 1\n\
+     [[task]]\ndie = 0\ncap = 6\nperiod = 40\ncollect_period = 40\nwork = 1\nwrites = 0\n",
 ];
 
 /// Scripts for two dies.
 pub const SCRIPTS: [&str; 3] = [
     "at,die,task,kind,release,due,ops\n0,0,0,job,0,2,W3=11111111111111111111111111111111\n1,0,0,job,1,3,R3\n",
-    "at,die,task,kind,release,due,ops\n0,0,0,job,2,5,R0 R1\n0,0,0,job,0,5,R2 R3 R4\n0,1,0,job,0,2,W3=0102030405060708090A0B0C0D0E0F10\n0,1,0,collect,1,4,\n1,1,0,job,1,9,R3\n",
-    "at,die,task,kind,release,due,ops\r\n0,1,0,collect,0,9,\r\n\"2\",1,0,\"job\",2,8,\"W1=00000000000000000000000000000000 R1\"\r\n5,1,3,job,5,1048576,\r\n",
+    "at,die,task,kind,release,due,ops\n0,0,0,job,2,5,R0 R1\n0,0,0,job,0,5,R2 R3 R4\n\
+     0,1,0,job,0,2,W3=0102030405060708090A0B0C0D0E0F10\n0,1,0,collect,1,4,\n1,1,0,job,1,9,R3\n",
+    "at,die,task,kind,release,due,ops\r\n0,1,0,collect,0,9,\r\n\
+     \"2\",1,0,\"job\",2,8,\"W1=00000000000000000000000000000000 R1\"\r\n5,1,3,job,5,1048576,\r\n",
 ];
 
 /// Reports of one die and of two.
 pub const REPORTS: [&str; 3] = [
-    "row,die,job,task,release,due,work,completion,lateness,given,items\njob,0,0,0,0,2,1,1,-1,,\njob,0,1,0,1,3,1,2,-1,,11111111111111111111111111111111\ncert,0,0,,0,2,,1,-1,,0\n",
-    "row,die,job,task,release,due,work,completion,lateness,given,items\njob,0,0,0,2,5,2,4,-1,,ffffffffffffffffffffffffffffffff ffffffffffffffffffffffffffffffff\njob,0,1,0,0,5,3,5,0,,ffffffffffffffffffffffffffffffff\njob,1,0,0,0,2,1,1,-1,,\nwaived,1,1,0,1,4,0,,,1,\njob,1,2,0,1,9,1,2,-7,,0102030405060708090a0b0c0d0e0f10\ncert,0,1,,0,5,,5,0,,0 1\ncert,1,0,,0,2,,1,-1,,0\n",
-    "row,die,job,task,release,due,work,completion,lateness,given,items\ncollect,3,0,2,0,9,7,9,0,2,\njob,3,1,0,0,4,1,,,,\ncollect,3,2,1,4,20,0,,,,\njob,3,3,0,0,9,2,9,0,,\njob,7,0,15,5,6,0,,,,\ncert,3,0,,0,9,,9,0,,0\n",
+    "row,die,job,task,release,due,work,completion,lateness,given,items\njob,0,0,0,0,2,1,1,-1,,\n\
+     job,0,1,0,1,3,1,2,-1,,11111111111111111111111111111111\ncert,0,0,,0,2,,1,-1,,0\n",
+    "row,die,job,task,release,due,work,completion,lateness,given,items\n\
+     job,0,0,0,2,5,2,4,-1,,ffffffffffffffffffffffffffffffff ffffffffffffffffffffffffffffffff\n\
+     job,0,1,0,0,5,3,5,0,,ffffffffffffffffffffffffffffffff\njob,1,0,0,0,2,1,1,-1,,\n\
+     waived,1,1,0,1,4,0,,,1,\njob,1,2,0,1,9,1,2,-7,,0102030405060708090a0b0c0d0e0f10\n\
+     cert,0,1,,0,5,,5,0,,0 1\ncert,1,0,,0,2,,1,-1,,0\n",
+    "row,die,job,task,release,due,work,completion,lateness,given,items\ncollect,3,0,2,0,9,7,9,0,2,\n\
+     job,3,1,0,0,4,1,,,,\ncollect,3,2,1,4,20,0,,,,\njob,3,3,0,0,9,2,9,0,,\njob,7,0,15,5,6,0,,,,\n\
+     cert,3,0,,0,9,,9,0,,0\n",
 ];
 
 /// Numbers at their limits, and what is almost a number.

@@ -109,7 +109,9 @@ erase_slots = 3
 logical = 12
 alpha = 2
 common = 40
-task = [{die = 1, cap = 6, period = 20, collect_period = 40, work = 2, writes = 1}, {die = 0, cap = 7, period = 10, collect_period = 20, work = 2, writes = 1}, {die = 1, cap = 8, period = 40, collect_period = 40, work = 3, writes = 2}]
+task = [{die = 1, cap = 6, period = 20, collect_period = 40, work = 2, writes = 1}, \
+    {die = 0, cap = 7, period = 10, collect_period = 20, work = 2, writes = 1}, \
+    {die = 1, cap = 8, period = 40, collect_period = 40, work = 3, writes = 2}]
 ";
     let plan = format!(in alloc; "{:?}", read_plan(alloc, text.as_bytes())?)?;
     let die =

@@ -8,14 +8,16 @@ fn scripts_are_read(rt: HostRuntime) -> Result<(), Fail> {
     let alloc = rt.alloc();
     let read = format!(in alloc; "{:?}", items(alloc, SCRIPT.as_bytes())?)?;
     let want =
-        "[ScriptItem { line: 2, at: 0, die: 0, event: Submit { task: TaskNo(0), release: 0, due: 2, ops: [Write(3, PageData([17, 17, 17, 17, 17, 17, 17, 17, 17, 17, 17, 17, 17, 17, 17, 17]))] } }, \
+        "[ScriptItem { line: 2, at: 0, die: 0, event: Submit { task: TaskNo(0), release: 0, due: 2, \
+ops: [Write(3, PageData([17, 17, 17, 17, 17, 17, 17, 17, 17, 17, 17, 17, 17, 17, 17, 17]))] } }, \
 ScriptItem { line: 3, at: 1, die: 0, event: Submit { task: TaskNo(0), release: 1, due: 3, ops: [Read(3)] } }]";
     assert_eq!(rt; read.as_str(), want);
     let read = format!(in alloc; "{:?}", items(alloc, TWO_SCRIPT.as_bytes())?)?;
     let want =
         "[ScriptItem { line: 2, at: 0, die: 0, event: Submit { task: TaskNo(0), release: 2, due: 5, ops: [Read(0), Read(1)] } }, \
 ScriptItem { line: 3, at: 0, die: 0, event: Submit { task: TaskNo(0), release: 0, due: 5, ops: [Read(2), Read(3), Read(4)] } }, \
-ScriptItem { line: 4, at: 0, die: 1, event: Submit { task: TaskNo(0), release: 0, due: 2, ops: [Write(3, PageData([1, 2, 3, 4, 5, 6, 7, 8, 9, 10, 11, 12, 13, 14, 15, 16]))] } }, \
+ScriptItem { line: 4, at: 0, die: 1, event: Submit { task: TaskNo(0), release: 0, due: 2, \
+ops: [Write(3, PageData([1, 2, 3, 4, 5, 6, 7, 8, 9, 10, 11, 12, 13, 14, 15, 16]))] } }, \
 ScriptItem { line: 5, at: 0, die: 1, event: Collect { task: TaskNo(0), release: 1, due: 4 } }, \
 ScriptItem { line: 6, at: 1, die: 1, event: Submit { task: TaskNo(0), release: 1, due: 9, ops: [Read(3)] } }]";
     assert_eq!(rt; read.as_str(), want);
