@@ -105,6 +105,19 @@ impl EventLog {
         if events <= self.room && waivers <= self.waiver_room {
             return Ok(());
         }
+        self.grow(events, waivers)
+    }
+
+    /// As `reserve`, asking both lists: apart from it, so that a slot that finds its room makes no call.
+    fn grow(&mut self, events: usize, waivers: usize) -> Result<(), Refusal>
+        ensures room { OnOk result (events ≤ self.new.room) }
+        ensures waiver_room { OnOk result (waivers ≤ self.new.waiver_room) }
+        ensures no_less { self.old.room ≤ self.new.room }
+        ensures no_less_for_waivers { self.old.waiver_room ≤ self.new.waiver_room }
+        ensures refused { IfErr result (λ refusal. refusal ≡ Refusal.NoMemory) }
+        ensures events { self.new.notes ≡ self.old.notes }
+        ensures err { OnErr result (self.new ≡ self.old) }
+    {
         self.deeds.reserve(events)?;
         self.callers.reserve(events)?;
         if self.waivers.reserve(waivers).is_err() {
