@@ -1,4 +1,5 @@
 pub mod Flash
+pub mod Calls
 pub mod Memory
 pub mod MemoryView
 pub mod Fuse

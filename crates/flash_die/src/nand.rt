@@ -1,7 +1,8 @@
 //! What a flash device does.
 
-ghost use Rattle.std.specs.Prelude.{◌≡◌, ◌==◌, ◌+◌, ◌<◌, true, is_ok, IsOk, IfOk, IfErr, OnOk, OnErr};
+ghost use Rattle.std.specs.Prelude.{◌≡◌, ◌==◌, ◌+◌, ◌<◌, is_ok, IfOk, OnOk};
 ghost use Rattle.flash_die.specs.Flash.{IsProgrammed, IsNext, IsErasable, block_at, cell_at, programmed, erased};
+ghost use Rattle.flash_die.specs.Calls.{FailsByFault};
 
 use slot_types::{PageData, Place, Refusal, Shape};
 
@@ -39,24 +40,18 @@ pub trait Nand: Drop {
         requires few_failures { failures self.old < 4294967295 }
         ensures cell { IfOk result (λ bytes. bytes ≡ cell_at (blocks self.old) place) }
         ensures blocks { OnOk result (blocks self.new ≡ blocks self.old) }
-        ensures well { OnOk result (failures self.new ≡ failures self.old) }
-        ensures fault { IfErr result (λ refusal. refusal ≡ Refusal.DeviceFault) }
-        ensures failed { OnErr result (failures self.new ≡ failures self.old + 1) }
+        ensures fails { FailsByFault never_fails result (failures self.old) (failures self.new) }
         ensures shape { shape_of self.new ≡ shape_of self.old }
-        ensures ends { ends self.old (is_ok result) self.new }
-        ensures never { never_fails ≡ true → IsOk result };
+        ensures ends { ends self.old (is_ok result) self.new };
 
     /// Fills the next free page of a block that isn't in erase.
     fn program(&mut self, place: Place, bytes: PageData) -> Result<(), Refusal>
         requires next { IsNext (blocks self.old) (shape_of self.old).pages place }
         requires few_failures { failures self.old < 4294967295 }
         ensures blocks { OnOk result (blocks self.new ≡ programmed (blocks self.old) place.block bytes) }
-        ensures well { OnOk result (failures self.new ≡ failures self.old) }
-        ensures fault { IfErr result (λ refusal. refusal ≡ Refusal.DeviceFault) }
-        ensures failed { OnErr result (failures self.new ≡ failures self.old + 1) }
+        ensures fails { FailsByFault never_fails result (failures self.old) (failures self.new) }
         ensures shape { shape_of self.new ≡ shape_of self.old }
-        ensures ends { ends self.old (is_ok result) self.new }
-        ensures never { never_fails ≡ true → IsOk result };
+        ensures ends { ends self.old (is_ok result) self.new };
 
     /// Does one slot of the erase of a block, which has all its pages programmed or is in erase
     /// already, and answers whether it was the last. The last slot frees the block's pages.
@@ -65,10 +60,7 @@ pub trait Nand: Drop {
         requires few_failures { failures self.old < 4294967295 }
         ensures last { IfOk result (λ last. last ≡ ((block_at (blocks self.old) block).erasing + 1 == (shape_of self.old).erase_slots)) }
         ensures blocks { OnOk result (blocks self.new ≡ erased (blocks self.old) (shape_of self.old).erase_slots block) }
-        ensures well { OnOk result (failures self.new ≡ failures self.old) }
-        ensures fault { IfErr result (λ refusal. refusal ≡ Refusal.DeviceFault) }
-        ensures failed { OnErr result (failures self.new ≡ failures self.old + 1) }
+        ensures fails { FailsByFault never_fails result (failures self.old) (failures self.new) }
         ensures shape { shape_of self.new ≡ shape_of self.old }
-        ensures ends { ends self.old (is_ok result) self.new }
-        ensures never { never_fails ≡ true → IsOk result };
+        ensures ends { ends self.old (is_ok result) self.new };
 }

@@ -32,7 +32,7 @@ invariant_of-self-in-Ok-true g c = λ _.
     c.in-Ok-true.field-0 c.in-Ok-true.ensures.blocks c.in-Ok-true.ensures.last c.in-Ok-true.field-0-test in
     let worn_is = erases_are_counted c.args.block c.index_mut-in-Ok-true.result.now stands clear.in_range
     c.index_mut-in-Ok-true.ensures.value in
-    rw (c.erase_slot.ensures.shape, c.in-Ok-true.ensures.well, is, worn_is)
+    rw (c.erase_slot.ensures.shape, c.in-Ok-true.ensures.fails.well, is, worn_is)
     (stands_freed ((block_at b c.args.block).erases + 1) stands clear (rw (← c.self.view_is) at c.requires.taken))
 
 pub invariant_of-self-in-Ok-false : goal.invariant_of-self-in-Ok-false
@@ -42,7 +42,7 @@ invariant_of-self-in-Ok-false g c = λ _.
     let b = g.N.Nand.blocks c.self.inside.device in
     let is = erased_going b (g.N.Nand.blocks c.erase_slot.new.self) (g.N.Nand.shape_of c.self.inside.device).erase_slots c.args.block
     c.in-Ok-false.field-0 c.in-Ok-false.ensures.blocks c.in-Ok-false.ensures.last c.in-Ok-false.field-0-test in
-    rw (c.erase_slot.ensures.shape, c.in-Ok-false.ensures.well, is) (stands_going stands clear (rw (← c.self.view_is) at c.requires.taken))
+    rw (c.erase_slot.ensures.shape, c.in-Ok-false.ensures.fails.well, is) (stands_going stands clear (rw (← c.self.view_is) at c.requires.taken))
 
 pub returns-in-Ok-true-clause-contents : goal.returns-in-Ok-true-clause-contents
 returns-in-Ok-true-clause-contents g c =

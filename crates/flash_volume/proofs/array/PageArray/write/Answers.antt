@@ -79,7 +79,7 @@ invariant_of-self-in-Ok g c = λ _.
     c.index-erases.ensures 0 in
     rw (
       c.program.ensures.shape,
-      c.in-Ok.ensures.well,
+      c.in-Ok.ensures.fails.well,
       c.in-Ok.ensures.blocks,
       c.left_open-still_open.ensures,
       c.close_when_filled.ensures,
