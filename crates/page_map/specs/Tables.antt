@@ -1,11 +1,12 @@
 -- The tables of a map, and what is true of them.
-use Rattle.std.specs.Prelude.{◌≡◌, ◌<◌, ◌≤◌, ◌^◌, ◌*◌, ◌-◌, ℕ, Option, Some, None, List, ◌++◌, length, replicate, count_by, slice_index}
+use Rattle.std.specs.Prelude.{◌≡◌, ◌<◌, ◌≤◌, ◌^◌, ◌*◌, ◌-◌, ℕ, Option, Some, None, List, ◌++◌, length, map, replicate, count_by, slice_index}
 use Rattle.std.specs.Prelude.{slice_index_or, vec_capacity}
 use Rattle.slot_types.specs.declared.pages.Place.{Place}
 use Rattle.slot_types.specs.declared.plans.Shape.{Shape}
 use Rattle.slot_types.specs.Places.{is_in, place_of, owner_of}
 use Rattle.page_map.specs.declared.map.PageMap.TheInside.{Inside}
 use Rattle.page_map.specs.Placing.{Placing, AreApart, IsCell, cell_index}
+use Rattle.page_map.specs.Packing.{place_in}
 
 -- the owners by cell and the counts by block agree with the places
 pub record AreTables (shape : Shape) (places : List (Option Place)) (owners : List (Option ℕ)) (valid : List ℕ) : Type 0 where
@@ -21,20 +22,24 @@ pub record AreTables (shape : Shape) (places : List (Option Place)) (owners : Li
 abbrev pub laid : {X : Type 0} → ℕ → List (Option X) → List (Option X)
 laid count entries = entries ++ replicate (count - length entries) None
 
--- the tables of the map, laid down or not
+-- the tables of the map, laid down or not: where a page lies is told by the number of its cell
+abbrev pub cells_of : Inside → List (Option ℕ)
+cells_of m = laid m.logical m.places.items
+
 abbrev pub places_of : Inside → List (Option Place)
-places_of map = laid map.logical map.places.items
+places_of m = map (place_in m.shape) (cells_of m)
 
 abbrev pub owners_of : Inside → List (Option ℕ)
-owners_of map = laid (map.shape.blocks * map.shape.pages) map.owners.items
+owners_of m = laid (m.shape.blocks * m.shape.pages) m.owners.items
 
 abbrev pub placing_of : Inside → Placing
-placing_of map = record { shape = map.shape; places = places_of map }
+placing_of m = record { shape = m.shape; places = places_of m }
 
--- the entries that are laid down are some of the map's, and there is room for all
-pub record IsSound (map : Inside) : Type 0 where
-  pub tables : AreTables map.shape (places_of map) (owners_of map) map.valid.items
-  pub some_places : length map.places.items ≤ map.logical
-  pub room_places : map.logical ≤ vec_capacity map.places
-  pub some_owners : length map.owners.items ≤ map.shape.blocks * map.shape.pages
-  pub room_owners : map.shape.blocks * map.shape.pages ≤ vec_capacity map.owners
+-- the entries that are laid down are some of the map's, there is room for all, and a word for each cell
+pub record IsSound (m : Inside) : Type 0 where
+  pub tables : AreTables m.shape (places_of m) (owners_of m) m.valid.items
+  pub few_cells : m.shape.blocks * m.shape.pages < 2 ^ 32
+  pub some_places : length m.places.items ≤ m.logical
+  pub room_places : m.logical ≤ vec_capacity m.places
+  pub some_owners : length m.owners.items ≤ m.shape.blocks * m.shape.pages
+  pub room_owners : m.shape.blocks * m.shape.pages ≤ vec_capacity m.owners

@@ -1,7 +1,9 @@
 //! The map of a small die.
 
 use crate::PageMap;
+use crate::words::Word;
 use slot_types::{Place, Shape};
+use std::mem::size_of;
 use std::test::Fail;
 
 const SHAPE: Shape = Shape {
@@ -55,5 +57,11 @@ fn a_page_that_is_unbound_lies_nowhere(rt: HostRuntime) -> Result<(), Fail> {
     map.bind(3, THIRD);
     assert_eq!(rt; map.place(3), Some(THIRD));
     assert_eq!(rt; map.valid(0), 2);
+    Ok(())
+}
+
+#[test]
+fn an_entry_takes_four_bytes(rt: HostRuntime) -> Result<(), Fail> {
+    assert_eq!(rt; size_of::<Word>(), 4);
     Ok(())
 }

@@ -1,20 +1,22 @@
-use Rattle.std.proofs.Common.{◌≡◌, ◌<◌, ◌≤◌, ◌+◌, ◌*◌, ◌∙◌, ap, sym, subst, arith, length, get_or, refl, Some, set, ℕ, List, Option}
+use Rattle.std.proofs.Common.{◌≡◌, ◌<◌, ◌≤◌, ◌+◌, ◌*◌, ◌∙◌, ap, sym, subst, arith, length, map, get_or, refl, Some, set, ℕ, List, Option}
 use Rattle.std.proofs.lemmas.List.{get_or_read, length-set}
 use Rattle.std.proofs.lemmas.List.Sums.{count_by-le-length}
 use Rattle.slot_types.specs.declared.pages.Place.{Place}
 use Rattle.slot_types.specs.Places.{is_in}
+use Rattle.page_map.specs.Packing.{place_in}
 use Rattle.page_map.specs.Placing.{Placing, IsCell, cell_index}
-use Rattle.page_map.specs.Tables.{AreTables, laid, places_of, owners_of}
-use Rattle.page_map.proofs.Laid.{length-laid, some-laid, write-laid}
+use Rattle.page_map.specs.Tables.{AreTables, laid, places_of, owners_of, cells_of}
+use Rattle.page_map.proofs.Cells.{length-placed, set-placed}
+use Rattle.page_map.proofs.Laid.{some-laid, write-laid}
 use Rattle.page_map.proofs.Moving.{tables_with, one_more_here, in_table}
 use Rattle.page_map.proofs.map.PageMap.put.Goals as goal
 use Rattle.page_map.proofs.map.PageMap.put.Goals.{After-self}
 
 -- the entries after the write
-written : {X : Type 0} (count at some : ℕ) (entries longer : List (Option X)) (entry : Option X) → longer ≡ laid some entries → some ≤ count
+written : (count at some : ℕ) (entries longer : List (Option ℕ)) (entry : Option ℕ) → longer ≡ laid some entries → some ≤ count
     → at < some → length entries ≤ count → laid count (set longer at entry) ≡ set (laid count entries) at entry
-written {X} count at some entries longer entry is few below entries_few =
-    ap (λ (l : List (Option X)). laid count (set l at entry)) is ∙ write-laid count some entries at entry few below entries_few
+written count at some entries longer entry is few below entries_few =
+    ap (λ (l : List (Option ℕ)). laid count (set l at entry)) is ∙ write-laid count some entries at entry few below entries_few
 
 is_cell : (c : After-self) → IsCell c.self.inside.shape c.args.place
 is_cell c = rw (← c.self.view_is) at c.requires.place
@@ -26,7 +28,19 @@ is_page : (c : After-self) → c.args.page < length (places_of c.self.inside)
 is_page c = rw (← c.self.view_is) at c.requires.page
 
 of_logical : (c : After-self) → c.args.page + 1 ≤ c.self.inside.logical
-of_logical c = omega (arith, is_page c, length-laid c.self.inside.logical c.self.inside.places.items c.self.invariant.some_places)
+of_logical c =
+    let m = c.self.inside in
+    omega (arith, is_page c, length-placed m.shape m.logical m.places.items c.self.invariant.some_places)
+
+-- the page's entry with its cell
+came : (c : After-self) (longer : List (Option ℕ)) (word : Option ℕ) → longer ≡ laid (c.args.page + 1) c.self.inside.places.items
+    → place_in c.self.inside.shape word ≡ Some c.args.place
+    → map (place_in c.self.inside.shape) (laid c.self.inside.logical (set longer c.args.page word))
+    ≡ set (places_of c.self.inside) c.args.page (Some c.args.place)
+came c longer word is tells =
+    let m = c.self.inside in
+    ap (map (place_in m.shape)) (written m.logical c.args.page (c.args.page + 1) m.places.items longer word is (of_logical c) (omega arith)
+    c.self.invariant.some_places) ∙ set-placed m.shape (cells_of m) c.args.page word (Some c.args.place) tells
 
 pub lay_down-requires : goal.lay_down-requires
 lay_down-requires c = record { room = omega (arith, of_logical (goal.at.lay_down-requires c).After-self, c.self.invariant.room_places) }
@@ -71,30 +85,25 @@ invariant_of-self c =
     let valid = set m.valid.items c.args.place.block (c.index_mut-3.result.now + 1) in
     let longer : c.lay_down-2.new.entries.items ≡ laid (index + 1) m.owners.items = c.lay_down-2.ensures.entries
     ∙ ap (λ (k : ℕ). laid (k + 1) m.owners.items) c.cell-index.ensures in
-    let places : laid m.logical (set c.lay_down.new.entries.items c.args.page (Some c.args.place))
-    ≡ set (places_of m) c.args.page (Some c.args.place) = written m.logical c.args.page (c.args.page + 1) m.places.items
-    c.lay_down.new.entries.items (Some c.args.place) c.lay_down.ensures.entries (of_logical here) (omega arith)
-    c.self.invariant.some_places in
-    let owners : laid n (set c.lay_down-2.new.entries.items index (Some c.args.page))
-    ≡ set (owners_of m) index (Some c.args.page) = written n index (index + 1) m.owners.items c.lay_down-2.new.entries.items
-    (Some c.args.page) longer (of_map here) (omega arith) c.self.invariant.some_owners in
+    let places : List (Option Place) = map (place_in m.shape)
+    (laid m.logical (set c.lay_down.new.entries.items c.args.page c.pack.result)) in
+    let owners : laid n (set c.lay_down-2.new.entries.items c.cell-index.result c.some.result) ≡ set (owners_of m) index (Some c.args.page) =
+    ap (λ (k : ℕ). laid n (set c.lay_down-2.new.entries.items k c.some.result)) c.cell-index.ensures
+    ∙ written n index (index + 1) m.owners.items c.lay_down-2.new.entries.items c.some.result longer (of_map here) (omega arith)
+    c.self.invariant.some_owners ∙ ap (λ (o : Option ℕ). set (owners_of m) index o) c.some.ensures in
     let tables : AreTables m.shape (set (places_of m) c.args.page (Some c.args.place)) (set (owners_of m) index (Some c.args.page)) valid =
     tables_with m.shape (places_of m) (owners_of m) m.valid.items c.args.page c.index_mut-3.result.now c.args.place
     c.self.invariant.tables (is_page here) (is_cell here) (rw (← c.self.view_is) at c.requires.free)
     (rw (← c.self.view_is) at c.requires.nowhere) read in
-    let with_places : AreTables m.shape (laid m.logical (set c.lay_down.new.entries.items c.args.page (Some c.args.place)))
-    (set (owners_of m) index (Some c.args.page)) valid = subst
-    (λ (l : List (Option Place)). AreTables m.shape l (set (owners_of m) index (Some c.args.page)) valid) (sym places) tables in
-    let with_owners : AreTables m.shape (laid m.logical (set c.lay_down.new.entries.items c.args.page (Some c.args.place)))
-    (laid n (set c.lay_down-2.new.entries.items index (Some c.args.page))) valid = subst
-    (λ (l : List (Option ℕ)). AreTables m.shape (laid m.logical (set c.lay_down.new.entries.items c.args.page (Some c.args.place))) l
-    valid) (sym owners) with_places in
+    let with_places : AreTables m.shape places (set (owners_of m) index (Some c.args.page)) valid = subst
+    (λ (l : List (Option Place)). AreTables m.shape l (set (owners_of m) index (Some c.args.page)) valid)
+    (sym (came here c.lay_down.new.entries.items c.pack.result c.lay_down.ensures.entries c.pack.ensures.back)) tables in
     record {
-      tables = subst (λ (k : ℕ). AreTables m.shape (laid m.logical (set c.lay_down.new.entries.items c.args.page (Some c.args.place)))
-          (laid n (set c.lay_down-2.new.entries.items k (Some c.args.page))) valid) (sym c.cell-index.ensures) with_owners;
+      tables = subst (λ (l : List (Option ℕ)). AreTables m.shape places l valid) (sym owners) with_places;
+      few_cells = c.self.invariant.few_cells;
       some_places = omega (
         arith,
-        length-set c.lay_down.new.entries.items c.args.page (Some c.args.place),
+        length-set c.lay_down.new.entries.items c.args.page c.pack.result,
         ap length
             c.lay_down.ensures.entries,
         some-laid m.logical (c.args.page + 1) m.places.items (of_logical here) c.self.invariant.some_places,
@@ -102,7 +111,7 @@ invariant_of-self c =
       room_places = omega (arith, c.self.invariant.room_places, c.lay_down.ensures.room);
       some_owners = omega (
         arith,
-        length-set c.lay_down-2.new.entries.items c.cell-index.result (Some c.args.page),
+        length-set c.lay_down-2.new.entries.items c.cell-index.result c.some.result,
         ap length longer,
         some-laid n (index + 1) m.owners.items (of_map here) c.self.invariant.some_owners,
       );
@@ -114,5 +123,4 @@ returns c =
     let m = c.self.inside in
     let here = (goal.at.returns c).After-self in
     let P : List (Option Place) → Placing = λ l. record { shape = m.shape; places = l } in
-    rw (← c.self.view_is) (ap P (written m.logical c.args.page (c.args.page + 1) m.places.items c.lay_down.new.entries.items
-    (Some c.args.place) c.lay_down.ensures.entries (of_logical here) (omega arith) c.self.invariant.some_places))
+    rw (← c.self.view_is) (ap P (came here c.lay_down.new.entries.items c.pack.result c.lay_down.ensures.entries c.pack.ensures.back))
