@@ -162,7 +162,8 @@ impl<N: Nand> Die<N> {
     ) -> Result<JobNo, RefusedAt>
         requires { pass.old.lock ≡ self.now }
         ensures same { IsSamePass pass.old pass.new }
-        ensures taken { IfOk result (λ number. AddsEntry pass.old.view (Event.Collect task release due) (Reply.Taken number) pass.new.view) }
+        ensures taken { IfOk result (λ number. AddsEntry pass.old.view (Event.Collect task release due) (Reply.Taken number)
+            pass.new.view) }
         ensures refused { IfErr result (λ refused. AddsNone N.never_fails pass.old.view (Event.Collect task release due) refused
             pass.new.view) }
     {

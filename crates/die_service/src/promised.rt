@@ -40,5 +40,6 @@ pub fn seen_keeps_promises()
 /// It speaks of a die on which nothing else was done, as [`close`](crate::close) tells of a closed one, whose log this is.
 pub fn planned_feeds_go_as_planned()
     ensures { (never_fails : Bool) (plan : DiePlan) (slots : ℕ) (feed : List Arrival) (end : DieEnd) (log : Log) →
-        AllArrive feed → KeepsItsPlan plan slots feed → RanAlone never_fails plan slots feed end log → GoesAsPlanned never_fails plan end log }
+        AllArrive feed → KeepsItsPlan plan slots feed → RanAlone never_fails plan slots feed end log →
+        GoesAsPlanned never_fails plan end log }
 {}

@@ -133,8 +133,10 @@ fn range_error(mut program: clap::Command<'_>) -> Error
 /// What the words ask for, the first of them being the program's name.
 ///
 /// The words are `run PLAN SCRIPT --slots N --workers W`, with N from 0 to 1,048,576, and W from 1 to 16 or left out, which
-/// is 1; `audit REPORT`; `plan PLAN`; or none. A number is 1 to 10 decimal digits. The error is that of clap, which prints itself: a call for help, a fault of the words, as an option that is given twice, or want of
-/// memory; and ValueValidation for a number that is none or out of its range.
+/// is 1; `audit REPORT`; `plan PLAN`; or none. A number is 1 to 10 decimal digits.
+///
+/// The error is that of clap, which prints itself: a call for help, a fault of the words, as an option that is given
+/// twice, or want of memory; and ValueValidation for a number that is none or out of its range.
 #[tactic(auto, using(crate::proofs::KindLemmas::has_kind_in_first))]
 pub fn read_words<'a>(alloc: Global, words: &'a [String]) -> Result<Command<'a>, Error>
     ensures ok { IfOk result (λ c. asked (map string_bytes words.entry.now) ≡ Some (task_of c)) }

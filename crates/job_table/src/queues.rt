@@ -25,7 +25,11 @@ impl Model for Queues {
 
     ghost Value = { Lines };
 
-    ghost view = { λ q. record { waiting = q.waiting.keys; ready = q.ready.keys; room = min q.waiting.spare (q.ready.spare - length q.waiting.keys) } };
+    ghost view = { λ q. record {
+      waiting = q.waiting.keys;
+      ready = q.ready.keys;
+      room = min q.waiting.spare (q.ready.spare - length q.waiting.keys);
+    } };
 
     ghost invariant = { λ q. IsRoomy q.waiting.keys q.ready.keys q.ready.spare };
 }

@@ -27,7 +27,8 @@ pub fn exact_reports_come_back()
 pub fn run_reports_come_back()
     ensures { (text : Option (List ℕ)) (plans : List DiePlan) (slots : ℕ) (count : RunCount) (old new : Option (List ℕ)) → length plans ≤ 8
         → All MeetsBound plans →
-        (ran : RunsText text plans slots count old new) → report_of (report_text (reports_from 0 plans ran.runs)) ≡ Ok (reports_from 0 plans ran.runs) }
+        (ran : RunsText text plans slots count old new) →
+        report_of (report_text (reports_from 0 plans ran.runs)) ≡ Ok (reports_from 0 plans ran.runs) }
 {}
 
 /// Where the rows of a die keep its plan, with times that pass their test, its run goes as planned: all that is due by the

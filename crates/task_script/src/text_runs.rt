@@ -177,7 +177,8 @@ pub fn run_text<R: Threads + Wait + Sync, S: Read + Drop, W: Write>(
     requires bound { All MeetsBound plan.now }
     requires few { slots ≤ MAX_SLOT }
     requires workers { (1 ≤ workers) × (workers ≤ 16) }
-    ensures ran { IfOk result (λ count. RunsText (S.remaining script) plan.now slots count (W.contents writer.old) (W.contents writer.new)) }
+    ensures ran { IfOk result (λ count. RunsText (S.remaining script) plan.now slots count (W.contents writer.old)
+        (W.contents writer.new)) }
     ensures planned { IfOk result (λ count. RunsAsPlanned (S.remaining script) plan.now slots count (W.contents writer.old)
         (W.contents writer.new)) }
     ensures refused { IfErr result (RefusesText (S.remaining script) (length plan.now) slots) }

@@ -54,7 +54,8 @@ waives_collections plan bound = exact_induction plan WaivesCollections (λ numbe
         let c = choice plan past in
         let ws = (slot_reply plan past c.waived c.head).waived in
         let chosen = chosen_is plan past (well_served plan past bound (stands_well plan bound past exact)) in
-        elim (or_cases (is_waived past number) (is_among number ws) (sym (list_any-append (λ w. w.number == number) (waived past) ws) ∙ is)) [
+        let either = sym (list_any-append (λ w. w.number == number) (waived past) ws) ∙ is in
+        elim (or_cases (is_waived past number) (is_among number ws) either) [
           | inl before ↦ h number before
           | inr now_waived ↦ among_collections plan past (waived past) c.waived (accounts plan past) number chosen.waivers
               (sym (ap (is_among number) (waived_is plan past c.waived c.head)) ∙ now_waived)
