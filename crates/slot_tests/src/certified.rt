@@ -1,14 +1,14 @@
 //! The certificate of a die, and whether it is what it is to be.
 
 use crate::again::{certificate_of, rows_of};
+use crate::steps::Bounds;
+use crate::told::Told;
 use flash_die::Nand;
 use late_cert::{Carried, Certificate, Verdict, build, check};
 use slot_core::DieCore;
 use slot_types::{JobNo, Refusal};
 use std::alloc::Global;
-
-/// Of a certificate: its job, start, due and completion.
-pub(crate) type Bounds = (u32, u32, u32, u32);
+use std::process::Abort;
 
 /// Whether these are the jobs of these numbers, in this order.
 fn are(jobs: &[JobNo], numbers: &[u32]) -> bool {
@@ -20,39 +20,63 @@ fn are(jobs: &[JobNo], numbers: &[u32]) -> bool {
     jobs.len() == numbers.len()
 }
 
-fn is_of(certificate: &Certificate, bounds: Bounds, jobs: &[u32]) -> bool {
-    let (job, start, due, completion) = bounds;
-    (certificate.job.0 == job)
-        & (certificate.start == start)
-        & (certificate.due == due)
-        & (certificate.completion == completion)
-        & are(certificate.jobs.as_slice(), jobs)
+fn is_of(certificate: &Certificate, want: &Bounds) -> bool {
+    (certificate.job.0 == want.job)
+        & (certificate.start == want.start)
+        & (certificate.due == want.due)
+        & (certificate.completion == want.completion)
+        & are(certificate.jobs.as_slice(), want.jobs)
 }
 
-/// Whether the die answers that it has no certificate.
-pub(crate) fn has_none<N: Nand>(die: &DieCore<N>, alloc: Global) -> bool {
-    matches!(certificate_of(die, alloc), Ok(None))
+/// A certificate is this one.
+fn is_certificate<R: Abort>(
+    told: &Told<R>,
+    got: &Result<Option<Certificate>, Refusal>,
+    want: &Bounds,
+) {
+    let right = match got {
+        Ok(Some(certificate)) => is_of(certificate, want),
+        _ => false,
+    };
+    told.fits(right, got, want)
 }
 
-/// Whether the die's certificate is this one.
-pub(crate) fn is_certified<N: Nand>(
+/// The die's certificate is this one.
+pub(crate) fn is_certified<N: Nand, R: Abort>(
+    told: &Told<R>,
     die: &DieCore<N>,
     alloc: Global,
-    bounds: Bounds,
-    jobs: &[u32],
-) -> bool {
-    match certificate_of(die, alloc) {
-        Ok(Some(certificate)) => is_of(&certificate, bounds, jobs),
-        _ => false,
+    want: &Bounds,
+) {
+    is_certificate(told, &certificate_of(die, alloc), want)
+}
+
+/// What the check says of the die's certificate over its rows, if it has one.
+pub(crate) fn verdict_of<N: Nand>(
+    die: &DieCore<N>,
+    alloc: Global,
+) -> Result<Option<Verdict>, Refusal> {
+    match certificate_of(die, alloc)? {
+        Some(certificate) => {
+            let rows = rows_of(die, alloc)?;
+            Ok(Some(check(&rows, &certificate)))
+        }
+        None => Ok(None),
     }
 }
 
 /// Whether the die's certificate holds over its rows.
 pub(crate) fn holds<N: Nand>(die: &DieCore<N>, alloc: Global) -> bool {
-    match (certificate_of(die, alloc), rows_of(die, alloc)) {
-        (Ok(Some(certificate)), Ok(rows)) => check(&rows, &certificate) == Verdict::Holds,
-        _ => false,
+    verdict_of(die, alloc) == Ok(Some(Verdict::Holds))
+}
+
+/// How many slots the jobs take together.
+pub(crate) fn work_of<N: Nand>(die: &DieCore<N>, alloc: Global) -> Result<u32, Refusal> {
+    let mut work: u32 = 0;
+    for row in rows_of(die, alloc)?.as_slice() {
+        work = work.wrapping_add(row.work);
     }
+    Ok(work)
 }
 
 fn carried_of(alloc: Global, numbers: &[u32]) -> Result<Carried, Refusal> {
@@ -74,20 +98,17 @@ fn built<N: Nand>(
     build(alloc, &rows, &carried, JobNo(job))
 }
 
-/// Whether this certificate is built over the die's rows, where its slots carried these numbers.
-pub(crate) fn is_built<N: Nand>(
+/// This certificate is built over the die's rows, where its slots carried these numbers.
+pub(crate) fn is_built<N: Nand, R: Abort>(
+    told: &Told<R>,
     die: &DieCore<N>,
     alloc: Global,
     slots: &[u32],
-    bounds: Bounds,
-    jobs: &[u32],
-) -> bool {
-    let made = match built(die, alloc, bounds.0, slots) {
-        Err(Refusal::NoMemory) => built(die, alloc, bounds.0, slots),
+    want: &Bounds,
+) {
+    let got = match built(die, alloc, want.job, slots) {
+        Err(Refusal::NoMemory) => built(die, alloc, want.job, slots),
         answer => answer,
     };
-    match made {
-        Ok(Some(certificate)) => is_of(&certificate, bounds, jobs),
-        _ => false,
-    }
+    is_certificate(told, &got, want)
 }

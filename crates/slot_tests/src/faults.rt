@@ -1,9 +1,9 @@
 //! The long history of a die whose device fails at one of its calls, beside the same history without a fault.
 
-use crate::again::submit;
-use crate::certified::{has_none, holds};
+use crate::again::{certificate_of, submit};
+use crate::certified::holds;
 use crate::collections::{COPIES_AND_ERASES, HISTORY};
-use crate::dies::{TIGHT, plan_of};
+use crate::plans::TIGHT;
 use crate::steps::Step;
 use flash_die::{FuseNand, MemoryNand, Nand};
 use slot_core::{DieCore, Worst};
@@ -44,7 +44,7 @@ fn carry<N: Nand>(die: &mut DieCore<N>, alloc: Global) -> Result<Told, Refusal> 
 /// Whether what stands of a stopped die is read off its log: its worst job is the one from before the fault.
 fn still_answers<N: Nand>(die: &DieCore<N>, alloc: Global, worst: Option<Worst>) -> bool {
     match worst {
-        None => die.worst().is_none() & has_none(die, alloc),
+        None => die.worst().is_none() & matches!(certificate_of(die, alloc), Ok(None)),
         Some(_) => (die.worst() == worst) & holds(die, alloc),
     }
 }
@@ -107,17 +107,23 @@ impl Beside {
         step: &Step,
     ) -> bool {
         match step {
-            Step::Submit(release, due, ops, _) => self.takes(
-                submit(fused, alloc, 0, *release, *due, *ops),
-                submit(whole, alloc, 0, *release, *due, *ops),
+            Step::Submit {
+                task,
+                release,
+                due,
+                ops,
+                ..
+            } => self.takes(
+                submit(fused, alloc, *task, *release, *due, *ops),
+                submit(whole, alloc, *task, *release, *due, *ops),
             ),
-            Step::Collect(release, due, _) => self.takes(
+            Step::Collect { release, due, .. } => self.takes(
                 fused.collect(alloc, 0, TaskNo(0), *release, *due),
                 whole.collect(alloc, 0, TaskNo(0), *release, *due),
             ),
-            Step::Carries(numbers) => self.carries_all(fused, whole, alloc, numbers.len()),
-            Step::Acts(_, acts) => self.carries_all(fused, whole, alloc, acts.len()),
-            Step::Waives(_, _) => self.carries_all(fused, whole, alloc, 1),
+            Step::Carries { jobs } => self.carries_all(fused, whole, alloc, jobs.len()),
+            Step::Acts { acts, .. } => self.carries_all(fused, whole, alloc, acts.len()),
+            Step::Waives { .. } => self.carries_all(fused, whole, alloc, 1),
             _ => true,
         }
     }
@@ -161,15 +167,15 @@ fn play<N: Nand, M: Nand>(
 
 /// Plays the history on a die beside a new one without a fault.
 fn play_beside<N: Nand>(fused: &mut DieCore<N>, alloc: Global) -> Result<Option<bool>, Refusal> {
-    let device = MemoryNand::new(alloc, TIGHT)?;
-    let mut whole = DieCore::new(alloc, plan_of(alloc, TIGHT, 5)?, device)?;
+    let device = MemoryNand::new(alloc, TIGHT.shape)?;
+    let mut whole = DieCore::new(alloc, TIGHT.of_die(alloc)?, device)?;
     Ok(play(fused, &mut whole, alloc))
 }
 
 /// Plays the history on a die whose device fails behind so many calls.
 fn play_fused(alloc: Global, calls: u64) -> Result<Option<bool>, Refusal> {
-    let device = FuseNand::new(MemoryNand::new(alloc, TIGHT)?, calls);
-    let mut fused = DieCore::new(alloc, plan_of(alloc, TIGHT, 5)?, device)?;
+    let device = FuseNand::new(MemoryNand::new(alloc, TIGHT.shape)?, calls);
+    let mut fused = DieCore::new(alloc, TIGHT.of_die(alloc)?, device)?;
     play_beside(&mut fused, alloc)
 }
 

@@ -1,16 +1,19 @@
-//! Random histories of a die with as many logical pages as its bound allows, on which a collection copies as a rule: each read gives the page's
-//! last finished write, or blank behind its trim.
+//! Random histories of a die with as many logical pages as its bound allows, on which a collection copies as a rule: each
+//! read gives the page's last finished write, or blank behind its trim.
 
 use crate::again::submit;
-use crate::dies::plays_dense;
-use crate::facts::Fact::Holds;
+use crate::dies::plays;
 use crate::pages::BLANK;
+use crate::plans::DENSE;
+use crate::steps::Fact::Holds;
 use crate::steps::Step;
 use crate::steps::Step::{History, Is};
+use crate::told::Told;
 use flash_die::Nand;
 use slot_core::DieCore;
 use slot_types::{Act, Op, PageData, Refusal, TaskNo};
 use std::alloc::Global;
+use std::process::Abort;
 use std::test::Fail;
 
 const CONTENTS: [PageData; 4] = [
@@ -27,7 +30,7 @@ const PAGES: usize = 17;
 const SLOTS: u32 = 3000;
 
 /// What a history came to.
-#[derive(Drop)]
+#[derive(Debug, Drop)]
 struct Played {
     /// Whether each read gave the page's last finished write, or blank behind its trim.
     agrees: bool,
@@ -120,9 +123,13 @@ fn play<N: Nand>(die: &mut DieCore<N>, alloc: Global, seed: u32) -> Result<Playe
     Ok(played)
 }
 
+/// What a history has to come to, in words.
+const BUSY: &str =
+    "reads of what was written last, over 300 writes, 100 trims and 100 collections, and a copy for each two of these";
+
 /// Whether a history agrees, and copied more than one page for each two collections.
-pub(crate) fn agrees<N: Nand>(die: &mut DieCore<N>, alloc: Global, seed: u32) -> bool {
-    match play(die, alloc, seed) {
+fn is_busy(got: &Result<Played, Refusal>) -> bool {
+    match got {
         Ok(played) => {
             let collections = played.erases / 3;
             played.agrees
@@ -135,17 +142,28 @@ pub(crate) fn agrees<N: Nand>(die: &mut DieCore<N>, alloc: Global, seed: u32) ->
     }
 }
 
+/// The history of this seed agrees, and copied enough.
+pub(crate) fn agrees<N: Nand, R: Abort>(
+    told: &Told<R>,
+    die: &mut DieCore<N>,
+    alloc: Global,
+    seed: u32,
+) {
+    let got = play(die, alloc, seed);
+    told.fits(is_busy(&got), &got, &BUSY)
+}
+
 const SEEDS: [&[Step]; 4] = [
-    &[History(7), Is(Holds)],
-    &[History(1974), Is(Holds)],
-    &[History(1973), Is(Holds)],
-    &[History(20040801), Is(Holds)],
+    &[History { seed: 7 }, Is(Holds)],
+    &[History { seed: 1974 }, Is(Holds)],
+    &[History { seed: 1973 }, Is(Holds)],
+    &[History { seed: 20040801 }, Is(Holds)],
 ];
 
 #[test]
 fn random_histories_read_what_was_written(rt: HostRuntime) -> Result<(), Fail> {
     for steps in SEEDS {
-        plays_dense(&rt, rt.alloc(), steps)?;
+        plays(&rt, rt.alloc(), &DENSE, steps)?;
     }
     Ok(())
 }

@@ -1,73 +1,72 @@
-//! Idle slots, one at a time and in runs, and slots that only pass.
+//! Idle slots, one at a time and in runs.
 
 use crate::again::carry;
+use crate::told::Told;
 use flash_die::Nand;
 use slot_core::DieCore;
-use slot_types::{Event, Items, Refusal, Reply, SlotReply};
+use slot_types::{Event, Items, Refusal, Reply, SlotReply, WaivedList};
 use std::alloc::Global;
+use std::process::Abort;
 
-/// Whether a reply is that of an idle slot of this number.
-fn is_idle(reply: &SlotReply, slot: u32) -> bool {
-    (reply.slot == slot) & reply.waived.is_empty() & reply.ran.is_none() & reply.finished.is_none()
-}
-
-/// Whether the present slot has this number and is idle.
-pub(crate) fn idles<N: Nand>(die: &mut DieCore<N>, alloc: Global, slot: u32) -> bool {
-    match carry(die, alloc) {
-        Ok(reply) => is_idle(&reply, slot),
-        Err(_) => false,
+/// The reply of an idle slot of this number.
+fn idle(alloc: Global, slot: u32) -> SlotReply {
+    SlotReply {
+        slot,
+        waived: WaivedList::new(alloc),
+        ran: None,
+        finished: None,
     }
 }
 
-/// Whether these are the replies of idle slots from this one on.
-fn are_idle(replies: &[Reply], first: u32) -> bool {
-    let mut slot = first;
-    for reply in replies {
-        match reply {
-            Reply::Slot(reply) => {
-                if !is_idle(reply, slot) {
-                    return false;
-                }
-            }
-            _ => return false,
-        }
-        slot = slot.wrapping_add(1);
-    }
-    true
+/// The present slot has this number and is idle.
+pub(crate) fn idles<N: Nand, R: Abort>(
+    told: &Told<R>,
+    die: &mut DieCore<N>,
+    alloc: Global,
+    slot: u32,
+) {
+    told.same(&carry(die, alloc), &Ok(idle(alloc, slot)))
 }
 
 /// What the die answers to a run of so many slots.
 fn run_of<N: Nand>(
     die: &mut DieCore<N>,
     alloc: Global,
-    count: u32,
+    slots: u32,
 ) -> Result<Items<Reply>, Refusal> {
     let mut events = Items::new(alloc);
-    for _ in 0..count {
+    for _ in 0..slots {
         events.push(Event::Slot)?;
     }
     die.run(alloc, events)
 }
 
-/// Whether a run of so many slots is answered, and each is idle.
-pub(crate) fn runs<N: Nand>(die: &mut DieCore<N>, alloc: Global, count: u32) -> bool {
-    let first = die.now();
-    let replies = match run_of(die, alloc, count) {
-        Err(Refusal::NoMemory) => run_of(die, alloc, count),
-        answer => answer,
-    };
-    match replies {
-        Ok(replies) => { (replies.len() == count as usize) & are_idle(replies.as_slice(), first) }
-        Err(_) => false,
+/// These are the replies of idle slots from this one on.
+fn are_idle<R: Abort>(told: &Told<R>, alloc: Global, replies: &[Reply], first: u32) {
+    let mut slot = first;
+    for reply in replies {
+        told.same(reply, &Reply::Slot(idle(alloc, slot)));
+        slot = slot.wrapping_add(1);
     }
 }
 
-/// Whether so many slots pass.
-pub(crate) fn passes<N: Nand>(die: &mut DieCore<N>, alloc: Global, count: u32) -> bool {
-    for _ in 0..count {
-        if carry(die, alloc).is_err() {
-            return false;
+/// A run of so many slots is answered, and each is idle.
+pub(crate) fn runs<N: Nand, R: Abort>(
+    told: &Told<R>,
+    die: &mut DieCore<N>,
+    alloc: Global,
+    slots: u32,
+) {
+    let first = die.now();
+    let answer = match run_of(die, alloc, slots) {
+        Err(Refusal::NoMemory) => run_of(die, alloc, slots),
+        answer => answer,
+    };
+    match answer {
+        Ok(replies) => {
+            told.same(&replies.len(), &(slots as usize));
+            are_idle(told, alloc, replies.as_slice(), first)
         }
+        Err(refusal) => told.same(&Some(refusal), &None),
     }
-    true
 }

@@ -1,10 +1,15 @@
 //! Worked rows of one die: jobs, collections, certificates, refusals, and whole histories.
+//!
+//! Read in this order: `steps` has the words of a test, `plans` the dies on which tests are played, and `jobs` the first
+//! tests; `collections`, `refusals`, `ends` and `reserved` have more of them. A test fails as `told` says. `played` carries a
+//! step out, and `dies` a table on a new die.
+//!
+//! What is no table stands behind: `faults` and `histories` play long ones; `planned` and `loaded` keep to a plan with times;
+//! `tight` compares a die with the rules read a second time, in `plain_die`, `plain_flash` and `plain_accounts`.
 #![tactic(auto)]
 
 #[cfg(test)]
 mod again;
-#[cfg(test)]
-mod asked;
 #[cfg(test)]
 mod certified;
 #[cfg(test)]
@@ -13,8 +18,6 @@ mod collections;
 mod dies;
 #[cfg(test)]
 mod ends;
-#[cfg(test)]
-mod facts;
 #[cfg(test)]
 mod faults;
 #[cfg(test)]
@@ -38,6 +41,10 @@ mod plain_flash;
 #[cfg(test)]
 mod planned;
 #[cfg(test)]
+mod plans;
+#[cfg(test)]
+mod played;
+#[cfg(test)]
 mod refusals;
 #[cfg(test)]
 mod reserved;
@@ -47,3 +54,5 @@ mod slotted;
 mod steps;
 #[cfg(test)]
 mod tight;
+#[cfg(test)]
+mod told;

@@ -1,83 +1,49 @@
-//! What became of the jobs of a die, and whether it is what it is to be.
+//! What became of the jobs of a die, beside what is to have become of them.
 
 use crate::again::outcome_of;
+use crate::told::Told;
 use flash_die::Nand;
 use slot_core::{DieCore, Outcome};
 use slot_types::{PageData, Refusal};
 use std::alloc::Global;
+use std::process::Abort;
 
-fn is_end(
-    outcome: &Outcome,
-    wanted_completion: u32,
-    wanted_lateness: i64,
-    wanted_given: u32,
-    wanted_reads: &[PageData],
-) -> bool {
-    match outcome {
-        Outcome::Done {
-            completion,
-            lateness,
-            given,
-            reads,
-        } => {
-            (*completion == wanted_completion)
-                & (*lateness == wanted_lateness)
-                & (*given == wanted_given)
-                & (reads.as_slice() == wanted_reads)
+/// How a job or a collection is to have ended.
+#[derive(Clone, Copy, Debug)]
+pub(crate) struct End<'a> {
+    pub(crate) completion: u32,
+    pub(crate) lateness: i64,
+    pub(crate) given: u32,
+    pub(crate) reads: &'a [PageData],
+}
+
+fn is_end(got: &Result<Outcome, Refusal>, want: &End) -> bool {
+    match got {
+        Ok(
+            Outcome::Done {
+                completion,
+                lateness,
+                given,
+                reads,
+            },
+        ) => {
+            (*completion == want.completion)
+                & (*lateness == want.lateness)
+                & (*given == want.given)
+                & (reads.as_slice() == want.reads)
         }
         _ => false,
     }
 }
 
-/// Whether a job is done with this completion and this lateness, and its reads gave these pages.
-pub(crate) fn is_done<N: Nand>(
+/// A job or a collection ended so.
+pub(crate) fn ended<N: Nand, R: Abort>(
+    told: &Told<R>,
     die: &DieCore<N>,
     alloc: Global,
     number: u32,
-    completion: u32,
-    lateness: i64,
-    reads: &[PageData],
-) -> bool {
-    match outcome_of(die, alloc, number) {
-        Ok(outcome) => is_end(&outcome, completion, lateness, 0, reads),
-        Err(_) => false,
-    }
-}
-
-/// Whether a collection is done with this completion and this lateness, and gave its task so many pages.
-pub(crate) fn is_collected<N: Nand>(
-    die: &DieCore<N>,
-    alloc: Global,
-    number: u32,
-    completion: u32,
-    lateness: i64,
-    given: u32,
-) -> bool {
-    match outcome_of(die, alloc, number) {
-        Ok(outcome) => is_end(&outcome, completion, lateness, given, &[]),
-        Err(_) => false,
-    }
-}
-
-/// Whether a collection was waived, and gave its task so many pages.
-pub(crate) fn is_waived<N: Nand>(
-    die: &DieCore<N>,
-    alloc: Global,
-    number: u32,
-    wanted_given: u32,
-) -> bool {
-    match outcome_of(die, alloc, number) {
-        Ok(Outcome::Waived { given }) => given == wanted_given,
-        _ => false,
-    }
-}
-
-/// Whether a job is neither done nor waived.
-pub(crate) fn is_waiting<N: Nand>(die: &DieCore<N>, alloc: Global, number: u32) -> bool {
-    matches!(outcome_of(die, alloc, number), Ok(Outcome::Waiting))
-}
-
-/// Whether the die has no job of this number.
-pub(crate) fn is_unknown<N: Nand>(die: &DieCore<N>, alloc: Global, number: u32) -> bool {
-    matches!(outcome_of(die, alloc, number), Err(Refusal::UnknownJob))
+    want: &End,
+) {
+    let got = outcome_of(die, alloc, number);
+    told.fits(is_end(&got, want), &got, want)
 }

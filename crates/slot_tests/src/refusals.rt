@@ -1,10 +1,11 @@
 //! Jobs that a die refuses, and with which refusal.
 
-use crate::dies::plays_wide;
-use crate::facts::Fact::{Entries, Now, Unknown};
+use crate::dies::plays;
 use crate::pages::{ONES, READ};
+use crate::plans::ROOMY;
+use crate::steps::Fact::{Entries, Now, Unknown};
 use crate::steps::Step;
-use crate::steps::Step::{Is, NoCollect, Passes, Refused, Submit, Submits};
+use crate::steps::Step::{Collect, Is, Passes, Submit, Submits};
 use slot_types::{Op, Refusal};
 use std::test::Fail;
 
@@ -13,51 +14,54 @@ const WRITE: Op = Op::Write(0, ONES);
 const BEYOND: Op = Op::Read(12);
 
 /// Task 0 has four tokens.
+#[rattlefmt::skip]
 const FIVE_WRITES: &[Step] = &[
-    Refused(0, 0, 9, &[WRITE; 5], Refusal::NoTokens { have: 4, need: 5 }),
-    Submit(0, 9, &[WRITE; 4], 0),
-    Refused(0, 0, 9, &[WRITE], Refusal::NoTokens { have: 0, need: 1 }),
-    Is(Entries(1)),
+    Submit { task: 0, release: 0, due: 9, ops: &[WRITE; 5], want: Err(Refusal::NoTokens { have: 4, need: 5 }) },
+    Submit { task: 0, release: 0, due: 9, ops: &[WRITE; 4], want: Ok(0) },
+    Submit { task: 0, release: 0, due: 9, ops: &[WRITE], want: Err(Refusal::NoTokens { have: 0, need: 1 }) },
+    Is(Entries { count: 1 }),
 ];
 
 #[test]
 fn a_fifth_write_finds_no_token(rt: HostRuntime) -> Result<(), Fail> {
-    Ok(plays_wide(&rt, rt.alloc(), FIVE_WRITES)?)
+    Ok(plays(&rt, rt.alloc(), &ROOMY, FIVE_WRITES)?)
 }
 
 /// Jobs with one fault or two, in slot 5.
+#[rattlefmt::skip]
 const FAULTS: &[Step] = &[
-    Passes(5),
-    Refused(0, 4, 9, &[READ], Refusal::ReleasePast { now: 5 }),
-    Refused(0, 5, 5, &[READ], Refusal::BadDue),
-    Refused(0, 5, 1048577, &[READ], Refusal::BadDue),
-    Refused(0, 5, 9, &[BEYOND], Refusal::BadPage { page: 12 }),
-    Refused(0, 5, 9, &[Op::Trim(12)], Refusal::BadPage { page: 12 }),
-    Refused(0, 5, 9, &[], Refusal::EmptyJob),
-    Refused(0, 5, 9, &[READ; 65], Refusal::TooManyOps),
-    Refused(1, 5, 9, &[], Refusal::UnknownTask),
-    Refused(0, 4, 9, &[BEYOND], Refusal::BadPage { page: 12 }),
-    Refused(0, 5, 5, &[WRITE; 5], Refusal::BadDue),
-    Is(Unknown(0)),
-    Submit(5, 9, &[READ; 64], 0),
-    Is(Entries(6)),
-    Is(Now(5)),
+    Passes { slots: 5 },
+    Submit { task: 0, release: 4, due: 9, ops: &[READ], want: Err(Refusal::ReleasePast { now: 5 }) },
+    Submit { task: 0, release: 5, due: 5, ops: &[READ], want: Err(Refusal::BadDue) },
+    Submit { task: 0, release: 5, due: 1048577, ops: &[READ], want: Err(Refusal::BadDue) },
+    Submit { task: 0, release: 5, due: 9, ops: &[BEYOND], want: Err(Refusal::BadPage { page: 12 }) },
+    Submit { task: 0, release: 5, due: 9, ops: &[Op::Trim(12)], want: Err(Refusal::BadPage { page: 12 }) },
+    Submit { task: 0, release: 5, due: 9, ops: &[], want: Err(Refusal::EmptyJob) },
+    Submit { task: 0, release: 5, due: 9, ops: &[READ; 65], want: Err(Refusal::TooManyOps) },
+    Submit { task: 1, release: 5, due: 9, ops: &[], want: Err(Refusal::UnknownTask) },
+    Submit { task: 0, release: 4, due: 9, ops: &[BEYOND], want: Err(Refusal::BadPage { page: 12 }) },
+    Submit { task: 0, release: 5, due: 5, ops: &[WRITE; 5], want: Err(Refusal::BadDue) },
+    Is(Unknown { job: 0 }),
+    Submit { task: 0, release: 5, due: 9, ops: &[READ; 64], want: Ok(0) },
+    Is(Entries { count: 6 }),
+    Is(Now { slot: 5 }),
 ];
 
 #[test]
 fn the_first_refusal_is_answered(rt: HostRuntime) -> Result<(), Fail> {
-    Ok(plays_wide(&rt, rt.alloc(), FAULTS)?)
+    Ok(plays(&rt, rt.alloc(), &ROOMY, FAULTS)?)
 }
 
 /// A die has 65,536 jobs at most.
+#[rattlefmt::skip]
 const ONE_MORE: &[Step] = &[
-    Submits(65536, 0, 1048576, &[READ]),
-    Refused(0, 0, 1048576, &[READ], Refusal::JobsFull),
-    NoCollect(0, 1048576, Refusal::JobsFull),
-    Is(Entries(65536)),
+    Submits { jobs: 65536, release: 0, due: 1048576, ops: &[READ] },
+    Submit { task: 0, release: 0, due: 1048576, ops: &[READ], want: Err(Refusal::JobsFull) },
+    Collect { release: 0, due: 1048576, want: Err(Refusal::JobsFull) },
+    Is(Entries { count: 65536 }),
 ];
 
 #[test]
 fn no_job_is_accepted_behind_65536(rt: HostRuntime) -> Result<(), Fail> {
-    Ok(plays_wide(&rt, rt.alloc(), ONE_MORE)?)
+    Ok(plays(&rt, rt.alloc(), &ROOMY, ONE_MORE)?)
 }

@@ -1,97 +1,104 @@
-//! Slots of a die, and whether each does what it is to.
+//! Slots of a die that carry something out, or are refused.
 
 use crate::again::carry;
+use crate::told::Told;
 use flash_die::Nand;
 use slot_core::DieCore;
-use slot_types::{Act, JobNo, Refusal, SlotReply};
+use slot_types::{Act, JobNo, Refusal, SlotReply, Waived};
 use std::alloc::Global;
+use std::process::Abort;
 
-/// Whether the present slot carries this number out.
-fn carries<N: Nand>(die: &mut DieCore<N>, alloc: Global, number: u32) -> bool {
-    match carry(die, alloc) {
+/// Whether a slot carried this number out.
+fn is_of(got: &Result<SlotReply, Refusal>, want: JobNo) -> bool {
+    match got {
         Ok(reply) => match reply.ran {
-            Some((carried, _)) => carried.0 == number,
+            Some((number, _)) => number == want,
             None => false,
         },
         Err(_) => false,
     }
 }
 
-/// Whether the next slots carry these numbers out.
-pub(crate) fn carries_each<N: Nand>(die: &mut DieCore<N>, alloc: Global, numbers: &[u32]) -> bool {
-    for number in numbers {
-        if !carries(die, alloc, *number) {
-            return false;
-        }
-    }
-    true
-}
-
-/// Whether the present slot carries out this act of this number.
-fn does<N: Nand>(die: &mut DieCore<N>, alloc: Global, number: u32, act: Act) -> bool {
-    match carry(die, alloc) {
-        Ok(reply) => match reply.ran {
-            Some((carried, done)) => (carried.0 == number) & (done == act),
-            None => false,
-        },
-        Err(_) => false,
-    }
-}
-
-/// Whether the next slots carry out these acts of this number.
-pub(crate) fn does_each<N: Nand>(
+/// The next slots carry these numbers out.
+pub(crate) fn carries<N: Nand, R: Abort>(
+    told: &Told<R>,
     die: &mut DieCore<N>,
     alloc: Global,
-    number: u32,
+    jobs: &[u32],
+) {
+    for job in jobs {
+        let got = carry(die, alloc);
+        told.fits(is_of(&got, JobNo(*job)), &got, &JobNo(*job));
+    }
+}
+
+/// Whether a slot carried this out.
+fn is_act(got: &Result<SlotReply, Refusal>, want: (JobNo, Act)) -> bool {
+    match got {
+        Ok(reply) => reply.ran == Some(want),
+        Err(_) => false,
+    }
+}
+
+/// The next slots carry out these acts of this number.
+pub(crate) fn acts<N: Nand, R: Abort>(
+    told: &Told<R>,
+    die: &mut DieCore<N>,
+    alloc: Global,
+    job: u32,
     acts: &[Act],
-) -> bool {
+) {
     for act in acts {
-        if !does(die, alloc, number, *act) {
-            return false;
-        }
-    }
-    true
-}
-
-fn is_waiver(reply: &SlotReply, number: u32, given: u32) -> bool {
-    match reply.waived.get(0) {
-        Some(waived) => {
-            (reply.waived.len() == 1)
-                & (waived.number == JobNo(number))
-                & (waived.given == given)
-                & reply.ran.is_none()
-        }
-        None => false,
+        let got = carry(die, alloc);
+        let want = (JobNo(job), *act);
+        told.fits(is_act(&got, want), &got, &want);
     }
 }
 
-/// Whether the present slot waives this collection alone, which gives so many pages, and is idle.
-pub(crate) fn waives<N: Nand>(
-    die: &mut DieCore<N>,
-    alloc: Global,
-    number: u32,
-    given: u32,
-) -> bool {
-    match carry(die, alloc) {
-        Ok(reply) => is_waiver(&reply, number, given),
+/// Whether a slot waived this alone, and was idle.
+fn is_waiver(got: &Result<SlotReply, Refusal>, want: Waived) -> bool {
+    match got {
+        Ok(reply) => (reply.waived.as_slice() == [want].as_slice()) & reply.ran.is_none(),
         Err(_) => false,
     }
 }
 
-/// Whether the present slot is refused, and with this refusal.
-pub(crate) fn refuses_slot<N: Nand>(die: &mut DieCore<N>, alloc: Global, refusal: Refusal) -> bool {
-    match carry(die, alloc) {
-        Ok(_) => false,
-        Err(answered) => answered == refusal,
+/// The present slot waives this collection alone, which gives so many pages, and is idle.
+pub(crate) fn waives<N: Nand, R: Abort>(
+    told: &Told<R>,
+    die: &mut DieCore<N>,
+    alloc: Global,
+    collection: u32,
+    given: u32,
+) {
+    let got = carry(die, alloc);
+    let want = Waived {
+        number: JobNo(collection),
+        given,
+    };
+    told.fits(is_waiver(&got, want), &got, &want)
+}
+
+/// So many slots are carried out, whatever they do.
+pub(crate) fn passes<N: Nand, R: Abort>(
+    told: &Told<R>,
+    die: &mut DieCore<N>,
+    alloc: Global,
+    slots: u32,
+) {
+    for _ in 0..slots {
+        told.same(&carry(die, alloc).err(), &None);
     }
 }
 
-/// Whether so many slots are carried out, each when it is asked for the first time.
-pub(crate) fn carries_at_once<N: Nand>(die: &mut DieCore<N>, alloc: Global, count: u32) -> bool {
-    for _ in 0..count {
-        if die.slot(alloc, 0).is_err() {
-            return false;
-        }
+/// So many slots are carried out, each when it is asked for the first time.
+pub(crate) fn at_once<N: Nand, R: Abort>(
+    told: &Told<R>,
+    die: &mut DieCore<N>,
+    alloc: Global,
+    slots: u32,
+) {
+    for _ in 0..slots {
+        told.same(&die.slot(alloc, 0).err(), &None);
     }
-    true
 }

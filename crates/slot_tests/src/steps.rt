@@ -1,92 +1,159 @@
-//! A test as a table of steps: each says what is asked of a die, and what comes of it.
+//! The words of a test: what is asked of a die, what comes of it, and what stands of the die then.
+//!
+//! A test is a table of steps, such as
+//!
+//! ```text
+//! Submit { task: 0, release: 0, due: 1, ops: &[Op::Read(7)], want: Ok(0) },
+//! Carries { jobs: &[0] },
+//! Is(Done { job: 0, completion: 1, lateness: 0, reads: &[BLANK] }),
+//! ```
+//!
+//! Jobs, collections and slots go by their numbers, which begin at 0.
 
-use crate::again::reserve;
-use crate::asked::{are_accepted, collects, collects_not, is_accepted, is_refused};
-use crate::facts::{Fact, stands};
-use crate::histories::agrees;
-use crate::idle::{idles, passes, runs};
-use crate::slotted::{carries_at_once, carries_each, does_each, refuses_slot, waives};
-use flash_die::Nand;
-use slot_core::DieCore;
-use slot_types::{Act, Op, Refusal};
-use std::alloc::Global;
+use slot_types::{Act, Op, PageData, Refusal};
 
-/// A step of a table. Where no task is named, a job or a collection is one of task 0.
+/// A step of a table. A `want` is the answer: the number of what was accepted, or why it is refused.
 pub(crate) enum Step<'a> {
-    /// A job with this release, this due and these operations is accepted under this number.
-    Submit(u32, u32, &'a [Op], u32),
-    /// So many jobs with this release, this due and these operations are accepted.
-    Submits(u32, u32, u32, &'a [Op]),
-    /// A job of this task with this release, this due and these operations gets this refusal.
-    Refused(u32, u32, u32, &'a [Op], Refusal),
-    /// A collection with this release and this due is accepted under this number.
-    Collect(u32, u32, u32),
-    /// A collection with this release and this due gets this refusal.
-    NoCollect(u32, u32, Refusal),
-    /// So many slots pass, whatever they carry out.
-    Passes(u32),
-    /// The present slot has this number and is idle.
-    Idles(u32),
-    /// A run of so many slots is answered, and each is idle.
-    Runs(u32),
-    /// So many slots are reserved.
-    Reserves(u32),
+    /// A job is submitted.
+    Submit {
+        task: u32,
+        release: u32,
+        due: u32,
+        ops: &'a [Op],
+        want: Result<u32, Refusal>,
+    },
+    /// So many jobs of task 0 are submitted, and all are accepted.
+    Submits {
+        jobs: u32,
+        release: u32,
+        due: u32,
+        ops: &'a [Op],
+    },
+    /// A collection for task 0 is asked for.
+    Collect {
+        release: u32,
+        due: u32,
+        want: Result<u32, Refusal>,
+    },
+    /// The next slots carry out these jobs or collections, one a slot.
+    Carries {
+        jobs: &'a [u32],
+    },
+    /// The next slots carry out these acts of one job or collection, one a slot.
+    Acts {
+        job: u32,
+        acts: &'a [Act],
+    },
+    /// The present slot waives this collection alone, which gives its task so many pages, and is idle.
+    Waives {
+        collection: u32,
+        given: u32,
+    },
+    /// The present slot has this number, and is idle.
+    Idles {
+        slot: u32,
+    },
+    /// So many slots are asked for in one call, and each is idle.
+    Runs {
+        slots: u32,
+    },
+    /// So many slots are carried out, whatever they do.
+    Passes {
+        slots: u32,
+    },
+    /// Memory for so many slots is reserved.
+    Reserves {
+        slots: u32,
+    },
     /// So many slots are carried out, each when it is asked for the first time.
-    AtOnce(u32),
-    /// The next slots carry out these numbers.
-    Carries(&'a [u32]),
-    /// The next slots carry out these acts of this number.
-    Acts(u32, &'a [Act]),
-    /// The present slot is idle and waives this number alone, which gives so many pages.
-    Waives(u32, u32),
-    /// The present slot gets this refusal.
-    NoSlot(Refusal),
+    AtOnce {
+        slots: u32,
+    },
+    /// The present slot is refused.
+    NoSlot {
+        want: Refusal,
+    },
     /// In the random history of this seed each read gives what was written last, and enough is copied.
-    History(u32),
+    History {
+        seed: u32,
+    },
     /// This stands of the die.
     Is(Fact<'a>),
 }
 
-/// Whether a step goes as it says.
-fn goes<N: Nand>(die: &mut DieCore<N>, alloc: Global, step: &Step) -> bool {
-    match step {
-        Step::Submit(release, due, ops, number) => {
-            is_accepted(die, alloc, *release, *due, *ops, *number)
-        }
-        Step::Submits(count, release, due, ops) => {
-            are_accepted(die, alloc, *count, *release, *due, *ops)
-        }
-        Step::Refused(task, release, due, ops, refusal) => {
-            is_refused(die, alloc, *task, *release, *due, *ops, *refusal)
-        }
-        Step::Collect(release, due, number) => collects(die, alloc, *release, *due, *number),
-        Step::NoCollect(release, due, refusal) => {
-            collects_not(die, alloc, *release, *due, *refusal)
-        }
-        Step::Passes(count) => passes(die, alloc, *count),
-        Step::Idles(slot) => idles(die, alloc, *slot),
-        Step::Runs(count) => runs(die, alloc, *count),
-        Step::Reserves(count) => reserve(die, *count).is_ok(),
-        Step::AtOnce(count) => carries_at_once(die, alloc, *count),
-        Step::Carries(numbers) => carries_each(die, alloc, *numbers),
-        Step::Acts(number, acts) => does_each(die, alloc, *number, *acts),
-        Step::Waives(number, given) => waives(die, alloc, *number, *given),
-        Step::NoSlot(refusal) => refuses_slot(die, alloc, *refusal),
-        Step::History(seed) => agrees(die, alloc, *seed),
-        Step::Is(fact) => stands(die, alloc, fact),
-    }
+/// What may stand of a die.
+pub(crate) enum Fact<'a> {
+    /// The job is done, and its reads gave these pages.
+    Done {
+        job: u32,
+        completion: u32,
+        lateness: i64,
+        reads: &'a [PageData],
+    },
+    /// The collection is done, and gave its task so many pages.
+    Collected {
+        collection: u32,
+        completion: u32,
+        lateness: i64,
+        given: u32,
+    },
+    /// The collection was waived, and gave its task so many pages.
+    Waived {
+        collection: u32,
+        given: u32,
+    },
+    /// The job is neither done nor waived.
+    Waiting {
+        job: u32,
+    },
+    /// No job has this number.
+    Unknown {
+        job: u32,
+    },
+    /// The worst job is this one.
+    Worst {
+        job: u32,
+        lateness: i64,
+    },
+    /// No job is the worst one, and there is no certificate.
+    NothingDone,
+    /// The die's certificate is this one.
+    Certified(Bounds<'a>),
+    /// Where the slots carried these jobs, this certificate is built over the die's rows.
+    Built {
+        slots: &'a [u32],
+        certificate: Bounds<'a>,
+    },
+    /// The die's certificate holds over its rows.
+    Holds,
+    /// The jobs take so many slots together.
+    Work {
+        slots: u32,
+    },
+    /// The log has so many entries.
+    Entries {
+        count: u64,
+    },
+    /// The log takes so many records.
+    Records {
+        count: u64,
+    },
+    /// The present slot is this one.
+    Now {
+        slot: u32,
+    },
+    /// Memory is reserved for so many slots.
+    Reserved {
+        slots: u32,
+    },
 }
 
-/// The place, from 0, of the first step that goes otherwise than it says. No step behind that one is asked.
-pub(crate) fn first_wrong<N: Nand>(
-    die: &mut DieCore<N>,
-    alloc: Global,
-    steps: &[Step],
-) -> Option<usize> {
-    for (place, step) in steps.iter().enumerate() {
-        if !goes(die, alloc, step) {
-            return Some(place);
-        }
-    }
-    None
+/// A certificate: the jobs that fill the slots from its start to its completion, for the sake of one of them.
+#[derive(Clone, Copy, Debug)]
+pub(crate) struct Bounds<'a> {
+    pub(crate) job: u32,
+    pub(crate) start: u32,
+    pub(crate) due: u32,
+    pub(crate) completion: u32,
+    pub(crate) jobs: &'a [u32],
 }
