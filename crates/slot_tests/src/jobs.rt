@@ -9,6 +9,24 @@ use crate::steps::{Bounds, Step};
 use slot_types::{Op, Refusal};
 use std::test::Fail;
 
+/// Page 7 was never written.
+#[rattlefmt::skip]
+const A_READ_OF_A_NEW_PAGE: &[Step] = &[
+    // a job is submitted, and gets number 0
+    Submit { task: 0, release: 0, due: 1, ops: &[Op::Read(7)], want: Ok(0) },
+    // the next slot carries it
+    Carries { jobs: &[0] },
+    // its read gave a blank page
+    Is(Done { job: 0, completion: 1, lateness: 0, reads: &[BLANK] }),
+    // the certificate of the worst job holds
+    Is(Holds),
+];
+
+#[test]
+fn a_page_never_written_reads_blank(rt: HostRuntime) -> Result<(), Fail> {
+    Ok(plays(&rt, rt.alloc(), &ROOMY, A_READ_OF_A_NEW_PAGE)?)
+}
+
 /// Four writes are one more than the task has tokens for.
 const THREE_TOKENS: Refusal = Refusal::NoTokens { have: 3, need: 4 };
 
@@ -29,20 +47,6 @@ const A_READ_BEHIND_A_WRITE: &[Step] = &[
 #[test]
 fn a_read_sees_the_write_before_it(rt: HostRuntime) -> Result<(), Fail> {
     Ok(plays(&rt, rt.alloc(), &ROOMY, A_READ_BEHIND_A_WRITE)?)
-}
-
-/// Page 7 was never written.
-#[rattlefmt::skip]
-const A_READ_OF_A_NEW_PAGE: &[Step] = &[
-    Submit { task: 0, release: 0, due: 1, ops: &[Op::Read(7)], want: Ok(0) },
-    Carries { jobs: &[0] },
-    Is(Done { job: 0, completion: 1, lateness: 0, reads: &[BLANK] }),
-    Is(Holds),
-];
-
-#[test]
-fn a_page_never_written_reads_blank(rt: HostRuntime) -> Result<(), Fail> {
-    Ok(plays(&rt, rt.alloc(), &ROOMY, A_READ_OF_A_NEW_PAGE)?)
 }
 
 /// Page 3 is written, trimmed and read. The trim gives no token back.

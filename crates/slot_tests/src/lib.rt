@@ -1,8 +1,8 @@
 //! Worked rows of one die: jobs, collections, certificates, refusals, and whole histories.
 //!
 //! Read in this order: `steps` has the words of a test, `plans` the dies on which tests are played, and `jobs` the first
-//! tests; `collections`, `refusals`, `ends` and `reserved` have more of them. A test fails as `told` says. `played` carries a
-//! step out, and `dies` a table on a new die.
+//! tests; `collections`, `refusals`, `ends` and `reserved` have more of them. A test fails as `told` says and `failed` shows.
+//! `played` carries a step out, and `dies` a table on a new die.
 //!
 //! What is no table stands behind: `faults` and `histories` play long ones; `planned` and `loaded` keep to a plan with times;
 //! `tight` compares a die with the rules read a second time, in `plain_die`, `plain_flash` and `plain_accounts`.
@@ -18,6 +18,8 @@ mod collections;
 mod dies;
 #[cfg(test)]
 mod ends;
+#[cfg(test)]
+mod failed;
 #[cfg(test)]
 mod faults;
 #[cfg(test)]
