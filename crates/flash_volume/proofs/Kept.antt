@@ -47,7 +47,7 @@ pub record IsWritten (shape : Shape) (blocks : List Block) (placing : Placing) (
   pub shape_is : shape_then ≡ shape
   pub cells : blocks_then ≡ programmed blocks place.block bytes
   pub placing_is : placing_then ≡ bound placing page place
-  pub free : free_cells shape.pages blocks_then + 1 ≡ free_cells shape.pages blocks
+  pub free : free_cells shape_then.pages blocks_then + 1 ≡ free_cells shape.pages blocks
   pub others : (block : ℕ) → block ≢ place.block → is_some (count_of candidates_then.counts block)
       ≡ is_some (count_of candidates.counts block)
   pub closes : filled_of (block_at blocks_then place.block) ≡ shape.pages → IsSome (count_of candidates_then.counts place.block)
@@ -67,7 +67,7 @@ sound_written after {shape} {failures} {blocks} {placing} {candidates} {running}
       shape_is = is.shape_is ∙ sound.shape_is ∙ ap (λ p. p.shape) (sym plan);
       map_len = ap (λ (m : Placing). length m.places) is.placing_is ∙ length-set placing.places page (Some place) ∙ sound.map_len
           ∙ ap (λ p. p.logical) (sym plan);
-      total = omega (arith, ap (λ (s : Shape). free_cells s.pages blocks_then) is.shape_is, is.free, sound.total, total);
+      total = omega (arith, is.free, sound.total, total);
       runs = rw (is.shape_is, is.cells, is.placing_is) (runs_kept after (programmed blocks place.block bytes)
           (set placing.places page (Some place)) sound.runs plan reserves
           (λ t c run same. run_written after page bytes run fit sound.stands.placed below same));
@@ -101,7 +101,7 @@ sound_copied {accounts} after {shape} {failures} {blocks} {placing} {candidates}
       shape_is = is.shape_is ∙ sound.shape_is ∙ ap (λ p. p.shape) (sym plan);
       map_len = ap (λ (m : Placing). length m.places) is.placing_is ∙ length-set placing.places k.page (Some place) ∙ sound.map_len
           ∙ ap (λ p. p.logical) (sym plan);
-      total = omega (arith, ap (λ (s : Shape). free_cells s.pages blocks_then) is.shape_is, is.free, sound.total, total);
+      total = omega (arith, is.free, sound.total, total);
       runs = rw (is.shape_is, is.cells, is.placing_is) (runs_changed after task c new (programmed blocks place.block k.bytes)
           (set placing.places k.page (Some place)) sound.runs in_caps runs refl plan theirs
           (run_copied after k (sound.runs.each task c runs) fit holds lies mine)
@@ -137,7 +137,7 @@ pub sound_going : {accounts : Accounts} {shape : Shape} {failures : ℕ} {blocks
     → IsSound accounts shape failures blocks placing candidates running → task < length accounts.plan.caps → running_of running task
     ≡ Some c → Sound shape_then failures_then blocks_then placing candidates → shape_then ≡ shape → blocks_then
     ≡ set blocks c.victim (record (block_at blocks c.victim) { erasing = (block_at blocks c.victim).erasing + 1 })
-    → free_cells shape.pages blocks_then ≡ free_cells shape.pages blocks
+    → free_cells shape_then.pages blocks_then ≡ free_cells shape.pages blocks
     → IsSound accounts shape_then failures_then blocks_then placing candidates (set running task (Some (with_buffer c None)))
 sound_going {accounts} {shape} {failures} {blocks} {placing} {candidates} {running} {shape_then} {failures_then} {blocks_then} task c sound
     in_caps runs stands same cells free =
@@ -150,7 +150,7 @@ sound_going {accounts} {shape} {failures} {blocks} {placing} {candidates} {runni
       bound = sound.bound;
       shape_is = same ∙ sound.shape_is;
       map_len = sound.map_len;
-      total = omega (arith, ap (λ (s : Shape). free_cells s.pages blocks_then) same, free, sound.total);
+      total = omega (arith, free, sound.total);
       runs = rw (same, cells) (runs_changed accounts task c new (set blocks c.victim block) placing.places sound.runs in_caps runs refl refl
           (λ u other. refl) mine (λ u d other d_runs its. run_going c.victim its run.in_range));
       picks = rw (same, cells) (picks_changed task c new (picks_erased c.victim block sound.picks run.in_range run.closed)
@@ -163,7 +163,7 @@ pub sound_ended : {accounts : Accounts} (after : Accounts) {shape : Shape} {fail
     (task erases reserve : ℕ) (c : Collection) → IsSound accounts shape failures blocks placing candidates running → task
     < length accounts.plan.caps → running_of running task ≡ Some c → Sound shape_then failures_then blocks_then placing candidates
     → shape_then ≡ shape → blocks_then ≡ set blocks c.victim (record { pages = []; erasing = 0; erases = erases })
-    → free_cells shape.pages blocks_then ≡ free_cells shape.pages blocks + shape.pages → after.plan ≡ accounts.plan → after.reserves
+    → free_cells shape_then.pages blocks_then ≡ free_cells shape.pages blocks + shape.pages → after.plan ≡ accounts.plan → after.reserves
     ≡ set accounts.reserves task reserve → reserve ≡ accounts.plan.shape.pages - accounts.plan.alpha → task < length accounts.reserves
     → total_of after ≡ total_of accounts + accounts.plan.shape.pages
     → IsSound after shape_then failures_then blocks_then placing candidates (set running task None)
@@ -183,7 +183,6 @@ sound_ended {accounts} after {shape} {failures} {blocks} {placing} {candidates} 
       map_len = sound.map_len ∙ ap (λ p. p.logical) (sym plan);
       total = omega (
         arith,
-        ap (λ (s : Shape). free_cells s.pages blocks_then) same,
         free,
         sound.total,
         total,

@@ -1,5 +1,6 @@
 pub mod Cells
 pub mod Array
+pub mod ArrayCalls
 pub mod Running
 pub mod Picks
 pub mod Sound

@@ -10,6 +10,7 @@ ghost use Rattle.page_map.specs.Placing.{blank_map, bound, unbound};
 ghost use Rattle.flash_die.specs.Flash.{IsFresh, blank, block_at, programmed, erased};
 ghost use Rattle.flash_volume.specs.Cells.{filled_of, is_wholly_free, open_in, left_open, next_cell, content_at, contents, free_cells};
 ghost use Rattle.flash_volume.specs.Array.{IsSoundArray, no_candidates, taken_out};
+ghost use Rattle.flash_volume.specs.ArrayCalls.{HasPlaced, HasErased, EndsWithDevice};
 ghost use Rattle.flash_volume.specs.Acts.{IsFirst};
 
 use crate::candidates::{close_when_filled, leave};
@@ -103,12 +104,7 @@ impl<N: Nand> PageArray<N> {
         ensures cells { OnOk result (N.blocks self.new.device ≡ N.blocks self.old.device) }
         ensures placing { self.new.placing ≡ self.old.placing }
         ensures candidates { self.new.candidates ≡ self.old.candidates }
-        ensures failed { self.new.failed ≡ is_err result }
-        ensures well { OnOk result (N.failures self.new.device ≡ N.failures self.old.device) }
-        ensures fault { IfErr result (λ refusal. refusal ≡ Refusal.DeviceFault) }
-        ensures failures { OnErr result (N.failures self.new.device ≡ N.failures self.old.device + 1) }
-        ensures shape { N.shape_of self.new.device ≡ N.shape_of self.old.device }
-        ensures never { N.never_fails ≡ true → IsOk result }
+        ensures ends { EndsWithDevice N.shape_of N.failures N.never_fails result self.old self.new }
     {
         match self.map.place(page) {
             None => Ok(PageData::BLANK),
@@ -127,28 +123,10 @@ impl<N: Nand> PageArray<N> {
         requires free { 0 < free_cells (N.shape_of self.old.device).pages (N.blocks self.old.device) }
         ensures once { N.ends self.old.device (is_ok result) self.new.device }
         ensures finds { IsSome (open_in (N.shape_of self.old.device).pages (N.blocks self.old.device)) }
-        ensures cells { OnOk result (N.blocks self.new.device
-            ≡ programmed (N.blocks self.old.device) (next_cell (N.shape_of self.old.device).pages (N.blocks self.old.device)).block bytes) }
-        ensures placing { OnOk result (self.new.placing ≡ bound self.old.placing page
-            (next_cell (N.shape_of self.old.device).pages (N.blocks self.old.device))) }
-        ensures candidates { OnOk result ((block : ℕ) → block
-            ≢ (next_cell (N.shape_of self.old.device).pages (N.blocks self.old.device)).block
-            → is_some (count_of self.new.candidates.counts block) ≡ is_some (count_of self.old.candidates.counts block)) }
-        ensures closes { OnOk result (filled_of (block_at (N.blocks self.new.device)
-            (next_cell (N.shape_of self.old.device).pages (N.blocks self.old.device)).block) ≡ (N.shape_of self.old.device).pages
-            → IsSome (count_of self.new.candidates.counts (next_cell (N.shape_of self.old.device).pages (N.blocks self.old.device)).block)) }
-        ensures free { OnOk result (free_cells (N.shape_of self.old.device).pages (N.blocks self.new.device) + 1
-            ≡ free_cells (N.shape_of self.old.device).pages (N.blocks self.old.device)) }
-        ensures contents { OnOk result (contents (N.blocks self.new.device) self.new.placing.places
-            ≡ slice_set (contents (N.blocks self.old.device) self.old.placing.places) page bytes) }
+        ensures placed { OnOk result (HasPlaced N.shape_of N.blocks page bytes self.old self.new) }
         ensures sound { IsSoundArray N.shape_of N.failures N.blocks self.new }
         ensures stays { OnErr result (self.new.placing ≡ self.old.placing) }
-        ensures failed { self.new.failed ≡ is_err result }
-        ensures well { OnOk result (N.failures self.new.device ≡ N.failures self.old.device) }
-        ensures fault { IfErr result (λ refusal. refusal ≡ Refusal.DeviceFault) }
-        ensures failures { OnErr result (N.failures self.new.device ≡ N.failures self.old.device + 1) }
-        ensures shape { N.shape_of self.new.device ≡ N.shape_of self.old.device }
-        ensures never { N.never_fails ≡ true → IsOk result }
+        ensures ends { EndsWithDevice N.shape_of N.failures N.never_fails result self.old self.new }
     {
         let place = self.next_cell();
         let before = self.map.place(page);
@@ -202,25 +180,11 @@ impl<N: Nand> PageArray<N> {
         requires taken { count_of self.old.candidates.counts block ≡ None }
         requires few_erases { (block_at (N.blocks self.old.device) block).erases < 4294967295 }
         ensures once { N.ends self.old.device (is_ok result) self.new.device }
-        ensures last { IfOk result (λ last. last ≡ ((block_at (N.blocks self.old.device) block).erasing + 1 ==
-            (N.shape_of self.old.device).erase_slots)) }
-        ensures cells { OnOk result (N.blocks self.new.device
-            ≡ erased (N.blocks self.old.device) (N.shape_of self.old.device).erase_slots block) }
+        ensures erased { IfOk result (λ last. HasErased N.shape_of N.blocks block last self.old self.new) }
         ensures placing { self.new.placing ≡ self.old.placing }
         ensures candidates { self.new.candidates ≡ self.old.candidates }
-        ensures goes_on { result ≡ Ok false → free_cells (N.shape_of self.old.device).pages (N.blocks self.new.device)
-            ≡ free_cells (N.shape_of self.old.device).pages (N.blocks self.old.device) }
-        ensures ends { result ≡ Ok true → free_cells (N.shape_of self.old.device).pages (N.blocks self.new.device)
-            ≡ free_cells (N.shape_of self.old.device).pages (N.blocks self.old.device) + (N.shape_of self.old.device).pages }
-        ensures contents { OnOk result (contents (N.blocks self.new.device) self.new.placing.places
-            ≡ contents (N.blocks self.old.device) self.old.placing.places) }
         ensures sound { IsSoundArray N.shape_of N.failures N.blocks self.new }
-        ensures failed { self.new.failed ≡ is_err result }
-        ensures well { OnOk result (N.failures self.new.device ≡ N.failures self.old.device) }
-        ensures fault { IfErr result (λ refusal. refusal ≡ Refusal.DeviceFault) }
-        ensures failures { OnErr result (N.failures self.new.device ≡ N.failures self.old.device + 1) }
-        ensures shape { N.shape_of self.new.device ≡ N.shape_of self.old.device }
-        ensures never { N.never_fails ≡ true → IsOk result }
+        ensures ends { EndsWithDevice N.shape_of N.failures N.never_fails result self.old self.new }
     {
         match self.device.erase_slot(block) {
             Err(refusal) => {

@@ -1,8 +1,8 @@
-use Rattle.std.proofs.Common.{◌+◌, [], arith}
+use Rattle.std.proofs.Common.{rules, ◌+◌, [], arith}
 use Rattle.flash_die.specs.Flash.{block_at}
 use Rattle.flash_volume.proofs.Opening.{seen}
 use Rattle.flash_volume.proofs.Erasing.{IsEmptied, erases_are_counted, unplaced_of, stands_going, stands_freed, contents_erased}
-use Rattle.flash_volume.proofs.Erasing.{erased_last, erased_going}
+use Rattle.flash_volume.proofs.Erasing.{erased_last, erased_going, free_freed, free_going}
 use Rattle.flash_volume.proofs.array.PageArray.erase_slot.Given.{Over}
 use Rattle.flash_volume.proofs.array.PageArray.erase_slot.Goals as goal
 use Rattle.flash_volume.proofs.array.PageArray.erase_slot.Goals.{After-erase_slot}
@@ -44,13 +44,35 @@ invariant_of-self-in-Ok-false g c = λ _.
     c.in-Ok-false.field-0 c.in-Ok-false.ensures.blocks c.in-Ok-false.ensures.last c.in-Ok-false.field-0-test in
     rw (c.erase_slot.ensures.shape, c.in-Ok-false.ensures.fails.well, is) (stands_going stands clear (rw (← c.self.view_is) at c.requires.taken))
 
-pub returns-in-Ok-true-clause-contents : goal.returns-in-Ok-true-clause-contents
-returns-in-Ok-true-clause-contents g c =
-    let clear = emptied g (goal.at.returns-in-Ok-true-clause-contents g c).After-erase_slot in
+pub returns-in-Ok-true-clause-erased : goal.returns-in-Ok-true-clause-erased
+returns-in-Ok-true-clause-erased g c =
+    let clear = emptied g (goal.at.returns-in-Ok-true-clause-erased g c).After-erase_slot in
     let b = g.N.Nand.blocks c.self.inside.device in
     let is = erased_last b (g.N.Nand.blocks c.erase_slot.new.self) (g.N.Nand.shape_of c.self.inside.device).erase_slots c.args.block
     c.in-Ok-true.field-0 c.in-Ok-true.ensures.blocks c.in-Ok-true.ensures.last c.in-Ok-true.field-0-test in
-    rw (is, ← c.self.view_is) (contents_erased (record { pages = []; erasing = 0; erases = (block_at b c.args.block).erases + 1 }) clear)
+    record {
+      last_is = search rules;
+      cells = search rules;
+      going = search rules;
+      freed = λ _. rw (c.erase_slot.ensures.shape, is, ← c.self.view_is) (free_freed ((block_at b c.args.block).erases + 1) clear);
+      pages = rw (is, ← c.self.view_is)
+          (contents_erased (record { pages = []; erasing = 0; erases = (block_at b c.args.block).erases + 1 }) clear);
+    }
+
+pub returns-in-Ok-false-clause-erased : goal.returns-in-Ok-false-clause-erased
+returns-in-Ok-false-clause-erased g c =
+    let clear = emptied g (goal.at.returns-in-Ok-false-clause-erased g c).After-erase_slot in
+    let b = g.N.Nand.blocks c.self.inside.device in
+    let is = erased_going b (g.N.Nand.blocks c.erase_slot.new.self) (g.N.Nand.shape_of c.self.inside.device).erase_slots c.args.block
+    c.in-Ok-false.field-0 c.in-Ok-false.ensures.blocks c.in-Ok-false.ensures.last c.in-Ok-false.field-0-test in
+    record {
+      last_is = search rules;
+      cells = search rules;
+      going = λ _. rw (c.erase_slot.ensures.shape, is, ← c.self.view_is) (free_going clear);
+      freed = search rules;
+      pages = rw (is, ← c.self.view_is)
+          (contents_erased (record (block_at b c.args.block) { erasing = (block_at b c.args.block).erasing + 1 }) clear);
+    }
 
 pub returns-in-Ok-true-clause-sound : goal.returns-in-Ok-true-clause-sound
 returns-in-Ok-true-clause-sound g c = λ again. seen (invariant_of-self-in-Ok-true g c again)

@@ -1,5 +1,6 @@
-use Rattle.std.proofs.Common.{◌≡◌, ◌<◌, length, get_or, ap, arith}
+use Rattle.std.proofs.Common.{rules, ◌≡◌, ◌<◌, length, get_or, ap, arith}
 use Rattle.std.proofs.lemmas.List.{get_or_read, length-map}
+use Rattle.std.proofs.lemmas.Grind.{common_steps}
 use Rattle.flash_die.specs.Flash.{Block}
 use Rattle.flash_volume.proofs.Opening.{fits_next, is_next, is_cell, unplaced, seen, some_open, Ready}
 use Rattle.flash_volume.proofs.Counting.{some_valid, left_open_block, left_len, few_open}
@@ -95,32 +96,32 @@ invariant_of-self-in-Ok g c = λ _.
 pub returns-in-Ok-clause-sound : goal.returns-in-Ok-clause-sound
 returns-in-Ok-clause-sound g c = λ again. seen (invariant_of-self-in-Ok g c again)
 
-pub returns-in-Ok-clause-contents : goal.returns-in-Ok-clause-contents
-returns-in-Ok-clause-contents g c =
-    let k = ready g (goal.at.returns-in-Ok-clause-contents g c).After-next_cell-place in
-    rw (c.in-Ok.ensures.blocks, c.bind.ensures, ← c.self.view_is) (contents_written c.args.page c.args.bytes k.stands k.fit k.in_list)
-
-pub returns-in-Ok-clause-free : goal.returns-in-Ok-clause-free
-returns-in-Ok-clause-free g c =
-    let k = ready g (goal.at.returns-in-Ok-clause-free g c).After-next_cell-place in
-    rw (c.in-Ok.ensures.blocks, ← c.self.view_is) (free_written c.args.bytes k.fit)
-
-pub returns-in-Ok-clause-closes : goal.returns-in-Ok-clause-closes
-returns-in-Ok-clause-closes g c =
-    let k = ready g (goal.at.returns-in-Ok-clause-closes g c).After-next_cell-place in
-    rw (
-      ← c.self.view_is,
-      c.in-Ok.ensures.blocks,
-      c.close_when_filled.ensures,
-      c.leave.ensures,
-      c.valid-valid.ensures,
-      c.bind.ensures,
-      c.place-before.ensures.place,
-      c.shape-pages.ensures,
-      c.program.ensures.shape,
-      k.is,
-    )
-    (closes_filled c.args.page c.args.bytes k.stands (rw k.is at k.fit))
+pub returns-in-Ok-clause-placed : goal.returns-in-Ok-clause-placed
+returns-in-Ok-clause-placed g c =
+    let k = ready g (goal.at.returns-in-Ok-clause-placed g c).After-next_cell-place in
+    record {
+      cells = search rules;
+      placing = search rules;
+      pages = rw (c.in-Ok.ensures.blocks, c.bind.ensures, ← c.self.view_is)
+          (contents_written c.args.page c.args.bytes k.stands k.fit k.in_list);
+      free = rw (c.program.ensures.shape, c.in-Ok.ensures.blocks, ← c.self.view_is) (free_written c.args.bytes k.fit);
+      closed = record {
+        others = grind (arith, common_steps);
+        closes = rw (
+          ← c.self.view_is,
+          c.in-Ok.ensures.blocks,
+          c.close_when_filled.ensures,
+          c.leave.ensures,
+          c.valid-valid.ensures,
+          c.bind.ensures,
+          c.place-before.ensures.place,
+          c.shape-pages.ensures,
+          c.program.ensures.shape,
+          k.is,
+        )
+            (closes_filled c.args.page c.args.bytes k.stands (rw k.is at k.fit));
+      };
+    }
 
 pub returns-in-Err-clause-finds : goal.returns-in-Err-clause-finds
 returns-in-Err-clause-finds g c = some_open (g.N.Nand.shape_of c.args.self.now.device).pages (g.N.Nand.blocks c.args.self.now.device)

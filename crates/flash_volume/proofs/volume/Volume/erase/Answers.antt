@@ -25,7 +25,7 @@ invariant_of-self-in-Ok-true g c = λ again.
     let s = g.N.Nand.shape_of c.self.inside.array.device in
     let b = g.N.Nand.blocks c.self.inside.array.device in
     let is = erased_last b (g.N.Nand.blocks c.erase_slot.new.self.device) s.erase_slots c.args.collection.victim c.in-Ok-true.field-0
-    c.in-Ok-true.ensures.cells c.in-Ok-true.ensures.last c.in-Ok-true.field-0-test in
+    c.in-Ok-true.ensures.erased.cells c.in-Ok-true.ensures.erased.last_is c.in-Ok-true.field-0-test in
     let own = c.reserve-reserve.ensures.sound in
     let a = c.self.inside.ledger in
     let copied = c.plan.result.now.shape.pages - c.plan-2.result.now.alpha - c.reserve-reserve.result in
@@ -43,7 +43,7 @@ invariant_of-self-in-Ok-true g c = λ again.
     sound_ended c.settle-given.new.self c.args.task ((block_at b c.args.collection.victim).erases + 1)
     (get_or a.reserves c.args.task 0 + copied) c.args.collection sound task runs
     (rw (c.erase_slot.ensures.placing, c.erase_slot.ensures.candidates) at (c.erase_slot.ensures.sound again))
-    c.erase_slot.ensures.shape is (c.in-Ok-true.ensures.ends (rw c.in-Ok-true.field-0-test refl))
+    c.erase_slot.ensures.ends.shape_stays is (c.in-Ok-true.ensures.erased.freed c.in-Ok-true.field-0-test)
     (ap (λ x. x.plan) c.settle-given.ensures.moved) (ap (λ x. x.reserves) c.settle-given.ensures.moved) refilled in_reserves
     c.settle-given.ensures.total
     )
@@ -56,11 +56,11 @@ invariant_of-self-in-Ok-false g c = λ again.
     let s = g.N.Nand.shape_of c.self.inside.array.device in
     let b = g.N.Nand.blocks c.self.inside.array.device in
     let is = erased_going b (g.N.Nand.blocks c.erase_slot.new.self.device) s.erase_slots c.args.collection.victim c.in-Ok-false.field-0
-    c.in-Ok-false.ensures.cells c.in-Ok-false.ensures.last c.in-Ok-false.field-0-test in
+    c.in-Ok-false.ensures.erased.cells c.in-Ok-false.ensures.erased.last_is c.in-Ok-false.field-0-test in
     rw (c.task-in-Ok-false.view_is, c.erase_slot.ensures.placing, c.erase_slot.ensures.candidates)
     (sound_going c.args.task c.args.collection sound task runs
     (rw (c.erase_slot.ensures.placing, c.erase_slot.ensures.candidates) at (c.erase_slot.ensures.sound again))
-    c.erase_slot.ensures.shape is (c.in-Ok-false.ensures.goes_on (rw c.in-Ok-false.field-0-test refl)))
+    c.erase_slot.ensures.ends.shape_stays is (c.in-Ok-false.ensures.erased.going c.in-Ok-false.field-0-test))
 
 pub returns-in-Ok-true-clause-did : goal.returns-in-Ok-true-clause-did
 returns-in-Ok-true-clause-did g c =
@@ -82,13 +82,13 @@ returns-in-Ok-true-clause-did g c =
       erases = record {
         victim = refl;
         unplaced = clear.none;
-        cells = rw (← sound.shape_is) c.in-Ok-true.ensures.cells;
+        cells = rw (← sound.shape_is) c.in-Ok-true.ensures.erased.cells;
         places = ap (λ m. m.places) c.erase_slot.ensures.placing;
-        pages = c.in-Ok-true.ensures.contents;
-        well = c.in-Ok-true.ensures.failed;
+        pages = c.in-Ok-true.ensures.erased.pages;
+        well = c.in-Ok-true.ensures.ends.failed;
       };
       last = rw (← sound.shape_is) (eqb-true ((block_at b c.args.collection.victim).erasing + 1) s.erase_slots
-          (sym c.in-Ok-true.ensures.last ∙ c.in-Ok-true.field-0-test));
+          (sym c.in-Ok-true.ensures.erased.last_is ∙ c.in-Ok-true.field-0-test));
       given = c.settle-given.ensures.given;
       accounts = c.settle-given.ensures.moved ∙ ap (λ (n : ℕ). settled a c.args.task n) copied_is;
       running = rw c.task.view_is refl;
@@ -110,13 +110,13 @@ returns-in-Ok-false-clause-did g c =
       erases = record {
         victim = refl;
         unplaced = clear.none;
-        cells = rw (← sound.shape_is) c.in-Ok-false.ensures.cells;
+        cells = rw (← sound.shape_is) c.in-Ok-false.ensures.erased.cells;
         places = ap (λ m. m.places) c.erase_slot.ensures.placing;
-        pages = c.in-Ok-false.ensures.contents;
-        well = c.in-Ok-false.ensures.failed;
+        pages = c.in-Ok-false.ensures.erased.pages;
+        well = c.in-Ok-false.ensures.ends.failed;
       };
       going = rw (← sound.shape_is) (eqb-false ((block_at b c.args.collection.victim).erasing + 1) s.erase_slots
-          (sym c.in-Ok-false.ensures.last ∙ c.in-Ok-false.field-0-test));
+          (sym c.in-Ok-false.ensures.erased.last_is ∙ c.in-Ok-false.field-0-test));
       accounts = refl;
       running = rw c.task-in-Ok-false.view_is refl;
     }

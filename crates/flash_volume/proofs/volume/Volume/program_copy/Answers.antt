@@ -35,13 +35,13 @@ invariant_of-self-in-Ok g c = λ again.
     sound_copied c.spend_reserve.new.self c.args.task c.args.collection c.args.copied sound fit task runs c.requires.holds lies
     (record {
       stands = c.write.ensures.sound again;
-      shape_is = c.write.ensures.shape;
-      cells = c.in-Ok.ensures.cells;
+      shape_is = c.write.ensures.ends.shape_stays;
+      cells = c.in-Ok.ensures.placed.cells;
       placing_is =
-          c.in-Ok.ensures.placing;
-      free = c.in-Ok.ensures.free;
-      others = c.in-Ok.ensures.candidates;
-      closes = c.in-Ok.ensures.closes;
+          c.in-Ok.ensures.placed.placing;
+      free = c.in-Ok.ensures.placed.free;
+      others = c.in-Ok.ensures.placed.closed.others;
+      closes = c.in-Ok.ensures.placed.closed.closes;
     })
     (ap (λ x. x.plan) c.spend_reserve.ensures.moved) (ap (λ x. x.reserves) c.spend_reserve.ensures.moved)
     (in_list c.self.inside.ledger.reserves c.args.task reserve) c.spend_reserve.ensures.total
@@ -63,12 +63,12 @@ returns-in-Ok-clause-did g c =
       here = run.source k c.requires.holds;
       lies = lies;
       finds = rw (← sound.shape_is) c.write.ensures.finds;
-      cells = rw (← sound.shape_is) c.in-Ok.ensures.cells;
-      places = rw (c.in-Ok.ensures.placing, ← sound.shape_is);
-      pages = rw c.in-Ok.ensures.contents (same_contents b places k.page k.source k.bytes (within places k.page k.source lies) lies
+      cells = rw (← sound.shape_is) c.in-Ok.ensures.placed.cells;
+      places = rw (c.in-Ok.ensures.placed.placing, ← sound.shape_is);
+      pages = rw c.in-Ok.ensures.placed.pages (same_contents b places k.page k.source k.bytes (within places k.page k.source lies) lies
           (run.bytes k c.requires.holds lies));
       accounts = c.spend_reserve.ensures.moved;
       running = rw c.task.view_is;
-      well = c.in-Ok.ensures.failed;
+      well = c.in-Ok.ensures.ends.failed;
     }
     )

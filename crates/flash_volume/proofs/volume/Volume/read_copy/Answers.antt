@@ -14,8 +14,8 @@ invariant_of-self-in-Ok g c = λ again.
     rw (
       c.task.view_is,
       c.in-Ok.ensures.cells,
-      c.in-Ok.ensures.well,
-      c.read.ensures.shape,
+      c.in-Ok.ensures.ends.fails.well,
+      c.read.ensures.ends.shape_stays,
       c.read.ensures.placing,
       c.read.ensures.candidates,
       bytes_are,
@@ -39,6 +39,6 @@ returns-in-Ok-clause-did g c =
       pages = rw (c.in-Ok.ensures.cells, c.read.ensures.placing) refl;
       accounts = refl;
       running = rw (c.task.view_is, bytes_are) refl;
-      well = c.in-Ok.ensures.failed;
+      well = c.in-Ok.ensures.ends.failed;
     }
     )

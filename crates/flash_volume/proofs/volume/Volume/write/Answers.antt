@@ -20,12 +20,12 @@ invariant_of-self-in-Ok g c = λ again.
     let fit = next_fits sound.stands (some_free c.args.task sound held) in
     sound_written c.spend_hold.new.self sound fit below (record {
       stands = c.write.ensures.sound again;
-      shape_is = c.write.ensures.shape;
-      cells = c.in-Ok.ensures.cells;
+      shape_is = c.write.ensures.ends.shape_stays;
+      cells = c.in-Ok.ensures.placed.cells;
       placing_is =
-          c.in-Ok.ensures.placing;
-      free = c.in-Ok.ensures.free;
-      others = c.in-Ok.ensures.candidates;
-      closes = c.in-Ok.ensures.closes;
+          c.in-Ok.ensures.placed.placing;
+      free = c.in-Ok.ensures.placed.free;
+      others = c.in-Ok.ensures.placed.closed.others;
+      closes = c.in-Ok.ensures.placed.closed.closes;
     })
     (ap (λ x. x.plan) c.spend_hold.ensures.moved) (ap (λ x. x.reserves) c.spend_hold.ensures.moved) c.spend_hold.ensures.total
