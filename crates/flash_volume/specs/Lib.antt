@@ -5,4 +5,5 @@ pub mod Running
 pub mod Picks
 pub mod Sound
 pub mod State
+pub mod Pages
 pub mod Acts

@@ -1,12 +1,12 @@
 //! An array of pages on a flash device.
 
-ghost use Rattle.std.specs.Prelude.{◌≡◌, ◌≢◌, ◌==◌, ◌+◌, ◌<◌, ◌≤◌, ◌↔◌, ◌^◌, ℕ, true, false, Some, None, List, length, replicate, count_by};
-ghost use Rattle.std.specs.Prelude.{slice_set, is_err, is_ok, is_some, IsOk, IsSome, IfOk, IfErr, IfSome, IfNone, OnOk, OnErr, position};
+ghost use Rattle.std.specs.Prelude.{◌≡◌, ◌==◌, ◌+◌, ◌<◌, ◌↔◌, ℕ, true, false, Some, None, length};
+ghost use Rattle.std.specs.Prelude.{slice_set, is_err, is_ok, is_some, IsSome, IfOk, IfErr, IfSome, IfNone, OnOk, OnErr, position};
 ghost use Rattle.slot_types.specs.declared.pages.Place.{Place};
-ghost use Rattle.slot_types.specs.Places.{is_in, place_of, owner_of};
+ghost use Rattle.slot_types.specs.Places.{place_of, owner_of};
 ghost use Rattle.slot_types.specs.Shapes.{IsShape};
 ghost use Rattle.victim_pick.specs.Candidates.{count_of, HasNone, IsLeast};
-ghost use Rattle.page_map.specs.Placing.{blank_map, bound, unbound};
+ghost use Rattle.page_map.specs.Placing.{blank_map, unbound};
 ghost use Rattle.flash_die.specs.Flash.{IsFresh, blank, block_at, programmed, erased};
 ghost use Rattle.flash_volume.specs.Cells.{filled_of, is_wholly_free, open_in, left_open, next_cell, content_at, contents, free_cells};
 ghost use Rattle.flash_volume.specs.Array.{IsSoundArray, no_candidates, taken_out};
@@ -49,7 +49,8 @@ impl<N: Nand> Model for PageArray<N> {
 
     ghost view = { λ a. record { failed = a.failed; device = a.device; placing = a.map; candidates = a.victims } };
 
-    ghost invariant = { λ a. a.failed ≡ false → Stands (N.shape_of a.device) (N.failures a.device) (N.blocks a.device) a.map a.fills.items a.erases.items a.writing a.victims };
+    ghost invariant = { λ a. a.failed ≡ false
+        → Stands (N.shape_of a.device) (N.failures a.device) (N.blocks a.device) a.map a.fills.items a.erases.items a.writing a.victims };
 }
 
 impl<N: Nand> PageArray<N> {

@@ -1,12 +1,13 @@
 //! Collections: a block is chosen, its pages are copied elsewhere, and it is erased.
 
-ghost use Rattle.std.specs.Prelude.{◌≡◌, ◌≢◌, ◌+◌, ◌<◌, ◌↔◌, ◌⊎◌, ℕ, true, false, Some, None, length, is_err, is_ok, IsOk, IsSome, IfOk};
+ghost use Rattle.std.specs.Prelude.{◌≡◌, ◌+◌, ◌<◌, ◌↔◌, ◌⊎◌, ℕ, true, false, Some, None, length, is_err, is_ok, IsOk, IsSome, IfOk};
 ghost use Rattle.std.specs.Prelude.{IfErr, IfSome, IfNone, OnOk, OnErr};
 ghost use Rattle.slot_types.specs.Places.{place_of, owner_of};
 ghost use Rattle.flash_die.specs.Flash.{block_at};
 ghost use Rattle.flash_volume.specs.declared.collection.Collection.{Collection};
 ghost use Rattle.flash_volume.specs.declared.collection.Copied.{Copied};
 ghost use Rattle.flash_volume.specs.Running.{running_of};
+ghost use Rattle.flash_volume.specs.Pages.{KeepsBooks};
 ghost use Rattle.flash_volume.specs.Acts.{IsFirst, HasLeft, DoesBegin, Reads, Programs, Does};
 
 use crate::collection::{Began, Collected, Collection, Copied};
@@ -64,9 +65,7 @@ impl<N: Nand> Volume<N> {
         ensures once { self.old.failed ≡ false → N.ends self.old.device (is_ok result) self.new.device }
         ensures did { (c : Collection) → running_of self.old.running task ≡ Some c
             → IfOk result (λ did. Does N.blocks self.old task c did self.new) }
-        ensures places_stay { OnErr result (self.new.places ≡ self.old.places) }
-        ensures accounts_stay { OnErr result (self.new.accounts ≡ self.old.accounts) }
-        ensures running_stay { OnErr result (self.new.running ≡ self.old.running) }
+        ensures stays { OnErr result (KeepsBooks self.old self.new) }
         ensures refused { IfErr result (λ refusal. (refusal ≡ Refusal.DieStopped) ⊎ (refusal ≡ Refusal.DeviceFault)) }
         ensures stopped { (result ≡ Err Refusal.DieStopped) ↔ (self.old.failed ≡ true) }
         ensures fault { (result ≡ Err Refusal.DeviceFault) ↔ (N.failures self.new.device ≡ N.failures self.old.device + 1) }
@@ -119,9 +118,7 @@ impl<N: Nand> Volume<N> {
         requires lies { place_of self.old.places copied.page ≡ Some copied.source }
         ensures once { N.ends self.old.device (is_ok result) self.new.device }
         ensures did { OnOk result (Programs N.blocks self.old task collection copied.page self.new) }
-        ensures places_stay { OnErr result (self.new.places ≡ self.old.places) }
-        ensures accounts_stay { OnErr result (self.new.accounts ≡ self.old.accounts) }
-        ensures running_stay { OnErr result (self.new.running ≡ self.old.running) }
+        ensures stays { OnErr result (KeepsBooks self.old self.new) }
         ensures failed { self.new.failed ≡ is_err result }
         ensures well { OnOk result (N.failures self.new.device ≡ N.failures self.old.device) }
         ensures fault { IfErr result (λ refusal. refusal ≡ Refusal.DeviceFault) }
@@ -156,9 +153,7 @@ impl<N: Nand> Volume<N> {
         requires first { IsFirst self.old.places collection.victim page source }
         ensures once { N.ends self.old.device (is_ok result) self.new.device }
         ensures did { OnOk result (Reads N.blocks self.old task collection page self.new) }
-        ensures places_stay { OnErr result (self.new.places ≡ self.old.places) }
-        ensures accounts_stay { OnErr result (self.new.accounts ≡ self.old.accounts) }
-        ensures running_stay { OnErr result (self.new.running ≡ self.old.running) }
+        ensures stays { OnErr result (KeepsBooks self.old self.new) }
         ensures failed { self.new.failed ≡ is_err result }
         ensures well { OnOk result (N.failures self.new.device ≡ N.failures self.old.device) }
         ensures fault { IfErr result (λ refusal. refusal ≡ Refusal.DeviceFault) }
@@ -192,9 +187,7 @@ impl<N: Nand> Volume<N> {
         requires few_erases { (block_at (N.blocks self.old.device) collection.victim).erases < 4294967295 }
         ensures once { N.ends self.old.device (is_ok result) self.new.device }
         ensures did { IfOk result (λ did. Does N.blocks self.old task collection did self.new) }
-        ensures places_stay { OnErr result (self.new.places ≡ self.old.places) }
-        ensures accounts_stay { OnErr result (self.new.accounts ≡ self.old.accounts) }
-        ensures running_stay { OnErr result (self.new.running ≡ self.old.running) }
+        ensures stays { OnErr result (KeepsBooks self.old self.new) }
         ensures failed { self.new.failed ≡ is_err result }
         ensures well { OnOk result (N.failures self.new.device ≡ N.failures self.old.device) }
         ensures fault { IfErr result (λ refusal. refusal ≡ Refusal.DeviceFault) }

@@ -1,14 +1,15 @@
 //! A volume: an array of pages on a flash device, and the accounts of its free pages.
 
-ghost use Rattle.std.specs.Prelude.{◌≡◌, ◌+◌, ◌-◌, ◌<◌, ◌≤◌, ◌↔◌, ◌⊎◌, ℕ, true, false, Some, None, length, slice_index, slice_index_or};
-ghost use Rattle.std.specs.Prelude.{slice_set, is_ok, IsOk, IsSome, IfOk, IfErr, OnOk, OnErr};
+ghost use Rattle.std.specs.Prelude.{◌≡◌, ◌+◌, ◌-◌, ◌<◌, ◌≤◌, ◌↔◌, ◌⊎◌, ℕ, true, false, Some, None, length, slice_index};
+ghost use Rattle.std.specs.Prelude.{is_ok, IsOk, IsSome, IfOk, IfErr, OnOk, OnErr};
 ghost use Rattle.slot_types.specs.declared.pages.Place.{Place};
 ghost use Rattle.slot_types.specs.Places.{place_of};
 ghost use Rattle.plan_rules.specs.Bound.{MeetsBound};
-ghost use Rattle.plan_rules.specs.Accounts.{total_of, admitted, hold_spent};
+ghost use Rattle.plan_rules.specs.Accounts.{total_of, admitted};
 ghost use Rattle.flash_die.specs.Flash.{IsFresh, IsProgrammed, blank, programmed};
-ghost use Rattle.flash_volume.specs.Cells.{open_in, next_cell, contents, free_cells};
+ghost use Rattle.flash_volume.specs.Cells.{open_in, contents, free_cells};
 ghost use Rattle.flash_volume.specs.State.{fresh_volume, trimmed};
+ghost use Rattle.flash_volume.specs.Pages.{HasRead, HasWritten, KeepsBooks};
 
 use crate::array::PageArray;
 use crate::collection::Collection;
@@ -42,9 +43,18 @@ impl<N: Nand> Model for Volume<N> {
 
     ghost Value = { State N };
 
-    ghost view = { λ v. record { failed = v.array.failed; pages = contents (N.blocks v.array.device) v.array.placing.places; accounts = v.ledger; device = v.array.device; places = v.array.placing.places; running = v.running.items } };
+    ghost view = { λ v. record {
+      failed = v.array.failed;
+      pages = contents (N.blocks v.array.device) v.array.placing.places;
+      accounts = v.ledger;
+      device = v.array.device;
+      places = v.array.placing.places;
+      running = v.running.items;
+    } };
 
-    ghost invariant = { λ v. v.array.failed ≡ false → IsSound v.ledger (N.shape_of v.array.device) (N.failures v.array.device) (N.blocks v.array.device) v.array.placing v.array.candidates v.running.items };
+    ghost invariant = { λ v. v.array.failed ≡ false
+        → IsSound v.ledger (N.shape_of v.array.device) (N.failures v.array.device) (N.blocks v.array.device) v.array.placing
+        v.array.candidates v.running.items };
 }
 
 impl<N: Nand> Volume<N> {
@@ -137,15 +147,11 @@ impl<N: Nand> Volume<N> {
     /// `DeviceFault` exactly where the device's call failed: the volume has failed then.
     pub fn read(&mut self, page: u32) -> Result<PageData, Refusal>
         requires { page < length self.old.pages }
-        ensures page { IfOk result (λ bytes. bytes ≡ slice_index_or self.old.pages page blank) }
         ensures once { self.old.failed ≡ false → (place : Place) → place_of self.old.places page ≡ Some place
             → N.ends self.old.device (is_ok result) self.new.device }
         ensures unwritten { place_of self.old.places page ≡ None → self.new ≡ self.old }
-        ensures cells { OnOk result (N.blocks self.new.device ≡ N.blocks self.old.device) }
-        ensures places { self.new.places ≡ self.old.places }
-        ensures pages { OnOk result (self.new.pages ≡ self.old.pages) }
-        ensures accounts { self.new.accounts ≡ self.old.accounts }
-        ensures running { self.new.running ≡ self.old.running }
+        ensures read { IfOk result (λ bytes. HasRead N.blocks page bytes self.old self.new) }
+        ensures books { KeepsBooks self.old self.new }
         ensures well { OnOk result (self.new.failed ≡ false) }
         ensures refused { IfErr result (λ refusal. (refusal ≡ Refusal.DieStopped) ⊎ (refusal ≡ Refusal.DeviceFault)) }
         ensures stopped { (result ≡ Err Refusal.DieStopped) ↔ (self.old.failed ≡ true) }
@@ -170,20 +176,13 @@ impl<N: Nand> Volume<N> {
         requires held { 0 < slice_index self.old.accounts.holds task }
         ensures once { self.old.failed ≡ false → N.ends self.old.device (is_ok result) self.new.device }
         ensures finds { self.old.failed ≡ false → IsSome (open_in self.old.accounts.plan.shape.pages (N.blocks self.old.device)) }
-        ensures cells { OnOk result (N.blocks self.new.device
-            ≡ programmed (N.blocks self.old.device) (next_cell self.old.accounts.plan.shape.pages (N.blocks self.old.device)).block bytes) }
-        ensures places { OnOk result (self.new.places ≡ slice_set self.old.places page
-            (Some (next_cell self.old.accounts.plan.shape.pages (N.blocks self.old.device)))) }
-        ensures pages { OnOk result (self.new.pages ≡ slice_set self.old.pages page bytes) }
-        ensures accounts { OnOk result (self.new.accounts ≡ hold_spent self.old.accounts task) }
-        ensures running { self.new.running ≡ self.old.running }
+        ensures written { OnOk result (HasWritten N.blocks task page bytes self.old self.new) }
+        ensures stays { OnErr result (KeepsBooks self.old self.new) }
         ensures well { OnOk result (self.new.failed ≡ false) }
         ensures refused { IfErr result (λ refusal. (refusal ≡ Refusal.DieStopped) ⊎ (refusal ≡ Refusal.DeviceFault)) }
         ensures stopped { (result ≡ Err Refusal.DieStopped) ↔ (self.old.failed ≡ true) }
         ensures fault { (result ≡ Err Refusal.DeviceFault) ↔ (N.failures self.new.device ≡ N.failures self.old.device + 1) }
         ensures failed { OnErr result (self.new.failed ≡ true) }
-        ensures places_stay { OnErr result (self.new.places ≡ self.old.places) }
-        ensures accounts_stay { OnErr result (self.new.accounts ≡ self.old.accounts) }
         ensures unchanged { self.old.failed ≡ true → self.new ≡ self.old }
         ensures never { N.never_fails ≡ true → self.old.failed ≡ false → IsOk result }
     {
