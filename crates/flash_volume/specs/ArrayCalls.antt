@@ -50,6 +50,6 @@ pub record HasErased {N : Type 0} (shape_of : N → Shape) (blocks : N → List 
 -- The device alone makes the call fail, and by that the array has failed. The device keeps its shape.
 pub record EndsWithDevice {N A : Type 0} (shape_of : N → Shape) (failures : N → ℕ) (never_fails : Bool) (result : Result A Refusal)
     (old new : ArrayState N) : Type 0 where
-  pub fails : FailsByFault never_fails result (failures old.device) (failures new.device)
+  pub by_fault : FailsByFault never_fails result (failures old.device) (failures new.device)
   pub failed : new.failed ≡ is_err result
   pub shape_stays : shape_of new.device ≡ shape_of old.device

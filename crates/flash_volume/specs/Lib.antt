@@ -6,4 +6,5 @@ pub mod Picks
 pub mod Sound
 pub mod State
 pub mod Pages
+pub mod Faults
 pub mod Acts

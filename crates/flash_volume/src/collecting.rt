@@ -1,12 +1,13 @@
 //! Collections: a block is chosen, its pages are copied elsewhere, and it is erased.
 
-ghost use Rattle.std.specs.Prelude.{◌≡◌, ◌+◌, ◌<◌, ◌↔◌, ◌⊎◌, ℕ, true, false, Some, None, length, is_err, is_ok, IsOk, IsSome, IfOk};
-ghost use Rattle.std.specs.Prelude.{IfErr, IfSome, IfNone, OnOk, OnErr};
+ghost use Rattle.std.specs.Prelude.{◌≡◌, ◌<◌, ℕ, true, false, Some, None, length, is_ok, IsOk, IsSome, IfOk};
+ghost use Rattle.std.specs.Prelude.{IfSome, IfNone, OnOk, OnErr};
 ghost use Rattle.slot_types.specs.Places.{place_of, owner_of};
 ghost use Rattle.flash_die.specs.Flash.{block_at};
 ghost use Rattle.flash_volume.specs.declared.collection.Collection.{Collection};
 ghost use Rattle.flash_volume.specs.declared.collection.Copied.{Copied};
 ghost use Rattle.flash_volume.specs.Running.{running_of};
+ghost use Rattle.flash_volume.specs.Faults.{StopsWithDevice, FailsWithDevice};
 ghost use Rattle.flash_volume.specs.Pages.{KeepsBooks};
 ghost use Rattle.flash_volume.specs.Acts.{IsFirst, HasLeft, DoesBegin, Reads, Programs, Does};
 
@@ -66,12 +67,7 @@ impl<N: Nand> Volume<N> {
         ensures did { (c : Collection) → running_of self.old.running task ≡ Some c
             → IfOk result (λ did. Does N.blocks self.old task c did self.new) }
         ensures stays { OnErr result (KeepsBooks self.old self.new) }
-        ensures refused { IfErr result (λ refusal. (refusal ≡ Refusal.DieStopped) ⊎ (refusal ≡ Refusal.DeviceFault)) }
-        ensures stopped { (result ≡ Err Refusal.DieStopped) ↔ (self.old.failed ≡ true) }
-        ensures fault { (result ≡ Err Refusal.DeviceFault) ↔ (N.failures self.new.device ≡ N.failures self.old.device + 1) }
-        ensures failed { OnErr result (self.new.failed ≡ true) }
-        ensures unchanged { self.old.failed ≡ true → self.new ≡ self.old }
-        ensures never { N.never_fails ≡ true → self.old.failed ≡ false → IsOk result }
+        ensures stops { StopsWithDevice N.failures N.never_fails result self.old self.new }
     {
         if self.array.failed() {
             return Err(Refusal::DieStopped);
@@ -119,11 +115,7 @@ impl<N: Nand> Volume<N> {
         ensures once { N.ends self.old.device (is_ok result) self.new.device }
         ensures did { OnOk result (Programs N.blocks self.old task collection copied.page self.new) }
         ensures stays { OnErr result (KeepsBooks self.old self.new) }
-        ensures failed { self.new.failed ≡ is_err result }
-        ensures well { OnOk result (N.failures self.new.device ≡ N.failures self.old.device) }
-        ensures fault { IfErr result (λ refusal. refusal ≡ Refusal.DeviceFault) }
-        ensures failures { OnErr result (N.failures self.new.device ≡ N.failures self.old.device + 1) }
-        ensures never { N.never_fails ≡ true → IsOk result }
+        ensures fails { FailsWithDevice N.failures N.never_fails result self.old self.new }
     {
         match self.array.write(copied.page, copied.bytes) {
             Err(refusal) => Err(refusal),
@@ -154,11 +146,7 @@ impl<N: Nand> Volume<N> {
         ensures once { N.ends self.old.device (is_ok result) self.new.device }
         ensures did { OnOk result (Reads N.blocks self.old task collection page self.new) }
         ensures stays { OnErr result (KeepsBooks self.old self.new) }
-        ensures failed { self.new.failed ≡ is_err result }
-        ensures well { OnOk result (N.failures self.new.device ≡ N.failures self.old.device) }
-        ensures fault { IfErr result (λ refusal. refusal ≡ Refusal.DeviceFault) }
-        ensures failures { OnErr result (N.failures self.new.device ≡ N.failures self.old.device + 1) }
-        ensures never { N.never_fails ≡ true → IsOk result }
+        ensures fails { FailsWithDevice N.failures N.never_fails result self.old self.new }
     {
         match self.array.read(page) {
             Err(refusal) => Err(refusal),
@@ -188,11 +176,7 @@ impl<N: Nand> Volume<N> {
         ensures once { N.ends self.old.device (is_ok result) self.new.device }
         ensures did { IfOk result (λ did. Does N.blocks self.old task collection did self.new) }
         ensures stays { OnErr result (KeepsBooks self.old self.new) }
-        ensures failed { self.new.failed ≡ is_err result }
-        ensures well { OnOk result (N.failures self.new.device ≡ N.failures self.old.device) }
-        ensures fault { IfErr result (λ refusal. refusal ≡ Refusal.DeviceFault) }
-        ensures failures { OnErr result (N.failures self.new.device ≡ N.failures self.old.device + 1) }
-        ensures never { N.never_fails ≡ true → IsOk result }
+        ensures fails { FailsWithDevice N.failures N.never_fails result self.old self.new }
     {
         let block = collection.victim;
         let reserve = self.ledger.reserve(task);

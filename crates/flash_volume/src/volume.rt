@@ -1,6 +1,6 @@
 //! A volume: an array of pages on a flash device, and the accounts of its free pages.
 
-ghost use Rattle.std.specs.Prelude.{◌≡◌, ◌+◌, ◌-◌, ◌<◌, ◌≤◌, ◌↔◌, ◌⊎◌, ℕ, true, false, Some, None, length, slice_index};
+ghost use Rattle.std.specs.Prelude.{◌≡◌, ◌-◌, ◌<◌, ◌≤◌, ◌↔◌, ℕ, true, false, Some, None, length, slice_index};
 ghost use Rattle.std.specs.Prelude.{is_ok, IsOk, IsSome, IfOk, IfErr, OnOk, OnErr};
 ghost use Rattle.slot_types.specs.declared.pages.Place.{Place};
 ghost use Rattle.slot_types.specs.Places.{place_of};
@@ -9,6 +9,7 @@ ghost use Rattle.plan_rules.specs.Accounts.{total_of, admitted};
 ghost use Rattle.flash_die.specs.Flash.{IsFresh, IsProgrammed, blank, programmed};
 ghost use Rattle.flash_volume.specs.Cells.{open_in, contents, free_cells};
 ghost use Rattle.flash_volume.specs.State.{fresh_volume, trimmed};
+ghost use Rattle.flash_volume.specs.Faults.{StopsWithDevice};
 ghost use Rattle.flash_volume.specs.Pages.{HasRead, HasWritten, KeepsBooks};
 
 use crate::array::PageArray;
@@ -152,13 +153,7 @@ impl<N: Nand> Volume<N> {
         ensures unwritten { place_of self.old.places page ≡ None → self.new ≡ self.old }
         ensures read { IfOk result (λ bytes. HasRead N.blocks page bytes self.old self.new) }
         ensures books { KeepsBooks self.old self.new }
-        ensures well { OnOk result (self.new.failed ≡ false) }
-        ensures refused { IfErr result (λ refusal. (refusal ≡ Refusal.DieStopped) ⊎ (refusal ≡ Refusal.DeviceFault)) }
-        ensures stopped { (result ≡ Err Refusal.DieStopped) ↔ (self.old.failed ≡ true) }
-        ensures fault { (result ≡ Err Refusal.DeviceFault) ↔ (N.failures self.new.device ≡ N.failures self.old.device + 1) }
-        ensures failed { OnErr result (self.new.failed ≡ true) }
-        ensures unchanged { self.old.failed ≡ true → self.new ≡ self.old }
-        ensures never { N.never_fails ≡ true → self.old.failed ≡ false → IsOk result }
+        ensures stops { StopsWithDevice N.failures N.never_fails result self.old self.new }
     {
         if self.array.failed() {
             return Err(Refusal::DieStopped);
@@ -178,13 +173,7 @@ impl<N: Nand> Volume<N> {
         ensures finds { self.old.failed ≡ false → IsSome (open_in self.old.accounts.plan.shape.pages (N.blocks self.old.device)) }
         ensures written { OnOk result (HasWritten N.blocks task page bytes self.old self.new) }
         ensures stays { OnErr result (KeepsBooks self.old self.new) }
-        ensures well { OnOk result (self.new.failed ≡ false) }
-        ensures refused { IfErr result (λ refusal. (refusal ≡ Refusal.DieStopped) ⊎ (refusal ≡ Refusal.DeviceFault)) }
-        ensures stopped { (result ≡ Err Refusal.DieStopped) ↔ (self.old.failed ≡ true) }
-        ensures fault { (result ≡ Err Refusal.DeviceFault) ↔ (N.failures self.new.device ≡ N.failures self.old.device + 1) }
-        ensures failed { OnErr result (self.new.failed ≡ true) }
-        ensures unchanged { self.old.failed ≡ true → self.new ≡ self.old }
-        ensures never { N.never_fails ≡ true → self.old.failed ≡ false → IsOk result }
+        ensures stops { StopsWithDevice N.failures N.never_fails result self.old self.new }
     {
         if self.array.failed() {
             return Err(Refusal::DieStopped);

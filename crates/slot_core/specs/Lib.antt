@@ -7,7 +7,6 @@ pub mod Reserved
 pub mod Slotted
 pub mod Acting
 pub mod Calls
-pub mod Faults
 pub mod Runs
 pub mod Turns
 pub mod Outcomes

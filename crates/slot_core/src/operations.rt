@@ -5,7 +5,7 @@ ghost use Rattle.std.specs.Prelude.{nat_le};
 ghost use Rattle.slot_types.specs.Operations.{is_write, writes, page_of};
 ghost use Rattle.slot_core.specs.Device.{flash_of};
 ghost use Rattle.slot_core.specs.Acting.{act_by, operated};
-ghost use Rattle.slot_core.specs.Faults.{FailsWithDevice};
+ghost use Rattle.flash_volume.specs.Faults.{FailsWithDevice};
 
 use flash_die::Nand;
 use flash_volume::Volume;

@@ -9,7 +9,7 @@ ghost use Rattle.job_table.specs.Table.{work_at};
 ghost use Rattle.die_log.specs.Log.{Log};
 ghost use Rattle.die_log.specs.Answers.{answer};
 ghost use Rattle.slot_core.specs.Core.{with_entry};
-ghost use Rattle.slot_core.specs.Faults.{FailsWithDevice};
+ghost use Rattle.flash_volume.specs.Faults.{FailsWithDevice};
 ghost use Rattle.slot_core.specs.Calls.{HasCarriedOut, HasRefusedSlot};
 ghost use Rattle.slot_core.specs.Device.{flash_of};
 ghost use Rattle.slot_core.specs.Kept.{Keeps};

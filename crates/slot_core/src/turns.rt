@@ -4,7 +4,7 @@ ghost use Rattle.std.specs.Prelude.{◌≡◌, ◌+◌, ◌<◌, true, false, No
 ghost use Rattle.flash_die.specs.Flash.{block_at};
 ghost use Rattle.flash_volume.specs.declared.collection.Collection.{Collection};
 ghost use Rattle.flash_volume.specs.Running.{running_of};
-ghost use Rattle.slot_core.specs.Faults.{FailsWithDevice};
+ghost use Rattle.flash_volume.specs.Faults.{FailsWithDevice};
 ghost use Rattle.slot_core.specs.Turns.{is_fresh, BeginsAs, RunFits, HeadFits, turn_by, DidCollect, DidTurn};
 
 use crate::operations::operate;

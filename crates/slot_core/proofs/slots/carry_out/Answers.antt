@@ -151,7 +151,7 @@ pub returns-in-Ok-clause-kept : goal.returns-in-Ok-clause-kept
 returns-in-Ok-clause-kept g c = (turn_kept g.N.Nand.blocks g.log (log_of c.note_turn.new.table c.push_reserved.new.self.notes)
     c.args.present c.args.caller c.choose.new.told c.choose.new.table c.note_turn.new.table c.in-Some.number c.choose.new.volume
     c.take_turn-turn.new.volume c.in-Some-job.job c.in-Ok.turn _
-    c.in-Some.ensures.turn c.in-Some-job.ensures c.in-Ok.ensures.did c.in-Ok.ensures.plan c.in-Ok.ensures.fails.well c.note_turn.ensures
+    c.in-Some.ensures.turn c.in-Some-job.ensures c.in-Ok.ensures.did c.in-Ok.ensures.plan c.in-Ok.ensures.fails.failed c.note_turn.ensures
     (ap (λ (r : SlotReply). record r {
       waived = c.choose.new.told;
       ran = Some (c.in-Some.number, c.in-Ok.turn.act);
@@ -171,7 +171,7 @@ returns-in-Ok-clause-answered g c =
     ∙ (turn_kept g.N.Nand.blocks g.log (log_of c.note_turn.new.table c.push_reserved.new.self.notes) c.args.present c.args.caller
     c.choose.new.told c.choose.new.table c.note_turn.new.table c.in-Some.number c.choose.new.volume c.take_turn-turn.new.volume
     c.in-Some-job.job c.in-Ok.turn _
-    c.in-Some.ensures.turn c.in-Some-job.ensures c.in-Ok.ensures.did c.in-Ok.ensures.plan c.in-Ok.ensures.fails.well c.note_turn.ensures
+    c.in-Some.ensures.turn c.in-Some-job.ensures c.in-Ok.ensures.did c.in-Ok.ensures.plan c.in-Ok.ensures.fails.failed c.note_turn.ensures
     (ap (λ (r : SlotReply). record r {
       waived = c.choose.new.told;
       ran = Some (c.in-Some.number, c.in-Ok.turn.act);

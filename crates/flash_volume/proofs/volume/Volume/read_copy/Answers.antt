@@ -14,7 +14,7 @@ invariant_of-self-in-Ok g c = λ again.
     rw (
       c.task.view_is,
       c.in-Ok.ensures.cells,
-      c.in-Ok.ensures.ends.fails.well,
+      c.in-Ok.ensures.ends.by_fault.well,
       c.read.ensures.ends.shape_stays,
       c.read.ensures.placing,
       c.read.ensures.candidates,

@@ -36,7 +36,7 @@ returns-in-Err-carry_out-clause-refused g c =
     rw (← c.self.view_is) (record {
       cause = λ alive. inr (
         slot_accepts _ _ c.self.inside.present c.self.invariant.0.kept.now_is c.if-self-ge-MAX_SLOT.false,
-        c.in-Err-carry_out.ensures.fails.fault,
+        c.in-Err-carry_out.ensures.fails.by_fault.fault,
       );
       never = search rules;
       memory = search rules;
