@@ -37,7 +37,13 @@ impl<N: Nand> Model for DieCore<N> {
 
     ghost Value = { Core N };
 
-    ghost view = { λ c. record { plan = c.volume.accounts.plan; device = c.volume.device; stopped = c.volume.failed; reserved = c.reserved; log = log_of c.table c.events.notes } };
+    ghost view = { λ c. record {
+      plan = c.volume.accounts.plan;
+      device = c.volume.device;
+      stopped = c.volume.failed;
+      reserved = c.reserved;
+      log = log_of c.table c.events.notes;
+    } };
 
     ghost invariant = { λ c.
         Holds c.volume.accounts.plan c.present c.table c.events.notes c.volume.failed (flash_of N.blocks c.volume)
