@@ -1,8 +1,8 @@
 -- The rows of a feed, and what a course reads of them.
-use Rattle.std.proofs.Common.{◌≡◌, ℕ, zero, suc, ◌+◌, ◌<◌, ◌≤◌, Bool, true, false, nat_le, cond, List, [], ◌∷◌, ◌++◌, Option, Some, None}
-use Rattle.std.proofs.Common.{refl, sym, ap, ◌∙◌, subst, arith, length, take, drop, map, slice_get, length-append, if◌then◌else◌}
-use Rattle.std.specs.Prelude.{All, option_map}
-use Rattle.std.specs.List.{AllByRecursion, prefix_len, take_while}
+use Rattle.std.proofs.Common.{◌≡◌, ℕ, zero, suc, ◌+◌, ◌<◌, ◌≤◌, Bool, true, false, cond, List, [], ◌∷◌, ◌++◌, Option, Some, None}
+use Rattle.std.proofs.Common.{refl, sym, ap, ◌∙◌, subst, arith, length, take, drop, slice_get, length-append}
+use Rattle.std.specs.Prelude.{option_map}
+use Rattle.std.specs.List.{AllByRecursion, take_while}
 use Rattle.std.proofs.lemmas.Bool.{lt-leb}
 use Rattle.std.proofs.Math.Seq.{drop-append_seam}
 use Rattle.std.proofs.lemmas.List.{length-take, length-drop, take_all, take-append-le, drop-append-le, map-append}
@@ -11,8 +11,8 @@ use Rattle.std.proofs.lemmas.List.Sums.{take_while-cons}
 use Rattle.std.proofs.lemmas.Option.{none-some, same_Some, slice_get-map}
 use Rattle.slot_types.specs.Arrivals.{IsArrival}
 use Rattle.slot_types.specs.declared.events.Event.{Event}
-use Rattle.slot_types.specs.declared.events.Event.TheVariants as events
 use Rattle.slot_types.specs.declared.events.Op.{Op}
+use Rattle.slot_core.specs.Events.{arrival_of}
 use Rattle.die_service.specs.declared.ends.RefusedEvent.{RefusedEvent}
 use Rattle.die_service.specs.declared.feeds.Arrival.{Arrival}
 use Rattle.die_service.specs.declared.feeds.FeedRow.{FeedRow}
@@ -26,8 +26,7 @@ row_stays : (ops more : List Op) (row : FeedRow) → row.first_op + row.op_count
     ≡ arrival_at ops row
 row_stays ops more row there = ap (λ (l : List Op). record {
   at = row.at;
-  event = if row.collects then events.Collect row.task row.release row.due else events.Submit row.task row.release row.due
-      l;
+  event = arrival_of row.head l;
 }) same
   where
     same : ops_at (ops ++ more) row ≡ ops_at ops row
@@ -63,7 +62,7 @@ pub new_ops : (ops more : List Op) (first count : ℕ) → first ≡ length ops 
 new_ops ops more first count first_is count_is = ap (λ n. take count (drop n (ops ++ more))) first_is
     ∙ ap (take count) (drop-append_seam ops more) ∙ take_all count more (omega (arith, count_is))
 
-few_ops : (ops : List Op) (most : ℕ) (row : FeedRow) (b : Bool) → row.collects ≡ b → IsRowOf ops most row → op_count (event_at ops row)
+few_ops : (ops : List Op) (most : ℕ) (row : FeedRow) (b : Bool) → row.head.collects ≡ b → IsRowOf ops most row → op_count (event_at ops row)
     ≤ most
 few_ops ops most row true e is = rw e (omega arith)
 few_ops ops most row false e is = rw e (omega (arith, is.few, length-take row.op_count (drop row.first_op ops)))
@@ -71,7 +70,7 @@ few_ops ops most row false e is = rw e (omega (arith, is.few, length-take row.op
 few_by : (ops : List Op) (most : ℕ) (rows : List FeedRow) → AllByRecursion (IsRowOf ops most) rows
     → AllByRecursion (λ (a : Arrival). op_count a.event ≤ most) (feed_at ops rows)
 few_by ops most [] are = tt
-few_by ops most (row ∷ rows) are = (few_ops ops most row row.collects refl are.0, few_by ops most rows are.1)
+few_by ops most (row ∷ rows) are = (few_ops ops most row row.head.collects refl are.0, few_by ops most rows are.1)
 
 pub have_at_most : (ops : List Op) (most : ℕ) (rows : List FeedRow) → AreRowsOf ops most rows → HaveAtMost most (feed_at ops rows)
 have_at_most ops most rows are = All-from_recursion (λ (a : Arrival). op_count a.event ≤ most) (feed_at ops rows)
@@ -94,7 +93,7 @@ pub place_at : (ops : List Op) (rows : List FeedRow) (n : ℕ) (row : FeedRow) �
 place_at ops rows n row at = slice_get-map (arrival_at ops) rows n ∙ ap (option_map (arrival_at ops)) at
 
 -- there is room for the operations of the job of a place
-pub room_at : (ops : List Op) (most room : ℕ) (rows : List FeedRow) (n : ℕ) (row : FeedRow) → slice_get rows n ≡ Some row → row.collects
+pub room_at : (ops : List Op) (most room : ℕ) (rows : List FeedRow) (n : ℕ) (row : FeedRow) → slice_get rows n ≡ Some row → row.head.collects
     ≡ false → IsRowOf ops most row → HaveAtMost room (feed_at ops rows) → row.op_count ≤ room
 room_at ops most room rows n row at job is h =
     let few : op_count (event_at ops row) ≤ room = all_at (λ (a : Arrival). op_count a.event ≤ room) (feed_at ops rows) n
@@ -102,10 +101,6 @@ room_at ops most room rows n row at job is h =
     (place_at ops rows n row at) in
     let counted : op_count (event_at ops row) ≡ length (take row.op_count (drop row.first_op ops)) = rw job refl in
     omega (arith, few, counted, is.there, length-take row.op_count (drop row.first_op ops), length-drop row.first_op ops)
-
-pub job_at : (ops : List Op) (row : FeedRow) → row.collects ≡ false → event_at ops row
-    ≡ events.Submit row.task row.release row.due (ops_at ops row)
-job_at ops row job = rw job refl
 
 -- A course
 

@@ -12,10 +12,11 @@ use Rattle.slot_types.specs.declared.replies.Reply.{Reply}
 use Rattle.turn_lock.specs.Log.{entry, calls_by}
 use Rattle.turn_lock.specs.Passes.{Replies}
 use Rattle.die_log.specs.Log.{Log}
+use Rattle.slot_core.specs.declared.events.ReplyNote.{ReplyNote}
+use Rattle.slot_core.specs.Events.{noted}
 use Rattle.die_log.specs.Answers.{answer, answer_by, refusal_of, IsAccepted}
 use Rattle.die_service.specs.declared.refused.RefusedAt.{RefusedAt}
-use Rattle.die_service.specs.declared.reply_note.ReplyNote.{ReplyNote}
-use Rattle.die_service.specs.Replies.{HasExactLog, MayReply, noted, result_noted}
+use Rattle.die_service.specs.Replies.{HasExactLog, MayReply, result_noted}
 use Rattle.die_service.specs.Passes.{DieView, AddsEntry, AddsNone, IsTaken, IsSlotReply}
 
 -- what the lock says of a call

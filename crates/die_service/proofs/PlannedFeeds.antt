@@ -1,6 +1,6 @@
 -- A feed that keeps to its die's plan is not refused but for want of memory, and nothing is late.
-use Rattle.std.proofs.Common.{◌≡◌, ◌⊎◌, ℕ, zero, suc, ◌+◌, ◌<◌, ◌≤◌, Bool, true, false, cond, List, [], ◌∷◌, ◌++◌, map, Option, Some, None}
-use Rattle.std.proofs.Common.{Result, Ok, Err, refl, ap, sym, subst, ◌∙◌, append_assoc, inl, inr, arith, All}
+use Rattle.std.proofs.Common.{◌≡◌, ◌⊎◌, ℕ, zero, suc, ◌+◌, ◌<◌, ◌≤◌, Bool, cond, List, [], ◌∷◌, ◌++◌, map, Option, None}
+use Rattle.std.proofs.Common.{Result, Ok, Err, refl, ap, sym, subst, ◌∙◌, append_assoc, inl, inr, arith}
 use Rattle.std.specs.Prelude.{IfSome}
 use Rattle.std.specs.List.{AllByRecursion, prefix_len}
 use Rattle.std.proofs.lemmas.List.{append-nil, map-append}
@@ -13,7 +13,6 @@ use Rattle.slot_types.specs.declared.plans.Times.{Times}
 use Rattle.slot_types.specs.declared.events.Event.{Event}
 use Rattle.slot_types.specs.declared.events.Event.TheVariants as events
 use Rattle.slot_types.specs.declared.refusals.Refusal.{Refusal}
-use Rattle.slot_types.specs.declared.refusals.Refusal.TheVariants.{NoMemory}
 use Rattle.slot_types.specs.declared.replies.Reply.{Reply}
 use Rattle.slot_types.specs.declared.replies.Reply.TheVariants as replies
 use Rattle.slot_types.specs.declared.replies.SlotReply.{SlotReply}
@@ -32,7 +31,6 @@ use Rattle.die_log.proofs.Planned.Running as running
 use Rattle.die_log.proofs.Supply.Unrefused.{unrefused, entered}
 use Rattle.slot_core.specs.Core.{with_entry}
 use Rattle.die_service.specs.declared.ends.DieEnd.{DieEnd}
-use Rattle.die_service.specs.declared.ends.RefusedEvent.{RefusedEvent}
 use Rattle.die_service.specs.declared.feeds.Arrival.{Arrival}
 use Rattle.die_service.specs.declared.refused.RefusedAt.{RefusedAt}
 use Rattle.die_service.specs.PlannedRuns.{events_in, events_from, events_of, KeepsItsPlan, RanAlone, IsForMemory, IsForMemoryOrFault}

@@ -13,7 +13,8 @@ use Rattle.die_log.specs.Answers.{IsExact, IsAccepted, answer, accepted, refusal
 use Rattle.die_log.proofs.Legality.{exact_induction}
 use Rattle.slot_core.specs.Core.{Core, with_entry}
 use Rattle.die_log.proofs.Limits.{keeps_limits}
-use Rattle.slot_core.specs.Calls.{RefusedBy, HasRefusedSlot}
+use Rattle.slot_core.specs.Calls.{RefusedBy}
+use Rattle.slot_core.specs.Events.{HasRefused}
 use Rattle.die_service.specs.Replies.{MayRefuse}
 
 -- an entry is a job or collection, or a slot
@@ -56,29 +57,21 @@ no_fault true stopped runs is = absurd (false≢true (sym (runs refl) ∙ is))
 err_is : {T : Type 0} (r s : Refusal) → ◌≡◌ {A = Result T Refusal} (Err r) (Err s) → r ≡ s
 err_is r s e = cc
 
-pub may_refuse : {T : Type 0} (never stopped : Bool) (plan : DiePlan) (log : Log) (event : Event) (refusal : Refusal)
-    → (never ≡ true → stopped ≡ false)
-    → (◌≡◌ {A = Result T Refusal} (Err refusal) (Err DieStopped) ↔ (stopped ≡ true)) → (stopped ≡ false → RefusedBy plan log event refusal)
-    → MayRefuse never plan log event refusal
-may_refuse never false plan log event refusal runs why by_log = inl (by_log refl)
-may_refuse never true plan log event refusal runs why by_log = inr
-    (inr (no_fault never true runs refl, err_is refusal DieStopped (why.1 refl)))
-
-pub may_refuse_slot : {N T : Type 0} (never : Bool) (refusal : Refusal) (old new : Core N) → (never ≡ true → old.stopped ≡ false)
-    → (◌≡◌ {A = Result T Refusal} (Err refusal) (Err DieStopped) ↔ (old.stopped ≡ true)) → HasRefusedSlot never refusal old new
-    → MayRefuse never old.plan old.log events.Slot refusal
-may_refuse_slot never refusal old new runs why refused = by_stopped old.stopped refl
+pub may_refuse : {N T : Type 0} (never : Bool) (event : Event) (refusal : Refusal) (old new : Core N) → (never ≡ true → old.stopped ≡ false)
+    → (◌≡◌ {A = Result T Refusal} (Err refusal) (Err DieStopped) ↔ (old.stopped ≡ true)) → HasRefused never event refusal old new
+    → MayRefuse never old.plan old.log event refusal
+may_refuse never event refusal old new runs why refused = by_stopped old.stopped refl
   where
     well : (b : Bool) → (b ≡ true → refusal ≡ DeviceFault → ⊥) → refusal ≡ DeviceFault → b ≡ false
     well false h is = refl
     well true h is = absurd (h refl is)
 
-    by_cause : RefusedBy old.plan old.log events.Slot refusal
-        ⊎ (IsAccepted (answer old.plan old.log events.Slot) × (refusal ≡ DeviceFault))
-        → MayRefuse never old.plan old.log events.Slot refusal
+    by_cause : RefusedBy old.plan old.log event refusal
+        ⊎ ((event ≡ events.Slot) × IsAccepted (answer old.plan old.log event) × (refusal ≡ DeviceFault))
+        → MayRefuse never old.plan old.log event refusal
     by_cause (inl h) = inl h
-    by_cause (inr h) = inr (inl (well never refused.never h.1, refl, h.0, h.1))
+    by_cause (inr h) = inr (inl (well never refused.never h.2, h.0, h.1, h.2))
 
-    by_stopped : (b : Bool) → old.stopped ≡ b → MayRefuse never old.plan old.log events.Slot refusal
+    by_stopped : (b : Bool) → old.stopped ≡ b → MayRefuse never old.plan old.log event refusal
     by_stopped true is = inr (inr (no_fault never old.stopped runs is, err_is refusal DieStopped (why.1 is)))
     by_stopped false is = by_cause (refused.cause is)

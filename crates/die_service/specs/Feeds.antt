@@ -1,18 +1,11 @@
 -- The events of a feed as flat rows, with the operations of all jobs one behind another.
-use Rattle.std.specs.Prelude.{◌≡◌, ℕ, ◌+◌, ◌≤◌, List, [], length, take, drop, map, All, if◌then◌else◌}
+use Rattle.std.specs.Prelude.{ℕ, ◌+◌, ◌≤◌, List, length, take, drop, map, All}
 use Rattle.slot_types.specs.declared.events.Event.{Event}
 use Rattle.slot_types.specs.declared.events.Event.TheVariants as events
 use Rattle.slot_types.specs.declared.events.Op.{Op}
+use Rattle.slot_core.specs.Events.{arrival_of}
 use Rattle.die_service.specs.declared.feeds.Arrival.{Arrival}
-use Rattle.die_service.specs.declared.heads.EventHead.{EventHead}
-use Rattle.die_service.specs.declared.heads.EventHead.TheVariants as heads
 use Rattle.die_service.specs.declared.feeds.FeedRow.{FeedRow}
-
--- the event of a head and the operations beside it, which only a job has
-abbrev pub with_ops : EventHead → List Op → Event
-with_ops (heads.Submit task release due) ops = events.Submit task release due ops
-with_ops (heads.Collect task release due) ops = events.Collect task release due
-with_ops heads.Slot ops = events.Slot
 
 abbrev pub op_count : Event → ℕ
 op_count (events.Submit task release due ops) = length ops
@@ -28,8 +21,7 @@ abbrev pub ops_at : List Op → FeedRow → List Op
 ops_at ops row = take row.op_count (drop row.first_op ops)
 
 abbrev pub event_at : List Op → FeedRow → Event
-event_at ops row = if row.collects then events.Collect row.task row.release row.due else events.Submit row.task row.release row.due
-    (ops_at ops row)
+event_at ops row = arrival_of row.head (ops_at ops row)
 
 -- what a row stands for
 abbrev pub arrival_at : List Op → FeedRow → Arrival

@@ -1,20 +1,18 @@
 -- What a die behind its turn may reply to an event.
-use Rattle.std.specs.Prelude.{◌≡◌, ◌⊎◌, ℕ, Bool, false, List, length, Result, Ok, Err}
+use Rattle.std.specs.Prelude.{◌≡◌, ◌⊎◌, Bool, false, List, length, Result, Ok, Err}
 use Rattle.slot_types.specs.declared.plans.DiePlan.{DiePlan}
 use Rattle.slot_types.specs.declared.events.Event.{Event}
 use Rattle.slot_types.specs.declared.events.Event.TheVariants.{Slot}
 use Rattle.slot_types.specs.declared.refusals.Refusal.{Refusal}
 use Rattle.slot_types.specs.declared.refusals.Refusal.TheVariants.{DeviceFault, DieStopped}
 use Rattle.slot_types.specs.declared.replies.Reply.{Reply}
-use Rattle.slot_types.specs.declared.replies.Reply.TheVariants as replies
 use Rattle.plan_rules.specs.Bound.{MeetsBound}
 use Rattle.die_log.specs.Log.{Log}
 use Rattle.die_log.specs.Answers.{answer, IsAccepted, IsExact}
-use Rattle.slot_core.specs.Core.{Core, with_entry}
+use Rattle.slot_core.specs.declared.events.ReplyNote.{ReplyNote}
 use Rattle.slot_core.specs.Calls.{RefusedBy}
+use Rattle.slot_core.specs.Events.{noted}
 use Rattle.die_service.specs.declared.refused.RefusedAt.{RefusedAt}
-use Rattle.die_service.specs.declared.reply_note.ReplyNote.{ReplyNote}
-use Rattle.die_service.specs.declared.reply_note.ReplyNote.TheVariants as notes
 use Rattle.die_service.specs.Logs.{Call, log_of}
 
 -- the plan meets its bound, and each call was answered as a die of this plan answers it behind the calls before it
@@ -30,28 +28,13 @@ MayRefuse never_fails plan log event refusal =
     ⊎ ((never_fails ≡ false) × (event ≡ Slot) × IsAccepted (answer plan log event) × (refusal ≡ DeviceFault))
     ⊎ ((never_fails ≡ false) × (refusal ≡ DieStopped))
 
--- a die accepted an event: the log's own answer, which is no refusal, is its next entry
-pub record HasAccepted {N : Type 0} (caller : ℕ) (event : Event) (reply : Reply) (before after : Core N) : Type 0 where
-  pub answered : answer before.plan before.log event ≡ reply
-  pub accepted : IsAccepted reply
-  pub logged : after.log ≡ with_entry caller event reply before.log
-
--- a die refused an event: as it may, and its log stays
-pub record HasRefused {N : Type 0} (never_fails : Bool) (event : Event) (refusal : Refusal) (before after : Core N) : Type 0 where
-  pub cause : MayRefuse never_fails before.plan before.log event refusal
-  pub log_stays : after.log ≡ before.log
-
 -- an accepted event is answered by the log; a refused one tells how many entries there were
 abbrev pub MayReply : Bool → DiePlan → List Call → Event → Result Reply RefusedAt → Type 0
 MayReply never_fails plan calls event (Ok reply) = (answer plan (log_of calls) event ≡ reply) × IsAccepted reply
 MayReply never_fails plan calls event (Err refused) =
     (refused.entries ≡ length calls) × MayRefuse never_fails plan (log_of calls) event refused.refusal
 
--- the reply that a note is of
-abbrev pub noted : ReplyNote → Reply
-noted (notes.Taken number) = replies.Taken number
-noted (notes.Slot reply) = replies.Slot reply
-
+-- the reply that a note is of, where the event was accepted
 abbrev pub result_noted : Result ReplyNote RefusedAt → Result Reply RefusedAt
 result_noted (Ok note) = Ok (noted note)
 result_noted (Err refused) = Err refused

@@ -1,17 +1,13 @@
 //! A die as the book behind its turn.
 
-ghost use Rattle.std.specs.Prelude.{◌≡◌, true, false, IfOk, IfErr};
+ghost use Rattle.std.specs.Prelude.{◌≡◌, true, false};
 ghost use Rattle.std.specs.Box.{box_value};
-ghost use Rattle.die_service.specs.Feeds.{with_ops};
-ghost use Rattle.die_service.specs.Replies.{HasAccepted, HasRefused, noted};
 
-use crate::heads::EventHead;
 use crate::queries::{Answer, Query};
 use crate::refused::RefusedAt;
-use crate::reply_note::ReplyNote;
 use flash_die::Nand;
-use slot_core::DieCore;
-use slot_types::{DiePlan, Event, Op, Refusal, Reply};
+use slot_core::{DieCore, EventHead, ReplyNote};
+use slot_types::{DiePlan, Event, Op, Reply};
 use std::alloc::Global;
 use std::marker::Model;
 use turn_lock::Book;
@@ -53,71 +49,6 @@ impl<N: Nand> DieBook<N> {
     {
         Box::into_inner(self.core)
     }
-
-    /// What the die says to an event.
-    fn perform(&mut self, caller: u32, event: Event) -> Result<Reply, Refusal>
-        ensures plan { self.new.plan ≡ self.old.plan }
-        ensures accepted { IfOk result (λ reply. HasAccepted caller event reply self.old self.new) }
-        ensures refused { IfErr result (λ refusal. HasRefused N.never_fails event refusal self.old self.new) }
-    {
-        let alloc = self.alloc;
-        match event {
-            Event::Submit {
-                task,
-                release,
-                due,
-                ops,
-            } => match self.core.submit(alloc, caller, task, release, due, ops) {
-                Ok(number) => Ok(Reply::Taken(number)),
-                Err(refusal) => Err(refusal),
-            },
-            Event::Collect { task, release, due } => {
-                match self.core.collect(alloc, caller, task, release, due) {
-                    Ok(number) => Ok(Reply::Taken(number)),
-                    Err(refusal) => Err(refusal),
-                }
-            }
-            Event::Slot => match self.core.slot(alloc, caller) {
-                Ok(reply) => Ok(Reply::Slot(reply)),
-                Err(refusal) => Err(refusal),
-            },
-        }
-    }
-
-    /// What the die says to an event whose operations are lent; no more than a note of it is kept.
-    fn perform_noted(
-        &mut self,
-        caller: u32,
-        head: EventHead,
-        ops: &[Op],
-    ) -> Result<ReplyNote, Refusal>
-        ensures plan { self.new.plan ≡ self.old.plan }
-        ensures accepted { IfOk result (λ note. HasAccepted caller (with_ops head ops.now) (noted note) self.old self.new) }
-        ensures refused { IfErr result (λ refusal. HasRefused N.never_fails (with_ops head ops.now) refusal self.old self.new) }
-    {
-        let alloc = self.alloc;
-        match head {
-            EventHead::Submit { task, release, due } => {
-                match self
-                    .core
-                    .submit_lent(alloc, caller, task, release, due, ops)
-                {
-                    Ok(number) => Ok(ReplyNote::Taken(number)),
-                    Err(refusal) => Err(refusal),
-                }
-            }
-            EventHead::Collect { task, release, due } => {
-                match self.core.collect(alloc, caller, task, release, due) {
-                    Ok(number) => Ok(ReplyNote::Taken(number)),
-                    Err(refusal) => Err(refusal),
-                }
-            }
-            EventHead::Slot => match self.core.note_slot(alloc, caller) {
-                Ok(slot) => Ok(ReplyNote::Slot(slot)),
-                Err(refusal) => Err(refusal),
-            },
-        }
-    }
 }
 
 impl<N: Nand> Book for DieBook<N> {
@@ -125,7 +56,7 @@ impl<N: Nand> Book for DieBook<N> {
     ghost use Rattle.die_service.specs.Logs.{calls_of};
     ghost use Rattle.die_service.specs.Replies.{HasExactLog, MayReply, result_noted};
     ghost use Rattle.die_service.specs.Answers.{MayAnswer};
-    ghost use Rattle.die_service.specs.Feeds.{with_ops};
+    ghost use Rattle.slot_core.specs.Events.{with_ops};
 
     type Event = Event;
 
@@ -161,7 +92,7 @@ impl<N: Nand> Book for DieBook<N> {
 
     fn apply(&mut self, caller: u32, event: Event) -> Result<Reply, RefusedAt> {
         let entries = self.core.len();
-        match self.perform(caller, event) {
+        match self.core.perform(self.alloc, caller, event) {
             Ok(reply) => Ok(reply),
             Err(refusal) => Err(RefusedAt { entries, refusal }),
         }
@@ -169,7 +100,7 @@ impl<N: Nand> Book for DieBook<N> {
 
     fn note(&mut self, caller: u32, head: EventHead, ops: &[Op]) -> Result<ReplyNote, RefusedAt> {
         let before = self.core.len();
-        match self.perform_noted(caller, head, ops) {
+        match self.core.note(self.alloc, caller, head, ops) {
             Ok(note) => Ok(note),
             Err(refusal) => Err(RefusedAt {
                 entries: before,

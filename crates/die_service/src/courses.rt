@@ -1,14 +1,14 @@
 //! A feed on its way to its die.
 
 ghost use Rattle.std.specs.Prelude.{◌≡◌, ◌<◌, ◌++◌, ◌∷◌, ◌-◌, [], length, IfOk, IfErr, IfSome, IfNone};
-ghost use Rattle.die_service.specs.Feeds.{with_ops};
+ghost use Rattle.slot_core.specs.Events.{with_ops};
 ghost use Rattle.die_service.specs.Runs.{AllArrive};
 ghost use Rattle.die_service.specs.Drives.{Comes, NoneDue, whole_course};
 
 use crate::ends::{RefusedEvent, RefusedList};
 use crate::feeds::Feed;
-use crate::heads::EventHead;
 use crate::refused::RefusedAt;
+use slot_core::EventHead;
 use slot_types::{Op, Refusal};
 use std::alloc::Global;
 use std::marker::Model;

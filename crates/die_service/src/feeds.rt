@@ -2,10 +2,11 @@
 
 ghost use Rattle.std.specs.Prelude.{◌≡◌, ◌<◌, ◌∷◌, ◌++◌, [], Some, length, slice_get, option_map, vec_capacity, IfOk, IfErr, OnOk, OnErr};
 ghost use Rattle.slot_types.specs.declared.events.Event.TheVariants as events;
-ghost use Rattle.die_service.specs.Feeds.{with_ops, HaveAtMost};
+ghost use Rattle.slot_core.specs.Events.{with_ops};
+ghost use Rattle.die_service.specs.Feeds.{HaveAtMost};
 
-use crate::heads::EventHead;
 use crate::packed_ops::PackedOps;
+use slot_core::{EventHead, JobHead};
 use slot_types::{Event, Op, Refusal, TaskNo};
 use std::alloc::Global;
 use std::marker::Model;
@@ -21,12 +22,9 @@ pub struct Arrival {
 #[derive(Clone, Copy, Debug, Drop)]
 pub(crate) struct FeedRow {
     pub(crate) at: u32,
-    pub(crate) task: TaskNo,
-    pub(crate) release: u32,
-    pub(crate) due: u32,
+    pub(crate) head: JobHead,
     pub(crate) first_op: u32,
     pub(crate) op_count: u32,
-    pub(crate) collects: bool,
 }
 
 /// The events that come to a die in a run, in their order. Contracts see the list of these.
@@ -101,12 +99,14 @@ impl Feed {
         self.most = self.most.max(op_count);
         self.rows.push_reserved(FeedRow {
             at,
-            task,
-            release,
-            due,
+            head: JobHead {
+                collects: false,
+                task,
+                release,
+                due,
+            },
             first_op,
             op_count,
-            collects: false,
         });
         Ok(())
     }
@@ -126,12 +126,14 @@ impl Feed {
         self.rows.reserve(1)?;
         self.rows.push_reserved(FeedRow {
             at,
-            task,
-            release,
-            due,
+            head: JobHead {
+                collects: true,
+                task,
+                release,
+                due,
+            },
             first_op: 0,
             op_count: 0,
-            collects: true,
         });
         Ok(())
     }
@@ -159,17 +161,11 @@ impl Feed {
         ensures room { vec_capacity ops.new ≡ vec_capacity ops.old }
     {
         let row = self.rows[place];
-        let FeedRow {
-            task,
-            release,
-            due,
-            ..
-        } = row;
         ops.clear();
-        if row.collects {
-            return EventHead::Collect { task, release, due };
+        if row.head.collects {
+            return EventHead::Arrive(row.head);
         }
         self.ops.copy_to(row.first_op, row.op_count, ops);
-        EventHead::Submit { task, release, due }
+        EventHead::Arrive(row.head)
     }
 }

@@ -16,6 +16,7 @@ pub mod Turning
 pub mod Beginning
 pub mod Slotting
 pub mod Noting
+pub mod Performing
 pub mod Running
 pub mod Adding
 pub mod Worsts

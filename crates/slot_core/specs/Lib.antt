@@ -8,6 +8,7 @@ pub mod Slotted
 pub mod Acting
 pub mod Calls
 pub mod Runs
+pub mod Events
 pub mod Turns
 pub mod Outcomes
 pub mod Rowed

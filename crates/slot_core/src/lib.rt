@@ -5,6 +5,7 @@ pub mod admission;
 pub mod certificates;
 pub mod devices;
 pub mod die_core;
+pub mod events;
 mod notes;
 pub mod operations;
 pub mod outcomes;
@@ -15,6 +16,7 @@ pub mod turn;
 mod turns;
 
 pub use die_core::DieCore;
+pub use events::{EventHead, ReplyNote};
 pub use outcomes::{JobHead, Outcome, Worst};
 pub use runs::Replies;
 pub use slot_note::SlotNote;

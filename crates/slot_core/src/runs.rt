@@ -24,26 +24,9 @@ impl<N: Nand> DieCore<N> {
         ensures step { IsStep self.old.plan event result (moment_of N.failures self.old) (moment_of N.failures self.new) }
         ensures plan { self.new.plan ≡ self.old.plan }
     {
-        match event {
-            Event::Submit {
-                task,
-                release,
-                due,
-                ops,
-            } => match self.submit(alloc, 0, task, release, due, ops) {
-                Ok(number) => Reply::Taken(number),
-                Err(refusal) => Reply::Refused(refusal),
-            },
-            Event::Collect { task, release, due } => {
-                match self.collect(alloc, 0, task, release, due) {
-                    Ok(number) => Reply::Taken(number),
-                    Err(refusal) => Reply::Refused(refusal),
-                }
-            }
-            Event::Slot => match self.slot(alloc, 0) {
-                Ok(reply) => Reply::Slot(reply),
-                Err(refusal) => Reply::Refused(refusal),
-            },
+        match self.perform(alloc, 0, event) {
+            Ok(reply) => reply,
+            Err(refusal) => Reply::Refused(refusal),
         }
     }
 

@@ -1,4 +1,4 @@
-use Rattle.std.proofs.Common.{◌+◌, ◌≤◌, arith, ◌∙◌}
+use Rattle.std.proofs.Common.{arith, ◌∙◌}
 use Rattle.std.proofs.lemmas.Option.{slice_get-get_or}
 use Rattle.slot_types.specs.declared.events.Op.TheVariants.{Read}
 use Rattle.die_service.specs.PackedOps.{all_unpacked}

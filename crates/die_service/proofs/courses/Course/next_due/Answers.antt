@@ -1,5 +1,5 @@
-use Rattle.std.proofs.Common.{◌≡◌, ◌+◌, ◌≤◌, length, arith, subst}
-use Rattle.die_service.specs.Feeds.{with_ops}
+use Rattle.std.proofs.Common.{◌+◌, arith, subst}
+use Rattle.slot_core.specs.Events.{with_ops}
 use Rattle.die_service.specs.Drives.{Course, Comes, NoneDue}
 use Rattle.die_service.proofs.Feeding.{on, none_left, none_yet, comes_now}
 use Rattle.die_service.proofs.courses.Course.next_due.Goals.{then-place-len-via-then-place-len}

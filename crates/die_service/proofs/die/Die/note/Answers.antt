@@ -1,4 +1,4 @@
-use Rattle.die_service.specs.Feeds.{with_ops}
+use Rattle.slot_core.specs.Events.{with_ops}
 use Rattle.die_service.proofs.Passing.{noted_accepted, noted_added, noted_left}
 use Rattle.die_service.proofs.die.Die.note.Goals as goal
 

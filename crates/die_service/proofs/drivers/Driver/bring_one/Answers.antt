@@ -1,5 +1,4 @@
-use Rattle.die_service.specs.Feeds.{with_ops}
-use Rattle.die_service.specs.Replies.{noted}
+use Rattle.slot_core.specs.Events.{with_ops, noted}
 use Rattle.die_service.proofs.Bringing.{brings_accepted, brings_refused}
 use Rattle.die_service.proofs.drivers.Driver.bring_one.Goals.{in-Ok, in-Err}
 use Rattle.die_service.proofs.drivers.Driver.bring_one.Goals as goal

@@ -1,4 +1,4 @@
-use Rattle.std.proofs.Common.{◌≡◌, ◌∷◌, ◌++◌, [], List, false, ap, ◌∙◌}
+use Rattle.std.proofs.Common.{◌∷◌, ◌++◌, [], List, false, ap, ◌∙◌}
 use Rattle.slot_types.specs.declared.events.Event.TheVariants as events
 use Rattle.slot_types.specs.declared.events.Op.{Op}
 use Rattle.die_service.specs.declared.feeds.Arrival.{Arrival}
@@ -12,13 +12,9 @@ returns-clause-ok c =
     let f = c.self.inside in
     let row : FeedRow = record {
       at = c.args.at;
-      task = c.args.task;
-      release = c.args.release;
-      due = c.args.due;
-      first_op =
-          c.in_ok-first_op.first_op;
+      head = record { collects = false; task = c.args.task; release = c.args.release; due = c.args.due };
+      first_op = c.in_ok-first_op.first_op;
       op_count = c.in_ok-op_count.op_count;
-      collects = false;
     } in
     ap (feed_at c.push_all.new.self) (c.push_reserved.ensures.items
     ∙ ap (λ (l : List FeedRow). l ++ row ∷ []) c.in_ok-reserve.ensures.items)

@@ -1,13 +1,13 @@
-use Rattle.std.proofs.Common.{◌≡◌, ◌+◌, ◌-◌, ◌<◌, ◌++◌, ℕ, List, Some, length, take, drop, slice_get, vec_len, vec_capacity, rules, arith}
+use Rattle.std.proofs.Common.{◌<◌, ◌++◌, List, Some, length, take, drop, slice_get, vec_capacity, arith}
 use Rattle.std.proofs.Common.{refl, sym, ap, ◌∙◌, subst}
 use Rattle.std.specs.Prelude.{option_map}
 use Rattle.std.proofs.lemmas.List.{length-map}
 use Rattle.std.proofs.lemmas.Option.{slice_get_read}
-use Rattle.slot_types.specs.declared.events.Event.TheVariants as events
 use Rattle.slot_types.specs.declared.events.Op.{Op}
+use Rattle.slot_core.specs.Events.{arrival_of}
 use Rattle.die_service.specs.declared.feeds.Arrival.{Arrival}
 use Rattle.die_service.specs.Feeds.{HaveAtMost, arrival_at}
-use Rattle.die_service.proofs.Feeding.{row_at, place_at, room_at, job_at}
+use Rattle.die_service.proofs.Feeding.{row_at, place_at, room_at}
 use Rattle.die_service.proofs.feeds.Feed.read.Goals as goal
 
 pub copy_to-requires : goal.copy_to-requires
@@ -35,6 +35,5 @@ returns-clause-event c =
     let at_n = slice_get_read f.rows.items (length f.rows.items) c.args.place row refl within c.index-row.ensures in
     sym (ap (λ (l : List Arrival). option_map (λ (a : Arrival). a.event) (slice_get l c.args.place)) c.self.view_is)
     ∙ ap (option_map (λ (a : Arrival). a.event)) (place_at f.ops f.rows.items c.args.place row at_n)
-    ∙ ap Some (job_at f.ops row c.if-row.false)
-    ∙ ap (λ (l : List Op). Some (events.Submit row.task row.release row.due l))
+    ∙ ap (λ (l : List Op). Some (arrival_of row.head l))
     (sym (c.copy_to.ensures.ops ∙ ap (λ (l : List Op). l ++ take row.op_count (drop row.first_op f.ops)) c.clear.ensures.items))

@@ -1,4 +1,4 @@
-use Rattle.std.proofs.Common.{◌+◌, arith, ◌∙◌}
+use Rattle.std.proofs.Common.{arith, ◌∙◌}
 use Rattle.die_service.proofs.Packing.{copied_more}
 use Rattle.die_service.proofs.packed_ops.PackedOps.copy_to.Goals as goal
 

@@ -1,0 +1,129 @@
+//! Events of a die: a job or a collection arrives, or a slot is carried out.
+
+ghost use Rattle.std.specs.Prelude.{◌≡◌, ◌+◌, ◌↔◌, true, IfOk, IfErr};
+ghost use Rattle.slot_core.specs.Events.{arrival_of, with_ops, noted, HasAccepted, HasRefused};
+
+use crate::die_core::DieCore;
+use crate::outcomes::JobHead;
+use crate::slot_note::SlotNote;
+use flash_die::Nand;
+use slot_types::{Event, JobNo, Op, Refusal, Reply};
+use std::alloc::Global;
+
+/// An event but for a job's operations, which lie beside it.
+#[derive(Clone, Copy, PartialEq, Eq, Debug, Drop)]
+pub enum EventHead {
+    /// A job or a collection arrives.
+    Arrive(JobHead),
+    /// The present slot is carried out.
+    Slot,
+}
+
+/// What is kept of the reply to an accepted event.
+#[derive(Drop)]
+pub enum ReplyNote {
+    /// A job or a collection was accepted under this number.
+    Taken(JobNo),
+    /// A slot was carried out.
+    Slot(SlotNote),
+}
+
+impl<N: Nand> DieCore<N> {
+    /// Accepts a job of these operations, or a collection, which leaves them aside.
+    fn arrive(
+        &mut self,
+        alloc: Global,
+        caller: u32,
+        head: JobHead,
+        ops: &[Op],
+    ) -> Result<JobNo, Refusal>
+        ensures stopped { (result ≡ Err Refusal.DieStopped) ↔ (self.old.stopped ≡ true) }
+        ensures accepted { IfOk result (λ number. HasAccepted caller (arrival_of head ops.now) (Reply.Taken number) self.old self.new) }
+        ensures refused { IfErr result (λ refusal. HasRefused N.never_fails (arrival_of head ops.now) refusal self.old self.new) }
+        ensures fault { (result ≡ Err Refusal.DeviceFault) ↔ (N.failures self.new.device ≡ N.failures self.old.device + 1) }
+        ensures plan { self.new.plan ≡ self.old.plan }
+    {
+        let JobHead {
+            collects,
+            task,
+            release,
+            due,
+        } = head;
+        if collects {
+            self.collect(alloc, caller, task, release, due)
+        } else {
+            self.submit_lent(alloc, caller, task, release, due, ops)
+        }
+    }
+
+    /// Carries out an event, and answers as [`DieCore::submit`], [`DieCore::collect`] or [`DieCore::slot`] does.
+    pub fn perform(&mut self, alloc: Global, caller: u32, event: Event) -> Result<Reply, Refusal>
+        ensures stopped { (result ≡ Err Refusal.DieStopped) ↔ (self.old.stopped ≡ true) }
+        ensures accepted { IfOk result (λ reply. HasAccepted caller event reply self.old self.new) }
+        ensures refused { IfErr result (λ refusal. HasRefused N.never_fails event refusal self.old self.new) }
+        ensures fault { (result ≡ Err Refusal.DeviceFault) ↔ (N.failures self.new.device ≡ N.failures self.old.device + 1) }
+        ensures plan { self.new.plan ≡ self.old.plan }
+    {
+        let taken = match event {
+            Event::Submit {
+                task,
+                release,
+                due,
+                ops,
+            } => {
+                let head = JobHead {
+                    collects: false,
+                    task,
+                    release,
+                    due,
+                };
+                self.arrive(alloc, caller, head, ops.as_slice())
+            }
+            Event::Collect { task, release, due } => {
+                let head = JobHead {
+                    collects: true,
+                    task,
+                    release,
+                    due,
+                };
+                self.arrive(alloc, caller, head, &[])
+            }
+            Event::Slot => {
+                return match self.slot(alloc, caller) {
+                    Ok(reply) => Ok(Reply::Slot(reply)),
+                    Err(refusal) => Err(refusal),
+                };
+            }
+        };
+        match taken {
+            Ok(number) => Ok(Reply::Taken(number)),
+            Err(refusal) => Err(refusal),
+        }
+    }
+
+    /// As `perform`, of an event whose operations the caller keeps, and hands back no more than a note of the reply.
+    pub fn note(
+        &mut self,
+        alloc: Global,
+        caller: u32,
+        head: EventHead,
+        ops: &[Op],
+    ) -> Result<ReplyNote, Refusal>
+        ensures stopped { (result ≡ Err Refusal.DieStopped) ↔ (self.old.stopped ≡ true) }
+        ensures accepted { IfOk result (λ note. HasAccepted caller (with_ops head ops.now) (noted note) self.old self.new) }
+        ensures refused { IfErr result (λ refusal. HasRefused N.never_fails (with_ops head ops.now) refusal self.old self.new) }
+        ensures fault { (result ≡ Err Refusal.DeviceFault) ↔ (N.failures self.new.device ≡ N.failures self.old.device + 1) }
+        ensures plan { self.new.plan ≡ self.old.plan }
+    {
+        match head {
+            EventHead::Arrive(head) => match self.arrive(alloc, caller, head, ops) {
+                Ok(number) => Ok(ReplyNote::Taken(number)),
+                Err(refusal) => Err(refusal),
+            },
+            EventHead::Slot => match self.note_slot(alloc, caller) {
+                Ok(slot) => Ok(ReplyNote::Slot(slot)),
+                Err(refusal) => Err(refusal),
+            },
+        }
+    }
+}
