@@ -1,14 +1,12 @@
 //! Queues of waiting jobs in memory reserved beforehand: by due date, and by release.
 #![tactic(auto)]
 
-pub mod due_queue;
+pub mod job_queue;
 pub mod keys;
 mod pair_heap;
-pub mod wait_list;
 
-pub use due_queue::DueQueue;
-pub use keys::{Key, WaitKey};
-pub use wait_list::WaitList;
+pub use job_queue::{DueQueue, JobQueue, WaitList};
+pub use keys::{JobKey, Key, WaitKey};
 
 #[cfg(test)]
 mod tests;

@@ -1,5 +1,5 @@
 -- A job or a collection, as the table keeps it.
-use Rattle.std.specs.Prelude.{ℕ, ◌+◌, Bool, true, false, List, [], ◌∷◌, ◌++◌, Option, Some, None, slice_get, take, count_by, ◌≡◌, ◌≤◌, ℤ}
+use Rattle.std.specs.Prelude.{ℕ, ◌+◌, Bool, true, false, List, [], ◌∷◌, ◌++◌, Option, Some, None, slice_get, ℤ}
 use Rattle.std.specs.Prelude.{pos, ◌-ℤ◌}
 use Rattle.slot_types.specs.declared.events.Op.{Op}
 use Rattle.slot_types.specs.declared.events.Op.TheVariants.{Read, Write, Trim}

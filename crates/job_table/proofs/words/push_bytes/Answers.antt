@@ -1,4 +1,4 @@
-use Rattle.std.proofs.Common.{◌+◌, ◌∷◌, ◌++◌, [], Some, List, take, vec_items, vec_len, vec_capacity, append_assoc, append-nil, arith, sym}
+use Rattle.std.proofs.Common.{◌∷◌, ◌++◌, [], Some, List, take, vec_items, vec_len, vec_capacity, append_assoc, append-nil, arith, sym}
 use Rattle.std.proofs.Common.{ap, ◌∙◌}
 use Rattle.std.proofs.lemmas.Option.{slice_get-get_or}
 use Rattle.slot_types.specs.declared.events.Op.TheVariants.{Read, Write, Trim}

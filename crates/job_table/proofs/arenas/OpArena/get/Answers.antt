@@ -6,7 +6,7 @@ use Rattle.slot_types.specs.declared.events.Op.{Op}
 use Rattle.slot_types.specs.declared.events.Op.TheVariants.{Read, Write, Trim}
 use Rattle.slot_types.specs.declared.pages.PageData.{PageData}
 use Rattle.job_table.specs.Jobs.{is_read}
-use Rattle.job_table.specs.Words.{page_in, changing_in, blank}
+use Rattle.job_table.specs.Words.{changing_in, blank}
 use Rattle.job_table.proofs.Decoding.{length-ops_of, count_words, count_take_le, read_at, changing_at, is_trimmed, is_written, bytes_there}
 use Rattle.job_table.proofs.arenas.OpArena.get.Goals as goal
 

@@ -1,41 +1,47 @@
-//! The released jobs that wait, by due date.
+//! A queue of jobs.
 
 ghost use Rattle.std.specs.Prelude.{◌≡◌, ◌+◌, ◌<◌, ◌≤◌, [], length, Contains, IsOk, OnOk, OnErr, OnSome, IfNone, IfErr};
 ghost use Rattle.due_queue.specs.Queue.{inserted, first_of, rest_of, IsRising};
-ghost use Rattle.due_queue.specs.Keys.{is_due_before};
+ghost use Rattle.due_queue.specs.Keys.{come_by};
 
-use crate::keys::Key;
+use crate::keys::{JobKey, Key, WaitKey};
 use crate::pair_heap::PairHeap;
 use slot_types::Refusal;
 use std::alloc::Global;
-use std::marker::Model;
+use std::marker::{Model, PhantomData};
 
-/// A queue of keys, the earliest due first. Contracts see its keys in order, and how many more it has room for.
+/// The released jobs that wait, the earliest due first.
+pub type DueQueue = JobQueue<Key>;
+
+/// The accepted jobs that are not released yet, the earliest release first.
+pub type WaitList = JobQueue<WaitKey>;
+
+/// A queue of keys, the first of their order first. Contracts see its keys in order, and how many more it has room for.
 ///
 /// A key takes memory only in `reserve`, which makes room beforehand.
 #[derive(Drop)]
-pub struct DueQueue {
+pub struct JobQueue<K: JobKey> {
     pairs: PairHeap,
+    keys: PhantomData<K>,
 }
 
-impl Model for DueQueue {
-    ghost use Rattle.due_queue.specs.declared.keys.Key.{Key};
+impl<K: JobKey> Model for JobQueue<K> {
     ghost use Rattle.std.specs.Prelude.{map};
     ghost use Rattle.due_queue.specs.Queue.{Queue};
-    ghost use Rattle.due_queue.specs.Keys.{key_of};
 
-    ghost Value = { Queue Key };
+    ghost Value = { Queue K };
 
-    ghost view = { λ q. record { keys = map key_of q.pairs.keys; spare = q.pairs.spare } };
+    ghost view = { λ q. record { keys = map K.made q.pairs.keys; spare = q.pairs.spare } };
 }
 
-impl DueQueue {
+impl<K: JobKey> JobQueue<K> {
     /// A queue without keys, and without room for any. It takes no memory.
-    pub fn new(alloc: Global) -> DueQueue
+    pub fn new(alloc: Global) -> JobQueue<K>
         ensures { result ≡ record { keys = []; spare = 0 } }
     {
-        DueQueue {
+        JobQueue {
             pairs: PairHeap::new(alloc),
+            keys: PhantomData,
         }
     }
 
@@ -53,43 +59,59 @@ impl DueQueue {
     }
 
     /// Puts a key in its place, in room that was reserved. The key is not there yet.
-    pub fn insert(&mut self, key: Key)
+    pub fn insert(&mut self, key: K)
         requires room { 0 < self.old.spare }
         requires absent { ¬ Contains self.old.keys key }
-        ensures keys { self.new.keys ≡ inserted is_due_before key self.old.keys }
+        ensures keys { self.new.keys ≡ inserted K.is_before key self.old.keys }
         ensures spare { self.new.spare + 1 ≡ self.old.spare }
     {
-        self.pairs.insert((key.due, key.number));
+        self.pairs.insert(key.pair());
     }
 
-    /// The key with the earliest due, of equal ones that with the smallest number.
-    pub fn first(&self) -> Option<Key>
+    /// The first key: that with the earliest slot, of equal ones that with the smallest number.
+    pub fn first(&self) -> Option<K>
         ensures first { result ≡ first_of self.now.keys }
-        ensures rising { IsRising is_due_before self.now.keys }
+        ensures rising { IsRising K.is_before self.now.keys }
     {
         match self.pairs.first() {
-            Some((due, number)) => Some(Key { due, number }),
+            Some((slot, number)) => Some(K::of(slot, number)),
             None => None,
         }
     }
 
     /// Takes the first key away, if there is one, which leaves room for one more.
-    pub fn pop_first(&mut self) -> Option<Key>
+    pub fn pop_first(&mut self) -> Option<K>
         ensures first { result ≡ first_of self.old.keys }
         ensures rest { self.new.keys ≡ rest_of self.old.keys }
         ensures spare { OnSome result (self.new.spare ≡ self.old.spare + 1) }
         ensures none { IfNone result (self.new ≡ self.old) }
     {
         match self.pairs.pop_first() {
-            Some((due, number)) => Some(Key { due, number }),
+            Some((slot, number)) => Some(K::of(slot, number)),
             None => None,
+        }
+    }
+
+    /// Takes the first key away if its slot is at most `now`, which leaves room for one more.
+    pub fn pop_by(&mut self, now: u32) -> Option<K>
+        ensures first { result ≡ come_by K.slot_of now (first_of self.old.keys) }
+        ensures rest { OnSome result (self.new.keys ≡ rest_of self.old.keys) }
+        ensures spare { OnSome result (self.new.spare ≡ self.old.spare + 1) }
+        ensures none { IfNone result (self.new ≡ self.old) }
+    {
+        match self.pairs.first() {
+            Some((slot, number)) if slot <= now => {
+                let _ = self.pairs.pop_first();
+                Some(K::of(slot, number))
+            }
+            _ => None,
         }
     }
 
     /// How many keys there are.
     pub fn len(&self) -> usize
         ensures len { result ≡ length self.now.keys }
-        ensures rising { IsRising is_due_before self.now.keys }
+        ensures rising { IsRising K.is_before self.now.keys }
     {
         self.pairs.len()
     }

@@ -1,9 +1,0 @@
-use Rattle.std.proofs.Common.{refl}
-use Rattle.due_queue.specs.Pairs.{is_pair_before}
-use Rattle.due_queue.specs.Keys.{is_due_before, key_of}
-use Rattle.due_queue.proofs.Mapped.{rising-map}
-use Rattle.due_queue.proofs.due_queue.DueQueue.len.Goals as goal
-
-pub returns-clause-rising : goal.returns-clause-rising
-returns-clause-rising c =
-    rw (← c.self.view_is) (rising-map is_pair_before is_due_before key_of (λ p q. refl) c.self.inside.pairs.keys c.len.ensures.rising)
