@@ -1,16 +1,50 @@
-//! Calls on a die of a store that may need memory. Where memory is refused, each is asked again, and has to be answered then as
-//! without the refusal. So the tables may be played with each allocation made to fail in turn.
+//! Calls on a die of a store that may need memory. Where memory is refused, each is asked again, and has to be answered then
+//! as without the refusal. So the tables may be played with each allocation made to fail in turn.
 
 ghost use Rattle.std.specs.Prelude.{◌≡◌};
 
-use crate::steps::{carry_once, submit_once};
 use die_service::{Die, DiePass, RefusedAt};
 use flash_die::Nand;
 use late_cert::Certificate;
 use slot_core::Outcome;
-use slot_types::{JobNo, Op, Refusal};
+use slot_types::{JobNo, Op, OpList, Refusal, TaskNo};
 use std::alloc::Global;
 use std::sync::Wait;
+
+/// The number of a job of one operation of task 0, which is asked for once.
+pub(crate) fn submit_once<N: Nand, R: Wait>(
+    rt: &R,
+    alloc: Global,
+    die: &Die<N>,
+    pass: &mut DiePass<N>,
+    release: u32,
+    due: u32,
+    op: Op,
+) -> Result<u32, Refusal>
+    requires { pass.old.lock ≡ die.now }
+    ensures { pass.new.lock ≡ pass.old.lock }
+{
+    let ops = OpList::from_vec(Vec::from_slice(alloc, &[op])?);
+    match die.submit(rt, pass, TaskNo(0), release, due, ops) {
+        Ok(number) => Ok(number.0),
+        Err(refused) => Err(refused.refusal),
+    }
+}
+
+/// The number that is done with the present slot, which is asked for once.
+pub(crate) fn carry_once<N: Nand, R: Wait>(
+    rt: &R,
+    die: &Die<N>,
+    pass: &mut DiePass<N>,
+) -> Result<Option<u32>, RefusedAt>
+    requires { pass.old.lock ≡ die.now }
+    ensures { pass.new.lock ≡ pass.old.lock }
+{
+    match die.slot(rt, pass)?.finished {
+        Some(number) => Ok(Some(number.0)),
+        None => Ok(None),
+    }
+}
 
 /// The number of a job of one operation of task 0.
 pub(crate) fn submit<N: Nand, R: Wait>(

@@ -11,19 +11,32 @@ use die_service::{
 use flash_die::Nand;
 use slot_types::{Op, Refusal};
 use std::alloc::Global;
+use std::process::Abort;
 use std::sync::Wait;
 use std::thread::Threads;
 
 /// What a die is fed, and how its run has to end: with so many slots, these refused events, and this refusal that stops it.
-pub(crate) struct Course<'a>(
-    pub(crate) &'a [Job],
-    pub(crate) u32,
-    pub(crate) &'a [RefusedEvent],
-    pub(crate) Option<RefusedAt>,
-);
+pub(crate) struct Course<'a> {
+    pub(crate) jobs: &'a [Job],
+    pub(crate) slots: u32,
+    pub(crate) refused: &'a [RefusedEvent],
+    pub(crate) stop: Option<RefusedAt>,
+}
 
 /// A write and a read of page 3, a slot apart.
-pub(crate) const WRITE_AND_READ: [Job; 2] = [Job(0, 2, Op::Write(3, ONES)), Job(1, 3, Op::Read(3))];
+#[rattlefmt::skip]
+pub(crate) const WRITE_AND_READ: [Job; 2] = [
+    Job { release: 0, due: 2, op: Op::Write(3, ONES) },
+    Job { release: 1, due: 3, op: Op::Read(3) },
+];
+
+/// A die that is fed these carries out two slots, and refuses nothing.
+pub(crate) const WRITES_AND_READS: Course = Course {
+    jobs: &WRITE_AND_READ,
+    slots: 2,
+    refused: &[],
+    stop: None,
+};
 
 /// Runs a store with a feed for each die.
 pub(crate) fn run<N: Nand + Send, G: Gate + Sync, R: Threads + Wait + Sync>(
@@ -46,22 +59,27 @@ pub(crate) fn run<N: Nand + Send, G: Gate + Sync, R: Threads + Wait + Sync>(
     run_slots(rt, store, passes, feeds, slots, workers, gate)
 }
 
-// Whether a die's run ended as its course says.
-fn is_end(end: &DieEnd, course: &Course) -> bool {
-    let Course(_, slots, refused, stop) = course;
-    end.slots == *slots && end.refused.as_slice() == *refused && end.stop == *stop
+// A die's run ended as its course says.
+fn ended(rt: &impl Abort, die: u32, got: &DieEnd, course: &Course) {
+    let want = (course.slots, course.refused, course.stop);
+    let right = (got.slots == course.slots)
+        & (got.refused.as_slice() == course.refused)
+        & (got.stop == course.stop);
+    assert!(rt; right, "the run of die {die}: want {want:?}, got {got:?}");
 }
 
-// Whether two dies' runs ended as their courses say.
-fn are_ends(ends: &[DieEnd], courses: &[Course; 2]) -> bool {
-    match ends {
-        [zero, one] => is_end(zero, &courses[0]) && is_end(one, &courses[1]),
-        _ => false,
+// Each die's run ended as its course says.
+fn all_ended(rt: &impl Abort, ends: &[DieEnd], courses: &[Course]) {
+    assert_eq!(rt; ends.len(), courses.len(), "how many dies ran");
+    let mut die: u32 = 0;
+    for (end, course) in ends.iter().zip(courses) {
+        ended(rt, die, end, course);
+        die = die.wrapping_add(1);
     }
 }
 
-/// Runs two dies with their courses, and says whether each ended as it has to.
-pub(crate) fn run_courses<N: Nand + Send, G: Gate + Sync, R: Threads + Wait + Sync>(
+/// Runs two dies with their courses. Fails the test where one doesn't end as it has to.
+pub(crate) fn run_courses<N: Nand + Send, G: Gate + Sync, R: Threads + Wait + Sync + Abort>(
     rt: &R,
     alloc: Global,
     store: &Store<N>,
@@ -70,38 +88,30 @@ pub(crate) fn run_courses<N: Nand + Send, G: Gate + Sync, R: Threads + Wait + Sy
     slots: u32,
     workers: u32,
     gate: &G,
-) -> Result<bool, Refusal>
+) -> Result<(), Refusal>
     requires own { map (λ pass. pass.lock) passes.old.items ≡ store.now }
     requires workers { (1 ≤ workers) × (workers ≤ 16) }
     ensures own { map (λ pass. pass.lock) passes.new.items ≡ store.now }
 {
-    let feeds = both(alloc, courses[0].0, courses[1].0)?;
+    let feeds = both(alloc, courses[0].jobs, courses[1].jobs)?;
     let ends = run(rt, store, passes, feeds, slots, workers, gate)?;
-    Ok(are_ends(ends.as_slice(), courses))
+    all_ended(rt, ends.as_slice(), courses.as_slice());
+    Ok(())
 }
 
-// Whether three dies' runs ended as their courses say.
-fn are_three(ends: &[DieEnd], courses: &[Course; 3]) -> bool {
-    match ends {
-        [zero, one, two] => {
-            is_end(zero, &courses[0]) && is_end(one, &courses[1]) && is_end(two, &courses[2])
-        }
-        _ => false,
-    }
-}
-
-/// Runs three dies with their courses, and says whether each ended as it has to.
-pub(crate) fn run_three<N: Nand + Send, R: Threads + Wait + Sync>(
+/// Runs three dies with their courses. Fails the test where one doesn't end as it has to.
+pub(crate) fn run_three<N: Nand + Send, R: Threads + Wait + Sync + Abort>(
     rt: &R,
     alloc: Global,
     store: &Store<N>,
     passes: &mut Vec<DiePass<N>>,
     courses: &[Course; 3],
     slots: u32,
-) -> Result<bool, Refusal>
+) -> Result<(), Refusal>
     requires own { map (λ pass. pass.lock) passes.old.items ≡ store.now }
 {
-    let feeds = three(alloc, courses[0].0, courses[1].0, courses[2].0)?;
+    let feeds = three(alloc, courses[0].jobs, courses[1].jobs, courses[2].jobs)?;
     let ends = run(rt, store, passes, feeds, slots, 2, &FreeGate)?;
-    Ok(are_three(ends.as_slice(), courses))
+    all_ended(rt, ends.as_slice(), courses.as_slice());
+    Ok(())
 }

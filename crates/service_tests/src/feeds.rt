@@ -7,9 +7,13 @@ use die_service::Feed;
 use slot_types::{Op, Refusal, TaskNo};
 use std::alloc::Global;
 
-/// A job of one operation of task 0: its release, which is also the slot before which it comes, its due and its operation.
+/// A job of one operation of task 0. It comes before the slot of its release.
 #[derive(Clone, Copy)]
-pub(crate) struct Job(pub(crate) u32, pub(crate) u32, pub(crate) Op);
+pub(crate) struct Job {
+    pub(crate) release: u32,
+    pub(crate) due: u32,
+    pub(crate) op: Op,
+}
 
 // The feed of these jobs.
 fn feed(alloc: Global, jobs: &[Job]) -> Result<Feed, Refusal>
@@ -17,7 +21,7 @@ fn feed(alloc: Global, jobs: &[Job]) -> Result<Feed, Refusal>
 {
     let mut feed = Feed::new(alloc);
     for job in jobs {
-        let Job(release, due, op) = *job;
+        let Job { release, due, op } = *job;
         feed.push_job(release, TaskNo(0), release, due, &[op])?;
     }
     Ok(feed)

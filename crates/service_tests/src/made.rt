@@ -1,51 +1,24 @@
-//! Fresh devices, and the stores that are made of them: dies of 8 blocks, each of which serves one task.
+//! Fresh devices, and the stores that are made of them.
 
 ghost use Rattle.std.specs.Prelude.{◌≡◌, map, IfOk};
 ghost use Rattle.flash_die.specs.Flash.{IsFresh};
 
+use crate::plans::ROOMY;
 use die_service::{DiePass, Store};
 use flash_die::{FuseNand, MemoryNand, Nand};
-use slot_types::{Caps, DiePlan, PageData, Refusal, Shape, StorePlan};
+use slot_types::{PageData, Refusal};
 use std::alloc::Global;
-
-const SHAPE: Shape = Shape {
-    blocks: 8,
-    pages: 4,
-    erase_slots: 3,
-};
 
 pub(crate) const ONES: PageData = PageData([0x11; 16]);
 
 pub(crate) const TWOS: PageData = PageData([0x22; 16]);
-
-// The plan of a die that serves one task.
-fn die_plan(alloc: Global) -> Result<DiePlan, Refusal> {
-    let mut caps = Caps::new(alloc);
-    caps.push(4)?;
-    Ok(DiePlan {
-        shape: SHAPE,
-        logical: 12,
-        alpha: 2,
-        caps,
-        times: None,
-    })
-}
-
-// The plan of a store of so many dies.
-fn plan(alloc: Global, dies: u32) -> Result<StorePlan, Refusal> {
-    let mut plan = StorePlan::new(alloc);
-    for _ in 0..dies {
-        plan.push(die_plan(alloc)?)?;
-    }
-    Ok(plan)
-}
 
 /// A device in memory.
 pub(crate) fn memory(alloc: Global) -> Result<MemoryNand, Refusal>
     ensures { IfOk result (λ nand. IsFresh (⟦<MemoryNand as Nand>⟧.shape_of nand) (⟦<MemoryNand as Nand>⟧.blocks nand)
         (⟦<MemoryNand as Nand>⟧.failures nand)) }
 {
-    MemoryNand::new(alloc, SHAPE)
+    MemoryNand::new(alloc, ROOMY.shape)
 }
 
 // A device in memory that fails after so many calls.
@@ -69,7 +42,7 @@ pub(crate) fn store_of<N: Nand>(
     let mut nands = Vec::with_capacity(alloc, 2)?;
     nands.push_reserved(first);
     nands.push_reserved(second);
-    Store::new(alloc, plan(alloc, 2)?, nands)
+    Store::new(alloc, ROOMY.of_store(alloc, 2)?, nands)
 }
 
 /// A store of two dies, the device of the first of which fails from its second call on.
@@ -104,7 +77,7 @@ pub(crate) fn fused_dies(
     nands.push_reserved(fused(alloc, calls[0])?);
     nands.push_reserved(fused(alloc, calls[1])?);
     nands.push_reserved(fused(alloc, calls[2])?);
-    Store::new(alloc, plan(alloc, 3)?, nands)
+    Store::new(alloc, ROOMY.of_store(alloc, 3)?, nands)
 }
 
 /// A store of two dies with devices in memory.
@@ -123,7 +96,7 @@ fn store_with<N: Nand>(alloc: Global, nand: N) -> Result<(Store<N>, Vec<DiePass<
 {
     let mut nands = Vec::with_capacity(alloc, 1)?;
     nands.push_reserved(nand);
-    Store::new(alloc, plan(alloc, 1)?, nands)
+    Store::new(alloc, ROOMY.of_store(alloc, 1)?, nands)
 }
 
 /// A store of one die with a device in memory.

@@ -18,12 +18,12 @@ pub(crate) enum Side {
 /// A call of a gate: with which die and which slot, and how many entries the die had. The entries tell which events
 /// were asked for by then, and whether the slot was carried out.
 #[derive(Clone, Copy, PartialEq, Eq, Debug, Drop)]
-pub(crate) struct Called(
-    pub(crate) Side,
-    pub(crate) u32,
-    pub(crate) u32,
-    pub(crate) u64,
-);
+pub(crate) struct Called {
+    pub(crate) side: Side,
+    pub(crate) die: u32,
+    pub(crate) slot: u32,
+    pub(crate) entries: u64,
+}
 
 // A second pass of the die of this number.
 fn split<N: Nand, R: Wait>(
@@ -121,7 +121,12 @@ impl<'a, N: Nand> Notes<'a, N> {
     // Notes a call, in room that was made.
     fn add(&mut self, side: Side, die: u32, slot: u32) {
         let entries = self.entries(die);
-        let _ = self.calls.push(Called(side, die, slot, entries));
+        let _ = self.calls.push(Called {
+            side,
+            die,
+            slot,
+            entries,
+        });
     }
 }
 

@@ -1,140 +1,170 @@
-//! Tables that are played on stores, and what becomes of a store that is closed then.
+//! Plays a table with a pass on its die: what each step asks, and the answer beside what the step wants.
 
-ghost use Rattle.std.specs.Prelude.{◌≡◌, map, slice_get, Some};
+ghost use Rattle.std.specs.Prelude.{◌≡◌};
 
-use crate::made::one_die;
-use crate::steps::{Step, play};
-use die_service::{DiePass, StillOpen, Store, close};
+use crate::again::{carry, certificate_of, outcome_of, submit};
+use crate::passes::{hands_over, lets_go};
+use crate::scarce::grows_or_stays;
+use crate::steps::{Bounds, Fact, Step};
+use crate::told::Told;
+use die_service::{Die, DiePass};
 use flash_die::Nand;
-use slot_core::DieCore;
-use slot_types::Refusal;
+use late_cert::Certificate;
+use slot_core::{Outcome, Worst};
+use slot_types::{JobNo, PageData, Refusal};
 use std::alloc::Global;
+use std::process::Abort;
 use std::sync::Wait;
 
-// The place of the first step that the die of this number answers otherwise. Where the store doesn't have it, that is the
-// first one.
-fn play_nth<N: Nand, R: Wait>(
-    rt: &R,
-    alloc: Global,
-    store: &Store<N>,
-    number: u32,
+// A job is done at this completion, with this lateness.
+fn done<R: Abort>(
+    told: &Told<R>,
+    got: &Result<Outcome, Refusal>,
+    want_completion: u32,
+    want_lateness: i64,
+) {
+    let right = match got {
+        Ok(
+            Outcome::Done {
+                completion,
+                lateness,
+                ..
+            },
+        ) => { (*completion == want_completion) & (*lateness == want_lateness) }
+        _ => false,
+    };
+    told.fits(right, got, &(want_completion, want_lateness))
+}
+
+// A job is done, and its first read gave this page.
+fn read<R: Abort>(told: &Told<R>, got: &Result<Outcome, Refusal>, page: PageData) {
+    let right = match got {
+        Ok(Outcome::Done { reads, .. }) => reads.get(0) == Some(&page),
+        _ => false,
+    };
+    told.fits(right, got, &page)
+}
+
+// Whether a certificate is of a job alone, from its start to its completion.
+fn is_of(found: &Certificate, want: &Bounds) -> bool {
+    found.job == JobNo(want.job)
+        && found.start == want.start
+        && found.due == want.due
+        && found.completion == want.completion
+        && found.jobs.as_slice() == [JobNo(want.job)].as_slice()
+}
+
+// A certificate is of a job alone, from its start to its completion.
+fn certified<R: Abort>(told: &Told<R>, got: &Result<Option<Certificate>, Refusal>, want: &Bounds) {
+    let right = match got {
+        Ok(Some(found)) => is_of(found, want),
+        _ => false,
+    };
+    told.fits(right, got, want)
+}
+
+// Plays what stands of a die.
+fn stands<N: Nand, R: Wait + Abort>(
+    told: &Told<R>,
+    die: &Die<N>,
     pass: &mut DiePass<N>,
-    steps: &[Step],
-) -> Option<usize>
-    requires { slice_get store.now number ≡ Some pass.old.lock }
+    fact: &Fact,
+)
+    requires { pass.old.lock ≡ die.now }
     ensures { pass.new.lock ≡ pass.old.lock }
 {
-    match store.die(number) {
-        Ok(die) => play(rt, alloc, die, pass, steps),
-        Err(_) => Some(0),
-    }
-}
-
-/// The first wrong steps of two tables, one for each of a store's two dies, which are played one after the other. None where
-/// there are other than two passes.
-pub(crate) fn play_both<N: Nand, R: Wait>(
-    rt: &R,
-    alloc: Global,
-    store: &Store<N>,
-    passes: &mut [DiePass<N>],
-    first: &[Step],
-    second: &[Step],
-) -> Option<[Option<usize>; 2]>
-    requires { map (λ pass. pass.lock) passes.old ≡ store.now }
-{
-    match passes {
-        [zero, one] => {
-            let wrong = play_nth(rt, alloc, store, 0, zero, first);
-            Some([wrong, play_nth(rt, alloc, store, 1, one, second)])
+    match fact {
+        Fact::Done {
+            job,
+            completion,
+            lateness,
+        } => {
+            done(
+                told,
+                &outcome_of(told.rt, die, pass, *job),
+                *completion,
+                *lateness,
+            )
         }
-        _ => None,
+        Fact::Read { job, page } => read(told, &outcome_of(told.rt, die, pass, *job), *page),
+        Fact::Waiting { job } => {
+            told.same(&outcome_of(told.rt, die, pass, *job), &Ok(Outcome::Waiting))
+        }
+        Fact::Worst { job, lateness } => {
+            let want = Worst {
+                job: JobNo(*job),
+                lateness: *lateness,
+            };
+            told.same(&die.worst(told.rt, pass), &Some(want))
+        }
+        Fact::Certified(bounds) => certified(told, &certificate_of(told.rt, die, pass), bounds),
+        Fact::Entries { count } => told.same(&die.look(pass), count),
+        Fact::Now { slot } => told.same(&die.now(told.rt, pass), slot),
+        Fact::Out { passes } => told.same(&die.out(told.rt, pass), passes),
     }
 }
 
-// The first wrong step of a table on a store's only die: the first one, where there is another number of passes.
-fn play_only<N: Nand, R: Wait>(
+// Plays a step.
+fn goes<N: Nand, R: Wait + Abort>(
+    told: &Told<R>,
+    alloc: Global,
+    die: &Die<N>,
+    pass: &mut DiePass<N>,
+    step: &Step,
+)
+    requires { pass.old.lock ≡ die.now }
+    ensures { pass.new.lock ≡ pass.old.lock }
+{
+    match step {
+        Step::Submit {
+            release,
+            due,
+            op,
+            want,
+        } => {
+            told.same(
+                &submit(told.rt, alloc, die, pass, *release, *due, *op),
+                want,
+            )
+        }
+        Step::Slot { want } => told.same(&carry(told.rt, die, pass), want),
+        Step::HandOver {
+            release,
+            due,
+            op,
+            job,
+        } => { hands_over(told, alloc, die, pass, *release, *due, *op, *job) }
+        Step::LetGo => lets_go(told, die, pass),
+        Step::Grows => {
+            let right = grows_or_stays(told.rt, alloc, die, pass);
+            told.fits(
+                right,
+                &die.look(pass),
+                &"an entry for each call that found memory",
+            )
+        }
+        Step::Is(fact) => stands(told, die, pass, fact),
+    }
+}
+
+/// Plays a table with a pass on its die. The test fails at the first step that the die answers otherwise than it says.
+pub(crate) fn play<N: Nand, R: Wait + Abort>(
     rt: &R,
     alloc: Global,
-    store: &Store<N>,
-    passes: &mut [DiePass<N>],
+    die: &Die<N>,
+    pass: &mut DiePass<N>,
+    table: &str,
     steps: &[Step],
-) -> Option<usize>
-    requires { map (λ pass. pass.lock) passes.old ≡ store.now }
-    ensures { map (λ pass. pass.lock) passes.new ≡ store.now }
+)
+    requires { pass.old.lock ≡ die.now }
+    ensures { pass.new.lock ≡ pass.old.lock }
 {
-    match passes {
-        [pass] => play_nth(rt, alloc, store, 0, pass, steps),
-        _ => Some(0),
-    }
-}
-
-/// What becomes of a store that is to be closed.
-#[derive(Clone, Copy, PartialEq, Eq, Debug, Drop)]
-pub(crate) enum End {
-    /// It is closed: so many dies, and how many entries the first has, and its present slot.
-    Closed(usize, u64, u32),
-    /// It stays open: why, how many dies and passes are handed back, and the number of the first pass.
-    Kept(Refusal, u32, usize, u32),
-}
-
-// What is told of a closed store.
-fn closed<N: Nand>(dies: &[DieCore<N>]) -> Option<End> {
-    let first = dies.first()?;
-    Some(End::Closed(dies.len(), first.len(), first.now()))
-}
-
-// What is told of a store that stays open.
-fn kept<N: Nand>(kept: &StillOpen<N>) -> Option<End> {
-    let first = kept.passes.first()?;
-    Some(End::Kept(
-        kept.refusal,
-        kept.store.dies(),
-        kept.passes.len(),
-        first.number(),
-    ))
-}
-
-// Closes a store, a second time where memory is refused at the first.
-fn close_store<N: Nand, R: Wait>(rt: &R, store: Store<N>, passes: Vec<DiePass<N>>) -> Option<End>
-    requires { map (λ pass. pass.lock) passes.items ≡ store }
-{
-    match close(rt, store, passes) {
-        Ok(dies) => closed(dies.as_slice()),
-        Err(still) => {
-            if still.refusal == Refusal::NoMemory {
-                close_again(rt, still)
-            } else {
-                kept(&still)
-            }
-        }
-    }
-}
-
-// Closes a store that stayed open.
-fn close_again<N: Nand, R: Wait>(rt: &R, still: StillOpen<N>) -> Option<End>
-    requires { map (λ pass. pass.lock) still.passes.items ≡ still.store }
-{
-    match close(rt, still.store, still.passes) {
-        Ok(dies) => closed(dies.as_slice()),
-        Err(still) => kept(&still),
-    }
-}
-
-/// A table's first wrong step, and what becomes of the store that is closed then.
-pub(crate) type Played = (Option<usize>, Option<End>);
-
-// Plays a table on a new store of one die.
-fn play_once<R: Wait>(rt: &R, alloc: Global, steps: &[Step]) -> Result<Played, Refusal> {
-    let (store, mut passes) = one_die(alloc)?;
-    let wrong = play_only(rt, alloc, &store, passes.as_mut_slice(), steps);
-    Ok((wrong, close_store(rt, store, passes)))
-}
-
-/// Plays a table on a new store of one die: its first wrong step, and what becomes of the store that is closed then. Where memory
-/// is refused for the store, another one is made.
-pub(crate) fn play_one<R: Wait>(rt: &R, alloc: Global, steps: &[Step]) -> Result<Played, Refusal> {
-    match play_once(rt, alloc, steps) {
-        Err(Refusal::NoMemory) => play_once(rt, alloc, steps),
-        answer => answer,
+    for place in 0..steps.len() {
+        let told = Told {
+            rt,
+            table,
+            step: place.saturating_add(1),
+        };
+        goes(&told, alloc, die, pass, &steps[place]);
     }
 }

@@ -3,7 +3,7 @@
 ghost use Rattle.std.specs.Prelude.{◌≡◌, ◌≤◌, map, IfOk};
 ghost use Rattle.flash_die.specs.Flash.{IsFresh};
 
-use crate::courses::{Course, WRITE_AND_READ, run_courses};
+use crate::courses::{Course, WRITES_AND_READS, run_courses};
 use crate::feeds::Job;
 use crate::held::{HeldNand, HoldGate, Mark};
 use crate::made::{ONES, faulty_dies, memory, store_of, two_dies};
@@ -12,25 +12,30 @@ use flash_die::{MemoryNand, Nand};
 use slot_core::{DieCore, Outcome};
 use slot_types::{JobNo, Op, Refusal};
 use std::alloc::Global;
+use std::process::Abort;
 use std::sync::{Arc, Wait};
 use std::test::Fail;
 use std::thread::Threads;
 
+const NO_PAGE: RefusedEvent = RefusedEvent {
+    place: 0,
+    refused: RefusedAt {
+        entries: 0,
+        refusal: Refusal::BadPage { page: 12 },
+    },
+};
+
+#[rattlefmt::skip]
+const BAD_AND_LATER: [Job; 2] = [
+    Job { release: 0, due: 2, op: Op::Read(12) },
+    Job { release: 2, due: 3, op: Op::Read(0) },
+];
+
 // Each die with a feed of its own. The second reads a page that it doesn't have, and two slots later one that it has.
+#[rattlefmt::skip]
 const OWN: [Course; 2] = [
-    Course(&WRITE_AND_READ, 2, &[], None),
-    Course(
-        &[Job(0, 2, Op::Read(12)), Job(2, 3, Op::Read(0))],
-        2,
-        &[RefusedEvent {
-            place: 0,
-            refused: RefusedAt {
-                entries: 0,
-                refusal: Refusal::BadPage { page: 12 },
-            },
-        }],
-        None,
-    ),
+    WRITES_AND_READS,
+    Course { jobs: &BAD_AND_LATER, slots: 2, refused: &[NO_PAGE], stop: None },
 ];
 
 // From which slot on job 0 may run.
@@ -41,69 +46,81 @@ fn release_of_first<N: Nand>(core: &DieCore<N>) -> Option<u32> {
     }
 }
 
-// Whether job 0 waits.
-fn first_waits<N: Nand>(alloc: Global, core: &DieCore<N>) -> bool {
-    core.outcome(alloc, JobNo(0)) == Ok(Outcome::Waiting)
+// What a closed die has: its entries, its present slot, and from which slot on job 0 may run, and what became of it.
+#[derive(PartialEq, Debug, Drop)]
+struct Closed {
+    entries: u64,
+    slot: u32,
+    release: Option<u32>,
+    outcome: Result<Outcome, Refusal>,
 }
 
-// Whether a die has three entries, two of them slots, and job 0 waits from slot 2 on.
-fn waits_from_two<N: Nand>(alloc: Global, core: &DieCore<N>) -> bool {
-    core.len() == 3
-        && core.now() == 2
-        && release_of_first(core) == Some(2)
-        && first_waits(alloc, core)
+// Of three entries two are slots, and job 0 waits from slot 2 on.
+const WAITS_FROM_TWO: Closed = Closed {
+    entries: 3,
+    slot: 2,
+    release: Some(2),
+    outcome: Ok(Outcome::Waiting),
+};
+
+fn state_of<N: Nand>(alloc: Global, core: &DieCore<N>) -> Closed {
+    Closed {
+        entries: core.len(),
+        slot: core.now(),
+        release: release_of_first(core),
+        outcome: core.outcome(alloc, JobNo(0)),
+    }
 }
 
-// Whether a store closes, and its second die so.
-fn closes_waiting<N: Nand, R: Wait>(
+// Closes a store, and tells what its second die has.
+fn close_second<N: Nand, R: Wait>(
     rt: &R,
     alloc: Global,
     store: Store<N>,
     passes: Vec<DiePass<N>>,
-) -> bool
+) -> Option<Closed>
     requires { map (λ pass. pass.lock) passes.items ≡ store }
 {
     match close(rt, store, passes) {
         Ok(dies) => match dies.get(1) {
-            Some(core) => waits_from_two(alloc, core),
-            None => false,
+            Some(core) => Some(state_of(alloc, core)),
+            None => None,
         },
-        Err(_) => false,
+        Err(_) => None,
     }
 }
 
-// Whether two dies with feeds of their own end as they have to, and whether the second's later job waits then.
-fn run_own<R: Threads + Wait + Sync>(
+// Runs two dies with feeds of their own, and tells what the second has when the store is closed then.
+fn run_own<R: Threads + Wait + Sync + Abort>(
     rt: &R,
     alloc: Global,
     workers: u32,
-) -> Result<(Result<bool, Refusal>, bool), Refusal>
+) -> Result<Option<Closed>, Refusal>
     requires { (1 ≤ workers) × (workers ≤ 16) }
 {
     let (store, mut passes) = two_dies(alloc)?;
     let ended = run_courses(rt, alloc, &store, &mut passes, &OWN, 2, workers, &FreeGate);
-    Ok((ended, closes_waiting(rt, alloc, store, passes)))
+    let second = close_second(rt, alloc, store, passes);
+    ended?;
+    Ok(second)
 }
 
 #[test]
 fn each_die_runs_its_feed(rt: HostRuntime) -> Result<(), Fail> {
-    assert_eq!(rt; run_own(&rt, rt.alloc(), 1)?, (Ok(true), true));
-    assert_eq!(rt; run_own(&rt, rt.alloc(), 2)?, (Ok(true), true));
+    assert_eq!(rt; run_own(&rt, rt.alloc(), 1)?, Some(WAITS_FROM_TWO));
+    assert_eq!(rt; run_own(&rt, rt.alloc(), 2)?, Some(WAITS_FROM_TWO));
     Ok(())
 }
 
 // Each die with the same feed.
-const SAME: [Course; 2] = [
-    Course(&WRITE_AND_READ, 2, &[], None),
-    Course(&WRITE_AND_READ, 2, &[], None),
-];
+const SAME: [Course; 2] = [WRITES_AND_READS, WRITES_AND_READS];
 
 // Runs two dies, the first of which waits at its gate for the second.
-fn run_held<R: Threads + Wait + Sync>(
+fn run_held<R: Threads + Wait + Sync + Abort>(
     rt: &R,
     alloc: Global,
     gate: &HoldGate,
-) -> Result<bool, Refusal> {
+) -> Result<(), Refusal> {
     let (store, mut passes) = two_dies(alloc)?;
     run_courses(rt, alloc, &store, &mut passes, &SAME, 2, 2, gate)
 }
@@ -111,7 +128,7 @@ fn run_held<R: Threads + Wait + Sync>(
 #[test]
 fn dies_run_at_once(rt: HostRuntime) -> Result<(), Fail> {
     let gate = HoldGate { mark: Mark::new() };
-    assert!(rt; run_held(&rt, rt.alloc(), &gate)?);
+    run_held(&rt, rt.alloc(), &gate)?;
     assert!(rt; gate.mark.was_met());
     Ok(())
 }
@@ -128,15 +145,15 @@ fn held(
     Ok(HeldNand::new(memory(alloc)?, waits, Arc::try_clone(mark)?))
 }
 
-// Runs two dies with these devices, and says whether each ended as its course says.
-fn run_on<N: Nand + Send, R: Threads + Wait + Sync>(
+// Runs two dies with these devices and these courses.
+fn run_on<N: Nand + Send, R: Threads + Wait + Sync + Abort>(
     rt: &R,
     alloc: Global,
     first: N,
     second: N,
     courses: &[Course; 2],
     slots: u32,
-) -> Result<bool, Refusal>
+) -> Result<(), Refusal>
     requires first { IsFresh (N.shape_of first) (N.blocks first) (N.failures first) }
     requires second { IsFresh (N.shape_of second) (N.blocks second) (N.failures second) }
 {
@@ -145,11 +162,11 @@ fn run_on<N: Nand + Send, R: Threads + Wait + Sync>(
 }
 
 // Runs two dies, the device of the first of which waits in the die's turn for that of the second.
-fn run_apart<R: Threads + Wait + Sync>(
+fn run_apart<R: Threads + Wait + Sync + Abort>(
     rt: &R,
     alloc: Global,
     mark: &Arc<Mark, Global>,
-) -> Result<bool, Refusal> {
+) -> Result<(), Refusal> {
     let waiting = held(alloc, true, mark)?;
     run_on(rt, alloc, waiting, held(alloc, false, mark)?, &SAME, 2)
 }
@@ -157,31 +174,38 @@ fn run_apart<R: Threads + Wait + Sync>(
 #[test]
 fn turns_are_apart(rt: HostRuntime) -> Result<(), Fail> {
     let mark = Arc::new(rt.alloc(), Mark::new())?;
-    assert!(rt; run_apart(&rt, rt.alloc(), &mark)?);
+    run_apart(&rt, rt.alloc(), &mark)?;
     assert!(rt; mark.was_met());
     Ok(())
 }
 
+#[rattlefmt::skip]
+const TWO_WRITES: [Job; 2] = [
+    Job { release: 0, due: 5, op: Op::Write(3, ONES) },
+    Job { release: 0, due: 6, op: Op::Write(4, ONES) },
+];
+
+#[rattlefmt::skip]
+const ONE_WRITE: [Job; 1] = [Job { release: 0, due: 5, op: Op::Write(0, ONES) }];
+
+const FAULT: RefusedAt = RefusedAt {
+    entries: 3,
+    refusal: Refusal::DeviceFault,
+};
+
 // Two writes at once, of which a die whose device fails at the second carries out the first, and a write on the other die.
+#[rattlefmt::skip]
 const FAULTY: [Course; 2] = [
-    Course(
-        &[Job(0, 5, Op::Write(3, ONES)), Job(0, 6, Op::Write(4, ONES))],
-        1,
-        &[],
-        Some(RefusedAt {
-            entries: 3,
-            refusal: Refusal::DeviceFault,
-        }),
-    ),
-    Course(&[Job(0, 5, Op::Write(0, ONES))], 3, &[], None),
+    Course { jobs: &TWO_WRITES, slots: 1, refused: &[], stop: Some(FAULT) },
+    Course { jobs: &ONE_WRITE, slots: 3, refused: &[], stop: None },
 ];
 
 // Runs two dies, the device of the first of which fails from its second call on.
-fn run_faulty<R: Threads + Wait + Sync>(
+fn run_faulty<R: Threads + Wait + Sync + Abort>(
     rt: &R,
     alloc: Global,
     workers: u32,
-) -> Result<bool, Refusal>
+) -> Result<(), Refusal>
     requires { (1 ≤ workers) × (workers ≤ 16) }
 {
     let (store, mut passes) = faulty_dies(alloc)?;
@@ -199,7 +223,7 @@ fn run_faulty<R: Threads + Wait + Sync>(
 
 #[test]
 fn a_fault_ends_one_die_alone(rt: HostRuntime) -> Result<(), Fail> {
-    assert!(rt; run_faulty(&rt, rt.alloc(), 1)?);
-    assert!(rt; run_faulty(&rt, rt.alloc(), 2)?);
+    run_faulty(&rt, rt.alloc(), 1)?;
+    run_faulty(&rt, rt.alloc(), 2)?;
     Ok(())
 }

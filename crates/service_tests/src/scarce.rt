@@ -2,15 +2,18 @@
 
 ghost use Rattle.std.specs.Prelude.{◌≡◌, ◌≤◌, map};
 
+use crate::again::{carry_once, submit_once};
+use crate::closing::{End, play_one};
 use crate::courses::{WRITE_AND_READ, run};
+use crate::dies::play_both;
 use crate::feeds::both;
 use crate::made::two_dies;
-use crate::played::{End, play_both, play_one};
-use crate::steps::{Step, carry_once, submit_once};
+use crate::steps::{Fact, Step};
 use die_service::{Die, DieEnd, DieEnds, DiePass, FreeGate, Store};
 use flash_die::Nand;
 use slot_types::{Op, Refusal};
 use std::alloc::Global;
+use std::process::Abort;
 use std::sync::Wait;
 use std::thread::Threads;
 
@@ -65,9 +68,9 @@ pub(crate) fn grows_or_stays<N: Nand, R: Wait>(
 }
 
 // Whether a store of one die grows or stays, and closes with that die, at the second time where memory is refused.
-fn grows_and_closes<R: Wait>(rt: &R, alloc: Global) -> Result<bool, Refusal> {
+fn grows_and_closes<R: Wait + Abort>(rt: &R, alloc: Global) -> Result<bool, Refusal> {
     match play_one(rt, alloc, &[Step::Grows])? {
-        (None, Some(End::Closed(dies, _, _))) => Ok(dies == 1),
+        Some(End::Closed { dies, .. }) => Ok(dies == 1),
         _ => Ok(false),
     }
 }
@@ -119,8 +122,10 @@ fn run_fed<N: Nand + Send, R: Threads + Wait + Sync>(
     run(rt, store, passes, feeds, 2, workers, &FreeGate)
 }
 
+const UNTOUCHED: &[Step] = &[Step::Is(Fact::Entries { count: 0 })];
+
 // Runs a store once, and says whether it ended right, or found no memory and asked nothing.
-fn runs_or_asks_nothing<N: Nand + Send, R: Threads + Wait + Sync>(
+fn runs_or_asks_nothing<N: Nand + Send, R: Threads + Wait + Sync + Abort>(
     rt: &R,
     alloc: Global,
     store: &Store<N>,
@@ -133,22 +138,21 @@ fn runs_or_asks_nothing<N: Nand + Send, R: Threads + Wait + Sync>(
     match run_fed(rt, alloc, store, passes, workers) {
         Ok(ends) => Ok(are_right(ends.as_slice())),
         Err(refusal) => {
-            let untouched = [Step::Look(0)];
-            let seen = play_both(
+            play_both(
                 rt,
                 alloc,
                 store,
                 passes.as_mut_slice(),
-                &untouched,
-                &untouched,
-            );
-            Ok(refusal == Refusal::NoMemory && seen == Some([None, None]))
+                UNTOUCHED,
+                UNTOUCHED,
+            )?;
+            Ok(refusal == Refusal::NoMemory)
         }
     }
 }
 
 // Makes two dies, and runs them so.
-fn run_scarce<R: Threads + Wait + Sync>(
+fn run_scarce<R: Threads + Wait + Sync + Abort>(
     rt: &R,
     alloc: Global,
     workers: u32,

@@ -1,38 +1,51 @@
 //! Worked rows: dies of 8 blocks behind their turns.
 
+use crate::closing::{End, play_one};
+use crate::dies::play_both;
 use crate::made::{ONES, TWOS, faulty_dies};
-use crate::played::{End, play_both, play_one};
-use crate::steps::{Step, Told};
+use crate::steps::Fact::{Certified, Done, Entries, Now, Out, Read, Waiting, Worst};
+use crate::steps::Step::{HandOver, Is, LetGo, Slot, Submit};
+use crate::steps::{Bounds, Step};
 use die_service::RefusedAt;
 use slot_types::{Op, Refusal};
 use std::alloc::Global;
+use std::process::Abort;
 use std::sync::Wait;
 use std::test::Fail;
 
 // The first pass of a die writes, and the second, which takes it in, reads.
-const JOINED: [Step; 8] = [
-    Step::HandOver(0, 5, Op::Write(3, TWOS), 0),
-    Step::Look(2),
-    Step::Submit(1, 6, Op::Read(3), Ok(1)),
-    Step::Slot(Ok(Some(1))),
-    Step::Outcome(1, Told::Read(TWOS)),
-    Step::Certificate(0, 0, 5, 1),
-    Step::Now(2),
-    Step::Out(0),
+#[rattlefmt::skip]
+const JOINED: &[Step] = &[
+    HandOver { release: 0, due: 5, op: Op::Write(3, TWOS), job: 0 },
+    Is(Entries { count: 2 }),
+    Submit { release: 1, due: 6, op: Op::Read(3), want: Ok(1) },
+    Slot { want: Ok(Some(1)) },
+    Is(Read { job: 1, page: TWOS }),
+    Is(Certified(Bounds { job: 0, start: 0, due: 5, completion: 1 })),
+    Is(Now { slot: 2 }),
+    Is(Out { passes: 0 }),
 ];
 
 #[test]
 fn a_joined_pass_goes_on_behind_both(rt: HostRuntime) -> Result<(), Fail> {
-    let played = play_one(&rt, rt.alloc(), &JOINED)?;
-    assert_eq!(rt; played, (None, Some(End::Closed(1, 4, 2))));
+    let closed = End::Closed {
+        dies: 1,
+        entries: 4,
+        slot: 2,
+    };
+    assert_eq!(rt; play_one(&rt, rt.alloc(), JOINED)?, Some(closed));
     Ok(())
 }
 
 #[test]
 fn a_store_stays_open_while_a_pass_is_out(rt: HostRuntime) -> Result<(), Fail> {
-    let played = play_one(&rt, rt.alloc(), &[Step::LetGo])?;
-    let out = End::Kept(Refusal::PassesOut { out: 1 }, 1, 1, 1);
-    assert_eq!(rt; played, (None, Some(out)));
+    let kept = End::Kept {
+        refusal: Refusal::PassesOut { out: 1 },
+        dies: 1,
+        passes: 1,
+        first: 1,
+    };
+    assert_eq!(rt; play_one(&rt, rt.alloc(), &[LetGo])?, Some(kept));
     Ok(())
 }
 
@@ -48,29 +61,31 @@ const STOPPED: RefusedAt = RefusedAt {
 };
 
 // What a die does whose device fails at the second write: it stops, and tells of the first.
-const STOP: [Step; 9] = [
-    Step::Submit(0, 5, Op::Write(3, ONES), Ok(0)),
-    Step::Submit(0, 6, Op::Write(4, ONES), Ok(1)),
-    Step::Slot(Ok(Some(0))),
-    Step::Slot(Err(FAULT)),
-    Step::Submit(1, 6, Op::Read(3), Err(Refusal::DieStopped)),
-    Step::Slot(Err(STOPPED)),
-    Step::Outcome(0, Told::Done(1, -4)),
-    Step::Outcome(1, Told::Waits),
-    Step::Worst(0, -4),
+#[rattlefmt::skip]
+const STOP: &[Step] = &[
+    Submit { release: 0, due: 5, op: Op::Write(3, ONES), want: Ok(0) },
+    Submit { release: 0, due: 6, op: Op::Write(4, ONES), want: Ok(1) },
+    Slot { want: Ok(Some(0)) },
+    Slot { want: Err(FAULT) },
+    Submit { release: 1, due: 6, op: Op::Read(3), want: Err(Refusal::DieStopped) },
+    Slot { want: Err(STOPPED) },
+    Is(Done { job: 0, completion: 1, lateness: -4 }),
+    Is(Waiting { job: 1 }),
+    Is(Worst { job: 0, lateness: -4 }),
 ];
 
 // What the other die does.
-const GO_ON: [Step; 2] = [
-    Step::Submit(0, 5, Op::Write(0, ONES), Ok(0)),
-    Step::Slot(Ok(Some(0))),
+#[rattlefmt::skip]
+const GO_ON: &[Step] = &[
+    Submit { release: 0, due: 5, op: Op::Write(0, ONES), want: Ok(0) },
+    Slot { want: Ok(Some(0)) },
 ];
 
-// What is wrong of either table on two dies, the device of the first of which fails, and whether there is no third.
-fn stop_one<R: Wait>(rt: &R, alloc: Global) -> Result<(Option<[Option<usize>; 2]>, bool), Refusal> {
+// Plays a table on each of two dies, the device of the first of which fails, and tells whether there is no third.
+fn stop_one<R: Wait + Abort>(rt: &R, alloc: Global) -> Result<bool, Refusal> {
     let (store, mut passes) = faulty_dies(alloc)?;
-    let wrong = play_both(rt, alloc, &store, passes.as_mut_slice(), &STOP, &GO_ON);
-    Ok((wrong, store.die(2).is_err()))
+    play_both(rt, alloc, &store, passes.as_mut_slice(), STOP, GO_ON)?;
+    Ok(store.die(2).is_err())
 }
 
 #[test]
@@ -79,12 +94,10 @@ fn a_fault_stops_one_die_alone(rt: HostRuntime) -> Result<(), Fail> {
         Err(Refusal::NoMemory) => stop_one(&rt, rt.alloc()),
         answer => answer,
     };
-    let (wrong, has_no_third) = stopped?;
     assert_eq!(rt;
-        wrong,
-        Some([None, None]),
-        "the first wrong step of either die"
+        stopped,
+        Ok(true),
+        "two dies are played, and there is no third"
     );
-    assert!(rt; has_no_third);
     Ok(())
 }
