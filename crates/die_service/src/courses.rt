@@ -14,7 +14,7 @@ use std::alloc::Global;
 use std::marker::Model;
 
 /// A feed, the events of which come one after the other, with room for the operations of one and to note each that is
-/// refused. So no event takes memory, and none is given back before the run ends.
+/// refused. So no event takes memory, and none is given back before the run of its die ends.
 #[derive(Drop)]
 pub(crate) struct Course {
     feed: Feed,
@@ -37,7 +37,7 @@ impl Model for Course {
 
     ghost invariant = { λ c.
         AllArrive c.feed × HaveAtMost (vec_capacity c.ops) c.feed
-        × (length c.refused.items ≤ c.place) × (c.place ≤ length c.feed) × (length c.feed ≤ vec_capacity c.refused) };
+        × (length c.refused.items ≤ c.place) × (c.place ≤ vec_capacity c.refused) × (length c.feed ≤ vec_capacity c.refused) };
 }
 
 impl Course {
@@ -90,6 +90,15 @@ impl Course {
             place: self.place - 1,
             refused,
         });
+    }
+
+    /// Lets the feed go, and the room for operations. The events that were refused stay.
+    pub(crate) fn end(&mut self, alloc: Global)
+        ensures gone { self.new.rest ≡ [] }
+        ensures refused { self.new.refused ≡ self.old.refused }
+    {
+        self.feed = Feed::new(alloc);
+        self.ops = Vec::new(alloc);
     }
 
     /// The events that were refused.

@@ -10,6 +10,7 @@ use crate::ends::DieEnd;
 use crate::gate::Gate;
 use crate::refused::RefusedAt;
 use flash_die::Nand;
+use std::alloc::Global;
 use std::marker::Model;
 use std::sync::Wait;
 
@@ -126,8 +127,26 @@ impl<'a, N: Nand> Driver<'a, N> {
         }
     }
 
+    /// Asks for so many slots, and before each for the events that come by it. Then the feed is let go, so that the dies that
+    /// run later find its memory.
+    pub(crate) fn run<G: Gate, R: Wait>(
+        &mut self,
+        rt: &R,
+        alloc: Global,
+        gate: &G,
+        number: u32,
+        slots: u32,
+    )
+        requires { IsFirst self.old }
+        ensures ran { Drives N.never_fails slots self.old self.new }
+        ensures gone { self.new.course.rest ≡ [] }
+    {
+        self.drive(rt, gate, number, slots);
+        self.course.end(alloc);
+    }
+
     /// Asks for so many slots, and before each for the events that come by it.
-    pub(crate) fn drive<G: Gate, R: Wait>(&mut self, rt: &R, gate: &G, number: u32, slots: u32)
+    fn drive<G: Gate, R: Wait>(&mut self, rt: &R, gate: &G, number: u32, slots: u32)
         requires { IsFirst self.old }
         ensures { Drives N.never_fails slots self.old self.new }
     {

@@ -20,6 +20,7 @@ mod drivers;
 pub mod ends;
 pub mod feeds;
 pub mod gate;
+mod op_words;
 mod packed_ops;
 pub mod promised;
 pub mod queries;

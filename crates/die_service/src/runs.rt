@@ -129,7 +129,7 @@ pub fn run_slots<N: Nand + Send, G: Gate + Sync, R: Threads + Wait + Sync>(
     let drive = |die: usize, driver: &mut Driver<'_, N>|
         requires { (die < 4294967296) × IsFirst driver.now }
         ensures { Drives N.never_fails slots driver.entry.now driver.exit.now }
-    { driver.drive(rt, gate, die as u32, slots) };
+    { driver.run(rt, alloc, gate, die as u32, slots) };
     thread::for_each_mut(rt, drivers.as_mut_slice(), workers as usize, &drive);
     Ok(into_ends(drivers, ends, passes))
 }
