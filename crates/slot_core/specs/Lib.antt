@@ -11,5 +11,6 @@ pub mod Runs
 pub mod Events
 pub mod Turns
 pub mod Outcomes
+pub mod Summaries
 pub mod Rowed
 pub mod Planned

@@ -12,6 +12,7 @@ pub mod outcomes;
 pub mod runs;
 pub mod slot_note;
 pub mod slots;
+pub mod summaries;
 pub mod turn;
 mod turns;
 
@@ -20,3 +21,4 @@ pub use events::{EventHead, ReplyNote};
 pub use outcomes::{JobHead, Outcome, Worst};
 pub use runs::Replies;
 pub use slot_note::SlotNote;
+pub use summaries::JobSummary;

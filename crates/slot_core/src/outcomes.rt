@@ -53,7 +53,7 @@ pub struct Worst {
 }
 
 /// What became of a job, with a copy of what its reads gave.
-fn outcome_in(alloc: Global, job: &Job) -> Result<Outcome, Refusal>
+pub(crate) fn outcome_in(alloc: Global, job: &Job) -> Result<Outcome, Refusal>
     ensures ok { IfOk result (λ outcome. outcome ≡ outcome_in job.now) }
     ensures refused { IfErr result (λ refusal. refusal ≡ Refusal.NoMemory) }
     ensures undone { is_done job.now.stage ≡ false → IsOk result }
@@ -74,7 +74,7 @@ fn outcome_in(alloc: Global, job: &Job) -> Result<Outcome, Refusal>
 }
 
 /// What a job was accepted with.
-fn head_in(job: &Job) -> JobHead
+pub(crate) fn head_in(job: &Job) -> JobHead
     ensures { result ≡ head_in job.now }
 {
     JobHead {

@@ -36,7 +36,7 @@ use Rattle.script_texts.specs.Arrivals.{Arrives}
 use Rattle.script_texts.specs.declared.script_rows.ScriptItem.{ScriptItem}
 use Rattle.report_texts.specs.ReportText.{report_text}
 use Rattle.report_texts.specs.declared.reports.DieReport.{DieReport}
-use Rattle.task_script.specs.DieReports.{row_as, report_row_of}
+use Rattle.task_script.specs.DieReports.{row_by, report_row_of}
 use Rattle.task_script.specs.DieRuns.{Call, Row, Slot, DieRun, Accepts, Ends, IsRun, Runs, end_of, fresh_run}
 use Rattle.task_script.specs.Feeds.{AllArrive, AreFeedsOf, feed_of}
 use Rattle.task_script.specs.PlannedRuns.{event_of, events_of, KeepsItsPlan, IsOnTime, AreTakenUntilMemory, GoesAsPlanned, AreAsPlanned}
@@ -134,7 +134,7 @@ entered_from plan before after (Row item ∷ calls) arrive h = (h.0.log, by_end 
 
 row_on_time : (number : ℕ) (head : JobHead) (took : ℕ) (waiver : Option Waived) (done : Bool) (completion : ℕ) (lateness : ℤ) (given : ℕ)
     (reads : List PageData)
-    → (done ≡ true → lateness ≤ℤ pos 0) → IsOnTime (row_as number head took (outcome_by waiver done completion lateness given reads))
+    → (done ≡ true → lateness ≤ℤ pos 0) → IsOnTime (row_by number head took (outcome_by waiver done completion lateness given reads))
 row_on_time number head took (Some w) done completion lateness given reads h = tt
 row_on_time number head took None true completion lateness given reads h = h refl
 row_on_time number head took None false completion lateness given reads h = tt

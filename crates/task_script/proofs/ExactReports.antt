@@ -29,7 +29,7 @@ use Rattle.report_texts.specs.declared.reports.DieReport.{DieReport}
 use Rattle.report_texts.specs.declared.reports.ReportRow.{ReportRow}
 use Rattle.report_texts.proofs.RowsBack.{HasNumbers}
 use Rattle.task_script.specs.LogPages.{HasPages}
-use Rattle.task_script.specs.DieReports.{die_report_of, report_row_of, report_rows_of, row_as}
+use Rattle.task_script.specs.DieReports.{die_report_of, report_row_of, report_rows_of, row_by}
 use Rattle.task_script.specs.DieRuns.{DieRun}
 use Rattle.task_script.specs.ExactRuns.{AreExact}
 use Rattle.task_script.specs.TextRuns.{reports_from}
@@ -72,7 +72,7 @@ head_with collects task release due = record { collects = collects; task = task;
 
 abbrev row_with : Bool → ℕ → ℕ → ℕ → ℕ → ℕ → Option Waived → Bool → ℕ → ℕ → List PageData → ReportRow
 row_with collects n task release due took waiver done completion given reads =
-    row_as n (head_with collects task release due) took (outcome_by waiver done completion (lateness_of completion due) given reads)
+    row_by n (head_with collects task release due) took (outcome_by waiver done completion (lateness_of completion due) given reads)
 
 done_row : (row : ReportRow) (n : ℕ) → n ≤ 1048576 → 1 ≤ row.work → row.lateness ≡ Some (lateness_of n row.due) → is_done_row row n ≡ true
 done_row row n few worked late =

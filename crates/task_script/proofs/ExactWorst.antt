@@ -35,7 +35,7 @@ use Rattle.report_texts.specs.WellFormed.{HasCert, IsCert}
 use Rattle.report_texts.specs.Worst.{finish_of, worse, worst_from, worst_of}
 use Rattle.report_texts.specs.Worst as report
 use Rattle.report_texts.specs.declared.report_certs.Finish.{Finish}
-use Rattle.task_script.specs.DieReports.{report_row_of, report_rows_of, row_as}
+use Rattle.task_script.specs.DieReports.{report_row_of, report_rows_of, row_by}
 use Rattle.task_script.proofs.ExactNumbers.{completed_by_now, done_worked}
 
 -- What is done
@@ -61,7 +61,7 @@ finish_in log j = record { job = j.number; due = j.due; completion = completion 
 
 finish_by : (n took : ℕ) (h : JobHead) (o : Option Waived) (done : Bool) (c : ℕ) (l : ℤ) (g : ℕ) (rs : List PageData)
     → (done ≡ true → is_some o ≡ false)
-    → finish_of (row_as n h took (outcome_by o done c l g rs)) ≡ cond done (Some (record { job = n; due = h.due; completion = c })) None
+    → finish_of (row_by n h took (outcome_by o done c l g rs)) ≡ cond done (Some (record { job = n; due = h.due; completion = c })) None
 finish_by n took h (Some w) true c l g rs apart = absurd (true≢false (apart refl))
 finish_by n took h (Some w) false c l g rs apart = refl
 finish_by n took h None true c l g rs apart = refl

@@ -1,14 +1,14 @@
 -- The report of a die, read off its log.
-use Rattle.std.specs.Prelude.{ℕ, ℤ, Bool, true, false, List, [], ◌∷◌, map, Option, Some, None}
+use Rattle.std.specs.Prelude.{ℕ, ℤ, Bool, true, false, List, [], map, Option, Some, None}
 use Rattle.slot_types.specs.declared.plans.DiePlan.{DiePlan}
 use Rattle.slot_types.specs.declared.pages.PageData.{PageData}
-use Rattle.late_cert.specs.declared.rows.JobRow.{JobRow}
-use Rattle.die_log.specs.Log.{Log, Job, jobs, work}
+use Rattle.die_log.specs.Log.{Log, Job, jobs}
 use Rattle.die_log.specs.Rows.{certificate}
 use Rattle.slot_core.specs.declared.outcomes.JobHead.{JobHead}
 use Rattle.slot_core.specs.declared.outcomes.Outcome.{Outcome}
 use Rattle.slot_core.specs.declared.outcomes.Outcome.TheVariants as outcomes
-use Rattle.slot_core.specs.Outcomes.{outcome_of, head_of}
+use Rattle.slot_core.specs.declared.summaries.JobSummary.{JobSummary}
+use Rattle.slot_core.specs.Summaries.{summary_of}
 use Rattle.report_texts.specs.declared.reports.DieReport.{DieReport}
 use Rattle.report_texts.specs.declared.reports.ReportRow.{ReportRow}
 use Rattle.report_texts.specs.declared.reports.RowKind.{RowKind}
@@ -39,15 +39,18 @@ row_from row number head took completion lateness given reads = record {
 
 -- the row of a number, by what it was accepted with, the slots that it took and what became of it: a waiting one has
 -- neither completion nor lateness, and a waived one took no slot
-abbrev pub row_as : ℕ → JobHead → ℕ → Outcome → ReportRow
-row_as number head took outcomes.Waiting = row_from (kind_of head.collects) number head took None None None []
-row_as number head took (outcomes.Done completion lateness given reads) =
+abbrev pub row_by : ℕ → JobHead → ℕ → Outcome → ReportRow
+row_by number head took outcomes.Waiting = row_from (kind_of head.collects) number head took None None None []
+row_by number head took (outcomes.Done completion lateness given reads) =
     row_from (kind_of head.collects) number head took (Some completion) (Some lateness) (given_by head.collects given) reads
-row_as number head took (outcomes.Waived given) = row_from kind.Waived number head 0 None None (Some given) []
+row_by number head took (outcomes.Waived given) = row_from kind.Waived number head 0 None None (Some given) []
+
+abbrev pub row_as : ℕ → JobSummary → ReportRow
+row_as number summary = row_by number summary.head summary.work summary.outcome
 
 -- the row of a job or collection of a log
 abbrev pub report_row_of : DiePlan → Log → Job → ReportRow
-report_row_of plan log j = row_as j.number (head_of j) (work j.number log) (outcome_of plan log j)
+report_row_of plan log j = row_as j.number (summary_of plan log j)
 
 -- the rows of all, by number
 abbrev pub report_rows_of : DiePlan → Log → List ReportRow
@@ -56,23 +59,3 @@ report_rows_of plan log = map (report_row_of plan log) (jobs log)
 -- the report of the die of this number, whose log this is: all rows, and the certificate of the worst
 abbrev pub die_report_of : DiePlan → Log → ℕ → DieReport
 die_report_of plan log die = record { die = die; rows = report_rows_of plan log; cert = certificate plan log }
-
--- Along the rows of work, of which a waived collection has none
-
-abbrev pub first_work : List JobRow → ℕ
-first_work [] = 0
-first_work (row ∷ rest) = row.work
-
-abbrev pub own_work : Outcome → List JobRow → ℕ
-own_work outcomes.Waiting rest = first_work rest
-own_work (outcomes.Done completion lateness given reads) rest = first_work rest
-own_work (outcomes.Waived given) rest = 0
-
-abbrev pub rest_of : List JobRow → List JobRow
-rest_of [] = []
-rest_of (row ∷ rest) = rest
-
-abbrev pub rows_behind : Outcome → List JobRow → List JobRow
-rows_behind outcomes.Waiting rest = rest_of rest
-rows_behind (outcomes.Done completion lateness given reads) rest = rest_of rest
-rows_behind (outcomes.Waived given) rest = rest

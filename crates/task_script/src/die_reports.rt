@@ -1,14 +1,12 @@
 //! The report of a die.
 
-ghost use Rattle.std.specs.Prelude.{◌≡◌, IfOk, IfErr, Some, None};
-ghost use Rattle.die_log.specs.Rows.{rows};
-ghost use Rattle.task_script.specs.DieReports.{die_report_of, report_rows_of, row_as, kind_of, given_by, own_work, rows_behind};
+ghost use Rattle.std.specs.Prelude.{◌≡◌, IfOk, IfErr};
+ghost use Rattle.task_script.specs.DieReports.{die_report_of, report_rows_of, row_as, kind_of, given_by};
 
 use die_log::exact_keeps_limits;
 use flash_die::Nand;
-use late_cert::JobRow;
 use report_texts::{DieReport, ReportRow, ReportRows, RowKind};
-use slot_core::{DieCore, JobHead, Outcome};
+use slot_core::{DieCore, JobSummary, Outcome};
 use slot_types::{JobNo, MAX_JOBS, Reads, Refusal};
 use std::alloc::Global;
 
@@ -30,10 +28,15 @@ fn given_by(collects: bool, given: u32) -> Option<u32>
     if collects { Some(given) } else { None }
 }
 
-/// The row of a number, by what it was accepted with, the slots that it took and what became of it.
-fn row_as(alloc: Global, job: JobNo, head: JobHead, took: u32, outcome: Outcome) -> ReportRow
-    ensures { result ≡ row_as job head took outcome }
+/// The row of a number, whose job or collection is this in short.
+fn row_as(alloc: Global, job: JobNo, summary: JobSummary) -> ReportRow
+    ensures { result ≡ row_as job summary }
 {
+    let JobSummary {
+        head,
+        work: took,
+        outcome,
+    } = summary;
     let kind = kind_of(head.collects);
     let (row, work, completion, lateness, given, reads) = match outcome {
         Outcome::Waiting => (kind, took, None, None, None, Reads::new(alloc)),
@@ -73,46 +76,21 @@ fn row_as(alloc: Global, job: JobNo, head: JobHead, took: u32, outcome: Outcome)
     }
 }
 
-/// The slots that a job or collection took, whose row of work is the first of these, and the rows behind it. A waived
-/// collection took none, and has no row there.
-fn take_work<'a>(outcome: &Outcome, rest: &'a [JobRow]) -> (u32, &'a [JobRow])
-    ensures work { result.0 ≡ own_work outcome.now rest.now }
-    ensures rest { result.1.now ≡ rows_behind outcome.now rest.now }
-{
-    if let Outcome::Waived { .. } = outcome {
-        return (0, rest);
-    }
-    match rest.split_first() {
-        Some((row, later)) => (row.work, later),
-        None => (0, rest),
-    }
-}
-
-/// The rows of all jobs and collections of a die, by number, with the rows of their work.
-fn report_rows<N: Nand>(
-    alloc: Global,
-    core: &DieCore<N>,
-    works: &[JobRow],
-) -> Result<ReportRows, Refusal>
-    requires works { works.now ≡ rows core.now.plan core.now.log }
+/// The rows of all jobs and collections of a die, by number.
+fn report_rows<N: Nand>(alloc: Global, core: &DieCore<N>) -> Result<ReportRows, Refusal>
     ensures ok { IfOk result (λ made. made ≡ report_rows_of core.now.plan core.now.log) }
     ensures refused { IfErr result (λ refusal. refusal ≡ Refusal.NoMemory) }
 {
     core.promises();
     exact_keeps_limits();
     let mut made = ReportRows::new(alloc);
-    let mut rest = works;
     for number in 0..MAX_JOBS {
         let job = JobNo(number);
-        let Ok(head) = core.job(job) else {
-            return Ok(made);
-        };
-        let Ok(outcome) = core.outcome(alloc, job) else {
-            return Err(Refusal::NoMemory);
-        };
-        let (took, later) = take_work(&outcome, rest);
-        made.push(row_as(alloc, job, head, took, outcome))?;
-        rest = later;
+        match core.summary(alloc, job) {
+            Ok(summary) => made.push(row_as(alloc, job, summary))?,
+            Err(Refusal::UnknownJob) => return Ok(made),
+            Err(_) => return Err(Refusal::NoMemory),
+        }
     }
     Ok(made)
 }
@@ -126,8 +104,7 @@ pub fn die_report<N: Nand>(alloc: Global, die: u32, core: &DieCore<N>) -> Result
     ensures ok { IfOk result (λ report. report ≡ die_report_of core.now.plan core.now.log die) }
     ensures refused { IfErr result (λ refusal. refusal ≡ Refusal.NoMemory) }
 {
-    let works = core.rows(alloc)?;
-    let rows = report_rows(alloc, core, works.as_slice())?;
+    let rows = report_rows(alloc, core)?;
     let cert = core.certificate(alloc)?;
     Ok(DieReport { die, rows, cert })
 }

@@ -1,0 +1,19 @@
+-- The jobs and collections of a log in short.
+use Rattle.std.specs.Prelude.{ℕ, Option, option_map}
+use Rattle.slot_types.specs.declared.plans.DiePlan.{DiePlan}
+use Rattle.job_table.specs.Jobs.{JobRecord}
+use Rattle.die_log.specs.Log.{Log, Job, job_at, work}
+use Rattle.slot_core.specs.declared.summaries.JobSummary.{JobSummary}
+use Rattle.slot_core.specs.Outcomes.{outcome_of, outcome_in, head_of, head_in}
+
+-- what a job or collection of the log was accepted with, how many slots it took, and what became of it
+abbrev pub summary_of : DiePlan → Log → Job → JobSummary
+summary_of plan log j = record { head = head_of j; work = work j.number log; outcome = outcome_of plan log j }
+
+-- of this number, if there is one
+abbrev pub summary_at : DiePlan → Log → ℕ → Option JobSummary
+summary_at plan log number = option_map (summary_of plan log) (job_at log number)
+
+-- by a table's record of it
+abbrev pub summary_in : JobRecord → JobSummary
+summary_in r = record { head = head_in r; work = r.work; outcome = outcome_in r }
