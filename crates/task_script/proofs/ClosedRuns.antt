@@ -28,7 +28,8 @@ use Rattle.task_script.specs.DieRuns.{IsRun, Runs, run_at}
 use Rattle.task_script.specs.DieRuns as script
 use Rattle.task_script.specs.RowEnds.{arrivals_of, lines_of, ends_from}
 use Rattle.task_script.specs.StoreRuns.{RanFeed}
-use Rattle.task_script.proofs.Transcripts.{AreTold, said_log, told_accepted, own_of_log, front_own}
+use Rattle.die_service.proofs.Transcripts.{said_log, told_accepted, own_of_log, front_own}
+use Rattle.task_script.proofs.Transcripts.{AreTold}
 use Rattle.task_script.proofs.FeedRuns.{slots_run, slots_stop}
 
 by_log : (plan : DiePlan) (past : Log) (event : Event) (refusal : Refusal) → MayRefuse true plan past event refusal

@@ -32,7 +32,8 @@ use Rattle.task_script.specs.declared.run_counts.RowEnd.{RowEnd}
 use Rattle.task_script.specs.DieRuns.{Call, Row, Slot, DieRun, Accepts, Ends, Runs, run_at, end_of, is_due, due_by, later_than, calls_from}
 use Rattle.task_script.specs.RowEnds.{arrival_of, arrivals_of, lines_of, row_end, ends_from}
 use Rattle.task_script.proofs.Calling.{ran_more, slot_counted, slot_refused}
-use Rattle.task_script.proofs.Transcripts.{AreTold, said_log, said_accepted, said_refused}
+use Rattle.die_service.proofs.Transcripts.{said_log, said_accepted, said_refused}
+use Rattle.task_script.proofs.Transcripts.{AreTold}
 
 -- The rows that come by a slot are the events that do
 

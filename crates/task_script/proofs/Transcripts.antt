@@ -1,45 +1,13 @@
 -- What a die behind its lock said to the calls of a run is what a die says to its rows and slots.
-use Rattle.std.proofs.Common.{◌≡◌, ℕ, zero, suc, ◌+◌, ◌==◌, Bool, true, false, cond, List, [], ◌∷◌, ◌++◌, refl, ap, sym, ◌∙◌, subst, map}
-use Rattle.std.proofs.Common.{filter, reverse, take, append_assoc, arith, Ok, Err}
-use Rattle.std.proofs.lemmas.Bool.{eq-eqb, false≢true}
-use Rattle.std.proofs.lemmas.List.{map-append, reverse-append, reverse-reverse}
-use Rattle.std.proofs.lemmas.List.Elements.{filter-append}
+use Rattle.std.proofs.Common.{◌≡◌, List, ◌∷◌, ◌++◌, Ok, Err}
 use Rattle.slot_types.specs.declared.plans.DiePlan.{DiePlan}
 use Rattle.slot_types.specs.declared.events.Event.{Event}
 use Rattle.slot_types.specs.declared.replies.Reply.{Reply}
-use Rattle.turn_lock.specs.Log.{entry, calls_by, AllBy}
-use Rattle.die_log.specs.Log.{Log}
-use Rattle.die_log.specs.Answers.{answer, IsAccepted, IsExact}
-use Rattle.slot_core.specs.Core.{with_entry}
+use Rattle.die_log.specs.Answers.{answer, IsAccepted}
 use Rattle.slot_core.specs.Calls.{RefusedBy}
 use Rattle.die_service.specs.declared.refused.RefusedAt.{RefusedAt}
-use Rattle.die_service.specs.Logs.{Call, entry_of, log_of, call_of, calls_of}
-use Rattle.die_service.specs.Runs.{Said, said, accepted_by, was_accepted}
-
--- The log of the calls that were accepted
-
-abbrev pub said_log : List Said → Log
-said_log saids = log_of (accepted_by 0 saids)
-
-accepted_more : (xs ys : List Said) → accepted_by 0 (xs ++ ys) ≡ accepted_by 0 xs ++ accepted_by 0 ys
-accepted_more xs ys = ap (map (λ (s : Said). entry 0 s.event s.reply)) (filter-append was_accepted xs ys)
-    ∙ map-append (λ (s : Said). entry 0 s.event s.reply) (filter was_accepted xs) (filter was_accepted ys)
-
-log_more : (cs ds : List Call) → log_of (cs ++ ds) ≡ log_of ds ++ log_of cs
-log_more cs ds = ap reverse (map-append entry_of cs ds) ∙ reverse-append (map entry_of cs) (map entry_of ds)
-
-said_more : (xs ys : List Said) → said_log (xs ++ ys) ≡ log_of (accepted_by 0 ys) ++ said_log xs
-said_more xs ys = ap log_of (accepted_more xs ys) ∙ log_more (accepted_by 0 xs) (accepted_by 0 ys)
-
-pub said_accepted : (before : List Said) (event : Event) (reply : Reply) → said_log (before ++ said event (Ok reply) ∷ [])
-    ≡ with_entry 0 event reply (said_log before)
-said_accepted before event reply = said_more before (said event (Ok reply) ∷ [])
-
-pub said_refused : (before : List Said) (event : Event) (refused : RefusedAt) → said_log (before ++ said event (Err refused) ∷ [])
-    ≡ said_log before
-said_refused before event refused = said_more before (said event (Err refused) ∷ [])
-
--- What is known of each call
+use Rattle.die_service.specs.Runs.{Said, said}
+use Rattle.die_service.proofs.Transcripts.{said_log}
 
 -- an accepted call was answered by the log of those before it, and so was a refused one
 pub record AreTold (plan : DiePlan) (saids : List Said) : Type 0 where
@@ -47,75 +15,3 @@ pub record AreTold (plan : DiePlan) (saids : List Said) : Type 0 where
       → (answer plan (said_log before) event ≡ reply) × IsAccepted reply
   pub refused : (before after : List Said) (event : Event) (refused : RefusedAt) → saids ≡ before ++ said event (Err refused) ∷ after
       → RefusedBy plan (said_log before) event refused.refusal
-
-exact_behind : (plan : DiePlan) (xs ys : Log) → IsExact plan (xs ++ ys) → IsExact plan ys
-exact_behind plan [] ys h = h
-exact_behind plan (x ∷ xs) ys h = exact_behind plan xs ys h.0
-
-split_one : (before after : List Said) (s : Said) → before ++ s ∷ after ≡ (before ++ s ∷ []) ++ after
-split_one before after s = sym (append_assoc before (s ∷ []) after)
-
-pub told_accepted : (plan : DiePlan) (saids before after : List Said) (event : Event) (reply : Reply) → IsExact plan (said_log saids)
-    → saids ≡ before ++ said event (Ok reply) ∷ after → (answer plan (said_log before) event ≡ reply) × IsAccepted reply
-told_accepted plan saids before after event reply exact is =
-    let all : said_log saids ≡ log_of (accepted_by 0 after) ++ said_log (before ++ said event (Ok reply) ∷ []) =
-    ap said_log (is ∙ split_one before after (said event (Ok reply))) ∙ said_more (before ++ said event (Ok reply) ∷ []) after in
-    let here : IsExact plan (with_entry 0 event reply (said_log before)) = subst (IsExact plan) (said_accepted before event reply)
-    (exact_behind plan (log_of (accepted_by 0 after)) (said_log (before ++ said event (Ok reply) ∷ [])) (subst (IsExact plan) all exact)) in
-    (sym here.1, here.2)
-
--- Calls of one caller
-
-abbrev call_back : Call → Call
-call_back e = call_of (entry_of e)
-
-by_first : (b : Bool) (e : Call) (es : List Call) → cond b (e ∷ es) es ≡ [] → (b ≡ false) × (es ≡ [])
-by_first true e es h = absurd cc
-by_first false e es h = (refl, h)
-
--- of a list without calls of a caller neither the first nor a later one is the caller's
-none_by : (p : ℕ) (e : Call) (es : List Call) → calls_by p (e ∷ es) ≡ [] → ((e.caller == p) ≡ false) × (calls_by p es ≡ [])
-none_by p e es h = by_first (e.caller == p) e (calls_by p es) h
-
-callers_same : (p : ℕ) (es : List Call) → calls_by p (map call_back es) ≡ [] → calls_by p es ≡ []
-callers_same p [] h = refl
-callers_same p (e ∷ es) h =
-    let none = none_by p (call_back e) (map call_back es) h in
-    ap (λ (b : Bool). cond b (e ∷ calls_by p es) (calls_by p es)) none.0 ∙ callers_same p es none.1
-
--- all calls are of one caller
-pub all_own : (n : ℕ) (es : List Call) → AllBy (n ∷ []) es → calls_by n es ≡ es
-all_own n [] h = refl
-all_own n (e ∷ es) h = first (e.caller == n) refl (all_own n es (λ p other. (none_by p e es (h p other)).1))
-  where
-    first : (b : Bool) → (e.caller == n) ≡ b → calls_by n es ≡ es → calls_by n (e ∷ es) ≡ e ∷ es
-    first true is rest = ap (λ (c : Bool). cond c (e ∷ calls_by n es) (calls_by n es)) is ∙ ap (λ (xs : List Call). e ∷ xs) rest
-    first false is rest =
-        let other : (n == e.caller) ≡ false = grind (arith, is) in
-        let none = none_by e.caller e es (h e.caller (ap (λ (c : Bool). cond c 1 0 + 0) other)) in
-        let same = eq-eqb e.caller e.caller refl in
-        absurd (false≢true (sym none.0 ∙ same))
-
-none_front : (p k : ℕ) (es : List Call) → calls_by p es ≡ [] → calls_by p (take k es) ≡ []
-none_front p zero es h = refl
-none_front p (suc k) [] h = refl
-none_front p (suc k) (e ∷ es) h =
-    let none = none_by p e es h in
-    ap (λ (b : Bool). cond b (e ∷ calls_by p (take k es)) (calls_by p (take k es))) none.0 ∙ none_front p k es none.1
-
-map_twice : (xs : List Call) → map call_of (map entry_of xs) ≡ map call_back xs
-map_twice [] = refl
-map_twice (x ∷ xs) = ap (λ (cs : List Call). call_back x ∷ cs) (map_twice xs)
-
-back : (xs : List Call) → calls_of (log_of xs) ≡ map call_back xs
-back xs = ap (map call_of) (reverse-reverse (map entry_of xs)) ∙ map_twice xs
-
--- where all calls of a log are of one caller, so are those from which it was read, and the first of these
-by_log : (n : ℕ) (es : List Call) → AllBy (n ∷ []) (calls_of (log_of es)) → AllBy (n ∷ []) es
-by_log n es h = λ p other. callers_same p es (subst (λ (cs : List Call). calls_by p cs ≡ []) (back es) (h p other))
-
-pub own_of_log : (n : ℕ) (es : List Call) → AllBy (n ∷ []) (calls_of (log_of es)) → calls_by n es ≡ es
-own_of_log n es h = all_own n es (by_log n es h)
-
-pub front_own : (n k : ℕ) (es : List Call) → AllBy (n ∷ []) (calls_of (log_of es)) → calls_by n (take k es) ≡ take k es
-front_own n k es h = all_own n (take k es) (λ p other. none_front p k es (by_log n es h p other))
