@@ -1,14 +1,12 @@
 //! A device in memory.
 
-ghost use Rattle.std.specs.Prelude.{◌≡◌, ◌≤◌, ◌↔◌, IsTrue, IfOk, IfErr, slice_index_or, vec_capacity};
+ghost use Rattle.std.specs.Prelude.{◌≡◌, ◌≤◌, ◌↔◌, IfOk, IfErr, slice_index_or, vec_capacity};
 ghost use Rattle.slot_types.specs.Shapes.{IsShape};
 ghost use Rattle.flash_die.specs.Flash.{blank};
 ghost use Rattle.flash_die.specs.Memory.{fresh_memory, laid};
 
 use crate::nand::Nand;
-use slot_types::{
-    MAX_BLOCKS, MAX_ERASE_SLOTS, MAX_PAGES, MIN_BLOCKS, MIN_PAGES, PageData, Place, Refusal, Shape,
-};
+use slot_types::{PageData, Place, Refusal, Shape};
 use std::alloc::Global;
 use std::marker::Model;
 
@@ -50,7 +48,7 @@ impl MemoryNand {
         ensures bad_shape { (result ≡ Err Refusal.BadShape) ↔ ¬ IsShape shape }
         ensures no_memory { IsShape shape → IfErr result (λ refusal. refusal ≡ Refusal.NoMemory) }
     {
-        if !is_shape(shape) {
+        if !shape.is_within_limits() {
             return Err(Refusal::BadShape);
         }
         let blocks = shape.blocks as usize;
@@ -132,15 +130,4 @@ fn lay_down(cells: &mut Vec<PageData>, count: usize)
             Err(_) => unreachable!(),
         }
     }
-}
-
-fn is_shape(shape: Shape) -> bool
-    ensures { IsTrue result ↔ IsShape shape }
-{
-    MIN_BLOCKS <= shape.blocks
-        && shape.blocks <= MAX_BLOCKS
-        && MIN_PAGES <= shape.pages
-        && shape.pages <= MAX_PAGES
-        && 1 <= shape.erase_slots
-        && shape.erase_slots <= MAX_ERASE_SLOTS
 }

@@ -1,6 +1,10 @@
 //! Plans: what a die has, and whom it serves.
 
+ghost use Rattle.std.specs.Prelude.{◌↔◌, IsTrue};
+ghost use Rattle.slot_types.specs.Shapes.{IsShape};
+
 use crate::items::Items;
+use crate::limits::{MAX_BLOCKS, MAX_ERASE_SLOTS, MAX_PAGES, MIN_BLOCKS, MIN_PAGES};
 
 /// What a flash die has.
 #[derive(Clone, Copy, PartialEq, Eq, Debug, Drop)]
@@ -11,6 +15,20 @@ pub struct Shape {
     pub pages: u32,
     /// How many slots the erase of a block takes.
     pub erase_slots: u32,
+}
+
+impl Shape {
+    /// Whether it is within its limits: 2 to 1,024 blocks, 2 to 256 pages a block, 1 to 64 erase slots.
+    pub fn is_within_limits(self) -> bool
+        ensures { IsTrue result ↔ IsShape self }
+    {
+        MIN_BLOCKS <= self.blocks
+            && self.blocks <= MAX_BLOCKS
+            && MIN_PAGES <= self.pages
+            && self.pages <= MAX_PAGES
+            && 1 <= self.erase_slots
+            && self.erase_slots <= MAX_ERASE_SLOTS
+    }
 }
 
 /// By task the most free pages that it may own tokens for.

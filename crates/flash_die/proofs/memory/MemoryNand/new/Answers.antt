@@ -17,7 +17,7 @@ invariant_of-result c =
     let cells = c.in_ok-with_capacity.field-0.items in
     record {
       memory = memory_fresh shape cells c.in_ok-vec.field-0.items c.in_ok-vec-2.field-0.items c.in_ok-vec-3.field-0.items
-          (c.if-not-is_shape.ensures.0 (search rules)) c.in_ok-with_capacity.ensures.items
+          (c.is_within_limits.ensures.0 (search rules)) c.in_ok-with_capacity.ensures.items
           (c.in_ok-vec.ensures.items_if_clones_equal (λ _ same. same)) (c.in_ok-vec-2.ensures.items_if_clones_equal (λ _ same. same))
           (c.in_ok-vec-3.ensures.items_if_clones_equal (λ _ same. same));
       some = omega (arith, ap length c.in_ok-with_capacity.ensures.items);
