@@ -79,7 +79,8 @@ fn push_packed(list: &mut Vec<OpWord>, writes: &mut Vec<PageWrite>, far: &mut Ve
     requires few { vec_len writes.old + length ops.now < numbers }
     requires far_few { vec_len far.old + length ops.now < numbers }
     requires packed { All (IsPacked (length writes.old.items) (length far.old.items)) list.old.items }
-    ensures ops { all_unpacked writes.new.items far.new.items list.new.items ≡ all_unpacked writes.old.items far.old.items list.old.items ++ ops.now }
+    ensures ops { all_unpacked writes.new.items far.new.items list.new.items
+        ≡ all_unpacked writes.old.items far.old.items list.old.items ++ ops.now }
     ensures packed { All (IsPacked (length writes.new.items) (length far.new.items)) list.new.items }
 {
     for op in ops {
