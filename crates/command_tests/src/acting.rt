@@ -1,6 +1,7 @@
 //! What commands print.
 
-use crate::printed::{AUDIT, PLAN, PLAN_COMMAND, REPORT, acted};
+use crate::printed::{AUDIT, PLAN_COMMAND, acted};
+use example_texts::{PLAN, TIMED, TWO_REPORT};
 use std::test::Fail;
 
 #[test]
@@ -14,25 +15,6 @@ fn a_plan_shows_its_figures(rt: HostRuntime) -> Result<(), Fail> {
     assert!(rt; acted(&rt, alloc, PLAN_COMMAND, two.as_bytes()).is(lines.as_str(), "", 0));
     Ok(())
 }
-
-/// A plan with times: of 20 slots its task may ask for 2 * 2, and its collections for 7 * 1.
-const TIMED: &str = "version = 2
-dies = 1
-blocks = 4
-pages = 4
-erase_slots = 3
-logical = 2
-alpha = 2
-common = 20
-
-[[task]]
-die = 0
-cap = 6
-period = 10
-collect_period = 20
-work = 2
-writes = 1
-";
 
 #[test]
 fn a_plan_with_times_shows_its_load(rt: HostRuntime) -> Result<(), Fail> {
@@ -64,7 +46,7 @@ fn certificates_are_judged(rt: HostRuntime) -> Result<(), Fail> {
         ("cert,0,1,,0,5,,5,0,,0 1 9", "refused 3 UnknownJob", 3),
         ("cert,0,1,,0,5,,5,0,,1", "refused 7 WrongSum", 3),
     ] {
-        let report = REPORT.replace(alloc, "cert,0,1,,0,5,,5,0,,0 1", record)?;
+        let report = TWO_REPORT.replace(alloc, "cert,0,1,,0,5,,5,0,,0 1", record)?;
         let lines = format!(in alloc;
             "die 0 worst 0 job 1 {verdict}\ndie 1 worst -1 job 0 holds\n"
         )?;
@@ -106,7 +88,7 @@ fn refusals_are_told_in_a_line(rt: HostRuntime) -> Result<(), Fail> {
         let plan = PLAN.replace(alloc, old, new)?;
         assert!(rt; acted(&rt, alloc, PLAN_COMMAND, plan.as_bytes()).is("", line, 1));
     }
-    let short = REPORT.replace(alloc, "cert,1,0,,0,2,,1,-1,,0\n", "")?;
+    let short = TWO_REPORT.replace(alloc, "cert,1,0,,0,2,,1,-1,,0\n", "")?;
     assert!(rt; acted(&rt, alloc, AUDIT, short.as_bytes()).is("", "error 20 ReportText 8\n", 1));
     Ok(())
 }

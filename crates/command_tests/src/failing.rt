@@ -2,8 +2,9 @@
 
 ghost use Rattle.flash_commands.specs.Commands.{FitsRun};
 
-use crate::printed::{AUDIT, PLAN, PLAN_COMMAND, REPORT};
+use crate::printed::{AUDIT, PLAN_COMMAND};
 use crate::writers::{End, Slow};
+use example_texts::{PLAN, TWO_REPORT};
 use flash_commands::{Command, act};
 use std::alloc::Global;
 use std::io;
@@ -68,7 +69,7 @@ fn fails_at<R: Threads + Wait + Sync>(
 #[test]
 fn a_reader_that_fails_is_told(rt: HostRuntime) {
     let alloc = rt.alloc();
-    for (command, text) in [(PLAN_COMMAND, PLAN), (AUDIT, REPORT)] {
+    for (command, text) in [(PLAN_COMMAND, PLAN), (AUDIT, TWO_REPORT)] {
         let mut failed: usize = 0;
         for calls in 0..100 {
             match fails_at(&rt, alloc, command, text, calls) {

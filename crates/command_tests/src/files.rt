@@ -1,8 +1,9 @@
 //! Commands on files, by their names.
 
-use crate::printed::{PLAN, Printed, REPORT};
+use crate::printed::Printed;
 use crate::words::words_in;
-use flash_commands::{Folder, act_on, built_in, read_words};
+use example_texts::{PLAN, REPORT, SCRIPT, TWO_REPORT};
+use flash_commands::{Folder, act_on, read_words};
 use slot_types::Refusal;
 use std::alloc::Global;
 use std::cell::Cell;
@@ -47,13 +48,6 @@ fn played<R: Threads + Wait + Sync, D: Folder>(
     Ok(Printed { out, err, status })
 }
 
-/// The report of the built-in run.
-const RUN_REPORT: &str = "row,die,job,task,release,due,work,completion,lateness,given,items
-job,0,0,0,0,2,1,1,-1,,
-job,0,1,0,1,3,1,2,-1,,11111111111111111111111111111111
-cert,0,0,,0,2,,1,-1,,0
-";
-
 const FIGURES: &str = "die 0 fmax 7 closed 6 live 18 logical 12 accepted\n";
 
 const HOLDS: &str = "die 0 worst 0 job 1 holds\ndie 1 worst -1 job 0 holds\n";
@@ -66,8 +60,8 @@ const READ_FAULT: &str = "error 21 ReadFault\n";
 
 /// Words behind the program's name; what is printed, what is told, and the status.
 const PLAYS: [(&str, &str, &str, u8); 17] = [
-    ("", RUN_REPORT, "", 0),
-    (" run p.toml s.csv --slots 2", RUN_REPORT, "", 0),
+    ("", REPORT, "", 0),
+    (" run p.toml s.csv --slots 2", REPORT, "", 0),
     (" run none s.csv --slots 2", "", READ_FAULT, 1),
     (" run p.toml none --slots 2", "", READ_FAULT, 1),
     (" run s.csv none --slots 2", "", READ_FAULT, 1),
@@ -93,11 +87,11 @@ const PLAYS: [(&str, &str, &str, u8); 17] = [
 #[test]
 fn commands_open_the_files_that_they_name(rt: HostRuntime) -> Result<(), Fail> {
     let alloc = rt.alloc();
-    let refused = REPORT.replace(alloc, "cert,0,1,,0,5,,5,0,,0 1", "cert,0,1,,0,5,,5,0,,1")?;
+    let refused = TWO_REPORT.replace(alloc, "cert,0,1,,0,5,,5,0,,0 1", "cert,0,1,,0,5,,5,0,,1")?;
     let files = [
         ("p.toml", PLAN),
-        ("s.csv", built_in::SCRIPT),
-        ("r.csv", REPORT),
+        ("s.csv", SCRIPT),
+        ("r.csv", TWO_REPORT),
         ("refused.csv", refused.as_str()),
     ];
     let shelf = Shelf { files: &files };
@@ -136,9 +130,9 @@ impl<'a> Folder for InTurn<'a> {
 
     fn open(&self, name: &str) -> Result<Waiting<'a>, Refusal> {
         let (turn, text) = if name == "p.toml" {
-            (0, built_in::PLAN)
+            (0, PLAN)
         } else {
-            (1, built_in::SCRIPT)
+            (1, SCRIPT)
         };
         if self.opened.get() != turn {
             return Err(Refusal::ReadFault);
@@ -156,6 +150,6 @@ fn files_are_opened_in_order_before_any_is_read(rt: HostRuntime) -> Result<(), F
     let opened = Cell::new(0);
     let folder = InTurn { opened: &opened };
     let line = "flashrec run p.toml s.csv --slots 2";
-    assert!(rt; played(&rt, rt.alloc(), &folder, line)?.is(RUN_REPORT, "", 0));
+    assert!(rt; played(&rt, rt.alloc(), &folder, line)?.is(REPORT, "", 0));
     Ok(())
 }

@@ -2,28 +2,13 @@
 
 ghost use Rattle.std.specs.Prelude.{◌≤◌};
 
-use crate::printed::{PLAN, Printed, REPORT, acted};
-use flash_commands::{Command, act, built_in};
+use crate::printed::{Printed, acted};
+use example_texts::{PLAN, REPORT, SCRIPT, TWO_REPORT, TWO_SCRIPT};
+use flash_commands::{Command, act};
 use std::alloc::Global;
 use std::sync::Wait;
 use std::test::Fail;
 use std::thread::Threads;
-
-/// A script for two dies and five slots, of which [`REPORT`] is the report.
-const SCRIPT: &str = "at,die,task,kind,release,due,ops
-0,0,0,job,2,5,R0 R1
-0,0,0,job,0,5,R2 R3 R4
-0,1,0,job,0,2,W3=0102030405060708090A0B0C0D0E0F10
-0,1,0,collect,1,4,
-1,1,0,job,1,9,R3
-";
-
-/// The report of the run without words.
-const FIRST_REPORT: &str = "row,die,job,task,release,due,work,completion,lateness,given,items
-job,0,0,0,0,2,1,1,-1,,
-job,0,1,0,1,3,1,2,-1,,11111111111111111111111111111111
-cert,0,0,,0,2,,1,-1,,0
-";
 
 /// What a run of a script prints, for five slots.
 fn ran<R: Threads + Wait + Sync>(
@@ -48,7 +33,7 @@ fn ran<R: Threads + Wait + Sync>(
 
 #[test]
 fn without_words_the_built_in_run_is_printed(rt: HostRuntime) {
-    assert!(rt; acted(&rt, rt.alloc(), Command::Alone, b"".as_slice()).is(FIRST_REPORT, "", 0));
+    assert!(rt; acted(&rt, rt.alloc(), Command::Alone, b"".as_slice()).is(REPORT, "", 0));
 }
 
 #[test]
@@ -57,8 +42,8 @@ fn the_report_of_two_dies_is_the_same_for_any_workers(rt: HostRuntime) -> Result
     let two = PLAN.replace(alloc, "dies = 1", "dies = 2")?;
     let two = format!(in alloc; "{two}\n[[task]]\ndie = 1\ncap = 4\n")?;
     for workers in [1, 2, 5, 16] {
-        let printed = ran(&rt, alloc, two.as_bytes(), SCRIPT.as_bytes(), workers);
-        assert!(rt; printed.is(REPORT, "", 0), "{workers} workers");
+        let printed = ran(&rt, alloc, two.as_bytes(), TWO_SCRIPT.as_bytes(), workers);
+        assert!(rt; printed.is(TWO_REPORT, "", 0), "{workers} workers");
     }
     Ok(())
 }
@@ -92,7 +77,7 @@ fn a_script_at_fault_is_told_in_a_line(rt: HostRuntime) -> Result<(), Fail> {
         ("1,0,0,job", "6,0,0,job", "error 19 ScriptRow 3 At\n"),
         ("at,die", "die,at", "error 19 ScriptRow 1 Header\n"),
     ] {
-        let script = built_in::SCRIPT.replace(alloc, old, new)?;
+        let script = SCRIPT.replace(alloc, old, new)?;
         assert!(rt;
             ran(&rt, alloc, PLAN.as_bytes(), script.as_bytes(), 1).is("", line, 1),
             "{line}"

@@ -2,7 +2,8 @@
 
 ghost use Rattle.flash_commands.specs.Commands.{FitsRun};
 
-use crate::printed::{AUDIT, PLAN, PLAN_COMMAND, Printed, REPORT, acted};
+use crate::printed::{AUDIT, PLAN_COMMAND, Printed, acted};
+use example_texts::{PLAN, TWO_REPORT};
 use flash_commands::{Command, act};
 use std::alloc::Global;
 use std::io;
@@ -146,7 +147,11 @@ fn calls_for<R: Threads + Wait + Sync>(
 #[test]
 fn a_writer_that_fails_took_a_part(rt: HostRuntime) {
     let alloc = rt.alloc();
-    for (command, text) in [(PLAN_COMMAND, PLAN), (AUDIT, REPORT), (Command::Alone, "")] {
+    for (command, text) in [
+        (PLAN_COMMAND, PLAN),
+        (AUDIT, TWO_REPORT),
+        (Command::Alone, ""),
+    ] {
         for most in [1, 7, 16, 1000] {
             let calls = calls_for(&rt, alloc, command, text.as_bytes(), most);
             for end in [End::Fails, End::TakesNothing] {
@@ -161,7 +166,7 @@ fn a_writer_that_fails_took_a_part(rt: HostRuntime) {
 fn a_refused_certificate_is_told_by_a_whole_text_alone(rt: HostRuntime) -> Result<(), Fail> {
     let alloc = rt.alloc();
     let old = "cert,0,1,,0,5,,5,0,,0 1";
-    let report = REPORT.replace(alloc, old, "cert,0,1,,1,5,,5,0,,0 1")?;
+    let report = TWO_REPORT.replace(alloc, old, "cert,0,1,,1,5,,5,0,,0 1")?;
     let whole = acted(&rt, alloc, AUDIT, report.as_bytes());
     assert!(rt; whole.status == 3);
     let calls = whole.out.len();
@@ -175,7 +180,7 @@ fn a_refused_certificate_is_told_by_a_whole_text_alone(rt: HostRuntime) -> Resul
 #[test]
 fn an_interrupted_call_is_made_again(rt: HostRuntime) {
     let alloc = rt.alloc();
-    for (command, text) in [(PLAN_COMMAND, PLAN), (AUDIT, REPORT)] {
+    for (command, text) in [(PLAN_COMMAND, PLAN), (AUDIT, TWO_REPORT)] {
         let whole = acted(&rt, alloc, command, text.as_bytes());
         let mut out = Stuttering {
             text: Vec::new(alloc),
@@ -199,12 +204,12 @@ fn an_interrupted_call_is_made_again(rt: HostRuntime) {
 #[test]
 fn a_writer_that_is_interrupted_for_ever_is_given_up(rt: HostRuntime) {
     let alloc = rt.alloc();
-    let whole = acted(&rt, alloc, AUDIT, REPORT.as_bytes());
+    let whole = acted(&rt, alloc, AUDIT, TWO_REPORT.as_bytes());
     let printed = slowly(
         &rt,
         alloc,
         AUDIT,
-        REPORT.as_bytes(),
+        TWO_REPORT.as_bytes(),
         16,
         2,
         End::IsInterrupted,

@@ -1,43 +1,9 @@
 //! What is said of plans: the sentences are worked out by hand.
 
+use example_texts::{PLAN, TIMED};
 use plan_design::explain;
 use std::alloc::Global;
 use std::test::Fail;
-
-/// The plan of one die: fmax is 1 + 2 + 4 = 7, so one block and the task's collection are kept back, and live is 3 for
-/// each of the other blocks.
-const PLAN: &str = "version = 1
-dies = 1
-blocks = 8
-pages = 4
-erase_slots = 3
-logical = 12
-alpha = 2
-
-[[task]]
-die = 0
-cap = 4
-";
-
-/// A plan with times: fmax is 1 + 2 + 6 = 9, closed 4 - 2 - 1 = 1; its jobs take 2 * 2 of 20 slots, and its collections
-/// 2 * 2 + 3.
-const TIMED: &str = "version = 2
-dies = 1
-blocks = 4
-pages = 4
-erase_slots = 3
-logical = 2
-alpha = 2
-common = 20
-
-[[task]]
-die = 0
-cap = 6
-period = 10
-collect_period = 20
-work = 2
-writes = 1
-";
 
 /// What stands in a plan, what comes in its place, whether the plan is then accepted, and what is said.
 type Said = (&'static str, &'static str, bool, &'static str);

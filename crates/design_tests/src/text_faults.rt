@@ -1,42 +1,10 @@
 //! What is said of plans whose text can't be read: the key at fault and its place, worked out by hand from the rules.
 
+use example_texts::{PLAN, TIMED};
 use plan_design::explain;
 use std::alloc::Global;
 use std::process::Abort;
 use std::test::Fail;
-
-/// A plan of one task.
-const PLAN: &str = "version = 1
-dies = 1
-blocks = 8
-pages = 4
-erase_slots = 3
-logical = 12
-alpha = 2
-
-[[task]]
-die = 0
-cap = 4
-";
-
-/// A plan with times.
-const TIMED: &str = "version = 2
-dies = 1
-blocks = 4
-pages = 4
-erase_slots = 3
-logical = 2
-alpha = 2
-common = 20
-
-[[task]]
-die = 0
-cap = 6
-period = 10
-collect_period = 20
-work = 2
-writes = 1
-";
 
 /// What follows where a key is at fault.
 const KEYS: &str = "

@@ -17,7 +17,7 @@ use Rattle.flash_commands.specs.Figures.{plan_text}
 use Rattle.task_script.specs.PlannedRuns.{RunsAsPlanned}
 use Rattle.task_script.specs.TextRuns.{RefusesText}
 use Rattle.task_script.specs.declared.run_counts.RunCount.{RunCount}
-use Rattle.flash_commands.specs.declared.built_in.TheConstants.{PLAN, SCRIPT, SLOTS}
+use Rattle.example_texts.specs.declared.built_in.TheConstants.{PLAN, SCRIPT, SLOTS}
 use Rattle.flash_commands.specs.declared.commands.Command.{Command}
 use Rattle.flash_commands.specs.declared.commands.Command.TheVariants as command
 use Rattle.flash_commands.specs.declared.faults.Fault.{Fault}

@@ -8,10 +8,10 @@ ghost use Rattle.flash_commands.specs.Faults.{outcome_status};
 ghost use Rattle.text_base.specs.Writing.{IsNotWhole};
 
 use crate::audits::audit_report;
-use crate::built_in;
 use crate::commands::Command;
 use crate::faults::{Fault, end};
 use crate::figures::figures_text;
+use example_texts::built_in;
 use plan_texts::read_plan_from;
 use report_texts::read_work;
 use slot_types::{MAX_SLOT, Refusal};

@@ -3,7 +3,6 @@
 
 pub mod acts;
 pub mod audits;
-pub mod built_in;
 pub mod command_line;
 pub mod commands;
 pub mod faults;

@@ -1,5 +1,6 @@
 //! The arrivals of plans that are drawn by chance, run: none is refused, and nothing is late.
 
+use example_texts::TIMED;
 use plan_arrivals::{Fault, arrivals};
 use rand_core::utils::NextWord;
 use rand_pcg::Pcg32;
@@ -145,25 +146,6 @@ fn arrivals_of_ten_plans_are_taken_and_never_late(rt: HostRuntime) -> Result<(),
     assert_eq!(rt; count_planned(&rt, rt.alloc())?, PLANS);
     Ok(())
 }
-
-/// A plan that passes its test: of each 20 slots its jobs take at most 4, and its collections 7.
-const TIMED: &str = "version = 2
-dies = 1
-blocks = 4
-pages = 4
-erase_slots = 3
-logical = 2
-alpha = 2
-common = 20
-
-[[task]]
-die = 0
-cap = 6
-period = 10
-collect_period = 20
-work = 2
-writes = 1
-";
 
 /// What comes of a plan with a change, for so many slots.
 fn made(alloc: Global, old: &str, new: &str, slots: u32) -> Result<Result<usize, Fault>, Fail> {

@@ -1,5 +1,6 @@
 //! What reading a text answers, as `Debug` prints it.
 
+use example_texts::TWO_DIES;
 use report_texts::read_work;
 use slot_types::{Items, Refusal, StorePlan};
 use std::alloc::Global;
@@ -7,91 +8,6 @@ use std::io::Read;
 use std::process::Abort;
 use std::test::Fail;
 use task_script::{Report, ScriptItem, ScriptReader, read_plan, read_report};
-
-/// A plan of one die: eight blocks of four pages, one task that may own four pages.
-pub const PLAN: &str = "version = 1
-dies = 1
-blocks = 8
-pages = 4
-erase_slots = 3
-logical = 12
-alpha = 2
-
-[[task]]
-die = 0
-cap = 4
-";
-
-/// The same with a second die.
-pub const TWO_DIES: &str = "version = 1
-dies = 2
-blocks = 8
-pages = 4
-erase_slots = 3
-logical = 12
-alpha = 2
-
-[[task]]
-die = 0
-cap = 4
-
-[[task]]
-die = 1
-cap = 4
-";
-
-/// A plan with times, of one die and one task: a job of two operations, one of them a write, in ten slots, and a
-/// collection in twenty.
-pub const TIMED: &str = "version = 2
-dies = 1
-blocks = 4
-pages = 4
-erase_slots = 3
-logical = 2
-alpha = 2
-common = 20
-
-[[task]]
-die = 0
-cap = 6
-period = 10
-collect_period = 20
-work = 2
-writes = 1
-";
-
-/// A write, and a read of the page that it wrote.
-pub const SCRIPT: &str = "at,die,task,kind,release,due,ops
-0,0,0,job,0,2,W3=11111111111111111111111111111111
-1,0,0,job,1,3,R3
-";
-
-/// What became of them.
-pub const REPORT: &str = "row,die,job,task,release,due,work,completion,lateness,given,items
-job,0,0,0,0,2,1,1,-1,,
-job,0,1,0,1,3,1,2,-1,,11111111111111111111111111111111
-cert,0,0,,0,2,,1,-1,,0
-";
-
-/// A script for two dies and five slots.
-pub const TWO_SCRIPT: &str = "at,die,task,kind,release,due,ops
-0,0,0,job,2,5,R0 R1
-0,0,0,job,0,5,R2 R3 R4
-0,1,0,job,0,2,W3=0102030405060708090A0B0C0D0E0F10
-0,1,0,collect,1,4,
-1,1,0,job,1,9,R3
-";
-
-/// What became of it.
-pub const TWO_REPORT: &str = "row,die,job,task,release,due,work,completion,lateness,given,items
-job,0,0,0,2,5,2,4,-1,,ffffffffffffffffffffffffffffffff ffffffffffffffffffffffffffffffff
-job,0,1,0,0,5,3,5,0,,ffffffffffffffffffffffffffffffff ffffffffffffffffffffffffffffffff ffffffffffffffffffffffffffffffff
-job,1,0,0,0,2,1,1,-1,,
-waived,1,1,0,1,4,0,,,1,
-job,1,2,0,1,9,1,2,-7,,0102030405060708090a0b0c0d0e0f10
-cert,0,1,,0,5,,5,0,,0 1
-cert,1,0,,0,2,,1,-1,,0
-";
 
 /// Which text a case is about.
 #[derive(Clone, Copy, Drop)]

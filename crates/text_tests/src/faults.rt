@@ -1,4 +1,5 @@
-use crate::answers::{TWO_REPORT, TWO_SCRIPT, report_refusal, script_refusal, work_refusal};
+use crate::answers::{report_refusal, script_refusal, work_refusal};
+use example_texts::{TWO_REPORT, TWO_SCRIPT};
 use slot_types::Refusal;
 use std::io;
 use std::io::{ErrorKind, Read, Write};

@@ -1,7 +1,7 @@
 //! What reading, writing and running answer where memory is refused: the right answer, or NoMemory, and then nothing is
 //! written. Each holds without a refusal too. Run them with each allocation made to fail in turn.
 
-use crate::answers::{TWO_DIES, TWO_REPORT, TWO_SCRIPT};
+use example_texts::{TWO_DIES, TWO_REPORT, TWO_SCRIPT};
 use slot_types::{DiePlan, Refusal, StorePlan};
 use std::alloc::Global;
 use std::io;

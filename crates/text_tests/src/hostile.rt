@@ -1,6 +1,7 @@
 //! Hostile texts, each with the one answer that it has.
 
-use crate::answers::{PLAN, TWO_DIES, TWO_REPORT, TWO_SCRIPT, Text, check_cases, refusal};
+use crate::answers::{Text, check_cases, refusal};
+use example_texts::{PLAN, TWO_DIES, TWO_REPORT, TWO_SCRIPT};
 use slot_types::{Cause, Refusal};
 use std::alloc::Global;
 use std::sync::Wait;

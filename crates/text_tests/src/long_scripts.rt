@@ -1,6 +1,6 @@
 //! A script of sixty million bytes, which no memory holds.
 
-use crate::answers::PLAN;
+use example_texts::PLAN;
 use slot_types::Refusal;
 use std::alloc::Global;
 use std::io;

@@ -1,7 +1,7 @@
 //! The byte at which the reader of a plan is given up, and its own errors.
 
-use crate::answers::PLAN;
 use crate::bounds::{Counting, Ended, KINDS};
+use example_texts::PLAN;
 use plan_texts::read_plan_from;
 use slot_types::{Cause, Refusal};
 use std::alloc::Global;

@@ -2,7 +2,7 @@
 
 ghost use Rattle.std.specs.Prelude.{◌≤◌};
 
-use crate::answers::TIMED;
+use example_texts::TIMED;
 use std::alloc::{AllocError, Global};
 use std::string::String;
 use std::sync::Wait;

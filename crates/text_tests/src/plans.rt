@@ -1,4 +1,5 @@
-use crate::answers::{PLAN, TIMED, TWO_DIES, Text, check_cases, refusal};
+use crate::answers::{Text, check_cases, refusal};
+use example_texts::{PLAN, TIMED, TWO_DIES};
 use std::test::Fail;
 use task_script::read_plan;
 

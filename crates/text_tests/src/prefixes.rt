@@ -2,7 +2,8 @@
 //! so many bytes on, up to the next line. The tables were made by a program that reads the rules alone (with Python's
 //! readers of csv and TOML).
 
-use crate::answers::{PLAN, TIMED, TWO_REPORT, TWO_SCRIPT, Text, refusal};
+use crate::answers::{Text, refusal};
+use example_texts::{PLAN, TIMED, TWO_REPORT, TWO_SCRIPT};
 use std::alloc::Global;
 use std::process::Abort;
 use std::test::Fail;

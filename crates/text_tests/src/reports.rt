@@ -1,4 +1,5 @@
-use crate::answers::{REPORT, TWO_REPORT, Text, check_cases};
+use crate::answers::{Text, check_cases};
+use example_texts::{REPORT, TWO_REPORT};
 use report_texts::{DieWork, read_work};
 use std::alloc::Global;
 use std::process::Abort;

@@ -2,8 +2,8 @@
 
 ghost use Rattle.std.specs.Prelude.{◌≤◌};
 
-use crate::answers::{PLAN, REPORT, SCRIPT, TWO_DIES, TWO_REPORT, TWO_SCRIPT};
 use crate::faults::{Choppy, failing_at};
+use example_texts::{PLAN, REPORT, SCRIPT, TWO_DIES, TWO_REPORT, TWO_SCRIPT};
 use slot_types::{Cause, Refusal};
 use std::alloc::Global;
 use std::io::{Read, Write};

@@ -1,4 +1,5 @@
-use crate::answers::{SCRIPT, TWO_SCRIPT, Text, check_cases, items, refusal, script_refusal};
+use crate::answers::{Text, check_cases, items, refusal, script_refusal};
+use example_texts::{SCRIPT, TWO_SCRIPT};
 use std::io;
 use std::io::Read;
 use std::test::Fail;

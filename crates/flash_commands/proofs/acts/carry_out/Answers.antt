@@ -1,6 +1,6 @@
 use Rattle.std.proofs.Common.{Some, refl}
 use Rattle.flash_commands.specs.Acts.{PrintsRun}
-use Rattle.flash_commands.specs.declared.built_in.TheConstants.{PLAN, SCRIPT, SLOTS}
+use Rattle.example_texts.specs.declared.built_in.TheConstants.{PLAN, SCRIPT, SLOTS}
 use Rattle.flash_commands.specs.declared.commands.Command.TheVariants as command
 use Rattle.flash_commands.proofs.Endings.{refused-for}
 use Rattle.flash_commands.proofs.acts.carry_out.Goals as goal
