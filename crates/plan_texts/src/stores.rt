@@ -1,7 +1,7 @@
 //! The plan of a store, from the numbers of its text.
 
 ghost use Rattle.std.specs.Prelude.{◌≡◌, ◌↔◌, ◌<◌, ◌≤◌, ◌⊎◌, ℕ, All, IsTrue, IfOk, IfErr, Ok, length};
-ghost use Rattle.plan_rules.specs.Bound.{IsShape, MeetsBound};
+ghost use Rattle.plan_rules.specs.Bound.{MeetsBound};
 ghost use Rattle.plan_rules.specs.Times.{PassesItsTimes};
 ghost use Rattle.plan_texts.specs.PlanText.{plan_of};
 ghost use Rattle.plan_texts.specs.Stores.{IsShaped, IsServed, IsStore, IsUsable, RefusesPlan, RefusesStore, caps_of, die_of, dies_of};
@@ -24,26 +24,11 @@ fn shape(top: &TopNumbers) -> Shape
     }
 }
 
-/// Whether a shape is within its limits. The rules of a plan judge it first, so they are asked about a plan that
-/// has nothing else.
-fn is_shape(alloc: Global, shape: Shape) -> bool
-    ensures { IsTrue result ↔ IsShape shape }
-{
-    let plan = DiePlan {
-        shape,
-        logical: 0,
-        alpha: 0,
-        caps: Caps::new(alloc),
-        times: None,
-    };
-    bound(&plan) != Err(Refusal::BadShape)
-}
-
 /// Whether the number of dies and their shape are within their limits.
-fn is_shaped(alloc: Global, top: &TopNumbers) -> bool
+fn is_shaped(top: &TopNumbers) -> bool
     ensures { IsTrue result ↔ IsShaped top.now }
 {
-    1 <= top.dies && top.dies <= MAX_DIES && is_shape(alloc, shape(top))
+    1 <= top.dies && top.dies <= MAX_DIES && shape(top).is_within_limits()
 }
 
 /// Whether each task names a die that is there.
@@ -139,7 +124,7 @@ fn store_of(alloc: Global, plan: &PlanNumbers) -> Result<StorePlan, Refusal>
     ensures ok { IfOk result (IsStore plan.now) }
     ensures err { IfErr result (λ refusal. (refusal ≡ Refusal.NoMemory) ⊎ RefusesStore plan.now refusal) }
 {
-    if !is_shaped(alloc, &plan.top) {
+    if !is_shaped(&plan.top) {
         return Err(Refusal::BadShape);
     }
     if !are_named(plan.tasks.as_slice(), plan.top.dies) {
