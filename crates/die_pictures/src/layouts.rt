@@ -1,7 +1,7 @@
 //! Where things stand in a picture: slots go from left to right, in bands that stand one below the other; and in each band
 //! those that have something there, a lane each.
 
-ghost use Rattle.std.specs.Prelude.{◌≡◌, IfErr};
+ghost use Rattle.slot_types.specs.Refusal.{FailsForMemory};
 
 use crate::rows::Row;
 use crate::windows::{Whose, Window};
@@ -94,7 +94,7 @@ impl Band {
 
     /// Gives a key a lane, and says whether there are too many of them.
     fn add(&mut self, key: u32) -> Result<bool, Refusal>
-        ensures { IfErr result (λ refusal. refusal ≡ Refusal.NoMemory) }
+        ensures { FailsForMemory result }
     {
         if self.lane_of(key).is_some() {
             return Ok(false);
@@ -110,7 +110,7 @@ impl Band {
 impl Layout {
     /// Bands for a window, without lanes.
     fn empty(alloc: Global, window: &Window, by_task: bool) -> Result<Layout, Refusal>
-        ensures { IfErr result (λ refusal. refusal ≡ Refusal.NoMemory) }
+        ensures { FailsForMemory result }
     {
         let slots = window.to.saturating_sub(window.from);
         let cell = cell_of(slots);
@@ -158,7 +158,7 @@ impl Layout {
 
     /// Gives a job a lane in the band of a slot, and says whether that has too many.
     fn add_at(&mut self, slot: u32, whose: Whose) -> Result<bool, Refusal>
-        ensures { IfErr result (λ refusal. refusal ≡ Refusal.NoMemory) }
+        ensures { FailsForMemory result }
     {
         let (band, key) = (self.band_of(slot), self.key_of(whose));
         match self.bands.get_mut(band) {
@@ -190,7 +190,7 @@ impl Layout {
 
     /// Gives a row its lanes, in a run of so many slots, and says whether a band has too many.
     fn add_row(&mut self, row: &Row, window: &Window, slots: u32) -> Result<bool, Refusal>
-        ensures { IfErr result (λ refusal. refusal ≡ Refusal.NoMemory) }
+        ensures { FailsForMemory result }
     {
         let mut full = false;
         let (first, end) = self.bands_of(row, window, slots);
@@ -206,7 +206,7 @@ impl Layout {
 
     /// Gives all their lanes, and says whether a band has too many.
     fn add_all(&mut self, window: &Window, rows: &[Row], slots: u32) -> Result<bool, Refusal>
-        ensures { IfErr result (λ refusal. refusal ≡ Refusal.NoMemory) }
+        ensures { FailsForMemory result }
     {
         for row in rows {
             if self.add_row(row, window, slots)? && !self.by_task {
@@ -235,7 +235,7 @@ impl Layout {
     /// Where the window's jobs stand, in a run of so many slots: a lane a job, or a lane a task where a band would have
     /// too many. The only refusal is NoMemory.
     pub fn new(alloc: Global, window: &Window, rows: &[Row], slots: u32) -> Result<Layout, Refusal>
-        ensures { IfErr result (λ refusal. refusal ≡ Refusal.NoMemory) }
+        ensures { FailsForMemory result }
     {
         let mut layout = Layout::empty(alloc, window, false)?;
         if layout.add_all(window, rows, slots)? {

@@ -1,6 +1,6 @@
 //! The picture of a die's slots, as SVG.
 
-ghost use Rattle.std.specs.Prelude.{◌≡◌, IfErr};
+ghost use Rattle.slot_types.specs.Refusal.{FailsForMemory};
 
 use crate::cells::{put_cells, put_gaps, put_waivers};
 use crate::lanes::{put_labels, put_times, put_waits};
@@ -82,7 +82,7 @@ fn put_picture(
 
 /// Draws what the slots of a window carried, as the text of an SVG picture. The only refusal is NoMemory.
 pub fn picture(alloc: Global, scene: &Scene<'_>) -> Result<Vec<u8>, Refusal>
-    ensures { IfErr result (λ refusal. refusal ≡ Refusal.NoMemory) }
+    ensures { FailsForMemory result }
 {
     let layout = Layout::new(alloc, scene.window, scene.rows, scene.slots)?;
     let mut text = Vec::new(alloc);

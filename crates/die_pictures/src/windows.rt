@@ -1,6 +1,6 @@
 //! What was done in a window of slots.
 
-ghost use Rattle.std.specs.Prelude.{◌≡◌, IfErr};
+ghost use Rattle.slot_types.specs.Refusal.{FailsForMemory};
 
 use die_wear::{Deed, deed_of};
 use slot_types::{Refusal, SlotReply};
@@ -68,7 +68,7 @@ impl Window {
 
     /// Notes what a slot carried, and whose it was. The only refusal is NoMemory.
     pub fn note_carried(&mut self, reply: &SlotReply, whose: Whose) -> Result<(), Refusal>
-        ensures { IfErr result (λ refusal. refusal ≡ Refusal.NoMemory) }
+        ensures { FailsForMemory result }
     {
         let Some((_, act)) = reply.ran else {
             return Ok(());
@@ -90,7 +90,7 @@ impl Window {
 
     /// Notes a collection that was waived in a slot. The only refusal is NoMemory.
     pub fn note_waived(&mut self, waiver: Waiver) -> Result<(), Refusal>
-        ensures { IfErr result (λ refusal. refusal ≡ Refusal.NoMemory) }
+        ensures { FailsForMemory result }
     {
         if !self.has(waiver.slot) {
             return Ok(());

@@ -1,6 +1,7 @@
 //! A feed on its way to its die.
 
-ghost use Rattle.std.specs.Prelude.{◌≡◌, ◌<◌, ◌++◌, ◌∷◌, ◌-◌, [], length, IfOk, IfErr, IfSome, IfNone};
+ghost use Rattle.std.specs.Prelude.{◌≡◌, ◌<◌, ◌++◌, ◌∷◌, ◌-◌, [], length, IfOk, IfSome, IfNone};
+ghost use Rattle.slot_types.specs.Refusal.{FailsForMemory};
 ghost use Rattle.slot_core.specs.Events.{with_ops};
 ghost use Rattle.die_service.specs.Runs.{AllArrive};
 ghost use Rattle.die_service.specs.Drives.{Comes, NoneDue, whole_course};
@@ -45,7 +46,7 @@ impl Course {
     pub(crate) fn new(alloc: Global, feed: Feed) -> Result<Course, Refusal>
         requires arrive { AllArrive feed }
         ensures whole { IfOk result (λ course. course ≡ whole_course feed) }
-        ensures refused { IfErr result (λ refusal. refusal ≡ Refusal.NoMemory) }
+        ensures refused { FailsForMemory result }
     {
         let refused = Vec::with_capacity(alloc, feed.len())?;
         let ops = Vec::with_capacity(alloc, feed.most_ops())?;

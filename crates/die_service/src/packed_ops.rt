@@ -1,7 +1,8 @@
 //! Operations in little room.
 
 ghost use Rattle.std.specs.Prelude.{◌≡◌, ◌+◌, ◌<◌, ◌≤◌, ◌^◌, ◌++◌, [], Some, All, length, take, drop, slice_get, vec_len, vec_capacity};
-ghost use Rattle.std.specs.Prelude.{IfErr, OnErr, OnOk};
+ghost use Rattle.std.specs.Prelude.{OnErr, OnOk};
+ghost use Rattle.slot_types.specs.Refusal.{FailsForMemory};
 ghost use Rattle.die_service.specs.OpWords.{numbers};
 ghost use Rattle.die_service.specs.PackedOps.{GoesOn, IsPacked, all_unpacked, unpacked};
 
@@ -129,7 +130,7 @@ impl PackedOps {
     /// operations that are too wide for a word.
     pub(crate) fn push_all(&mut self, ops: &[Op]) -> Result<(), Refusal>
         ensures ok { OnOk result (self.new ≡ self.old ++ ops.now) }
-        ensures refused { IfErr result (λ refusal. refusal ≡ Refusal.NoMemory) }
+        ensures refused { FailsForMemory result }
         ensures err { OnErr result (self.new ≡ self.old) }
     {
         let most = NUMBERS as usize - 1;

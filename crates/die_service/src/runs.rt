@@ -1,6 +1,7 @@
 //! Runs of a store by workers.
 
 ghost use Rattle.std.specs.Prelude.{◌≡◌, ◌<◌, ◌≤◌, [], map, length, All, IfOk, IfErr, vec_capacity};
+ghost use Rattle.slot_types.specs.Refusal.{FailsForMemory};
 ghost use Rattle.die_service.specs.Runs.{AllArrive, HaveRun};
 ghost use Rattle.die_service.specs.Drives.{whole_course, first_standings, end_at, IsFirst, Drives};
 
@@ -22,7 +23,7 @@ use std::{mem, thread};
 fn make_courses(alloc: Global, feeds: Vec<Feed>) -> Result<Vec<Course>, Refusal>
     requires arrive { All AllArrive feeds.items }
     ensures whole { IfOk result (λ courses. courses.items ≡ map whole_course feeds.items) }
-    ensures refused { IfErr result (λ refusal. refusal ≡ Refusal.NoMemory) }
+    ensures refused { FailsForMemory result }
 {
     let mut courses = Vec::with_capacity(alloc, feeds.len())?;
     for feed in feeds {
@@ -114,7 +115,7 @@ pub fn run_slots<N: Nand + Send, G: Gate + Sync, R: Threads + Wait + Sync>(
     requires arrive { All AllArrive feeds.items }
     requires workers { (1 ≤ workers) × (workers ≤ 16) }
     ensures ran { IfOk result (λ ends. HaveRun N.never_fails slots feeds.items passes.old.items ends passes.new.items) }
-    ensures refused { IfErr result (λ refusal. refusal ≡ Refusal.NoMemory) }
+    ensures refused { FailsForMemory result }
     ensures stays { IfErr result (λ _. passes.new.items ≡ passes.old.items) }
     ensures own { map (λ pass. pass.lock) passes.new.items ≡ store.now }
 {

@@ -1,6 +1,7 @@
 //! A store: its dies.
 
 ghost use Rattle.std.specs.Prelude.{◌≡◌, ◌↔◌, ◌≤◌, ◌⊎◌, All, IsTrue, IsOk, IsErr, IfOk, IfErr, Some, length, map, slice_get, vec_len};
+ghost use Rattle.slot_types.specs.Refusal.{FailsForMemory};
 ghost use Rattle.slot_types.specs.Shapes.{IsShape};
 ghost use Rattle.plan_rules.specs.Bound.{MeetsBound};
 ghost use Rattle.flash_die.specs.Flash.{IsFresh};
@@ -91,7 +92,7 @@ fn new_die<N: Nand>(alloc: Global, plan: DiePlan, nand: N) -> Result<(Die<N>, Di
     requires bound { MeetsBound plan }
     ensures own { IfOk result (λ made. made.1.lock ≡ made.0) }
     ensures first { IfOk result (λ made. made.1.view ≡ first_view plan) }
-    ensures refused { IfErr result (λ refusal. refusal ≡ Refusal.NoMemory) }
+    ensures refused { FailsForMemory result }
 {
     let core = DieCore::new(alloc, plan, nand)?;
     let boxed = match Box::new(alloc, core) {
@@ -113,7 +114,7 @@ fn new_dies<N: Nand>(
     requires served { IsServed plans.items (vec_len nands) }
     ensures own { IfOk result (λ made. map (λ pass. pass.lock) made.1.items ≡ made.0.items) }
     ensures first { IfOk result (λ made. map (λ pass. pass.view) made.1.items ≡ map first_view plans.items) }
-    ensures refused { IfErr result (λ refusal. refusal ≡ Refusal.NoMemory) }
+    ensures refused { FailsForMemory result }
 {
     let count = plans.len();
     let mut dies = Vec::with_capacity(alloc, count)?;

@@ -1,6 +1,7 @@
 //! What the slots of a die wore: the erases of its blocks, and the pages that were programmed.
 
-ghost use Rattle.std.specs.Prelude.{◌≡◌, ℕ, ◌+◌, ◌∷◌, ◌<◌, ◌≤◌, [], length, get_or, slice_set, IfOk, IfErr};
+ghost use Rattle.std.specs.Prelude.{◌≡◌, ℕ, ◌+◌, ◌∷◌, ◌<◌, ◌≤◌, [], length, get_or, slice_set, IfOk};
+ghost use Rattle.slot_types.specs.Refusal.{FailsForMemory};
 ghost use Rattle.slot_types.specs.declared.replies.Entry.{Entry};
 ghost use Rattle.die_log.specs.Log.{Log, now};
 ghost use Rattle.die_wear.specs.Wear.{IsWearOf, slot_entry};
@@ -26,7 +27,7 @@ impl Tally {
     /// Of a die of so many blocks, on which nothing was done. The only refusal is NoMemory.
     pub fn new(alloc: Global, blocks: u32) -> Result<Tally, Refusal>
         ensures ok { IfOk result (IsWearOf blocks []) }
-        ensures refused { IfErr result (λ refusal. refusal ≡ Refusal.NoMemory) }
+        ensures refused { FailsForMemory result }
     {
         Ok(Tally {
             erases: vec![in alloc; 0u32; blocks as usize]?,

@@ -1,6 +1,7 @@
 //! What dies wore, as a text.
 
-ghost use Rattle.std.specs.Prelude.{◌≡◌, ◌++◌, IfErr, IfOk, OnOk};
+ghost use Rattle.std.specs.Prelude.{◌≡◌, ◌++◌, IfOk, OnOk};
+ghost use Rattle.slot_types.specs.Refusal.{FailsForMemory};
 ghost use Rattle.die_wear.specs.WearText.{amplification, block_record, block_records, die_counts, die_record, header, records_of};
 ghost use Rattle.die_wear.specs.WearText.{wear_text};
 
@@ -88,7 +89,7 @@ fn put_wears(text: &mut Vec<u8>, dies: &[Tally]) -> io::Result<()>
 /// only refusal is NoMemory.
 pub fn wear_text(alloc: Global, dies: &[Tally]) -> Result<Vec<u8>, Refusal>
     ensures text { IfOk result (λ text. text.items ≡ wear_text dies.now) }
-    ensures refused { IfErr result (λ refusal. refusal ≡ Refusal.NoMemory) }
+    ensures refused { FailsForMemory result }
 {
     let mut text = Vec::new(alloc);
     match put_wears(&mut text, dies) {

@@ -1,6 +1,7 @@
 //! The log of a die, in parts.
 
-ghost use Rattle.std.specs.Prelude.{◌≡◌, ◌+◌, ◌<◌, ◌≤◌, ◌∷◌, ◌^◌, [], true, length, IsOk, OnOk, OnErr, IfOk, IfErr};
+ghost use Rattle.std.specs.Prelude.{◌≡◌, ◌+◌, ◌<◌, ◌≤◌, ◌∷◌, ◌^◌, [], true, length, IsOk, OnOk, OnErr, IfOk};
+ghost use Rattle.slot_types.specs.Refusal.{FailsForMemory};
 ghost use Rattle.event_log.specs.Spread.{last_of};
 ghost use Rattle.event_log.specs.Notes.{Note};
 ghost use Rattle.event_log.specs.Slots.{carried_in};
@@ -85,7 +86,7 @@ impl EventLog {
     /// What the slots carried, by slot. It walks the runs of equal deeds once. The only refusal is `NoMemory`.
     pub fn carried(&self, alloc: Global) -> Result<Carried, Refusal>
         ensures ok { IfOk result (λ carried. carried ≡ carried_in self.now.notes) }
-        ensures refused { IfErr result (λ refusal. refusal ≡ Refusal.NoMemory) }
+        ensures refused { FailsForMemory result }
     {
         carried_by(alloc, self.deeds.as_slice())
     }
@@ -98,7 +99,7 @@ impl EventLog {
         ensures no_less { self.old.room ≤ self.new.room }
         ensures no_less_for_waivers { self.old.waiver_room ≤ self.new.waiver_room }
         ensures succeeds { events ≤ self.old.room → waivers ≤ self.old.waiver_room → IsOk result }
-        ensures refused { IfErr result (λ refusal. refusal ≡ Refusal.NoMemory) }
+        ensures refused { FailsForMemory result }
         ensures events { self.new.notes ≡ self.old.notes }
         ensures err { OnErr result (self.new ≡ self.old) }
     {
@@ -114,7 +115,7 @@ impl EventLog {
         ensures waiver_room { OnOk result (waivers ≤ self.new.waiver_room) }
         ensures no_less { self.old.room ≤ self.new.room }
         ensures no_less_for_waivers { self.old.waiver_room ≤ self.new.waiver_room }
-        ensures refused { IfErr result (λ refusal. refusal ≡ Refusal.NoMemory) }
+        ensures refused { FailsForMemory result }
         ensures events { self.new.notes ≡ self.old.notes }
         ensures err { OnErr result (self.new ≡ self.old) }
     {

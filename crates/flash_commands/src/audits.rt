@@ -1,7 +1,8 @@
 //! Audits of reports: the verdict on each certificate.
 
-ghost use Rattle.std.specs.Prelude.{◌≡◌, ◌++◌, ◌∷◌, [], codes, decimal, flat_map, IfOk, IfErr, OnOk, Some, None};
+ghost use Rattle.std.specs.Prelude.{◌≡◌, ◌++◌, ◌∷◌, [], codes, decimal, flat_map, IfOk, OnOk, Some, None};
 ghost use Rattle.std.specs.List.{list_any};
+ghost use Rattle.slot_types.specs.Refusal.{FailsForMemory};
 ghost use Rattle.late_cert.specs.Rows.{RowsRise};
 ghost use Rattle.report_texts.specs.ReportWork.{AllRise};
 ghost use Rattle.flash_commands.specs.Audit.{cert_line, is_refused_work, refuses, verdict_on, verdict_text, work_line, worst_text};
@@ -67,7 +68,7 @@ fn put_die(text: &mut Vec<u8>, die: &DieWork) -> Result<bool, Refusal>
     requires { RowsRise die.now.rows }
     ensures text { OnOk result (text.new.items ≡ text.old.items ++ work_line die.now) }
     ensures refusal { IfOk result (λ is. is ≡ is_refused_work die.now) }
-    ensures refused { IfErr result (λ refusal. refusal ≡ Refusal.NoMemory) }
+    ensures refused { FailsForMemory result }
 {
     let Some(cert) = &die.cert else {
         if put_none(text, die.die).is_err() {
@@ -87,7 +88,7 @@ fn put_dies(text: &mut Vec<u8>, dies: &[DieWork]) -> Result<bool, Refusal>
     requires { AllRise dies.now }
     ensures text { OnOk result (text.new.items ≡ text.old.items ++ flat_map work_line dies.now) }
     ensures refusal { IfOk result (λ is. is ≡ list_any is_refused_work dies.now) }
-    ensures refused { IfErr result (λ refusal. refusal ≡ Refusal.NoMemory) }
+    ensures refused { FailsForMemory result }
 {
     let mut refused = false;
     for die in dies {
@@ -102,7 +103,7 @@ pub fn audit_report(alloc: Global, work: &ReportWork) -> Result<Audit, Refusal>
     requires { AllRise work.now }
     ensures text { IfOk result (λ audit. audit.text.items ≡ flat_map work_line work.now) }
     ensures refusal { IfOk result (λ audit. audit.refused ≡ list_any is_refused_work work.now) }
-    ensures refused { IfErr result (λ refusal. refusal ≡ Refusal.NoMemory) }
+    ensures refused { FailsForMemory result }
 {
     let mut text = Vec::new(alloc);
     let refused = put_dies(&mut text, work.as_slice())?;

@@ -1,6 +1,7 @@
 //! The figures of plans.
 
-ghost use Rattle.std.specs.Prelude.{◌≡◌, ◌++◌, IfErr, IfOk, OnOk};
+ghost use Rattle.std.specs.Prelude.{◌≡◌, ◌++◌, IfOk, OnOk};
+ghost use Rattle.slot_types.specs.Refusal.{FailsForMemory};
 ghost use Rattle.plan_rules.specs.Bound.{MeetsBound};
 ghost use Rattle.plan_rules.specs.Times.{PassesItsTimes};
 ghost use Rattle.flash_commands.specs.Figures.{AllMeetBound, AllPass, figures_line, load_line, load_text, plan_line, plan_text};
@@ -71,7 +72,7 @@ pub fn figures_text(alloc: Global, store: &StorePlan) -> Result<Vec<u8>, Refusal
     requires bound { AllMeetBound store.now }
     requires passes { AllPass store.now }
     ensures text { IfOk result (λ text. text.items ≡ plan_text store.now) }
-    ensures refused { IfErr result (λ refusal. refusal ≡ Refusal.NoMemory) }
+    ensures refused { FailsForMemory result }
 {
     let mut text = Vec::new(alloc);
     match put_plans(&mut text, store.as_slice()) {

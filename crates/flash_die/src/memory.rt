@@ -1,6 +1,7 @@
 //! A device in memory.
 
-ghost use Rattle.std.specs.Prelude.{◌≡◌, ◌≤◌, ◌↔◌, IfOk, IfErr, slice_index_or, vec_capacity};
+ghost use Rattle.std.specs.Prelude.{◌≡◌, ◌≤◌, ◌↔◌, IfOk, slice_index_or, vec_capacity};
+ghost use Rattle.slot_types.specs.Refusal.{FailsForMemory};
 ghost use Rattle.slot_types.specs.Shapes.{IsShape};
 ghost use Rattle.flash_die.specs.Flash.{blank};
 ghost use Rattle.flash_die.specs.Memory.{fresh_memory, laid};
@@ -46,7 +47,7 @@ impl MemoryNand {
     pub fn new(alloc: Global, shape: Shape) -> Result<Self, Refusal>
         ensures fresh { IfOk result (λ device. device ≡ fresh_memory shape) }
         ensures bad_shape { (result ≡ Err Refusal.BadShape) ↔ ¬ IsShape shape }
-        ensures no_memory { IsShape shape → IfErr result (λ refusal. refusal ≡ Refusal.NoMemory) }
+        ensures no_memory { IsShape shape → FailsForMemory result }
     {
         if !shape.is_within_limits() {
             return Err(Refusal::BadShape);

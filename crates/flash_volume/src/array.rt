@@ -1,7 +1,8 @@
 //! An array of pages on a flash device.
 
 ghost use Rattle.std.specs.Prelude.{◌≡◌, ◌==◌, ◌+◌, ◌<◌, ◌↔◌, ℕ, true, false, Some, None, length};
-ghost use Rattle.std.specs.Prelude.{slice_set, is_err, is_ok, is_some, IsSome, IfOk, IfErr, IfSome, IfNone, OnOk, OnErr, position};
+ghost use Rattle.std.specs.Prelude.{slice_set, is_err, is_ok, is_some, IsSome, IfOk, IfSome, IfNone, OnOk, OnErr, position};
+ghost use Rattle.slot_types.specs.Refusal.{FailsForMemory};
 ghost use Rattle.slot_types.specs.declared.pages.Place.{Place};
 ghost use Rattle.slot_types.specs.Places.{place_of, owner_of};
 ghost use Rattle.slot_types.specs.Shapes.{IsShape};
@@ -66,7 +67,7 @@ impl<N: Nand> PageArray<N> {
               (N.shape_of device);
         }) }
         ensures sound { IfOk result (IsSoundArray N.shape_of N.failures N.blocks) }
-        ensures err { IfErr result (λ refusal. refusal ≡ Refusal.NoMemory) }
+        ensures err { FailsForMemory result }
     {
         let shape = device.shape();
         Ok(PageArray {

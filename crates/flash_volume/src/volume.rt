@@ -2,6 +2,7 @@
 
 ghost use Rattle.std.specs.Prelude.{◌≡◌, ◌-◌, ◌<◌, ◌≤◌, ◌↔◌, ℕ, true, false, Some, None, length, slice_index};
 ghost use Rattle.std.specs.Prelude.{is_ok, IsOk, IsSome, IfOk, IfErr, OnOk, OnErr};
+ghost use Rattle.slot_types.specs.Refusal.{FailsForMemory};
 ghost use Rattle.slot_types.specs.declared.pages.Place.{Place};
 ghost use Rattle.slot_types.specs.Places.{place_of};
 ghost use Rattle.plan_rules.specs.Bound.{MeetsBound};
@@ -68,7 +69,7 @@ impl<N: Nand> Volume<N> {
         requires shape { N.shape_of device ≡ plan.shape }
         requires fresh { IsFresh (N.shape_of device) (N.blocks device) (N.failures device) }
         ensures ok { IfOk result (λ volume. volume ≡ fresh_volume plan device) }
-        ensures err { IfErr result (λ refusal. refusal ≡ Refusal.NoMemory) }
+        ensures err { FailsForMemory result }
     {
         let array = PageArray::new(alloc, device, plan.logical)?;
         let running = vec![in alloc; None; plan.caps.len()]?;

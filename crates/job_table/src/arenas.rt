@@ -1,6 +1,7 @@
 //! The operations of all jobs.
 
-ghost use Rattle.std.specs.Prelude.{◌≡◌, ◌+◌, ◌<◌, ◌≤◌, ◌++◌, Some, [], length, take, count_by, slice_get, OnOk, OnErr, IfErr};
+ghost use Rattle.std.specs.Prelude.{◌≡◌, ◌+◌, ◌<◌, ◌≤◌, ◌++◌, Some, [], length, take, count_by, slice_get, OnOk, OnErr};
+ghost use Rattle.slot_types.specs.Refusal.{FailsForMemory};
 ghost use Rattle.job_table.specs.Jobs.{is_read};
 
 use crate::words::{
@@ -79,7 +80,7 @@ impl OpArena {
     pub(crate) fn push_all(&mut self, ops: &[Op], reads: usize) -> Result<(), Refusal>
         requires { reads ≡ count_by is_read ops.now }
         ensures ok { OnOk result (self.new ≡ self.old ++ ops.now) }
-        ensures refused { IfErr result (λ refusal. refusal ≡ Refusal.NoMemory) }
+        ensures refused { FailsForMemory result }
         ensures err { OnErr result (self.new ≡ self.old) }
     {
         if !have_words(ops) {

@@ -1,7 +1,8 @@
 //! The jobs and collections of a table by number, without a list of their own each.
 
 ghost use Rattle.std.specs.Prelude.{◌≡◌, ◌+◌, ◌<◌, ◌≤◌, ◌^◌, ◌∷◌, ◌++◌, [], true, false, Some, length, slice_get, replicate, vec_len};
-ghost use Rattle.std.specs.Prelude.{vec_capacity, OnOk, IfOk, OnErr, IfErr};
+ghost use Rattle.std.specs.Prelude.{vec_capacity, OnOk, IfOk, OnErr};
+ghost use Rattle.slot_types.specs.Refusal.{FailsForMemory};
 ghost use Rattle.slot_types.specs.declared.limits.TheConstants.{MAX_JOBS};
 ghost use Rattle.job_table.specs.Jobs.{JobRecord, new_job, new_collection, accepted, carried, with_read, with_stage};
 ghost use Rattle.job_table.specs.Table.{changed_at, work_at, reads_next_at};
@@ -47,7 +48,7 @@ impl Model for FlatJobs {
 /// A length of an arena as a row keeps it. What 32 bits can't count finds no memory.
 fn count_in_row(len: usize) -> Result<u32, Refusal>
     ensures ok { IfOk result (λ count. count ≡ len) }
-    ensures refused { IfErr result (λ refusal. refusal ≡ Refusal.NoMemory) }
+    ensures refused { FailsForMemory result }
 {
     if len > u32::MAX as usize {
         return Err(Refusal::NoMemory);
@@ -58,7 +59,7 @@ fn count_in_row(len: usize) -> Result<u32, Refusal>
 /// The number of a job's operations as a row keeps it. What 16 bits can't count finds no memory.
 fn ops_in_row(len: usize) -> Result<u16, Refusal>
     ensures ok { IfOk result (λ count. count ≡ len) }
-    ensures refused { IfErr result (λ refusal. refusal ≡ Refusal.NoMemory) }
+    ensures refused { FailsForMemory result }
 {
     if len > u16::MAX as usize {
         return Err(Refusal::NoMemory);
@@ -149,7 +150,7 @@ impl FlatJobs {
         requires { length self.old < MAX_JOBS }
         ensures ok { OnOk result (self.new ≡ self.old ++ new_job task release due ops.now ∷ []) }
         ensures number { IfOk result (λ number. number ≡ length self.old) }
-        ensures refused { IfErr result (λ refusal. refusal ≡ Refusal.NoMemory) }
+        ensures refused { FailsForMemory result }
         ensures err { OnErr result (self.new ≡ self.old) }
     {
         self.push(false, task, release, due, ops)
@@ -165,7 +166,7 @@ impl FlatJobs {
         requires { length self.old < MAX_JOBS }
         ensures ok { OnOk result (self.new ≡ self.old ++ new_collection task release due ∷ []) }
         ensures number { IfOk result (λ number. number ≡ length self.old) }
-        ensures refused { IfErr result (λ refusal. refusal ≡ Refusal.NoMemory) }
+        ensures refused { FailsForMemory result }
         ensures err { OnErr result (self.new ≡ self.old) }
     {
         self.push(true, task, release, due, &[])
@@ -182,7 +183,7 @@ impl FlatJobs {
         requires { length self.old < MAX_JOBS }
         ensures ok { OnOk result (self.new ≡ self.old ++ accepted collects task release due ops.now ∷ []) }
         ensures number { IfOk result (λ number. number ≡ length self.old) }
-        ensures refused { IfErr result (λ refusal. refusal ≡ Refusal.NoMemory) }
+        ensures refused { FailsForMemory result }
         ensures err { OnErr result (self.new ≡ self.old) }
     {
         let reads = count_reads(ops);

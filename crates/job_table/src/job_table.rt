@@ -1,7 +1,8 @@
 //! The jobs and collections of a die by number.
 
-ghost use Rattle.std.specs.Prelude.{◌≡◌, ◌<◌, ◌≤◌, ◌+◌, ◌^◌, ◌==◌, List, true, false, length, slice_get, OnOk, IfOk, OnErr, IfErr, IfSome};
+ghost use Rattle.std.specs.Prelude.{◌≡◌, ◌<◌, ◌≤◌, ◌+◌, ◌^◌, ◌==◌, List, true, false, length, slice_get, OnOk, IfOk, OnErr, IfSome};
 ghost use Rattle.std.specs.Prelude.{IfNone};
+ghost use Rattle.slot_types.specs.Refusal.{FailsForMemory};
 ghost use Rattle.job_table.specs.Jobs.{JobRecord, new_job, new_collection, carried, with_read, with_stage};
 ghost use Rattle.job_table.specs.Table.{empty_table, with_job, with_change, work_at, reads_next_at, is_collecting};
 ghost use Rattle.job_table.specs.Waivers.{AreWaived, WerePending, waived_in, stopped};
@@ -51,7 +52,7 @@ impl JobTable {
     /// A table of a die with so many tasks, without jobs, at slot 0. It may be refused with `NoMemory`.
     pub fn new(alloc: Global, tasks: u32) -> Result<JobTable, Refusal>
         ensures ok { IfOk result (λ table. table ≡ empty_table tasks) }
-        ensures refused { IfErr result (λ refusal. refusal ≡ Refusal.NoMemory) }
+        ensures refused { FailsForMemory result }
     {
         Ok(JobTable {
             jobs: FlatJobs::new(alloc),
@@ -148,7 +149,7 @@ impl JobTable {
         requires few { length self.old.jobs < MAX_JOBS }
         ensures ok { OnOk result (self.new ≡ with_job self.old (new_job task release due ops.now)) }
         ensures number { IfOk result (λ number. number ≡ length self.old.jobs) }
-        ensures refused { IfErr result (λ refusal. refusal ≡ Refusal.NoMemory) }
+        ensures refused { FailsForMemory result }
         ensures err { OnErr result (self.new ≡ self.old) }
     {
         self.queues.reserve()?;
@@ -172,7 +173,7 @@ impl JobTable {
         requires single { is_collecting self.old.jobs task ≡ false }
         ensures ok { OnOk result (self.new ≡ with_job self.old (new_collection task release due)) }
         ensures number { IfOk result (λ number. number ≡ length self.old.jobs) }
-        ensures refused { IfErr result (λ refusal. refusal ≡ Refusal.NoMemory) }
+        ensures refused { FailsForMemory result }
         ensures err { OnErr result (self.new ≡ self.old) }
     {
         self.queues.reserve()?;

@@ -1,6 +1,7 @@
 //! Who waits for a release, and who is released, by due date.
 
-ghost use Rattle.std.specs.Prelude.{◌≡◌, ◌<◌, ◌≤◌, ◌^◌, [], length, nat_lt, if◌then◌else◌, Contains, option_map, OnOk, IfErr};
+ghost use Rattle.std.specs.Prelude.{◌≡◌, ◌<◌, ◌≤◌, ◌^◌, [], length, nat_lt, if◌then◌else◌, Contains, option_map, OnOk};
+ghost use Rattle.slot_types.specs.Refusal.{FailsForMemory};
 ghost use Rattle.due_queue.specs.Queue.{inserted, first_of, rest_of, IsRising};
 ghost use Rattle.due_queue.specs.Keys.{is_due_before, is_released_before};
 ghost use Rattle.job_table.specs.Queued.{AreQueued, AreLater};
@@ -49,7 +50,7 @@ impl Queues {
     pub(crate) fn reserve(&mut self) -> Result<(), Refusal>
         requires { length self.old.waiting < 2 ^ 32 }
         ensures ok { OnOk result (0 < self.new.room) }
-        ensures refused { IfErr result (λ refusal. refusal ≡ Refusal.NoMemory) }
+        ensures refused { FailsForMemory result }
         ensures waiting { self.new.waiting ≡ self.old.waiting }
         ensures ready { self.new.ready ≡ self.old.ready }
     {

@@ -1,7 +1,8 @@
 //! What the slots carried, kept in runs. Contracts see it as a list by slot.
 
-ghost use Rattle.std.specs.Prelude.{◌≡◌, ◌+◌, ◌<◌, ◌≤◌, ◌∷◌, ◌++◌, ◌==◌, [], length, replicate, OnOk, OnErr, IfErr, slice_get, vec_len};
+ghost use Rattle.std.specs.Prelude.{◌≡◌, ◌+◌, ◌<◌, ◌≤◌, ◌∷◌, ◌++◌, ◌==◌, [], length, replicate, OnOk, OnErr, slice_get, vec_len};
 ghost use Rattle.std.specs.Prelude.{vec_capacity};
+ghost use Rattle.slot_types.specs.Refusal.{FailsForMemory};
 ghost use Rattle.late_cert.specs.Runs.{slots_of};
 
 use slot_types::{JobNo, Refusal};
@@ -51,7 +52,7 @@ impl Carried {
     /// Adds what the next slot carried. Without memory for it (`NoMemory`) nothing changes.
     pub fn push(&mut self, number: Option<JobNo>) -> Result<(), Refusal>
         ensures ok { OnOk result (self.new ≡ self.old ++ number ∷ []) }
-        ensures refused { IfErr result (λ refusal. refusal ≡ Refusal.NoMemory) }
+        ensures refused { FailsForMemory result }
         ensures err { OnErr result (self.new ≡ self.old) }
     {
         self.push_run(number, 1)
@@ -61,7 +62,7 @@ impl Carried {
     /// Where the slot before carried the same too, they become one run.
     pub fn push_run(&mut self, number: Option<JobNo>, length: u32) -> Result<(), Refusal>
         ensures ok { OnOk result (self.new ≡ self.old ++ replicate length number) }
-        ensures refused { IfErr result (λ refusal. refusal ≡ Refusal.NoMemory) }
+        ensures refused { FailsForMemory result }
         ensures err { OnErr result (self.new ≡ self.old) }
     {
         if length == 0 {

@@ -1,6 +1,7 @@
 //! The certificate of a done job, by the stretch of slots before its completion.
 
-ghost use Rattle.std.specs.Prelude.{◌≡◌, ◌<◌, length, true, false, IfOk, IfErr, IfSome, IfNone};
+ghost use Rattle.std.specs.Prelude.{◌≡◌, ◌<◌, length, true, false, IfOk, IfSome, IfNone};
+ghost use Rattle.slot_types.specs.Refusal.{FailsForMemory};
 ghost use Rattle.late_cert.specs.declared.certificates.Certificate.{Certificate};
 ghost use Rattle.late_cert.specs.Rows.{RowsRise, IsNamedAt, due_of};
 ghost use Rattle.late_cert.specs.Stretch.{is_within, start_of, jobs_of};
@@ -33,7 +34,7 @@ pub fn build(
     ensures built { IfOk result (λ built. built ≡ certificate_of rows.now carried.now job) }
     ensures own { IfOk result (λ built. IfSome built (IsOwn rows.now carried.now job)) }
     ensures none { IfOk result (λ built. IfNone built ((c : Certificate) → IsOwn rows.now carried.now job c → ⊥)) }
-    ensures refused { IfErr result (λ refusal. refusal ≡ Refusal.NoMemory) }
+    ensures refused { FailsForMemory result }
 {
     let Some(certificate) = stretch(alloc, rows.as_slice(), carried, job)? else {
         return Ok(None);

@@ -2,6 +2,7 @@
 
 ghost use Rattle.std.specs.Prelude.{◌≡◌, ◌+◌, ◌-◌, ◌*◌, ◌≤◌, ◌<◌, ◌↔◌, ◌^◌, length, sum, slice_index, IsOk, IsNone, IfOk, IfErr, IfSome};
 ghost use Rattle.std.specs.Prelude.{IfNone, OnOk, OnErr, OnSome};
+ghost use Rattle.slot_types.specs.Refusal.{FailsForMemory};
 ghost use Rattle.plan_rules.specs.Bound.{MeetsBound, fmax_of};
 ghost use Rattle.plan_rules.specs.Accounts.{AreSound, total_of, given_of, opening, admitted, hold_spent, reserve_spent, settled, waived};
 
@@ -45,7 +46,7 @@ impl Ledger {
     pub fn new(alloc: Global, plan: DiePlan) -> Result<Self, Refusal>
         requires { MeetsBound plan }
         ensures ok { IfOk result (λ ledger. ledger ≡ opening plan) }
-        ensures err { IfErr result (λ refusal. refusal ≡ Refusal.NoMemory) }
+        ensures err { FailsForMemory result }
     {
         let tasks = plan.caps.len();
         let reserve = plan.shape.pages - plan.alpha;

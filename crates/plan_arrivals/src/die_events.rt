@@ -1,6 +1,7 @@
 //! What a script asks of a die, with the slots between.
 
-ghost use Rattle.std.specs.Prelude.{◌≡◌, ◌-◌, ◌≤◌, ◌++◌, ◌∷◌, List, IfOk, IfErr, OnOk, length, replicate};
+ghost use Rattle.std.specs.Prelude.{◌≡◌, ◌-◌, ◌≤◌, ◌++◌, ◌∷◌, List, IfOk, OnOk, length, replicate};
+ghost use Rattle.slot_types.specs.Refusal.{FailsForMemory};
 ghost use Rattle.task_script.specs.Feeds.{feed_of};
 ghost use Rattle.script_texts.specs.declared.script_rows.ScriptItem.{ScriptItem};
 ghost use Rattle.plan_arrivals.specs.Planned.{AreEventsOf};
@@ -18,7 +19,7 @@ pub type Events = Items<Event>;
 fn carry(events: &mut Events, now: u32, to: u32) -> Result<(), Refusal>
     requires { now ≤ to }
     ensures ok { OnOk result (events.new ≡ events.old ++ replicate (to - now) Event.Slot) }
-    ensures refused { IfErr result (λ refusal. refusal ≡ Refusal.NoMemory) }
+    ensures refused { FailsForMemory result }
 {
     for _ in now..to {
         events.push(Event::Slot)?;
@@ -32,7 +33,7 @@ fn add(events: &mut Events, now: u32, slots: u32, item: ScriptItem) -> Result<u3
     ensures within { IfOk result (λ after. after ≤ slots) }
     ensures ok { IfOk result (λ after. (rest : List ScriptItem) →
         events.old ++ later_events slots now (item ∷ rest) ≡ events.new ++ later_events slots after rest) }
-    ensures refused { IfErr result (λ refusal. refusal ≡ Refusal.NoMemory) }
+    ensures refused { FailsForMemory result }
 {
     let to = item.at.min(slots).max(now);
     carry(events, now, to)?;
@@ -52,7 +53,7 @@ fn add_own(
     ensures within { IfOk result (λ after. after ≤ slots) }
     ensures ok { IfOk result (λ after. (rest : List ScriptItem) →
         events.old ++ later_events slots now (feed_of (item ∷ rest) die) ≡ events.new ++ later_events slots after (feed_of rest die)) }
-    ensures refused { IfErr result (λ refusal. refusal ≡ Refusal.NoMemory) }
+    ensures refused { FailsForMemory result }
 {
     if item.die == die {
         add(events, now, slots, item)

@@ -1,6 +1,7 @@
 //! How the script of a plan's arrivals is made.
 
-ghost use Rattle.std.specs.Prelude.{◌≡◌, IfErr};
+ghost use Rattle.std.specs.Prelude.{IfErr};
+ghost use Rattle.slot_types.specs.Refusal.{FailsForMemory};
 ghost use Rattle.plan_arrivals.specs.Planned.{IsOwnFault};
 
 use crate::chances::Chance;
@@ -28,7 +29,7 @@ fn times_in(slots: u32, period: u32) -> u32 {
 
 /// Adds the tasks of a die, and answers how often they ask in so many slots.
 fn add_askers(askers: &mut Vec<Asker>, die: u32, plan: &DiePlan, slots: u32) -> Result<u32, Refusal>
-    ensures { IfErr result (λ refusal. refusal ≡ Refusal.NoMemory) }
+    ensures { FailsForMemory result }
 {
     let Some(times) = &plan.times else {
         return Ok(0);

@@ -1,6 +1,7 @@
 //! Why a plan is accepted or not, in sentences.
 
-ghost use Rattle.std.specs.Prelude.{◌≡◌, ◌↔◌, IsTrue, IfOk, IfErr};
+ghost use Rattle.std.specs.Prelude.{◌↔◌, IsTrue, IfOk};
+ghost use Rattle.slot_types.specs.Refusal.{FailsForMemory};
 ghost use Rattle.plan_design.specs.Explained.{IsAccepted};
 
 use crate::bounds::tell_bound;
@@ -24,7 +25,7 @@ pub struct Explained {
 /// Tells whether the plan of a text is accepted, as its reader judges it.
 fn tell_verdict(alloc: Global, text: &mut Vec<u8>, plan: &[u8]) -> Result<bool, Refusal>
     ensures said { IfOk result (λ is_accepted. IsTrue is_accepted ↔ IsAccepted plan.now) }
-    ensures refused { IfErr result (λ refusal. refusal ≡ Refusal.NoMemory) }
+    ensures refused { FailsForMemory result }
 {
     let (told, is_accepted) = match read_plan(alloc, plan) {
         Ok(_) => (writeln!(text, "The plan is accepted."), true),
@@ -64,7 +65,7 @@ fn tell_top(text: &mut Vec<u8>, plan: &PlanNumbers) -> io::Result<bool> {
 
 /// Tells what the numbers of a plan come to. The only refusal is NoMemory.
 fn tell_numbers(alloc: Global, text: &mut Vec<u8>, plan: &PlanNumbers) -> Result<(), Refusal>
-    ensures { IfErr result (λ refusal. refusal ≡ Refusal.NoMemory) }
+    ensures { FailsForMemory result }
 {
     match tell_top(text, plan) {
         Ok(true) => {}
@@ -82,7 +83,7 @@ fn tell_numbers(alloc: Global, text: &mut Vec<u8>, plan: &PlanNumbers) -> Result
 
 /// Tells what a text's plan comes to, or the fault of the text. The only refusal is NoMemory.
 fn tell_plan(alloc: Global, text: &mut Vec<u8>, plan: &[u8]) -> Result<(), Refusal>
-    ensures { IfErr result (λ refusal. refusal ≡ Refusal.NoMemory) }
+    ensures { FailsForMemory result }
 {
     match plan_numbers(alloc, plan) {
         Ok(numbers) => tell_numbers(alloc, text, &numbers),
@@ -101,7 +102,7 @@ fn tell_plan(alloc: Global, text: &mut Vec<u8>, plan: &[u8]) -> Result<(), Refus
 /// missing. The only refusal is NoMemory.
 pub fn explain(alloc: Global, plan: &[u8]) -> Result<Explained, Refusal>
     ensures said { IfOk result (λ explained. IsTrue explained.is_accepted ↔ IsAccepted plan.now) }
-    ensures refused { IfErr result (λ refusal. refusal ≡ Refusal.NoMemory) }
+    ensures refused { FailsForMemory result }
 {
     let mut text = Vec::new(alloc);
     let is_accepted = tell_verdict(alloc, &mut text, plan)?;

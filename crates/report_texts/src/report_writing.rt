@@ -5,8 +5,10 @@
 ghost use Rattle.std.specs.Prelude.{◌≡◌, ◌++◌, ◌∷◌, [], codes, decimal, IfOk, OnOk, IfErr, map, flat_map, ◌⊎◌};
 ghost use Rattle.std.specs.Fmt.{signed_decimal};
 ghost use Rattle.std.specs.Io.KnownBytes.{Appends};
+ghost use Rattle.slot_types.specs.Refusal.{FailsForMemory};
 ghost use Rattle.csv.specs.Writing.{default_writer, row_text};
-ghost use Rattle.report_texts.specs.ReportText.{cert_fields, cert_numbers, cert_record, die_records, header_fields, kind_word, numbers_field};
+ghost use Rattle.report_texts.specs.ReportText.{cert_fields, cert_numbers, cert_record, die_records, header_fields};
+ghost use Rattle.report_texts.specs.ReportText.{kind_word, numbers_field};
 ghost use Rattle.report_texts.specs.ReportText.{pages_field, records_text, report_text, row_fields, row_start};
 ghost use Rattle.text_base.specs.Pages.{page_word};
 ghost use Rattle.report_texts.specs.Commas.{after_commas};
@@ -218,7 +220,7 @@ fn put_report(text: &mut Vec<u8>, report: &Report) -> io::Result<()>
 /// The text of a report. The only refusal is NoMemory.
 fn text_of(alloc: Global, report: &Report) -> Result<Vec<u8>, Refusal>
     ensures text { IfOk result (λ text. text.items ≡ report_text report.now) }
-    ensures refused { IfErr result (λ refusal. refusal ≡ Refusal.NoMemory) }
+    ensures refused { FailsForMemory result }
 {
     let mut text = Vec::new(alloc);
     match put_report(&mut text, report) {

@@ -1,6 +1,7 @@
 //! Scripts, row by row.
 
-ghost use Rattle.std.specs.Prelude.{◌≡◌, ◌<◌, ◌≤◌, IfOk, IfErr, IfSome, None, length, option_map};
+ghost use Rattle.std.specs.Prelude.{◌≡◌, ◌<◌, ◌≤◌, IfOk, IfSome, None, length, option_map};
+ghost use Rattle.slot_types.specs.Refusal.{FailsForMemory};
 ghost use Rattle.text_base.specs.Plain.{IsPlain};
 
 use crate::script_rows::{RowHead, ScriptItem};
@@ -59,7 +60,7 @@ impl<R: Read> ScriptReader<R> {
         ensures script { IfOk result (λ script. script_left R.remaining script
             ≡ option_map (script_of (length plan.now) slots) (R.remaining reader)) }
         ensures bound { IfOk result (λ script. script_fits R.remaining script ≡ option_map (is_within 67108864) (R.remaining reader)) }
-        ensures refused { IfErr result (λ refusal. refusal ≡ Refusal.NoMemory) }
+        ensures refused { FailsForMemory result }
     {
         let lasts = vec![in alloc; 0u32; plan.len()]?;
         Ok(ScriptReader {

@@ -1,6 +1,7 @@
 //! The rows of a die's jobs and collections, and the certificate of its worst one.
 
-ghost use Rattle.std.specs.Prelude.{◌≡◌, ◌↔◌, None, IsOk, IfOk, IfErr, IfSome};
+ghost use Rattle.std.specs.Prelude.{◌≡◌, ◌↔◌, None, IsOk, IfOk, IfSome};
+ghost use Rattle.slot_types.specs.Refusal.{FailsForMemory};
 ghost use Rattle.late_cert.specs.Rows.{RowsRise};
 ghost use Rattle.die_log.specs.Rows.{rows, certificate};
 ghost use Rattle.die_log.specs.Certified.{NothingDone, IsOfWorst, HoldsOver, BindsAll};
@@ -35,7 +36,7 @@ fn row_in(number: u32, job: &Job) -> Option<JobRow>
 /// The rows of a table's jobs, by number.
 fn rows_in(alloc: Global, table: &JobTable) -> Result<JobRows, Refusal>
     ensures ok { IfOk result (λ made. made ≡ rows_in 0 table.now.jobs) }
-    ensures refused { IfErr result (λ refusal. refusal ≡ Refusal.NoMemory) }
+    ensures refused { FailsForMemory result }
 {
     let mut rows = JobRows::new(alloc);
     for number in 0..table.len() {
@@ -57,7 +58,7 @@ impl<N: Nand> DieCore<N> {
     pub fn rows(&self, alloc: Global) -> Result<JobRows, Refusal>
         ensures ok { IfOk result (λ made. made ≡ rows self.now.plan self.now.log) }
         ensures rise { IfOk result (λ made. RowsRise made) }
-        ensures refused { IfErr result (λ refusal. refusal ≡ Refusal.NoMemory) }
+        ensures refused { FailsForMemory result }
     {
         rows_in(alloc, &self.table)
     }
@@ -73,7 +74,7 @@ impl<N: Nand> DieCore<N> {
         ensures holds { IfOk result (λ built. IfSome built (HoldsOver self.now.plan self.now.log)) }
         ensures binds { IfOk result (λ built. IfSome built (BindsAll self.now.plan self.now.log)) }
         ensures nothing { NothingDone self.now.plan self.now.log → IsOk result }
-        ensures refused { IfErr result (λ refusal. refusal ≡ Refusal.NoMemory) }
+        ensures refused { FailsForMemory result }
     {
         match self.worst() {
             None => Ok(None),

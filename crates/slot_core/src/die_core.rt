@@ -1,6 +1,7 @@
 //! A die.
 
 ghost use Rattle.std.specs.Prelude.{◌≡◌, ◌↔◌, ◌≤◌, ◌⊎◌, [], false, length, max, IsOk, IfOk, IfErr, OnOk, OnErr};
+ghost use Rattle.slot_types.specs.Refusal.{FailsForMemory};
 ghost use Rattle.slot_types.specs.Shapes.{IsShape};
 ghost use Rattle.plan_rules.specs.Bound.{MeetsBound};
 ghost use Rattle.flash_die.specs.Flash.{IsFresh};
@@ -85,7 +86,7 @@ impl<N: Nand> DieCore<N> {
     /// The only refusal is `NoMemory`, where nothing changes; so many as are reserved already are never refused.
     pub fn reserve(&mut self, slots: u32) -> Result<(), Refusal>
         ensures ok { OnOk result (self.new ≡ record self.old { reserved = max self.old.reserved slots }) }
-        ensures refused { IfErr result (λ refusal. refusal ≡ Refusal.NoMemory) }
+        ensures refused { FailsForMemory result }
         ensures succeeds { slots ≤ self.old.reserved → IsOk result }
         ensures unchanged { OnErr result (self.new ≡ self.old) }
     {

@@ -1,6 +1,7 @@
 //! Events carried out one after the other.
 
-ghost use Rattle.std.specs.Prelude.{◌≡◌, [], length, All, IfOk, IfErr, OnErr};
+ghost use Rattle.std.specs.Prelude.{◌≡◌, [], length, All, IfOk, OnErr};
+ghost use Rattle.slot_types.specs.Refusal.{FailsForMemory};
 ghost use Rattle.slot_types.specs.declared.plans.Times.{Times};
 ghost use Rattle.plan_rules.specs.Times.{Passes};
 ghost use Rattle.plan_rules.specs.Keeping.{KeepsPlan};
@@ -36,7 +37,7 @@ impl<N: Nand> DieCore<N> {
         ensures ran { IfOk result (λ replies. IsRun self.old.plan (moment_of N.failures self.old) events replies
             (moment_of N.failures self.new)) }
         ensures plan { self.new.plan ≡ self.old.plan }
-        ensures refused { IfErr result (λ refusal. refusal ≡ Refusal.NoMemory) }
+        ensures refused { FailsForMemory result }
         ensures unchanged { OnErr result (self.new ≡ self.old) }
     {
         let mut replies = match Vec::with_capacity(alloc, events.len()) {
@@ -71,7 +72,7 @@ impl<N: Nand> DieCore<N> {
             → IsUnused (moment_of N.failures self.old) → All IsServed replies → IsInTime self.old.plan self.new.log) }
         ensures accepted { IfOk result (λ replies. (times : Times) → Passes self.old.plan times → KeepsPlan self.old.plan times events
             → IsUnused (moment_of N.failures self.old) → All FindsMemory replies → AreAcceptedUntilFault replies) }
-        ensures refused { IfErr result (λ refusal. refusal ≡ Refusal.NoMemory) }
+        ensures refused { FailsForMemory result }
         ensures unchanged { OnErr result (self.new ≡ self.old) }
     {
         // What a die keeps is known where one of its fields is used.

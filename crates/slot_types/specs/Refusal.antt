@@ -1,4 +1,5 @@
-use Rattle.std.specs.Prelude.{ℕ}
+-- Refusals.
+use Rattle.std.specs.Prelude.{◌≡◌, ℕ, Result, IfErr}
 use Rattle.slot_types.specs.declared.refusals.Refusal.{Refusal}
 use Rattle.slot_types.specs.declared.refusals.Refusal.TheVariants.{NoMemory, BadShape, BadPlan, UnknownDie, UnknownTask, EmptyJob}
 use Rattle.slot_types.specs.declared.refusals.Refusal.TheVariants.{TooManyOps, BadPage, ReleasePast, BadDue, JobsFull, NoTokens}
@@ -31,3 +32,7 @@ number_of ReadFault = 21
 number_of WriteFault = 22
 number_of PassesFull = 23
 number_of (PassesOut out) = 24
+
+-- if a call was refused, it was for want of memory alone
+abbrev pub FailsForMemory : {A : Type 0} → Result A Refusal → Type 0
+FailsForMemory result = IfErr result (λ refusal. refusal ≡ NoMemory)

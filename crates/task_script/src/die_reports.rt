@@ -1,6 +1,7 @@
 //! The report of a die.
 
-ghost use Rattle.std.specs.Prelude.{◌≡◌, IfOk, IfErr};
+ghost use Rattle.std.specs.Prelude.{◌≡◌, IfOk};
+ghost use Rattle.slot_types.specs.Refusal.{FailsForMemory};
 ghost use Rattle.task_script.specs.DieReports.{die_report_of, report_rows_of, row_as, kind_of, given_by};
 
 use die_log::exact_keeps_limits;
@@ -79,7 +80,7 @@ fn row_as(alloc: Global, job: JobNo, summary: JobSummary) -> ReportRow
 /// The rows of all jobs and collections of a die, by number.
 fn report_rows<N: Nand>(alloc: Global, core: &DieCore<N>) -> Result<ReportRows, Refusal>
     ensures ok { IfOk result (λ made. made ≡ report_rows_of core.now.plan core.now.log) }
-    ensures refused { IfErr result (λ refusal. refusal ≡ Refusal.NoMemory) }
+    ensures refused { FailsForMemory result }
 {
     core.promises();
     exact_keeps_limits();
@@ -102,7 +103,7 @@ fn report_rows<N: Nand>(alloc: Global, core: &DieCore<N>) -> Result<ReportRows, 
 /// It is read off the die's log alone. The only refusal is NoMemory.
 pub fn die_report<N: Nand>(alloc: Global, die: u32, core: &DieCore<N>) -> Result<DieReport, Refusal>
     ensures ok { IfOk result (λ report. report ≡ die_report_of core.now.plan core.now.log die) }
-    ensures refused { IfErr result (λ refusal. refusal ≡ Refusal.NoMemory) }
+    ensures refused { FailsForMemory result }
 {
     let rows = report_rows(alloc, core)?;
     let cert = core.certificate(alloc)?;

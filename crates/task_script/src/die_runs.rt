@@ -1,6 +1,7 @@
 //! Dies in memory that run the rows of a script, each behind its lock.
 
-ghost use Rattle.std.specs.Prelude.{◌≡◌, ◌≤◌, length, map, All, IfOk, IfErr};
+ghost use Rattle.std.specs.Prelude.{◌≡◌, ◌≤◌, length, map, All, IfOk};
+ghost use Rattle.slot_types.specs.Refusal.{FailsForMemory};
 ghost use Rattle.plan_rules.specs.Bound.{MeetsBound};
 ghost use Rattle.flash_die.specs.Memory.{fresh_memory};
 ghost use Rattle.turn_lock.specs.Views.{first_view};
@@ -21,7 +22,7 @@ use std::thread::Threads;
 pub fn split_all(alloc: Global, rows: Vec<DieRows>) -> Result<(Vec<Feed>, Vec<Lines>), Refusal>
     ensures feeds { IfOk result (λ made. made.0.items ≡ map arrivals_of rows.items) }
     ensures lines { IfOk result (λ made. made.1.items ≡ map lines_of rows.items) }
-    ensures refused { IfErr result (λ refusal. refusal ≡ Refusal.NoMemory) }
+    ensures refused { FailsForMemory result }
 {
     let mut feeds = Vec::new(alloc);
     let mut lines = Vec::new(alloc);
@@ -42,7 +43,7 @@ pub fn split_all(alloc: Global, rows: Vec<DieRows>) -> Result<(Vec<Feed>, Vec<Li
 /// A copy of the times of a plan.
 fn times_copy(alloc: Global, times: &Times) -> Result<Times, Refusal>
     ensures ok { IfOk result (λ copy. copy ≡ times.now) }
-    ensures refused { IfErr result (λ refusal. refusal ≡ Refusal.NoMemory) }
+    ensures refused { FailsForMemory result }
 {
     match Vec::from_slice(alloc, times.tasks.as_slice()) {
         Ok(tasks) => Ok(Times {
@@ -56,7 +57,7 @@ fn times_copy(alloc: Global, times: &Times) -> Result<Times, Refusal>
 /// A copy of a plan, with its times if it has any.
 fn plan_copy(alloc: Global, plan: &DiePlan) -> Result<DiePlan, Refusal>
     ensures ok { IfOk result (λ copy. copy ≡ plan.now) }
-    ensures refused { IfErr result (λ refusal. refusal ≡ Refusal.NoMemory) }
+    ensures refused { FailsForMemory result }
 {
     let times = match &plan.times {
         Some(times) => Some(times_copy(alloc, times)?),
@@ -77,7 +78,7 @@ fn plan_copy(alloc: Global, plan: &DiePlan) -> Result<DiePlan, Refusal>
 /// A copy of plans.
 fn plan_copies(alloc: Global, plans: &[DiePlan]) -> Result<StorePlan, Refusal>
     ensures ok { IfOk result (λ copies. copies ≡ plans.now) }
-    ensures refused { IfErr result (λ refusal. refusal ≡ Refusal.NoMemory) }
+    ensures refused { FailsForMemory result }
 {
     let mut copies = StorePlan::new(alloc);
     for plan in plans {
@@ -91,7 +92,7 @@ fn plan_copies(alloc: Global, plans: &[DiePlan]) -> Result<StorePlan, Refusal>
 fn devices(alloc: Global, plans: &[DiePlan]) -> Result<Vec<MemoryNand>, Refusal>
     requires bound { All MeetsBound plans.now }
     ensures ok { IfOk result (λ nands. nands.items ≡ map (λ plan. fresh_memory plan.shape) plans.now) }
-    ensures refused { IfErr result (λ refusal. refusal ≡ Refusal.NoMemory) }
+    ensures refused { FailsForMemory result }
 {
     let mut nands = Vec::new(alloc);
     for plan in plans {
@@ -117,7 +118,7 @@ fn new_store(
     requires bound { All MeetsBound plans.now }
     ensures own { IfOk result (λ made. map (λ pass. pass.lock) made.1.items ≡ made.0) }
     ensures first { IfOk result (λ made. map (λ pass. pass.view) made.1.items ≡ map first_view plans.now) }
-    ensures refused { IfErr result (λ refusal. refusal ≡ Refusal.NoMemory) }
+    ensures refused { FailsForMemory result }
 {
     let nands = devices(alloc, plans)?;
     let copies = plan_copies(alloc, plans)?;
@@ -141,7 +142,7 @@ pub fn run_store<R: Threads + Wait + Sync>(
     requires arrive { All run.AllArrive feeds.items }
     requires workers { (1 ≤ workers) × (workers ≤ 16) }
     ensures ran { IfOk result (λ ran. RanFeeds slots plans.now feeds.items ran.1 ran.0.items) }
-    ensures refused { IfErr result (λ refusal. refusal ≡ Refusal.NoMemory) }
+    ensures refused { FailsForMemory result }
 {
     let (store, mut passes) = new_store(alloc, plans)?;
     let ends = run_slots(rt, &store, &mut passes, feeds, slots, workers, &FreeGate)?;

@@ -1,6 +1,7 @@
 //! The rows of a script, by die.
 
 ghost use Rattle.std.specs.Prelude.{◌≡◌, [], length, replicate, IfOk, IfErr};
+ghost use Rattle.slot_types.specs.Refusal.{FailsForMemory};
 ghost use Rattle.task_script.specs.Feeds.{AreFeedsOf, RefusesScript};
 
 use crate::rows::DieRows;
@@ -12,7 +13,7 @@ use std::io::Read;
 /// By die no row.
 fn no_feeds(alloc: Global, dies: usize) -> Result<Vec<DieRows>, Refusal>
     ensures ok { IfOk result (λ feeds. feeds.items ≡ replicate dies []) }
-    ensures refused { IfErr result (λ refusal. refusal ≡ Refusal.NoMemory) }
+    ensures refused { FailsForMemory result }
 {
     let mut feeds = Vec::new(alloc);
     for _ in 0..dies {

@@ -1,6 +1,7 @@
 //! What became of the rows of a script, and their counts.
 
-ghost use Rattle.std.specs.Prelude.{◌≡◌, ◌+◌, [], IfOk, IfErr, OnOk};
+ghost use Rattle.std.specs.Prelude.{◌≡◌, ◌+◌, [], IfOk, OnOk};
+ghost use Rattle.slot_types.specs.Refusal.{FailsForMemory};
 ghost use Rattle.task_script.specs.RunCounts.{count_of, counted_with, first_by};
 
 use slot_types::Refusal;
@@ -39,7 +40,7 @@ fn first_by(end: &RowEnd, first: Option<(u32, u8)>) -> Option<(u32, u8)>
 /// A count with one row more, or none where there are more than can be counted.
 fn one_more(count: u64) -> Result<u64, Refusal>
     ensures ok { IfOk result (λ more. more ≡ count + 1) }
-    ensures refused { IfErr result (λ refusal. refusal ≡ Refusal.NoMemory) }
+    ensures refused { FailsForMemory result }
 {
     count.checked_add(1).ok_or(Refusal::NoMemory)
 }
@@ -59,7 +60,7 @@ impl RunCount {
     /// Counts a row. `NoMemory` only where there are more rows than 64 bits count.
     pub(crate) fn add(&mut self, end: RowEnd) -> Result<(), Refusal>
         ensures ok { OnOk result (self.new ≡ counted_with self.old end) }
-        ensures refused { IfErr result (λ refusal. refusal ≡ Refusal.NoMemory) }
+        ensures refused { FailsForMemory result }
     {
         match end.refusal {
             None => self.accepted = one_more(self.accepted)?,

@@ -1,6 +1,7 @@
 //! Scripts that are run on the dies of a store.
 
 ghost use Rattle.std.specs.Prelude.{◌≡◌, ◌≤◌, ◌++◌, [], None, All, length, map, IfOk, IfErr, IfSome, OnErr, OnOk};
+ghost use Rattle.slot_types.specs.Refusal.{FailsForMemory};
 ghost use Rattle.plan_rules.specs.Bound.{MeetsBound};
 ghost use Rattle.task_script.specs.DieReports.{die_report_of};
 ghost use Rattle.task_script.specs.Feeds.{AllArrive};
@@ -47,7 +48,7 @@ fn take_refused(refused: &[RefusedEvent], place: usize) -> (Option<Refusal>, &[R
 /// Counts the rows with these lines, by the events that were refused.
 fn add_rows(lines: &[u32], refused: &[RefusedEvent], count: &mut RunCount) -> Result<(), Refusal>
     ensures ok { OnOk result (count.new ≡ counted_behind count.old (ends_from 0 lines.now refused.now)) }
-    ensures refused { IfErr result (λ refusal. refusal ≡ Refusal.NoMemory) }
+    ensures refused { FailsForMemory result }
 {
     let mut rest = refused;
     for place in 0..lines.len() {
@@ -62,7 +63,7 @@ fn add_rows(lines: &[u32], refused: &[RefusedEvent], count: &mut RunCount) -> Re
 /// Adds the report of a die, if it has rows.
 fn add_report(report: &mut Report, made: DieReport) -> Result<(), Refusal>
     ensures ok { OnOk result (report.new ≡ report.old ++ with_rows made []) }
-    ensures refused { IfErr result (λ refusal. refusal ≡ Refusal.NoMemory) }
+    ensures refused { FailsForMemory result }
 {
     if made.rows.is_empty() {
         return Ok(());
@@ -75,7 +76,7 @@ fn add_report(report: &mut Report, made: DieReport) -> Result<(), Refusal>
 fn none_stopped(ends: &[DieEnd]) -> Result<(), Refusal>
     requires memory { All (λ end. IfSome end.stop (λ stop. stop.refusal ≡ Refusal.NoMemory)) ends.now }
     ensures ok { OnOk result (All (λ end. end.stop ≡ None) ends.now) }
-    ensures refused { IfErr result (λ refusal. refusal ≡ Refusal.NoMemory) }
+    ensures refused { FailsForMemory result }
 {
     for end in ends {
         match end.stop {
@@ -89,7 +90,7 @@ fn none_stopped(ends: &[DieEnd]) -> Result<(), Refusal>
 /// The report of a die, which is given up.
 fn last_report(alloc: Global, number: u32, die: DieCore<MemoryNand>) -> Result<DieReport, Refusal>
     ensures ok { IfOk result (λ report. report ≡ die_report_of die.plan die.log number) }
-    ensures refused { IfErr result (λ refusal. refusal ≡ Refusal.NoMemory) }
+    ensures refused { FailsForMemory result }
 {
     die_report(alloc, number, &die)
 }
@@ -107,7 +108,7 @@ fn gather(
     requires ends { length ends.now ≡ length dies.items }
     ensures report { IfOk result (λ ran. ran.report ≡ reports_of 0 dies.items) }
     ensures count { IfOk result (λ ran. ran.count ≡ count_of (all_ends lines.now ends.now)) }
-    ensures refused { IfErr result (λ refusal. refusal ≡ Refusal.NoMemory) }
+    ensures refused { FailsForMemory result }
 {
     let mut ran = RanStore {
         report: Report::new(alloc),
@@ -141,7 +142,7 @@ fn run_dies<R: Threads + Wait + Sync>(
     requires slots { slots ≤ MAX_SLOT }
     requires workers { (1 ≤ workers) × (workers ≤ 16) }
     ensures ran { IfOk result (λ ran. HaveRun slots rows.items plans.now ran.report ran.count) }
-    ensures refused { IfErr result (λ refusal. refusal ≡ Refusal.NoMemory) }
+    ensures refused { FailsForMemory result }
 {
     let (feeds, lines) = split_all(alloc, rows)?;
     let (dies, ends) = run_store(rt, alloc, plans, feeds, slots, workers)?;

@@ -1,5 +1,6 @@
 //! The lock and its calls. The condition of each: the pass is of this lock.
 ghost use Rattle.std.specs.Prelude.{◌≡◌, [], ◌++◌, ◌∷◌, length, true, if◌then◌else◌, IsOk, IfOk, IfErr};
+ghost use Rattle.slot_types.specs.Refusal.{FailsForMemory};
 ghost use Rattle.slot_types.specs.declared.refusals.Refusal.TheVariants.{NoMemory, PassesFull};
 ghost use Rattle.turn_lock.specs.Log.{entry, calls_by, AllBy};
 ghost use Rattle.turn_lock.specs.Views.{first_view, IsLive, IsSamePass};
@@ -53,7 +54,7 @@ impl<B: Book> Turned<B> {
         ensures own { IfOk result (λ made. made.1.lock ≡ made.0) }
         ensures first { IfOk result (λ made. made.1.view ≡ first_view (B.about book)) }
         ensures live { IfOk result (λ made. IsLive made.1.view) }
-        ensures refused { IfErr result (λ refusal. refusal ≡ NoMemory) }
+        ensures refused { FailsForMemory result }
     {
         let about = Snapshot::of(&book);
         let word = 2 * book.len();

@@ -1,7 +1,8 @@
 //! The closed blocks that no collection has taken, each with its count of valid pages.
 
 ghost use Rattle.std.specs.Prelude.{◌≡◌, ◌≢◌, ℕ, ◌+◌, ◌-◌, ◌*◌, ◌<◌, ◌≤◌, ◌↔◌, Some, None, length, replicate, slice_index_or, slice_set};
-ghost use Rattle.std.specs.Prelude.{IsNone, IsSome, IsSomeAnd, IfOk, IfErr, IfSome, IfNone};
+ghost use Rattle.std.specs.Prelude.{IsNone, IsSome, IsSomeAnd, IfOk, IfSome, IfNone};
+ghost use Rattle.slot_types.specs.Refusal.{FailsForMemory};
 ghost use Rattle.victim_pick.specs.Candidates.{count_of, lowered, HasNone, IsLeast, without};
 ghost use Rattle.victim_pick.specs.Search.{AreEmpty, IsFirstFrom};
 ghost use Rattle.victim_pick.specs.Sets.{HasSet, IsFirstBelow};
@@ -52,7 +53,7 @@ impl Victims {
     pub fn new(alloc: Global, blocks: u32, pages: u32) -> Result<Victims, Refusal>
         ensures ok { IfOk result (λ victims. victims ≡ record
             { pages = pages; counts = replicate blocks None; erases = replicate blocks None }) }
-        ensures err { IfErr result (λ refusal. refusal ≡ Refusal.NoMemory) }
+        ensures err { FailsForMemory result }
     {
         Ok(Victims {
             counts: vec![in alloc; None; blocks as usize]?,

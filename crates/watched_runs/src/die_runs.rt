@@ -1,6 +1,7 @@
 //! A die in memory that runs the rows of a script, and what is noted of it.
 
-ghost use Rattle.std.specs.Prelude.{◌≡◌, ◌+◌, ◌≤◌, [], IfOk, IfErr, OnOk};
+ghost use Rattle.std.specs.Prelude.{◌≡◌, ◌+◌, ◌≤◌, [], IfOk, OnOk};
+ghost use Rattle.slot_types.specs.Refusal.{FailsForMemory};
 ghost use Rattle.plan_rules.specs.Bound.{MeetsBound};
 ghost use Rattle.die_log.specs.Log.{now};
 ghost use Rattle.die_wear.specs.Wear.{IsWearOf};
@@ -41,7 +42,7 @@ pub fn whose(core: &DieCore<MemoryNand>, job: JobNo) -> Whose {
 
 /// Notes in a window what was done in a slot. The only refusal is NoMemory.
 fn note(window: &mut Window, core: &DieCore<MemoryNand>, reply: &SlotReply) -> Result<(), Refusal>
-    ensures { IfErr result (λ refusal. refusal ≡ Refusal.NoMemory) }
+    ensures { FailsForMemory result }
 {
     if !window.has(reply.slot) {
         return Ok(());
@@ -66,7 +67,7 @@ impl DieRun {
         ensures plan { IfOk result (λ run. run.core.plan ≡ plan) }
         ensures log { IfOk result (λ run. run.core.log ≡ []) }
         ensures die { IfOk result (λ run. run.die ≡ die) }
-        ensures refused { IfErr result (λ refusal. refusal ≡ Refusal.NoMemory) }
+        ensures refused { FailsForMemory result }
     {
         let tally = Tally::new(alloc, plan.shape.blocks)?;
         let nand = match MemoryNand::new(alloc, plan.shape) {

@@ -1,6 +1,7 @@
 //! Runs that are drawn.
 
-ghost use Rattle.std.specs.Prelude.{◌≡◌, ◌≤◌, All, length, IfOk, IfErr, OnOk};
+ghost use Rattle.std.specs.Prelude.{◌≤◌, All, length, IfOk, OnOk};
+ghost use Rattle.slot_types.specs.Refusal.{FailsForMemory};
 ghost use Rattle.plan_rules.specs.Bound.{MeetsBound};
 
 use crate::die_runs::{DieRun, whose};
@@ -15,7 +16,7 @@ use std::io::Read;
 
 /// What became of a job. The only refusal is NoMemory.
 fn end_of(alloc: Global, core: &DieCore<MemoryNand>, job: JobNo) -> Result<End, Refusal>
-    ensures { IfErr result (λ refusal. refusal ≡ Refusal.NoMemory) }
+    ensures { FailsForMemory result }
 {
     match core.outcome(alloc, job) {
         Ok(Outcome::Waiting) => Ok(End::Waiting),
@@ -27,7 +28,7 @@ fn end_of(alloc: Global, core: &DieCore<MemoryNand>, job: JobNo) -> Result<End, 
 
 /// The jobs and collections that have something in the window of a run. The only refusal is NoMemory.
 fn rows_in(alloc: Global, run: &DieRun) -> Result<Vec<Row>, Refusal>
-    ensures { IfErr result (λ refusal. refusal ≡ Refusal.NoMemory) }
+    ensures { FailsForMemory result }
 {
     let mut rows = Vec::new(alloc);
     let slots = run.core.now();
@@ -54,7 +55,7 @@ fn rows_in(alloc: Global, run: &DieRun) -> Result<Vec<Row>, Refusal>
 
 /// The worst of a die, with the stretch of its certificate, where something is done. The only refusal is NoMemory.
 fn worst_of(alloc: Global, core: &DieCore<MemoryNand>) -> Result<Option<Worst>, Refusal>
-    ensures { IfErr result (λ refusal. refusal ≡ Refusal.NoMemory) }
+    ensures { FailsForMemory result }
 {
     match core.certificate(alloc)? {
         None => Ok(None),
@@ -70,7 +71,7 @@ fn worst_of(alloc: Global, core: &DieCore<MemoryNand>) -> Result<Option<Worst>, 
 
 /// The picture of a run. The only refusal is NoMemory.
 fn picture_of(alloc: Global, run: &DieRun) -> Result<Vec<u8>, Refusal>
-    ensures { IfErr result (λ refusal. refusal ≡ Refusal.NoMemory) }
+    ensures { FailsForMemory result }
 {
     let rows = rows_in(alloc, run)?;
     let worst = worst_of(alloc, &run.core)?;
