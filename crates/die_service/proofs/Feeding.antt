@@ -1,23 +1,21 @@
 -- The rows of a feed, and what a course reads of them.
-use Rattle.std.proofs.Common.{◌≡◌, ℕ, zero, suc, ◌+◌, ◌<◌, ◌≤◌, Bool, true, false, cond, List, [], ◌∷◌, ◌++◌, Option, Some, None}
+use Rattle.std.proofs.Common.{◌≡◌, ℕ, zero, suc, ◌+◌, ◌<◌, ◌≤◌, Bool, true, false, List, [], ◌∷◌, ◌++◌, Option, Some, None}
 use Rattle.std.proofs.Common.{refl, sym, ap, ◌∙◌, subst, arith, length, take, drop, slice_get, length-append}
 use Rattle.std.specs.Prelude.{option_map}
-use Rattle.std.specs.List.{AllByRecursion, take_while}
-use Rattle.std.proofs.lemmas.Bool.{lt-leb}
+use Rattle.std.specs.List.{AllByRecursion}
 use Rattle.std.proofs.Math.Seq.{drop-append_seam}
 use Rattle.std.proofs.lemmas.List.{length-take, length-drop, take_all, take-append-le, drop-append-le, map-append}
 use Rattle.std.proofs.lemmas.List.Elements.{All-from_recursion, recursion_from_All, All-push, All-weaker}
-use Rattle.std.proofs.lemmas.List.Sums.{take_while-cons}
 use Rattle.std.proofs.lemmas.Option.{none-some, same_Some, slice_get-map}
-use Rattle.slot_types.specs.Arrivals.{IsArrival}
+use Rattle.slot_types.specs.Arrivals.{IsArrival, arrival_of}
+use Rattle.slot_types.proofs.Arriving.{arrived_none, later_none}
 use Rattle.slot_types.specs.declared.events.Event.{Event}
 use Rattle.slot_types.specs.declared.events.Op.{Op}
-use Rattle.slot_core.specs.Events.{arrival_of}
 use Rattle.die_service.specs.declared.ends.RefusedEvent.{RefusedEvent}
 use Rattle.die_service.specs.declared.feeds.Arrival.{Arrival}
 use Rattle.die_service.specs.declared.feeds.FeedRow.{FeedRow}
 use Rattle.die_service.specs.Feeds.{op_count, HaveAtMost, ops_at, event_at, arrival_at, feed_at, IsRowOf, AreRowsOf}
-use Rattle.die_service.specs.Runs.{AllArrive, is_due}
+use Rattle.die_service.specs.Runs.{AllArrive, comes_at}
 use Rattle.die_service.specs.Drives.{Course, Comes, NoneDue}
 
 -- Rows
@@ -93,8 +91,8 @@ pub place_at : (ops : List Op) (rows : List FeedRow) (n : ℕ) (row : FeedRow) �
 place_at ops rows n row at = slice_get-map (arrival_at ops) rows n ∙ ap (option_map (arrival_at ops)) at
 
 -- there is room for the operations of the job of a place
-pub room_at : (ops : List Op) (most room : ℕ) (rows : List FeedRow) (n : ℕ) (row : FeedRow) → slice_get rows n ≡ Some row → row.head.collects
-    ≡ false → IsRowOf ops most row → HaveAtMost room (feed_at ops rows) → row.op_count ≤ room
+pub room_at : (ops : List Op) (most room : ℕ) (rows : List FeedRow) (n : ℕ) (row : FeedRow) → slice_get rows n ≡ Some row
+    → row.head.collects ≡ false → IsRowOf ops most row → HaveAtMost room (feed_at ops rows) → row.op_count ≤ room
 room_at ops most room rows n row at job is h =
     let few : op_count (event_at ops row) ≤ room = all_at (λ (a : Arrival). op_count a.event ≤ room) (feed_at ops rows) n
     (arrival_at ops row) (recursion_from_All (λ (a : Arrival). op_count a.event ≤ room) (feed_at ops rows) h)
@@ -126,9 +124,7 @@ pub none_left : (clock place : ℕ) (feed : List Arrival) → length feed ≤ pl
 none_left clock place feed past = subst (NoneDue clock) (sym (drop_past feed place past)) (refl, refl)
 
 none_by : (clock : ℕ) (a : Arrival) (rest : List Arrival) → clock < a.at → NoneDue clock (a ∷ rest)
-none_by clock a rest later =
-    let no : is_due clock a ≡ false = lt-leb a.at clock later in
-    (take_while-cons (is_due clock) a rest ∙ ap (λ (b : Bool). cond b (a ∷ take_while (is_due clock) rest) []) no, rw no refl)
+none_by clock a rest later = (arrived_none comes_at clock a rest later, later_none comes_at clock a rest later)
 
 -- the next event comes later
 pub none_yet : (clock place at : ℕ) (feed : List Arrival) → option_map (λ (a : Arrival). a.at) (slice_get feed place) ≡ Some at → clock < at

@@ -1,13 +1,14 @@
 //! The events that a run brings to a die.
 
-ghost use Rattle.std.specs.Prelude.{◌≡◌, ◌<◌, ◌∷◌, ◌++◌, [], Some, length, slice_get, option_map, vec_capacity, IfOk, IfErr, OnOk, OnErr};
-ghost use Rattle.slot_types.specs.declared.events.Event.TheVariants as events;
+ghost use Rattle.std.specs.Prelude.{◌≡◌, ◌<◌, ◌∷◌, ◌++◌, [], Some, length, slice_get, option_map, vec_capacity, IfOk, OnOk, OnErr};
+ghost use Rattle.slot_types.specs.Refusal.{FailsForMemory};
+ghost use Rattle.slot_types.specs.Arrivals.{arrival_of};
 ghost use Rattle.slot_core.specs.Events.{with_ops};
 ghost use Rattle.die_service.specs.Feeds.{HaveAtMost};
 
 use crate::packed_ops::PackedOps;
-use slot_core::{EventHead, JobHead};
-use slot_types::{Event, Op, Refusal, TaskNo};
+use slot_core::EventHead;
+use slot_types::{Event, JobHead, Op, Refusal};
 use std::alloc::Global;
 use std::marker::Model;
 
@@ -52,7 +53,7 @@ impl Model for Feed {
 /// A number of operations as a row keeps it. What 32 bits can't count finds no memory.
 fn count_in_row(len: usize) -> Result<u32, Refusal>
     ensures ok { IfOk result (λ count. count ≡ len) }
-    ensures refused { IfErr result (λ refusal. refusal ≡ Refusal.NoMemory) }
+    ensures refused { FailsForMemory result }
 {
     if len > u32::MAX as usize {
         return Err(Refusal::NoMemory);
@@ -79,17 +80,10 @@ impl Feed {
         self.rows.len()
     }
 
-    /// Adds a job that comes before slot `at`. Refused with `NoMemory`, the feed stays as it was.
-    pub fn push_job(
-        &mut self,
-        at: u32,
-        task: TaskNo,
-        release: u32,
-        due: u32,
-        ops: &[Op],
-    ) -> Result<(), Refusal>
-        ensures ok { OnOk result (self.new ≡ self.old ++ record { at = at; event = events.Submit task release due ops.now } ∷ []) }
-        ensures refused { IfErr result (λ refusal. refusal ≡ Refusal.NoMemory) }
+    /// Adds a row of a job of these operations, or of a collection.
+    fn push_row(&mut self, at: u32, head: JobHead, ops: &[Op]) -> Result<(), Refusal>
+        ensures ok { OnOk result (self.new ≡ self.old ++ record { at = at; event = arrival_of head ops.now } ∷ []) }
+        ensures refused { FailsForMemory result }
         ensures err { OnErr result (self.new ≡ self.old) }
     {
         let first_op = count_in_row(self.ops.len())?;
@@ -99,43 +93,24 @@ impl Feed {
         self.most = self.most.max(op_count);
         self.rows.push_reserved(FeedRow {
             at,
-            head: JobHead {
-                collects: false,
-                task,
-                release,
-                due,
-            },
+            head,
             first_op,
             op_count,
         });
         Ok(())
     }
 
-    /// Adds a collection that comes before slot `at`. Refused with `NoMemory`, the feed stays as it was.
-    pub fn push_collection(
-        &mut self,
-        at: u32,
-        task: TaskNo,
-        release: u32,
-        due: u32,
-    ) -> Result<(), Refusal>
-        ensures ok { OnOk result (self.new ≡ self.old ++ record { at = at; event = events.Collect task release due } ∷ []) }
-        ensures refused { IfErr result (λ refusal. refusal ≡ Refusal.NoMemory) }
+    /// Adds a job of these operations that comes before slot `at`, or a collection, which leaves them aside. Refused with
+    /// `NoMemory`, the feed stays as it was.
+    pub fn push(&mut self, at: u32, head: JobHead, ops: &[Op]) -> Result<(), Refusal>
+        ensures ok { OnOk result (self.new ≡ self.old ++ record { at = at; event = arrival_of head ops.now } ∷ []) }
+        ensures refused { FailsForMemory result }
         ensures err { OnErr result (self.new ≡ self.old) }
     {
-        self.rows.reserve(1)?;
-        self.rows.push_reserved(FeedRow {
-            at,
-            head: JobHead {
-                collects: true,
-                task,
-                release,
-                due,
-            },
-            first_op: 0,
-            op_count: 0,
-        });
-        Ok(())
+        if head.collects {
+            return self.push_row(at, head, &[]);
+        }
+        self.push_row(at, head, ops)
     }
 
     /// The most operations that a job of the feed has.

@@ -13,9 +13,9 @@ use Rattle.slot_types.specs.declared.events.Op.TheVariants.{Read, Trim}
 use Rattle.slot_types.specs.declared.pages.PageData.{PageData}
 use Rattle.slot_types.specs.declared.refusals.Refusal.{Refusal}
 use Rattle.script_texts.specs.AskedPages.{AsksPages, WritesPage}
-use Rattle.script_texts.specs.Heads.{asked_by}
 use Rattle.text_base.specs.Readings.{Shows}
-use Rattle.script_texts.specs.declared.script_rows.RowHead.{RowHead}
+use Rattle.slot_types.specs.Arrivals.{arrival_of}
+use Rattle.slot_types.specs.declared.events.JobHead.{JobHead}
 use Rattle.script_texts.specs.ScriptRows.{fault}
 use Rattle.text_base.specs.Number.{number_of}
 use Rattle.text_base.specs.Ops.{op_of, ops_of, ops_or, write_of, write_to}
@@ -113,7 +113,7 @@ ops_found line None ops e = absurd cc
 ops_found line (Some found) ops e = ap Some (same_ok found ops e)
 
 -- the operations that were put write pages
-pub put_read : (r : Result (Unit {0}) Refusal) (line : ℕ) (field : List ℕ) (ops : List Op) (head : RowHead) → head.collects ≡ false
-    → Shows (λ _. ops) r (ops_or line (ops_of field)) → OnOk r (AsksPages (asked_by head ops))
+pub put_read : (r : Result (Unit {0}) Refusal) (line : ℕ) (field : List ℕ) (ops : List Op) (head : JobHead) → head.collects ≡ false
+    → Shows (λ _. ops) r (ops_or line (ops_of field)) → OnOk r (AsksPages (arrival_of head ops))
 put_read (Ok x) line field ops head job put = rw job (ops_read field ops (ops_found line (ops_of field) ops put))
 put_read (Err e) line field ops head job put = tt

@@ -1,19 +1,14 @@
 -- A row of a script, of its head and its operations.
-use Rattle.std.specs.Prelude.{◌≡◌, true, List, [], Option, Some, None, Result, Ok, Err, if◌then◌else◌}
-use Rattle.slot_types.specs.declared.events.Event.{Event}
-use Rattle.slot_types.specs.declared.events.Event.TheVariants.{Submit, Collect}
+use Rattle.std.specs.Prelude.{◌≡◌, true, List, [], Option, Some, None, Result, Ok, Err}
+use Rattle.slot_types.specs.Arrivals.{arrival_of}
 use Rattle.slot_types.specs.declared.events.Op.{Op}
 use Rattle.slot_types.specs.declared.refusals.Refusal.{Refusal}
 use Rattle.script_texts.specs.declared.script_rows.RowHead.{RowHead}
 use Rattle.script_texts.specs.declared.script_rows.ScriptItem.{ScriptItem}
 
--- what a row asks of its die: a collection, or a job of these operations
-abbrev pub asked_by : RowHead → List Op → Event
-asked_by head ops = if head.collects then Collect head.task head.release head.due else Submit head.task head.release head.due ops
-
 -- the row of a head and its operations
 abbrev pub row_of : RowHead → List Op → ScriptItem
-row_of head ops = record { line = head.line; at = head.at; die = head.die; event = asked_by head ops }
+row_of head ops = record { line = head.line; at = head.at; die = head.die; event = arrival_of head.job ops }
 
 -- what was read, as rows
 abbrev pub row_read : Result (Option RowHead) Refusal → List Op → Result (Option ScriptItem) Refusal
@@ -23,4 +18,4 @@ row_read (Err e) ops = Err e
 
 -- a collection has no operations
 abbrev pub HasOwnOps : RowHead → List Op → Type 0
-HasOwnOps head ops = head.collects ≡ true → ops ≡ []
+HasOwnOps head ops = head.job.collects ≡ true → ops ≡ []

@@ -2,15 +2,16 @@
 
 ghost use Rattle.std.specs.Prelude.{◌≡◌, ◌<◌, length, IfOk, OnOk};
 ghost use Rattle.csv.specs.Records.{fields_of};
+ghost use Rattle.slot_types.specs.Arrivals.{arrival_of};
 ghost use Rattle.script_texts.specs.AskedPages.{AsksPages, RowHasPages};
 ghost use Rattle.script_texts.specs.Arrivals.{Arrives};
-ghost use Rattle.script_texts.specs.Heads.{HasOwnOps, asked_by, row_of};
+ghost use Rattle.script_texts.specs.Heads.{HasOwnOps, row_of};
 ghost use Rattle.script_texts.specs.ScriptRows.{collects_at, event_of, item_of, number_at};
 ghost use Rattle.text_base.specs.Ops.{ops_of, ops_or};
 ghost use Rattle.text_base.specs.Readings.{Shows};
 
 use csv::ByteRecord;
-use slot_types::{Cause, Event, OpList, Refusal, TaskNo};
+use slot_types::{Cause, Event, JobHead, OpList, Refusal, TaskNo};
 use text_base::{field_in, number, put_list};
 
 /// What a row of a script asks.
@@ -32,11 +33,7 @@ pub struct RowHead {
     /// It comes before this slot.
     pub at: u32,
     pub die: u32,
-    /// Whether it asks for a collection, and not for a job.
-    pub collects: bool,
-    pub task: TaskNo,
-    pub release: u32,
-    pub due: u32,
+    pub job: JobHead,
 }
 
 impl RowHead {
@@ -46,27 +43,11 @@ impl RowHead {
     pub fn with_ops(self, ops: OpList) -> ScriptItem
         ensures { result ≡ row_of self ops }
     {
-        let RowHead {
-            task,
-            release,
-            due,
-            ..
-        } = self;
-        let event = if self.collects {
-            Event::Collect { task, release, due }
-        } else {
-            Event::Submit {
-                task,
-                release,
-                due,
-                ops,
-            }
-        };
         ScriptItem {
             line: self.line,
             at: self.at,
             die: self.die,
-            event,
+            event: self.job.with_ops(ops),
         }
     }
 }
@@ -121,12 +102,12 @@ fn put_ops(ops: &mut OpList, field: &[u8], line: u32) -> Result<(), Refusal>
 
 /// Puts the operations of a row in place of others, in their memory: a collection has none.
 fn put_asked(ops: &mut OpList, head: &RowHead, field: &[u8]) -> Result<(), Refusal>
-    ensures event { Shows (λ _. asked_by head.now ops.new) result
-        (event_of head.now.line head.now.collects head.now.task head.now.release head.now.due field.now) }
-    ensures pages { OnOk result (AsksPages (asked_by head.now ops.new)) }
+    ensures event { Shows (λ _. arrival_of head.now.job ops.new) result
+        (event_of head.now.line head.now.job.collects head.now.job.task head.now.job.release head.now.job.due field.now) }
+    ensures pages { OnOk result (AsksPages (arrival_of head.now.job ops.new)) }
     ensures own { OnOk result (HasOwnOps head.now ops.new) }
 {
-    if !head.collects {
+    if !head.job.collects {
         return put_ops(ops, field, head.line);
     }
     ops.clear();
@@ -183,10 +164,12 @@ pub fn take_item(
         line,
         at,
         die,
-        collects,
-        task: TaskNo(task),
-        release,
-        due,
+        job: JobHead {
+            collects,
+            task: TaskNo(task),
+            release,
+            due,
+        },
     };
     put_asked(ops, &head, field_in(row, 6))?;
     Ok(head)

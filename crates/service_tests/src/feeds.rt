@@ -4,7 +4,7 @@ ghost use Rattle.std.specs.Prelude.{All, IfOk};
 ghost use Rattle.die_service.specs.Runs.{AllArrive};
 
 use die_service::Feed;
-use slot_types::{Op, Refusal, TaskNo};
+use slot_types::{JobHead, Op, Refusal, TaskNo};
 use std::alloc::Global;
 
 /// A job of one operation of task 0. It comes before the slot of its release.
@@ -22,7 +22,13 @@ fn feed(alloc: Global, jobs: &[Job]) -> Result<Feed, Refusal>
     let mut feed = Feed::new(alloc);
     for job in jobs {
         let Job { release, due, op } = *job;
-        feed.push_job(release, TaskNo(0), release, due, &[op])?;
+        let head = JobHead {
+            collects: false,
+            task: TaskNo(0),
+            release,
+            due,
+        };
+        feed.push(release, head, &[op])?;
     }
     Ok(feed)
 }

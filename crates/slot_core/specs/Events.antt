@@ -1,6 +1,6 @@
 -- An event that is carried out on a die: what it is answered, and what it leaves.
-use Rattle.std.specs.Prelude.{◌≡◌, ◌≢◌, ◌⊎◌, ℕ, ◌<◌, Bool, true, false, List, if◌then◌else◌}
-use Rattle.slot_types.specs.Arrivals.{IsArrival}
+use Rattle.std.specs.Prelude.{◌≡◌, ◌≢◌, ◌⊎◌, ℕ, ◌<◌, Bool, true, false, List}
+use Rattle.slot_types.specs.Arrivals.{IsArrival, arrival_of}
 use Rattle.slot_types.specs.declared.events.Event.{Event}
 use Rattle.slot_types.specs.declared.events.Event.TheVariants as events
 use Rattle.slot_types.specs.declared.events.Op.{Op}
@@ -13,15 +13,9 @@ use Rattle.slot_core.specs.declared.events.EventHead.{EventHead}
 use Rattle.slot_core.specs.declared.events.EventHead.TheVariants as heads
 use Rattle.slot_core.specs.declared.events.ReplyNote.{ReplyNote}
 use Rattle.slot_core.specs.declared.events.ReplyNote.TheVariants as notes
-use Rattle.slot_core.specs.declared.outcomes.JobHead.{JobHead}
 use Rattle.slot_core.specs.Core.{Core, with_entry}
 use Rattle.slot_core.specs.Calls.{RefusedBy}
 use Rattle.slot_core.specs.Runs.{reserved_after}
-
--- a job of these operations, or a collection, which has none
-abbrev pub arrival_of : JobHead → List Op → Event
-arrival_of head ops = if head.collects then events.Collect head.task head.release head.due else events.Submit head.task head.release head.due
-    ops
 
 -- the event of a head and the operations beside it, which only a job has
 abbrev pub with_ops : EventHead → List Op → Event
@@ -43,7 +37,8 @@ pub record HasAccepted {N : Type 0} (caller : ℕ) (event : Event) (reply : Repl
   pub used : after.reserved ≡ reserved_after reply before.reserved
   pub device_stays : IsArrival event → after.device ≡ before.device
 
--- An event was refused: by a stopped die; or by the log; or the log accepts it, and memory is refused, or it is a slot and the device fails.
+-- An event was refused: by a stopped die; or by the log; or the log accepts it, and memory is refused, or it is a slot and
+-- the device fails.
 -- A device that never fails gives no such refusal, and memory is never refused to a slot while slots are reserved. A fault stops the die,
 -- and the log and the reserved slots stay; any other refusal changes nothing.
 pub record HasRefused {N : Type 0} (never_fails : Bool) (event : Event) (refusal : Refusal) (before after : Core N) : Type 0 where

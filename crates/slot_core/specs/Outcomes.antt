@@ -11,7 +11,7 @@ use Rattle.die_log.specs.Log.{Log, Job, job_at, acts, waived}
 use Rattle.die_log.specs.Work.{is_done, completion, lateness_of, worst}
 use Rattle.slot_core.specs.declared.outcomes.Outcome.{Outcome}
 use Rattle.slot_core.specs.declared.outcomes.Outcome.TheVariants as outcomes
-use Rattle.slot_core.specs.declared.outcomes.JobHead.{JobHead}
+use Rattle.slot_types.specs.declared.events.JobHead.{JobHead}
 use Rattle.slot_core.specs.declared.outcomes.Worst.{Worst}
 use Rattle.slot_core.specs.Records.{waiver_among, given, reads_of}
 

@@ -1,13 +1,13 @@
 //! Events of a die: a job or a collection arrives, or a slot is carried out.
 
 ghost use Rattle.std.specs.Prelude.{◌≡◌, ◌+◌, ◌↔◌, true, IfOk, IfErr};
-ghost use Rattle.slot_core.specs.Events.{arrival_of, with_ops, noted, HasAccepted, HasRefused};
+ghost use Rattle.slot_types.specs.Arrivals.{arrival_of};
+ghost use Rattle.slot_core.specs.Events.{with_ops, noted, HasAccepted, HasRefused};
 
 use crate::die_core::DieCore;
-use crate::outcomes::JobHead;
 use crate::slot_note::SlotNote;
 use flash_die::Nand;
-use slot_types::{Event, JobNo, Op, Refusal, Reply};
+use slot_types::{Event, JobHead, JobNo, Op, Refusal, Reply};
 use std::alloc::Global;
 
 /// An event but for a job's operations, which lie beside it.

@@ -18,7 +18,7 @@ mod turns;
 
 pub use die_core::DieCore;
 pub use events::{EventHead, ReplyNote};
-pub use outcomes::{JobHead, Outcome, Worst};
+pub use outcomes::{Outcome, Worst};
 pub use runs::Replies;
 pub use slot_note::SlotNote;
 pub use summaries::JobSummary;

@@ -1,6 +1,7 @@
 //! What became of the jobs and collections of a die, and who of them is worst.
 
 ghost use Rattle.std.specs.Prelude.{◌≡◌, ◌↔◌, ◌⊎◌, ℕ, false, Some, None, IsOk, IfOk, IfErr};
+ghost use Rattle.slot_types.specs.Refusal.{FailsForMemory};
 ghost use Rattle.job_table.specs.Jobs.{is_done};
 ghost use Rattle.die_log.specs.Log.{job_at};
 ghost use Rattle.slot_core.specs.Outcomes.{outcome_in, outcome_at, head_in, head_at, worst_of, worst_as};
@@ -9,7 +10,7 @@ use crate::die_core::DieCore;
 use flash_die::Nand;
 use job_table::{Job, Stage};
 use late_cert::lateness;
-use slot_types::{JobNo, Reads, Refusal, TaskNo};
+use slot_types::{JobHead, JobNo, Reads, Refusal};
 use std::alloc::Global;
 
 /// What became of a job or a collection.
@@ -32,18 +33,6 @@ pub enum Outcome {
     },
 }
 
-/// What a job or a collection was accepted with, without its operations.
-#[derive(Clone, Copy, PartialEq, Eq, Debug, Drop)]
-pub struct JobHead {
-    /// Whether it is a collection.
-    pub collects: bool,
-    pub task: TaskNo,
-    /// The slot from which on it may run.
-    pub release: u32,
-    /// The slot before which it is to be done.
-    pub due: u32,
-}
-
 /// The done job or collection with the greatest lateness.
 #[derive(Clone, Copy, PartialEq, Eq, Debug, Drop)]
 pub struct Worst {
@@ -55,7 +44,7 @@ pub struct Worst {
 /// What became of a job, with a copy of what its reads gave.
 pub(crate) fn outcome_in(alloc: Global, job: &Job) -> Result<Outcome, Refusal>
     ensures ok { IfOk result (λ outcome. outcome ≡ outcome_in job.now) }
-    ensures refused { IfErr result (λ refusal. refusal ≡ Refusal.NoMemory) }
+    ensures refused { FailsForMemory result }
     ensures undone { is_done job.now.stage ≡ false → IsOk result }
 {
     match job.stage() {

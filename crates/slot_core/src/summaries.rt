@@ -1,16 +1,17 @@
 //! The jobs and collections of a die in short.
 
 ghost use Rattle.std.specs.Prelude.{◌≡◌, ◌↔◌, ◌⊎◌, ℕ, false, Some, None, IsOk, IfOk, IfErr};
+ghost use Rattle.slot_types.specs.Refusal.{FailsForMemory};
 ghost use Rattle.job_table.specs.Jobs.{is_done};
 ghost use Rattle.die_log.specs.Log.{job_at};
 ghost use Rattle.slot_core.specs.Outcomes.{outcome_at};
 ghost use Rattle.slot_core.specs.Summaries.{summary_in, summary_at};
 
 use crate::die_core::DieCore;
-use crate::outcomes::{JobHead, Outcome, head_in, outcome_in};
+use crate::outcomes::{Outcome, head_in, outcome_in};
 use flash_die::Nand;
 use job_table::Job;
-use slot_types::{JobNo, Refusal};
+use slot_types::{JobHead, JobNo, Refusal};
 use std::alloc::Global;
 
 /// What a job or a collection was accepted with, how many slots it took so far, and what became of it.
@@ -24,7 +25,7 @@ pub struct JobSummary {
 /// A job in short, with a copy of what its reads gave.
 fn summary_in(alloc: Global, job: &Job) -> Result<JobSummary, Refusal>
     ensures ok { IfOk result (λ summary. summary ≡ summary_in job.now) }
-    ensures refused { IfErr result (λ refusal. refusal ≡ Refusal.NoMemory) }
+    ensures refused { FailsForMemory result }
     ensures undone { is_done job.now.stage ≡ false → IsOk result }
 {
     match outcome_in(alloc, job) {

@@ -1,5 +1,8 @@
 //! What may be asked of a die.
 
+ghost use Rattle.std.specs.Prelude.{◌≡◌};
+ghost use Rattle.slot_types.specs.Arrivals.{arrival_of};
+
 use crate::items::Items;
 use crate::numbers::TaskNo;
 use crate::pages::PageData;
@@ -34,4 +37,40 @@ pub enum Event {
     },
     /// The present slot is carried out.
     Slot,
+}
+
+/// What a job or a collection asks, but for a job's operations, which lie beside it.
+#[derive(Clone, Copy, PartialEq, Eq, Debug, Drop)]
+pub struct JobHead {
+    /// Whether it is a collection.
+    pub collects: bool,
+    pub task: TaskNo,
+    /// The slot from which on it may run.
+    pub release: u32,
+    /// The slot before which it is to be done.
+    pub due: u32,
+}
+
+impl JobHead {
+    /// The event that it arrives by, with its operations. A collection lets them go.
+    pub fn with_ops(self, ops: OpList) -> Event
+        ensures { result ≡ arrival_of self ops }
+    {
+        let JobHead {
+            collects,
+            task,
+            release,
+            due,
+        } = self;
+        if collects {
+            Event::Collect { task, release, due }
+        } else {
+            Event::Submit {
+                task,
+                release,
+                due,
+                ops,
+            }
+        }
+    }
 }

@@ -13,7 +13,7 @@ pub mod replies;
 pub mod short_items;
 
 pub use acts::Act;
-pub use events::{Event, Op, OpList};
+pub use events::{Event, JobHead, Op, OpList};
 pub use items::Items;
 pub use limits::{
     MAX_BLOCKS, MAX_DIES, MAX_ERASE_SLOTS, MAX_JOBS, MAX_OPS, MAX_PAGES, MAX_PASSES, MAX_SLOT,

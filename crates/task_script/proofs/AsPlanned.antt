@@ -31,7 +31,7 @@ use Rattle.die_log.proofs.Supply.Unrefused.{unrefused, entered}
 use Rattle.slot_core.specs.Calls.{RefusedBy}
 use Rattle.slot_core.specs.Core.{with_entry}
 use Rattle.slot_core.specs.Outcomes.{outcome_by, head_of}
-use Rattle.slot_core.specs.declared.outcomes.JobHead.{JobHead}
+use Rattle.slot_types.specs.declared.events.JobHead.{JobHead}
 use Rattle.script_texts.specs.Arrivals.{Arrives}
 use Rattle.script_texts.specs.declared.script_rows.ScriptItem.{ScriptItem}
 use Rattle.report_texts.specs.ReportText.{report_text}

@@ -18,7 +18,7 @@ use Rattle.die_log.specs.Standing.{AreNumbered}
 use Rattle.die_log.proofs.Choices.{OfSome}
 use Rattle.die_log.proofs.Legal.Exact.{stands_well}
 use Rattle.die_log.proofs.Limits.{few_work, keeps_limits}
-use Rattle.slot_core.specs.declared.outcomes.JobHead.{JobHead}
+use Rattle.slot_types.specs.declared.events.JobHead.{JobHead}
 use Rattle.slot_core.specs.Outcomes.{outcome_by}
 use Rattle.slot_core.specs.Records.{given, reads_of, waiver_among}
 use Rattle.report_texts.specs.ReportRows.{has_outcome, is_done as is_done_row, is_late, is_placed, is_sound, is_timed}

@@ -4,7 +4,7 @@ use Rattle.slot_types.specs.declared.plans.DiePlan.{DiePlan}
 use Rattle.slot_types.specs.declared.pages.PageData.{PageData}
 use Rattle.die_log.specs.Log.{Log, Job, jobs}
 use Rattle.die_log.specs.Rows.{certificate}
-use Rattle.slot_core.specs.declared.outcomes.JobHead.{JobHead}
+use Rattle.slot_types.specs.declared.events.JobHead.{JobHead}
 use Rattle.slot_core.specs.declared.outcomes.Outcome.{Outcome}
 use Rattle.slot_core.specs.declared.outcomes.Outcome.TheVariants as outcomes
 use Rattle.slot_core.specs.declared.summaries.JobSummary.{JobSummary}

@@ -1,8 +1,9 @@
 //! The rows of a die, as its run needs them.
 
-ghost use Rattle.std.specs.Prelude.{◌≡◌, ◌∷◌, ◌++◌, [], All, IfErr, OnErr, OnOk};
+ghost use Rattle.std.specs.Prelude.{◌≡◌, ◌∷◌, ◌++◌, [], All, OnOk};
+ghost use Rattle.slot_types.specs.Refusal.{FailsForMemory};
 ghost use Rattle.task_script.specs.RowEnds.{arrivals_of, lines_of};
-ghost use Rattle.script_texts.specs.Heads.{asked_by, row_of};
+ghost use Rattle.script_texts.specs.Heads.{row_of};
 
 use die_service::Feed;
 use script_texts::RowHead;
@@ -34,26 +35,6 @@ impl Model for DieRows {
     ghost invariant = { λ r. length r.lines.items ≡ length r.feed };
 }
 
-/// Adds what a row asks: a job of these operations, or a collection. The only refusal is for want of memory.
-fn add_asked(feed: &mut Feed, head: &RowHead, ops: &[Op]) -> Result<(), Refusal>
-    ensures ok { OnOk result (feed.new ≡ feed.old ++ record { at = head.now.at; event = asked_by head.now ops.now } ∷ []) }
-    ensures refused { IfErr result (λ refusal. refusal ≡ Refusal.NoMemory) }
-    ensures err { OnErr result (feed.new ≡ feed.old) }
-{
-    let RowHead {
-        at,
-        task,
-        release,
-        due,
-        ..
-    } = *head;
-    if head.collects {
-        feed.push_collection(at, task, release, due)
-    } else {
-        feed.push_job(at, task, release, due, ops)
-    }
-}
-
 impl DieRows {
     /// No row. It takes no memory.
     pub fn new(alloc: Global) -> DieRows
@@ -71,10 +52,10 @@ impl DieRows {
     pub fn add(&mut self, head: &RowHead, ops: &[Op]) -> Result<(), Refusal>
         requires one_die { All (λ row. row.die ≡ head.now.die) self.old }
         ensures ok { OnOk result (self.new ≡ self.old ++ row_of head.now ops.now ∷ []) }
-        ensures refused { IfErr result (λ refusal. refusal ≡ Refusal.NoMemory) }
+        ensures refused { FailsForMemory result }
     {
         self.lines.reserve(1)?;
-        add_asked(&mut self.feed, head, ops)?;
+        self.feed.push(head.at, head.job, ops)?;
         self.lines.push_reserved(head.line);
         self.die = head.die;
         Ok(())

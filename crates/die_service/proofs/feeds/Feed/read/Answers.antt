@@ -4,7 +4,7 @@ use Rattle.std.specs.Prelude.{option_map}
 use Rattle.std.proofs.lemmas.List.{length-map}
 use Rattle.std.proofs.lemmas.Option.{slice_get_read}
 use Rattle.slot_types.specs.declared.events.Op.{Op}
-use Rattle.slot_core.specs.Events.{arrival_of}
+use Rattle.slot_types.specs.Arrivals.{arrival_of}
 use Rattle.die_service.specs.declared.feeds.Arrival.{Arrival}
 use Rattle.die_service.specs.Feeds.{HaveAtMost, arrival_at}
 use Rattle.die_service.proofs.Feeding.{row_at, place_at, room_at}

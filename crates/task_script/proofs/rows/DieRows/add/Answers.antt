@@ -8,7 +8,7 @@ pub returns-clause-ok : goal.returns-clause-ok
 returns-clause-ok c =
     let f = c.self.inside in
     let item : ScriptItem = row_of c.args.head.now c.args.ops.now in
-    rows_more f.die item f.lines.items c.push_reserved.new.self.items f.feed c.add_asked.new.feed c.self.invariant
-    (c.push_reserved.ensures.items ∙ ap (λ l. l ++ item.line ∷ []) c.in_ok-reserve.ensures.items) c.in_ok-add_asked.ensures.ok
+    rows_more f.die item f.lines.items c.push_reserved.new.self.items f.feed c.push.new.self c.self.invariant
+    (c.push_reserved.ensures.items ∙ ap (λ l. l ++ item.line ∷ []) c.in_ok-reserve.ensures.items) c.in_ok-push.ensures.ok
     (subst (λ (rows : List ScriptItem). All (λ (row : ScriptItem). row.die ≡ item.die) rows) (sym c.self.view_is) c.requires.one_die)
     ∙ ap (λ (rows : List ScriptItem). rows ++ item ∷ []) c.self.view_is
