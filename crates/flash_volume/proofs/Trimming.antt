@@ -86,13 +86,14 @@ pub sound_trimmed : {accounts : Accounts} {shape : Shape} {failures : ℕ} {bloc
     → Sound shape failures blocks placing_then candidates_then → placing_then ≡ unbound placing page
     → ((block : ℕ) → is_some (count_of candidates_then.counts block) ≡ is_some (count_of candidates.counts block))
     → IsSound accounts shape failures blocks placing_then candidates_then running
-sound_trimmed {accounts} {blocks = blocks} {placing = placing} {candidates_then = candidates_then} page sound below stands is same = record {
-  stands = stands;
-  bound = sound.bound;
-  shape_is = sound.shape_is;
-  map_len = ap (λ (m : Placing). length m.places) is ∙ length-set placing.places page None ∙ sound.map_len;
-  total = sound.total;
-  runs = rw is (runs_kept accounts blocks (set placing.places page None) sound.runs refl refl
-      (λ t c run as_before. run_trimmed page run below));
-  picks = picks_kept candidates_then.counts sound.picks same;
-}
+sound_trimmed {accounts} {blocks = blocks} {placing = placing} {candidates_then = candidates_then} page sound below stands is same =
+    record {
+      stands = stands;
+      bound = sound.bound;
+      shape_is = sound.shape_is;
+      map_len = ap (λ (m : Placing). length m.places) is ∙ length-set placing.places page None ∙ sound.map_len;
+      total = sound.total;
+      runs = rw is (runs_kept accounts blocks (set placing.places page None) sound.runs refl refl
+          (λ t c run as_before. run_trimmed page run below));
+      picks = picks_kept candidates_then.counts sound.picks same;
+    }

@@ -39,7 +39,8 @@ pub record HasPlaced {N : Type 0} (shape_of : N → Shape) (blocks : N → List 
   pub closed : MayHaveClosed shape_of blocks (next_of shape_of blocks old).block old new
 
 -- The block had a slot of its erase, which was the last one or not. The last one frees its cells; what the pages hold stays.
-pub record HasErased {N : Type 0} (shape_of : N → Shape) (blocks : N → List Block) (block : ℕ) (last : Bool) (old new : ArrayState N) : Type 0
+pub record HasErased {N : Type 0} (shape_of : N → Shape) (blocks : N → List Block) (block : ℕ) (last : Bool)
+    (old new : ArrayState N) : Type 0
   where
     pub last_is : last ≡ ((block_at (blocks old.device) block).erasing + 1 == (shape_of old.device).erase_slots)
     pub cells : blocks new.device ≡ erased (blocks old.device) (shape_of old.device).erase_slots block

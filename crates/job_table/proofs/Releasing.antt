@@ -25,7 +25,8 @@ kept_key now k w e = by (nat_le k.release now) refl e
     by true f e = (cc, f)
     by false f e = absurd cc
 
-pub popped : (now : ℕ) (old rest : List WaitKey) (w : WaitKey) → Some w ≡ come_by (λ (k : WaitKey). k.release) now (first_of old) → rest ≡ rest_of old
+pub popped : (now : ℕ) (old rest : List WaitKey) (w : WaitKey) → Some w ≡ come_by (λ (k : WaitKey). k.release) now (first_of old)
+    → rest ≡ rest_of old
     → IsPopped now old rest w
 popped now [] rest w e f = absurd cc
 popped now (k ∷ ks) rest w e f =
@@ -66,7 +67,8 @@ release_step jobs now old rest ready spare spare' w job due first_is rest_is rea
     }
 
 -- where none is popped, all are released later
-pub none_popped : (now : ℕ) (old : List WaitKey) → None ≡ come_by (λ (k : WaitKey). k.release) now (first_of old) → IsRising is_released_before old
+pub none_popped : (now : ℕ) (old : List WaitKey) → None ≡ come_by (λ (k : WaitKey). k.release) now (first_of old)
+    → IsRising is_released_before old
     → AreLater now old
 none_popped now [] e rising = tt
 none_popped now (k ∷ ks) e rising = all_later now k ks (by (nat_le k.release now) refl e) rising

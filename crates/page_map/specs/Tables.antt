@@ -1,5 +1,6 @@
 -- The tables of a map, and what is true of them.
-use Rattle.std.specs.Prelude.{◌≡◌, ◌<◌, ◌≤◌, ◌^◌, ◌*◌, ◌-◌, ℕ, Option, Some, None, List, ◌++◌, length, map, replicate, count_by, slice_index}
+use Rattle.std.specs.Prelude.{◌≡◌, ◌<◌, ◌≤◌, ◌^◌, ◌*◌, ◌-◌, ℕ, Option, Some, None, List, ◌++◌, length}
+use Rattle.std.specs.Prelude.{map, replicate, count_by, slice_index}
 use Rattle.std.specs.Prelude.{slice_index_or, vec_capacity}
 use Rattle.slot_types.specs.declared.pages.Place.{Place}
 use Rattle.slot_types.specs.declared.plans.Shape.{Shape}

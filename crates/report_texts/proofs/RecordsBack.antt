@@ -7,7 +7,8 @@ use Rattle.csv.specs.Writing.{default_writer, read_back, row_text}
 use Rattle.csv.specs.declared.parser.State.TheVariants as st
 use Rattle.csv.proofs.RoundTrip.{read-write}
 use Rattle.late_cert.specs.declared.certificates.Certificate.{Certificate}
-use Rattle.report_texts.specs.ReportText.{cert_record, cert_record_of, die_records, header_fields, records_text, report_records, report_text}
+use Rattle.report_texts.specs.ReportText.{cert_record, cert_record_of, die_records, header_fields}
+use Rattle.report_texts.specs.ReportText.{records_text, report_records, report_text}
 use Rattle.report_texts.specs.ReportText.{row_fields}
 use Rattle.csv.specs.Records.{field_at}
 use Rattle.report_texts.specs.ReportOf.{no_rows, report_from}

@@ -20,6 +20,7 @@ returns-clause-gives g c =
           (w.in-Ok.ensures.accepted.answered, w.in-Ok.ensures.accepted.accepted)
       | in-Err w ↦ rw (w.result-is, log_of_calls c.args.self.now.log, ← same) (
         entries ∙ sym (length_of_calls die.log),
-        may_refuse never (with_ops c.args.head c.args.ops.now) w.in-Err.refusal die c.note.new.self runs w.in-Err.ensures.stopped w.in-Err.ensures.refused,
+        may_refuse never (with_ops c.args.head c.args.ops.now) w.in-Err.refusal die c.note.new.self runs w.in-Err.ensures.stopped
+            w.in-Err.ensures.refused,
       )
     ]

@@ -42,7 +42,8 @@ invariant_of-self-in-Ok-false g c = λ _.
     let b = g.N.Nand.blocks c.self.inside.device in
     let is = erased_going b (g.N.Nand.blocks c.erase_slot.new.self) (g.N.Nand.shape_of c.self.inside.device).erase_slots c.args.block
     c.in-Ok-false.field-0 c.in-Ok-false.ensures.blocks c.in-Ok-false.ensures.last c.in-Ok-false.field-0-test in
-    rw (c.erase_slot.ensures.shape, c.in-Ok-false.ensures.fails.well, is) (stands_going stands clear (rw (← c.self.view_is) at c.requires.taken))
+    rw (c.erase_slot.ensures.shape, c.in-Ok-false.ensures.fails.well, is) (stands_going stands clear
+    (rw (← c.self.view_is) at c.requires.taken))
 
 pub returns-in-Ok-true-clause-erased : goal.returns-in-Ok-true-clause-erased
 returns-in-Ok-true-clause-erased g c =

@@ -87,7 +87,8 @@ invariant_of-self c =
     ∙ ap (λ (k : ℕ). laid (k + 1) m.owners.items) c.cell-index.ensures in
     let places : List (Option Place) = map (place_in m.shape)
     (laid m.logical (set c.lay_down.new.entries.items c.args.page c.pack.result)) in
-    let owners : laid n (set c.lay_down-2.new.entries.items c.cell-index.result c.some.result) ≡ set (owners_of m) index (Some c.args.page) =
+    let owners : laid n (set c.lay_down-2.new.entries.items c.cell-index.result c.some.result)
+    ≡ set (owners_of m) index (Some c.args.page) =
     ap (λ (k : ℕ). laid n (set c.lay_down-2.new.entries.items k c.some.result)) c.cell-index.ensures
     ∙ written n index (index + 1) m.owners.items c.lay_down-2.new.entries.items c.some.result longer (of_map here) (omega arith)
     c.self.invariant.some_owners ∙ ap (λ (o : Option ℕ). set (owners_of m) index o) c.some.ensures in
