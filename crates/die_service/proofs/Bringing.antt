@@ -1,10 +1,8 @@
 -- What a worker has asked of its die, event by event and slot by slot.
-use Rattle.std.proofs.Common.{◌≡◌, ℕ, suc, ◌+◌, ◌-◌, ◌<◌, ◌≤◌, Bool, true, false, nat_le, List, [], ◌∷◌, ◌++◌, map, drop, cond, Option}
+use Rattle.std.proofs.Common.{◌≡◌, ℕ, ◌+◌, ◌-◌, ◌<◌, Bool, true, false, nat_le, List, [], ◌∷◌, ◌++◌, map, Option}
 use Rattle.std.proofs.Common.{Some, None, Result, Ok, Err, if◌then◌else◌, refl, ap, sym, ◌∙◌, subst, arith, append_assoc}
-use Rattle.std.proofs.lemmas.Bool.{le-leb, leb-false}
+use Rattle.std.proofs.lemmas.Bool.{leb-false}
 use Rattle.std.proofs.lemmas.List.{append-nil}
-use Rattle.std.specs.List.{prefix_len}
-use Rattle.std.proofs.lemmas.List.Sums.{take_while-cons}
 use Rattle.slot_types.specs.declared.limits.TheConstants.{MAX_SLOT}
 use Rattle.slot_types.specs.declared.plans.DiePlan.{DiePlan}
 use Rattle.slot_types.specs.declared.events.Event.{Event}
@@ -22,7 +20,9 @@ use Rattle.die_service.specs.declared.feeds.Arrival.{Arrival}
 use Rattle.die_service.specs.declared.refused.RefusedAt.{RefusedAt}
 use Rattle.die_service.specs.Passes.{AddsEntry, AddsNone}
 use Rattle.slot_types.specs.Arrivals.{IsArrival}
-use Rattle.die_service.specs.Runs.{Said, said, is_due, due_by, later_than, AreAsked, place_behind, noted, slots_in, slot_counted, stop_of}
+use Rattle.slot_types.specs.Arriving.{arrived, coming}
+use Rattle.slot_types.proofs.Arriving.{arrived_one, later_one}
+use Rattle.die_service.specs.Runs.{Said, said, comes_at, AreAsked, place_behind, noted, slots_in, slot_counted, stop_of}
 use Rattle.die_service.specs.Runs.{stop_or}
 use Rattle.die_service.specs.Stores.{DiePass}
 use Rattle.die_service.specs.Drives.{Course, Standing, Asks, IsFit, Comes, NoneDue, BringsOne, Brings, TakesSlot, IsStopped}
@@ -158,16 +158,6 @@ module _ (never : Bool) (p q : DiePass) (c : Course) (slots : ℕ) (stop : Optio
 
 -- The events that come by a slot
 
-one_less : (a : Arrival) (n : ℕ) (rest : List Arrival) → drop (1 + n) (a ∷ rest) ≡ drop n rest
-one_less a n rest = ap (λ k. drop k (a ∷ rest)) (let more : 1 + n ≡ suc n = omega arith in more)
-
-due_one : (clock : ℕ) (a : Arrival) (rest : List Arrival) → a.at ≤ clock → due_by clock (a ∷ rest) ≡ a ∷ due_by clock rest
-due_one clock a rest by = take_while-cons (is_due clock) a rest
-    ∙ ap (λ (b : Bool). cond b (a ∷ due_by clock rest) []) (le-leb a.at clock by)
-
-later_one : (clock : ℕ) (a : Arrival) (rest : List Arrival) → a.at ≤ clock → later_than clock (a ∷ rest) ≡ later_than clock rest
-later_one clock a rest by = rw (le-leb a.at clock by) (one_less a (prefix_len (is_due clock) rest) rest)
-
 no_slot_of : (e : Event) (r : Result Reply RefusedAt) → IsArrival e → slot_counted e r 0 ≡ 0
 no_slot_of events.Slot r arrives = absurd arrives
 no_slot_of (events.Submit task release due ops) r arrives = refl
@@ -182,8 +172,9 @@ no_stop_of (events.Collect task release due) r arrives = refl
 pub record IsBringing (never : Bool) (clock : ℕ) (s t : Standing) : Type 0 where
   pub fed : List Said
   pub asks : Asks never s.pass s.course fed t.pass t.course
-  pub asked : (more : List Said) → AreAsked (due_by clock t.course.rest) more → AreAsked (due_by clock s.course.rest) (fed ++ more)
-  pub rest : later_than clock s.course.rest ≡ later_than clock t.course.rest
+  pub asked : (more : List Said) → AreAsked (arrived comes_at clock t.course.rest) more
+      → AreAsked (arrived comes_at clock s.course.rest) (fed ++ more)
+  pub rest : coming comes_at clock s.course.rest ≡ coming comes_at clock t.course.rest
   pub no_slot : slots_in fed ≡ 0
   pub no_stop : stop_of fed ≡ None
   pub slots : t.slots ≡ s.slots
@@ -207,12 +198,12 @@ module _ (never : Bool) (clock : ℕ) where
       let last = said one.arrival.event one.reply in record {
         fed = b.fed ++ last ∷ [];
         asks = asks_joins never s.pass t.pass u.pass s.course t.course u.course b.fed (last ∷ []) b.asks one.asks;
-        asked = λ more asked. subst (AreAsked (due_by clock s.course.rest)) (sym (append_assoc b.fed (last ∷ []) more))
+        asked = λ more asked. subst (AreAsked (arrived comes_at clock s.course.rest)) (sym (append_assoc b.fed (last ∷ []) more))
             (b.asked (last ∷ more)
             (subst (λ (l : List Arrival). AreAsked l (last ∷ more))
-            (sym (ap (due_by clock) one.rest ∙ due_one clock one.arrival u.course.rest one.by))
+            (sym (ap (arrived comes_at clock) one.rest ∙ arrived_one comes_at clock one.arrival u.course.rest one.by))
             (ap (λ l. one.arrival.event ∷ l) asked)));
-        rest = b.rest ∙ (ap (later_than clock) one.rest ∙ later_one clock one.arrival u.course.rest one.by);
+        rest = b.rest ∙ (ap (coming comes_at clock) one.rest ∙ later_one comes_at clock one.arrival u.course.rest one.by);
         no_slot = slots_more b.fed (last ∷ []) ∙ omega (arith, b.no_slot, no_slot_of one.arrival.event one.reply one.arrives);
         no_stop = stop_more b.fed (last ∷ []) b.no_stop ∙ no_stop_of one.arrival.event one.reply one.arrives;
         slots = one.slots ∙ b.slots;
@@ -223,7 +214,7 @@ module _ (never : Bool) (clock : ℕ) where
   brings_all s t b none = record {
     fed = b.fed;
     asks = b.asks;
-    asked = subst (AreAsked (due_by clock s.course.rest)) (append-nil b.fed)
+    asked = subst (AreAsked (arrived comes_at clock s.course.rest)) (append-nil b.fed)
         (b.asked [] (ap (map (λ (a : Arrival). a.event)) (sym none.0)));
     rest = sym (b.rest ∙ none.1);
     no_slot = b.no_slot;

@@ -2,11 +2,13 @@
 use Rattle.std.proofs.Common.{◌≡◌, ◌⊎◌, ℕ, zero, suc, ◌+◌, ◌<◌, ◌≤◌, Bool, cond, List, [], ◌∷◌, ◌++◌, map, Option, None}
 use Rattle.std.proofs.Common.{Result, Ok, Err, refl, ap, sym, subst, ◌∙◌, append_assoc, inl, inr, arith}
 use Rattle.std.specs.Prelude.{IfSome}
-use Rattle.std.specs.List.{AllByRecursion, prefix_len}
+use Rattle.std.specs.List.{AllByRecursion}
 use Rattle.std.proofs.lemmas.List.{append-nil, map-append}
-use Rattle.std.proofs.lemmas.List.Elements.{All-head, All-tail, All-take, All-drop}
+use Rattle.std.proofs.lemmas.List.Elements.{All-head, All-tail}
 use Rattle.std.proofs.lemmas.List.Sums.{sum_by-append, sum_by-cons}
 use Rattle.slot_types.specs.Arrivals.{IsArrival}
+use Rattle.slot_types.specs.Arriving.{arrived, coming}
+use Rattle.slot_types.proofs.Arriving.{arrived_hold, later_hold}
 use Rattle.slot_types.specs.declared.limits.TheConstants.{MAX_SLOT}
 use Rattle.slot_types.specs.declared.plans.DiePlan.{DiePlan}
 use Rattle.slot_types.specs.declared.plans.Times.{Times}
@@ -36,7 +38,7 @@ use Rattle.die_service.specs.declared.refused.RefusedAt.{RefusedAt}
 use Rattle.die_service.specs.PlannedRuns.{events_in, events_from, events_of, KeepsItsPlan, RanAlone, IsForMemory, IsForMemoryOrFault}
 use Rattle.die_service.specs.PlannedRuns.{AreTakenUntilMemory, GoesAsPlanned}
 use Rattle.die_service.specs.Replies.{MayRefuse}
-use Rattle.die_service.specs.Runs.{Said, said, AllArrive, is_due, due_by, later_than, AreAsked, InClockOrder, noted, place_behind}
+use Rattle.die_service.specs.Runs.{Said, said, AllArrive, comes_at, AreAsked, InClockOrder, noted, place_behind}
 use Rattle.die_service.specs.Runs.{refused_from, stop_or, stop_of}
 use Rattle.die_service.proofs.Passing.{slot_answered}
 use Rattle.die_service.specs.Passes.{IsSlotReply}
@@ -94,11 +96,11 @@ all_fed (arrival ∷ feed) (s ∷ fed) are arrive =
           (asked_rest arrival feed s fed are) (All-tail A arrival feed arrive),
     )
 
-due_arrive : (clock : ℕ) (feed : List Arrival) → AllArrive feed → AllArrive (due_by clock feed)
-due_arrive clock feed h = All-take (λ a. IsArrival a.event) (prefix_len (is_due clock) feed) feed h
+here_arrive : (clock : ℕ) (feed : List Arrival) → AllArrive feed → AllArrive (arrived comes_at clock feed)
+here_arrive clock = arrived_hold comes_at clock (λ a. IsArrival a.event)
 
-later_arrive : (clock : ℕ) (feed : List Arrival) → AllArrive feed → AllArrive (later_than clock feed)
-later_arrive clock feed h = All-drop (λ a. IsArrival a.event) (prefix_len (is_due clock) feed) feed h
+later_arrive : (clock : ℕ) (feed : List Arrival) → AllArrive feed → AllArrive (coming comes_at clock feed)
+later_arrive clock = later_hold comes_at clock (λ a. IsArrival a.event)
 
 split_one : (before after : List Said) (s : Said) → before ++ s ∷ after ≡ (before ++ s ∷ []) ++ after
 split_one before after s = sym (append_assoc before (s ∷ []) after)
@@ -157,22 +159,22 @@ module _ (never : Bool) (plan : DiePlan) (all : List Said) (known : AreTold neve
   parts zero clock feed before rest is ordered at_now arrive = record {
     front = rest;
     over = [];
-    heard = heard_fed rest (all_fed (due_by clock feed) rest ordered (due_arrive clock feed arrive));
+    heard = heard_fed rest (all_fed (arrived comes_at clock feed) rest ordered (here_arrive clock feed arrive));
     events_are = sym ordered ∙ sym (append-nil (asked rest));
     ends = inl refl;
   }
   parts (suc left) clock feed before rest is (fed, behind, split, are, inr (refused, last)) at_now arrive = record {
     front = fed;
-    over = events.Slot ∷ events_from left (clock + 1) (later_than clock feed);
-    heard = heard_fed fed (all_fed (due_by clock feed) fed are (due_arrive clock feed arrive));
-    events_are = ap (λ (es : List Event). es ++ events.Slot ∷ events_from left (clock + 1) (later_than clock feed)) (sym are);
-    ends = inr (refused, events_from left (clock + 1) (later_than clock feed), split ∙ ap (λ (xs : List Said). fed ++ xs) last, refl);
+    over = events.Slot ∷ events_from left (clock + 1) (coming comes_at clock feed);
+    heard = heard_fed fed (all_fed (arrived comes_at clock feed) fed are (here_arrive clock feed arrive));
+    events_are = ap (λ (es : List Event). es ++ events.Slot ∷ events_from left (clock + 1) (coming comes_at clock feed)) (sym are);
+    ends = inr (refused, events_from left (clock + 1) (coming comes_at clock feed), split ∙ ap (λ (xs : List Said). fed ++ xs) last, refl);
   }
   parts (suc left) clock feed before rest is (fed, behind, split, are, inl (slot, more, first, ordered)) at_now arrive =
-      let later = later_than clock feed in
+      let later = coming comes_at clock feed in
       let rest_is : rest ≡ fed ++ carried slot ∷ more = split ∙ ap (λ (xs : List Said). fed ++ xs) first in
       let here : all ≡ before ++ (fed ++ carried slot ∷ more) = is ∙ ap (λ (xs : List Said). before ++ xs) rest_is in
-      let fed_all = all_fed (due_by clock feed) fed are (due_arrive clock feed arrive) in
+      let fed_all = all_fed (arrived comes_at clock feed) fed are (here_arrive clock feed arrive) in
       let at_slot : all ≡ (before ++ fed) ++ carried slot ∷ more = here ∙ sym (append_assoc before fed (carried slot ∷ more)) in
       let answered = known.accepted (before ++ fed) more events.Slot (replies.Slot slot) at_slot in
       let still : now (said_log (before ++ fed)) ≡ clock = fed_stay fed before (carried slot ∷ more) here fed_all ∙ at_now in
@@ -187,7 +189,7 @@ module _ (never : Bool) (plan : DiePlan) (all : List Said) (known : AreTold neve
         front = fed ++ carried slot ∷ m.front;
         over = m.over;
         heard = all_append (λ (s : Said). IsHeard s.event s.reply) fed (carried slot ∷ m.front) (heard_fed fed fed_all) (tt, m.heard);
-        events_are = more_events (events_in (due_by clock feed)) (events_from left (clock + 1) later) m.over fed m.front slot are
+        events_are = more_events (events_in (arrived comes_at clock feed)) (events_from left (clock + 1) later) m.over fed m.front slot are
             m.events_are;
         ends = more_ends fed (carried slot) m.front m.over rest more rest_is m.ends;
       }

@@ -63,7 +63,7 @@ numbered plan past slot is = numbered_by plan past slot (refusal_of plan past ev
 -- Jobs and collections
 
 -- an accepted one takes no slot
-taken_stays : (plan : DiePlan) (past : Log) (event : Event) (reply : Reply) → IsArrival event → answer plan past event ≡ reply
+pub taken_stays : (plan : DiePlan) (past : Log) (event : Event) (reply : Reply) → IsArrival event → answer plan past event ≡ reply
     → IsAccepted reply → now (with_entry 0 event reply past) ≡ now past
 taken_stays plan past (events.Submit task release due ops) reply h is taken = by reply
     (submit_taken plan past task release due ops reply is taken)

@@ -16,7 +16,8 @@ use Rattle.die_service.specs.declared.refused.RefusedAt.{RefusedAt}
 use Rattle.die_service.specs.Passes.{DieView}
 use Rattle.die_service.specs.Replies.{HasExactLog}
 use Rattle.slot_types.specs.Arrivals.{IsArrival}
-use Rattle.die_service.specs.Runs.{Said, said, due_by, later_than, AreAsked, accepted_by, slots_in, place_behind, refused_from, stop_of}
+use Rattle.slot_types.specs.Arriving.{arrived, coming}
+use Rattle.die_service.specs.Runs.{Said, said, comes_at, AreAsked, accepted_by, slots_in, place_behind, refused_from, stop_of}
 use Rattle.die_service.specs.Runs.{IsReasoned, HasRun}
 use Rattle.die_service.specs.Stores.{DiePass}
 
@@ -98,7 +99,7 @@ pub record Comes (clock : ℕ) (c : Course) (event : Event) (d : Course) : Type 
 
 -- no event is left that comes by the clock
 abbrev pub NoneDue : ℕ → List Arrival → Type 0
-NoneDue clock rest = (due_by clock rest ≡ []) × (later_than clock rest ≡ rest)
+NoneDue clock rest = (arrived comes_at clock rest ≡ []) × (coming comes_at clock rest ≡ rest)
 
 -- the next event of the feed came by the clock, and was asked
 pub record BringsOne (never_fails : Bool) (clock : ℕ) (s t : Standing) : Type 0 where
@@ -115,8 +116,8 @@ pub record BringsOne (never_fails : Bool) (clock : ℕ) (s t : Standing) : Type 
 pub record Brings (never_fails : Bool) (clock : ℕ) (s t : Standing) : Type 0 where
   pub fed : List Said
   pub asks : Asks never_fails s.pass s.course fed t.pass t.course
-  pub asked : AreAsked (due_by clock s.course.rest) fed
-  pub rest : t.course.rest ≡ later_than clock s.course.rest
+  pub asked : AreAsked (arrived comes_at clock s.course.rest) fed
+  pub rest : t.course.rest ≡ coming comes_at clock s.course.rest
   pub no_slot : slots_in fed ≡ 0
   pub no_stop : stop_of fed ≡ None
   pub slots : t.slots ≡ s.slots

@@ -1,5 +1,6 @@
 -- What a run on a new die promises of a feed that keeps to the die's plan with times.
 use Rattle.std.specs.Prelude.{◌≡◌, ⊤, ◌⊎◌, ℕ, zero, suc, ◌+◌, Bool, false, List, [], ◌∷◌, ◌++◌, map, IfSome}
+use Rattle.slot_types.specs.Arriving.{arrived, coming}
 use Rattle.slot_types.specs.declared.events.Event.{Event}
 use Rattle.slot_types.specs.declared.events.Event.TheVariants as events
 use Rattle.slot_types.specs.declared.plans.DiePlan.{DiePlan}
@@ -16,7 +17,7 @@ use Rattle.die_service.specs.declared.ends.DieEnd.{DieEnd}
 use Rattle.die_service.specs.declared.ends.RefusedEvent.{RefusedEvent}
 use Rattle.die_service.specs.declared.feeds.Arrival.{Arrival}
 use Rattle.die_service.specs.Logs.{log_of, calls_of}
-use Rattle.die_service.specs.Runs.{due_by, later_than, HasRun}
+use Rattle.die_service.specs.Runs.{comes_at, HasRun}
 use Rattle.die_service.specs.Stores.{DiePass}
 
 abbrev pub events_in : List Arrival → List Event
@@ -25,8 +26,9 @@ events_in feed = map (λ (arrival : Arrival). arrival.event) feed
 -- The events that a run asks for where its clock is at a slot and so many slots are left: those of the feed that come by
 -- the clock; and then, where a slot is left, that slot, and what is asked for with the clock behind it
 abbrev pub events_from : ℕ → ℕ → List Arrival → List Event
-events_from zero clock feed = events_in (due_by clock feed)
-events_from (suc left) clock feed = events_in (due_by clock feed) ++ events.Slot ∷ events_from left (clock + 1) (later_than clock feed)
+events_from zero clock feed = events_in (arrived comes_at clock feed)
+events_from (suc left) clock feed =
+    events_in (arrived comes_at clock feed) ++ events.Slot ∷ events_from left (clock + 1) (coming comes_at clock feed)
 
 -- the events of a run of so many slots with this feed, in their order
 abbrev pub events_of : ℕ → List Arrival → List Event

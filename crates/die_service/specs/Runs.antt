@@ -1,11 +1,11 @@
 -- A run of slots on a die: what a pass asked of it in which order, what it was replied, and what came of it.
-use Rattle.std.specs.Prelude.{true, ◌≡◌, ◌≢◌, ℕ, zero, suc, ◌+◌, ◌<◌, ◌≤◌, ◌⊎◌, nat_le, Bool, List, [], ◌∷◌, ◌++◌, length, map, filter}
-use Rattle.std.specs.Prelude.{take, drop, All, Option, Some, None, Result, Ok, Err, is_ok}
-use Rattle.std.specs.List.{prefix_len, take_while}
+use Rattle.std.specs.Prelude.{true, ◌≡◌, ◌≢◌, ℕ, zero, suc, ◌+◌, ◌<◌, ◌≤◌, ◌⊎◌, Bool, List, [], ◌∷◌, ◌++◌, length, map, filter}
+use Rattle.std.specs.Prelude.{take, All, Option, Some, None, Result, Ok, Err, is_ok}
 use Rattle.slot_types.specs.declared.plans.DiePlan.{DiePlan}
 use Rattle.slot_types.specs.declared.events.Event.{Event}
 use Rattle.slot_types.specs.declared.events.Event.TheVariants as events
 use Rattle.slot_types.specs.Arrivals.{IsArrival}
+use Rattle.slot_types.specs.Arriving.{arrived, coming}
 use Rattle.slot_types.specs.declared.replies.Reply.{Reply}
 use Rattle.slot_types.specs.declared.replies.Reply.TheVariants as replies
 use Rattle.slot_types.specs.declared.replies.SlotReply.{SlotReply}
@@ -33,16 +33,9 @@ said event reply = record { event = event; reply = reply }
 abbrev pub AllArrive : List Arrival → Type 0
 AllArrive feed = All (λ arrival. IsArrival arrival.event) feed
 
-abbrev pub is_due : ℕ → Arrival → Bool
-is_due slot arrival = nat_le arrival.at slot
-
--- the events in front of a feed that come by this slot
-abbrev pub due_by : ℕ → List Arrival → List Arrival
-due_by slot feed = take_while (is_due slot) feed
-
--- the events behind these
-abbrev pub later_than : ℕ → List Arrival → List Arrival
-later_than slot feed = drop (prefix_len (is_due slot) feed) feed
+-- the slot by which an event of a feed comes
+abbrev pub comes_at : Arrival → ℕ
+comes_at arrival = arrival.at
 
 -- these events were asked, in their order
 abbrev pub AreAsked : List Arrival → List Said → Type 0
@@ -52,10 +45,11 @@ AreAsked feed saids = map (λ (s : Said). s.event) saids ≡ map (λ (arrival : 
 -- clock; and then, where a slot is left, for that, and goes on with the clock behind the slot that was carried out. A
 -- refused slot is the last that it asks for.
 abbrev pub InClockOrder : ℕ → ℕ → List Arrival → List Said → Type 0
-InClockOrder zero clock feed saids = AreAsked (due_by clock feed) saids
-InClockOrder (suc left) clock feed saids = (fed : List Said) × (rest : List Said) × (saids ≡ fed ++ rest) × AreAsked (due_by clock feed) fed
+InClockOrder zero clock feed saids = AreAsked (arrived comes_at clock feed) saids
+InClockOrder (suc left) clock feed saids = (fed : List Said) × (rest : List Said) × (saids ≡ fed ++ rest)
+    × AreAsked (arrived comes_at clock feed) fed
     × (((slot : SlotReply) × (more : List Said) × (rest ≡ said events.Slot (Ok (replies.Slot slot)) ∷ more)
-    × InClockOrder left (slot.slot + 1) (later_than clock feed) more)
+    × InClockOrder left (slot.slot + 1) (coming comes_at clock feed) more)
     ⊎ ((refused : RefusedAt) × (rest ≡ said events.Slot (Err refused) ∷ [])))
 
 -- What came of it

@@ -1,14 +1,13 @@
 -- How the events of a run go on, row by row.
-use Rattle.std.proofs.Common.{◌≡◌, ℕ, zero, suc, ◌+◌, ◌-◌, ◌<◌, ◌≤◌, ◌⊎◌, Bool, true, false, cond, List, [], ◌∷◌, ◌++◌, refl, ap, sym, ◌∙◌}
-use Rattle.std.proofs.Common.{subst, map, max, min, take, drop, replicate, append_assoc, arith, inl, inr}
-use Rattle.std.specs.List.{prefix_len}
-use Rattle.std.proofs.lemmas.Bool.{le-leb, lt-leb}
+use Rattle.std.proofs.Common.{◌≡◌, ℕ, zero, suc, ◌+◌, ◌-◌, ◌<◌, ◌≤◌, ◌⊎◌, List, [], ◌∷◌, ◌++◌, refl, ap, sym, ◌∙◌}
+use Rattle.std.proofs.Common.{map, max, min, replicate, append_assoc, arith, inl, inr}
 use Rattle.std.proofs.lemmas.List.{replicate_more}
-use Rattle.std.proofs.lemmas.List.Sums.{take_while-cons}
+use Rattle.slot_types.specs.Arriving.{arrived, coming}
+use Rattle.slot_types.proofs.Arriving.{arrived_one, arrived_none, later_one, later_none}
 use Rattle.slot_types.specs.declared.events.Event.{Event}
 use Rattle.slot_types.specs.declared.events.Event.TheVariants as events
 use Rattle.script_texts.specs.declared.script_rows.ScriptItem.{ScriptItem}
-use Rattle.task_script.specs.DieRuns.{Call, Row, Slot, calls_from, due_by, is_due, later_than}
+use Rattle.task_script.specs.DieRuns.{Row, Slot, calls_from, row_slot}
 use Rattle.task_script.specs.PlannedRuns.{event_of}
 use Rattle.plan_arrivals.specs.Steps.{later_events}
 
@@ -29,41 +28,25 @@ slots_more base evs more from now h so_far one =
 abbrev events_from : ℕ → ℕ → List ScriptItem → List Event
 events_from now left rows = map event_of (calls_from now left rows)
 
-due_one : (now : ℕ) (item : ScriptItem) (rest : List ScriptItem) → item.at ≤ now → due_by now (item ∷ rest) ≡ item ∷ due_by now rest
-due_one now item rest by = take_while-cons (is_due now) item rest
-    ∙ ap (λ (b : Bool). cond b (item ∷ due_by now rest) []) (le-leb item.at now by)
-
-due_none : (now : ℕ) (item : ScriptItem) (rest : List ScriptItem) → now < item.at → due_by now (item ∷ rest) ≡ []
-due_none now item rest later = take_while-cons (is_due now) item rest
-    ∙ ap (λ (b : Bool). cond b (item ∷ due_by now rest) []) (lt-leb item.at now later)
-
-one_less : (item : ScriptItem) (n : ℕ) (rest : List ScriptItem) → drop (1 + n) (item ∷ rest) ≡ drop n rest
-one_less item n rest = ap (λ k. drop k (item ∷ rest)) (let more : 1 + n ≡ suc n = omega arith in more)
-
-later_one : (now : ℕ) (item : ScriptItem) (rest : List ScriptItem) → item.at ≤ now → later_than now (item ∷ rest) ≡ later_than now rest
-later_one now item rest by = rw (le-leb item.at now by) (one_less item (prefix_len (is_due now) rest) rest)
-
-later_none : (now : ℕ) (item : ScriptItem) (rest : List ScriptItem) → now < item.at → later_than now (item ∷ rest) ≡ item ∷ rest
-later_none now item rest later = rw (lt-leb item.at now later) refl
-
 -- a row that is due, or that comes when no slot is left, is next
 due_next : (now left : ℕ) (item : ScriptItem) (rest : List ScriptItem) → (item.at ≤ now) ⊎ (left ≡ 0) → events_from now left (item ∷ rest)
     ≡ item.event ∷ events_from now left rest
 due_next now zero item rest h = refl
 due_next now (suc left) item rest (inl by) =
-    ap (λ (due : List ScriptItem). map event_of (map Row due ++ Slot ∷ calls_from (now + 1) left (later_than now (item ∷ rest))))
-    (due_one now item rest by)
-    ∙ ap (λ (later : List ScriptItem). item.event ∷ map event_of (map Row (due_by now rest) ++ Slot ∷ calls_from (now + 1) left later))
-    (later_one now item rest by)
+    ap (λ (due : List ScriptItem). map event_of (map Row due ++ Slot ∷ calls_from (now + 1) left (coming row_slot now (item ∷ rest))))
+    (arrived_one row_slot now item rest by)
+    ∙ ap (λ (later : List ScriptItem).
+    item.event ∷ map event_of (map Row (arrived row_slot now rest) ++ Slot ∷ calls_from (now + 1) left later))
+    (later_one row_slot now item rest by)
 due_next now (suc left) item rest (inr none) = absurd (omega arith)
 
 -- before a row that isn't due a slot is next
 slot_next : (now left : ℕ) (item : ScriptItem) (rest : List ScriptItem) → now < item.at → events_from now (suc left) (item ∷ rest)
     ≡ events.Slot ∷ events_from (now + 1) left (item ∷ rest)
 slot_next now left item rest later =
-    ap (λ (due : List ScriptItem). map event_of (map Row due ++ Slot ∷ calls_from (now + 1) left (later_than now (item ∷ rest))))
-    (due_none now item rest later)
-    ∙ ap (λ (more : List ScriptItem). events.Slot ∷ map event_of (calls_from (now + 1) left more)) (later_none now item rest later)
+    ap (λ (due : List ScriptItem). map event_of (map Row due ++ Slot ∷ calls_from (now + 1) left (coming row_slot now (item ∷ rest))))
+    (arrived_none row_slot now item rest later)
+    ∙ ap (λ (more : List ScriptItem). events.Slot ∷ map event_of (calls_from (now + 1) left more)) (later_none row_slot now item rest later)
 
 slots_next : (k now left after rest_slots : ℕ) (item : ScriptItem) (rest : List ScriptItem) → now + k ≡ after → after ≤ item.at
     → k + rest_slots ≡ left

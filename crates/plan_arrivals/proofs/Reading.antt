@@ -1,15 +1,16 @@
 -- How the rows of a script become the events of a die.
-use Rattle.std.proofs.Common.{◌≡◌, ℕ, ◌==◌, ◌-◌, Bool, true, false, cond, List, [], ◌∷◌, ◌++◌, refl, ap, sym, ◌∙◌, subst, filter, map}
-use Rattle.std.proofs.Common.{replicate, append_assoc, arith, Option, Some, None, Ok, Err}
-use Rattle.std.specs.Prelude.{IfSome, option_map}
+use Rattle.std.proofs.Common.{◌≡◌, ℕ, ◌==◌, ◌-◌, Bool, true, false, cond, List, [], ◌∷◌, ◌++◌, ap, sym, ◌∙◌, subst, map}
+use Rattle.std.proofs.Common.{replicate, append_assoc, arith, Option, Some, None, Ok}
+use Rattle.std.specs.Prelude.{option_map}
 use Rattle.std.proofs.lemmas.Bool.{eq-eqb, ne_eqb}
 use Rattle.std.proofs.lemmas.List.{append-nil}
 use Rattle.slot_types.specs.declared.events.Event.{Event}
 use Rattle.slot_types.specs.declared.events.Event.TheVariants as events
-use Rattle.script_texts.specs.Script.{Script, Yields, script_of, with_front}
+use Rattle.script_texts.specs.Script.{Script, Yields, script_of}
 use Rattle.script_texts.specs.declared.script_rows.ScriptItem.{ScriptItem}
+use Rattle.task_script.proofs.ReadSoFar.{read_none, read_more, read_all, known_by}
 use Rattle.task_script.specs.DieRuns.{calls_from}
-use Rattle.task_script.specs.Feeds.{AreItemsOf, IsReadTo, feed_of, with_items}
+use Rattle.task_script.specs.Feeds.{IsReadTo, feed_of}
 use Rattle.task_script.specs.PlannedRuns.{event_of, events_of}
 use Rattle.plan_arrivals.specs.Planned.{AreEventsOf}
 use Rattle.plan_arrivals.specs.Steps.{later_events}
@@ -35,35 +36,6 @@ pub record HasCome (whole left : Option Script) (slots now die : ℕ) (events : 
   pub items : List ScriptItem
   pub read : IsReadTo whole left items
   pub come : (rest : List ScriptItem) → events_of slots (feed_of (items ++ rest) die) ≡ events ++ later_events slots now (feed_of rest die)
-
-read_none : (whole : Option Script) → IsReadTo whole whole []
-read_none None = tt
-read_none (Some (Ok items)) = refl
-read_none (Some (Err e)) = refl
-
-items_more : (items : List ScriptItem) (item : ScriptItem) (more : Script) → with_items items (with_front item more)
-    ≡ with_items (items ++ item ∷ []) more
-items_more items item (Ok more) = ap (λ (xs : List ScriptItem). Ok xs) (sym (append_assoc items (item ∷ []) more))
-items_more items item (Err e) = refl
-
-read_more : (whole left new : Option Script) (items : List ScriptItem) (item : ScriptItem) → IsReadTo whole left items
-    → Yields left new (Ok (Some item)) → IsReadTo whole new (items ++ item ∷ [])
-read_more None left new items item so_far step = tt
-read_more (Some all) None new items item so_far step = absurd so_far
-read_more (Some all) (Some more) new items item so_far step =
-    subst (λ (o : Option Script). IsReadTo (Some all) o (items ++ item ∷ [])) (sym step.1)
-    (so_far ∙ (ap (with_items items) step.2 ∙ items_more items item step.0))
-
-read_all : (whole left new : Option Script) (items : List ScriptItem) → IsReadTo whole left items → Yields left new (Ok None)
-    → IfSome whole (λ all. all ≡ Ok items)
-read_all None left new items so_far step = tt
-read_all (Some all) None new items so_far step = absurd so_far
-read_all (Some all) (Some more) new items so_far step = so_far
-    ∙ (ap (with_items items) step.0 ∙ ap (λ (xs : List ScriptItem). Ok xs) (append-nil items))
-
-known_by : {A B : Type 0} (P : B → Type 0) (f : A → B) (o : Option A) → IfSome (option_map f o) P → IfSome o (λ a. P (f a))
-known_by P f None h = tt
-known_by P f (Some a) h = h
 
 pub come_none : (whole left : Option Script) (slots die : ℕ) (events : List Event) → left ≡ whole → events ≡ []
     → HasCome whole left slots 0 die events

@@ -1,11 +1,9 @@
 -- A die behind its lock that was asked for the events of its feed and for slots ran its rows and slots.
-use Rattle.std.proofs.Common.{◌≡◌, ℕ, zero, suc, ◌+◌, ◌≤◌, Bool, cond, List, [], ◌∷◌, ◌++◌, refl, ap, sym, ◌∙◌, subst, length, map, take}
-use Rattle.std.proofs.Common.{drop, append_assoc, arith, inl, inr, Option, None, Some, Result, Ok, Err, All}
-use Rattle.std.proofs.lemmas.Bool.{eq-eqb, ne_eqb, le-leb}
-use Rattle.std.specs.List.{prefix_len}
-use Rattle.std.proofs.lemmas.List.{append-nil, take-append-drop, take-map, drop-map}
-use Rattle.std.proofs.lemmas.List.Sums.{take_while-cons}
-use Rattle.std.proofs.lemmas.List.Elements.{All-nil, All-cons, All-head, All-tail, All-take, All-drop}
+use Rattle.std.proofs.Common.{◌≡◌, ℕ, zero, suc, ◌+◌, ◌≤◌, Bool, cond, List, [], ◌∷◌, ◌++◌, refl, ap, sym, ◌∙◌, subst, length, map}
+use Rattle.std.proofs.Common.{append_assoc, arith, inl, inr, Option, None, Some, Result, Ok, Err, All}
+use Rattle.std.proofs.lemmas.Bool.{eq-eqb, ne_eqb}
+use Rattle.std.proofs.lemmas.List.{append-nil}
+use Rattle.std.proofs.lemmas.List.Elements.{All-nil, All-cons, All-head, All-tail}
 use Rattle.slot_types.specs.declared.limits.TheConstants.{MAX_SLOT}
 use Rattle.slot_types.specs.declared.plans.DiePlan.{DiePlan}
 use Rattle.slot_types.specs.declared.events.Event.{Event}
@@ -15,56 +13,34 @@ use Rattle.slot_types.specs.declared.refusals.Refusal.TheVariants as because
 use Rattle.slot_types.specs.declared.replies.Reply.{Reply}
 use Rattle.slot_types.specs.declared.replies.Reply.TheVariants as replies
 use Rattle.slot_types.specs.declared.replies.SlotReply.{SlotReply}
-use Rattle.die_log.specs.Log.{Log, now}
-use Rattle.die_log.specs.Answers.{answer, answer_by, refusal_of, slot_reply, choice, IsAccepted}
-use Rattle.die_log.proofs.Numbered.{slot_is}
+use Rattle.die_log.specs.Log.{now}
+use Rattle.die_log.specs.Answers.{answer, IsAccepted}
 use Rattle.slot_core.specs.Core.{with_entry}
-use Rattle.die_service.specs.Passes.{IsTaken}
-use Rattle.die_service.proofs.Passing.{submit_taken, collect_taken}
 use Rattle.die_service.specs.declared.ends.RefusedEvent.{RefusedEvent}
 use Rattle.die_service.specs.declared.feeds.Arrival.{Arrival}
 use Rattle.die_service.specs.declared.refused.RefusedAt.{RefusedAt}
 use Rattle.die_service.specs.Runs as feed
 use Rattle.slot_types.specs.Arrivals.{IsArrival}
-use Rattle.die_service.specs.Runs.{Said, said, AreAsked, InClockOrder, noted, place_behind, refused_from, stop_of}
+use Rattle.slot_types.specs.Arriving.{arrived, coming}
+use Rattle.slot_types.proofs.Arriving.{arrived_hold, later_hold, arrived_all, arrived_and_later, arrived_map, later_map}
+use Rattle.die_service.specs.Runs.{Said, said, comes_at, AreAsked, InClockOrder, noted, place_behind, refused_from, stop_of}
 use Rattle.script_texts.specs.declared.script_rows.ScriptItem.{ScriptItem}
 use Rattle.task_script.specs.declared.run_counts.RowEnd.{RowEnd}
-use Rattle.task_script.specs.DieRuns.{Call, Row, Slot, DieRun, Accepts, Ends, Runs, run_at, end_of, is_due, due_by, later_than, calls_from}
+use Rattle.task_script.specs.DieRuns.{Call, Row, Slot, DieRun, Accepts, Ends, Runs, run_at, end_of, row_slot, calls_from}
 use Rattle.task_script.specs.RowEnds.{arrival_of, arrivals_of, lines_of, row_end, ends_from}
-use Rattle.task_script.proofs.Calling.{ran_more, slot_counted, slot_refused}
+use Rattle.die_service.proofs.SlotCalls.{numbered, slot_counted, slot_refused, taken_stays}
+use Rattle.task_script.proofs.Calling.{ran_more}
 use Rattle.die_service.proofs.Transcripts.{said_log, said_accepted, said_refused}
 use Rattle.task_script.proofs.Transcripts.{AreTold}
 
 -- The rows that come by a slot are the events that do
 
-as_many : (slot : ℕ) (items : List ScriptItem) → prefix_len (feed.is_due slot) (arrivals_of items) ≡ prefix_len (is_due slot) items
-as_many slot [] = refl
-as_many slot (item ∷ items) = ap (λ n. cond (is_due slot item) (1 + n) 0) (as_many slot items)
+same_arrived : (slot : ℕ) (items : List ScriptItem)
+    → arrived comes_at slot (arrivals_of items) ≡ arrivals_of (arrived row_slot slot items)
+same_arrived = arrived_map arrival_of comes_at
 
-due_same : (slot : ℕ) (items : List ScriptItem) → feed.due_by slot (arrivals_of items) ≡ arrivals_of (due_by slot items)
-due_same slot items = ap (λ n. take n (arrivals_of items)) (as_many slot items) ∙ take-map arrival_of (prefix_len (is_due slot) items) items
-
-later_same : (slot : ℕ) (items : List ScriptItem) → feed.later_than slot (arrivals_of items) ≡ arrivals_of (later_than slot items)
-later_same slot items = ap (λ n. drop n (arrivals_of items)) (as_many slot items)
-    ∙ drop-map arrival_of (prefix_len (is_due slot) items) items
-
-due_and_later : (slot : ℕ) (items : List ScriptItem) → due_by slot items ++ later_than slot items ≡ items
-due_and_later slot items = take-append-drop (prefix_len (is_due slot) items) items
-
-all_due : (slot : ℕ) (items : List ScriptItem) → All (λ item. item.at ≤ slot) items → due_by slot items ≡ items
-all_due slot [] h = refl
-all_due slot (item ∷ items) h =
-    take_while-cons (is_due slot) item items
-    ∙ ap (λ (b : Bool). cond b (item ∷ due_by slot items) [])
-    (le-leb item.at slot (All-head (λ (i : ScriptItem). i.at ≤ slot) item items h))
-    ∙ ap (λ (xs : List ScriptItem). item ∷ xs) (all_due slot items (All-tail (λ (i : ScriptItem). i.at ≤ slot) item items h))
-
-module _ (P : ScriptItem → Type 0) where
-  due_all : (slot : ℕ) (items : List ScriptItem) → All P items → All P (due_by slot items)
-  due_all slot items h = All-take P (prefix_len (is_due slot) items) items h
-
-  later_all : (slot : ℕ) (items : List ScriptItem) → All P items → All P (later_than slot items)
-  later_all slot items h = All-drop P (prefix_len (is_due slot) items) items h
+same_coming : (slot : ℕ) (items : List ScriptItem) → coming comes_at slot (arrivals_of items) ≡ arrivals_of (coming row_slot slot items)
+same_coming = later_map arrival_of comes_at
 
 -- What became of the rows
 
@@ -180,25 +156,6 @@ ends_at plan saids before after event (Ok reply) told is = accepts_at plan befor
 ends_at plan saids before after event (Err refused) told is =
     (told.refused before after event refused is, said_refused before event refused)
 
--- an accepted row takes no slot
-taken_stays : (plan : DiePlan) (past : Log) (event : Event) (reply : Reply) → IsArrival event → answer plan past event ≡ reply
-    → IsAccepted reply → now (with_entry 0 event reply past) ≡ now past
-taken_stays plan past (events.Submit task release due ops) reply h is taken = by reply
-    (submit_taken plan past task release due ops reply is taken)
-  where
-    by : (r : Reply) → IsTaken r → now (with_entry 0 (events.Submit task release due ops) r past) ≡ now past
-    by (replies.Taken number) t = refl
-    by (replies.Slot slot) t = absurd t
-    by (replies.Refused refusal) t = absurd t
-taken_stays plan past (events.Collect task release due) reply h is taken = by reply
-    (collect_taken plan past task release due reply is taken)
-  where
-    by : (r : Reply) → IsTaken r → now (with_entry 0 (events.Collect task release due) r past) ≡ now past
-    by (replies.Taken number) t = refl
-    by (replies.Slot slot) t = absurd t
-    by (replies.Refused refusal) t = absurd t
-taken_stays plan past events.Slot reply h is taken = absurd h
-
 stays_at : (plan : DiePlan) (saids before after : List Said) (event : Event) (reply : Result Reply RefusedAt) → AreTold plan saids → saids
     ≡ before ++ said event reply ∷ after → IsArrival event
     → now (said_log (before ++ said event reply ∷ [])) ≡ now (said_log before)
@@ -283,21 +240,6 @@ pub record ComesTo (plan : DiePlan) (saids before : List Said) (ends : List RowE
   pub slots : now (said_log saids) ≡ time
   pub ended_is : ended ≡ ends_from place lines (refused_from place rest)
 
-same_slot : (s t : SlotReply) → replies.Slot s ≡ replies.Slot t → s ≡ t
-same_slot s t e = cc
-
--- a slot's reply has its number
-numbered_by : (plan : DiePlan) (past : Log) (slot : SlotReply) (o : Option Refusal) → answer_by plan past events.Slot o ≡ replies.Slot slot
-    → slot.slot ≡ now past
-numbered_by plan past slot None e =
-    let c = choice plan past in
-    ap (λ (s : SlotReply). s.slot) (sym (same_slot (slot_reply plan past c.waived c.head) slot e)) ∙ slot_is plan past c.waived c.head
-numbered_by plan past slot (Some refusal) e = absurd cc
-
-numbered : (plan : DiePlan) (past : Log) (slot : SlotReply) → answer plan past events.Slot ≡ replies.Slot slot → slot.slot ≡ now past
-unfolding answer
-numbered plan past slot is = numbered_by plan past slot (refusal_of plan past events.Slot) is
-
 same_refused : (a b : RefusedAt) → ◌≡◌ {A = Option RefusedAt} (Some a) (Some b) → a ≡ b
 same_refused a b e = cc
 
@@ -307,8 +249,8 @@ stopped_not refused e = absurd cc
 -- The rows that come by a slot, and what was said behind them
 
 record Fed (plan : DiePlan) (saids : List Said) (clock : ℕ) (items : List ScriptItem) (before fed behind rest : List Said) : Type 0 where
-  asked : AreAsked (arrivals_of (due_by clock items)) fed
-  arrive : All (λ item. IsArrival item.event) (due_by clock items)
+  asked : AreAsked (arrivals_of (arrived row_slot clock items)) fed
+  arrive : All (λ item. IsArrival item.event) (arrived row_slot clock items)
   at : saids ≡ before ++ (fed ++ behind)
   next : saids ≡ (before ++ fed) ++ behind
   stays : now (said_log (before ++ fed)) ≡ clock
@@ -316,21 +258,22 @@ record Fed (plan : DiePlan) (saids : List Said) (clock : ℕ) (items : List Scri
 
 rows_fed : (plan : DiePlan) (saids : List Said) → AreTold plan saids
     → (clock : ℕ) (items : List ScriptItem) (before fed behind rest : List Said)
-    → saids ≡ before ++ rest → rest ≡ fed ++ behind → AreAsked (feed.due_by clock (arrivals_of items)) fed → now (said_log before) ≡ clock
+    → saids ≡ before ++ rest → rest ≡ fed ++ behind → AreAsked (arrived comes_at clock (arrivals_of items)) fed
+    → now (said_log before) ≡ clock
     → All (λ item. IsArrival item.event) items
     → Fed plan saids clock items before fed behind rest
 rows_fed plan saids told clock items before fed behind rest is split asked at_now arrive =
-    let these : AreAsked (arrivals_of (due_by clock items)) fed = subst (λ (xs : List Arrival). AreAsked xs fed) (due_same clock items)
-    asked in
-    let arrive_now = due_all (λ item. IsArrival item.event) clock items arrive in
+    let these : AreAsked (arrivals_of (arrived row_slot clock items)) fed =
+    subst (λ (xs : List Arrival). AreAsked xs fed) (same_arrived clock items) asked in
+    let arrive_now = arrived_hold row_slot clock (λ item. IsArrival item.event) items arrive in
     let all_is : saids ≡ before ++ (fed ++ behind) = is ∙ ap (λ (xs : List Said). before ++ xs) split in
     record {
       asked = these;
       arrive = arrive_now;
       at = all_is;
       next = all_is ∙ sym (append_assoc before fed behind);
-      stays = rows_stay plan saids told (due_by clock items) fed before behind all_is these arrive_now ∙ at_now;
-      stops = ap stop_of split ∙ stop_behind (due_by clock items) fed behind these arrive_now;
+      stays = rows_stay plan saids told (arrived row_slot clock items) fed before behind all_is these arrive_now ∙ at_now;
+      stops = ap stop_of split ∙ stop_behind (arrived row_slot clock items) fed behind these arrive_now;
     }
 
 -- A slot that was carried out behind them, and what was said behind the slot
@@ -342,15 +285,15 @@ record Carried (plan : DiePlan) (saids : List Said) (left clock : ℕ) (items : 
     : Type 0 where
   answered : (answer plan (said_log before) events.Slot ≡ replies.Slot slot) × IsAccepted (replies.Slot slot)
   next : saids ≡ (before ++ carried slot ∷ []) ++ more
-  ordered : InClockOrder left (clock + 1) (arrivals_of (later_than clock items)) more
+  ordered : InClockOrder left (clock + 1) (arrivals_of (coming row_slot clock items)) more
   counted : now (said_log (before ++ carried slot ∷ [])) ≡ clock + 1
-  due : All (λ item. item.at ≤ clock + 1 + left) (later_than clock items)
-  arrive : All (λ item. IsArrival item.event) (later_than clock items)
+  due : All (λ item. item.at ≤ clock + 1 + left) (coming row_slot clock items)
+  arrive : All (λ item. IsArrival item.event) (coming row_slot clock items)
 
 slot_carried : (plan : DiePlan) (saids : List Said) → AreTold plan saids
     → (left clock : ℕ) (items : List ScriptItem) (before more : List Said) (slot : SlotReply)
     → saids ≡ before ++ carried slot ∷ more → now (said_log before) ≡ clock
-    → InClockOrder left (slot.slot + 1) (feed.later_than clock (arrivals_of items)) more
+    → InClockOrder left (slot.slot + 1) (coming comes_at clock (arrivals_of items)) more
     → All (λ item. item.at ≤ clock + suc left) items → All (λ item. IsArrival item.event) items
     → Carried plan saids left clock items before more slot
 slot_carried plan saids told left clock items before more slot is at_now ordered due arrive =
@@ -359,12 +302,12 @@ slot_carried plan saids told left clock items before more slot is at_now ordered
     record {
       answered = answered;
       next = is ∙ sym (append_assoc before (carried slot ∷ []) more);
-      ordered = subst (λ (x : ℕ × List Arrival). InClockOrder left x.0 x.1 more) (λ i. (number i + 1, later_same clock items i)) ordered;
+      ordered = subst (λ (x : ℕ × List Arrival). InClockOrder left x.0 x.1 more) (λ i. (number i + 1, same_coming clock items i)) ordered;
       counted = ap now (said_accepted before events.Slot (replies.Slot slot))
           ∙ (slot_counted (said_log before) _ slot refl ∙ ap (λ (n : ℕ). n + 1) at_now);
-      due = subst (λ (n : ℕ). All (λ item. item.at ≤ n) (later_than clock items)) (omega arith)
-          (later_all (λ item. item.at ≤ clock + suc left) clock items due);
-      arrive = later_all (λ item. IsArrival item.event) clock items arrive;
+      due = subst (λ (n : ℕ). All (λ item. item.at ≤ n) (coming row_slot clock items)) (omega arith)
+          (later_hold row_slot clock (λ item. item.at ≤ clock + suc left) items due);
+      arrive = later_hold row_slot clock (λ item. IsArrival item.event) items arrive;
     }
 
 pub slots_run : (plan : DiePlan) (saids : List Said) → AreTold plan saids
@@ -374,8 +317,8 @@ pub slots_run : (plan : DiePlan) (saids : List Said) → AreTold plan saids
     → ComesTo plan saids before ends (calls_from clock left items) place (lines_of items) rest (clock + left)
 slots_run plan saids told zero clock items before rest ends place is ordered at_now none_stopped due arrive =
     let in_time : All (λ item. item.at ≤ clock) items = subst (λ (n : ℕ). All (λ item. item.at ≤ n) items) (omega arith) due in
-    let asked : AreAsked (arrivals_of items) rest = subst (λ (xs : List Arrival). AreAsked xs rest) (due_same clock items
-    ∙ ap arrivals_of (all_due clock items in_time)) ordered in
+    let asked : AreAsked (arrivals_of items) rest = subst (λ (xs : List Arrival). AreAsked xs rest) (same_arrived clock items
+    ∙ ap arrivals_of (arrived_all row_slot clock items in_time)) ordered in
     let here : saids ≡ before ++ (rest ++ []) = is ∙ ap (λ (xs : List Said). before ++ xs) (sym (append-nil rest)) in
     record {
       ended = ends_said items rest;
@@ -392,8 +335,8 @@ slots_run plan saids told (suc left) clock items before rest ends place is (fed,
     absurd (stopped_not refused (sym (f.stops ∙ ap stop_of last) ∙ none_stopped))
 slots_run plan saids told (suc left) clock items before rest ends place is (fed, behind, split, asked, inl (slot, more, first, ordered))
     at_now none_stopped due arrive =
-    let now_due = due_by clock items in
-    let later = later_than clock items in
+    let now_due = arrived row_slot clock items in
+    let later = coming row_slot clock items in
     let tail = carried slot ∷ more in
     let rest_is : rest ≡ fed ++ tail = split ∙ ap (λ (xs : List Said). fed ++ xs) first in
     let f = rows_fed plan saids told clock items before fed tail rest is rest_is asked at_now arrive in
@@ -405,7 +348,8 @@ slots_run plan saids told (suc left) clock items before rest ends place is (fed,
       ended = ends_said now_due fed ++ on.ended;
       ran = ran_more plan (run_at (said_log before) ends) (run_at (said_log (before ++ fed)) (ends ++ ends_said now_due fed))
           (run_at (said_log saids) (ends ++ (ends_said now_due fed ++ on.ended)))
-          (map Row now_due) (Slot ∷ calls_from (clock + 1) left later) (rows_run plan saids told now_due fed before tail ends f.at f.asked) (
+          (map Row now_due) (Slot ∷ calls_from (clock + 1) left later)
+          (rows_run plan saids told now_due fed before tail ends f.at f.asked) (
             run_at (said_log ((before ++ fed) ++ carried slot ∷ [])) (ends ++ ends_said now_due fed),
             (accepts_at plan (before ++ fed) events.Slot (replies.Slot slot) c.answered, refl),
             subst (λ (es : List RowEnd). Runs plan (run_at (said_log ((before ++ fed) ++ carried slot ∷ [])) (ends
@@ -415,7 +359,7 @@ slots_run plan saids told (suc left) clock items before rest ends place is (fed,
       slots = on.slots ∙ omega arith;
       ended_is = ap (λ (es : List RowEnd). ends_said now_due fed ++ es) on.ended_is
           ∙ (sym (ends_split now_due later fed tail place f.asked f.arrive)
-          ∙ λ i. ends_from place (lines_of (due_and_later clock items i)) (refused_from place (sym rest_is i)));
+          ∙ λ i. ends_from place (lines_of (arrived_and_later row_slot clock items i)) (refused_from place (sym rest_is i)));
     }
 
 -- A slot that is refused
@@ -427,8 +371,8 @@ pub slots_stop : (plan : DiePlan) (saids : List Said) → AreTold plan saids
     ≡ because.NoMemory
 slots_stop plan saids told zero clock items before rest stop is ordered at_now stopped few due arrive =
     let in_time : All (λ item. item.at ≤ clock) items = subst (λ (n : ℕ). All (λ item. item.at ≤ n) items) (omega arith) due in
-    let asked : AreAsked (arrivals_of items) rest = subst (λ (xs : List Arrival). AreAsked xs rest) (due_same clock items
-    ∙ ap arrivals_of (all_due clock items in_time)) ordered in
+    let asked : AreAsked (arrivals_of items) rest = subst (λ (xs : List Arrival). AreAsked xs rest) (same_arrived clock items
+    ∙ ap arrivals_of (arrived_all row_slot clock items in_time)) ordered in
     let none : stop_of rest ≡ None = ap stop_of (sym (append-nil rest)) ∙ stop_behind items rest [] asked arrive in
     absurd (stopped_not stop (sym stopped ∙ none))
 slots_stop plan saids told (suc left) clock items before rest stop is (fed, behind, split, asked, inr (refused, last)) at_now stopped few
@@ -444,5 +388,5 @@ slots_stop plan saids told (suc left) clock items before rest stop is (fed, behi
     let f = rows_fed plan saids told clock items before fed (carried slot ∷ more) rest is (split ∙ ap (λ (xs : List Said). fed ++ xs) first)
     asked at_now arrive in
     let c = slot_carried plan saids told left clock items (before ++ fed) more slot f.next f.stays ordered due arrive in
-    slots_stop plan saids told left (clock + 1) (later_than clock items) ((before ++ fed) ++ carried slot ∷ []) more stop
+    slots_stop plan saids told left (clock + 1) (coming row_slot clock items) ((before ++ fed) ++ carried slot ∷ []) more stop
     c.next c.ordered c.counted (sym f.stops ∙ stopped) (omega (arith, few)) c.due c.arrive

@@ -1,6 +1,7 @@
 pub mod DieRows
 pub mod Calling
 pub mod KeptRows
+pub mod ReadSoFar
 pub mod Dealing
 pub mod Gathering
 pub mod Transcripts

@@ -1,7 +1,7 @@
 -- What a die is asked in a run, and what comes of it.
-use Rattle.std.specs.Prelude.{◌≡◌, ℕ, zero, suc, ◌+◌, nat_le, Bool, List, [], ◌∷◌, ◌++◌, map, drop, Option, Some, None}
-use Rattle.std.specs.List.{prefix_len, take_while}
+use Rattle.std.specs.Prelude.{◌≡◌, ℕ, zero, suc, ◌+◌, List, [], ◌∷◌, ◌++◌, map, Option, Some, None}
 use Rattle.slot_types.specs.declared.plans.DiePlan.{DiePlan}
+use Rattle.slot_types.specs.Arriving.{arrived, coming}
 use Rattle.slot_types.specs.declared.events.Event.{Event}
 use Rattle.slot_types.specs.declared.events.Event.TheVariants as events
 use Rattle.slot_types.specs.declared.refusals.Refusal.{Refusal}
@@ -19,22 +19,15 @@ pub data Call : Type 0 where
   Row : (item : ScriptItem) → Call
   Slot : Call
 
-abbrev pub is_due : ℕ → ScriptItem → Bool
-is_due slot item = nat_le item.at slot
-
--- the rows in front that come by a slot
-abbrev pub due_by : ℕ → List ScriptItem → List ScriptItem
-due_by slot items = take_while (is_due slot) items
-
--- the rows behind these
-abbrev pub later_than : ℕ → List ScriptItem → List ScriptItem
-later_than slot items = drop (prefix_len (is_due slot) items) items
+-- the slot by which a row comes
+abbrev pub row_slot : ScriptItem → ℕ
+row_slot item = item.at
 
 -- the calls of so many slots from a slot on: before each slot the rows that come by then, and after the last one those
 -- that are left
 abbrev pub calls_from : ℕ → ℕ → List ScriptItem → List Call
 calls_from slot zero items = map Row items
-calls_from slot (suc left) items = map Row (due_by slot items) ++ Slot ∷ calls_from (slot + 1) left (later_than slot items)
+calls_from slot (suc left) items = map Row (arrived row_slot slot items) ++ Slot ∷ calls_from (slot + 1) left (coming row_slot slot items)
 
 abbrev pub calls_of : ℕ → List ScriptItem → List Call
 calls_of slots items = calls_from 0 slots items
