@@ -1,6 +1,7 @@
 pub mod PlainFields
 pub mod Written
 pub mod PlainRecords
+pub mod TextParts
 pub mod LineLaws
 pub mod RecordLaws
 pub mod ProgressLaws

@@ -1,5 +1,6 @@
 pub mod JobRows
 pub mod ReportText
+pub mod TextSoFar
 pub mod Commas
 pub mod Lines
 pub mod ReportHeader

@@ -1,12 +1,19 @@
 -- The jobs and collections of a log in short.
 use Rattle.std.specs.Prelude.{ℕ, Option, option_map}
 use Rattle.slot_types.specs.declared.plans.DiePlan.{DiePlan}
+use Rattle.slot_types.specs.declared.events.JobHead.{JobHead}
 use Rattle.job_table.specs.Jobs.{JobRecord}
 use Rattle.die_log.specs.Log.{Log, Job, job_at, work}
-use Rattle.slot_core.specs.declared.summaries.JobSummary.{JobSummary}
+use Rattle.slot_core.specs.declared.outcomes.Outcome.{Outcome}
 use Rattle.slot_core.specs.Outcomes.{outcome_of, outcome_in, head_of, head_in}
 
--- what a job or collection of the log was accepted with, how many slots it took, and what became of it
+-- what a job or a collection was accepted with, how many slots it took, and what became of it
+pub record JobSummary : Type 0 where
+  pub head : JobHead
+  pub work : ℕ
+  pub outcome : Outcome
+
+-- a job or collection of the log in short
 abbrev pub summary_of : DiePlan → Log → Job → JobSummary
 summary_of plan log j = record { head = head_of j; work = work j.number log; outcome = outcome_of plan log j }
 

@@ -1,6 +1,6 @@
 -- The rows of a die's report follow its log, one by one.
 use Rattle.std.proofs.Common.{◌≡◌, ℕ, zero, suc, ◌+◌, List, [], ◌∷◌, ◌++◌, Option, Some, None, refl, ap, sym, ◌∙◌, map, take}
-use Rattle.std.proofs.Common.{slice_get, arith}
+use Rattle.std.proofs.Common.{slice_get, arith, Result, Ok, Err, OnOk}
 use Rattle.std.specs.Prelude.{option_map}
 use Rattle.std.proofs.lemmas.Option.{same_Some, none-some}
 use Rattle.slot_types.specs.declared.plans.DiePlan.{DiePlan}
@@ -12,9 +12,10 @@ use Rattle.die_log.specs.Log.{Log, Job, jobs, job_at, with_taken}
 use Rattle.die_log.specs.Legal.{IsLegal, IsNumbered}
 use Rattle.die_log.specs.Standing.{AreNumbered}
 use Rattle.die_log.proofs.Standing.Longer.{numbered_push, number_at}
-use Rattle.slot_core.specs.declared.summaries.JobSummary.{JobSummary}
-use Rattle.slot_core.specs.Summaries.{summary_of, summary_at}
+use Rattle.slot_core.specs.Summaries.{JobSummary, summary_of, summary_at}
 use Rattle.report_texts.specs.declared.reports.ReportRow.{ReportRow}
+use Rattle.report_texts.specs.TextSoFar.{TextSoFar, row_added, rows_added}
+use Rattle.report_texts.proofs.TextParts.{rows_push}
 use Rattle.task_script.specs.DieReports.{row_as, report_row_of, report_rows_of}
 
 -- Numbers
@@ -56,28 +57,41 @@ map_push f (y ∷ xs) x = ap (λ ys. f y ∷ ys) (map_push f xs x)
 
 -- One more row
 
--- the rows of the jobs before a number
-abbrev pub AreSoFar : DiePlan → Log → ℕ → List ReportRow → Type 0
-AreSoFar plan log n made = made ≡ map (report_row_of plan log) (take n (jobs log))
+-- a text has the rows of the jobs before a number
+abbrev pub HasSoFar : DiePlan → Log → ℕ → ℕ → TextSoFar → TextSoFar → Type 0
+HasSoFar plan log die n old text = text ≡ rows_added die (map (report_row_of plan log) (take n (jobs log))) old
 
 found : (plan : DiePlan) (log : Log) (summary : JobSummary) (o : Option Job) → option_map (summary_of plan log) o ≡ Some summary
     → (j : Job) × (o ≡ Some j) × (summary_of plan log j ≡ summary)
 found plan log summary None e = absurd (none-some summary e)
 found plan log summary (Some j) e = (j, refl, same_Some (summary_of plan log j) summary e)
 
-pub one_more : (plan : DiePlan) (log : Log) (n : ℕ) (made new : List ReportRow) (summary : JobSummary) → IsLegal plan log
-    → summary_at plan log n ≡ Some summary → new ≡ made ++ row_as n summary ∷ [] → AreSoFar plan log n made
-    → AreSoFar plan log (n + 1) new
-one_more plan log n made new summary legal summary_is new_is s =
+-- the rows up to the next number
+row_next : (plan : DiePlan) (log : Log) (n : ℕ) (summary : JobSummary) → IsLegal plan log → summary_at plan log n ≡ Some summary
+    → map (report_row_of plan log) (take (n + 1) (jobs log)) ≡ map (report_row_of plan log) (take n (jobs log)) ++ row_as n summary ∷ []
+row_next plan log n summary legal summary_is =
     let f = found plan log summary (job_at log n) summary_is in
     let number : f.0.number ≡ n = omega (arith, number_at 0 (jobs log) n f.0 (are_numbered plan log legal) f.1) in
     let row : row_as n summary ≡ report_row_of plan log f.0 = ap (row_as n) (sym f.2)
     ∙ ap (λ (k : ℕ). row_as k (summary_of plan log f.0)) (sym number) in
-    new_is ∙ (ap (λ (m : List ReportRow). m ++ row_as n summary ∷ []) s
-    ∙ (ap (λ (r : ReportRow). map (report_row_of plan log) (take n (jobs log)) ++ r ∷ []) row
-    ∙ (sym (map_push (report_row_of plan log) (take n (jobs log)) f.0)
-    ∙ ap (map (report_row_of plan log)) (sym (take_next (jobs log) n f.0 f.1)))))
+    ap (map (report_row_of plan log)) (take_next (jobs log) n f.0 f.1)
+    ∙ (map_push (report_row_of plan log) (take n (jobs log)) f.0
+    ∙ ap (λ (r : ReportRow). map (report_row_of plan log) (take n (jobs log)) ++ r ∷ []) (sym row))
 
-pub all_made : (plan : DiePlan) (log : Log) (n : ℕ) (made : List ReportRow) → job_at log n ≡ None → AreSoFar plan log n made → made
-    ≡ report_rows_of plan log
-all_made plan log n made past s = s ∙ ap (map (report_row_of plan log)) (take_past (jobs log) n past)
+pub one_more : (plan : DiePlan) (log : Log) (die n : ℕ) (old text new : TextSoFar) (summary : JobSummary) → IsLegal plan log
+    → summary_at plan log n ≡ Some summary → new ≡ row_added die (row_as n summary) text → HasSoFar plan log die n old text
+    → HasSoFar plan log die (n + 1) old new
+one_more plan log die n old text new summary legal summary_is added so_far =
+    let before = map (report_row_of plan log) (take n (jobs log)) in
+    added ∙ (ap (row_added die (row_as n summary)) so_far ∙ (rows_push die before (row_as n summary) old
+    ∙ ap (λ (rows : List ReportRow). rows_added die rows old) (sym (row_next plan log n summary legal summary_is))))
+
+pub none_more : (plan : DiePlan) (log : Log) (die n : ℕ) (old text : TextSoFar) → job_at log n ≡ None → HasSoFar plan log die n old text
+    → text ≡ rows_added die (report_rows_of plan log) old
+none_more plan log die n old text past so_far =
+    so_far ∙ ap (λ (js : List Job). rows_added die (map (report_row_of plan log) js) old) (take_past (jobs log) n past)
+
+-- what follows of a call that ends well
+pub ok_then : {T E P Q : Type 0} (result : Result T E) → (P → Q) → OnOk result P → OnOk result Q
+ok_then (Ok made) f p = f p
+ok_then (Err e) f p = tt

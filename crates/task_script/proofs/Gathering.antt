@@ -3,7 +3,9 @@ use Rattle.std.proofs.Common.{◌≡◌, ℕ, suc, ◌+◌, ◌<◌, ◌≤◌, 
 use Rattle.std.proofs.Common.{drop, get_or, append_assoc, cond, All, Some, None, arith, ◌==◌, Option}
 use Rattle.std.specs.Prelude.{IfSome, count_by, if◌then◌else◌}
 use Rattle.std.specs.Io.KnownBytes.{Appends}
-use Rattle.std.proofs.lemmas.List.{drop_more, drop_all}
+use Rattle.std.specs.List.{reduce, filter}
+use Rattle.std.proofs.lemmas.Bool.Decides.{nat_tests}
+use Rattle.std.proofs.lemmas.List.{append-nil, drop_more, drop_all}
 use Rattle.std.proofs.lemmas.List.Sums.{sum_by-cons}
 use Rattle.std.specs.List.{AllByRecursion}
 use Rattle.std.proofs.lemmas.List.Elements.{All-get_or, recursion_from_All}
@@ -17,33 +19,88 @@ use Rattle.die_service.specs.declared.ends.RefusedEvent.{RefusedEvent}
 use Rattle.script_texts.specs.AskedPages.{RowsHavePages}
 use Rattle.report_texts.specs.ReportText.{report_text}
 use Rattle.script_texts.specs.declared.script_rows.ScriptItem.{ScriptItem}
+use Rattle.die_log.specs.Log.{Log, Job, jobs}
+use Rattle.die_log.specs.Rows.{certificate, certificate_for}
+use Rattle.die_log.specs.Work.{is_done, is_worse}
+use Rattle.late_cert.specs.declared.certificates.Certificate.{Certificate}
+use Rattle.report_texts.specs.TextSoFar.{TextSoFar, die_added, text_so_far}
+use Rattle.report_texts.proofs.TextParts.{text_more}
 use Rattle.report_texts.specs.declared.reports.DieReport.{DieReport}
-use Rattle.task_script.specs.DieReports.{die_report_of}
+use Rattle.report_texts.specs.declared.reports.ReportRow.{ReportRow}
+use Rattle.task_script.specs.DieReports.{die_report_of, report_row_of, report_rows_of}
 use Rattle.task_script.specs.DieRuns.{DieRun, IsRun, run_at}
 use Rattle.task_script.specs.Feeds.{AllArrive, AreFeedsOf, feed_of}
 use Rattle.task_script.specs.RunCounts.{count_of, counted_with, counted_behind, first_behind, first_refused, was_accepted, was_refused}
-use Rattle.task_script.specs.TextRuns.{AreRuns, HaveRun, RunsText, ends_of, feed_at, reports_from, with_rows}
+use Rattle.task_script.specs.TextRuns.{AreRuns, HaveRun, HaveTold, RunsText, ends_of, feed_at, reports_from, with_rows}
 use Rattle.task_script.specs.RowEnds.{arrivals_of, lines_of, ends_from, row_end, taken_at}
 use Rattle.task_script.specs.StoreRuns.{RanFeeds, reports_of, all_ends}
 use Rattle.task_script.proofs.ClosedRuns.{die_plan, closed_run, closed_stop}
 use Rattle.task_script.specs.declared.run_counts.RowEnd.{RowEnd}
 use Rattle.task_script.specs.declared.run_counts.RunCount.{RunCount}
 
-rows_behind : (made : DieReport) (rest : List DieReport) (b : Bool) → (length made.rows == 0) ≡ b → with_rows made rest ≡ with_rows made []
-    ++ rest
-rows_behind made rest true e = rw e refl
-rows_behind made rest false e = rw e refl
+-- Texts
 
--- the report so far, and those of the dies that are left
-pub report_more : {N : Type 0} (die : ℕ) (core : Core N) (dies : List (Core N)) (report report2 all : List DieReport) (made : DieReport)
-    → made ≡ die_report_of core.plan core.log die → report2 ≡ report ++ with_rows made [] → report ++ reports_of die (core ∷ dies) ≡ all
-    → report2 ++ reports_of (die + 1) dies ≡ all
-report_more die core dies report report2 all made is added so_far =
-    let rest = reports_of (die + 1) dies in
-    ap (λ (xs : List DieReport). xs ++ rest) added
-    ∙ (append_assoc report (with_rows made []) rest
-    ∙ (ap (λ (xs : List DieReport). report ++ xs) (sym (rows_behind made rest _ refl) ∙ ap (λ (m : DieReport). with_rows m rest) is)
-    ∙ so_far))
+-- a text is that of some reports, which the reports of the dies that are left make all
+abbrev pub IsToldOf : TextSoFar → List DieReport → List DieReport → Type 0
+IsToldOf text left all = (done : List DieReport) × (text ≡ text_so_far done) × (done ++ left ≡ all)
+
+some_rows : (row : ReportRow) (rows : List ReportRow) → (length (row ∷ rows) == 0) ≡ true → ⊥
+some_rows row rows e = grind (arith, nat_tests)
+
+no_cert : (plan : DiePlan) (log : Log) → (length (report_rows_of plan log) == 0) ≡ true → certificate plan log ≡ None
+no_cert plan log none = by (jobs log) refl none
+  where
+    among : List Job → Option Certificate
+    among js = certificate_for plan log (reduce (λ best j. if is_worse log j best then j else best) (filter (is_done plan log) js))
+
+    by : (js : List Job) → jobs log ≡ js → (length (map (report_row_of plan log) (jobs log)) == 0) ≡ true → certificate plan log ≡ None
+    by [] e h = ap among e
+    by (j ∷ js) e h = absurd (some_rows (report_row_of plan log j) (map (report_row_of plan log) js) (rw e at h))
+
+-- a die without rows adds nothing
+adds_nothing : (made : DieReport) (text : TextSoFar) → made.rows ≡ [] → made.cert ≡ None → die_added made text ≡ text
+adds_nothing made text rows cert =
+    ap (λ (rs : List ReportRow). die_added (record { die = made.die; rows = rs; cert = made.cert }) text) rows
+    ∙ (ap (λ (c : Option Certificate). die_added (record { die = made.die; rows = []; cert = c }) text) cert
+    ∙ λ i. record { rows = append-nil text.rows i; certs = append-nil text.certs i })
+
+no_rows : (rows : List ReportRow) → (length rows == 0) ≡ true → rows ≡ []
+no_rows [] e = refl
+no_rows (row ∷ rows) e = absurd (some_rows row rows e)
+
+-- the lines of one die more
+pub told_more : {N : Type 0} (die : ℕ) (core : Core N) (dies : List (Core N)) (old new : TextSoFar) (all : List DieReport)
+    → new ≡ die_added (die_report_of core.plan core.log die) old → IsToldOf old (reports_of die (core ∷ dies)) all
+    → IsToldOf new (reports_of (die + 1) dies) all
+told_more die core dies old new all added so_far = by (length made.rows == 0) refl
+  where
+    made : DieReport
+    made = die_report_of core.plan core.log die
+
+    rest : List DieReport
+    rest = reports_of (die + 1) dies
+
+    by : (b : Bool) → (length made.rows == 0) ≡ b → IsToldOf new rest all
+    by true e = (
+      so_far.0,
+      added ∙ (adds_nothing made old (no_rows made.rows e) (no_cert core.plan core.log e) ∙ so_far.1),
+      rw e at so_far.2,
+    )
+    by false e = (
+      so_far.0 ++ made ∷ [],
+      text_more so_far.0 made old new so_far.1 added,
+      append_assoc so_far.0 (made ∷ []) rest ∙ (rw e at so_far.2),
+    )
+
+-- where no die is left the text is that of all
+pub all_told : (text : TextSoFar) (left all : List DieReport) → left ≡ [] → IsToldOf text left all → text ≡ text_so_far all
+all_told text left all none so_far =
+    so_far.1 ∙ ap text_so_far (sym (append-nil so_far.0) ∙ (ap (λ (xs : List DieReport). so_far.0 ++ xs) (sym none) ∙ so_far.2))
+
+-- the dies that are left of so many, where all have been looked at
+pub none_left : {A : Type 0} (left : List A) → length left ≡ 0 → left ≡ []
+none_left [] e = refl
+none_left (x ∷ left) e = absurd (omega (arith, e))
 
 -- Counts
 
@@ -200,6 +257,18 @@ have_run slots plans rows ends dies report made arrive none ran reported counted
     let g = gathered slots 0 (feed_at rows) plans rows ends dies (λ k below. ap (feed_at rows) (omega arith))
     (recursion_from_All (AllArrive slots) rows arrive) (recursion_from_All (λ end. end.stop ≡ None) ends none) ran in
     record { runs = g.runs; ran = g.ran; reported = reported ∙ g.reported; counted = counted ∙ ap count_of g.ended }
+
+-- so they have, with the text of their reports
+pub have_told : {N : Type 0} (slots : ℕ) (plans : List DiePlan) (rows : List (List ScriptItem)) (ends : List DieEnd) (dies : List (Core N))
+    (text : TextSoFar) (made : RunCount)
+    → All (AllArrive slots) rows → All (λ end. end.stop ≡ None) ends → RanFeeds slots plans (map arrivals_of rows) ends dies
+    → text ≡ text_so_far (reports_of 0 dies) → made ≡ count_of (all_ends (map lines_of rows) ends)
+    → HaveTold slots rows plans text made
+have_told slots plans rows ends dies text made arrive none ran told counted = record {
+  report = reports_of 0 dies;
+  ran = have_run slots plans rows ends dies (reports_of 0 dies) made arrive none ran refl counted;
+  told = told;
+}
 
 -- where the run of a die ended early, memory was refused
 abbrev pub StopsForMemory : DieEnd → Type 0

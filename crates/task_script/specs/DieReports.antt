@@ -7,8 +7,7 @@ use Rattle.die_log.specs.Rows.{certificate}
 use Rattle.slot_types.specs.declared.events.JobHead.{JobHead}
 use Rattle.slot_core.specs.declared.outcomes.Outcome.{Outcome}
 use Rattle.slot_core.specs.declared.outcomes.Outcome.TheVariants as outcomes
-use Rattle.slot_core.specs.declared.summaries.JobSummary.{JobSummary}
-use Rattle.slot_core.specs.Summaries.{summary_of}
+use Rattle.slot_core.specs.Summaries.{JobSummary, summary_of}
 use Rattle.report_texts.specs.declared.reports.DieReport.{DieReport}
 use Rattle.report_texts.specs.declared.reports.ReportRow.{ReportRow}
 use Rattle.report_texts.specs.declared.reports.RowKind.{RowKind}

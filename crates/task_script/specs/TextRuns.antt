@@ -6,6 +6,7 @@ use Rattle.slot_types.specs.declared.refusals.Refusal.{Refusal}
 use Rattle.slot_types.specs.declared.refusals.Refusal.TheVariants.{WriteFault}
 use Rattle.script_texts.specs.AskedPages.{RowsHavePages}
 use Rattle.report_texts.specs.ReportText.{report_text}
+use Rattle.report_texts.specs.TextSoFar.{TextSoFar, text_so_far}
 use Rattle.script_texts.specs.declared.script_rows.ScriptItem.{ScriptItem}
 use Rattle.report_texts.specs.declared.reports.DieReport.{DieReport}
 use Rattle.task_script.specs.DieReports.{die_report_of}
@@ -63,3 +64,10 @@ pub record HaveRun (slots : ℕ) (feeds : List (List ScriptItem)) (plans : List 
     pub ran : AreRuns slots (feed_at feeds) 0 plans runs
     pub reported : report ≡ reports_from 0 plans runs
     pub counted : count ≡ count_of (ends_of runs)
+
+-- so they did, and this is the text of their reports
+pub record HaveTold (slots : ℕ) (feeds : List (List ScriptItem)) (plans : List DiePlan) (text : TextSoFar) (count : RunCount) : Type 0
+  where
+    pub report : List DieReport
+    pub ran : HaveRun slots feeds plans report count
+    pub told : text ≡ text_so_far report

@@ -1,14 +1,19 @@
-//! The report of a die.
+//! What a report says of a die, straight from the die's table of jobs.
 
-ghost use Rattle.std.specs.Prelude.{◌≡◌, IfOk};
+ghost use Rattle.std.specs.Prelude.{◌≡◌, OnOk};
 ghost use Rattle.slot_types.specs.Refusal.{FailsForMemory};
+ghost use Rattle.slot_core.specs.Summaries.{summary_in};
+ghost use Rattle.report_texts.specs.RowNumbers.{numbers_of};
+ghost use Rattle.report_texts.specs.TextSoFar.{die_added, row_added, rows_added};
+ghost use Rattle.report_texts.specs.WellFormed.{on_die};
 ghost use Rattle.task_script.specs.DieReports.{die_report_of, report_rows_of, row_as, kind_of, given_by};
 
 use die_log::exact_keeps_limits;
 use flash_die::Nand;
-use report_texts::{DieReport, ReportRow, ReportRows, RowKind};
-use slot_core::{DieCore, JobSummary, Outcome};
-use slot_types::{JobNo, MAX_JOBS, Reads, Refusal};
+use late_cert::lateness;
+use report_texts::{ReportText, RowKind, RowNumbers};
+use slot_core::{DieCore, Job, Stage};
+use slot_types::{JobNo, MAX_JOBS, Refusal};
 use std::alloc::Global;
 
 /// What a row is about that wasn't waived.
@@ -29,83 +34,82 @@ fn given_by(collects: bool, given: u32) -> Option<u32>
     if collects { Some(given) } else { None }
 }
 
-/// The row of a number, whose job or collection is this in short.
-fn row_as(alloc: Global, job: JobNo, summary: JobSummary) -> ReportRow
-    ensures { result ≡ row_as job summary }
+/// What the row of a job says, but for what its reads gave.
+fn numbers_of(die: u32, number: JobNo, job: &Job) -> RowNumbers
+    ensures { result ≡ numbers_of (on_die die (row_as number (summary_in job.now))) }
 {
-    let JobSummary {
-        head,
-        work: took,
-        outcome,
-    } = summary;
-    let kind = kind_of(head.collects);
-    let (row, work, completion, lateness, given, reads) = match outcome {
-        Outcome::Waiting => (kind, took, None, None, None, Reads::new(alloc)),
-        Outcome::Done {
-            completion,
-            lateness,
-            given,
-            reads,
-        } => (
+    let kind = kind_of(job.collects());
+    let (row, work, completion, lateness, given) = match job.stage() {
+        Stage::Pending => (kind, job.work(), None, None, None),
+        Stage::Done { completion, given } => (
             kind,
-            took,
+            job.work(),
             Some(completion),
-            Some(lateness),
-            given_by(head.collects, given),
-            reads,
+            Some(lateness(completion, job.due())),
+            given_by(job.collects(), given),
         ),
-        Outcome::Waived { given } => (
-            RowKind::Waived,
-            0,
-            None,
-            None,
-            Some(given),
-            Reads::new(alloc),
-        ),
+        Stage::Waived { given } => (RowKind::Waived, 0, None, None, Some(given)),
     };
-    ReportRow {
+    RowNumbers {
+        die,
         row,
-        job,
-        task: head.task,
-        release: head.release,
-        due: head.due,
+        job: number,
+        task: job.task(),
+        release: job.release(),
+        due: job.due(),
         work,
         completion,
         lateness,
         given,
-        reads,
     }
 }
 
-/// The rows of all jobs and collections of a die, by number.
-fn report_rows<N: Nand>(alloc: Global, core: &DieCore<N>) -> Result<ReportRows, Refusal>
-    ensures ok { IfOk result (λ made. made ≡ report_rows_of core.now.plan core.now.log) }
+/// Adds the row of a job, which tells what its reads gave once it is done.
+fn add_job(text: &mut ReportText, die: u32, number: JobNo, job: &Job) -> Result<(), Refusal>
+    ensures ok { OnOk result (text.new ≡ row_added die (row_as number (summary_in job.now)) text.old) }
+    ensures refused { FailsForMemory result }
+{
+    let row = numbers_of(die, number, job);
+    match job.stage() {
+        Stage::Done { .. } => text.add_row(&row, job.reads()),
+        Stage::Pending | Stage::Waived { .. } => text.add_row(&row, &[]),
+    }
+}
+
+/// Adds the rows of all jobs and collections of a die, by number.
+fn add_rows<N: Nand>(text: &mut ReportText, die: u32, core: &DieCore<N>) -> Result<(), Refusal>
+    ensures ok { OnOk result (text.new ≡ rows_added die (report_rows_of core.now.plan core.now.log) text.old) }
     ensures refused { FailsForMemory result }
 {
     core.promises();
     exact_keeps_limits();
-    let mut made = ReportRows::new(alloc);
     for number in 0..MAX_JOBS {
         let job = JobNo(number);
-        match core.summary(alloc, job) {
-            Ok(summary) => made.push(row_as(alloc, job, summary))?,
-            Err(Refusal::UnknownJob) => return Ok(made),
-            Err(_) => return Err(Refusal::NoMemory),
+        match core.job_record(job) {
+            Some(kept) => add_job(text, die, job, &kept)?,
+            None => return Ok(()),
         }
     }
-    Ok(made)
+    Ok(())
 }
 
-/// The report of a die, under a number: a row for each job or collection that it accepted, by number, and the
-/// certificate of the worst where something is done. Its worst is the done one with the greatest lateness, of equal
+/// Adds what a report says of a die, under a number: a row for each job or collection that it accepted, by number, and
+/// the certificate of the worst where something is done. Its worst is the done one with the greatest lateness, of equal
 /// ones the one completed first.
 ///
 /// It is read off the die's log alone. The only refusal is NoMemory.
-pub fn die_report<N: Nand>(alloc: Global, die: u32, core: &DieCore<N>) -> Result<DieReport, Refusal>
-    ensures ok { IfOk result (λ report. report ≡ die_report_of core.now.plan core.now.log die) }
+pub fn add_die<N: Nand>(
+    alloc: Global,
+    text: &mut ReportText,
+    die: u32,
+    core: &DieCore<N>,
+) -> Result<(), Refusal>
+    ensures ok { OnOk result (text.new ≡ die_added (die_report_of core.now.plan core.now.log die) text.old) }
     ensures refused { FailsForMemory result }
 {
-    let rows = report_rows(alloc, core)?;
-    let cert = core.certificate(alloc)?;
-    Ok(DieReport { die, rows, cert })
+    add_rows(text, die, core)?;
+    match core.certificate(alloc)? {
+        Some(cert) => text.add_cert(die, &cert),
+        None => Ok(()),
+    }
 }

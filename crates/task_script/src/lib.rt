@@ -10,7 +10,6 @@ mod rows;
 mod run_counts;
 mod text_runs;
 
-pub use die_reports::die_report;
 pub use laws::{exact_reports_come_back, planned_runs_go_as_planned, run_reports_come_back};
 pub use plan_texts::read_plan;
 pub use report_texts::{

@@ -1,25 +1,26 @@
 //! Scripts that are run on the dies of a store.
 
-ghost use Rattle.std.specs.Prelude.{◌≡◌, ◌≤◌, ◌++◌, [], None, All, length, map, IfOk, IfErr, IfSome, OnErr, OnOk};
+ghost use Rattle.std.specs.Prelude.{◌≡◌, ◌≤◌, None, All, length, map, IfOk, IfErr, IfSome, OnErr, OnOk};
 ghost use Rattle.slot_types.specs.Refusal.{FailsForMemory};
 ghost use Rattle.plan_rules.specs.Bound.{MeetsBound};
+ghost use Rattle.report_texts.specs.TextSoFar.{die_added, text_so_far};
 ghost use Rattle.task_script.specs.DieReports.{die_report_of};
 ghost use Rattle.task_script.specs.Feeds.{AllArrive};
 ghost use Rattle.task_script.specs.PlannedRuns.{RunsAsPlanned, RunsSo};
 ghost use Rattle.task_script.specs.RowEnds.{ends_from, taken_at};
 ghost use Rattle.task_script.specs.RunCounts.{count_of, counted_behind};
 ghost use Rattle.task_script.specs.StoreRuns.{all_ends, reports_of};
-ghost use Rattle.task_script.specs.TextRuns.{HaveRun, RefusesText, RunsText, with_rows};
+ghost use Rattle.task_script.specs.TextRuns.{HaveTold, RefusesText, RunsText};
 ghost use Rattle.text_base.specs.Writing.{IsNotWhole};
 
-use crate::die_reports::die_report;
+use crate::die_reports::add_die;
 use crate::die_runs::{run_store, split_all};
 use crate::feeds::read_feeds;
 use crate::rows::{DieRows, Lines};
 use crate::run_counts::{RowEnd, RunCount};
 use die_service::{DieEnd, RefusedEvent};
 use flash_die::MemoryNand;
-use report_texts::{DieReport, Report, write_report};
+use report_texts::ReportText;
 use slot_core::DieCore;
 use slot_types::{DiePlan, MAX_SLOT, Refusal, StorePlan};
 use std::alloc::Global;
@@ -27,10 +28,10 @@ use std::io::{Read, Write};
 use std::sync::Wait;
 use std::thread::Threads;
 
-/// Dies that carried out their slots: their report, and how many of their rows were accepted and refused.
+/// Dies that carried out their slots: the text of their report, and how many of their rows were accepted and refused.
 #[derive(Drop)]
 struct RanStore {
-    report: Report,
+    text: ReportText,
     count: RunCount,
 }
 
@@ -60,18 +61,6 @@ fn add_rows(lines: &[u32], refused: &[RefusedEvent], count: &mut RunCount) -> Re
     Ok(())
 }
 
-/// Adds the report of a die, if it has rows.
-fn add_report(report: &mut Report, made: DieReport) -> Result<(), Refusal>
-    ensures ok { OnOk result (report.new ≡ report.old ++ with_rows made []) }
-    ensures refused { FailsForMemory result }
-{
-    if made.rows.is_empty() {
-        return Ok(());
-    }
-    report.push(made)?;
-    Ok(())
-}
-
 /// Whether each die carried out all its slots. The only refusal is NoMemory.
 fn none_stopped(ends: &[DieEnd]) -> Result<(), Refusal>
     requires memory { All (λ end. IfSome end.stop (λ stop. stop.refusal ≡ Refusal.NoMemory)) ends.now }
@@ -87,15 +76,20 @@ fn none_stopped(ends: &[DieEnd]) -> Result<(), Refusal>
     Ok(())
 }
 
-/// The report of a die, which is given up.
-fn last_report(alloc: Global, number: u32, die: DieCore<MemoryNand>) -> Result<DieReport, Refusal>
-    ensures ok { IfOk result (λ report. report ≡ die_report_of die.plan die.log number) }
+/// Adds the report of a die, which is given up.
+fn add_last(
+    alloc: Global,
+    text: &mut ReportText,
+    number: u32,
+    die: DieCore<MemoryNand>,
+) -> Result<(), Refusal>
+    ensures ok { OnOk result (text.new ≡ die_added (die_report_of die.plan die.log number) text.old) }
     ensures refused { FailsForMemory result }
 {
-    die_report(alloc, number, &die)
+    add_die(alloc, text, number, &die)
 }
 
-/// The report of dies, by number, and the count of their rows. Each die is given up once its report is made. The only
+/// The report of dies, by number, and the count of their rows. Each die is given up once its lines are made. The only
 /// refusal is NoMemory.
 fn gather(
     alloc: Global,
@@ -106,20 +100,19 @@ fn gather(
     requires few { length dies.items ≤ 8 }
     requires lines { length lines.now ≡ length dies.items }
     requires ends { length ends.now ≡ length dies.items }
-    ensures report { IfOk result (λ ran. ran.report ≡ reports_of 0 dies.items) }
+    ensures text { IfOk result (λ ran. ran.text ≡ text_so_far (reports_of 0 dies.items)) }
     ensures count { IfOk result (λ ran. ran.count ≡ count_of (all_ends lines.now ends.now)) }
     ensures refused { FailsForMemory result }
 {
     let mut ran = RanStore {
-        report: Report::new(alloc),
+        text: ReportText::new(alloc)?,
         count: RunCount::none(),
     };
     let mut number = 0;
     for die in dies {
         let refused = ends[number].refused.as_slice();
         add_rows(lines[number].as_slice(), refused, &mut ran.count)?;
-        let made = last_report(alloc, number as u32, die)?;
-        add_report(&mut ran.report, made)?;
+        add_last(alloc, &mut ran.text, number as u32, die)?;
         number += 1;
     }
     Ok(ran)
@@ -141,7 +134,7 @@ fn run_dies<R: Threads + Wait + Sync>(
     requires arrive { All (AllArrive slots) rows.items }
     requires slots { slots ≤ MAX_SLOT }
     requires workers { (1 ≤ workers) × (workers ≤ 16) }
-    ensures ran { IfOk result (λ ran. HaveRun slots rows.items plans.now ran.report ran.count) }
+    ensures ran { IfOk result (λ ran. HaveTold slots rows.items plans.now ran.text ran.count) }
     ensures refused { FailsForMemory result }
 {
     let (feeds, lines) = split_all(alloc, rows)?;
@@ -188,7 +181,7 @@ pub fn run_text<R: Threads + Wait + Sync, S: Read + Drop, W: Write>(
 {
     let rows = read_feeds(alloc, script, plan, slots)?;
     let ran = run_dies(rt, alloc, plan.as_slice(), rows, slots, workers)?;
-    match write_report(alloc, writer, &ran.report) {
+    match ran.text.write(writer) {
         Ok(()) => Ok(ran.count),
         Err(refusal) => Err(refusal),
     }

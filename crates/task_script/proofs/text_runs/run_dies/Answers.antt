@@ -5,7 +5,7 @@ use Rattle.task_script.specs.Feeds.{AllArrive}
 use Rattle.task_script.specs.RowEnds.{arrivals_of, lines_of}
 use Rattle.task_script.specs.RunCounts.{count_of}
 use Rattle.task_script.specs.StoreRuns.{RanFeeds, all_ends}
-use Rattle.task_script.proofs.Gathering.{StopsForMemory, IsWhole, have_run, stops_for_memory}
+use Rattle.task_script.proofs.Gathering.{StopsForMemory, IsWhole, have_told, stops_for_memory}
 use Rattle.task_script.proofs.Storing.{feeds_arrive, ran_lengths, both_ok}
 use Rattle.task_script.proofs.text_runs.run_dies.Goals as goal
 
@@ -54,9 +54,9 @@ returns-clause-ran g c =
     let ran : RanFeeds c.args.slots c.args.plans.now (map arrivals_of c.args.rows.items) c.in_ok-dies.ends c.in_ok-dies.dies.items
     = subst (λ feeds. RanFeeds c.args.slots c.args.plans.now feeds c.in_ok-dies.ends c.in_ok-dies.dies.items) c.in_ok-feeds.ensures.feeds
     c.in_ok-dies.ensures.ran in
-    both_ok _ _ _ c.gather.result c.gather.ensures.report c.gather.ensures.count
-    (λ made reported counted. have_run c.args.slots c.args.plans.now c.args.rows.items c.in_ok-dies.ends c.in_ok-dies.dies.items made.report
+    both_ok _ _ _ c.gather.result c.gather.ensures.text c.gather.ensures.count
+    (λ made told counted. have_told c.args.slots c.args.plans.now c.args.rows.items c.in_ok-dies.ends c.in_ok-dies.dies.items made.text
     made.count c.requires.arrive
     (All-same IsWhole c.in_ok-dies.ends c.as_slice.result.now (sym c.as_slice.ensures) c.in_ok-none_stopped.ensures.ok) ran
-    reported
+    told
     (counted ∙ λ i. count_of (all_ends ((c.deref.ensures.value ∙ c.in_ok-feeds.ensures.lines) i) (c.as_slice-2.ensures i))))

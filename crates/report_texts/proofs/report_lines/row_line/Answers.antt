@@ -1,9 +1,10 @@
-use Rattle.std.proofs.Common.{◌∙◌, ap}
+use Rattle.std.proofs.Common.{◌∙◌, [], ap}
 use Rattle.report_texts.specs.Commas.{after_commas}
 use Rattle.report_texts.specs.ReportText.{row_start}
-use Rattle.report_texts.specs.declared.reports.ReportRow.{ReportRow}
+use Rattle.report_texts.specs.RowNumbers.{row_with}
+use Rattle.report_texts.specs.declared.row_numbers.RowNumbers.{RowNumbers}
 use Rattle.report_texts.proofs.LineLaws.{field-before, no-field}
-use Rattle.report_texts.proofs.report_writing.row_line.Goals as goal
+use Rattle.report_texts.proofs.report_lines.row_line.Goals as goal
 
 pub returns : goal.returns
 returns c =
@@ -17,4 +18,4 @@ returns c =
     let task = field-before _ _ _ _ release c.put_field-4.ensures.text in
     let job = field-before _ _ _ _ task c.put_field-5.ensures.text in
     let die = field-before _ _ _ _ job c.put_field-6.ensures.text in
-    die ∙ ap (λ (row : ReportRow). after_commas (row_start c.args.die row)) c.row.view_is
+    die ∙ ap (λ (row : RowNumbers). after_commas (row_start row.die (row_with row []))) c.row.view_is

@@ -6,7 +6,7 @@ use Rattle.late_cert.specs.Schedule.{lateness_of}
 use Rattle.report_texts.specs.ReportText.{cert_numbers, numbers_field}
 use Rattle.report_texts.proofs.PlainFields.{field-made, record-made}
 use Rattle.report_texts.proofs.PlainRecords.{cert-fields-plain}
-use Rattle.report_texts.proofs.report_writing.put_cert.Goals as goal
+use Rattle.report_texts.proofs.report_lines.put_cert.Goals as goal
 
 pub returns : goal.returns
 returns c =
