@@ -1,13 +1,12 @@
 -- How the digits of a page are read.
 use Rattle.std.proofs.Common.{◌≡◌, ℕ, ◌+◌, ◌*◌, ◌%◌, ◌<◌, ◌≤◌, List, length, take, drop, slice_index, slice_set}
-use Rattle.std.proofs.Common.{Option, Some, None, unwrap_or, Ok, refl, sym, ap, arith}
+use Rattle.std.proofs.Common.{Option, Some, None, unwrap_or, Ok, refl, sym, ap, arith, ◌⊎◌, inl, inr, ◌∙◌, length-set}
+use Rattle.std.proofs.Math.Nat.{eq-or-lt_of_le}
+use Rattle.std.proofs.lemmas.List.{get_or-set_same, get_or-set_other}
 use Rattle.hex.specs.Hex.{decode_pairs, digit_or_error, hex_digit_value, pair_value}
 use Rattle.hex.proofs.Pairs.{decode_done, decode_sized-pairs, decode_step, prepend}
+use Rattle.text_base.specs.DigitValues.{AreValues, value_of}
 use Rattle.text_base.specs.Pages.{page_of}
-
--- the value of a digit, and 255 of any other byte
-abbrev pub value_of : ℕ → ℕ
-value_of c = unwrap_or (hex_digit_value c) 255
 
 -- a byte that has the value of a digit is one
 digit-read : (c i v : ℕ) (o : Option ℕ) → v ≡ unwrap_or o 255 → v ≤ 15 → digit_or_error c i o ≡ Ok v
@@ -37,3 +36,47 @@ pub read-all : (text bytes : List ℕ) (i : ℕ) → length text ≡ 32 → leng
 read-all text bytes i long room over so-far =
     rw (decode_sized-pairs text 16 (omega (arith, long)) (omega (arith, long)), decode_done text bytes i (omega arith) (omega arith) so-far)
     refl
+
+-- Values
+
+pub no-values : (digits values : List ℕ) (most : ℕ) → length values ≡ 32 → AreValues digits values most 0
+no-values digits values most len = record {
+  len = len;
+  each = λ i below. absurd (omega (arith, below));
+  bounded = λ i below. absurd (omega (arith, below));
+}
+
+-- one more value
+pub values-more : (digits values : List ℕ) (most most2 i v : ℕ) → AreValues digits values most i → i < 32
+    → v ≡ value_of (slice_index digits i) → most ≤ most2 → v ≤ most2 → AreValues digits (slice_set values i v) most2 (i + 1)
+values-more digits values most most2 i v h inside is grows small = record {
+  len = length-set values i v ∙ h.len;
+  each = λ k below. each k (eq-or-lt_of_le (omega (arith, below)));
+  bounded = λ k below. least k (eq-or-lt_of_le (omega (arith, below)));
+}
+  where
+    here : slice_index (slice_set values i v) i ≡ v
+    here = get_or-set_same values i v 0 (omega (arith, h.len, inside))
+
+    there : (k : ℕ) → k < i → slice_index (slice_set values i v) k ≡ slice_index values k
+    there k below = get_or-set_other values i k v 0 (λ same. absurd (omega (arith, same, below)))
+
+    each : (k : ℕ) → (k ≡ i) ⊎ (k < i) → slice_index (slice_set values i v) k ≡ value_of (slice_index digits k)
+    each k (inl same) = rw same (here ∙ is)
+    each k (inr below) = there k below ∙ h.each k below
+
+    least : (k : ℕ) → (k ≡ i) ⊎ (k < i) → slice_index (slice_set values i v) k ≤ most2
+    least k (inl same) = rw same (omega (arith, here, small))
+    least k (inr below) = omega (arith, there k below, h.bounded k below, grows)
+
+-- a byte of two values
+pub read-two : (text values bytes : List ℕ) (most i v : ℕ) → length text ≡ 32 → i < 16 → i < length bytes
+    → AreValues text values most 32 → most ≤ 15
+    → v ≡ (slice_index values (2 * i) * 16 % 256 + slice_index values (2 * i + 1)) % 256 → HasRead text bytes i
+    → HasRead text (slice_set bytes i v) (i + 1)
+read-two text values bytes most i v long inside room are small made so-far =
+    let one : 2 * i < 32 = omega (arith, inside) in
+    let two : 2 * i + 1 < 32 = omega (arith, inside) in
+    read-more text bytes i (slice_index values (2 * i)) (slice_index values (2 * i + 1)) v long inside room
+    (are.each (2 * i) one) (are.each (2 * i + 1) two)
+    (omega (arith, are.bounded (2 * i) one, small)) (omega (arith, are.bounded (2 * i + 1) two, small)) made so-far

@@ -3,6 +3,7 @@ pub mod Writing
 pub mod Readings
 pub mod Words
 pub mod Pages
+pub mod DigitValues
 pub mod Ops
 pub mod Marked
 pub mod Bounded

@@ -1,8 +1,9 @@
 //! Pages as 32 hexadecimal digits, read and written without a branch for each digit.
 
-ghost use Rattle.std.specs.Prelude.{◌≡◌, ◌<◌, IfSome, Some, OnOk, ◌++◌, slice_index, unwrap_or};
+ghost use Rattle.std.specs.Prelude.{◌≡◌, ◌<◌, length, IfSome, Some, OnOk, ◌++◌, slice_index, unwrap_or};
 ghost use Rattle.hex.specs.Hex.{hex_digit_value, lower_digits};
 ghost use Rattle.text_base.specs.Pages.{page_word};
+ghost use Rattle.text_base.specs.DigitValues.{AreValues, value_of};
 ghost use Rattle.text_base.specs.Words.{StartsWith};
 ghost use Rattle.text_base.specs.Pages.{page_of};
 
@@ -11,7 +12,7 @@ use std::io;
 
 /// The value of a hexadecimal digit in either case, and 255 of any other byte.
 fn digit_value(digit: u8) -> u8
-    ensures { result ≡ unwrap_or (hex_digit_value digit) 255 }
+    ensures { result ≡ value_of digit }
 {
     let decimal = digit.wrapping_sub(b'0');
     let upper = digit.wrapping_sub(b'A');
@@ -27,6 +28,22 @@ fn digit_value(digit: u8) -> u8
     }
 }
 
+/// The values of 32 digits, 255 for what is none, and the greatest of them. Each is looked at by itself, one behind the
+/// other, so that a machine may take sixteen at once.
+fn digit_values(digits: &[u8]) -> ([u8; 32], u8)
+    requires { length digits.now ≡ 32 }
+    ensures { AreValues digits.now result.0 result.1 32 }
+{
+    let mut values = [0u8; 32];
+    let mut most = 0u8;
+    for i in 0..32 {
+        let value = digit_value(digits[i]);
+        values[i] = value;
+        most = most.max(value);
+    }
+    (values, most)
+}
+
 /// The page that 32 bytes write, if each of them is a digit.
 fn clean_page(digits: &[u8]) -> Option<PageData>
     ensures { IfSome result (λ page. page_of digits.now ≡ Some page) }
@@ -34,16 +51,14 @@ fn clean_page(digits: &[u8]) -> Option<PageData>
     if digits.len() != 32 {
         return None;
     }
-    let mut bytes = [0u8; 16];
-    let mut most = 0u8;
-    for i in 0..16 {
-        let high = digit_value(digits[2 * i]);
-        let low = digit_value(digits[2 * i + 1]);
-        most = most.max(high).max(low);
-        bytes[i] = high.wrapping_mul(16).wrapping_add(low);
-    }
+    let (values, most) = digit_values(digits);
     if most > 15 {
         return None;
+    }
+    let mut bytes = [0u8; 16];
+    for i in 0..16 {
+        let (high, low) = (values[2 * i], values[2 * i + 1]);
+        bytes[i] = high.wrapping_mul(16).wrapping_add(low);
     }
     Some(PageData(bytes))
 }
