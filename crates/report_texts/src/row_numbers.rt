@@ -15,8 +15,8 @@ ghost use Rattle.text_base.specs.Pages.{page_of};
 use crate::reports::RowKind;
 use csv::ByteRecord;
 use late_cert::lateness;
-use slot_types::{JobNo, MAX_DIES, MAX_JOBS, MAX_OPS, MAX_SLOT, MAX_TASKS, PageData, TaskNo};
-use text_base::{count, field_in, is_named, number};
+use slot_types::{JobNo, MAX_DIES, MAX_JOBS, MAX_OPS, MAX_SLOT, MAX_TASKS, TaskNo};
+use text_base::{count_pages, field_in, is_named, number};
 
 /// A row without what its reads gave, and the die that it is of.
 #[derive(Clone, Copy, PartialEq, Eq, Debug, Drop)]
@@ -187,6 +187,6 @@ pub fn read_numbers(fields: &ByteRecord) -> Option<RowNumbers>
         return None;
     }
     let row = row_numbers(fields)?;
-    let pages = count::<PageData>(field_in(fields, 10))?;
+    let pages = count_pages(field_in(fields, 10))?;
     if stands(&row, pages) { Some(row) } else { None }
 }

@@ -1,11 +1,13 @@
 -- How the digits of a page are read.
 use Rattle.std.proofs.Common.{◌≡◌, ℕ, ◌+◌, ◌*◌, ◌%◌, ◌<◌, ◌≤◌, List, length, take, drop, slice_index, slice_set}
-use Rattle.std.proofs.Common.{Option, Some, None, unwrap_or, Ok, refl, sym, ap, arith, ◌⊎◌, inl, inr, ◌∙◌, length-set}
+use Rattle.std.proofs.Common.{Option, Some, None, unwrap_or, Ok, refl, sym, ap, arith, ◌⊎◌, inl, inr, ◌∙◌, zero, suc, replicate, length-set}
 use Rattle.std.proofs.Math.Nat.{eq-or-lt_of_le}
-use Rattle.std.proofs.lemmas.List.{get_or-set_same, get_or-set_other}
+use Rattle.std.proofs.lemmas.List.{length-take-le}
+use Rattle.text_base.proofs.StartLaws.{page-starts}
+use Rattle.slot_types.specs.declared.pages.PageData.{PageData}
 use Rattle.hex.specs.Hex.{decode_pairs, digit_or_error, hex_digit_value, pair_value}
-use Rattle.hex.proofs.Pairs.{decode_done, decode_sized-pairs, decode_step, prepend}
-use Rattle.text_base.specs.DigitValues.{AreValues, value_of}
+use Rattle.hex.proofs.Pairs.{decode_start, decode_done, decode_sized-pairs, decode_step, prepend}
+use Rattle.text_base.specs.PageStarts.{AreUpTo, BeginsWithPage, value_of}
 use Rattle.text_base.specs.Pages.{page_of}
 
 -- a byte that has the value of a digit is one
@@ -37,46 +39,50 @@ read-all text bytes i long room over so-far =
     rw (decode_sized-pairs text 16 (omega (arith, long)) (omega (arith, long)), decode_done text bytes i (omega arith) (omega arith) so-far)
     refl
 
--- Values
+-- Pages that aren't made
 
-pub no-values : (digits values : List ℕ) (most : ℕ) → length values ≡ 32 → AreValues digits values most 0
-no-values digits values most len = record {
-  len = len;
-  each = λ i below. absurd (omega (arith, below));
-  bounded = λ i below. absurd (omega (arith, below));
-}
-
--- one more value
-pub values-more : (digits values : List ℕ) (most most2 i v : ℕ) → AreValues digits values most i → i < 32
-    → v ≡ value_of (slice_index digits i) → most ≤ most2 → v ≤ most2 → AreValues digits (slice_set values i v) most2 (i + 1)
-values-more digits values most most2 i v h inside is grows small = record {
-  len = length-set values i v ∙ h.len;
-  each = λ k below. each k (eq-or-lt_of_le (omega (arith, below)));
-  bounded = λ k below. least k (eq-or-lt_of_le (omega (arith, below)));
-}
+-- one more digit is looked at
+pub up-to-more : (digits : List ℕ) (most most2 i v : ℕ) → AreUpTo most digits i → v ≡ value_of (slice_index digits i) → most ≤ most2
+    → v ≤ most2 → AreUpTo most2 digits (i + 1)
+up-to-more digits most most2 i v h is grows small k below = by (eq-or-lt_of_le (omega (arith, below)))
   where
-    here : slice_index (slice_set values i v) i ≡ v
-    here = get_or-set_same values i v 0 (omega (arith, h.len, inside))
+    by : (k ≡ i) ⊎ (k < i) → value_of (slice_index digits k) ≤ most2
+    by (inl same) = rw (same, ← is) small
+    by (inr less) = omega (arith, h k less, grows)
 
-    there : (k : ℕ) → k < i → slice_index (slice_set values i v) k ≡ slice_index values k
-    there k below = get_or-set_other values i k v 0 (λ same. absurd (omega (arith, same, below)))
+-- the first bytes of the page that 32 digits write
+record Front (text : List ℕ) (i : ℕ) : Type 0 where
+  pub bytes : List ℕ
+  pub len : length bytes ≡ 16
+  pub read : HasRead text bytes i
 
-    each : (k : ℕ) → (k ≡ i) ⊎ (k < i) → slice_index (slice_set values i v) k ≡ value_of (slice_index digits k)
-    each k (inl same) = rw same (here ∙ is)
-    each k (inr below) = there k below ∙ h.each k below
+front : (text : List ℕ) → length text ≡ 32 → AreUpTo 15 text 32 → (i : ℕ) → i ≤ 16 → Front text i
+front text long small zero low = record { bytes = replicate 16 0; len = refl; read = decode_start text (replicate 16 0) }
+front text long small (suc i) low =
+    let h = front text long small i (omega (arith, low)) in
+    let high = value_of (slice_index text (2 * i)) in
+    let next = value_of (slice_index text (2 * i + 1)) in
+    let made = (high * 16 % 256 + next) % 256 in
+    record {
+      bytes = slice_set h.bytes i made;
+      len = length-set h.bytes i made ∙ h.len;
+      read = rw (← suc-is i) (read-more text h.bytes i high next made long (omega (arith, low)) (omega (arith, low, h.len)) refl refl
+          (small (2 * i) (omega (arith, low))) (small (2 * i + 1) (omega (arith, low))) refl h.read);
+    }
+  where
+    suc-is : (n : ℕ) → n + 1 ≡ suc n
+    suc-is n = omega arith
 
-    least : (k : ℕ) → (k ≡ i) ⊎ (k < i) → slice_index (slice_set values i v) k ≤ most2
-    least k (inl same) = rw same (omega (arith, here, small))
-    least k (inr below) = omega (arith, there k below, h.bounded k below, grows)
+-- 32 digits write a page
+pub writes-page : (text : List ℕ) (most : ℕ) → length text ≡ 32 → AreUpTo most text 32 → most ≤ 15
+    → (page : PageData) × (page_of text ≡ Some page)
+writes-page text most long are small =
+    let f = front text long (λ i below. omega (arith, are i below, small)) 16 (omega arith) in
+    (record { 0 = f.bytes }, read-all text f.bytes 16 long f.len (omega arith) f.read)
 
--- a byte of two values
-pub read-two : (text values bytes : List ℕ) (most i v : ℕ) → length text ≡ 32 → i < 16 → i < length bytes
-    → AreValues text values most 32 → most ≤ 15
-    → v ≡ (slice_index values (2 * i) * 16 % 256 + slice_index values (2 * i + 1)) % 256 → HasRead text bytes i
-    → HasRead text (slice_set bytes i v) (i + 1)
-read-two text values bytes most i v long inside room are small made so-far =
-    let one : 2 * i < 32 = omega (arith, inside) in
-    let two : 2 * i + 1 < 32 = omega (arith, inside) in
-    read-more text bytes i (slice_index values (2 * i)) (slice_index values (2 * i + 1)) v long inside room
-    (are.each (2 * i) one) (are.each (2 * i + 1) two)
-    (omega (arith, are.bounded (2 * i) one, small)) (omega (arith, are.bounded (2 * i + 1) two, small)) made so-far
+-- so a text begins with a page
+pub begins-with-page : (text rest : List ℕ) (most : ℕ) → 32 ≤ length text → AreUpTo most (take 32 text) 32 → most ≤ 15
+    → rest ≡ drop 32 text → BeginsWithPage text rest
+begins-with-page text rest most room are small is =
+    let page = writes-page (take 32 text) most (length-take-le 32 text room) are small in
+    (page.0, rw is (page-starts text page.0 page.1))

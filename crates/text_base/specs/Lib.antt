@@ -3,7 +3,7 @@ pub mod Writing
 pub mod Readings
 pub mod Words
 pub mod Pages
-pub mod DigitValues
+pub mod PageStarts
 pub mod Ops
 pub mod Marked
 pub mod Bounded

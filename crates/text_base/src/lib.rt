@@ -14,5 +14,5 @@ pub use bounded::Bounded;
 pub use csv_records::{field_in, is_named, rows_in, take_row};
 pub use numbers::number;
 pub use pages::put_page;
-pub use words::{count, list, put_list};
+pub use words::{count_pages, list, put_list};
 pub use writing::write_whole;

@@ -3,16 +3,16 @@
 ghost use Rattle.std.specs.Prelude.{◌≡◌, ◌<◌, length, IfSome, Some, OnOk, ◌++◌, slice_index, unwrap_or};
 ghost use Rattle.hex.specs.Hex.{hex_digit_value, lower_digits};
 ghost use Rattle.text_base.specs.Pages.{page_word};
-ghost use Rattle.text_base.specs.DigitValues.{AreValues, value_of};
 ghost use Rattle.text_base.specs.Words.{StartsWith};
 ghost use Rattle.text_base.specs.Pages.{page_of};
+ghost use Rattle.text_base.specs.PageStarts.{AreUpTo, BeginsWithPage};
 
 use slot_types::PageData;
 use std::io;
 
 /// The value of a hexadecimal digit in either case, and 255 of any other byte.
 fn digit_value(digit: u8) -> u8
-    ensures { result ≡ value_of digit }
+    ensures { result ≡ unwrap_or (hex_digit_value digit) 255 }
 {
     let decimal = digit.wrapping_sub(b'0');
     let upper = digit.wrapping_sub(b'A');
@@ -28,22 +28,6 @@ fn digit_value(digit: u8) -> u8
     }
 }
 
-/// The values of 32 digits, 255 for what is none, and the greatest of them. Each is looked at by itself, one behind the
-/// other, so that a machine may take sixteen at once.
-fn digit_values(digits: &[u8]) -> ([u8; 32], u8)
-    requires { length digits.now ≡ 32 }
-    ensures { AreValues digits.now result.0 result.1 32 }
-{
-    let mut values = [0u8; 32];
-    let mut most = 0u8;
-    for i in 0..32 {
-        let value = digit_value(digits[i]);
-        values[i] = value;
-        most = most.max(value);
-    }
-    (values, most)
-}
-
 /// The page that 32 bytes write, if each of them is a digit.
 fn clean_page(digits: &[u8]) -> Option<PageData>
     ensures { IfSome result (λ page. page_of digits.now ≡ Some page) }
@@ -51,14 +35,16 @@ fn clean_page(digits: &[u8]) -> Option<PageData>
     if digits.len() != 32 {
         return None;
     }
-    let (values, most) = digit_values(digits);
+    let mut bytes = [0u8; 16];
+    let mut most = 0u8;
+    for i in 0..16 {
+        let high = digit_value(digits[2 * i]);
+        let low = digit_value(digits[2 * i + 1]);
+        most = most.max(high).max(low);
+        bytes[i] = high.wrapping_mul(16).wrapping_add(low);
+    }
     if most > 15 {
         return None;
-    }
-    let mut bytes = [0u8; 16];
-    for i in 0..16 {
-        let (high, low) = (values[2 * i], values[2 * i + 1]);
-        bytes[i] = high.wrapping_mul(16).wrapping_add(low);
     }
     Some(PageData(bytes))
 }
@@ -86,6 +72,29 @@ pub fn leading_page(text: &[u8]) -> Option<(PageData, &[u8])>
     }
     let page = clean_page(&text[..32])?;
     Some((page, &text[32..]))
+}
+
+/// The greatest value of 32 digits, 255 where a byte is none. Each is looked at by itself, one behind the other, so that a
+/// machine may take sixteen at once.
+fn greatest_value(digits: &[u8]) -> u8
+    requires { length digits.now ≡ 32 }
+    ensures { AreUpTo result digits.now 32 }
+{
+    let mut most = 0u8;
+    for i in 0..32 {
+        most = most.max(digit_value(digits[i]));
+    }
+    most
+}
+
+/// What stands behind a page, where the first 32 bytes of a text write one. The page isn't made.
+pub fn behind_page(text: &[u8]) -> Option<&[u8]>
+    ensures { IfSome result (λ rest. BeginsWithPage text.now rest.now) }
+{
+    if text.len() < 32 || greatest_value(&text[..32]) > 15 {
+        return None;
+    }
+    Some(&text[32..])
 }
 
 /// The lower-case digit of a number below 16.

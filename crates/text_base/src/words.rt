@@ -6,10 +6,11 @@ ghost use Rattle.text_base.specs.Number.{number_of};
 ghost use Rattle.text_base.specs.Ops.{op_of};
 ghost use Rattle.text_base.specs.Words.{IsFirst, StartsWith, all_of, behind, if_whole, list_of, words_of};
 ghost use Rattle.text_base.specs.Pages.{page_of};
+ghost use Rattle.text_base.specs.PageStarts.{BeginsWithPage, FirstIsPage};
 
 use crate::numbers::{leading_number, number};
 use crate::ops::{leading_op, op};
-use crate::pages::{leading_page, page};
+use crate::pages::{behind_page, leading_page, page};
 use slot_types::{Items, JobNo, Op, PageData};
 use std::alloc::{AllocError, Global};
 
@@ -172,15 +173,39 @@ pub fn list<T: Word + Drop>(alloc: Global, field: &[u8]) -> Result<Option<Items<
     Ok(if whole { Some(items) } else { None })
 }
 
-/// How many words a text has, if all of them say something.
-fn count_all<T: Word + Drop>(text: &[u8]) -> Option<usize>
-    ensures { result ≡ option_map length (all_of T.word_of (slice_split (λ b. b == 32) text.now)) }
+/// What stands behind the page at the front of a text and the space there, where 32 plain digits write it. None says
+/// nothing.
+fn quick_rest(text: &[u8]) -> Option<Option<&[u8]>>
+    ensures { IfSome result (λ rest. BeginsWithPage text.now (behind (option_map (λ text. text.now) rest))) }
+{
+    let left = behind_page(text)?;
+    behind(left)
+}
+
+/// What stands behind the first word of a text and the space there, if that word is a page.
+fn skip_page(text: &[u8]) -> Option<Option<&[u8]>>
+    ensures word { MatchOption result (all_of page_of (slice_split (λ b. b == 32) text.now) ≡ None)
+        (λ rest. FirstIsPage text.now (words_of (option_map (λ rest. rest.now) rest))) }
+    ensures shorter { IfSome result (λ rest. IfSome rest (λ rest. length rest.now < length text.now)) }
+{
+    match quick_rest(text) {
+        Some(rest) => Some(rest),
+        None => match cut_word::<PageData>(text) {
+            Some((_, rest)) => Some(rest),
+            None => None,
+        },
+    }
+}
+
+/// How many words a text has, if all of them are pages.
+fn count_all(text: &[u8]) -> Option<usize>
+    ensures { result ≡ option_map length (all_of page_of (slice_split (λ b. b == 32) text.now)) }
 {
     let mut count = 0;
     let mut left = Some(text);
     while let Some(text) = left {
-        match first_word::<T>(text) {
-            Some((_, rest)) => {
+        match skip_page(text) {
+            Some(rest) => {
                 count += 1;
                 left = rest;
             }
@@ -190,12 +215,12 @@ fn count_all<T: Word + Drop>(text: &[u8]) -> Option<usize>
     Some(count)
 }
 
-/// How many words a field has, if all of them say something: nothing is kept of what they say. An empty field has none.
-pub fn count<T: Word + Drop>(field: &[u8]) -> Option<usize>
-    ensures { result ≡ option_map length (list_of T.word_of field.now) }
+/// How many pages a field has, if all of its words are pages: none of them is made. An empty field has none.
+pub fn count_pages(field: &[u8]) -> Option<usize>
+    ensures { result ≡ option_map length (list_of page_of field.now) }
 {
     if field.is_empty() {
         return Some(0);
     }
-    count_all::<T>(field)
+    count_all(field)
 }
