@@ -4,7 +4,8 @@ use Rattle.std.specs.Prelude.{flat_map}
 use Rattle.std.proofs.lemmas.Grind.{flat_map-append}
 use Rattle.std.proofs.lemmas.List.{append-nil, drop_more}
 use Rattle.csv.specs.Writing.{default_writer, row_text}
-use Rattle.report_texts.specs.ReportText.{cert_fields, cert_record, cert_record_of, die_records, header_fields, records_text, report_text, row_fields}
+use Rattle.report_texts.specs.ReportText.{cert_fields, cert_record, cert_record_of, die_records, header_fields, records_text}
+use Rattle.report_texts.specs.ReportText.{report_text, row_fields}
 use Rattle.report_texts.specs.TextSoFar.{TextSoFar, cert_added, die_added, row_added, rows_added, text_so_far, whole_text}
 use Rattle.late_cert.specs.declared.certificates.Certificate.{Certificate}
 use Rattle.report_texts.specs.declared.reports.DieReport.{DieReport}
@@ -52,7 +53,8 @@ pub rows_more : (die : ℕ) (rows : List ReportRow) (i : ℕ) (row : ReportRow) 
 rows_more die rows i row old new whole below is added so_far =
     ap (rows_added die (drop (i + 1) rows)) added
     ∙ ((λ k. record {
-      rows = append_assoc old.rows (row_text default_writer (row_fields die row)) (records_text (map (row_fields die) (drop (i + 1) rows))) k;
+      rows = append_assoc old.rows (row_text default_writer (row_fields die row))
+          (records_text (map (row_fields die) (drop (i + 1) rows))) k;
       certs = old.certs;
     })
     ∙ (ap (λ (left : List ReportRow). rows_added die left old) (sym here) ∙ so_far))

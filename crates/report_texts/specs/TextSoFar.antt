@@ -26,7 +26,10 @@ die_added die text = record { rows = text.rows ++ records_text (die_records die)
 
 -- the header, and what these dies add
 abbrev pub text_so_far : List DieReport → TextSoFar
-text_so_far dies = record { rows = records_text (header_fields ∷ flat_map die_records dies); certs = records_text (flat_map cert_record dies) }
+text_so_far dies = record {
+  rows = records_text (header_fields ∷ flat_map die_records dies);
+  certs = records_text (flat_map cert_record dies);
+}
 
 abbrev pub whole_text : TextSoFar → List ℕ
 whole_text text = text.rows ++ text.certs
