@@ -12,32 +12,33 @@ use Rattle.die_service.proofs.Joining.{live_after}
 use Rattle.die_service.proofs.Driving.{asks_joins, slots_more, stop_more}
 
 -- So many slots were carried out; whatever the slots that are left come to, all come to
-pub record IsOnTime (never : Bool) (slots done clock : ℕ) (s t : Standing) : Type 0 where
+pub record IsOnTime (never : Bool) (slots from done clock : ℕ) (s t : Standing) : Type 0 where
   pub saids : List Said
   pub asks : Asks never s.pass s.course saids t.pass t.course
-  pub order : (more : List Said) → InClockOrder (slots - done) clock t.course.rest more → InClockOrder slots 0 s.course.rest (saids ++ more)
+  pub order : (more : List Said) → InClockOrder (slots - done) clock t.course.rest more
+      → InClockOrder slots from s.course.rest (saids ++ more)
   pub counted : slots_in saids ≡ done
   pub no_stop : stop_of saids ≡ None
   pub slots_are : t.slots ≡ done
   pub stop : t.stop ≡ None
 
 -- a run that ended
-pub record IsOver (never : Bool) (slots : ℕ) (s t : Standing) : Type 0 where
+pub record IsOver (never : Bool) (slots from : ℕ) (s t : Standing) : Type 0 where
   pub saids : List Said
   pub asks : Asks never s.pass s.course saids t.pass t.course
-  pub order : InClockOrder slots 0 s.course.rest saids
+  pub order : InClockOrder slots from s.course.rest saids
   pub slots_are : t.slots ≡ slots_in saids
   pub stop : t.stop ≡ stop_of saids
   pub whole : stop_of saids ≡ None → slots_in saids ≡ slots
 
-module _ (never : Bool) (slots : ℕ) where
+module _ (never : Bool) (slots from : ℕ) where
   pub starts : (s t : Standing) → Asks never s.pass s.course [] t.pass t.course → t.course ≡ s.course → t.slots ≡ 0 → t.stop ≡ None
-      → IsOnTime never slots 0 0 s t
+      → IsOnTime never slots from 0 from s t
   starts s t asks same none running = record {
     saids = [];
     asks = asks;
-    order = λ more order. subst (λ (c : Course). InClockOrder slots 0 c.rest more) same
-        (subst (λ (n : ℕ). InClockOrder n 0 t.course.rest more) minus order);
+    order = λ more order. subst (λ (c : Course). InClockOrder slots from c.rest more) same
+        (subst (λ (n : ℕ). InClockOrder n from t.course.rest more) minus order);
     counted = refl;
     no_stop = refl;
     slots_are = none;
@@ -48,8 +49,8 @@ module _ (never : Bool) (slots : ℕ) where
       minus = omega arith
 
   -- a slot more
-  pub goes_on : (done clock next : ℕ) (slot : ℕ) (s t u w : Standing) → done < slots → IsOnTime never slots done clock s t
-      → Brings never clock t u → TakesSlot never u slot w → next ≡ slot + 1 → IsOnTime never slots (done + 1) next s w
+  pub goes_on : (done clock next : ℕ) (slot : ℕ) (s t u w : Standing) → done < slots → IsOnTime never slots from done clock s t
+      → Brings never clock t u → TakesSlot never u slot w → next ≡ slot + 1 → IsOnTime never slots from (done + 1) next s w
   goes_on done clock next slot s t u w below i b k is =
       let last = said events.Slot (Ok (replies.Slot k.reply)) in
       let front = i.saids ++ b.fed in
@@ -58,7 +59,7 @@ module _ (never : Bool) (slots : ℕ) where
         saids = front ++ last ∷ [];
         asks = asks_joins never s.pass u.pass w.pass s.course u.course w.course front (last ∷ [])
             (asks_joins never s.pass t.pass u.pass s.course t.course u.course i.saids b.fed i.asks b.asks) k.asks;
-        order = λ more order. subst (InClockOrder slots 0 s.course.rest)
+        order = λ more order. subst (InClockOrder slots from s.course.rest)
             (sym (append_assoc front (last ∷ []) more ∙ append_assoc i.saids b.fed (last ∷ more)))
             (i.order (b.fed ++ last ∷ more) (subst (λ (n : ℕ). InClockOrder n clock t.course.rest (b.fed ++ last ∷ more)) (sym one_left) (
               b.fed,
@@ -80,8 +81,8 @@ module _ (never : Bool) (slots : ℕ) where
       }
 
   -- a slot was refused
-  pub gives_up : (done clock : ℕ) (s t u w : Standing) → done < slots → IsOnTime never slots done clock s t → Brings never clock t u
-      → IsStopped never u w → IsOver never slots s w
+  pub gives_up : (done clock : ℕ) (s t u w : Standing) → done < slots → IsOnTime never slots from done clock s t → Brings never clock t u
+      → IsStopped never u w → IsOver never slots from s w
   gives_up done clock s t u w below i b k =
       let last = said events.Slot (Err k.refused) in
       let front = i.saids ++ b.fed in
@@ -93,7 +94,7 @@ module _ (never : Bool) (slots : ℕ) where
         saids = front ++ last ∷ [];
         asks = asks_joins never s.pass u.pass w.pass s.course u.course w.course front (last ∷ [])
             (asks_joins never s.pass t.pass u.pass s.course t.course u.course i.saids b.fed i.asks b.asks) k.asks;
-        order = subst (InClockOrder slots 0 s.course.rest) (sym (append_assoc i.saids b.fed (last ∷ [])))
+        order = subst (InClockOrder slots from s.course.rest) (sym (append_assoc i.saids b.fed (last ∷ [])))
             (i.order (b.fed ++ last ∷ []) (subst (λ (n : ℕ). InClockOrder n clock t.course.rest (b.fed ++ last ∷ [])) (sym one_left)
             (b.fed, last ∷ [], refl, b.asked, inr (k.refused, refl))));
         slots_are = k.slots ∙ (b.slots ∙ (i.slots_are ∙ sym count));
@@ -105,8 +106,8 @@ module _ (never : Bool) (slots : ℕ) where
       some_none r e = cc
 
   -- all slots were carried out
-  pub ends : (done clock : ℕ) (s t u : Standing) → slots ≡ done → IsOnTime never slots done clock s t → Brings never clock t u
-      → IsOver never slots s u
+  pub ends : (done clock : ℕ) (s t u : Standing) → slots ≡ done → IsOnTime never slots from done clock s t → Brings never clock t u
+      → IsOver never slots from s u
   ends done clock s t u all i b =
       let none_left : slots - done ≡ zero = omega (arith, all) in
       let count : slots_in (i.saids ++ b.fed) ≡ done = slots_more i.saids b.fed ∙ omega (arith, i.counted, b.no_slot) in record {
@@ -118,8 +119,9 @@ module _ (never : Bool) (slots : ℕ) where
         whole = λ none. count ∙ sym all;
       }
 
-  pub drives : (s t : Standing) → IsLive s.pass.view → IsFirst s → IsOver never slots s t → Drives never slots s t
-  drives s t live first o =
+  pub drives : (s t : Standing) → IsLive s.pass.view → IsFirst s → slots ≡ s.course.slots → from ≡ s.course.from
+      → IsOver never slots from s t → Drives never s t
+  drives s t live first slots_are from_is o =
       let place : s.course.place ≡ 0 = ap (λ x. x.course.place) first in
       let none : s.course.refused ≡ [] = ap (λ x. x.course.refused) first in
       let noted : t.course.refused ≡ refused_from 0 o.saids = o.asks.refused
@@ -129,7 +131,7 @@ module _ (never : Bool) (slots : ℕ) where
           saids = o.saids;
           plan = o.asks.plan;
           about_is = o.asks.far.about_is;
-          ordered = o.order;
+          ordered = subst (λ (x : ℕ × ℕ). InClockOrder x.0 x.1 s.course.rest o.saids) (λ i. (slots_are i, from_is i)) o.order;
           starts = o.asks.far.starts;
           exact = o.asks.far.exact;
           own = o.asks.far.own;
@@ -139,6 +141,6 @@ module _ (never : Bool) (slots : ℕ) where
           later = o.asks.far.later;
           sole = o.asks.far.sole;
           end_is = rw (o.slots_are, o.stop, noted) refl;
-          whole = λ running. o.slots_are ∙ o.whole (sym o.stop ∙ running);
+          whole = λ running. o.slots_are ∙ (o.whole (sym o.stop ∙ running) ∙ slots_are);
         },
       )

@@ -117,7 +117,7 @@ back : (xs : List Call) → calls_of (log_of xs) ≡ map call_back xs
 back xs = ap (map call_of) (reverse-reverse (map entry_of xs)) ∙ map_twice xs
 
 -- where all calls of a log are of one caller, so are those from which it was read, and the first of these
-by_log : (n : ℕ) (es : List Call) → AllBy (n ∷ []) (calls_of (log_of es)) → AllBy (n ∷ []) es
+pub by_log : (n : ℕ) (es : List Call) → AllBy (n ∷ []) (calls_of (log_of es)) → AllBy (n ∷ []) es
 by_log n es h = λ p other. callers_same p es (subst (λ (cs : List Call). calls_by p cs ≡ []) (back es) (h p other))
 
 pub own_of_log : (n : ℕ) (es : List Call) → AllBy (n ∷ []) (calls_of (log_of es)) → calls_by n es ≡ es

@@ -9,6 +9,7 @@ use Rattle.slot_types.specs.declared.replies.Reply.TheVariants as replies
 use Rattle.slot_types.specs.declared.replies.SlotReply.{SlotReply}
 use Rattle.turn_lock.specs.Log.{times, StartsWith, calls_by}
 use Rattle.turn_lock.specs.Views.{IsSamePass}
+use Rattle.die_service.specs.declared.batches.Batch.{Batch}
 use Rattle.die_service.specs.declared.ends.DieEnd.{DieEnd}
 use Rattle.die_service.specs.declared.ends.RefusedEvent.{RefusedEvent}
 use Rattle.die_service.specs.declared.feeds.Arrival.{Arrival}
@@ -21,16 +22,23 @@ use Rattle.die_service.specs.Runs.{Said, said, comes_at, AreAsked, accepted_by, 
 use Rattle.die_service.specs.Runs.{IsReasoned, HasRun}
 use Rattle.die_service.specs.Stores.{DiePass}
 
--- The events of a feed that are still to come, how many came, the operations of the last of these, and those of them that were refused
+-- The slot at which a batch begins and how many slots it has, the events of its feed that are still to come, how many came, the
+-- operations of the last of these, and those of them that were refused
 pub record Course : Type 0 where
+  pub from : ℕ
+  pub slots : ℕ
   pub rest : List Arrival
   pub place : ℕ
   pub ops : List Op
   pub refused : List RefusedEvent
 
--- a feed of which nothing came
-abbrev pub whole_course : List Arrival → Course
-whole_course feed = record { rest = feed; place = 0; ops = []; refused = [] }
+-- a batch of which nothing came
+abbrev pub whole_course : Batch → Course
+whole_course batch = record { from = batch.from; slots = batch.slots; rest = batch.feed; place = 0; ops = []; refused = [] }
+
+-- the batch of which nothing came
+abbrev pub batch_at : Course → Batch
+batch_at c = record { from = c.from; slots = c.slots; feed = c.rest }
 
 -- How far a worker is with a die
 pub record Standing : Type 0 where
@@ -44,7 +52,7 @@ abbrev pub first_standing : DiePass → Course → Standing
 first_standing pass course = record { pass = pass; course = course; slots = 0; stop = None }
 
 abbrev pub IsFirst : Standing → Type 0
-IsFirst s = s ≡ first_standing s.pass (whole_course s.course.rest)
+IsFirst s = s ≡ first_standing s.pass (whole_course (batch_at s.course))
 
 abbrev pub first_standings : List DiePass → List Course → List Standing
 first_standings (pass ∷ passes) (course ∷ courses) = first_standing pass course ∷ first_standings passes courses
@@ -140,6 +148,6 @@ pub record IsStopped (never_fails : Bool) (s t : Standing) : Type 0 where
   pub slots : t.slots ≡ s.slots
   pub stop : t.stop ≡ Some refused
 
--- so many slots were asked, with the events of the feed
-abbrev pub Drives : Bool → ℕ → Standing → Standing → Type 0
-Drives never_fails slots s t = IsSamePass s.pass t.pass × HasRun never_fails slots s.course.rest s.pass.view (end_at t) t.pass.view
+-- the slots of a batch were asked, with the events of its feed
+abbrev pub Drives : Bool → Standing → Standing → Type 0
+Drives never_fails s t = IsSamePass s.pass t.pass × HasRun never_fails (batch_at s.course) s.pass.view (end_at t) t.pass.view

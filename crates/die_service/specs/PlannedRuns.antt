@@ -17,7 +17,7 @@ use Rattle.die_service.specs.declared.ends.DieEnd.{DieEnd}
 use Rattle.die_service.specs.declared.ends.RefusedEvent.{RefusedEvent}
 use Rattle.die_service.specs.declared.feeds.Arrival.{Arrival}
 use Rattle.die_service.specs.Logs.{log_of, calls_of}
-use Rattle.die_service.specs.Runs.{comes_at, HasRun}
+use Rattle.die_service.specs.Runs.{comes_at, whole_batch, HasRun}
 use Rattle.die_service.specs.Stores.{DiePass}
 
 abbrev pub events_in : List Arrival → List Event
@@ -47,7 +47,7 @@ pub record RanAlone (never_fails : Bool) (plan : DiePlan) (slots : ℕ) (feed : 
   pub last : DiePass
   pub fresh : first.view ≡ first_view plan
   pub same : IsSamePass first last
-  pub ran : HasRun never_fails slots feed first.view end last.view
+  pub ran : HasRun never_fails (whole_batch slots feed) first.view end last.view
   pub log_is : log ≡ log_of last.view.seen
   pub by_own : AllBy (last.view.number ∷ last.view.joined) (calls_of log)
 

@@ -11,6 +11,7 @@ use Rattle.slot_types.specs.declared.replies.Reply.TheVariants as replies
 use Rattle.slot_types.specs.declared.replies.SlotReply.{SlotReply}
 use Rattle.turn_lock.specs.Log.{times, StartsWith, entry, calls_by}
 use Rattle.turn_lock.specs.Views.{IsLive, IsSamePass}
+use Rattle.die_service.specs.declared.batches.Batch.{Batch}
 use Rattle.die_service.specs.declared.ends.DieEnd.{DieEnd}
 use Rattle.die_service.specs.declared.ends.RefusedEvent.{RefusedEvent}
 use Rattle.die_service.specs.declared.feeds.Arrival.{Arrival}
@@ -36,6 +37,10 @@ AllArrive feed = All (λ arrival. IsArrival arrival.event) feed
 -- the slot by which an event of a feed comes
 abbrev pub comes_at : Arrival → ℕ
 comes_at arrival = arrival.at
+
+-- all that comes to a die in a run of so many slots from slot 0 on
+abbrev pub whole_batch : ℕ → List Arrival → Batch
+whole_batch slots feed = record { from = 0; slots = slots; feed = feed }
 
 -- these events were asked, in their order
 abbrev pub AreAsked : List Arrival → List Said → Type 0
@@ -104,15 +109,15 @@ pub record IsReasoned (never_fails : Bool) (plan : DiePlan) (v : DieView) (befor
   pub reason : MayRefuse never_fails plan (log_of (take refused.entries w.seen)) event refused.refusal
   pub own : calls_by v.number (take refused.entries w.seen) ≡ calls_by v.number v.seen ++ accepted_by v.number before
 
--- A pass that knew `v` ran so many slots with this feed, and knows `w`: it has seen an exact log, its own entries are
+-- A pass that knew `v` ran the slots of this batch with its feed, and knows `w`: it has seen an exact log, its own entries are
 -- those that it had and then the accepted calls in the order of the clock, those of each number that was joined into it
 -- are those that it had, and each refused call has its reason. It is live, and knows of no fewer passes made than before;
 -- where no other pass was left, none is.
-pub record HasRun (never_fails : Bool) (slots : ℕ) (feed : List Arrival) (v : DieView) (end : DieEnd) (w : DieView) : Type 0 where
+pub record HasRun (never_fails : Bool) (batch : Batch) (v : DieView) (end : DieEnd) (w : DieView) : Type 0 where
   pub saids : List Said
   pub plan : DiePlan
   pub about_is : v.about ≡ Some plan
-  pub ordered : InClockOrder slots 0 feed saids
+  pub ordered : InClockOrder batch.slots batch.from batch.feed saids
   pub starts : StartsWith w.seen v.seen
   pub exact : HasExactLog plan w.seen
   pub own : calls_by v.number w.seen ≡ calls_by v.number v.seen ++ accepted_by v.number saids
@@ -123,11 +128,11 @@ pub record HasRun (never_fails : Bool) (slots : ℕ) (feed : List Arrival) (v : 
   pub later : v.made ≤ w.made
   pub sole : v.sole ≡ true → w.sole ≡ true
   pub end_is : end ≡ end_of saids
-  pub whole : end.stop ≡ None → end.slots ≡ slots
+  pub whole : end.stop ≡ None → end.slots ≡ batch.slots
 
--- each die's pass ran with the feed in its place
-abbrev pub HaveRun : Bool → ℕ → List (List Arrival) → List DiePass → List DieEnd → List DiePass → Type 0
-HaveRun never_fails slots [] [] [] [] = Unit {0}
-HaveRun never_fails slots (feed ∷ feeds) (p ∷ ps) (end ∷ ends) (q ∷ qs) =
-    IsSamePass p q × HasRun never_fails slots feed p.view end q.view × HaveRun never_fails slots feeds ps ends qs
-HaveRun never_fails slots _ _ _ _ = ⊥
+-- each die's pass ran with the batch in its place
+abbrev pub HaveRun : Bool → List Batch → List DiePass → List DieEnd → List DiePass → Type 0
+HaveRun never_fails [] [] [] [] = Unit {0}
+HaveRun never_fails (batch ∷ batches) (p ∷ ps) (end ∷ ends) (q ∷ qs) =
+    IsSamePass p q × HasRun never_fails batch p.view end q.view × HaveRun never_fails batches ps ends qs
+HaveRun never_fails _ _ _ _ = ⊥

@@ -1,4 +1,4 @@
-//! A feed on its way to its die.
+//! A batch on its way to its die.
 
 ghost use Rattle.std.specs.Prelude.{◌≡◌, ◌<◌, ◌++◌, ◌∷◌, ◌-◌, [], length, IfOk, IfSome, IfNone};
 ghost use Rattle.slot_types.specs.Refusal.{FailsForMemory};
@@ -6,6 +6,7 @@ ghost use Rattle.slot_core.specs.Events.{with_ops};
 ghost use Rattle.die_service.specs.Runs.{AllArrive};
 ghost use Rattle.die_service.specs.Drives.{Comes, NoneDue, whole_course};
 
+use crate::batches::Batch;
 use crate::ends::{RefusedEvent, RefusedList};
 use crate::feeds::Feed;
 use crate::refused::RefusedAt;
@@ -14,10 +15,13 @@ use slot_types::{Op, Refusal};
 use std::alloc::Global;
 use std::marker::Model;
 
-/// A feed, the events of which come one after the other, with room for the operations of one and to note each that is
+/// A batch, the events of which come one after the other, with room for the operations of one and to note each that is
 /// refused. So no event takes memory, and none is given back before the run of its die ends.
 #[derive(Drop)]
 pub(crate) struct Course {
+    // The slot at which the clock begins, and how many slots are asked for.
+    from: u32,
+    slots: u32,
     feed: Feed,
     // How many events came.
     place: usize,
@@ -34,7 +38,14 @@ impl Model for Course {
 
     ghost Value = { drives.Course };
 
-    ghost view = { λ c. record { rest = drop c.place c.feed; place = c.place; ops = c.ops.items; refused = c.refused.items } };
+    ghost view = { λ c. record {
+      from = c.from;
+      slots = c.slots;
+      rest = drop c.place c.feed;
+      place = c.place;
+      ops = c.ops.items;
+      refused = c.refused.items;
+    } };
 
     ghost invariant = { λ c.
         AllArrive c.feed × HaveAtMost (vec_capacity c.ops) c.feed
@@ -42,20 +53,37 @@ impl Model for Course {
 }
 
 impl Course {
-    /// The whole of a feed. The only refusal is for want of memory.
-    pub(crate) fn new(alloc: Global, feed: Feed) -> Result<Course, Refusal>
-        requires arrive { AllArrive feed }
-        ensures whole { IfOk result (λ course. course ≡ whole_course feed) }
+    /// The whole of a batch. The only refusal is for want of memory.
+    pub(crate) fn new(alloc: Global, batch: Batch) -> Result<Course, Refusal>
+        requires arrive { AllArrive batch.feed }
+        ensures whole { IfOk result (λ course. course ≡ whole_course batch) }
         ensures refused { FailsForMemory result }
     {
+        let Batch { from, slots, feed } = batch;
         let refused = Vec::with_capacity(alloc, feed.len())?;
         let ops = Vec::with_capacity(alloc, feed.most_ops())?;
         Ok(Course {
+            from,
+            slots,
             feed,
             place: 0,
             ops,
             refused,
         })
+    }
+
+    /// The slot at which the clock begins.
+    pub(crate) fn from(&self) -> u32
+        ensures { result ≡ self.now.from }
+    {
+        self.from
+    }
+
+    /// How many slots are asked for.
+    pub(crate) fn slots(&self) -> u32
+        ensures { result ≡ self.now.slots }
+    {
+        self.slots
     }
 
     /// Goes on to the next event, if it comes by this slot. Its operations are then those of the course.

@@ -127,33 +127,28 @@ impl<'a, N: Nand> Driver<'a, N> {
         }
     }
 
-    /// Asks for so many slots, and before each for the events that come by it. Then the feed is let go, so that the dies that
-    /// run later find its memory.
-    pub(crate) fn run<G: Gate, R: Wait>(
-        &mut self,
-        rt: &R,
-        alloc: Global,
-        gate: &G,
-        number: u32,
-        slots: u32,
-    )
+    /// Asks for the slots of its batch, and before each for the events that come by it. Then the feed is let go, so that the
+    /// dies that run later find its memory.
+    pub(crate) fn run<G: Gate, R: Wait>(&mut self, rt: &R, alloc: Global, gate: &G, number: u32)
         requires { IsFirst self.old }
-        ensures ran { Drives N.never_fails slots self.old self.new }
+        ensures ran { Drives N.never_fails self.old self.new }
         ensures gone { self.new.course.rest ≡ [] }
     {
-        self.drive(rt, gate, number, slots);
+        self.drive(rt, gate, number);
         self.course.end(alloc);
     }
 
-    /// Asks for so many slots, and before each for the events that come by it.
-    fn drive<G: Gate, R: Wait>(&mut self, rt: &R, gate: &G, number: u32, slots: u32)
+    /// Asks for the slots of its batch, and before each for the events that come by it.
+    fn drive<G: Gate, R: Wait>(&mut self, rt: &R, gate: &G, number: u32)
         requires { IsFirst self.old }
-        ensures { Drives N.never_fails slots self.old self.new }
+        ensures { Drives N.never_fails self.old self.new }
     {
         // It says that the pass is live.
         let _ = self.pass.number();
+        let slots = self.course.slots();
+        let from = self.course.from();
         self.look();
-        let mut clock = 0;
+        let mut clock = from;
         for _done in 0..slots {
             self.bring_due(rt, clock);
             gate.before(number, clock);

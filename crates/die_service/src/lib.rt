@@ -6,12 +6,14 @@
 //! of what each pass has seen ([`promises`]).
 //!
 //! [`run_slots`] runs the dies of a store by workers, each die with a pass and a [`Feed`] of events that come by its clock,
-//! and says what was asked of each in which order, and what came of it. A [`Gate`] is called around each slot.
+//! and says what was asked of each in which order, and what came of it. A [`Gate`] is called around each slot. So does
+//! [`run_batches`], each die for slots of its own that begin where an earlier run ended: a run may be made in parts.
 //!
-//! `look` and `join_pass` don't wait. The other calls of a die, [`close`] and [`run_slots`] may wait for the die's turn, and
-//! nothing is claimed of how long.
+//! `look` and `join_pass` don't wait. The other calls of a die, [`close`], [`run_slots`] and [`run_batches`] may wait for the
+//! die's turn, and nothing is claimed of how long.
 #![tactic(auto)]
 
+pub mod batches;
 pub mod book;
 pub mod closing;
 mod courses;
@@ -28,6 +30,7 @@ pub mod refused;
 pub mod runs;
 pub mod store;
 
+pub use batches::Batch;
 pub use closing::{StillOpen, close};
 pub use die::{Die, DiePass};
 pub use ends::{DieEnd, DieEnds, RefusedEvent, RefusedList};
@@ -35,5 +38,5 @@ pub use feeds::{Arrival, Feed};
 pub use gate::{FreeGate, Gate};
 pub use promised::{planned_feeds_go_as_planned, promises, seen_keeps_promises};
 pub use refused::RefusedAt;
-pub use runs::run_slots;
+pub use runs::{run_batches, run_slots};
 pub use store::Store;

@@ -5,7 +5,7 @@ use Rattle.std.specs.Prelude.{All, pos, ◌≤ℤ◌}
 use Rattle.std.specs.Io.KnownBytes.{Appends}
 use Rattle.std.specs.List.{AllByRecursion}
 use Rattle.std.proofs.lemmas.List.{append-nil}
-use Rattle.std.proofs.lemmas.List.Elements.{All-from_recursion, All-get_or, recursion_from_All}
+use Rattle.std.proofs.lemmas.List.Elements.{All-from_recursion, recursion_from_All}
 use Rattle.slot_types.specs.Arrivals.{IsArrival}
 use Rattle.slot_types.specs.declared.plans.DiePlan.{DiePlan}
 use Rattle.slot_types.specs.declared.plans.Times.{Times}
@@ -35,13 +35,13 @@ use Rattle.slot_types.specs.declared.events.JobHead.{JobHead}
 use Rattle.script_texts.specs.Arrivals.{Arrives}
 use Rattle.script_texts.specs.declared.script_rows.ScriptItem.{ScriptItem}
 use Rattle.report_texts.specs.ReportText.{report_text}
-use Rattle.report_texts.specs.declared.reports.DieReport.{DieReport}
+use Rattle.report_texts.specs.TextSoFar.{TextSoFar}
 use Rattle.task_script.specs.DieReports.{row_by, report_row_of}
 use Rattle.task_script.specs.DieRuns.{Call, Row, Slot, DieRun, Accepts, Ends, IsRun, Runs, end_of, fresh_run}
-use Rattle.task_script.specs.Feeds.{AllArrive, AreFeedsOf, feed_of}
+use Rattle.task_script.specs.Feeds.{AllArrive, feed_of}
 use Rattle.task_script.specs.PlannedRuns.{event_of, events_of, KeepsItsPlan, IsOnTime, AreTakenUntilMemory, GoesAsPlanned, AreAsPlanned}
 use Rattle.task_script.specs.PlannedRuns.{RunsAsPlanned}
-use Rattle.task_script.specs.TextRuns.{AreRuns, HaveRun, RunsText}
+use Rattle.task_script.specs.TextRuns.{AreRuns, RanScript, RunsText}
 use Rattle.task_script.specs.declared.run_counts.RowEnd.{RowEnd}
 use Rattle.task_script.specs.declared.run_counts.RunCount.{RunCount}
 use Rattle.task_script.proofs.EachCall.{IsCallOf, each_call}
@@ -182,18 +182,16 @@ all_as_planned slots feed die (plan ∷ plans) (run ∷ runs) arrive bound h = (
   all_as_planned slots feed (die + 1) plans runs (λ d below. arrive d (omega (arith, below))) bound.1 h.1,
 )
 
--- what is written of a run of dealt rows
-pub runs_as_planned : (text : Option (List ℕ)) (plans : List DiePlan) (slots : ℕ) (feeds : List (List ScriptItem)) (report : List DieReport)
-    (count : RunCount) (old new : Option (List ℕ))
-    → All MeetsBound plans → AreFeedsOf text (length plans) slots feeds → HaveRun slots feeds plans report count
-    → Appends old new (report_text report) → RunsAsPlanned text plans slots count old new
+-- what is written of a run of a script
+pub runs_as_planned : (text : Option (List ℕ)) (plans : List DiePlan) (slots : ℕ) (told : TextSoFar) (count : RunCount)
+    (old new : Option (List ℕ)) → All MeetsBound plans → (r : RanScript text plans slots told count)
+    → Appends old new (report_text r.report) → RunsAsPlanned text plans slots count old new
 unfolding runs_text
-runs_as_planned text plans slots feeds report count old new bound fed h written =
-    let ran : RunsText text plans slots count old new = runs_text text plans slots feeds report count old new fed h written in
+runs_as_planned text plans slots told count old new bound r written =
+    let ran : RunsText text plans slots count old new = runs_text text plans slots told count old new r written in
     record {
       ran = ran;
-      planned = all_as_planned slots (feed_of fed.0) 0 plans h.runs
-          (λ d below. subst (AllArrive slots) (fed.2.rows d (omega (arith, below)))
-          (All-get_or (AllArrive slots) feeds d [] (omega (arith, below, fed.2.all)) fed.2.arrive))
+      planned = all_as_planned slots (feed_of r.items) 0 plans r.ran.runs
+          (λ d below. r.in_time.arrive d (omega (arith, below)))
           (recursion_from_All MeetsBound plans bound) ran.ran;
     }

@@ -1,8 +1,7 @@
 -- How the rows of a script are dealt to their dies.
 use Rattle.std.proofs.Common.{◌≡◌, ℕ, ◌+◌, ◌<◌, ◌==◌, ◌⊎◌, Bool, true, false, cond, List, [], ◌∷◌, ◌++◌, refl, ap, sym, ◌∙◌, subst, length}
 use Rattle.std.proofs.Common.{filter, replicate, get_or, arith, inl, inr, Option, Some, None, Ok, Err}
-use Rattle.std.specs.Prelude.{IfSome, option_map}
-use Rattle.std.proofs.lemmas.Bool.{eq-eqb, eqb-true}
+use Rattle.std.proofs.lemmas.Bool.{eq-eqb, eqb-true, false≢true}
 use Rattle.std.proofs.lemmas.List.{append-nil, length-set, length-replicate, get_or-replicate, get_or-set_same, get_or-set_other}
 use Rattle.std.proofs.lemmas.List.{get_or_default, replicate-append-replicate}
 use Rattle.std.specs.Prelude.{All}
@@ -12,15 +11,14 @@ use Rattle.std.proofs.Math.ListN.{set}
 use Rattle.slot_types.specs.declared.refusals.Refusal.{Refusal}
 use Rattle.script_texts.specs.AskedPages.{RowHasPages, RowsHavePages}
 use Rattle.script_texts.specs.Arrivals.{Arrives, IsRowFor}
-use Rattle.text_base.specs.Readings.{IsOutside}
-use Rattle.script_texts.specs.Script.{Script, Yields, script_of}
+use Rattle.script_texts.specs.Script.{Script, Yields}
 use Rattle.script_texts.specs.declared.script_rows.ScriptItem.{ScriptItem}
-use Rattle.task_script.proofs.ReadSoFar.{read_none, read_more, read_all, read_fault, known_by}
-use Rattle.task_script.specs.Feeds.{AllArrive, feed_of, IsDealt, AreFeedsOf, RefusesScript, IsReadTo, HasDealt}
+use Rattle.task_script.proofs.ReadSoFar.{read_none, read_more, read_all, read_end, read_fault}
+use Rattle.task_script.specs.Feeds.{AllArrive, FailsIn, feed_of, IsDealt, IsReadTo, HasDealt, HasReadRows}
 
 -- Feeds
 
-abbrev is_of : ℕ → ScriptItem → Bool
+abbrev pub is_of : ℕ → ScriptItem → Bool
 is_of die item = item.die == die
 
 feed_one : (item : ScriptItem) (die : ℕ) (b : Bool) → is_of die item ≡ b → filter (is_of die) (item ∷ []) ≡ cond b (item ∷ []) []
@@ -77,14 +75,9 @@ dealt_more dies slots items feeds feeds2 item row paged is d =
 
 -- Both
 
-pub deals_none : (whole left : Option Script) (n dies slots : ℕ) (feeds : List (List ScriptItem)) → left ≡ whole → feeds ≡ replicate n []
-    → n ≡ dies → HasDealt whole left dies slots feeds
-deals_none whole left n dies slots feeds same is all = (
-  [],
-  subst (λ (o : Option Script). IsReadTo whole o []) (sym same) (read_none whole),
-  subst (IsDealt dies slots [])
-      (sym (is ∙ ap (λ m. replicate m []) all)) (dealt_none dies slots),
-)
+pub deals_none : (left : Option Script) (dies slots : ℕ) (feeds : List (List ScriptItem)) → feeds ≡ replicate dies []
+    → HasDealt left left dies slots feeds
+deals_none left dies slots feeds is = ([], read_none left, subst (IsDealt dies slots []) (sym is) (dealt_none dies slots))
 
 pub deals_more : (whole left new : Option Script) (dies slots : ℕ) (feeds feeds2 : List (List ScriptItem)) (item : ScriptItem)
     (old feed : List ScriptItem) → IsRowFor dies slots item → RowHasPages item
@@ -99,20 +92,29 @@ deals_more whole left new dies slots feeds feeds2 item old feed row paged at gro
           ∙ ap (set feeds item.die) (grown ∙ ap (λ (xs : List ScriptItem). xs ++ item ∷ []) same)) h.2,
     )
 
-pub deals_all : (text : Option (List ℕ)) (left new : Option Script) (dies slots : ℕ) (feeds : List (List ScriptItem))
-    → Yields left new (Ok None)
-    → HasDealt (option_map (script_of dies slots) text) left dies slots feeds → AreFeedsOf text dies slots feeds
-deals_all text left new dies slots feeds step h =
-    (h.0, known_by (λ (all : Script). all ≡ Ok h.0) (script_of dies slots) text (read_all _ left new h.0 h.1 step), h.2)
+-- of what was left these rows were read, and nothing is left
+pub deals_all : (old left new : Option Script) (dies slots : ℕ) (feeds : List (List ScriptItem)) → Yields left new (Ok None)
+    → HasDealt old left dies slots feeds → HasReadRows old new dies slots feeds true
+deals_all old left new dies slots feeds step h = record {
+  items = h.0;
+  read = read_end old left new h.0 h.1 step;
+  dealt = h.2;
+  all = λ ended. read_all old left new h.0 h.1 step;
+}
 
-pub deals_fault : (text : Option (List ℕ)) (left new : Option Script) (dies slots : ℕ) (feeds : List (List ScriptItem)) (e : Refusal)
-    → Yields left new (Err e)
-    → HasDealt (option_map (script_of dies slots) text) left dies slots feeds → RefusesScript text dies slots e
-deals_fault text left new dies slots feeds e step h = known (read_fault _ left new h.0 e h.1 step)
-  where
-    known : IsOutside e ⊎ IfSome (option_map (script_of dies slots) text) (λ all. all ≡ Err e) → RefusesScript text dies slots e
-    known (inl out) = inl out
-    known (inr is) = inr (known_by (λ (all : Script). all ≡ Err e) (script_of dies slots) text is)
+-- or something may be
+pub deals_some : (old left : Option Script) (dies slots : ℕ) (feeds : List (List ScriptItem)) → HasDealt old left dies slots feeds
+    → HasReadRows old left dies slots feeds false
+deals_some old left dies slots feeds h = record {
+  items = h.0;
+  read = h.1;
+  dealt = h.2;
+  all = λ ended. absurd (false≢true ended);
+}
+
+pub deals_fault : (old left new : Option Script) (dies slots : ℕ) (feeds : List (List ScriptItem)) (e : Refusal) → Yields left new (Err e)
+    → HasDealt old left dies slots feeds → FailsIn old e
+deals_fault old left new dies slots feeds e step h = read_fault old left new h.0 e h.1 step
 
 pub no_more : (n : ℕ) (feeds : List (List ScriptItem)) → feeds ≡ replicate n [] → feeds ++ [] ∷ [] ≡ replicate (n + 1) []
 no_more n feeds is = ap (λ (xs : List (List ScriptItem)). xs ++ [] ∷ []) is ∙ replicate-append-replicate n 1 []

@@ -1,5 +1,5 @@
 -- A run whose report wasn't written, or not whole.
-use Rattle.std.proofs.Common.{◌≡◌, ◌⊎◌, ℕ, List, [], length, Option, Some, refl, inl, inr}
+use Rattle.std.proofs.Common.{◌≡◌, ◌⊎◌, ℕ, List, [], Option, Some, refl, inl, inr}
 use Rattle.std.specs.Prelude.{All}
 use Rattle.slot_types.specs.declared.plans.DiePlan.{DiePlan}
 use Rattle.slot_types.specs.declared.refusals.Refusal.{Refusal}
@@ -7,29 +7,23 @@ use Rattle.slot_types.specs.declared.refusals.Refusal.TheVariants.{NoMemory, Wri
 use Rattle.plan_rules.specs.Bound.{MeetsBound}
 use Rattle.report_texts.specs.ReportText.{report_text}
 use Rattle.text_base.specs.Writing.{AppendsPart, IsNotWhole}
-use Rattle.script_texts.specs.declared.script_rows.ScriptItem.{ScriptItem}
-use Rattle.report_texts.specs.declared.reports.DieReport.{DieReport}
-use Rattle.task_script.specs.Feeds.{AreFeedsOf}
+use Rattle.report_texts.specs.TextSoFar.{TextSoFar}
 use Rattle.task_script.specs.PlannedRuns.{RunsSo}
-use Rattle.task_script.specs.TextRuns.{HaveRun}
+use Rattle.task_script.specs.TextRuns.{RanScript}
 use Rattle.task_script.specs.declared.run_counts.RunCount.{RunCount}
 use Rattle.task_script.proofs.AsPlanned.{runs_as_planned}
 
 -- where the writer failed, a front of the report of this run was written, and not the whole
 pub runs_in_part : {W : Type 0} (contents : W → Option (List ℕ)) (text : Option (List ℕ)) (plans : List DiePlan) (slots : ℕ)
-    (feeds : List (List ScriptItem)) (report : List DieReport) (count : RunCount) (old new : W) (refusal : Refusal)
-    → All MeetsBound plans → AreFeedsOf text (length plans) slots feeds → HaveRun slots feeds plans report count
-    → (refusal ≡ NoMemory → new ≡ old) → (refusal ≡ WriteFault → AppendsPart (contents old) (contents new) (report_text report))
+    (told : TextSoFar) (count : RunCount) (old new : W) (refusal : Refusal)
+    → All MeetsBound plans → (r : RanScript text plans slots told count)
+    → (refusal ≡ NoMemory → new ≡ old) → (refusal ≡ WriteFault → AppendsPart (contents old) (contents new) (report_text r.report))
     → (refusal ≡ NoMemory) ⊎ (refusal ≡ WriteFault)
     → IsNotWhole contents (RunsSo text plans slots) old new
-runs_in_part contents text plans slots feeds report count old new refusal bound fed h memory part (inl is) = inl (memory is)
-runs_in_part contents text plans slots feeds report count old new refusal bound fed h memory part (inr is) =
+runs_in_part contents text plans slots told count old new refusal bound r memory part (inl is) = inl (memory is)
+runs_in_part contents text plans slots told count old new refusal bound r memory part (inr is) =
     inr (
-      report_text report,
-      (
-        count,
-        runs_as_planned text plans slots feeds report count (Some []) (Some (report_text report)) bound fed h
-            refl,
-      ),
+      report_text r.report,
+      (count, runs_as_planned text plans slots told count (Some []) (Some (report_text r.report)) bound r refl),
       part is,
     )

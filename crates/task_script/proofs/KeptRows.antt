@@ -1,10 +1,12 @@
 -- The rows of a die as they are kept: what they bring and their lines, apart.
-use Rattle.std.proofs.Common.{◌≡◌, ℕ, List, [], ◌∷◌, ◌++◌, refl, ap, sym, ◌∙◌, length, arith}
+use Rattle.std.proofs.Common.{◌≡◌, ℕ, List, [], ◌∷◌, ◌++◌, refl, ap, sym, ◌∙◌, length, length-append, max, arith}
 use Rattle.std.specs.Prelude.{All}
 use Rattle.std.specs.List.{AllByRecursion}
 use Rattle.std.proofs.lemmas.List.Elements.{recursion_from_All}
 use Rattle.die_service.specs.declared.feeds.Arrival.{Arrival}
 use Rattle.script_texts.specs.declared.script_rows.ScriptItem.{ScriptItem}
+use Rattle.task_script.proofs.BatchCalls.{latest_more}
+use Rattle.task_script.specs.Batches.{latest}
 use Rattle.task_script.specs.RowEnds.{arrival_of, arrivals_of, lines_of, rows_of}
 
 pub arrivals_back : (die : ℕ) (lines : List ℕ) (feed : List Arrival) → length lines ≡ length feed → feed
@@ -50,3 +52,22 @@ rows_more old item lines lines2 feed feed2 same lines_are feed_is own =
     ∙ one_more item lines feed same
     ∙ ap (λ (l : List ScriptItem). l ++ item ∷ []) (same_die old item.die lines feed
     (recursion_from_All (λ (row : ScriptItem). row.die ≡ item.die) (rows_of old lines feed) own))
+
+-- there is a line for each, and the last one is known
+pub rows_kept : (old : ℕ) (item : ScriptItem) (lines lines2 : List ℕ) (feed feed2 : List Arrival) (last last2 : ℕ)
+    → length lines ≡ length feed → lines2 ≡ lines ++ item.line ∷ [] → feed2 ≡ feed ++ arrival_of item ∷ []
+    → All (λ (row : ScriptItem). row.die ≡ item.die) (rows_of old lines feed) → last ≡ latest (rows_of old lines feed)
+    → last2 ≡ max last item.at → (length lines2 ≡ length feed2) × (last2 ≡ latest (rows_of item.die lines2 feed2))
+rows_kept old item lines lines2 feed feed2 last last2 same lines_are feed_is own last_is last2_is =
+    let rows = ap latest (rows_more old item lines lines2 feed feed2 same lines_are feed_is own)
+    ∙ latest_more (rows_of old lines feed) (item ∷ []) in (
+      omega (
+        arith,
+        ap length lines_are,
+        ap length feed_is,
+        same,
+        length-append lines (item.line ∷ []),
+        length-append feed (arrival_of item ∷ []),
+      ),
+      omega (arith, rows, last_is, last2_is),
+    )

@@ -6,7 +6,11 @@ pub mod Dealing
 pub mod Gathering
 pub mod Transcripts
 pub mod FeedRuns
-pub mod ClosedRuns
+pub mod BatchCalls
+pub mod Counting
+pub mod BatchRuns
+pub mod Batching
+pub mod Results
 pub mod Storing
 pub mod ExactPages
 pub mod ExactNumbers

@@ -33,12 +33,45 @@ read_all (Some all) None new items so_far step = absurd so_far
 read_all (Some all) (Some more) new items so_far step = so_far
     ∙ (ap (with_items items) step.0 ∙ ap (λ (xs : List ScriptItem). Ok xs) (append-nil items))
 
+-- nothing is left then
+pub read_end : (whole left new : Option Script) (items : List ScriptItem) → IsReadTo whole left items → Yields left new (Ok None)
+    → IsReadTo whole new items
+read_end None left new items so_far step = tt
+read_end (Some all) None new items so_far step = absurd so_far
+read_end (Some all) (Some more) new items so_far step = subst (λ (o : Option Script). IsReadTo (Some all) o items) (sym step.1)
+    (so_far ∙ ap (with_items items) step.0)
+
 pub read_fault : (whole left new : Option Script) (items : List ScriptItem) (e : Refusal) → IsReadTo whole left items
     → Yields left new (Err e) → IsOutside e ⊎ IfSome whole (λ all. all ≡ Err e)
 read_fault None left new items e so_far step = inr tt
 read_fault (Some all) None new items e so_far step = absurd so_far
 read_fault (Some all) (Some more) new items e so_far (inl out) = inl out
 read_fault (Some all) (Some more) new items e so_far (inr is) = inr (so_far ∙ ap (with_items items) is)
+
+-- What was read of what was left
+
+items_join : (xs ys : List ScriptItem) (s : Script) → with_items xs (with_items ys s) ≡ with_items (xs ++ ys) s
+items_join xs ys (Ok more) = ap (λ (l : List ScriptItem). Ok l) (sym (append_assoc xs ys more))
+items_join xs ys (Err e) = refl
+
+pub read_on : (whole left new : Option Script) (xs ys : List ScriptItem) → IsReadTo whole left xs → IsReadTo left new ys
+    → IsReadTo whole new (xs ++ ys)
+read_on None left new xs ys first second = tt
+read_on (Some all) None new xs ys first second = absurd first
+read_on (Some all) (Some rest) None xs ys first second = absurd second
+read_on (Some all) (Some rest) (Some more) xs ys first second = first ∙ (ap (with_items xs) second ∙ items_join xs ys more)
+
+pub read_to_end : (whole left : Option Script) (xs ys : List ScriptItem) → IsReadTo whole left xs → IfSome left (λ rest. rest ≡ Ok ys)
+    → IfSome whole (λ all. all ≡ Ok (xs ++ ys))
+read_to_end None left xs ys first last = tt
+read_to_end (Some all) None xs ys first last = absurd first
+read_to_end (Some all) (Some rest) xs ys first last = first ∙ ap (with_items xs) last
+
+pub fault_on : (whole left : Option Script) (xs : List ScriptItem) (e : Refusal) → IsReadTo whole left xs
+    → IfSome left (λ rest. rest ≡ Err e) → IfSome whole (λ all. all ≡ Err e)
+fault_on None left xs e first last = tt
+fault_on (Some all) None xs e first last = absurd first
+fault_on (Some all) (Some rest) xs e first last = first ∙ ap (with_items xs) last
 
 pub known_by : {A B : Type 0} (P : B → Type 0) (f : A → B) (o : Option A) → IfSome (option_map f o) P → IfSome o (λ a. P (f a))
 known_by P f None h = tt

@@ -1,5 +1,7 @@
 -- The rows of a script, by die.
-use Rattle.std.specs.Prelude.{◌≡◌, ◌==◌, ◌⊎◌, ⊤, ℕ, ◌<◌, List, [], ◌++◌, All, filter, length, get_or, Option, Some, None, IfSome, Ok, Err}
+use Rattle.std.specs.Prelude.{◌≡◌, ◌==◌, ◌⊎◌, ⊤, ℕ, ◌<◌, Bool, true, List, [], ◌++◌, All, filter, length}
+use Rattle.std.specs.Prelude.{get_or, Option, Some, None, IfSome}
+use Rattle.std.specs.Prelude.{Ok, Err}
 use Rattle.slot_types.specs.declared.refusals.Refusal.{Refusal}
 use Rattle.script_texts.specs.Arrivals.{Arrives}
 use Rattle.script_texts.specs.AskedPages.{RowsHavePages}
@@ -26,10 +28,6 @@ pub record IsDealt (dies slots : ℕ) (items : List ScriptItem) (feeds : List (L
 abbrev pub AreItemsOf : Option (List ℕ) → ℕ → ℕ → List ScriptItem → Type 0
 AreItemsOf text dies slots items = IfSome text (λ bytes. script_of dies slots bytes ≡ Ok items)
 
--- the items of the script, by die
-abbrev pub AreFeedsOf : Option (List ℕ) → ℕ → ℕ → List (List ScriptItem) → Type 0
-AreFeedsOf text dies slots feeds = (items : List ScriptItem) × AreItemsOf text dies slots items × IsDealt dies slots items feeds
-
 -- memory ran out, or the reader failed; or the script has this fault
 abbrev pub RefusesScript : Option (List ℕ) → ℕ → ℕ → Refusal → Type 0
 RefusesScript text dies slots refusal = IsOutside refusal ⊎ IfSome text (λ bytes. script_of dies slots bytes ≡ Err refusal)
@@ -50,3 +48,19 @@ IsReadTo (Some all) (Some more) items = all ≡ with_items items more
 -- so far these feeds were dealt
 abbrev pub HasDealt : Option Script → Option Script → ℕ → ℕ → List (List ScriptItem) → Type 0
 HasDealt whole left dies slots feeds = (items : List ScriptItem) × IsReadTo whole left items × IsDealt dies slots items feeds
+
+-- of what was left these rows were read, by die, and they are all of it or not
+pub record HasReadRows (old new : Option Script) (dies slots : ℕ) (rows : List (List ScriptItem)) (ended : Bool) : Type 0 where
+  pub items : List ScriptItem
+  pub read : IsReadTo old new items
+  pub dealt : IsDealt dies slots items rows
+  pub all : ended ≡ true → IfSome old (λ left. left ≡ Ok items)
+
+-- memory ran out, or the reader failed; or what was left has this fault
+abbrev pub FailsIn : Option Script → Refusal → Type 0
+FailsIn old refusal = IsOutside refusal ⊎ IfSome old (λ left. left ≡ Err refusal)
+
+-- the rows of each of so many dies arrive by the end of so many slots, and what they write are pages
+pub record AreInTime (dies slots : ℕ) (items : List ScriptItem) : Type 0 where
+  pub arrive : (die : ℕ) → die < dies → AllArrive slots (feed_of items die)
+  pub pages : (die : ℕ) → die < dies → RowsHavePages (feed_of items die)

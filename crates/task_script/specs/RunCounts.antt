@@ -32,6 +32,20 @@ first_refused ends = first_behind None ends
 abbrev pub count_of : List RowEnd → RunCount
 count_of ends = record { accepted = count_by was_accepted ends; refused = count_by was_refused ends; first = first_refused ends }
 
+-- the first refused row, of those of some rows and of other rows behind them
+abbrev pub joined_first : Option (ℕ × ℕ) → Option (ℕ × ℕ) → Option (ℕ × ℕ)
+joined_first first None = first
+joined_first None (Some second) = Some second
+joined_first (Some first) (Some second) = if nat_lt second.0 first.0 then Some second else Some first
+
+-- the rows of two counts, those of the second behind those of the first
+abbrev pub joined : RunCount → RunCount → RunCount
+joined count more = record {
+  accepted = count.accepted + more.accepted;
+  refused = count.refused + more.refused;
+  first = joined_first count.first more.first;
+}
+
 -- Row by row
 
 -- one row more is counted

@@ -1,5 +1,5 @@
 -- What comes of a script on the dies of a store.
-use Rattle.std.specs.Prelude.{◌≡◌, ◌==◌, ◌⊎◌, ⊤, ℕ, ◌<◌, ◌+◌, if◌then◌else◌, List, [], ◌∷◌, flat_map, length, get_or, Option}
+use Rattle.std.specs.Prelude.{◌≡◌, ◌==◌, ◌⊎◌, ⊤, ℕ, ◌<◌, ◌+◌, if◌then◌else◌, List, [], ◌∷◌, flat_map, length, Option}
 use Rattle.std.specs.Io.KnownBytes.{Appends}
 use Rattle.slot_types.specs.declared.plans.DiePlan.{DiePlan}
 use Rattle.slot_types.specs.declared.refusals.Refusal.{Refusal}
@@ -11,7 +11,7 @@ use Rattle.script_texts.specs.declared.script_rows.ScriptItem.{ScriptItem}
 use Rattle.report_texts.specs.declared.reports.DieReport.{DieReport}
 use Rattle.task_script.specs.DieReports.{die_report_of}
 use Rattle.task_script.specs.DieRuns.{DieRun, IsRun}
-use Rattle.task_script.specs.Feeds.{AreItemsOf, RefusesScript, feed_of}
+use Rattle.task_script.specs.Feeds.{AreInTime, AreItemsOf, RefusesScript, feed_of}
 use Rattle.task_script.specs.RunCounts.{count_of}
 use Rattle.task_script.specs.declared.run_counts.RowEnd.{RowEnd}
 use Rattle.task_script.specs.declared.run_counts.RunCount.{RunCount}
@@ -54,20 +54,19 @@ RefusesText text dies slots refusal = RefusesScript text dies slots refusal ⊎ 
 
 -- While the dies run
 
-abbrev pub feed_at : List (List ScriptItem) → ℕ → List ScriptItem
-feed_at feeds die = get_or feeds die []
-
 -- these dies ran, these are their reports, and so many of their rows were accepted and refused
-pub record HaveRun (slots : ℕ) (feeds : List (List ScriptItem)) (plans : List DiePlan) (report : List DieReport) (count : RunCount) : Type 0
+pub record HaveRun (slots : ℕ) (feed : ℕ → List ScriptItem) (plans : List DiePlan) (report : List DieReport) (count : RunCount) : Type 0
   where
     pub runs : List DieRun
-    pub ran : AreRuns slots (feed_at feeds) 0 plans runs
+    pub ran : AreRuns slots feed 0 plans runs
     pub reported : report ≡ reports_from 0 plans runs
     pub counted : count ≡ count_of (ends_of runs)
 
--- so they did, and this is the text of their reports
-pub record HaveTold (slots : ℕ) (feeds : List (List ScriptItem)) (plans : List DiePlan) (text : TextSoFar) (count : RunCount) : Type 0
-  where
-    pub report : List DieReport
-    pub ran : HaveRun slots feeds plans report count
-    pub told : text ≡ text_so_far report
+-- each die of the store ran all its slots with its rows of the script, and this is the text of the dies' reports
+pub record RanScript (text : Option (List ℕ)) (plans : List DiePlan) (slots : ℕ) (told : TextSoFar) (count : RunCount) : Type 0 where
+  pub items : List ScriptItem
+  pub script : AreItemsOf text (length plans) slots items
+  pub in_time : AreInTime (length plans) slots items
+  pub report : List DieReport
+  pub ran : HaveRun slots (feed_of items) plans report count
+  pub told_is : told ≡ text_so_far report

@@ -1,57 +1,89 @@
 //! The rows of a script, by die.
 
-ghost use Rattle.std.specs.Prelude.{◌≡◌, [], length, replicate, IfOk, IfErr};
+ghost use Rattle.std.specs.Prelude.{◌≡◌, ℕ, Option, [], length, replicate, IfOk, IfErr};
 ghost use Rattle.slot_types.specs.Refusal.{FailsForMemory};
-ghost use Rattle.task_script.specs.Feeds.{AreFeedsOf, RefusesScript};
+ghost use Rattle.script_texts.specs.Left.{dies_of, script_left, slots_of};
+ghost use Rattle.task_script.specs.Feeds.{FailsIn, HasReadRows};
 
 use crate::rows::DieRows;
 use script_texts::ScriptReader;
-use slot_types::{OpList, Refusal, StorePlan};
+use slot_types::{OpList, Refusal};
 use std::alloc::Global;
 use std::io::Read;
 
+/// How many rows are read before they are run, at most. No contract depends on it.
+const BATCH_ROWS: u32 = 16_384;
+
+/// Behind how many operations no further row is read before these are run. No contract depends on it.
+const BATCH_OPS: usize = 65_536;
+
+/// The rows that were read from a script, by die.
+#[derive(Drop)]
+pub struct ReadRows {
+    pub dies: Vec<DieRows>,
+    /// Whether the script has no further row.
+    pub ended: bool,
+}
+
 /// By die no row.
-fn no_feeds(alloc: Global, dies: usize) -> Result<Vec<DieRows>, Refusal>
-    ensures ok { IfOk result (λ feeds. feeds.items ≡ replicate dies []) }
+fn no_rows(alloc: Global, dies: usize) -> Result<Vec<DieRows>, Refusal>
+    ensures ok { IfOk result (λ rows. rows.items ≡ replicate dies []) }
     ensures refused { FailsForMemory result }
 {
-    let mut feeds = Vec::new(alloc);
+    let mut rows = Vec::new(alloc);
     for _ in 0..dies {
-        match feeds.push(DieRows::new(alloc)) {
+        match rows.push(DieRows::new(alloc)) {
             Ok(()) => {}
             Err(_) => return Err(Refusal::NoMemory),
         }
     }
-    Ok(feeds)
+    Ok(rows)
 }
 
-/// By die its rows of a script.
-pub fn read_feeds<R: Read + Drop>(
+/// By die the next rows of a script for so many dies, as many as are run at a time, or all that are left. Their operations
+/// are read into the list of the caller's.
+pub fn read_rows<R: Read>(
     alloc: Global,
-    reader: R,
-    plan: &StorePlan,
-    slots: u32,
-) -> Result<Vec<DieRows>, Refusal>
-    ensures feeds { IfOk result (λ feeds. AreFeedsOf (R.remaining reader) (length plan.now) slots feeds.items) }
-    ensures refused { IfErr result (RefusesScript (R.remaining reader) (length plan.now) slots) }
+    script: &mut ScriptReader<R>,
+    ops: &mut OpList,
+    dies: usize,
+) -> Result<ReadRows, Refusal>
+    requires dies { dies_of script.old ≡ dies }
+    ensures rows { IfOk result (λ rows. HasReadRows (script_left R.remaining script.old) (script_left R.remaining script.new) dies
+        (slots_of script.old) rows.dies.items rows.ended) }
+    ensures refused { IfErr result (FailsIn (script_left R.remaining script.old)) }
+    ensures dies { dies_of script.new ≡ dies_of script.old }
+    ensures slots { slots_of script.new ≡ slots_of script.old }
 {
-    let mut feeds = no_feeds(alloc, plan.len())?;
-    let mut script = ScriptReader::new(alloc, reader, plan, slots)?;
-    // The operations of all rows are read into this one list.
-    let mut ops = OpList::new(alloc);
-    for _ in 0..u64::MAX {
-        match script.next_into(&mut ops) {
+    let mut rows = no_rows(alloc, dies)?;
+    let mut left = BATCH_OPS;
+    for _ in 0..BATCH_ROWS {
+        match script.next_into(ops) {
             Ok(Some(head)) => {
                 let die = head.die as usize;
-                match feeds[die].add(&head, ops.as_slice()) {
+                match rows[die].add(&head, ops.as_slice()) {
                     Ok(()) => {}
                     Err(refusal) => return Err(refusal),
                 }
             }
-            Ok(None) => return Ok(feeds),
+            Ok(None) => {
+                return Ok(ReadRows {
+                    dies: rows,
+                    ended: true,
+                });
+            }
             Err(refusal) => return Err(refusal),
         }
+        if ops.len() >= left {
+            return Ok(ReadRows {
+                dies: rows,
+                ended: false,
+            });
+        }
+        left -= ops.len();
     }
-    // No script has so many rows.
-    Err(Refusal::ReadFault)
+    Ok(ReadRows {
+        dies: rows,
+        ended: false,
+    })
 }

@@ -2,12 +2,13 @@
 //! `report_texts`.
 #![tactic(auto)]
 
+mod batches;
 mod die_reports;
-mod die_runs;
 mod feeds;
 mod laws;
 mod rows;
 mod run_counts;
+mod stores;
 mod text_runs;
 
 pub use laws::{exact_reports_come_back, planned_runs_go_as_planned, run_reports_come_back};

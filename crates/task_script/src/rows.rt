@@ -2,6 +2,7 @@
 
 ghost use Rattle.std.specs.Prelude.{◌≡◌, ◌∷◌, ◌++◌, [], All, OnOk};
 ghost use Rattle.slot_types.specs.Refusal.{FailsForMemory};
+ghost use Rattle.task_script.specs.Batches.{latest};
 ghost use Rattle.task_script.specs.RowEnds.{arrivals_of, lines_of};
 ghost use Rattle.script_texts.specs.Heads.{row_of};
 
@@ -21,18 +22,21 @@ pub struct DieRows {
     lines: Vec<u32>,
     // The die of the row that came last, which is that of all.
     die: u32,
+    // The greatest slot by which a row comes.
+    latest: u32,
 }
 
 impl Model for DieRows {
     ghost use Rattle.std.specs.Prelude.{◌≡◌, List, length};
     ghost use Rattle.script_texts.specs.declared.script_rows.ScriptItem.{ScriptItem};
+    ghost use Rattle.task_script.specs.Batches as batches;
     ghost use Rattle.task_script.specs.RowEnds.{rows_of};
 
     ghost Value = { List ScriptItem };
 
     ghost view = { λ r. rows_of r.die r.lines.items r.feed };
 
-    ghost invariant = { λ r. length r.lines.items ≡ length r.feed };
+    ghost invariant = { λ r. (length r.lines.items ≡ length r.feed) × (r.latest ≡ batches.latest (rows_of r.die r.lines.items r.feed)) };
 }
 
 impl DieRows {
@@ -44,6 +48,7 @@ impl DieRows {
             feed: Feed::new(alloc),
             lines: Vec::new(alloc),
             die: 0,
+            latest: 0,
         }
     }
 
@@ -58,7 +63,15 @@ impl DieRows {
         self.feed.push(head.at, head.job, ops)?;
         self.lines.push_reserved(head.line);
         self.die = head.die;
+        self.latest = self.latest.max(head.at);
         Ok(())
+    }
+
+    /// The greatest slot by which a row comes, 0 where there is none.
+    pub fn latest(&self) -> u32
+        ensures { result ≡ latest self.now }
+    {
+        self.latest
     }
 
     /// The rows as their feed and the lines of their records.

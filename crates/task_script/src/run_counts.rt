@@ -2,7 +2,7 @@
 
 ghost use Rattle.std.specs.Prelude.{◌≡◌, ◌+◌, [], IfOk, OnOk};
 ghost use Rattle.slot_types.specs.Refusal.{FailsForMemory};
-ghost use Rattle.task_script.specs.RunCounts.{count_of, counted_with, first_by};
+ghost use Rattle.task_script.specs.RunCounts.{count_of, counted_with, first_by, joined, joined_first};
 
 use slot_types::Refusal;
 
@@ -37,12 +37,23 @@ fn first_by(end: &RowEnd, first: Option<(u32, u8)>) -> Option<(u32, u8)>
     }
 }
 
-/// A count with one row more, or none where there are more than can be counted.
-fn one_more(count: u64) -> Result<u64, Refusal>
-    ensures ok { IfOk result (λ more. more ≡ count + 1) }
+/// The first refused row, of two that were so of different rows, the former of which come first.
+fn joined_first(first: Option<(u32, u8)>, second: Option<(u32, u8)>) -> Option<(u32, u8)>
+    ensures { result ≡ joined_first first second }
+{
+    match (first, second) {
+        (Some((line, _)), Some((later, _))) if later < line => second,
+        (Some(_), _) => first,
+        (None, _) => second,
+    }
+}
+
+/// A count with more rows, or none where there are more than can be counted.
+fn sum(count: u64, more: u64) -> Result<u64, Refusal>
+    ensures ok { IfOk result (λ all. all ≡ count + more) }
     ensures refused { FailsForMemory result }
 {
-    count.checked_add(1).ok_or(Refusal::NoMemory)
+    count.checked_add(more).ok_or(Refusal::NoMemory)
 }
 
 impl RunCount {
@@ -63,10 +74,21 @@ impl RunCount {
         ensures refused { FailsForMemory result }
     {
         match end.refusal {
-            None => self.accepted = one_more(self.accepted)?,
-            Some(_) => self.refused = one_more(self.refused)?,
+            None => self.accepted = sum(self.accepted, 1)?,
+            Some(_) => self.refused = sum(self.refused, 1)?,
         }
         self.first = first_by(&end, self.first);
+        Ok(())
+    }
+
+    /// Counts the rows of another count behind these. `NoMemory` only where there are more rows than 64 bits count.
+    pub(crate) fn add_all(&mut self, more: &RunCount) -> Result<(), Refusal>
+        ensures ok { OnOk result (self.new ≡ joined self.old more.now) }
+        ensures refused { FailsForMemory result }
+    {
+        self.accepted = sum(self.accepted, more.accepted)?;
+        self.refused = sum(self.refused, more.refused)?;
+        self.first = joined_first(self.first, more.first);
         Ok(())
     }
 }

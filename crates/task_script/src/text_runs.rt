@@ -1,28 +1,28 @@
 //! Scripts that are run on the dies of a store.
 
-ghost use Rattle.std.specs.Prelude.{◌≡◌, ◌≤◌, None, All, length, map, IfOk, IfErr, IfSome, OnErr, OnOk};
+ghost use Rattle.std.specs.Prelude.{◌≡◌, ◌≤◌, ℕ, None, All, length, map, true, IfOk, IfErr, OnErr, OnOk};
 ghost use Rattle.slot_types.specs.Refusal.{FailsForMemory};
 ghost use Rattle.plan_rules.specs.Bound.{MeetsBound};
 ghost use Rattle.report_texts.specs.TextSoFar.{die_added, text_so_far};
+ghost use Rattle.task_script.specs.Batches.{Closes, joined_counts};
 ghost use Rattle.task_script.specs.DieReports.{die_report_of};
-ghost use Rattle.task_script.specs.Feeds.{AllArrive};
 ghost use Rattle.task_script.specs.PlannedRuns.{RunsAsPlanned, RunsSo};
-ghost use Rattle.task_script.specs.RowEnds.{ends_from, taken_at};
-ghost use Rattle.task_script.specs.RunCounts.{count_of, counted_behind};
-ghost use Rattle.task_script.specs.StoreRuns.{all_ends, reports_of};
-ghost use Rattle.task_script.specs.TextRuns.{HaveTold, RefusesText, RunsText};
+ghost use Rattle.task_script.specs.StoreRuns.{reports_of};
+ghost use Rattle.task_script.specs.TextRuns.{RanScript, RefusesText, RunsText};
+ghost use Rattle.task_script.specs.Feeds.{RefusesScript};
 ghost use Rattle.text_base.specs.Writing.{IsNotWhole};
 
+use crate::batches::{Progress, no_progress, run_rows};
 use crate::die_reports::add_die;
-use crate::die_runs::{run_store, split_all};
-use crate::feeds::read_feeds;
-use crate::rows::{DieRows, Lines};
-use crate::run_counts::{RowEnd, RunCount};
-use die_service::{DieEnd, RefusedEvent};
+use crate::feeds::read_rows;
+use crate::run_counts::RunCount;
+use crate::stores::new_store;
+use die_service::{DiePass, Store, close};
 use flash_die::MemoryNand;
 use report_texts::ReportText;
+use script_texts::ScriptReader;
 use slot_core::DieCore;
-use slot_types::{DiePlan, MAX_SLOT, Refusal, StorePlan};
+use slot_types::{MAX_SLOT, OpList, Refusal, StorePlan};
 use std::alloc::Global;
 use std::io::{Read, Write};
 use std::sync::Wait;
@@ -33,47 +33,6 @@ use std::thread::Threads;
 struct RanStore {
     text: ReportText,
     count: RunCount,
-}
-
-/// Why the event of a place was refused, if it was, and the refused events behind it.
-fn take_refused(refused: &[RefusedEvent], place: usize) -> (Option<Refusal>, &[RefusedEvent])
-    ensures refusal { result.0 ≡ (taken_at place refused.now).0 }
-    ensures rest { result.1.now ≡ (taken_at place refused.now).1 }
-{
-    match refused.split_first() {
-        Some((first, rest)) if first.place == place => (Some(first.refused.refusal), rest),
-        _ => (None, refused),
-    }
-}
-
-/// Counts the rows with these lines, by the events that were refused.
-fn add_rows(lines: &[u32], refused: &[RefusedEvent], count: &mut RunCount) -> Result<(), Refusal>
-    ensures ok { OnOk result (count.new ≡ counted_behind count.old (ends_from 0 lines.now refused.now)) }
-    ensures refused { FailsForMemory result }
-{
-    let mut rest = refused;
-    for place in 0..lines.len() {
-        let (refusal, later) = take_refused(rest, place);
-        let line = lines[place];
-        count.add(RowEnd { line, refusal })?;
-        rest = later;
-    }
-    Ok(())
-}
-
-/// Whether each die carried out all its slots. The only refusal is NoMemory.
-fn none_stopped(ends: &[DieEnd]) -> Result<(), Refusal>
-    requires memory { All (λ end. IfSome end.stop (λ stop. stop.refusal ≡ Refusal.NoMemory)) ends.now }
-    ensures ok { OnOk result (All (λ end. end.stop ≡ None) ends.now) }
-    ensures refused { FailsForMemory result }
-{
-    for end in ends {
-        match end.stop {
-            Some(stop) => return Err(stop.refusal),
-            None => {}
-        }
-    }
-    Ok(())
 }
 
 /// Adds the report of a die, which is given up.
@@ -93,15 +52,13 @@ fn add_last(
 /// refusal is NoMemory.
 fn gather(
     alloc: Global,
-    lines: &[Lines],
-    ends: &[DieEnd],
+    progress: &[Progress],
     dies: Vec<DieCore<MemoryNand>>,
 ) -> Result<RanStore, Refusal>
     requires few { length dies.items ≤ 8 }
-    requires lines { length lines.now ≡ length dies.items }
-    requires ends { length ends.now ≡ length dies.items }
+    requires progress { length progress.now ≡ length dies.items }
     ensures text { IfOk result (λ ran. ran.text ≡ text_so_far (reports_of 0 dies.items)) }
-    ensures count { IfOk result (λ ran. ran.count ≡ count_of (all_ends lines.now ends.now)) }
+    ensures count { IfOk result (λ ran. ran.count ≡ joined_counts progress.now) }
     ensures refused { FailsForMemory result }
 {
     let mut ran = RanStore {
@@ -109,38 +66,90 @@ fn gather(
         count: RunCount::none(),
     };
     let mut number = 0;
+    let mut progress = progress;
     for die in dies {
-        let refused = ends[number].refused.as_slice();
-        add_rows(lines[number].as_slice(), refused, &mut ran.count)?;
-        add_last(alloc, &mut ran.text, number as u32, die)?;
+        let Some((at, later)) = progress.split_first() else {
+            unreachable!()
+        };
+        ran.count.add_all(&at.count)?;
+        add_last(alloc, &mut ran.text, number, die)?;
         number += 1;
+        progress = later;
     }
     Ok(ran)
 }
 
-/// Runs the dies with their rows. The only refusal is NoMemory.
-fn run_dies<R: Threads + Wait + Sync>(
+/// Closes a store whose dies have carried out their slots. The only refusal is NoMemory.
+fn finish<R: Wait>(
     rt: &R,
     alloc: Global,
-    plans: &[DiePlan],
-    rows: Vec<DieRows>,
+    store: Store<MemoryNand>,
+    passes: Vec<DiePass<MemoryNand>>,
+    progress: &[Progress],
+) -> Result<RanStore, Refusal>
+    requires own { map (λ pass. pass.lock) passes.items ≡ store }
+    requires few { length passes.items ≤ 8 }
+    requires progress { length progress.now ≡ length passes.items }
+    requires sole { All (λ pass. pass.view.sole ≡ true) passes.items }
+    ensures closed { IfOk result (λ ran. Closes passes.items progress.now ran.text ran.count) }
+    ensures refused { FailsForMemory result }
+{
+    match close(rt, store, passes) {
+        Ok(dies) => gather(alloc, progress, dies),
+        Err(kept) => Err(kept.refusal),
+    }
+}
+
+/// Runs a script on fresh dies in memory, whose rows are read and run by turns, so that no more of the script is kept than
+/// one batch of rows.
+fn run_script<R: Threads + Wait + Sync, S: Read + Drop>(
+    rt: &R,
+    alloc: Global,
+    plan: &StorePlan,
+    script: S,
     slots: u32,
     workers: u32,
 ) -> Result<RanStore, Refusal>
-    requires some { 1 ≤ length plans.now }
-    requires few { length plans.now ≤ 8 }
-    requires bound { All MeetsBound plans.now }
-    requires rows { length rows.items ≡ length plans.now }
-    requires arrive { All (AllArrive slots) rows.items }
-    requires slots { slots ≤ MAX_SLOT }
+    requires some { 1 ≤ length plan.now }
+    requires dies { length plan.now ≤ 8 }
+    requires bound { All MeetsBound plan.now }
     requires workers { (1 ≤ workers) × (workers ≤ 16) }
-    ensures ran { IfOk result (λ ran. HaveTold slots rows.items plans.now ran.text ran.count) }
-    ensures refused { FailsForMemory result }
+    ensures ran { IfOk result (λ ran. RanScript (S.remaining script) plan.now slots ran.text ran.count) }
+    ensures refused { IfErr result (RefusesScript (S.remaining script) (length plan.now) slots) }
 {
-    let (feeds, lines) = split_all(alloc, rows)?;
-    let (dies, ends) = run_store(rt, alloc, plans, feeds, slots, workers)?;
-    none_stopped(ends.as_slice())?;
-    gather(alloc, &lines, ends.as_slice(), dies)
+    let (store, mut passes) = new_store(alloc, plan.as_slice())?;
+    let mut progress = no_progress(alloc, plan.len())?;
+    let mut reader = ScriptReader::new(alloc, script, plan, slots)?;
+    // The operations of all rows are read into this one list.
+    let mut ops = OpList::new(alloc);
+    for _ in 0..u64::MAX {
+        let rows = read_rows(alloc, &mut reader, &mut ops, plan.len())?;
+        if rows.ended {
+            run_rows(
+                rt,
+                alloc,
+                &store,
+                &mut passes,
+                &mut progress,
+                rows.dies,
+                slots,
+                workers,
+            )?;
+            return finish(rt, alloc, store, passes, &progress);
+        }
+        run_rows(
+            rt,
+            alloc,
+            &store,
+            &mut passes,
+            &mut progress,
+            rows.dies,
+            0,
+            workers,
+        )?;
+    }
+    // No script has so many rows.
+    Err(Refusal::ReadFault)
 }
 
 /// Runs a script on a store of 1 to 8 dies in memory by 1 to 16 workers, and writes the report of what became of it. Each
@@ -153,6 +162,8 @@ fn run_dies<R: Threads + Wait + Sync>(
 ///
 /// So is this: on a die whose rows keep its plan, with times that pass their test, no lateness in the report is above 0,
 /// and no row is refused but for want of memory, or behind one that was.
+///
+/// Rows are read and run by turns, so that the script is never kept whole: what is kept of it are the rows of a batch.
 ///
 /// It ends with the first fault of the script, as [`ScriptReader`](crate::ScriptReader) tells it; with `ReadFault`; or
 /// with `NoMemory`. Nothing is written before the whole script was read and run, and nothing with these. `WriteFault`
@@ -179,8 +190,7 @@ pub fn run_text<R: Threads + Wait + Sync, S: Read + Drop, W: Write>(
     ensures unwritten { IfErr result (λ refusal. (refusal ≡ Refusal.WriteFault → ⊥) → writer.new ≡ writer.old) }
     ensures part { OnErr result (IsNotWhole W.contents (RunsSo (S.remaining script) plan.now slots) writer.old writer.new) }
 {
-    let rows = read_feeds(alloc, script, plan, slots)?;
-    let ran = run_dies(rt, alloc, plan.as_slice(), rows, slots, workers)?;
+    let ran = run_script(rt, alloc, plan, script, slots, workers)?;
     match ran.text.write(writer) {
         Ok(()) => Ok(ran.count),
         Err(refusal) => Err(refusal),

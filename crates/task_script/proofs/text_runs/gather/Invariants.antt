@@ -1,7 +1,7 @@
-use Rattle.std.proofs.Common.{◌≡◌, ◌++◌, [], drop, length}
+use Rattle.std.proofs.Common.{◌≡◌, ◌++◌, length}
 use Rattle.std.specs.Vec.Iter.{into_iter_items}
-use Rattle.task_script.specs.RunCounts.{count_of, counted_behind}
-use Rattle.task_script.specs.StoreRuns.{all_ends, reports_of}
+use Rattle.task_script.specs.Batches.{joined_behind, joined_counts}
+use Rattle.task_script.specs.StoreRuns.{reports_of}
 use Rattle.task_script.proofs.Gathering.{IsToldOf}
 use Rattle.task_script.proofs.text_runs.gather.Given as goal
 
@@ -12,6 +12,6 @@ invariant-loop-die l = record {
   dies : l.fn.dies.items ≡ l.yielded ++ into_iter_items l.die-iterator;
   number : l.number ≡ length l.yielded;
   text : IsToldOf l.ran.text (reports_of l.number (into_iter_items l.die-iterator)) (reports_of 0 l.fn.dies.items);
-  count : counted_behind l.ran.count (all_ends (drop l.number l.lines) (drop l.number l.ends))
-      ≡ counted_behind (count_of []) (all_ends l.lines l.ends);
+  left : length l.progress ≡ length (into_iter_items l.die-iterator);
+  count : joined_behind l.ran.count l.progress ≡ joined_counts l.fn.progress;
 }

@@ -1,5 +1,4 @@
-use Rattle.std.proofs.Common.{ap, subst, List, ℕ, Err}
-use Rattle.std.specs.Io.KnownBytes.{Appends}
+use Rattle.std.proofs.Common.{ap, Err}
 use Rattle.report_texts.proofs.TextParts.{whole_is}
 use Rattle.task_script.proofs.AsPlanned.{runs_as_planned}
 use Rattle.task_script.proofs.Gathering.{runs_text}
@@ -8,20 +7,18 @@ use Rattle.task_script.proofs.text_runs.run_text.Goals as goal
 
 pub returns-in-Ok-clause-ran : goal.returns-in-Ok-clause-ran
 returns-in-Ok-clause-ran g c =
-    let told = c.in_ok-ran.ensures.ran in
-    runs_text _ c.args.plan.now c.args.slots c.in_ok-rows.rows.items told.report _ _ _ c.in_ok-rows.ensures.feeds
-    (rw c.as_slice.ensures at told.ran) (rw (whole_is told.report _ told.told) at c.in-Ok.ensures.written)
+    let r = c.in_ok-ran.ensures.ran in
+    runs_text _ c.args.plan.now c.args.slots _ _ _ _ r (rw (whole_is r.report _ r.told_is) at c.in-Ok.ensures.written)
 
 pub returns-in-Ok-clause-planned : goal.returns-in-Ok-clause-planned
 returns-in-Ok-clause-planned g c =
-    let told = c.in_ok-ran.ensures.ran in
-    runs_as_planned _ c.args.plan.now c.args.slots c.in_ok-rows.rows.items told.report _ _ _ c.requires.bound c.in_ok-rows.ensures.feeds
-    (rw c.as_slice.ensures at told.ran) (rw (whole_is told.report _ told.told) at c.in-Ok.ensures.written)
+    let r = c.in_ok-ran.ensures.ran in
+    runs_as_planned _ c.args.plan.now c.args.slots _ _ _ _ c.requires.bound r
+    (rw (whole_is r.report _ r.told_is) at c.in-Ok.ensures.written)
 
 pub returns-in-Err-clause-part : goal.returns-in-Err-clause-part
 returns-in-Err-clause-part g c =
-    let told = c.in_ok-ran.ensures.ran in
-    runs_in_part g.W.Write.contents _ c.args.plan.now c.args.slots c.in_ok-rows.rows.items told.report _ _ _ c.in-Err.refusal
-    c.requires.bound c.in_ok-rows.ensures.feeds
-    (rw c.as_slice.ensures at told.ran) (λ is. c.in-Err.ensures.memory (ap Err is))
-    (λ is. rw (whole_is told.report _ told.told) at (c.in-Err.ensures.part (ap Err is))) c.in-Err.ensures.refused
+    let r = c.in_ok-ran.ensures.ran in
+    runs_in_part g.W.Write.contents _ c.args.plan.now c.args.slots _ _ _ _ c.in-Err.refusal c.requires.bound r
+    (λ is. c.in-Err.ensures.memory (ap Err is)) (λ is. rw (whole_is r.report _ r.told_is) at (c.in-Err.ensures.part (ap Err is)))
+    c.in-Err.ensures.refused

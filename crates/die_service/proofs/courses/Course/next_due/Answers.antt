@@ -21,6 +21,6 @@ pub returns-clause-due : goal.returns-clause-due
 returns-clause-due c =
     let f = c.self.inside in
     subst (λ (k : Course). Comes c.args.clock k (with_ops c.read.result c.read.new.ops.items)
-    (on (f.place + 1) f.feed c.read.new.ops.items f.refused.items)) c.self.view_is
-    (comes_now c.args.clock f.place c.at.result f.feed (with_ops c.read.result c.read.new.ops.items) f.ops.items c.read.new.ops.items
-    f.refused.items c.at.ensures (let by = c.if-at-clock.false in omega (arith, by)) c.read.ensures.event c.self.invariant.0)
+    (on f.from f.slots (f.place + 1) f.feed c.read.new.ops.items f.refused.items)) c.self.view_is
+    (comes_now f.from f.slots c.args.clock f.place c.at.result f.feed (with_ops c.read.result c.read.new.ops.items) f.ops.items
+    c.read.new.ops.items f.refused.items c.at.ensures (let by = c.if-at-clock.false in omega (arith, by)) c.read.ensures.event c.self.invariant.0)

@@ -1,0 +1,55 @@
+use Rattle.std.proofs.Common.{◌≡◌, ◌≤◌, vec_len, vec_capacity, List, length, get_or, ap, sym, ◌∙◌, subst, rules, arith}
+use Rattle.atomic_table.specs.Seated.{TableId}
+use Rattle.die_service.specs.Drives.{Standing, Drives}
+use Rattle.die_service.proofs.LastPasses.{written}
+use Rattle.die_service.proofs.Gathering.{ready_at, drivers_length, have_run, same_locks}
+use Rattle.die_service.proofs.runs.run_batches.Goals as goal
+
+pub for_each_mut-requires-clause-accepts : goal.for_each_mut-requires-clause-accepts
+for_each_mut-requires-clause-accepts g c κs within = λ i p below is.
+    let few : length c.args.store.now ≤ 8 = subst (λ (l : List TableId). length l ≤ 8) c.store.view_is c.store.invariant in
+    ready_at c.args.store.now c.args.passes.now.items c.replace-taken.result.items c.args.batches.items c.in_ok-courses.courses.items
+    c.make_drivers-drivers.result.items c.requires.own c.requires.batches
+    (ap (λ v. v.items) c.replace-taken.ensures.value) c.in_ok-courses.ensures.whole c.make_drivers-drivers.ensures
+    c.as_mut_slice.result.now i p.now few c.as_mut_slice.ensures.value below is
+
+pub into_ends-requires-clause-room : goal.into_ends-requires-clause-room
+into_ends-requires-clause-room g c =
+    let same : length c.for_each_mut.new.s ≡ length c.make_drivers-drivers.result.items = search rules in
+    let whole = written c.make_drivers-drivers.result.len c.make_drivers-drivers.result.items c.for_each_mut.new.s same (search rules) in
+    let long = drivers_length c.args.store.now c.args.passes.now.items c.replace-taken.result.items c.args.batches.items
+    c.in_ok-courses.courses.items c.make_drivers-drivers.result.items c.requires.own c.requires.batches
+    (ap (λ v. v.items) c.replace-taken.ensures.value) c.in_ok-courses.ensures.whole c.make_drivers-drivers.ensures in
+    let count : vec_len c.args.passes.now ≡ length c.args.passes.now.items = search rules in
+    rw whole (omega (arith, same, long, count, c.len-count.ensures, c.in_ok-ends.ensures.exact))
+
+pub into_ends-requires-clause-passes_room : goal.into_ends-requires-clause-passes_room
+into_ends-requires-clause-passes_room g c =
+    let same : length c.for_each_mut.new.s ≡ length c.make_drivers-drivers.result.items = search rules in
+    let whole = written c.make_drivers-drivers.result.len c.make_drivers-drivers.result.items c.for_each_mut.new.s same (search rules) in
+    let long = drivers_length c.args.store.now c.args.passes.now.items c.replace-taken.result.items c.args.batches.items
+    c.in_ok-courses.courses.items c.make_drivers-drivers.result.items c.requires.own c.requires.batches
+    (ap (λ v. v.items) c.replace-taken.ensures.value) c.in_ok-courses.ensures.whole c.make_drivers-drivers.ensures in
+    let count : vec_len c.args.passes.now ≡ length c.args.passes.now.items = search rules in
+    let room : vec_capacity c.replace-taken.new.dest ≡ vec_capacity c.in_ok-back.back = ap (λ v. vec_capacity v)
+    c.replace-taken.ensures.after in
+    rw whole (omega (arith, same, long, count, room, c.len-count.ensures, c.in_ok-back.ensures.exact))
+
+pub returns-clause-ran : goal.returns-clause-ran
+returns-clause-ran g c =
+    let same : length c.for_each_mut.new.s ≡ length c.make_drivers-drivers.result.items = search rules in
+    let whole = written c.make_drivers-drivers.result.len c.make_drivers-drivers.result.items c.for_each_mut.new.s same (search rules) in
+    let xs = c.as_mut_slice.result.now in
+    let zs = c.for_each_mut.new.s in
+    let ran = have_run c.args.store.now c.args.passes.now.items c.replace-taken.result.items c.args.batches.items
+    c.in_ok-courses.courses.items c.make_drivers-drivers.result.items c.requires.own c.requires.batches
+    (ap (λ v. v.items) c.replace-taken.ensures.value) c.in_ok-courses.ensures.whole c.make_drivers-drivers.ensures
+    g.N.Nand.never_fails xs zs c.as_mut_slice.ensures.value (same ∙ sym (ap length c.as_mut_slice.ensures.value))
+    (λ i d below. let call = (c.for_each_mut.ensures i d below).1 in
+    subst (λ (s : Standing). Drives g.N.Nand.never_fails s (get_or zs i d)) call.argument_is
+    (subst (λ (t : Standing). Drives g.N.Nand.never_fails call.argument.now t) call.left call.call)) in
+    rw (c.into_ends.ensures.ends, c.into_ends.ensures.passes, whole) ran
+
+pub returns-clause-own : goal.returns-clause-own
+returns-clause-own g c = same_locks g.N.Nand.never_fails c.args.batches.items c.args.passes.now.items c.into_ends.result
+    c.into_ends.new.passes.items (returns-clause-ran g c) ∙ c.requires.own

@@ -1,0 +1,250 @@
+-- The dies of a store that run their rows in batches: where they begin, one batch more, and what is known of them at the end.
+use Rattle.std.proofs.Common.{◌≡◌, ℕ, zero, suc, ◌+◌, ◌<◌, ◌≤◌, max, Bool, true, List, [], ◌∷◌, ◌++◌, refl, ap, sym, ◌∙◌}
+use Rattle.std.proofs.Common.{subst, length, map}
+use Rattle.std.proofs.Common.{get_or, replicate, arith, All, Option, Some, None, Ok, Err, append_assoc, inl, inr}
+use Rattle.std.specs.Prelude.{IfSome, option_map}
+use Rattle.std.specs.List.{AllByRecursion, AllZip, filter}
+use Rattle.std.proofs.lemmas.List.Elements.{All-append, All-from_recursion, All-get_or, All-map, All-nil, All-same, All-weaker}
+use Rattle.std.proofs.lemmas.List.Elements.{filter-append}
+use Rattle.std.proofs.lemmas.List.Elements.{recursion_from_All}
+use Rattle.slot_types.specs.Arrivals.{IsArrival}
+use Rattle.slot_types.specs.declared.plans.DiePlan.{DiePlan}
+use Rattle.slot_types.specs.declared.refusals.Refusal.{Refusal}
+use Rattle.plan_rules.specs.Bound.{MeetsBound}
+use Rattle.turn_lock.specs.Views.{first_view, IsSamePass}
+use Rattle.slot_core.specs.Core.{Core}
+use Rattle.die_service.specs.Passes.{DieView}
+use Rattle.die_service.specs.Runs as run
+use Rattle.die_service.specs.Runs.{HaveRun}
+use Rattle.die_service.specs.Stores.{DiePass, IsClosed}
+use Rattle.die_service.specs.declared.batches.Batch.{Batch}
+use Rattle.die_service.specs.declared.ends.DieEnd.{DieEnd}
+use Rattle.die_service.specs.declared.feeds.Arrival.{Arrival}
+use Rattle.script_texts.specs.Arrivals.{Arrives}
+use Rattle.script_texts.specs.AskedPages.{RowHasPages, RowsHavePages}
+use Rattle.script_texts.specs.Script.{Script, script_of}
+use Rattle.script_texts.specs.declared.script_rows.ScriptItem.{ScriptItem}
+use Rattle.task_script.proofs.BatchRuns.{begins, goes_on}
+use Rattle.task_script.proofs.Dealing.{is_of}
+use Rattle.task_script.proofs.ReadSoFar.{read_none, read_on, read_to_end, fault_on, known_by}
+use Rattle.task_script.specs.Batches.{HasComeTo, HaveComeTo, RanRows, after_batch, batches_of, end_slot, fresh_progress, kept_of}
+use Rattle.task_script.specs.Batches.{progress_after, latest}
+use Rattle.task_script.specs.Feeds.{AllArrive, AreInTime, AreItemsOf, FailsIn, HasReadRows, IsDealt, IsReadTo, RefusesScript, feed_of}
+use Rattle.task_script.specs.RowEnds.{arrival_of, arrivals_of, lines_of}
+use Rattle.task_script.specs.declared.batches.Progress.{Progress}
+
+-- a die carried out all its slots
+abbrev pub IsWhole : DieEnd → Type 0
+IsWhole end = end.stop ≡ None
+
+-- By die
+
+pub all_begin : (number : ℕ) (plans : List DiePlan) (ps : List DiePass) → map (λ (p : DiePass). p.view) ps ≡ map first_view plans
+    → AllByRecursion MeetsBound plans → HaveComeTo 0 (feed_of []) number plans ps (replicate (length plans) fresh_progress)
+all_begin number [] [] first bound = tt
+all_begin number [] (p ∷ ps) first bound = absurd cc
+all_begin number (plan ∷ plans) [] first bound = absurd cc
+all_begin number (plan ∷ plans) (p ∷ ps) first bound =
+    let view : p.view ≡ first_view plan = cc in
+    let rest : map (λ (q : DiePass). q.view) ps ≡ map first_view plans = cc in
+    (begins plan p view bound.0, all_begin (number + 1) plans ps rest bound.1)
+
+-- of each die these are the rows before a batch, those of the batch, and all
+abbrev AreJoined : ℕ → (ℕ → List ScriptItem) → (ℕ → List ScriptItem) → List (List ScriptItem) → Type 0
+AreJoined number old new rows = (k : ℕ) → k < length rows → new (number + k) ≡ old (number + k) ++ get_or rows k []
+
+joined_later : (number : ℕ) (old new : ℕ → List ScriptItem) (items : List ScriptItem) (rows : List (List ScriptItem))
+    → AreJoined number old new (items ∷ rows) → AreJoined (number + 1) old new rows
+joined_later number old new items rows are k below =
+    let same : number + 1 + k ≡ number + suc k = omega arith in
+    ap new same ∙ (are (suc k) (omega (arith, below)) ∙ ap (λ (n : ℕ). old n ++ get_or rows k []) (sym same))
+
+all_go_on : (until : ℕ) (old new : ℕ → List ScriptItem) (number : ℕ) (plans : List DiePlan) (rows : List (List ScriptItem))
+    (ps : List DiePass) (before : List Progress) (ends : List DieEnd) (qs : List DiePass)
+    → length rows ≡ length plans → AreJoined number old new rows → AllByRecursion (All (λ item. IsArrival item.event)) rows
+    → HaveComeTo 0 old number plans ps before → HaveRun true (batches_of until before rows) ps ends qs
+    → AllByRecursion (λ end. end.stop ≡ None) ends
+    → HaveComeTo until new number plans qs (progress_after before (kept_of until before rows) ends)
+all_go_on until old new number [] [] [] [] [] [] same are arrive come ran none = tt
+all_go_on until old new number (plan ∷ plans) (items ∷ rows) (p ∷ ps) (at ∷ before) (end ∷ ends) (q ∷ qs) same are arrive come ran none =
+    let here : number + 0 ≡ number = omega arith in
+    let all : new number ≡ old number ++ items = ap new (sym here) ∙ (are 0 (omega arith) ∙ ap (λ (n : ℕ). old n ++ items) here) in (
+      subst (λ (xs : List ScriptItem). HasComeTo plan xs (max (latest xs) until) q
+          (after_batch at (record { end = end_slot until at.clock items; lines = lines_of items }) end)) (sym all)
+          (goes_on plan (old number) items until p q at end come.0 ran.1 ran.0 none.0 arrive.0),
+      all_go_on until old new (number + 1) plans rows ps before ends qs (omega (arith, same)) (joined_later number old new items rows are)
+          arrive.1 come.1 ran.2 none.1,
+    )
+all_go_on until old new number [] (items ∷ rows) ps before ends qs same are arrive come ran none = absurd (omega (arith, same))
+all_go_on until old new number (plan ∷ plans) [] ps before ends qs same are arrive come ran none = absurd (omega (arith, same))
+all_go_on until old new number [] [] (p ∷ ps) before ends qs same are arrive come ran none = absurd come
+all_go_on until old new number [] [] [] (at ∷ before) ends qs same are arrive come ran none = absurd come
+all_go_on until old new number [] [] [] [] (end ∷ ends) qs same are arrive come ran none = absurd ran
+all_go_on until old new number [] [] [] [] [] (q ∷ qs) same are arrive come ran none = absurd ran
+all_go_on until old new number (plan ∷ plans) (items ∷ rows) [] before ends qs same are arrive come ran none = absurd come
+all_go_on until old new number (plan ∷ plans) (items ∷ rows) (p ∷ ps) [] ends qs same are arrive come ran none = absurd come
+all_go_on until old new number (plan ∷ plans) (items ∷ rows) (p ∷ ps) (at ∷ before) [] qs same are arrive come ran none = absurd ran
+all_go_on until old new number (plan ∷ plans) (items ∷ rows) (p ∷ ps) (at ∷ before) (end ∷ ends) [] same are arrive come ran none =
+    absurd ran
+
+-- there are as many batches as rows of dies, with what is kept of them, and as many ends
+
+pub batches_length : (until : ℕ) (progress : List Progress) (rows : List (List ScriptItem)) → length progress ≡ length rows
+    → (length (batches_of until progress rows) ≡ length rows) × (length (kept_of until progress rows) ≡ length rows)
+batches_length until [] [] same = (refl, refl)
+batches_length until [] (items ∷ rows) same = absurd (omega (arith, same))
+batches_length until (at ∷ progress) [] same = absurd (omega (arith, same))
+batches_length until (at ∷ progress) (items ∷ rows) same =
+    let rest = batches_length until progress rows (omega (arith, same)) in (ap suc rest.0, ap suc rest.1)
+
+pub ends_length : (never : Bool) (batches : List Batch) (ps : List DiePass) (ends : List DieEnd) (qs : List DiePass)
+    → HaveRun never batches ps ends qs → length ends ≡ length batches
+ends_length never [] [] [] [] ran = refl
+ends_length never (batch ∷ batches) (p ∷ ps) (end ∷ ends) (q ∷ qs) ran = ap suc (ends_length never batches ps ends qs ran.2)
+ends_length never [] [] [] (q ∷ qs) ran = absurd ran
+ends_length never [] [] (end ∷ ends) qs ran = absurd ran
+ends_length never [] (p ∷ ps) ends qs ran = absurd ran
+ends_length never (batch ∷ batches) [] ends qs ran = absurd ran
+ends_length never (batch ∷ batches) (p ∷ ps) [] qs ran = absurd ran
+ends_length never (batch ∷ batches) (p ∷ ps) (end ∷ ends) [] ran = absurd ran
+
+rows_arrive : (items : List ScriptItem) → All (λ item. IsArrival item.event) items → run.AllArrive (arrivals_of items)
+rows_arrive items h = All-map (λ (arrival : Arrival). IsArrival arrival.event) arrival_of items h
+
+batches_by : (until : ℕ) (progress : List Progress) (rows : List (List ScriptItem))
+    → AllByRecursion (All (λ item. IsArrival item.event)) rows
+    → AllByRecursion (λ (batch : Batch). run.AllArrive batch.feed) (batches_of until progress rows)
+batches_by until [] rows arrive = tt
+batches_by until (at ∷ progress) [] arrive = tt
+batches_by until (at ∷ progress) (items ∷ rows) arrive = (rows_arrive items arrive.0, batches_by until progress rows arrive.1)
+
+-- their feeds bring jobs and collections alone
+pub batches_arrive : (until : ℕ) (progress : List Progress) (rows : List (List ScriptItem)) (batches : List Batch)
+    → batches ≡ batches_of until progress rows → All (All (λ item. IsArrival item.event)) rows
+    → All (λ (batch : Batch). run.AllArrive batch.feed) batches
+batches_arrive until progress rows batches are arrive =
+    All-same (λ (batch : Batch). run.AllArrive batch.feed) batches (batches_of until progress rows) are
+    (All-from_recursion (λ (batch : Batch). run.AllArrive batch.feed) (batches_of until progress rows)
+    (batches_by until progress rows (recursion_from_All (All (λ item. IsArrival item.event)) rows arrive)))
+
+-- each pass knows that it is the only one of its die
+pub all_sole : (until : ℕ) (feed : ℕ → List ScriptItem) (number : ℕ) (plans : List DiePlan) (ps : List DiePass) (progress : List Progress)
+    → HaveComeTo until feed number plans ps progress → AllByRecursion (λ (p : DiePass). p.view.sole ≡ true) ps
+all_sole until feed number [] [] [] come = tt
+all_sole until feed number (plan ∷ plans) (p ∷ ps) (at ∷ progress) come = (
+  come.0.far.sole (ap (λ (v : DieView). v.sole) come.0.fresh),
+  all_sole until feed (number + 1) plans ps progress come.1,
+)
+all_sole until feed number [] [] (at ∷ progress) come = absurd come
+all_sole until feed number [] (p ∷ ps) progress come = absurd come
+all_sole until feed number (plan ∷ plans) [] progress come = absurd come
+all_sole until feed number (plan ∷ plans) (p ∷ ps) [] come = absurd come
+
+pub as_many : (until : ℕ) (feed : ℕ → List ScriptItem) (number : ℕ) (plans : List DiePlan) (ps : List DiePass) (progress : List Progress)
+    → HaveComeTo until feed number plans ps progress → (length ps ≡ length plans) × (length progress ≡ length plans)
+as_many until feed number [] [] [] come = (refl, refl)
+as_many until feed number (plan ∷ plans) (p ∷ ps) (at ∷ progress) come =
+    let rest = as_many until feed (number + 1) plans ps progress come.1 in
+    (omega (arith, rest.0), omega (arith, rest.1))
+as_many until feed number [] [] (at ∷ progress) come = absurd come
+as_many until feed number [] (p ∷ ps) progress come = absurd come
+as_many until feed number (plan ∷ plans) [] progress come = absurd come
+as_many until feed number (plan ∷ plans) (p ∷ ps) [] come = absurd come
+
+-- Row by row of the script
+
+-- these rows of a script were read so far, and each die has come to its last one, but not less than to slot `until`
+pub record SoFar (until : ℕ) (whole left : Option Script) (plans : List DiePlan) (slots : ℕ) (ps : List DiePass) (progress : List Progress)
+    : Type 0 where
+  pub items : List ScriptItem
+  pub read : IsReadTo whole left items
+  pub in_time : AreInTime (length plans) slots items
+  pub come : HaveComeTo until (feed_of items) 0 plans ps progress
+
+-- nothing was read yet
+pub so_far_none : (whole left : Option Script) (plans : List DiePlan) (slots dies : ℕ) (ps : List DiePass) (progress : List Progress)
+    → left ≡ whole → map (λ (p : DiePass). p.view) ps ≡ map first_view plans → All MeetsBound plans
+    → progress ≡ replicate dies fresh_progress → dies ≡ length plans → SoFar 0 whole left plans slots ps progress
+so_far_none whole left plans slots dies ps progress same first bound fresh are = record {
+  items = [];
+  read = subst (λ (o : Option Script). IsReadTo whole o []) (sym same) (read_none whole);
+  in_time = record {
+    arrive = λ die below. All-nil (Arrives slots);
+    pages = λ die below. All-nil RowHasPages;
+  };
+  come = subst (HaveComeTo 0 (feed_of []) 0 plans ps) (sym (fresh ∙ ap (λ (n : ℕ). replicate n fresh_progress) are))
+      (all_begin 0 plans ps first (recursion_from_All MeetsBound plans bound));
+}
+
+feeds_more : (xs ys : List ScriptItem) (die : ℕ) → feed_of (xs ++ ys) die ≡ feed_of xs die ++ feed_of ys die
+feeds_more xs ys die = filter-append (is_of die) xs ys
+
+-- the same of numbers that are called otherwise
+pub read_as : (old new : Option Script) (dies dies2 slots slots2 : ℕ) (rows : List (List ScriptItem)) (ended ended2 : Bool)
+    → dies ≡ dies2 → slots ≡ slots2 → ended ≡ ended2 → HasReadRows old new dies slots rows ended
+    → HasReadRows old new dies2 slots2 rows ended2
+read_as old new dies dies2 slots slots2 rows ended ended2 a b c h =
+    subst (λ (x : ℕ × ℕ × Bool). HasReadRows old new x.0 x.1 rows x.2) (λ i. (a i, b i, c i)) h
+
+module _ (dies slots : ℕ) (items : List ScriptItem) (rows : List (List ScriptItem)) (d : IsDealt dies slots items rows) where
+  dealt_arrive : (die : ℕ) → die < dies → AllArrive slots (feed_of items die)
+  dealt_arrive die below = subst (AllArrive slots) (d.rows die below)
+      (All-get_or (AllArrive slots) rows die [] (omega (arith, below, d.all)) d.arrive)
+
+  dealt_pages : (die : ℕ) → die < dies → RowsHavePages (feed_of items die)
+  dealt_pages die below = subst RowsHavePages (d.rows die below)
+      (All-get_or RowsHavePages rows die [] (omega (arith, below, d.all)) d.pages)
+
+  pub dealt_events : All (All (λ item. IsArrival item.event)) rows
+  dealt_events = All-weaker (AllArrive slots) (All (λ item. IsArrival item.event))
+      (λ feed h. All-weaker (Arrives slots) (λ item. IsArrival item.event) (λ item here. here.1) feed h) rows d.arrive
+
+-- one batch more
+
+pub in_time_more : (dies slots : ℕ) (items more : List ScriptItem) (rows : List (List ScriptItem)) → AreInTime dies slots items
+    → IsDealt dies slots more rows → AreInTime dies slots (items ++ more)
+in_time_more dies slots items more rows t d = record {
+  arrive = λ die below. subst (AllArrive slots) (sym (feeds_more items more die)) (All-append (Arrives slots) (feed_of items die)
+      (feed_of more die) (t.arrive die below) (dealt_arrive dies slots more rows d die below));
+  pages = λ die below. subst RowsHavePages (sym (feeds_more items more die)) (All-append RowHasPages (feed_of items die)
+      (feed_of more die) (t.pages die below) (dealt_pages dies slots more rows d die below));
+}
+
+pub come_more : (until dies slots : ℕ) (plans : List DiePlan) (ps qs : List DiePass) (before after : List Progress)
+    (rows : List (List ScriptItem)) (items more : List ScriptItem) → dies ≡ length plans
+    → HaveComeTo 0 (feed_of items) 0 plans ps before → IsDealt dies slots more rows → RanRows until rows ps before qs after
+    → HaveComeTo until (feed_of (items ++ more)) 0 plans qs after
+come_more until dies slots plans ps qs before after rows items more count come d ran =
+    subst (HaveComeTo until (feed_of (items ++ more)) 0 plans qs) (sym ran.after_is)
+    (all_go_on until (feed_of items) (feed_of (items ++ more)) 0 plans rows ps before ran.ends qs (d.all ∙ count) are
+    (recursion_from_All (All (λ item. IsArrival item.event)) rows (dealt_events dies slots more rows d)) come ran.ran
+    (recursion_from_All (λ end. end.stop ≡ None) ran.ends ran.whole))
+  where
+    are : AreJoined 0 (feed_of items) (feed_of (items ++ more)) rows
+    are k below = feeds_more items more (0 + k) ∙ ap (λ (l : List ScriptItem). feed_of items (0 + k) ++ l)
+        (ap (feed_of more) (let plain : 0 + k ≡ k = omega arith in plain) ∙ sym (d.rows k (omega (arith, below, d.all))))
+
+pub so_far_more : (until : ℕ) (whole left new : Option Script) (plans : List DiePlan) (slots : ℕ) (ps qs : List DiePass)
+    (before after : List Progress) (rows : List (List ScriptItem)) (more : List ScriptItem)
+    → SoFar 0 whole left plans slots ps before → IsReadTo left new more → IsDealt (length plans) slots more rows
+    → RanRows until rows ps before qs after → SoFar until whole new plans slots qs after
+so_far_more until whole left new plans slots ps qs before after rows more s read d ran = record {
+  items = s.items ++ more;
+  read = read_on whole left new s.items more s.read read;
+  in_time = in_time_more (length plans) slots s.items more rows s.in_time d;
+  come = come_more until (length plans) slots plans ps qs before after rows s.items more refl s.come d ran;
+}
+
+-- the items of the script, where it has no further row
+pub items_are : (text : Option (List ℕ)) (left : Option Script) (dies slots : ℕ) (items more : List ScriptItem)
+    → IsReadTo (option_map (script_of dies slots) text) left items → IfSome left (λ rest. rest ≡ Ok more)
+    → AreItemsOf text dies slots (items ++ more)
+items_are text left dies slots items more read all =
+    known_by (λ (script : Script). script ≡ Ok (items ++ more)) (script_of dies slots) text (read_to_end _ left items more read all)
+
+-- the script has the fault of what is left of it
+pub fails_by : (text : Option (List ℕ)) (left : Option Script) (dies slots : ℕ) (items : List ScriptItem) (e : Refusal)
+    → IsReadTo (option_map (script_of dies slots) text) left items → FailsIn left e → RefusesScript text dies slots e
+fails_by text left dies slots items e read (inl out) = inl out
+fails_by text left dies slots items e read (inr is) =
+    inr (known_by (λ (script : Script). script ≡ Err e) (script_of dies slots) text (fault_on _ left items e read is))

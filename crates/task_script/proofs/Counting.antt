@@ -1,0 +1,157 @@
+-- Counts of rows: row by row, and one behind the other.
+use Rattle.std.proofs.Common.{◌≡◌, ℕ, ◌+◌, ◌<◌, ◌≤◌, nat_lt, Bool, true, false, cond, List, [], ◌∷◌, ◌++◌, refl, ap, sym, ◌∙◌, drop, get_or}
+use Rattle.std.proofs.Common.{length, arith, Option, Some, None, ◌==◌}
+use Rattle.std.specs.Prelude.{count_by, if◌then◌else◌}
+use Rattle.std.proofs.lemmas.Bool.{ltb-true, ltb-false, lt-ltb, le-ltb}
+use Rattle.std.proofs.lemmas.List.{drop_more, drop_all}
+use Rattle.std.proofs.lemmas.List.Sums.{sum_by-cons}
+use Rattle.slot_types.specs.Refusal.{number_of}
+use Rattle.slot_types.specs.declared.refusals.Refusal.{Refusal}
+use Rattle.die_service.specs.declared.ends.RefusedEvent.{RefusedEvent}
+use Rattle.task_script.specs.RowEnds.{ends_from, row_end, taken_at}
+use Rattle.task_script.specs.RunCounts.{count_of, counted_with, counted_behind, first_behind, first_by, first_refused, joined, joined_first}
+use Rattle.task_script.specs.RunCounts.{or_earlier, was_accepted, was_refused}
+use Rattle.task_script.specs.declared.run_counts.RowEnd.{RowEnd}
+use Rattle.task_script.specs.declared.run_counts.RunCount.{RunCount}
+
+-- Row by row
+
+pub counted_in_parts : (count : RunCount) (xs ys : List RowEnd)
+    → counted_behind count (xs ++ ys) ≡ counted_behind (counted_behind count xs) ys
+counted_in_parts count [] ys = refl
+counted_in_parts count (x ∷ xs) ys = counted_in_parts (counted_with count x) xs ys
+
+accepted_more : (n : ℕ) (end : RowEnd) (ends : List RowEnd)
+    → (n + (if was_accepted end then 1 else 0)) + count_by was_accepted ends ≡ n + count_by was_accepted (end ∷ ends)
+accepted_more n end ends =
+    let c : count_by was_accepted (end ∷ ends) ≡ (if was_accepted end then 1 else 0) + count_by was_accepted ends =
+    sum_by-cons (λ (e : RowEnd). if was_accepted e then 1 else 0) end ends in
+    omega (arith, c)
+
+refused_more : (n : ℕ) (end : RowEnd) (ends : List RowEnd)
+    → (n + (if was_refused end then 1 else 0)) + count_by was_refused ends ≡ n + count_by was_refused (end ∷ ends)
+refused_more n end ends =
+    let c : count_by was_refused (end ∷ ends) ≡ (if was_refused end then 1 else 0) + count_by was_refused ends =
+    sum_by-cons (λ (e : RowEnd). if was_refused e then 1 else 0) end ends in
+    omega (arith, c)
+
+counted_from : (count : RunCount) (ends : List RowEnd) → counted_behind count ends ≡ record {
+  accepted = count.accepted + count_by was_accepted ends;
+  refused = count.refused + count_by was_refused ends;
+  first = first_behind count.first ends;
+}
+counted_from count [] = λ i. record {
+  accepted = sym (plus_none count.accepted) i;
+  refused = sym (plus_none count.refused) i;
+  first =
+      count.first;
+}
+  where
+    plus_none : (n : ℕ) → n + 0 ≡ n
+    plus_none n = omega arith
+counted_from count (end ∷ ends) =
+    counted_from (counted_with count end) ends
+    ∙ λ i. record {
+      accepted = accepted_more count.accepted end ends i;
+      refused = refused_more count.refused end ends i;
+      first = first_behind count.first (end ∷ ends);
+    }
+
+-- rows that are counted one by one are counted
+pub counted_is : (ends : List RowEnd) → counted_behind (count_of []) ends ≡ count_of ends
+counted_is ends = counted_from (count_of []) ends ∙ λ i. record
+    { accepted = none_plus (count_by was_accepted ends) i; refused = none_plus (count_by was_refused ends) i; first = first_refused ends }
+  where
+    none_plus : (n : ℕ) → 0 + n ≡ n
+    none_plus n = omega arith
+
+-- one row more
+taken_is : (place line : ℕ) (lines : List ℕ) (refused : List RefusedEvent)
+    → ends_from place (line ∷ lines) refused ≡ row_end line (taken_at place refused).0
+    ∷ ends_from (place + 1) lines (taken_at place refused).1
+taken_is place line lines [] = refl
+taken_is place line lines (r ∷ refused) = by (r.place == place)
+  where
+    by : (b : Bool) → cond b (row_end line (Some r.refused.refusal) ∷ ends_from (place + 1) lines refused) (row_end line None
+        ∷ ends_from (place + 1) lines (r ∷ refused))
+        ≡ row_end line (cond {A = Option Refusal × List RefusedEvent} b (Some r.refused.refusal, refused) (None, r ∷ refused)).0
+        ∷ ends_from (place + 1) lines (cond {A = Option Refusal × List RefusedEvent} b (Some r.refused.refusal, refused) (
+          None,
+          r
+              ∷ refused,
+        )).1
+    by true = refl
+    by false = refl
+
+pub row_more : (place line : ℕ) (lines : List ℕ) (refused later : List RefusedEvent) (refusal : Option Refusal)
+    (count count2 all : RunCount) → place < length lines → line ≡ get_or lines place line
+    → refusal ≡ (taken_at place refused).0 → later ≡ (taken_at place refused).1 → count2 ≡ counted_with count (row_end line refusal)
+    → counted_behind count (ends_from place (drop place lines) refused) ≡ all
+    → counted_behind count2 (ends_from (place + 1) (drop (place + 1) lines) later) ≡ all
+row_more place line lines refused later refusal count count2 all below at is rest added so_far =
+    let here : drop place lines ≡ line ∷ drop (place + 1) lines = drop_more lines place line below
+    ∙ ap (λ (l : ℕ). l ∷ drop (place + 1) lines) (sym at) in
+    ap (λ (c : RunCount). counted_behind c (ends_from (place + 1) (drop (place + 1) lines) later)) added
+    ∙ (ap (λ (x : Option Refusal × List RefusedEvent). counted_behind (counted_with count (row_end line x.0))
+    (ends_from (place + 1) (drop (place + 1) lines) x.1)) (λ i. (is i, rest i))
+    ∙ (ap (counted_behind count) (sym (taken_is place line (drop (place + 1) lines) refused))
+    ∙ (ap (λ (xs : List ℕ). counted_behind count (ends_from place xs refused)) (sym here) ∙ so_far)))
+
+-- Rows behind others
+
+-- rows are counted behind others
+pub counts_more : (xs ys : List RowEnd) → counted_behind (count_of xs) ys ≡ count_of (xs ++ ys)
+counts_more xs ys = ap (λ (c : RunCount). counted_behind c ys) (sym (counted_is xs))
+    ∙ (sym (counted_in_parts (count_of []) xs ys) ∙ counted_is (xs ++ ys))
+
+earlier_joined : (line : ℕ) (refusal : Refusal) (first : Option (ℕ × ℕ)) → or_earlier line refusal first
+    ≡ joined_first first (Some (line, number_of refusal))
+earlier_joined line refusal None = refl
+earlier_joined line refusal (Some first) = refl
+
+none_joined : (r : Option (ℕ × ℕ)) → joined_first None r ≡ r
+none_joined None = refl
+none_joined (Some c) = refl
+
+abbrev sooner : Bool → ℕ × ℕ → ℕ × ℕ → Option (ℕ × ℕ)
+sooner b x y = cond b (Some x) (Some y)
+
+three : (a b c : ℕ × ℕ) (ba cb : Bool) → nat_lt b.0 a.0 ≡ ba → nat_lt c.0 b.0 ≡ cb
+    → joined_first (sooner ba b a) (Some c) ≡ joined_first (Some a) (sooner cb c b)
+three a b c true true p q = ap (λ (t : Bool). sooner t c b) q
+    ∙ ap (λ (t : Bool). sooner t c a) (sym (lt-ltb c.0 a.0 (omega (arith, ltb-true b.0 a.0 p, ltb-true c.0 b.0 q))))
+three a b c true false p q = ap (λ (t : Bool). sooner t c b) q ∙ ap (λ (t : Bool). sooner t b a) (sym p)
+three a b c false true p q = refl
+three a b c false false p q =
+    ap (λ (t : Bool). sooner t c a) (le-ltb c.0 a.0 (omega (arith, ltb-false b.0 a.0 p, ltb-false c.0 b.0 q)))
+    ∙ ap (λ (t : Bool). sooner t b a) (sym p)
+
+joined_thrice : (f : Option (ℕ × ℕ)) (b : ℕ × ℕ) (r : Option (ℕ × ℕ)) → joined_first (joined_first f (Some b)) r
+    ≡ joined_first f (joined_first (Some b) r)
+joined_thrice f b None = refl
+joined_thrice None b (Some c) = sym (none_joined (joined_first (Some b) (Some c)))
+joined_thrice (Some a) b (Some c) =
+    ap (λ (x : Option (ℕ × ℕ)). joined_first x (Some c)) refl
+    ∙ three a b c (nat_lt b.0 a.0) (nat_lt c.0 b.0) refl refl
+
+first_joins : (line : ℕ) (refusal : Option Refusal) (f r : Option (ℕ × ℕ)) → joined_first (first_by line refusal f) r
+    ≡ joined_first f (joined_first (first_by line refusal None) r)
+first_joins line None f r = ap (joined_first f) (sym (none_joined r))
+first_joins line (Some refusal) f r = ap (λ (x : Option (ℕ × ℕ)). joined_first x r) (earlier_joined line refusal f)
+    ∙ joined_thrice f (line, number_of refusal) r
+
+first_joined : (f : Option (ℕ × ℕ)) (ys : List RowEnd) → first_behind f ys ≡ joined_first f (first_behind None ys)
+first_joined f [] = refl
+first_joined f (y ∷ ys) = first_joined (first_by y.line y.refusal f) ys
+    ∙ (first_joins y.line y.refusal f (first_behind None ys)
+    ∙ ap (joined_first f) (sym (first_joined (first_by y.line y.refusal None) ys)))
+
+-- the counts of rows and of those behind them
+pub counts_join : (xs ys : List RowEnd) → joined (count_of xs) (count_of ys) ≡ count_of (xs ++ ys)
+counts_join xs ys =
+    (λ i. record {
+      accepted = count_by was_accepted xs + count_by was_accepted ys;
+      refused = count_by was_refused xs + count_by was_refused ys;
+      first = sym (first_joined (first_refused xs) ys) i;
+    })
+    ∙ (sym (counted_from (count_of xs) ys) ∙ counts_more xs ys)

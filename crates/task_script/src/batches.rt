@@ -1,0 +1,184 @@
+//! Rows of a script that are run on dies in memory, a batch of each die at a time.
+
+ghost use Rattle.std.specs.Prelude.{◌≡◌, ◌≤◌, length, map, replicate, All, IfOk, OnOk};
+ghost use Rattle.slot_types.specs.Arrivals.{IsArrival};
+ghost use Rattle.slot_types.specs.Refusal.{FailsForMemory};
+ghost use Rattle.task_script.specs.Batches.{RanRows, batches_of, fresh_progress, kept_of, progress_after};
+ghost use Rattle.task_script.specs.RowEnds.{ends_from, taken_at};
+ghost use Rattle.task_script.specs.RunCounts.{counted_behind};
+
+use crate::rows::{DieRows, Lines};
+use crate::run_counts::{RowEnd, RunCount};
+use die_service::{Batch, DieEnd, DiePass, FreeGate, RefusedEvent, Store, run_batches};
+use flash_die::MemoryNand;
+use slot_types::Refusal;
+use std::alloc::Global;
+use std::sync::Wait;
+use std::thread::Threads;
+
+/// How far a die has come with its rows.
+#[derive(Clone, Copy, PartialEq, Eq, Debug, Drop)]
+pub struct Progress {
+    /// The slots before this one were carried out.
+    pub clock: u32,
+    /// What became of its rows so far.
+    pub count: RunCount,
+}
+
+/// What is kept of a batch while it runs.
+#[derive(Drop)]
+pub struct KeptRows {
+    /// The slot behind its last one.
+    pub end: u32,
+    /// The lines of its rows.
+    pub lines: Lines,
+}
+
+/// So many dies that have done nothing.
+pub fn no_progress(alloc: Global, dies: usize) -> Result<Vec<Progress>, Refusal>
+    ensures ok { IfOk result (λ progress. progress.items ≡ replicate dies fresh_progress) }
+    ensures refused { FailsForMemory result }
+{
+    let fresh = Progress {
+        clock: 0,
+        count: RunCount::none(),
+    };
+    let mut progress = Vec::new(alloc);
+    for _ in 0..dies {
+        match progress.push(fresh) {
+            Ok(()) => {}
+            Err(_) => return Err(Refusal::NoMemory),
+        }
+    }
+    Ok(progress)
+}
+
+/// A batch of each die with these rows, which begins where the die is and ends where its last row comes, but not before
+/// slot `until`; and what is kept of it.
+fn make_batches(
+    alloc: Global,
+    rows: Vec<DieRows>,
+    progress: &[Progress],
+    until: u32,
+) -> Result<(Vec<Batch>, Vec<KeptRows>), Refusal>
+    requires lengths { length progress.now ≡ length rows.items }
+    ensures batches { IfOk result (λ made. made.0.items ≡ batches_of until progress.now rows.items) }
+    ensures kept { IfOk result (λ made. made.1.items ≡ kept_of until progress.now rows.items) }
+    ensures refused { FailsForMemory result }
+{
+    let count = rows.len();
+    let mut batches = Vec::with_capacity(alloc, count)?;
+    let mut kept = Vec::with_capacity(alloc, count)?;
+    let mut progress = progress;
+    for die in rows {
+        let Some((at, later)) = progress.split_first() else {
+            unreachable!()
+        };
+        let from = at.clock;
+        let end = from.max(die.latest()).max(until);
+        let (feed, lines) = die.into_parts();
+        batches.push_reserved(Batch {
+            from,
+            slots: end - from,
+            feed,
+        });
+        kept.push_reserved(KeptRows { end, lines });
+        progress = later;
+    }
+    Ok((batches, kept))
+}
+
+/// Why the event of a place was refused, if it was, and the refused events behind it.
+fn take_refused(refused: &[RefusedEvent], place: usize) -> (Option<Refusal>, &[RefusedEvent])
+    ensures refusal { result.0 ≡ (taken_at place refused.now).0 }
+    ensures rest { result.1.now ≡ (taken_at place refused.now).1 }
+{
+    match refused.split_first() {
+        Some((first, rest)) if first.place == place => (Some(first.refused.refusal), rest),
+        _ => (None, refused),
+    }
+}
+
+/// Counts the rows with these lines, by the events that were refused.
+fn add_rows(lines: &[u32], refused: &[RefusedEvent], count: &mut RunCount) -> Result<(), Refusal>
+    ensures ok { OnOk result (count.new ≡ counted_behind count.old (ends_from 0 lines.now refused.now)) }
+    ensures refused { FailsForMemory result }
+{
+    let mut rest = refused;
+    for place in 0..lines.len() {
+        let (refusal, later) = take_refused(rest, place);
+        let line = lines[place];
+        count.add(RowEnd { line, refusal })?;
+        rest = later;
+    }
+    Ok(())
+}
+
+/// Whether each die carried out all its slots. The only refusal is NoMemory: within a die's life a slot of a device in
+/// memory is refused for nothing else.
+fn none_stopped(ends: &[DieEnd]) -> Result<(), Refusal>
+    ensures ok { OnOk result (All (λ end. end.stop ≡ None) ends.now) }
+    ensures refused { FailsForMemory result }
+{
+    for end in ends {
+        match end.stop {
+            Some(_) => return Err(Refusal::NoMemory),
+            None => {}
+        }
+    }
+    Ok(())
+}
+
+/// How far dies have come behind a batch of each, whose rows are counted.
+fn go_on(
+    alloc: Global,
+    progress: &[Progress],
+    kept: &[KeptRows],
+    ends: &[DieEnd],
+) -> Result<Vec<Progress>, Refusal>
+    requires kept { length kept.now ≡ length progress.now }
+    requires ends { length ends.now ≡ length progress.now }
+    ensures ok { IfOk result (λ made. made.items ≡ progress_after progress.now kept.now ends.now) }
+    ensures refused { FailsForMemory result }
+{
+    let mut made = Vec::new(alloc);
+    for die in 0..progress.len() {
+        let mut count = progress[die].count;
+        let refused = ends[die].refused.as_slice();
+        add_rows(kept[die].lines.as_slice(), refused, &mut count)?;
+        let clock = kept[die].end;
+        match made.push(Progress { clock, count }) {
+            Ok(()) => {}
+            Err(_) => return Err(Refusal::NoMemory),
+        }
+    }
+    Ok(made)
+}
+
+/// Runs these rows on their dies, by so many workers, each die up to its last row, but not less than up to slot `until`. The
+/// only refusal is NoMemory, behind which nothing is said of the dies.
+pub fn run_rows<R: Threads + Wait + Sync>(
+    rt: &R,
+    alloc: Global,
+    store: &Store<MemoryNand>,
+    passes: &mut Vec<DiePass<MemoryNand>>,
+    progress: &mut Vec<Progress>,
+    rows: Vec<DieRows>,
+    until: u32,
+    workers: u32,
+) -> Result<(), Refusal>
+    requires own { map (λ pass. pass.lock) passes.old.items ≡ store.now }
+    requires rows { length rows.items ≡ length store.now }
+    requires progress { length progress.old.items ≡ length store.now }
+    requires arrive { All (λ items. All (λ item. IsArrival item.event) items) rows.items }
+    requires workers { (1 ≤ workers) × (workers ≤ 16) }
+    ensures ran { OnOk result (RanRows until rows.items passes.old.items progress.old.items passes.new.items progress.new.items) }
+    ensures own { map (λ pass. pass.lock) passes.new.items ≡ store.now }
+    ensures refused { FailsForMemory result }
+{
+    let (batches, kept) = make_batches(alloc, rows, progress.as_slice(), until)?;
+    let ends = run_batches(rt, store, passes, batches, workers, &FreeGate)?;
+    none_stopped(ends.as_slice())?;
+    *progress = go_on(alloc, progress.as_slice(), &kept, ends.as_slice())?;
+    Ok(())
+}
