@@ -5,6 +5,8 @@
 #[cfg(test)]
 mod answers;
 #[cfg(test)]
+mod batches;
+#[cfg(test)]
 mod bounds;
 #[cfg(test)]
 mod faults;
@@ -14,6 +16,8 @@ mod growth;
 mod hostile;
 #[cfg(test)]
 mod long_scripts;
+#[cfg(test)]
+mod made_rows;
 #[cfg(test)]
 mod plan_bounds;
 #[cfg(test)]

@@ -1,42 +1,18 @@
 //! A script of sixty million bytes, which no memory holds.
 
+use crate::made_rows::MadeRows;
 use example_texts::PLAN;
 use slot_types::Refusal;
 use std::alloc::Global;
-use std::io;
-use std::io::Read;
 use task_script::{ScriptReader, read_plan};
-
-const HEADER: &str = "at,die,task,kind,release,due,ops\n";
 
 /// Sixty bytes.
 const ROW: &str = "0,0,0,job,0,1048576,W00011=000102030405060708090a0b0c0d0e0f\n";
 
-/// Makes up a script: its header, and so many rows.
-#[derive(Drop)]
-struct MadeRows {
-    line: &'static [u8],
-    left: u32,
-}
-
-impl Read for MadeRows {
-    fn read(&mut self, buf: &mut [u8]) -> io::Result<usize> {
-        if self.line.is_empty() && self.left > 0 {
-            self.line = ROW.as_bytes();
-            self.left -= 1;
-        }
-        self.line.read(buf)
-    }
-}
-
 /// How many items so many rows have. Each item is let go before the next one is read.
 fn count_rows(alloc: Global, rows: u32) -> Result<u32, Refusal> {
     let plan = read_plan(alloc, PLAN.as_bytes())?;
-    let made = MadeRows {
-        line: HEADER.as_bytes(),
-        left: rows,
-    };
-    let mut script = ScriptReader::new(alloc, made, &plan, 0)?;
+    let mut script = ScriptReader::new(alloc, MadeRows::new(ROW, rows, ""), &plan, 0)?;
     for items in 0..u32::MAX {
         match script.next()? {
             Some(_) => {}
