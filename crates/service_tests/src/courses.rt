@@ -3,10 +3,11 @@
 ghost use Rattle.std.specs.Prelude.{◌≡◌, ◌≤◌, map, All};
 ghost use Rattle.die_service.specs.Runs.{AllArrive};
 
-use crate::feeds::{Job, both, three};
+use crate::feeds::{Job, both, both_batches, three};
 use crate::made::ONES;
 use die_service::{
-    DieEnd, DieEnds, DiePass, Feed, FreeGate, Gate, RefusedAt, RefusedEvent, Store, run_slots,
+    DieEnd, DieEnds, DiePass, Feed, FreeGate, Gate, RefusedAt, RefusedEvent, Store, run_batches,
+    run_slots,
 };
 use flash_die::Nand;
 use slot_types::{Op, Refusal};
@@ -95,6 +96,29 @@ pub(crate) fn run_courses<N: Nand + Send, G: Gate + Sync, R: Threads + Wait + Sy
 {
     let feeds = both(alloc, courses[0].jobs, courses[1].jobs)?;
     let ends = run(rt, store, passes, feeds, slots, workers, gate)?;
+    all_ended(rt, ends.as_slice(), courses.as_slice());
+    Ok(())
+}
+
+/// Runs a part of two dies' run: so many slots from this one on, with the events of these courses. Fails the test where one
+/// doesn't end as it has to.
+pub(crate) fn run_part<N: Nand + Send, R: Threads + Wait + Sync + Abort>(
+    rt: &R,
+    alloc: Global,
+    store: &Store<N>,
+    passes: &mut Vec<DiePass<N>>,
+    courses: &[Course; 2],
+    from: u32,
+    slots: u32,
+) -> Result<(), Refusal>
+    requires own { map (λ pass. pass.lock) passes.old.items ≡ store.now }
+    ensures own { map (λ pass. pass.lock) passes.new.items ≡ store.now }
+{
+    let batches = both_batches(alloc, from, slots, courses[0].jobs, courses[1].jobs)?;
+    if batches.len() != passes.len() {
+        return Err(Refusal::UnknownDie);
+    }
+    let ends = run_batches(rt, store, passes, batches, 2, &FreeGate)?;
     all_ended(rt, ends.as_slice(), courses.as_slice());
     Ok(())
 }

@@ -1,9 +1,9 @@
-//! Jobs as rows of a table, and the feeds that are made of them.
+//! Jobs as rows of a table, and the feeds and batches that are made of them.
 
 ghost use Rattle.std.specs.Prelude.{All, IfOk};
 ghost use Rattle.die_service.specs.Runs.{AllArrive};
 
-use die_service::Feed;
+use die_service::{Batch, Feed};
 use slot_types::{JobHead, Op, Refusal, TaskNo};
 use std::alloc::Global;
 
@@ -33,6 +33,14 @@ fn feed(alloc: Global, jobs: &[Job]) -> Result<Feed, Refusal>
     Ok(feed)
 }
 
+// So many slots from this one on, with these jobs.
+fn batch(alloc: Global, from: u32, slots: u32, jobs: &[Job]) -> Result<Batch, Refusal>
+    ensures { IfOk result (λ batch. AllArrive batch.feed) }
+{
+    let feed = feed(alloc, jobs)?;
+    Ok(Batch { from, slots, feed })
+}
+
 /// The feeds of three dies.
 pub(crate) fn three(
     alloc: Global,
@@ -57,4 +65,20 @@ pub(crate) fn both(alloc: Global, first: &[Job], second: &[Job]) -> Result<Vec<F
     feeds.push_reserved(feed(alloc, first)?);
     feeds.push_reserved(feed(alloc, second)?);
     Ok(feeds)
+}
+
+/// A batch of each of two dies: so many slots from this one on.
+pub(crate) fn both_batches(
+    alloc: Global,
+    from: u32,
+    slots: u32,
+    first: &[Job],
+    second: &[Job],
+) -> Result<Vec<Batch>, Refusal>
+    ensures { IfOk result (λ batches. All (λ batch. AllArrive batch.feed) batches.items) }
+{
+    let mut batches = Vec::with_capacity(alloc, 2)?;
+    batches.push_reserved(batch(alloc, from, slots, first)?);
+    batches.push_reserved(batch(alloc, from, slots, second)?);
+    Ok(batches)
 }

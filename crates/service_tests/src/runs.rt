@@ -3,7 +3,7 @@
 ghost use Rattle.std.specs.Prelude.{◌≡◌, ◌≤◌, map, IfOk};
 ghost use Rattle.flash_die.specs.Flash.{IsFresh};
 
-use crate::courses::{Course, WRITES_AND_READS, run_courses};
+use crate::courses::{Course, WRITES_AND_READS, run_courses, run_part};
 use crate::feeds::Job;
 use crate::held::{HeldNand, HoldGate, Mark};
 use crate::made::{ONES, faulty_dies, memory, store_of, two_dies};
@@ -109,6 +109,57 @@ fn run_own<R: Threads + Wait + Sync + Abort>(
 fn each_die_runs_its_feed(rt: HostRuntime) -> Result<(), Fail> {
     assert_eq!(rt; run_own(&rt, rt.alloc(), 1)?, Some(WAITS_FROM_TWO));
     assert_eq!(rt; run_own(&rt, rt.alloc(), 2)?, Some(WAITS_FROM_TWO));
+    Ok(())
+}
+
+// The second die reads a page that it doesn't have in each part: the place is that in the batch, and a slot stood before the
+// second one.
+const NO_PAGE_LATER: RefusedEvent = RefusedEvent {
+    place: 0,
+    refused: RefusedAt {
+        entries: 1,
+        refusal: Refusal::BadPage { page: 12 },
+    },
+};
+
+#[rattlefmt::skip]
+const WRITE: [Job; 1] = [Job { release: 0, due: 2, op: Op::Write(3, ONES) }];
+
+#[rattlefmt::skip]
+const READ: [Job; 1] = [Job { release: 1, due: 3, op: Op::Read(3) }];
+
+#[rattlefmt::skip]
+const BAD: [Job; 1] = [Job { release: 0, due: 2, op: Op::Read(12) }];
+
+#[rattlefmt::skip]
+const FIRST_PART: [Course; 2] = [
+    Course { jobs: &WRITE, slots: 1, refused: &[], stop: None },
+    Course { jobs: &BAD, slots: 1, refused: &[NO_PAGE], stop: None },
+];
+
+#[rattlefmt::skip]
+const SECOND_PART: [Course; 2] = [
+    Course { jobs: &READ, slots: 1, refused: &[], stop: None },
+    Course { jobs: &BAD_AND_LATER, slots: 1, refused: &[NO_PAGE_LATER], stop: None },
+];
+
+// Runs two dies in two parts of a slot each, and tells what the second has when the store is closed then.
+fn run_in_parts<R: Threads + Wait + Sync + Abort>(
+    rt: &R,
+    alloc: Global,
+) -> Result<Option<Closed>, Refusal> {
+    let (store, mut passes) = two_dies(alloc)?;
+    let first = run_part(rt, alloc, &store, &mut passes, &FIRST_PART, 0, 1);
+    let second = run_part(rt, alloc, &store, &mut passes, &SECOND_PART, 1, 1);
+    let closed = close_second(rt, alloc, store, passes);
+    first?;
+    second?;
+    Ok(closed)
+}
+
+#[test]
+fn a_run_in_two_parts_ends_as_one(rt: HostRuntime) -> Result<(), Fail> {
+    assert_eq!(rt; run_in_parts(&rt, rt.alloc())?, Some(WAITS_FROM_TWO));
     Ok(())
 }
 
