@@ -7,6 +7,3 @@ mod pair_heap;
 
 pub use job_queue::{DueQueue, JobQueue, WaitList};
 pub use keys::{JobKey, Key, WaitKey};
-
-#[cfg(test)]
-mod tests;

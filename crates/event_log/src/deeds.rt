@@ -5,6 +5,7 @@ ghost use Rattle.event_log.specs.Slots.{slot_by};
 ghost use Rattle.event_log.specs.Stretches.{alike_deeds, erases_for};
 
 use slot_types::JobNo;
+use std::mem::size_of;
 
 /// What an accepted call did. It names a job and the place of its operation, and not the bytes: those stand once, with
 /// the job.
@@ -29,6 +30,8 @@ pub enum Deed {
     /// A collection did the last slot of the erase of its block.
     LastEraseSlot { number: JobNo, block: u32 },
 }
+
+const _: () = prove!(size_of::<Deed>() == 12);
 
 impl Deed {
     /// Whether two slots of one caller that waived nothing, and did this and that, count as one stretch: both idle, or both in

@@ -9,12 +9,13 @@ ghost use Rattle.event_log.specs.Stretches.{goes_on, new_stretches, stretches, i
 
 use crate::carried::carried_by;
 use crate::deeds::Deed;
-use crate::runs::Runs;
+use crate::runs::{Run, Runs};
 use crate::waivers::{Waiver, note_waivers};
 use late_cert::Carried;
 use slot_types::{Refusal, Waived};
 use std::alloc::Global;
 use std::marker::Model;
+use std::mem::size_of;
 
 /// The events of a die, kept small: equal neighbours once with their count, callers and waivers beside them, and no bytes.
 ///
@@ -33,6 +34,11 @@ pub struct EventLog {
     /// Whether the newest event came with a waiver.
     waives: bool,
 }
+
+// A record of a deed takes 16 bytes, and one of its caller 8.
+const _: () = prove!(size_of::<Run<Deed>>() == 16);
+
+const _: () = prove!(size_of::<Run<u32>>() == 8);
 
 impl Model for EventLog {
     ghost use Rattle.std.specs.Prelude.{vec_len, vec_capacity};

@@ -6,8 +6,6 @@ pub mod deeds;
 pub mod event_log;
 pub mod laws;
 pub mod runs;
-#[cfg(test)]
-mod tests;
 mod waivers;
 
 pub use deeds::Deed;

@@ -4,6 +4,7 @@ ghost use Rattle.std.specs.Prelude.{◌≡◌, ◌+◌, ◌≤◌, ◌++◌, map
 ghost use Rattle.event_log.specs.Waivers.{waiver_of};
 
 use slot_types::Waived;
+use std::mem::size_of;
 
 /// A waiver, and the place from 0 of the event that it came with.
 #[derive(Clone, Copy, PartialEq, Eq, Debug, Drop)]
@@ -11,6 +12,8 @@ pub(crate) struct Waiver {
     pub(crate) event: u32,
     pub(crate) waived: Waived,
 }
+
+const _: () = prove!(size_of::<Waiver>() == 12);
 
 /// Adds the waivers of an event, in room that was made.
 pub(crate) fn note_waivers(waivers: &mut Vec<Waiver>, event: u32, waived: &[Waived])

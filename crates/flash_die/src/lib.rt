@@ -8,6 +8,3 @@ pub mod nand;
 pub use fuse::FuseNand;
 pub use memory::MemoryNand;
 pub use nand::Nand;
-
-#[cfg(test)]
-mod tests;

@@ -29,8 +29,3 @@ pub use laws::{
 pub use rows::{JobRow, JobRows, lateness, rows_rise};
 pub use stretches::build;
 pub use verdicts::Verdict;
-
-#[cfg(test)]
-mod tests;
-#[cfg(test)]
-mod twins;

@@ -6,6 +6,3 @@ pub mod laws;
 
 pub use accounts::Ledger;
 pub use laws::{grows_to_cap, writes_alone_lower_owned};
-
-#[cfg(test)]
-mod tests;

@@ -3,10 +3,13 @@
 ghost use Rattle.std.specs.Prelude.{◌≡◌, ◌<◌, ◌+◌, ◌^◌, Some, None, is_some, position};
 
 use std::marker::Model;
+use std::mem::size_of;
 
 /// A number or none, in four bytes: 0 is none, and a number has the word behind it. Contracts see which.
 #[derive(Clone, Copy, Debug, Drop)]
 pub(crate) struct Word(u32);
+
+const _: () = prove!(size_of::<Word>() == 4);
 
 impl Model for Word {
     ghost use Rattle.std.specs.Prelude.{ℕ, Option};

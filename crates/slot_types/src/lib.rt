@@ -25,6 +25,3 @@ pub use plans::{Caps, DiePlan, Shape, StorePlan, TaskTimes, Times, TimesList};
 pub use refusals::{Cause, Refusal};
 pub use replies::{Entry, Reads, Reply, SlotReply, Waived, WaivedList};
 pub use short_items::ShortItems;
-
-#[cfg(test)]
-mod tests;

@@ -5,8 +5,3 @@ mod block_sets;
 pub mod victims;
 
 pub use victims::Victims;
-
-#[cfg(test)]
-mod plain;
-#[cfg(test)]
-mod tests;

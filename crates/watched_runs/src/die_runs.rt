@@ -85,6 +85,23 @@ impl DieRun {
         }
     }
 
+    /// A fresh die as [`new`](DieRun::new) makes it, in a box, since a die is large to move. The only refusal is NoMemory.
+    pub fn boxed(
+        alloc: Global,
+        die: u32,
+        plan: DiePlan,
+        window: Window,
+    ) -> Result<Box<DieRun>, Refusal>
+        requires { MeetsBound plan }
+        ensures refused { FailsForMemory result }
+    {
+        let run = DieRun::new(alloc, die, plan, window)?;
+        match Box::new(alloc, run) {
+            Ok(boxed) => Ok(boxed),
+            Err(_) => Err(Refusal::NoMemory),
+        }
+    }
+
     /// Carries out the present slot.
     fn step(&mut self, alloc: Global) -> Result<(), Refusal>
         ensures plan { self.new.core.plan ≡ self.old.core.plan }

@@ -106,7 +106,7 @@ pub fn draw<R: Read + Drop>(
     let to = to.min(slots);
     let window = Window::new(alloc, from.min(to), to);
     let mut plans = plan.into_vec();
-    let run = DieRun::new(alloc, die, plans.swap_remove(die as usize), window)?;
+    let run = DieRun::boxed(alloc, die, plans.swap_remove(die as usize), window)?;
     let mut dies = Vec::new(alloc);
     match dies.push(run) {
         Ok(()) => {}

@@ -20,13 +20,13 @@ pub struct Told {
 }
 
 /// A fresh die for each plan.
-fn fresh_dies(alloc: Global, plan: StorePlan) -> Result<Vec<DieRun>, Refusal>
+fn fresh_dies(alloc: Global, plan: StorePlan) -> Result<Vec<Box<DieRun>>, Refusal>
     requires { All MeetsBound plan }
 {
     let mut dies = Vec::new(alloc);
     let mut die: u32 = 0;
     for plan in plan.into_vec() {
-        let run = DieRun::new(alloc, die, plan, Window::new(alloc, 0, 0))?;
+        let run = DieRun::boxed(alloc, die, plan, Window::new(alloc, 0, 0))?;
         match dies.push(run) {
             Ok(()) => {}
             Err(_) => return Err(Refusal::NoMemory),
@@ -40,7 +40,7 @@ fn fresh_dies(alloc: Global, plan: StorePlan) -> Result<Vec<DieRun>, Refusal>
 pub fn run_rows<R: Read + Drop>(
     alloc: Global,
     mut script: ScriptReader<R>,
-    dies: &mut Vec<DieRun>,
+    dies: &mut Vec<Box<DieRun>>,
     slots: u32,
 ) -> Result<RefusedRows, Refusal> {
     let mut refused = RefusedRows::NONE;
@@ -63,12 +63,17 @@ pub fn run_rows<R: Read + Drop>(
     Ok(refused)
 }
 
+/// What a die wore, which is given up.
+fn tally_of(run: Box<DieRun>) -> Tally {
+    let DieRun { tally, .. } = Box::into_inner(run);
+    tally
+}
+
 /// What dies wore.
-fn tallies_of(alloc: Global, dies: Vec<DieRun>) -> Result<Vec<Tally>, Refusal> {
+fn tallies_of(alloc: Global, dies: Vec<Box<DieRun>>) -> Result<Vec<Tally>, Refusal> {
     let mut tallies = Vec::new(alloc);
     for run in dies {
-        let DieRun { tally, .. } = run;
-        match tallies.push(tally) {
+        match tallies.push(tally_of(run)) {
             Ok(()) => {}
             Err(_) => return Err(Refusal::NoMemory),
         }

@@ -1,0 +1,90 @@
+//! The texts of refusals as they are printed, and lists at a concrete type.
+
+use slot_types::{Cause, DiePlan, Items, JobNo, Op, PageData, Refusal, Shape, Waived, WaivedList};
+use std::test::Fail;
+
+#[test]
+fn a_refusal_is_told_by_name_numbers_and_cause(rt: HostRuntime) -> Result<(), Fail> {
+    let alloc = rt.alloc();
+    let cause = Cause::Fields;
+    let told = [
+        (Refusal::BadPlan, "3 BadPlan"),
+        (Refusal::BadPage { page: 12 }, "8 BadPage 12"),
+        (Refusal::ReleasePast { now: 5 }, "9 ReleasePast 5"),
+        (Refusal::NoTokens { have: 4, need: 5 }, "12 NoTokens 4 5"),
+        (
+            Refusal::PlanText {
+                cause: Cause::NotToml,
+            },
+            "18 PlanText NotToml",
+        ),
+        (
+            Refusal::ScriptRow { line: 6, cause },
+            "19 ScriptRow 6 Fields",
+        ),
+        (Refusal::ReportText { line: 7 }, "20 ReportText 7"),
+        (Refusal::PassesOut { out: 1 }, "24 PassesOut 1"),
+    ];
+    for (refusal, want) in told {
+        let text = format!(in alloc; "{} {refusal}", refusal.number())?;
+        assert_eq!(rt; text.as_str(), want);
+    }
+    Ok(())
+}
+
+#[test]
+fn a_list_grows_at_its_end(rt: HostRuntime) -> Result<(), Fail> {
+    let alloc = rt.alloc();
+    let mut ops: Items<Op> = Items::new(alloc);
+    assert!(rt; ops.is_empty());
+    ops.push(Op::Write(3, PageData([0x11; 16])))?;
+    ops.push(Op::Read(3))?;
+    assert_eq!(rt; ops.len(), 2);
+    assert!(rt; ops.get(1) == Some(&Op::Read(3)));
+    assert!(rt; ops.get(2).is_none());
+    let again = Items::from_vec(ops.clone()?.into_vec());
+    assert!(rt; again == ops);
+    Ok(())
+}
+
+fn waived(number: u32) -> Waived {
+    Waived {
+        number: JobNo(number),
+        given: 2,
+    }
+}
+
+// The next one takes memory, which may be refused.
+#[test]
+fn sixteen_waivers_take_no_memory(rt: HostRuntime) -> Result<(), Fail> {
+    let mut list = WaivedList::new(rt.alloc());
+    for number in 0..16_u32 {
+        assert!(rt; list.push(waived(number)).is_ok());
+    }
+    let more = list.push(waived(16)).is_ok();
+    assert_eq!(rt; list.len(), if more { 17 } else { 16 });
+    for number in 0..list.len() {
+        assert!(rt; list.get(number) == Some(&waived(number as u32)));
+    }
+    Ok(())
+}
+
+#[test]
+fn plans_are_copied_whole(rt: HostRuntime) -> Result<(), Fail> {
+    let alloc = rt.alloc();
+    let mut caps: Items<u32> = Items::new(alloc);
+    caps.push(4)?;
+    let plan = DiePlan {
+        shape: Shape {
+            blocks: 8,
+            pages: 4,
+            erase_slots: 3,
+        },
+        logical: 12,
+        alpha: 2,
+        caps,
+        times: None,
+    };
+    assert!(rt; plan.clone()? == plan);
+    Ok(())
+}

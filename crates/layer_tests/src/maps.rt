@@ -1,0 +1,59 @@
+//! The map of a small die.
+
+use page_map::PageMap;
+use slot_types::{Place, Shape};
+use std::test::Fail;
+
+const SHAPE: Shape = Shape {
+    blocks: 8,
+    pages: 4,
+    erase_slots: 3,
+};
+
+const FIRST: Place = Place { block: 0, page: 0 };
+
+const SECOND: Place = Place { block: 0, page: 1 };
+
+const THIRD: Place = Place { block: 0, page: 2 };
+
+#[test]
+fn a_page_lies_in_the_last_cell_that_it_was_bound_to(rt: HostRuntime) -> Result<(), Fail> {
+    let mut map = PageMap::new(rt.alloc(), SHAPE, 12)?;
+    map.bind(3, FIRST);
+    map.bind(5, SECOND);
+    map.bind(3, THIRD);
+    assert_eq!(rt; map.place(3), Some(THIRD));
+    assert_eq!(rt; map.place(4), None);
+    assert!(rt; map.lies(3, THIRD));
+    assert!(rt; !map.lies(3, FIRST));
+    assert!(rt; !map.lies(12, THIRD));
+    assert_eq!(rt; map.owner(FIRST), None);
+    assert_eq!(rt; map.owner(SECOND), Some(5));
+    assert_eq!(rt; map.valid(0), 2);
+    assert_eq!(rt; map.valid(1), 0);
+    assert_eq!(rt; map.next_valid(0, 0), Some(1));
+    assert_eq!(rt; map.next_valid(0, 2), Some(2));
+    assert_eq!(rt; map.next_valid(0, 3), None);
+    Ok(())
+}
+
+#[test]
+fn a_page_that_is_unbound_lies_nowhere(rt: HostRuntime) -> Result<(), Fail> {
+    let mut map = PageMap::new(rt.alloc(), SHAPE, 12)?;
+    map.bind(3, FIRST);
+    map.bind(5, SECOND);
+    map.unbind(3);
+    assert_eq!(rt; map.place(3), None);
+    assert_eq!(rt; map.owner(FIRST), None);
+    assert!(rt; !map.lies(3, FIRST));
+    assert_eq!(rt; map.place(5), Some(SECOND));
+    assert_eq!(rt; map.valid(0), 1);
+    assert_eq!(rt; map.next_valid(0, 0), Some(1));
+    map.unbind(3);
+    map.unbind(4);
+    assert_eq!(rt; map.valid(0), 1);
+    map.bind(3, THIRD);
+    assert_eq!(rt; map.place(3), Some(THIRD));
+    assert_eq!(rt; map.valid(0), 2);
+    Ok(())
+}
