@@ -94,12 +94,8 @@ fn new_die<N: Nand>(alloc: Global, plan: DiePlan, nand: N) -> Result<(Die<N>, Di
     ensures first { IfOk result (λ made. made.1.view ≡ first_view plan) }
     ensures refused { FailsForMemory result }
 {
-    let core = DieCore::new(alloc, plan, nand)?;
-    let boxed = match Box::new(alloc, core) {
-        Ok(boxed) => boxed,
-        Err(_) => return Err(Refusal::NoMemory),
-    };
-    let (turned, pass) = Turned::new(alloc, DieBook::new(alloc, boxed))?;
+    let core = DieCore::boxed(alloc, plan, nand)?;
+    let (turned, pass) = Turned::new(alloc, DieBook::new(alloc, core))?;
     Ok((Die { turned }, pass))
 }
 

@@ -1,6 +1,7 @@
 //! A die.
 
 ghost use Rattle.std.specs.Prelude.{◌≡◌, ◌↔◌, ◌≤◌, ◌⊎◌, [], false, length, max, IsOk, IfOk, IfErr, OnOk, OnErr};
+ghost use Rattle.std.specs.Box.{box_value};
 ghost use Rattle.slot_types.specs.Refusal.{FailsForMemory};
 ghost use Rattle.slot_types.specs.Shapes.{IsShape};
 ghost use Rattle.plan_rules.specs.Bound.{MeetsBound};
@@ -77,6 +78,24 @@ impl<N: Nand> DieCore<N> {
             present: 0,
             reserved: 0,
         })
+    }
+
+    /// A die as [`new`](DieCore::new) makes it, in a box, since a die is large to move. It is refused as there; `NoMemory`
+    /// also where memory for the box is.
+    pub fn boxed(alloc: Global, plan: DiePlan, nand: N) -> Result<Box<DieCore<N>>, Refusal>
+        requires fresh { IsFresh (N.shape_of nand) (N.blocks nand) (N.failures nand) }
+        ensures ok { IfOk result (λ core. box_value core
+            ≡ record { plan = plan; device = nand; stopped = false; reserved = 0; log = [] }) }
+        ensures bad_shape { (result ≡ Err Refusal.BadShape) ↔ ¬ (IsShape plan.shape × (N.shape_of nand ≡ plan.shape)) }
+        ensures bad_plan { (result ≡ Err Refusal.BadPlan) ↔ (IsShape plan.shape × (N.shape_of nand ≡ plan.shape) × ¬ MeetsBound plan) }
+        ensures refused { IfErr result (λ refusal. (refusal ≡ Refusal.BadShape) ⊎ (refusal ≡ Refusal.BadPlan)
+            ⊎ (refusal ≡ Refusal.NoMemory)) }
+    {
+        let core = DieCore::new(alloc, plan, nand)?;
+        match Box::new(alloc, core) {
+            Ok(boxed) => Ok(boxed),
+            Err(_) => Err(Refusal::NoMemory),
+        }
     }
 
     /// Takes the memory for this many later slots, beside that which jobs and collections take when they come: so many

@@ -22,7 +22,7 @@ fn plays_on<N: Nand>(
 ) -> Result<(), Refusal>
     requires fresh { IsFresh (N.shape_of device) (N.blocks device) (N.failures device) }
 {
-    let mut die = DieCore::new(alloc, plan.of_die(alloc)?, device)?;
+    let mut die = DieCore::boxed(alloc, plan.of_die(alloc)?, device)?;
     play(rt, &mut die, alloc, "history", history);
     play(rt, &mut die, alloc, "table", steps);
     Ok(())

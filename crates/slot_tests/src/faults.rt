@@ -168,14 +168,14 @@ fn play<N: Nand, M: Nand>(
 /// Plays the history on a die beside a new one without a fault.
 fn play_beside<N: Nand>(fused: &mut DieCore<N>, alloc: Global) -> Result<Option<bool>, Refusal> {
     let device = MemoryNand::new(alloc, TIGHT.shape)?;
-    let mut whole = DieCore::new(alloc, TIGHT.of_die(alloc)?, device)?;
+    let mut whole = DieCore::boxed(alloc, TIGHT.of_die(alloc)?, device)?;
     Ok(play(fused, &mut whole, alloc))
 }
 
 /// Plays the history on a die whose device fails behind so many calls.
 fn play_fused(alloc: Global, calls: u64) -> Result<Option<bool>, Refusal> {
     let device = FuseNand::new(MemoryNand::new(alloc, TIGHT.shape)?, calls);
-    let mut fused = DieCore::new(alloc, TIGHT.of_die(alloc)?, device)?;
+    let mut fused = DieCore::boxed(alloc, TIGHT.of_die(alloc)?, device)?;
     play_beside(&mut fused, alloc)
 }
 

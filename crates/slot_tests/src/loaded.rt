@@ -188,7 +188,7 @@ fn end_of<N: Nand>(die: &mut DieCore<N>, alloc: Global, events: Items<Event>) ->
 /// What a recorder comes to in so many slots, on a new die.
 fn play(alloc: Global, plan: DiePlan, events: Items<Event>) -> Result<End, Refusal> {
     let nand = MemoryNand::new(alloc, plan.shape)?;
-    let mut die = DieCore::new(alloc, plan, nand)?;
+    let mut die = DieCore::boxed(alloc, plan, nand)?;
     Ok(end_of(&mut die, alloc, events))
 }
 

@@ -99,7 +99,7 @@ fn no_planned_event_is_refused(rt: HostRuntime) -> Result<(), Fail> {
     );
     let events = events_of(alloc, 400)?;
     assert!(&rt; keeps_plan(&plan, &events));
-    let mut die = DieCore::new(alloc, plan, MemoryNand::new(alloc, SHAPE)?)?;
+    let mut die = DieCore::boxed(alloc, plan, MemoryNand::new(alloc, SHAPE)?)?;
     let replies = die.run(alloc, events)?;
     assert_eq!(&rt; counts(replies.as_slice()), (60, 0));
     let in_time = match die.worst() {

@@ -194,7 +194,7 @@ fn play_on<N: Nand>(
 fn play(alloc: Global, tight: &Tight, seed: u32) -> Result<Course, Refusal> {
     let events = events_of(alloc, tight, seed)?;
     let device = MemoryNand::new(alloc, tight.shape)?;
-    let mut die = DieCore::new(alloc, plan_of(alloc, tight)?, device)?;
+    let mut die = DieCore::boxed(alloc, plan_of(alloc, tight)?, device)?;
     play_on(&mut die, alloc, events)
 }
 

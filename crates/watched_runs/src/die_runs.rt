@@ -1,6 +1,7 @@
 //! A die in memory that runs the rows of a script, and what is noted of it.
 
 ghost use Rattle.std.specs.Prelude.{◌≡◌, ◌+◌, ◌≤◌, [], IfOk, OnOk};
+ghost use Rattle.std.specs.Box.{box_value};
 ghost use Rattle.slot_types.specs.Refusal.{FailsForMemory};
 ghost use Rattle.plan_rules.specs.Bound.{MeetsBound};
 ghost use Rattle.die_log.specs.Log.{now};
@@ -18,10 +19,11 @@ use std::alloc::Global;
 pub struct DieRun {
     /// Its number in the store.
     pub die: u32,
-    pub core: DieCore<MemoryNand>,
+    /// In a box, since a die is large to move.
+    pub core: Box<DieCore<MemoryNand>>,
     pub tally: Tally,
     pub window: Window,
-    ghost worn: { IsWearOf core.plan.shape.blocks core.log tally },
+    ghost worn: { IsWearOf (box_value core).plan.shape.blocks (box_value core).log tally },
 }
 
 /// A job or a collection of a die.
@@ -64,8 +66,8 @@ impl DieRun {
     /// A fresh die of a plan, of which a window is looked at. The only refusal is NoMemory.
     pub fn new(alloc: Global, die: u32, plan: DiePlan, window: Window) -> Result<DieRun, Refusal>
         requires { MeetsBound plan }
-        ensures plan { IfOk result (λ run. run.core.plan ≡ plan) }
-        ensures log { IfOk result (λ run. run.core.log ≡ []) }
+        ensures plan { IfOk result (λ run. (box_value run.core).plan ≡ plan) }
+        ensures log { IfOk result (λ run. (box_value run.core).log ≡ []) }
         ensures die { IfOk result (λ run. run.die ≡ die) }
         ensures refused { FailsForMemory result }
     {
@@ -74,7 +76,7 @@ impl DieRun {
             Ok(nand) => nand,
             Err(_) => return Err(Refusal::NoMemory),
         };
-        match DieCore::new(alloc, plan, nand) {
+        match DieCore::boxed(alloc, plan, nand) {
             Ok(core) => Ok(DieRun {
                 die,
                 core,
@@ -104,9 +106,9 @@ impl DieRun {
 
     /// Carries out the present slot.
     fn step(&mut self, alloc: Global) -> Result<(), Refusal>
-        ensures plan { self.new.core.plan ≡ self.old.core.plan }
+        ensures plan { (box_value self.new.core).plan ≡ (box_value self.old.core).plan }
         ensures die { self.new.die ≡ self.old.die }
-        ensures slot { OnOk result (now self.new.core.log ≡ now self.old.core.log + 1) }
+        ensures slot { OnOk result (now (box_value self.new.core).log ≡ now (box_value self.old.core).log + 1) }
     {
         let reply = self.core.slot(alloc, 0)?;
         // So many slots fit a number.
@@ -117,9 +119,9 @@ impl DieRun {
 
     /// Carries out slots until this one is the present one. The only refusal is NoMemory.
     pub fn carry_to(&mut self, alloc: Global, slot: u32) -> Result<(), Refusal>
-        ensures plan { self.new.core.plan ≡ self.old.core.plan }
+        ensures plan { (box_value self.new.core).plan ≡ (box_value self.old.core).plan }
         ensures die { self.new.die ≡ self.old.die }
-        ensures slot { OnOk result (now self.old.core.log ≤ slot → now self.new.core.log ≡ slot) }
+        ensures slot { OnOk result (now (box_value self.old.core).log ≤ slot → now (box_value self.new.core).log ≡ slot) }
     {
         for _present in self.core.now()..slot {
             self.step(alloc)?;
@@ -129,9 +131,9 @@ impl DieRun {
 
     /// Asks for what a row says, and answers why it was refused, if it was.
     pub fn ask(&mut self, alloc: Global, event: Event) -> Option<Refusal>
-        ensures plan { self.new.core.plan ≡ self.old.core.plan }
+        ensures plan { (box_value self.new.core).plan ≡ (box_value self.old.core).plan }
         ensures die { self.new.die ≡ self.old.die }
-        ensures slot { now self.new.core.log ≡ now self.old.core.log }
+        ensures slot { now (box_value self.new.core).log ≡ now (box_value self.old.core).log }
     {
         let taken = match event {
             Event::Submit {
