@@ -54,9 +54,10 @@ impl JobTable {
         ensures ok { IfOk result (λ table. table ≡ empty_table tasks) }
         ensures refused { FailsForMemory result }
     {
+        let collecting = vec![in alloc; false; tasks as usize]?;
         Ok(JobTable {
             jobs: FlatJobs::new(alloc),
-            collecting: vec![in alloc; false; tasks as usize]?,
+            collecting,
             queues: Queues::new(alloc),
             worst: None,
             clock: 0,
