@@ -130,3 +130,30 @@ returns-in-Err-clause-finds g c = some_open (g.N.Nand.shape_of c.args.self.now.d
 pub returns-in-Ok-clause-finds : goal.returns-in-Ok-clause-finds
 returns-in-Ok-clause-finds g c = some_open (g.N.Nand.shape_of c.args.self.now.device).pages (g.N.Nand.blocks c.args.self.now.device)
     c.requires.free
+
+pub invariant_of-self : goal.invariant_of-self
+invariant_of-self g c = grind (arith, common_steps)
+
+pub returns-in-Err-clause-once : goal.returns-in-Err-clause-once
+returns-in-Err-clause-once g c = grind (arith, common_steps)
+
+pub returns-in-Err-clause-placed : goal.returns-in-Err-clause-placed
+returns-in-Err-clause-placed g c = grind (arith, common_steps)
+
+pub returns-in-Err-clause-sound : goal.returns-in-Err-clause-sound
+returns-in-Err-clause-sound g c = grind (arith, common_steps)
+
+pub returns-in-Err-clause-stays : goal.returns-in-Err-clause-stays
+returns-in-Err-clause-stays g c = grind (arith, common_steps)
+
+pub returns-in-Err-clause-ends : goal.returns-in-Err-clause-ends
+returns-in-Err-clause-ends g c = grind (arith, common_steps)
+
+pub returns-in-Ok-clause-once : goal.returns-in-Ok-clause-once
+returns-in-Ok-clause-once g c = grind (arith, common_steps)
+
+pub returns-in-Ok-clause-stays : goal.returns-in-Ok-clause-stays
+returns-in-Ok-clause-stays g c = grind (arith, common_steps)
+
+pub returns-in-Ok-clause-ends : goal.returns-in-Ok-clause-ends
+returns-in-Ok-clause-ends g c = grind (arith, common_steps)

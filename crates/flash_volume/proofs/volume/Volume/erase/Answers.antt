@@ -1,4 +1,5 @@
 use Rattle.std.proofs.Common.{◌≡◌, ◌<◌, ◌+◌, ◌-◌, ◌∙◌, length, get_or, refl, sym, ap, arith, ℕ}
+use Rattle.std.proofs.lemmas.Grind.{common_steps}
 use Rattle.std.proofs.lemmas.Bool.{eqb-false, eqb-true}
 use Rattle.plan_rules.specs.Accounts.{settled}
 use Rattle.flash_die.specs.Flash.{block_at}
@@ -121,3 +122,36 @@ returns-in-Ok-false-clause-did g c =
       running = rw c.task-in-Ok-false.view_is refl;
     }
     )
+
+pub invariant_of-self : goal.invariant_of-self
+invariant_of-self g c = grind (arith, common_steps)
+
+pub returns-in-Err-clause-once : goal.returns-in-Err-clause-once
+returns-in-Err-clause-once g c = grind (arith, common_steps)
+
+pub returns-in-Err-clause-did : goal.returns-in-Err-clause-did
+returns-in-Err-clause-did g c = grind (arith, common_steps)
+
+pub returns-in-Err-clause-stays : goal.returns-in-Err-clause-stays
+returns-in-Err-clause-stays g c = grind (arith, common_steps)
+
+pub returns-in-Err-clause-fails : goal.returns-in-Err-clause-fails
+returns-in-Err-clause-fails g c = grind (arith, common_steps)
+
+pub returns-in-Ok-true-clause-once : goal.returns-in-Ok-true-clause-once
+returns-in-Ok-true-clause-once g c = grind (arith, common_steps)
+
+pub returns-in-Ok-true-clause-stays : goal.returns-in-Ok-true-clause-stays
+returns-in-Ok-true-clause-stays g c = grind (arith, common_steps)
+
+pub returns-in-Ok-true-clause-fails : goal.returns-in-Ok-true-clause-fails
+returns-in-Ok-true-clause-fails g c = grind (arith, common_steps)
+
+pub returns-in-Ok-false-clause-once : goal.returns-in-Ok-false-clause-once
+returns-in-Ok-false-clause-once g c = grind (arith, common_steps)
+
+pub returns-in-Ok-false-clause-stays : goal.returns-in-Ok-false-clause-stays
+returns-in-Ok-false-clause-stays g c = grind (arith, common_steps)
+
+pub returns-in-Ok-false-clause-fails : goal.returns-in-Ok-false-clause-fails
+returns-in-Ok-false-clause-fails g c = grind (arith, common_steps)

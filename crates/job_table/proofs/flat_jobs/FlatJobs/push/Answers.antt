@@ -1,4 +1,5 @@
 use Rattle.std.proofs.Common.{◌∷◌, ◌++◌, [], List, length, vec_capacity, rules, arith, refl, ap, ◌∙◌}
+use Rattle.std.proofs.lemmas.Grind.{common_steps}
 use Rattle.slot_types.specs.declared.events.Op.{Op}
 use Rattle.slot_types.specs.declared.pages.PageData.{PageData}
 use Rattle.job_table.specs.declared.rows.Row.{Row}
@@ -78,3 +79,93 @@ returns-clause-ok c =
     c.in_ok-reserve-2.ensures.items
     ∙ jobs_pushed c.self.inside.rows.items c.self.inside.ops c.args.ops.now c.self.inside.reads.items row begun c.self.invariant.0
     ∙ ap (λ (l : List JobRecord). l ++ accepted c.args.collects c.args.task c.args.release c.args.due c.args.ops.now ∷ []) c.self.view_is
+
+pub returns-in_err-all_reads-clause-ok : goal.returns-in_err-all_reads-clause-ok
+returns-in_err-all_reads-clause-ok c = grind (arith, common_steps)
+
+pub returns-in_err-all_reads-clause-number : goal.returns-in_err-all_reads-clause-number
+returns-in_err-all_reads-clause-number c = grind (arith, common_steps)
+
+pub returns-in_err-all_reads-clause-refused : goal.returns-in_err-all_reads-clause-refused
+returns-in_err-all_reads-clause-refused c = grind (arith, common_steps)
+
+pub returns-in_err-all_reads-clause-err : goal.returns-in_err-all_reads-clause-err
+returns-in_err-all_reads-clause-err c = grind (arith, common_steps)
+
+pub returns-in_err-count_in_row-clause-ok : goal.returns-in_err-count_in_row-clause-ok
+returns-in_err-count_in_row-clause-ok c = grind (arith, common_steps)
+
+pub returns-in_err-count_in_row-clause-number : goal.returns-in_err-count_in_row-clause-number
+returns-in_err-count_in_row-clause-number c = grind (arith, common_steps)
+
+pub returns-in_err-count_in_row-clause-refused : goal.returns-in_err-count_in_row-clause-refused
+returns-in_err-count_in_row-clause-refused c = grind (arith, common_steps)
+
+pub returns-in_err-count_in_row-clause-err : goal.returns-in_err-count_in_row-clause-err
+returns-in_err-count_in_row-clause-err c = grind (arith, common_steps)
+
+pub returns-in_err-ops_in_row-clause-ok : goal.returns-in_err-ops_in_row-clause-ok
+returns-in_err-ops_in_row-clause-ok c = grind (arith, common_steps)
+
+pub returns-in_err-ops_in_row-clause-number : goal.returns-in_err-ops_in_row-clause-number
+returns-in_err-ops_in_row-clause-number c = grind (arith, common_steps)
+
+pub returns-in_err-ops_in_row-clause-refused : goal.returns-in_err-ops_in_row-clause-refused
+returns-in_err-ops_in_row-clause-refused c = grind (arith, common_steps)
+
+pub returns-in_err-ops_in_row-clause-err : goal.returns-in_err-ops_in_row-clause-err
+returns-in_err-ops_in_row-clause-err c = grind (arith, common_steps)
+
+pub invariant_of-self : goal.invariant_of-self
+invariant_of-self c = grind (arith, common_steps)
+
+pub returns-in_err-reserve-clause-ok : goal.returns-in_err-reserve-clause-ok
+returns-in_err-reserve-clause-ok c = grind (arith, common_steps)
+
+pub returns-in_err-reserve-clause-number : goal.returns-in_err-reserve-clause-number
+returns-in_err-reserve-clause-number c = grind (arith, common_steps)
+
+pub returns-in_err-reserve-clause-refused : goal.returns-in_err-reserve-clause-refused
+returns-in_err-reserve-clause-refused c = grind (arith, common_steps)
+
+pub returns-in_err-reserve-clause-err : goal.returns-in_err-reserve-clause-err
+returns-in_err-reserve-clause-err c = grind (arith, common_steps)
+
+pub invariant_of-self-in_err-reserve-2 : goal.invariant_of-self-in_err-reserve-2
+invariant_of-self-in_err-reserve-2 c = grind (arith, common_steps)
+
+pub returns-in_err-reserve-2-clause-ok : goal.returns-in_err-reserve-2-clause-ok
+returns-in_err-reserve-2-clause-ok c = grind (arith, common_steps)
+
+pub returns-in_err-reserve-2-clause-number : goal.returns-in_err-reserve-2-clause-number
+returns-in_err-reserve-2-clause-number c = grind (arith, common_steps)
+
+pub returns-in_err-reserve-2-clause-refused : goal.returns-in_err-reserve-2-clause-refused
+returns-in_err-reserve-2-clause-refused c = grind (arith, common_steps)
+
+pub returns-in_err-reserve-2-clause-err : goal.returns-in_err-reserve-2-clause-err
+returns-in_err-reserve-2-clause-err c = grind (arith, common_steps)
+
+pub invariant_of-self-in_err-push_all : goal.invariant_of-self-in_err-push_all
+invariant_of-self-in_err-push_all c = grind (arith, common_steps)
+
+pub returns-in_err-push_all-clause-ok : goal.returns-in_err-push_all-clause-ok
+returns-in_err-push_all-clause-ok c = grind (arith, common_steps)
+
+pub returns-in_err-push_all-clause-number : goal.returns-in_err-push_all-clause-number
+returns-in_err-push_all-clause-number c = grind (arith, common_steps)
+
+pub returns-in_err-push_all-clause-refused : goal.returns-in_err-push_all-clause-refused
+returns-in_err-push_all-clause-refused c = grind (arith, common_steps)
+
+pub returns-in_err-push_all-clause-err : goal.returns-in_err-push_all-clause-err
+returns-in_err-push_all-clause-err c = grind (arith, common_steps)
+
+pub returns-clause-number : goal.returns-clause-number
+returns-clause-number c = grind (arith, common_steps)
+
+pub returns-clause-refused : goal.returns-clause-refused
+returns-clause-refused c = grind (arith, common_steps)
+
+pub returns-clause-err : goal.returns-clause-err
+returns-clause-err c = grind (arith, common_steps)

@@ -1,4 +1,5 @@
 use Rattle.std.proofs.Common.{◌≡◌, refl, sym, ◌∙◌, ap, arith}
+use Rattle.std.proofs.lemmas.Grind.{common_steps}
 use Rattle.slot_types.specs.declared.plans.Shape.{Shape}
 use Rattle.flash_die.specs.Flash.{fresh_blocks}
 use Rattle.job_table.specs.Table.{Table, empty_table}
@@ -27,3 +28,57 @@ invariant_of-result g c =
 
 pub returns-clause-bad_plan : goal.returns-clause-bad_plan
 returns-clause-bad_plan g c = ((λ e. absurd cc), (λ h. absurd (h.2 (c.in_ok-bound.ensures.ok.0 refl))))
+
+pub returns-then-ne-clause-ok : goal.returns-then-ne-clause-ok
+returns-then-ne-clause-ok g c = grind (arith, common_steps)
+
+pub returns-then-ne-clause-bad_shape : goal.returns-then-ne-clause-bad_shape
+returns-then-ne-clause-bad_shape g c = grind (arith, common_steps)
+
+pub returns-then-ne-clause-bad_plan : goal.returns-then-ne-clause-bad_plan
+returns-then-ne-clause-bad_plan g c = grind (arith, common_steps)
+
+pub returns-then-ne-clause-refused : goal.returns-then-ne-clause-refused
+returns-then-ne-clause-refused g c = grind (arith, common_steps)
+
+pub returns-in_err-bound-clause-ok : goal.returns-in_err-bound-clause-ok
+returns-in_err-bound-clause-ok g c = grind (arith, common_steps)
+
+pub returns-in_err-bound-clause-bad_shape : goal.returns-in_err-bound-clause-bad_shape
+returns-in_err-bound-clause-bad_shape g c = grind (arith, common_steps)
+
+pub returns-in_err-bound-clause-bad_plan : goal.returns-in_err-bound-clause-bad_plan
+returns-in_err-bound-clause-bad_plan g c = grind (arith, common_steps)
+
+pub returns-in_err-table-clause-ok : goal.returns-in_err-table-clause-ok
+returns-in_err-table-clause-ok g c = grind (arith, common_steps)
+
+pub returns-in_err-table-clause-bad_shape : goal.returns-in_err-table-clause-bad_shape
+returns-in_err-table-clause-bad_shape g c = grind (arith, common_steps)
+
+pub returns-in_err-table-clause-bad_plan : goal.returns-in_err-table-clause-bad_plan
+returns-in_err-table-clause-bad_plan g c = grind (arith, common_steps)
+
+pub returns-in_err-table-clause-refused : goal.returns-in_err-table-clause-refused
+returns-in_err-table-clause-refused g c = grind (arith, common_steps)
+
+pub returns-in_err-volume-clause-ok : goal.returns-in_err-volume-clause-ok
+returns-in_err-volume-clause-ok g c = grind (arith, common_steps)
+
+pub returns-in_err-volume-clause-bad_shape : goal.returns-in_err-volume-clause-bad_shape
+returns-in_err-volume-clause-bad_shape g c = grind (arith, common_steps)
+
+pub returns-in_err-volume-clause-bad_plan : goal.returns-in_err-volume-clause-bad_plan
+returns-in_err-volume-clause-bad_plan g c = grind (arith, common_steps)
+
+pub returns-in_err-volume-clause-refused : goal.returns-in_err-volume-clause-refused
+returns-in_err-volume-clause-refused g c = grind (arith, common_steps)
+
+pub returns-clause-ok : goal.returns-clause-ok
+returns-clause-ok g c = grind (arith, common_steps)
+
+pub returns-clause-bad_shape : goal.returns-clause-bad_shape
+returns-clause-bad_shape g c = grind (arith, common_steps)
+
+pub returns-clause-refused : goal.returns-clause-refused
+returns-clause-refused g c = grind (arith, common_steps)

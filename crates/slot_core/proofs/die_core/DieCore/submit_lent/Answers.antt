@@ -1,4 +1,5 @@
 use Rattle.std.proofs.Common.{◌≡◌, refl, sym, ◌∙◌, ap, inl, inr, None, arith, rules}
+use Rattle.std.proofs.lemmas.Grind.{common_steps}
 use Rattle.slot_types.specs.declared.events.Event.TheVariants.{Submit}
 use Rattle.slot_types.specs.Operations.{writes}
 use Rattle.die_log.specs.Answers.{refusal_of}
@@ -83,3 +84,33 @@ returns-in-Ok-clause-taken g c =
           (submit_taken _ _ f.table _ _ _ _ _ none c.self.invariant.0.kept.jobs_are c.in-Ok.ensures.number);
       logged = rw (tells.0, made, ← c.self.view_is) refl;
     }
+
+pub returns-then-failed-clause-stopped : goal.returns-then-failed-clause-stopped
+returns-then-failed-clause-stopped g c = grind (arith, common_steps)
+
+pub returns-then-failed-clause-taken : goal.returns-then-failed-clause-taken
+returns-then-failed-clause-taken g c = grind (arith, common_steps)
+
+pub returns-then-failed-clause-refused : goal.returns-then-failed-clause-refused
+returns-then-failed-clause-refused g c = grind (arith, common_steps)
+
+pub returns-in-Some-clause-stopped : goal.returns-in-Some-clause-stopped
+returns-in-Some-clause-stopped g c = grind (arith, common_steps)
+
+pub returns-in-Some-clause-taken : goal.returns-in-Some-clause-taken
+returns-in-Some-clause-taken g c = grind (arith, common_steps)
+
+pub invariant_of-self : goal.invariant_of-self
+invariant_of-self g c = grind (arith, common_steps)
+
+pub returns-in-Err-clause-stopped : goal.returns-in-Err-clause-stopped
+returns-in-Err-clause-stopped g c = grind (arith, common_steps)
+
+pub returns-in-Err-clause-taken : goal.returns-in-Err-clause-taken
+returns-in-Err-clause-taken g c = grind (arith, common_steps)
+
+pub returns-in-Ok-clause-stopped : goal.returns-in-Ok-clause-stopped
+returns-in-Ok-clause-stopped g c = grind (arith, common_steps)
+
+pub returns-in-Ok-clause-refused : goal.returns-in-Ok-clause-refused
+returns-in-Ok-clause-refused g c = grind (arith, common_steps)
