@@ -1,4 +1,5 @@
 use Rattle.std.proofs.Common.{rules, refl, ap, ◌≡◌, ◌+◌, ◌-◌, ◌∙◌, length, arith}
+use Rattle.std.proofs.lemmas.Grind.{common_steps}
 use Rattle.turn_lock.proofs.Turns.{grown, sole_after, seen_before, none_left, none_out}
 use Rattle.turn_lock.proofs.lock.Turned.close.Goals as goal
 
@@ -26,3 +27,30 @@ returns-then-out-gt0-clause-sole g c = λ sole.
     let l : length v.joined + 1 ≡ c.take-kept.result.made = none_left g.B.Book.log g.B.Book.about g.B.Book.fits v c.take-kept.new.seat.me.0
     c.take-kept.result c.take-kept.ensures.won.1 c.pass.invariant.1 (ap (λ x. x.view.sole) c.pass.view_is ∙ sole) in
     absurd (omega arith)
+
+pub invariant_of-pass : goal.invariant_of-pass
+invariant_of-pass g c = grind (arith, common_steps)
+
+pub returns-then-out-gt0-clause-closed : goal.returns-then-out-gt0-clause-closed
+returns-then-out-gt0-clause-closed g c = grind (arith, common_steps)
+
+pub returns-then-out-gt0-clause-own : goal.returns-then-out-gt0-clause-own
+returns-then-out-gt0-clause-own g c = grind (arith, common_steps)
+
+pub returns-then-out-gt0-clause-back : goal.returns-then-out-gt0-clause-back
+returns-then-out-gt0-clause-back g c = grind (arith, common_steps)
+
+pub returns-clause-closed : goal.returns-clause-closed
+returns-clause-closed g c = grind (arith, common_steps)
+
+pub returns-clause-own : goal.returns-clause-own
+returns-clause-own g c = grind (arith, common_steps)
+
+pub returns-clause-out : goal.returns-clause-out
+returns-clause-out g c = grind (arith, common_steps)
+
+pub returns-clause-back : goal.returns-clause-back
+returns-clause-back g c = grind (arith, common_steps)
+
+pub returns-clause-sole : goal.returns-clause-sole
+returns-clause-sole g c = grind (arith, common_steps)

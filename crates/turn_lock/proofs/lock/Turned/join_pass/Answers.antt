@@ -1,3 +1,5 @@
+use Rattle.std.proofs.Common.{arith}
+use Rattle.std.proofs.lemmas.Grind.{common_steps}
 use Rattle.std.proofs.Common.{rules, ap, ◌∙◌, ◌≡◌}
 use Rattle.turn_lock.proofs.Turns.{joined_seen}
 use Rattle.turn_lock.specs.Views.{joined_view}
@@ -39,3 +41,6 @@ invariant_of-pass g c =
       search rules,
       rw (ap (λ m. m.0) told.0) told.4,
     )
+
+pub returns-clause-same : goal.returns-clause-same
+returns-clause-same g c = grind (arith, common_steps)

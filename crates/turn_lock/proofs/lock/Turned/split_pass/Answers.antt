@@ -1,3 +1,5 @@
+use Rattle.std.proofs.Common.{arith}
+use Rattle.std.proofs.lemmas.Grind.{common_steps}
 use Rattle.std.proofs.Common.{rules, ap, ◌∙◌, refl}
 use Rattle.turn_lock.proofs.Keeps.{splits}
 use Rattle.turn_lock.proofs.Turns.{parts, grown}
@@ -19,3 +21,42 @@ returns-then-number-ge-MAX_PASSES-clause-full g c = rw (← c.pass.view_is) (
       c.take-kept.ensures.won.1 c.pass.invariant.2 refl c.release-pass-inside.ensures.view,
   search rules,
 )
+
+pub invariant_of-pass : goal.invariant_of-pass
+invariant_of-pass g c = grind (arith, common_steps)
+
+pub returns-then-number-ge-MAX_PASSES-clause-same : goal.returns-then-number-ge-MAX_PASSES-clause-same
+returns-then-number-ge-MAX_PASSES-clause-same g c = grind (arith, common_steps)
+
+pub returns-then-number-ge-MAX_PASSES-clause-own : goal.returns-then-number-ge-MAX_PASSES-clause-own
+returns-then-number-ge-MAX_PASSES-clause-own g c = grind (arith, common_steps)
+
+pub returns-then-number-ge-MAX_PASSES-clause-parts : goal.returns-then-number-ge-MAX_PASSES-clause-parts
+returns-then-number-ge-MAX_PASSES-clause-parts g c = grind (arith, common_steps)
+
+pub returns-then-number-ge-MAX_PASSES-clause-live : goal.returns-then-number-ge-MAX_PASSES-clause-live
+returns-then-number-ge-MAX_PASSES-clause-live g c = grind (arith, common_steps)
+
+pub returns-then-number-ge-MAX_PASSES-clause-refused : goal.returns-then-number-ge-MAX_PASSES-clause-refused
+returns-then-number-ge-MAX_PASSES-clause-refused g c = grind (arith, common_steps)
+
+pub invariant_of-result : goal.invariant_of-result
+invariant_of-result g c = grind (arith, common_steps)
+
+pub invariant_of-pass-2 : goal.invariant_of-pass-2
+invariant_of-pass-2 g c = grind (arith, common_steps)
+
+pub returns-clause-same : goal.returns-clause-same
+returns-clause-same g c = grind (arith, common_steps)
+
+pub returns-clause-own : goal.returns-clause-own
+returns-clause-own g c = grind (arith, common_steps)
+
+pub returns-clause-live : goal.returns-clause-live
+returns-clause-live g c = grind (arith, common_steps)
+
+pub returns-clause-refused : goal.returns-clause-refused
+returns-clause-refused g c = grind (arith, common_steps)
+
+pub returns-clause-full : goal.returns-clause-full
+returns-clause-full g c = grind (arith, common_steps)
