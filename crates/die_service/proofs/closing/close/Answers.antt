@@ -1,4 +1,5 @@
 use Rattle.std.proofs.Common.{◌≡◌, ℕ, true, false, List, sym, ◌∙◌, subst, rules, arith}
+use Rattle.std.proofs.lemmas.Grind.{common_steps}
 use Rattle.std.proofs.lemmas.List.Elements.{All-from_recursion, recursion_from_All}
 use Rattle.std.specs.List.{AllZip}
 use Rattle.slot_core.specs.Core.{Core}
@@ -70,3 +71,42 @@ returns-in-Err-clause-own g c =
     c.first_out-out.ensures.told in
     let whole = written c.args.passes.len ps qs (told_length ps out qs told) (search rules) in
     rw whole (told_locks ps out qs told ∙ c.requires.own)
+
+pub returns-then-out-gt0-clause-closed : goal.returns-then-out-gt0-clause-closed
+returns-then-out-gt0-clause-closed g c = grind (arith, common_steps)
+
+pub returns-then-out-gt0-clause-runs : goal.returns-then-out-gt0-clause-runs
+returns-then-out-gt0-clause-runs g c = grind (arith, common_steps)
+
+pub returns-then-out-gt0-clause-refused : goal.returns-then-out-gt0-clause-refused
+returns-then-out-gt0-clause-refused g c = grind (arith, common_steps)
+
+pub returns-then-out-gt0-clause-back : goal.returns-then-out-gt0-clause-back
+returns-then-out-gt0-clause-back g c = grind (arith, common_steps)
+
+pub returns-in-Err-clause-closed : goal.returns-in-Err-clause-closed
+returns-in-Err-clause-closed g c = grind (arith, common_steps)
+
+pub returns-in-Err-clause-runs : goal.returns-in-Err-clause-runs
+returns-in-Err-clause-runs g c = grind (arith, common_steps)
+
+pub returns-in-Err-clause-refused : goal.returns-in-Err-clause-refused
+returns-in-Err-clause-refused g c = grind (arith, common_steps)
+
+pub returns-in-Err-clause-back : goal.returns-in-Err-clause-back
+returns-in-Err-clause-back g c = grind (arith, common_steps)
+
+pub returns-in-Err-clause-sole : goal.returns-in-Err-clause-sole
+returns-in-Err-clause-sole g c = grind (arith, common_steps)
+
+pub returns-clause-refused : goal.returns-clause-refused
+returns-clause-refused g c = grind (arith, common_steps)
+
+pub returns-clause-back : goal.returns-clause-back
+returns-clause-back g c = grind (arith, common_steps)
+
+pub returns-clause-own : goal.returns-clause-own
+returns-clause-own g c = grind (arith, common_steps)
+
+pub returns-clause-sole : goal.returns-clause-sole
+returns-clause-sole g c = grind (arith, common_steps)

@@ -1,3 +1,5 @@
+use Rattle.std.proofs.Common.{arith}
+use Rattle.std.proofs.lemmas.Grind.{common_steps}
 use Rattle.std.proofs.Common.{length, refl, sym, rules}
 use Rattle.die_service.specs.Stores.{IsServed}
 use Rattle.die_service.proofs.Making.{all_ready}
@@ -19,3 +21,39 @@ loop-plan-init g c =
           (all_ready g.N.Nand.shape_of g.N.Nand.blocks g.N.Nand.failures c.args.plans.items c.args.nands.items c.requires.fresh
           c.requires.fit served);
     }
+
+pub returns-in_err-dies-clause-own : goal.returns-in_err-dies-clause-own
+returns-in_err-dies-clause-own g c = grind (arith, common_steps)
+
+pub returns-in_err-dies-clause-first : goal.returns-in_err-dies-clause-first
+returns-in_err-dies-clause-first g c = grind (arith, common_steps)
+
+pub returns-in_err-dies-clause-refused : goal.returns-in_err-dies-clause-refused
+returns-in_err-dies-clause-refused g c = grind (arith, common_steps)
+
+pub returns-in_err-passes-clause-own : goal.returns-in_err-passes-clause-own
+returns-in_err-passes-clause-own g c = grind (arith, common_steps)
+
+pub returns-in_err-passes-clause-first : goal.returns-in_err-passes-clause-first
+returns-in_err-passes-clause-first g c = grind (arith, common_steps)
+
+pub returns-in_err-passes-clause-refused : goal.returns-in_err-passes-clause-refused
+returns-in_err-passes-clause-refused g c = grind (arith, common_steps)
+
+pub returns-in_err-die-clause-own : goal.returns-in_err-die-clause-own
+returns-in_err-die-clause-own g c = grind (arith, common_steps)
+
+pub returns-in_err-die-clause-first : goal.returns-in_err-die-clause-first
+returns-in_err-die-clause-first g c = grind (arith, common_steps)
+
+pub returns-in_err-die-clause-refused : goal.returns-in_err-die-clause-refused
+returns-in_err-die-clause-refused g c = grind (arith, common_steps)
+
+pub returns-clause-own : goal.returns-clause-own
+returns-clause-own g c = grind (arith, common_steps)
+
+pub returns-clause-first : goal.returns-clause-first
+returns-clause-first g c = grind (arith, common_steps)
+
+pub returns-clause-refused : goal.returns-clause-refused
+returns-clause-refused g c = grind (arith, common_steps)

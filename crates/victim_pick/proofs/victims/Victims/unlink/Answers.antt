@@ -1,4 +1,5 @@
 use Rattle.std.proofs.Common.{◌≡◌, ◌<◌, ◌≤◌, ◌*◌, ℕ, Option, Some, None, length, get_or, set, refl, sym, subst, arith, inl, inr}
+use Rattle.std.proofs.lemmas.Grind.{common_steps}
 use Rattle.std.proofs.lemmas.List.{get_or_read, length-set}
 use Rattle.victim_pick.specs.Candidates.{count_of}
 use Rattle.victim_pick.specs.Lists.{IsFirstOf}
@@ -68,3 +69,12 @@ invariant_of-self c =
       | inr stayed ↦ c.self.invariant.least_is b n stayed
     ])
     )
+
+pub returns-clause-fits : goal.returns-clause-fits
+returns-clause-fits c = grind (arith, common_steps)
+
+pub returns-clause-kept : goal.returns-clause-kept
+returns-clause-kept c = grind (arith, common_steps)
+
+pub returns-clause-taken : goal.returns-clause-taken
+returns-clause-taken c = grind (arith, common_steps)
