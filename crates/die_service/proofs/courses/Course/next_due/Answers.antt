@@ -23,4 +23,5 @@ returns-clause-due c =
     subst (λ (k : Course). Comes c.args.clock k (with_ops c.read.result c.read.new.ops.items)
     (on f.from f.slots (f.place + 1) f.feed c.read.new.ops.items f.refused.items)) c.self.view_is
     (comes_now f.from f.slots c.args.clock f.place c.at.result f.feed (with_ops c.read.result c.read.new.ops.items) f.ops.items
-    c.read.new.ops.items f.refused.items c.at.ensures (let by = c.if-at-clock.false in omega (arith, by)) c.read.ensures.event c.self.invariant.0)
+    c.read.new.ops.items f.refused.items c.at.ensures (let by = c.if-at-clock.false in omega (arith, by))
+    c.read.ensures.event c.self.invariant.0)

@@ -35,7 +35,8 @@ returns-in_default g c =
     (rw (← c.self.view_is) c.number.ensures.live) c.requires
     (rw (← c.self.view_is) c.slots-slots.ensures) (rw (← c.self.view_is) c.from-from.ensures)
     (gives_up g.N.Nand.never_fails c.slots-slots.result c.from-from.result c.loop-done._done c.loop-done.clock c.args.self.now
-    c.loop-done.self c.bring_due.new.self c.take_slot.new.self c.loop-done-test.true c.loop-done.invariant c.bring_due.ensures c.in_default.ensures.stopped)
+    c.loop-done.self c.bring_due.new.self c.take_slot.new.self c.loop-done-test.true c.loop-done.invariant
+    c.bring_due.ensures c.in_default.ensures.stopped)
 
 pub returns : goal.returns
 returns g c =
