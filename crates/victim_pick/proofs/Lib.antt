@@ -1,4 +1,8 @@
-pub mod Words
-pub mod Changes
+pub mod Setting
+pub mod Places
+pub mod Highest
+pub mod Coming
+pub mod Leaving
 pub mod Fresh
+pub mod Walk
 pub mod Least

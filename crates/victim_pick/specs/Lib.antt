@@ -1,4 +1,6 @@
 pub mod Candidates
-pub mod Search
-pub mod Sets
+pub mod Ties
+pub mod Links
 pub mod Lists
+pub mod Sound
+pub mod Calls

@@ -1,7 +1,9 @@
 //! The choice of the block that a collection erases: the closed block with the fewest valid pages.
 #![tactic(auto)]
 
-mod block_sets;
+pub mod laws;
+mod lists;
+mod ties;
 pub mod victims;
 
 pub use victims::Victims;

@@ -1,6 +1,6 @@
 use Rattle.std.proofs.Common.{None, Some, refl, arith}
-use Rattle.victim_pick.proofs.Fresh.{fresh_lists}
-use Rattle.victim_pick.proofs.victims.Victims.new.Goals as goal
+use Rattle.victim_pick.proofs.Fresh.{fresh_links}
+use Rattle.victim_pick.proofs.lists.Lists.new.Goals as goal
 
 pub invariant_of-result : goal.invariant_of-result
 invariant_of-result c =
@@ -8,8 +8,7 @@ invariant_of-result c =
       c.in_ok-vec.ensures.items_if_clones_equal (elim [ None ↦ λ _. refl | Some n ↦ λ no. absurd no ]),
       c.in_ok-vec-2.ensures.items_if_clones_equal (elim [ None ↦ λ _. refl | Some n ↦ λ no. absurd no ]),
       c.in_ok-vec-3.ensures.items_if_clones_equal (elim [ None ↦ λ _. refl | Some n ↦ λ no. absurd no ]),
-      c.in_ok-new.ensures.words,
-      c.in_ok-new.ensures.empty,
+      c.in_ok-vec-4.ensures.items_if_clones_equal (elim [ None ↦ λ _. refl | Some n ↦ λ no. absurd no ]),
     ) (
-    fresh_lists c.args.pages c.args.blocks (omega arith) (omega arith)
+    fresh_links c.args.pages c.args.blocks (omega arith)
     )
