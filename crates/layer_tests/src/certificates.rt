@@ -129,6 +129,25 @@ fn two_jobs_with_one_due(rt: HostRuntime) -> Result<(), Fail> {
     Ok(())
 }
 
+// Rows and slots that no run had: job 1 is said to end with slot 1, which carried job 0. Its stretch asks of that slot a
+// key that isn't above job 1's, and no more: so with job 0 due earlier there is a certificate, and with it due later none.
+#[test]
+fn a_stretch_may_end_with_a_slot_of_another_job(rt: HostRuntime) -> Result<(), Fail> {
+    let alloc = rt.alloc();
+    let earlier = [(0, 0, 3, 1, Some(2)), (1, 0, 5, 1, Some(2))];
+    let later = [(0, 0, 9, 1, Some(2)), (1, 0, 5, 1, Some(2))];
+    assert!(rt; is_built(alloc, &earlier, &[1, 0], 1, (0, 5, 2), &[0, 1])?);
+    assert!(rt; verdict_on(alloc, &earlier, (0, 5, 2), &[0, 1])? == Some(Verdict::Holds));
+    assert!(rt; built(alloc, &later, &[1, 0], 1)?.is_none());
+    Ok(())
+}
+
+#[test]
+fn no_certificate_ends_beyond_the_carried_slots(rt: HostRuntime) -> Result<(), Fail> {
+    assert!(rt; built(rt.alloc(), &ONE_DUE, &[1, 1, 0, 0], 1)?.is_none());
+    Ok(())
+}
+
 #[test]
 fn the_first_fault_is_told(rt: HostRuntime) -> Result<(), Fail> {
     let alloc = rt.alloc();
