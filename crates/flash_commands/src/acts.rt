@@ -181,8 +181,8 @@ pub fn carry_out<R: Threads + Wait + Sync, F: Read + Drop, S: Read + Drop, W: Wr
 /// `die 0 worst -1 job 0 holds` or `die 0 worst 0 job 1 refused 5 EarlyRelease`, or that it has none, as
 /// `die 0 no lateness`; the status is 3 exactly where this is written whole and some certificate is refused.
 ///
-/// `plan` prints for each die the figures of its plan, as `die 0 fmax 7 closed 6 live 18 logical 12 accepted`; no more
-/// of the plan is read than 1,048,577 bytes.
+/// `plan` prints for each die the figures of its plan, as `die 0 fmax 7 closed 6 live 18 logical 12 accepted`, and behind
+/// them, where the plan has times, its load, as `die 0 load 11 of 20`; no more of the plan is read than 1,048,577 bytes.
 ///
 /// Each text for `out` is made whole before its first byte. A refusal is told in a line to `err`, as
 /// `error 19 ScriptRow 6 Fields`, and the status is 1: nothing was written to `out`, or `out` failed before it had the

@@ -18,8 +18,8 @@ use text_base::{Bounded, rows_in};
 /// fields may be quoted, a record ends with a line feed, a carriage return or both, and a byte order mark at the start
 /// is passed over. Record 1 is the header `at,die,task,kind,release,due,ops`. Each later record has these seven
 /// fields: numbers of 1 to 10 digits, of at most 4,294,967,295; the kind `job` or `collect`; and for a job its
-/// operations with one space between two, `R` and a page, or `W`, a page, `=` and 32 hexadecimal digits. The `at` of a
-/// die's rows never falls and is at most the number of slots.
+/// operations with one space between two, `R` and a page, `T` and a page that is trimmed, or `W`, a page, `=` and 32
+/// hexadecimal digits. The `at` of a die's rows never falls and is at most the number of slots.
 ///
 /// No more of the text is read than 67,108,864 bytes, in at most 67,108,865 calls of the reader.
 #[derive(Drop)]
