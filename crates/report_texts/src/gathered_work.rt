@@ -5,9 +5,11 @@ ghost use Rattle.csv.specs.Records.{fields_of};
 ghost use Rattle.report_texts.specs.GatheredWork.{all_work, no_work, with_numbers, work_progress, work_with};
 ghost use Rattle.report_texts.specs.RowNumbers.{comes_next};
 
+use crate::report_rows::row_with;
 use crate::report_work::{DieWork, ReportWork};
 use crate::row_numbers::{RowNumbers, read_numbers};
 use csv::ByteRecord;
+use slot_types::Reads;
 use std::alloc::{AllocError, Global};
 use std::mem;
 
@@ -62,7 +64,7 @@ fn begin(alloc: Global, work: &mut GatheredWork, next: &RowNumbers) -> Result<()
     ensures { OnOk result (work.new ≡ with_numbers work.old next.now) }
 {
     let mut last = DieWork::new(alloc, next.die);
-    last.add(next)?;
+    last.add(&row_with(next, Reads::new(alloc)))?;
     let last = mem::replace(&mut work.last, last);
     if work.rows != 0 {
         work.done.push(last)?;
@@ -79,7 +81,7 @@ fn add(alloc: Global, work: &mut GatheredWork, next: &RowNumbers) -> Result<(), 
     if next.die != work.last.die {
         return begin(alloc, work, next);
     }
-    work.last.add(next)?;
+    work.last.add(&row_with(next, Reads::new(alloc)))?;
     work.rows += 1;
     Ok(())
 }

@@ -42,7 +42,7 @@ impl Finish {
 }
 
 /// How a row ended, if it is done.
-fn finish_in(row: &ReportRow) -> Option<Finish>
+pub fn finish_in(row: &ReportRow) -> Option<Finish>
     ensures { result ≡ finish_of row.now }
 {
     match row.completion {

@@ -4,7 +4,7 @@ ghost use Rattle.std.specs.Prelude.{◌≡◌, IfOk};
 ghost use Rattle.csv.specs.Records.{fields_of};
 ghost use Rattle.text_base.specs.Fields.{field_or};
 ghost use Rattle.report_texts.specs.ReportRows.{sound_row};
-ghost use Rattle.report_texts.specs.RowNumbers.{die_row};
+ghost use Rattle.report_texts.specs.RowNumbers.{row_with};
 ghost use Rattle.text_base.specs.Words.{list_of};
 ghost use Rattle.text_base.specs.Pages.{page_of};
 
@@ -30,23 +30,20 @@ fn reads(alloc: Global, fields: &ByteRecord) -> Result<Option<Reads>, AllocError
 }
 
 /// The row of these numbers and reads.
-fn row(numbers: RowNumbers, reads: Reads) -> DieRow
-    ensures { result ≡ die_row numbers reads }
+pub fn row_with(numbers: &RowNumbers, reads: Reads) -> ReportRow
+    ensures { result ≡ row_with numbers.now reads }
 {
-    DieRow {
-        die: numbers.die,
-        row: ReportRow {
-            row: numbers.row,
-            job: numbers.job,
-            task: numbers.task,
-            release: numbers.release,
-            due: numbers.due,
-            work: numbers.work,
-            completion: numbers.completion,
-            lateness: numbers.lateness,
-            given: numbers.given,
-            reads,
-        },
+    ReportRow {
+        row: numbers.row,
+        job: numbers.job,
+        task: numbers.task,
+        release: numbers.release,
+        due: numbers.due,
+        work: numbers.work,
+        completion: numbers.completion,
+        lateness: numbers.lateness,
+        given: numbers.given,
+        reads,
     }
 }
 
@@ -66,5 +63,8 @@ pub fn read_row(alloc: Global, fields: &ByteRecord) -> Result<Option<DieRow>, Al
     if !stands(&numbers, reads.len()) {
         return Ok(None);
     }
-    Ok(Some(row(numbers, reads)))
+    Ok(Some(DieRow {
+        die: numbers.die,
+        row: row_with(&numbers, reads),
+    }))
 }

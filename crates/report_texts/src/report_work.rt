@@ -1,14 +1,11 @@
 //! The work of a report: what certificates are checked against, and no more.
 
-ghost use Rattle.std.specs.Prelude.{◌≡◌, [], OnOk};
+ghost use Rattle.std.specs.Prelude.{◌≡◌, OnOk};
 ghost use Rattle.report_texts.specs.GatheredWork.{no_work_on, with_work};
-ghost use Rattle.report_texts.specs.RowNumbers.{row_with};
-ghost use Rattle.report_texts.specs.Worst.{finish_of};
 
-use crate::report_certs::{Finish, worse_of};
-use crate::reports::RowKind;
-use crate::row_numbers::RowNumbers;
-use late_cert::{Certificate, JobRow, JobRows};
+use crate::report_certs::{Finish, finish_in, worse_of};
+use crate::reports::ReportRow;
+use late_cert::{Certificate, JobRows};
 use slot_types::Items;
 use std::alloc::{AllocError, Global};
 
@@ -27,20 +24,6 @@ pub struct DieWork {
 /// The work of the dies that have rows, by number.
 pub type ReportWork = Items<DieWork>;
 
-/// How a row ended, if it is done.
-fn finish_in(row: &RowNumbers) -> Option<Finish>
-    ensures { result ≡ finish_of (row_with row.now []) }
-{
-    match row.completion {
-        Some(completion) => Some(Finish {
-            job: row.job,
-            due: row.due,
-            completion,
-        }),
-        None => None,
-    }
-}
-
 impl DieWork {
     /// No work yet of a die.
     pub fn new(alloc: Global, die: u32) -> DieWork
@@ -55,17 +38,11 @@ impl DieWork {
     }
 
     /// Adds one more row: a waived collection is no work.
-    pub fn add(&mut self, row: &RowNumbers) -> Result<(), AllocError>
-        ensures { OnOk result (self.new ≡ with_work self.old (row_with row.now [])) }
+    pub fn add(&mut self, row: &ReportRow) -> Result<(), AllocError>
+        ensures { OnOk result (self.new ≡ with_work self.old row.now) }
     {
-        if row.row != RowKind::Waived {
-            self.rows.push(JobRow {
-                number: row.job,
-                release: row.release,
-                due: row.due,
-                work: row.work,
-                completion: row.completion,
-            })?;
+        if let Some(job_row) = row.job_row() {
+            self.rows.push(job_row)?;
         }
         self.worst = worse_of(self.worst, finish_in(row));
         Ok(())
