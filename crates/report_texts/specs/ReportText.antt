@@ -3,7 +3,6 @@ use Rattle.std.specs.Prelude.{ℕ, ℤ, List, [], ◌∷◌, ◌++◌, map, flat
 use Rattle.std.specs.Fmt.{signed_decimal}
 use Rattle.std.specs.List.{join_with_byte}
 use Rattle.csv.specs.Writing.{default_writer, row_text}
-use Rattle.hex.specs.Hex.{encode_lower}
 use Rattle.slot_types.specs.declared.pages.PageData.{PageData}
 use Rattle.late_cert.specs.Schedule.{lateness_of}
 use Rattle.late_cert.specs.declared.certificates.Certificate.{Certificate}

@@ -1,5 +1,5 @@
 -- The text of a report while it is made.
-use Rattle.std.specs.Prelude.{ℕ, List, [], ◌∷◌, ◌++◌, map, flat_map}
+use Rattle.std.specs.Prelude.{ℕ, List, ◌∷◌, ◌++◌, map, flat_map}
 use Rattle.csv.specs.Writing.{default_writer, row_text}
 use Rattle.late_cert.specs.declared.certificates.Certificate.{Certificate}
 use Rattle.report_texts.specs.ReportText.{cert_fields, cert_record, die_records, header_fields, records_text, row_fields}

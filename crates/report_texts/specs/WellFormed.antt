@@ -1,8 +1,6 @@
 -- The reports that are read back from their text.
 use Rattle.std.specs.Prelude.{◌≡◌, ℕ, ◌+◌, ◌<◌, ◌≤◌, ◌^◌, ⊤, true, List, [], ◌∷◌, length, Option, Some, None, IfSome, All}
-use Rattle.hex.specs.Hex.{IsBytes}
 use Rattle.late_cert.specs.declared.certificates.Certificate.{Certificate}
-use Rattle.slot_types.specs.declared.pages.PageData.{PageData}
 use Rattle.report_texts.specs.ReportRows.{is_sound}
 use Rattle.report_texts.specs.Worst.{worst_of}
 use Rattle.report_texts.specs.declared.report_certs.Finish.{Finish}
