@@ -14,7 +14,8 @@ mod text_runs;
 pub use laws::{exact_reports_come_back, planned_runs_go_as_planned, run_reports_come_back};
 pub use plan_texts::read_plan;
 pub use report_texts::{
-    DieReport, Report, ReportRow, ReportRows, RowKind, read_report, reports_come_back, write_report,
+    DieReport, DieWork, Finish, Report, ReportRow, ReportRows, ReportWork, RowKind, read_report,
+    read_work, reports_come_back, write_report,
 };
 pub use run_counts::RunCount;
 pub use script_texts::{ScriptItem, ScriptReader};
