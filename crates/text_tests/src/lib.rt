@@ -5,6 +5,8 @@
 #[cfg(test)]
 mod answers;
 #[cfg(test)]
+mod audits;
+#[cfg(test)]
 mod batches;
 #[cfg(test)]
 mod bounds;
