@@ -17,7 +17,7 @@ key_of p = record { due = p.0; number = p.1 }
 abbrev pub wait_key_of : ℕ × ℕ → WaitKey
 wait_key_of p = record { release = p.0; number = p.1 }
 
--- a key whose slot has come
-abbrev pub come_by : {K : Type 0} → (K → ℕ) → ℕ → Option K → Option K
-come_by slot_of now None = None
-come_by slot_of now (Some key) = cond (nat_le (slot_of key) now) (Some key) None
+-- the key if its release has come
+abbrev pub released_by : ℕ → Option WaitKey → Option WaitKey
+released_by now None = None
+released_by now (Some key) = cond (nat_le key.release now) (Some key) None

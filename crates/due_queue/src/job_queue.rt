@@ -3,7 +3,7 @@
 ghost use Rattle.std.specs.Prelude.{◌≡◌, ◌+◌, ◌<◌, ◌≤◌, [], length, Contains, IsOk, OnOk, OnErr, OnSome, IfNone};
 ghost use Rattle.slot_types.specs.Refusal.{FailsForMemory};
 ghost use Rattle.due_queue.specs.Queue.{inserted, first_of, rest_of, IsRising};
-ghost use Rattle.due_queue.specs.Keys.{come_by};
+ghost use Rattle.due_queue.specs.Keys.{released_by};
 
 use crate::keys::{JobKey, Key, WaitKey};
 use crate::pair_heap::PairHeap;
@@ -80,8 +80,16 @@ impl<K: JobKey> JobQueue<K> {
         }
     }
 
-    /// Takes the first key away, if there is one, which leaves room for one more.
-    pub fn pop_first(&mut self) -> Option<K>
+    /// How many keys there are.
+    pub fn len(&self) -> usize
+        ensures len { result ≡ length self.now.keys }
+        ensures rising { IsRising K.is_before self.now.keys }
+    {
+        self.pairs.len()
+    }
+
+    // Takes the first key away, if there is one, which leaves room for one more.
+    fn take_first(&mut self) -> Option<K>
         ensures first { result ≡ first_of self.old.keys }
         ensures rest { self.new.keys ≡ rest_of self.old.keys }
         ensures spare { OnSome result (self.new.spare ≡ self.old.spare + 1) }
@@ -92,28 +100,31 @@ impl<K: JobKey> JobQueue<K> {
             None => None,
         }
     }
+}
 
-    /// Takes the first key away if its slot is at most `now`, which leaves room for one more.
-    pub fn pop_by(&mut self, now: u32) -> Option<K>
-        ensures first { result ≡ come_by K.slot_of now (first_of self.old.keys) }
+impl JobQueue<Key> {
+    /// Takes the first key away, if there is one, which leaves room for one more.
+    pub fn pop_first(&mut self) -> Option<Key>
+        ensures first { result ≡ first_of self.old.keys }
+        ensures rest { self.new.keys ≡ rest_of self.old.keys }
+        ensures spare { OnSome result (self.new.spare ≡ self.old.spare + 1) }
+        ensures none { IfNone result (self.new ≡ self.old) }
+    {
+        self.take_first()
+    }
+}
+
+impl JobQueue<WaitKey> {
+    /// Takes the first key away if its release is at most `now`, which leaves room for one more.
+    pub fn pop_released(&mut self, now: u32) -> Option<WaitKey>
+        ensures first { result ≡ released_by now (first_of self.old.keys) }
         ensures rest { OnSome result (self.new.keys ≡ rest_of self.old.keys) }
         ensures spare { OnSome result (self.new.spare ≡ self.old.spare + 1) }
         ensures none { IfNone result (self.new ≡ self.old) }
     {
-        match self.pairs.first() {
-            Some((slot, number)) if slot <= now => {
-                let _ = self.pairs.pop_first();
-                Some(K::of(slot, number))
-            }
+        match self.first() {
+            Some(key) if key.release <= now => self.take_first(),
             _ => None,
         }
-    }
-
-    /// How many keys there are.
-    pub fn len(&self) -> usize
-        ensures len { result ≡ length self.now.keys }
-        ensures rising { IsRising K.is_before self.now.keys }
-    {
-        self.pairs.len()
     }
 }

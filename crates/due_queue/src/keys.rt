@@ -10,8 +10,6 @@ pub trait JobKey: Copy + Drop {
     // the key of a slot and a number
     ghost made: { ℕ × ℕ → Self };
 
-    ghost slot_of: { Self → ℕ };
-
     ghost is_before: { Self → Self → Bool };
 
     /// The key of a slot and a number.
@@ -21,9 +19,6 @@ pub trait JobKey: Copy + Drop {
     /// Its slot and its number.
     fn pair(self) -> (u32, u32)
         ensures { made result ≡ self };
-
-    // its slot is the first of its pair
-    ghost slot_is: { (p : ℕ × ℕ) → slot_of (made p) ≡ p.0 };
 
     // keys are in the order of their pairs
     ghost in_order: { (p q : ℕ × ℕ) → is_before (made p) (made q) ≡ is_pair_before p q };
@@ -42,8 +37,6 @@ impl JobKey for Key {
 
     ghost made = { key_of };
 
-    ghost slot_of = { λ k. k.due };
-
     ghost is_before = { is_due_before };
 
     fn of(slot: u32, number: u32) -> Key {
@@ -53,8 +46,6 @@ impl JobKey for Key {
     fn pair(self) -> (u32, u32) {
         (self.due, self.number)
     }
-
-    ghost slot_is = { λ p. refl };
 
     ghost in_order = { λ p q. refl };
 }
@@ -72,8 +63,6 @@ impl JobKey for WaitKey {
 
     ghost made = { wait_key_of };
 
-    ghost slot_of = { λ k. k.release };
-
     ghost is_before = { is_released_before };
 
     fn of(slot: u32, number: u32) -> WaitKey {
@@ -86,8 +75,6 @@ impl JobKey for WaitKey {
     fn pair(self) -> (u32, u32) {
         (self.release, self.number)
     }
-
-    ghost slot_is = { λ p. refl };
 
     ghost in_order = { λ p q. refl };
 }

@@ -3,6 +3,7 @@
 
 pub mod job_queue;
 pub mod keys;
+pub mod laws;
 mod pair_heap;
 
 pub use job_queue::{DueQueue, JobQueue, WaitList};

@@ -6,7 +6,7 @@ use Rattle.std.proofs.lemmas.Bool.Decides.{nat_tests}
 use Rattle.due_queue.specs.declared.keys.Key.{Key}
 use Rattle.due_queue.specs.declared.keys.WaitKey.{WaitKey}
 use Rattle.due_queue.specs.Queue.{inserted, first_of, rest_of, IsRising}
-use Rattle.due_queue.specs.Keys.{is_due_before, is_released_before, come_by}
+use Rattle.due_queue.specs.Keys.{is_due_before, is_released_before, released_by}
 use Rattle.due_queue.proofs.Inserted.{rising-inserted}
 use Rattle.job_table.specs.Jobs.{JobRecord}
 use Rattle.job_table.specs.Queued.{IsRoomy, AreQueued, AreLater}
@@ -25,7 +25,7 @@ kept_key now k w e = by (nat_le k.release now) refl e
     by true f e = (cc, f)
     by false f e = absurd cc
 
-pub popped : (now : ℕ) (old rest : List WaitKey) (w : WaitKey) → Some w ≡ come_by (λ (k : WaitKey). k.release) now (first_of old)
+pub popped : (now : ℕ) (old rest : List WaitKey) (w : WaitKey) → Some w ≡ released_by now (first_of old)
     → rest ≡ rest_of old
     → IsPopped now old rest w
 popped now [] rest w e f = absurd cc
@@ -43,7 +43,7 @@ pub record IsStep (jobs : List JobRecord) (now : ℕ) (old rest : List WaitKey) 
 
 pub release_step : (jobs : List JobRecord) (now : ℕ) (old rest : List WaitKey) (ready : List Key) (spare spare' : ℕ) (w : WaitKey)
     (job : JobRecord) (due : ℕ)
-    → Some w ≡ come_by (λ (k : WaitKey). k.release) now (first_of old) → rest ≡ rest_of old
+    → Some w ≡ released_by now (first_of old) → rest ≡ rest_of old
     → job ≡ get_or jobs w.number job → due ≡ job.due
     → spare' + 1 ≡ spare
     → IsRoomy old ready spare
@@ -67,7 +67,7 @@ release_step jobs now old rest ready spare spare' w job due first_is rest_is rea
     }
 
 -- where none is popped, all are released later
-pub none_popped : (now : ℕ) (old : List WaitKey) → None ≡ come_by (λ (k : WaitKey). k.release) now (first_of old)
+pub none_popped : (now : ℕ) (old : List WaitKey) → None ≡ released_by now (first_of old)
     → IsRising is_released_before old
     → AreLater now old
 none_popped now [] e rising = tt

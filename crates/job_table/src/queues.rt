@@ -103,7 +103,7 @@ impl Queues {
         ensures later { AreLater now self.new.waiting }
         ensures fewer { length self.new.waiting ≤ length self.old.waiting }
     {
-        while let Some(key) = self.waiting.pop_by(now) {
+        while let Some(key) = self.waiting.pop_released(now) {
             let number = key.number;
             let due = jobs.at(JobNo(number)).due();
             self.ready.insert(Key { due, number });

@@ -38,8 +38,8 @@ fn a_key_waits_for_its_release(rt: HostRuntime) -> Result<(), Fail> {
         number: 1,
     };
     assert_eq!(rt; list.first(), Some(early));
-    assert_eq!(rt; list.pop_by(1), Some(early));
-    assert_eq!(rt; list.pop_by(1), None);
+    assert_eq!(rt; list.pop_released(1), Some(early));
+    assert_eq!(rt; list.pop_released(1), None);
     assert_eq!(rt; list.len(), 1);
     Ok(())
 }

@@ -5,7 +5,7 @@ use Rattle.job_table.proofs.queues.Queues.release_by.Goals as goal
 
 pub loop-key-preserved : goal.loop-key-preserved
 loop-key-preserved c =
-    let step = release_step c.args.jobs.now c.args.now c.loop-key.self-inside.waiting.keys c.pop_by.new.self.keys
+    let step = release_step c.args.jobs.now c.args.now c.loop-key.self-inside.waiting.keys c.pop_released.new.self.keys
     c.loop-key.self-inside.ready.keys c.loop-key.self-inside.ready.spare c.insert.new.self.spare
     c.in-Some.key c.at.result c.due-due.result
     c.in-Some.ensures.first c.in-Some.ensures.rest (sym (get_or_from_slice_get c.args.jobs.now c.in-Some.key.number c.at.result c.at.result
@@ -19,6 +19,6 @@ loop-key-preserved c =
 
 pub returns-clause-later : goal.returns-clause-later
 returns-clause-later c =
-    let none = sym c.in_default.is ∙ c.pop_by.ensures.first in
+    let none = sym c.in_default.is ∙ c.pop_released.ensures.first in
     let later = none_popped c.args.now c.loop-key.self-inside.waiting.keys none c.loop-key.invariant.roomy.waiting_rises in
     rw c.in_default.ensures.none later
