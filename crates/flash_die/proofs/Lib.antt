@@ -2,3 +2,4 @@ pub mod Cut
 pub mod Erase
 pub mod Laid
 pub mod Fresh
+pub mod OneDevice

@@ -2,6 +2,7 @@
 #![tactic(auto)]
 
 pub mod fuse;
+pub mod laws;
 pub mod memory;
 pub mod nand;
 
