@@ -4,6 +4,7 @@ pub mod Orders
 pub mod Keyed
 pub mod Heads
 pub mod Worsts
+pub mod OneAnswer
 pub mod Waivers
 pub mod Releasing
 pub mod Roomy

@@ -6,6 +6,7 @@ mod changes;
 mod flat_jobs;
 pub mod job_table;
 pub mod jobs;
+pub mod laws;
 mod queues;
 mod rows;
 pub mod stages;
