@@ -12,6 +12,7 @@ use Rattle.plan_rules.specs.Accounts.{Accounts}
 use Rattle.die_log.specs.Log.{Log, Job, Carried, job_at, acts}
 use Rattle.die_log.specs.Work.{are_all}
 use Rattle.die_log.specs.Accounts.{after_act, after_carried, after_waiver, after_waivers, after_entry, accounts}
+use Rattle.die_log.specs.Start.{Start}
 
 settled_plan : (a b : Accounts) (test : Bool) → a.plan ≡ b.plan → (cond test a b).plan ≡ b.plan
 settled_plan a b true e = e
@@ -53,6 +54,6 @@ entry_plan plan past events.Slot (replies.Slot s) a = carried_plan plan past s.r
     ∙ waivers_plan past s.waived a
 entry_plan plan past events.Slot (replies.Refused r) a = refl
 
-pub accounts_plan : (plan : DiePlan) (log : Log) → (accounts plan log).plan ≡ plan
-accounts_plan plan [] = refl
-accounts_plan plan (e ∷ past) = entry_plan plan past e.event e.reply (accounts plan past) ∙ accounts_plan plan past
+pub accounts_plan : (start : Start) (log : Log) → (accounts start log).plan ≡ start.accounts.plan
+accounts_plan start [] = refl
+accounts_plan start (e ∷ past) = entry_plan start.plan past e.event e.reply (accounts start past) ∙ accounts_plan start past

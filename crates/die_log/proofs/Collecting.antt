@@ -13,6 +13,7 @@ use Rattle.die_log.specs.Work.{is_done, is_collecting}
 use Rattle.die_log.specs.Answers.{IsExact}
 use Rattle.die_log.proofs.Legality.{entry}
 use Rattle.die_log.proofs.Known.{CarriedBelow, WaivedBelow, known}
+use Rattle.die_log.specs.Start.{Start}
 
 pub other_number : (m n : ℕ) → m < n → (m == n) ≡ false
 other_number m n h = grind (arith, nat_tests)
@@ -30,11 +31,11 @@ not_waived_in n [] h = refl
 not_waived_in n (w ∷ ws) h = rw (other_number w.number n h.0) (not_waived_in n ws h.1)
 
 -- what isn't taken yet has no acts
-pub no_acts : (plan : DiePlan) (log : Log) → IsExact plan log → acts (length (jobs log)) log ≡ []
-no_acts plan log h = no_acts_in (length (jobs log)) (carried log) (known plan log h).of_carried
+pub no_acts : (start : Start) (log : Log) → IsExact start log → acts (length (jobs log)) log ≡ []
+no_acts start log h = no_acts_in (length (jobs log)) (carried log) (known start log h).of_carried
 
-pub not_waived : (plan : DiePlan) (log : Log) → IsExact plan log → is_waived log (length (jobs log)) ≡ false
-not_waived plan log h = not_waived_in (length (jobs log)) (waived log) (known plan log h).of_waived
+pub not_waived : (start : Start) (log : Log) → IsExact start log → is_waived log (length (jobs log)) ≡ false
+not_waived start log h = not_waived_in (length (jobs log)) (waived log) (known start log h).of_waived
 
 abbrev collection : ℕ → ℕ → ℕ → ℕ → Job
 collection number task release due = record { number = number; collects = true; task = task; release = release; due = due; ops = [] }
@@ -48,15 +49,15 @@ last_test false true = refl
 last_test false false = refl
 
 -- a collect that was taken makes its task busy, and no other
-pub collecting-collect : (plan : DiePlan) (past : Log) (caller : ℕ) (task : ℕ) (release due : ℕ) (t : ℕ) → IsExact plan past → 0
-    < plan.shape.erase_slots
-    → is_collecting plan (entry caller (events.Collect task release due) (replies.Taken (length (jobs past))) ∷ past) t
-    ≡ (is_collecting plan past t || (task == t))
-collecting-collect plan past caller task release due t exact erases =
-    let test : Job → Bool = λ j. j.collects && (j.task == t) && not (is_done plan past j) && not (is_waived past j.number) in
+pub collecting-collect : (start : Start) (past : Log) (caller : ℕ) (task : ℕ) (release due : ℕ) (t : ℕ) → IsExact start past → 0
+    < start.plan.shape.erase_slots
+    → is_collecting start.plan (entry caller (events.Collect task release due) (replies.Taken (length (jobs past))) ∷ past) t
+    ≡ (is_collecting start.plan past t || (task == t))
+collecting-collect start past caller task release due t exact erases =
+    let test : Job → Bool = λ j. j.collects && (j.task == t) && not (is_done start.plan past j) && not (is_waived past j.number) in
     let j = collection (length (jobs past)) task release due in
-    let undone : is_done plan past j ≡ false = rw (no_acts plan past exact) (zero_apart plan.shape.erase_slots erases) in
+    let undone : is_done start.plan past j ≡ false = rw (no_acts start past exact) (zero_apart start.plan.shape.erase_slots erases) in
     list_any-append test (jobs past) (j ∷ [])
     ∙ (ap (λ (b : Bool). list_any test (jobs past) || (((task == t) && not b && not (is_waived past (length (jobs past)))) || false)) undone
-    ∙ (ap (λ (b : Bool). list_any test (jobs past) || (((task == t) && true && not b) || false)) (not_waived plan past exact)
+    ∙ (ap (λ (b : Bool). list_any test (jobs past) || (((task == t) && true && not b) || false)) (not_waived start past exact)
     ∙ last_test (list_any test (jobs past)) (task == t)))

@@ -6,6 +6,7 @@ use Rattle.slot_types.specs.declared.replies.Reply.{Reply}
 use Rattle.slot_types.specs.declared.replies.Entry.{Entry}
 use Rattle.die_log.specs.Log.{Log, calls}
 use Rattle.die_log.specs.Answers.{IsExact}
+use Rattle.die_log.specs.Start.{Start}
 
 abbrev entry : ℕ → Event → Reply → Entry
 entry caller event reply = record { caller = caller; event = event; reply = reply }
@@ -17,13 +18,13 @@ same_entry : (k l : ℕ) (v w : Event) (r s : Reply) → k ≡ l → v ≡ w →
 same_entry k l v w r s p q t = cc
 
 -- the callers and events of two exact logs determine both
-pub same_calls_lem : (plan : DiePlan) (first second : Log) → IsExact plan first → IsExact plan second → calls first ≡ calls second → first
+pub same_calls_lem : (start : Start) (first second : Log) → IsExact start first → IsExact start second → calls first ≡ calls second → first
     ≡ second
-same_calls_lem plan [] [] x y e = refl
-same_calls_lem plan [] (d ∷ qs) x y e = absurd cc
-same_calls_lem plan (c ∷ ps) [] x y e = absurd cc
-same_calls_lem plan (c ∷ ps) (d ∷ qs) x y e =
-    let pasts : ps ≡ qs = same_calls_lem plan ps qs x.0 y.0 cc in
+same_calls_lem start [] [] x y e = refl
+same_calls_lem start [] (d ∷ qs) x y e = absurd cc
+same_calls_lem start (c ∷ ps) [] x y e = absurd cc
+same_calls_lem start (c ∷ ps) (d ∷ qs) x y e =
+    let pasts : ps ≡ qs = same_calls_lem start ps qs x.0 y.0 cc in
     let both : call c ≡ call d = cc in
     let callers : c.caller ≡ d.caller = ap (λ (p : ℕ × Event). p.0) both in
     let events : c.event ≡ d.event = ap (λ (p : ℕ × Event). p.1) both in
@@ -31,6 +32,6 @@ same_calls_lem plan (c ∷ ps) (d ∷ qs) x y e =
     cc
 
 -- a moment of an exact log: what stands behind its last entries
-pub moment_exact : (plan : DiePlan) (later moment : Log) → IsExact plan (later ++ moment) → IsExact plan moment
-moment_exact plan [] moment h = h
-moment_exact plan (e ∷ later) moment h = moment_exact plan later moment h.0
+pub moment_exact : (start : Start) (later moment : Log) → IsExact start (later ++ moment) → IsExact start moment
+moment_exact start [] moment h = h
+moment_exact start (e ∷ later) moment h = moment_exact start later moment h.0

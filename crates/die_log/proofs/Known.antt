@@ -12,6 +12,7 @@ use Rattle.die_log.specs.Accounts.{accounts}
 use Rattle.die_log.specs.Answers.{IsExact, choice, act_for, reply_with, slot_reply, accepted, refusals}
 use Rattle.die_log.proofs.Choices.{all_kept, names_waiting, Names, OfSome, OfWaived}
 use Rattle.die_log.proofs.Legality.{exact_induction, entry}
+use Rattle.die_log.specs.Start.{Start}
 
 pub all_append : {X : Type 0} (P : X → Type 0) (xs ys : List X) → AllByRecursion P xs → AllByRecursion P ys → AllByRecursion P (xs ++ ys)
 all_append P [] ys h k = k
@@ -72,38 +73,38 @@ ran_act : (plan : DiePlan) (past : Log) (ws : List Waived) (j : Job) (o : Option
 ran_act plan past ws j None n p = tt
 ran_act plan past ws j (Some act) n p = p
 
-ran_known : (plan : DiePlan) (past : Log) (ws : List Waived) (o : Option Job) (n : ℕ) → OfSome (IsBelow n) o
-    → CarriedBelow n (slot_reply plan past ws o).ran
-ran_known plan past ws None n p = tt
-ran_known plan past ws (Some j) n p = ran_act plan past ws j (act_for plan past j) n p
+ran_known : (start : Start) (past : Log) (ws : List Waived) (o : Option Job) (n : ℕ) → OfSome (IsBelow n) o
+    → CarriedBelow n (slot_reply start past ws o).ran
+ran_known start past ws None n p = tt
+ran_known start past ws (Some j) n p = ran_act start.plan past ws j (act_for start past j) n p
 
 waived_act : (plan : DiePlan) (past : Log) (ws : List Waived) (j : Job) (o : Option Act) → (reply_with plan past ws j o).waived ≡ ws
 waived_act plan past ws j None = refl
 waived_act plan past ws j (Some act) = refl
 
 -- what a slot waives is what was chosen
-pub waived_is : (plan : DiePlan) (past : Log) (ws : List Waived) (o : Option Job) → (slot_reply plan past ws o).waived ≡ ws
-waived_is plan past ws None = refl
-waived_is plan past ws (Some j) = waived_act plan past ws j (act_for plan past j)
+pub waived_is : (start : Start) (past : Log) (ws : List Waived) (o : Option Job) → (slot_reply start past ws o).waived ≡ ws
+waived_is start past ws None = refl
+waived_is start past ws (Some j) = waived_act start.plan past ws j (act_for start past j)
 
-pub known : (plan : DiePlan) (log : Log) → IsExact plan log → AreKnown log
-known plan = exact_induction plan AreKnown (record { of_jobs = tt; of_waived = tt; of_carried = tt }) step
+pub known : (start : Start) (log : Log) → IsExact start log → AreKnown log
+known start = exact_induction start AreKnown (record { of_jobs = tt; of_waived = tt; of_carried = tt }) step
   where
-    step : (past : Log) (caller : ℕ) (event : Event) → IsExact plan past → AreKnown past
-        → AllByRecursion (λ c. c.0 ≡ false) (refusals plan past event) → AreKnown (entry caller event (accepted plan past event) ∷ past)
+    step : (past : Log) (caller : ℕ) (event : Event) → IsExact start past → AreKnown past
+        → AllByRecursion (λ c. c.0 ≡ false) (refusals start past event) → AreKnown (entry caller event (accepted start past event) ∷ past)
     step past caller (events.Submit task release due ops) x k h = let t = taken_known past _ refl k in record
         { of_jobs = t.0; of_waived = t.1; of_carried = t.2 }
     step past caller (events.Collect task release due) x k h = let t = taken_known past _ refl k in record
         { of_jobs = t.0; of_waived = t.1; of_carried = t.2 }
     step past caller events.Slot x k h =
         let n = length (jobs past) in
-        let c = choice plan past in
-        let names : Names (IsBelow n) c = names_waiting (IsBelow n) plan past (length (ready plan past)) (accounts plan past)
-        (ready plan past) (all_kept (IsBelow n) (is_ready plan past) (jobs past) k.of_jobs) in
+        let c = choice start past in
+        let names : Names (IsBelow n) c = names_waiting (IsBelow n) start.plan past (length (ready start.plan past)) (accounts start past)
+        (ready start.plan past) (all_kept (IsBelow n) (is_ready start.plan past) (jobs past) k.of_jobs) in
         record {
           of_jobs = k.of_jobs;
-          of_waived = all_append (WaivedBelow n) (waived past) (slot_reply plan past c.waived c.head).waived k.of_waived
-              (rw (waived_is plan past c.waived c.head) (all_map (OfWaived (IsBelow n)) (WaivedBelow n) (waiver_known n) c.waived
+          of_waived = all_append (WaivedBelow n) (waived past) (slot_reply start past c.waived c.head).waived k.of_waived
+              (rw (waived_is start past c.waived c.head) (all_map (OfWaived (IsBelow n)) (WaivedBelow n) (waiver_known n) c.waived
               names.waived));
-          of_carried = all_append (CarriedBelow n) (carried past) _ k.of_carried (ran_known plan past c.waived c.head n names.head, tt);
+          of_carried = all_append (CarriedBelow n) (carried past) _ k.of_carried (ran_known start past c.waived c.head n names.head, tt);
         }

@@ -15,7 +15,10 @@ pub mod Tokens
 pub mod Least
 pub mod Bounds
 pub mod Promises
+pub mod Openings
 pub mod Planned
 pub mod Supply
+pub mod Renewal
+pub mod Restocking
 mod Worked
 mod Wrong

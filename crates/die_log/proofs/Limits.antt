@@ -20,6 +20,7 @@ use Rattle.die_log.specs.Answers.{IsExact, accepted, refusals, bad_page, choice,
 use Rattle.die_log.specs.Limits.{IsWithinLimits, KeepsLimits}
 use Rattle.die_log.proofs.Legality.{entry, in_time, exact_induction}
 use Rattle.die_log.proofs.Known.{all_append}
+use Rattle.die_log.specs.Start.{Start}
 
 -- Work
 
@@ -55,31 +56,31 @@ some_operation (op ∷ ops) e = omega arith
 abbrev AreWithin : DiePlan → Log → Type 0
 AreWithin plan log = AllByRecursion (IsWithinLimits plan) (jobs log)
 
-all_within : (plan : DiePlan) (log : Log) → IsExact plan log → AreWithin plan log
-all_within plan = exact_induction plan (AreWithin plan) tt step
+all_within : (start : Start) (log : Log) → IsExact start log → AreWithin start.plan log
+all_within start = exact_induction start (AreWithin start.plan) tt step
   where
-    step : (past : Log) (caller : ℕ) (event : Event) → IsExact plan past → AreWithin plan past
-        → AllByRecursion (λ c. c.0 ≡ false) (refusals plan past event)
-        → AreWithin plan (entry caller event (accepted plan past event) ∷ past)
+    step : (past : Log) (caller : ℕ) (event : Event) → IsExact start past → AreWithin start.plan past
+        → AllByRecursion (λ c. c.0 ≡ false) (refusals start past event)
+        → AreWithin start.plan (entry caller event (accepted start past event) ∷ past)
     step past caller (events.Submit task release due ops) exact h none =
-        let time = in_time plan past (events.Submit task release due ops) none in
-        let pages = All-from_recursion (λ op. page_of op < plan.logical) ops (no_bad_page plan ops none.1.1.1.0) in
-        all_append (IsWithinLimits plan) (jobs past) (_ ∷ []) h (
+        let time = in_time start past (events.Submit task release due ops) none in
+        let pages = All-from_recursion (λ op. page_of op < start.plan.logical) ops (no_bad_page start.plan ops none.1.1.1.0) in
+        all_append (IsWithinLimits start.plan) (jobs past) (_ ∷ []) h (
           record {
-            task = leb-false (length plan.caps) task none.0;
+            task = leb-false (length start.plan.caps) task none.0;
             time = time.1;
             due = time.2;
             few = ltb-false MAX_OPS (length ops) none.1.1.0;
             some = λ kind. some_operation ops none.1.0;
-            pages = λ op k. All-contains (λ o. page_of o < plan.logical) ops op pages k;
+            pages = λ op k. All-contains (λ o. page_of o < start.plan.logical) ops op pages k;
           },
           tt,
         )
     step past caller (events.Collect task release due) exact h none =
-        let time = in_time plan past (events.Collect task release due) none in
-        all_append (IsWithinLimits plan) (jobs past) (_ ∷ []) h (
+        let time = in_time start past (events.Collect task release due) none in
+        all_append (IsWithinLimits start.plan) (jobs past) (_ ∷ []) h (
           record {
-            task = leb-false (length plan.caps) task none.0;
+            task = leb-false (length start.plan.caps) task none.0;
             time = time.1;
             due = time.2;
             few = omega arith;
@@ -92,18 +93,18 @@ all_within plan = exact_induction plan (AreWithin plan) tt step
 
 -- Counts
 
-few_slots : (plan : DiePlan) (log : Log) → IsExact plan log → now log ≤ MAX_SLOT
-few_slots plan = exact_induction plan (λ log. now log ≤ MAX_SLOT) (omega arith) step
+few_slots : (start : Start) (log : Log) → IsExact start log → now log ≤ MAX_SLOT
+few_slots start = exact_induction start (λ log. now log ≤ MAX_SLOT) (omega arith) step
   where
-    step : (past : Log) (caller : ℕ) (event : Event) → IsExact plan past → now past ≤ MAX_SLOT
-        → AllByRecursion (λ c. c.0 ≡ false) (refusals plan past event) → now (entry caller event (accepted plan past event) ∷ past)
+    step : (past : Log) (caller : ℕ) (event : Event) → IsExact start past → now past ≤ MAX_SLOT
+        → AllByRecursion (λ c. c.0 ≡ false) (refusals start past event) → now (entry caller event (accepted start past event) ∷ past)
         ≤ MAX_SLOT
     step past caller (events.Submit task release due ops) exact h none = h
     step past caller (events.Collect task release due) exact h none = h
     step past caller events.Slot exact h none =
         omega (
           arith,
-          length_push (carried past) (slot_reply plan past (choice plan past).waived (choice plan past).head).ran,
+          length_push (carried past) (slot_reply start past (choice start past).waived (choice start past).head).ran,
           leb-false
               MAX_SLOT (now past) none.0,
         )
@@ -111,12 +112,12 @@ few_slots plan = exact_induction plan (λ log. now log ≤ MAX_SLOT) (omega arit
 one_more : (js : List Job) (j : Job) → nat_le MAX_JOBS (length js) ≡ false → length (js ++ j ∷ []) ≤ MAX_JOBS
 one_more js j h = omega (arith, length_push js j, leb-false MAX_JOBS (length js) h)
 
-few_jobs : (plan : DiePlan) (log : Log) → IsExact plan log → length (jobs log) ≤ MAX_JOBS
-few_jobs plan = exact_induction plan (λ log. length (jobs log) ≤ MAX_JOBS) (omega arith) step
+few_jobs : (start : Start) (log : Log) → IsExact start log → length (jobs log) ≤ MAX_JOBS
+few_jobs start = exact_induction start (λ log. length (jobs log) ≤ MAX_JOBS) (omega arith) step
   where
-    step : (past : Log) (caller : ℕ) (event : Event) → IsExact plan past → length (jobs past) ≤ MAX_JOBS
-        → AllByRecursion (λ c. c.0 ≡ false) (refusals plan past event)
-        → length (jobs (entry caller event (accepted plan past event) ∷ past)) ≤ MAX_JOBS
+    step : (past : Log) (caller : ℕ) (event : Event) → IsExact start past → length (jobs past) ≤ MAX_JOBS
+        → AllByRecursion (λ c. c.0 ≡ false) (refusals start past event)
+        → length (jobs (entry caller event (accepted start past event) ∷ past)) ≤ MAX_JOBS
     step past caller (events.Submit task release due ops) exact h none = one_more (jobs past) _ none.1.1.1.1.1.1.0
     step past caller (events.Collect task release due) exact h none = one_more (jobs past) _ none.1.1.1.1.0
     step past caller events.Slot exact h none = h
@@ -154,26 +155,21 @@ step_erases plan (Some (n, does.CopyProgram page)) c a = program_erases plan pag
 step_erases plan (Some (n, does.Erase b)) c a = set_erases c.blocks b a (erased_once plan (block_at c b))
     (once_erases (block_at c b) ((block_at c b).erasing + 1 == plan.shape.erase_slots))
 
-fresh_erases : (n a : ℕ) → (get_or (replicate n free_block) a free_block).erases ≡ 0
-fresh_erases zero a = refl
-fresh_erases (suc n) zero = refl
-fresh_erases (suc n) (suc a) = fresh_erases n a
+entry_erases : (start : Start) (past : Log) (r : Reply) (a : ℕ) → (block_at (cells start past) a).erases ≤ (block_at start.cells a).erases + now past
+    → (block_at (cells_after start.plan (ran_by r) (cells start past)) a).erases ≤ (block_at start.cells a).erases + length (with_slot r (carried past))
+entry_erases start past (replies.Taken number) a h = h
+entry_erases start past (replies.Refused refusal) a h = h
+entry_erases start past (replies.Slot s) a h = omega (arith, h, step_erases start.plan s.ran (cells start past) a, length_push (carried past) s.ran)
 
-entry_erases : (plan : DiePlan) (past : Log) (r : Reply) (a : ℕ) → (block_at (cells plan past) a).erases ≤ now past
-    → (block_at (cells_after plan (ran_by r) (cells plan past)) a).erases ≤ length (with_slot r (carried past))
-entry_erases plan past (replies.Taken number) a h = h
-entry_erases plan past (replies.Refused refusal) a h = h
-entry_erases plan past (replies.Slot s) a h = omega (arith, h, step_erases plan s.ran (cells plan past) a, length_push (carried past) s.ran)
+few_erases : (start : Start) (log : Log) (a : ℕ) → (block_at (cells start log) a).erases ≤ (block_at start.cells a).erases + now log
+few_erases start [] a = omega arith
+few_erases start (e ∷ past) a = entry_erases start past e.reply a (few_erases start past a)
 
-few_erases : (plan : DiePlan) (log : Log) (a : ℕ) → (block_at (cells plan log) a).erases ≤ now log
-few_erases plan [] a = omega (arith, fresh_erases plan.shape.blocks a)
-few_erases plan (e ∷ past) a = entry_erases plan past e.reply a (few_erases plan past a)
-
-pub keeps_limits : (plan : DiePlan) (log : Log) → IsExact plan log → KeepsLimits plan log
-keeps_limits plan log exact = record {
-  slots = few_slots plan log exact;
-  few_jobs = few_jobs plan log exact;
-  each = λ j h. All-contains (IsWithinLimits plan) (jobs log) j
-      (All-from_recursion (IsWithinLimits plan) (jobs log) (all_within plan log exact)) h;
-  erases = few_erases plan log;
+pub keeps_limits : (start : Start) (log : Log) → IsExact start log → KeepsLimits start log
+keeps_limits start log exact = record {
+  slots = few_slots start log exact;
+  few_jobs = few_jobs start log exact;
+  each = λ j h. All-contains (IsWithinLimits start.plan) (jobs log) j
+      (All-from_recursion (IsWithinLimits start.plan) (jobs log) (all_within start log exact)) h;
+  erases = few_erases start log;
 }

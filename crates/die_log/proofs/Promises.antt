@@ -23,43 +23,45 @@ use Rattle.die_log.proofs.Legal.Exact.{exact_legal}
 use Rattle.die_log.proofs.Least.Exact.{least_keys, exact_least}
 use Rattle.die_log.proofs.Least.Certificates.{worst_certified, none_is}
 use Rattle.die_log.proofs.Bounds.Exact.{few_copies, bounded_work}
+use Rattle.die_log.specs.Start.{Start}
+use Rattle.die_log.specs.Opening.{IsOpening}
 
 -- Parts of a legal log
 
-legal_behind : (plan : DiePlan) (later moment : Log) → IsLegal plan (later ++ moment) → IsLegal plan moment
-legal_behind plan [] moment h = h
-legal_behind plan (e ∷ later) moment h = legal_behind plan later moment h.0
+legal_behind : (start : Start) (later moment : Log) → IsLegal start (later ++ moment) → IsLegal start moment
+legal_behind start [] moment h = h
+legal_behind start (e ∷ later) moment h = legal_behind start later moment h.0
 
-legal_entry : (plan : DiePlan) (log : Log) (e : Entry) (past : Log) → IsLegal plan log → HasEntry log e past → IsLegalEntry plan past e
-legal_entry plan log e past h has = (legal_behind plan has.0 (e ∷ past) (subst (IsLegal plan) has.1 h)).1
+legal_entry : (start : Start) (log : Log) (e : Entry) (past : Log) → IsLegal start log → HasEntry log e past → IsLegalEntry start past e
+legal_entry start log e past h has = (legal_behind start has.0 (e ∷ past) (subst (IsLegal start) has.1 h)).1
 
-legal_slot : (plan : DiePlan) (log : Log) (s : SlotReply) (past : Log) → IsLegal plan log → HasSlot log s past
-    → IsLegalReply plan past (replies.Slot s)
-legal_slot plan log s past h has = subst (IsLegalReply plan past) has.1 (legal_entry plan log has.0 past h has.2).slot
+legal_slot : (start : Start) (log : Log) (s : SlotReply) (past : Log) → IsLegal start log → HasSlot log s past
+    → IsLegalReply start past (replies.Slot s)
+legal_slot start log s past h has = subst (IsLegalReply start past) has.1 (legal_entry start log has.0 past h has.2).slot
 
-legal_act : (plan : DiePlan) (log : Log) (s : SlotReply) (past : Log) (number : ℕ) (act : Act) → IsLegal plan log → HasSlot log s past
+legal_act : (start : Start) (log : Log) (s : SlotReply) (past : Log) (number : ℕ) (act : Act) → IsLegal start log → HasSlot log s past
     → s.ran ≡ Some (number, act)
-    → (j : Job) × IsLegalAct plan past (waived past ++ s.waived) j number act
-legal_act plan log s past number act h has ran = subst (IsLegalRun plan past s.waived) ran (legal_slot plan log s past h has).1
+    → (j : Job) × IsLegalAct start past (waived past ++ s.waived) j number act
+legal_act start log s past number act h has ran = subst (IsLegalRun start past s.waived) ran (legal_slot start log s past h has).1
 
-owed_fits : (plan : DiePlan) (moment : Log) → IsLegal plan moment → owed moment ≤ free plan moment
-owed_fits plan [] h = omega arith
-owed_fits plan (e ∷ past) h = h.1.room
+owed_fits : (start : Start) (moment : Log) → IsLegal start moment → owed moment ≤ free start moment
+owed_fits start [] h = omega arith
+owed_fits start (e ∷ past) h = h.1.room
 
-legal_moment : (plan : DiePlan) (log moment : Log) → IsLegal plan log → HasMoment log moment → IsLegal plan moment
-legal_moment plan log moment h has = legal_behind plan has.0 moment (subst (IsLegal plan) has.1 h)
+legal_moment : (start : Start) (log moment : Log) → IsLegal start log → HasMoment log moment → IsLegal start moment
+legal_moment start log moment h has = legal_behind start has.0 moment (subst (IsLegal start) has.1 h)
 
 -- The certificate
 
-of_worst : (plan : DiePlan) (log : Log) (c : Certificate) → MeetsBound plan → IsExact plan log → certificate plan log ≡ Some c
-    → IsOfWorst plan log c
-of_worst plan log c bound exact is = by_worst (worst plan log) refl
+of_worst : (start : Start) (log : Log) (c : Certificate) → IsOpening start → IsExact start log → certificate start.plan log ≡ Some c
+    → IsOfWorst start.plan log c
+of_worst start log c bound exact is = by_worst (worst start.plan log) refl
   where
-    by_worst : (o : Option Job) → worst plan log ≡ o → IsOfWorst plan log c
-    by_worst None e = absurd (none-some c (sym (ap (certificate_for plan log) e) ∙ is))
+    by_worst : (o : Option Job) → worst start.plan log ≡ o → IsOfWorst start.plan log c
+    by_worst None e = absurd (none-some c (sym (ap (certificate_for start.plan log) e) ∙ is))
     by_worst (Some j) e =
-        let d = worst_certified plan log j bound exact e in
-        (j, e, subst (IsCertified plan log j) (same_Some d.0 c (sym d.1 ∙ is)) d.2)
+        let d = worst_certified start log j bound exact e in
+        (j, e, subst (IsCertified start.plan log j) (same_Some d.0 c (sym d.1 ∙ is)) d.2)
 
 said : (plan : DiePlan) (log : Log) (c : Certificate) → IsOfWorst plan log c → IsOfWorst plan log c × HoldsOver plan log c
     × BindsAll plan log c
@@ -71,26 +73,26 @@ said plan log c own = (
 
 -- All of it
 
-pub keeps_promises : (plan : DiePlan) → MeetsBound plan → (log : Log) → IsExact plan log → KeepsPromises plan log
-keeps_promises plan bound log exact =
-    let legal = exact_legal plan bound log exact in
+pub keeps_promises : (start : Start) → IsOpening start → (log : Log) → IsExact start log → KeepsPromises start log
+keeps_promises start bound log exact =
+    let legal = exact_legal start bound log exact in
     record {
-      bound = bound;
+      opens = bound;
       exact = exact;
       legal = legal;
-      arrivals = λ e past has. (legal_entry plan log e past legal has).in_time;
-      reads = λ s past number page bytes has ran. (legal_act plan log s past number _ legal has ran).1.tells;
-      programs = λ s past number act has ran. (legal_act plan log s past number act legal has ran).1.finds;
-      room = λ moment has. owed_fits plan moment (legal_moment plan log moment legal has);
-      never_idle = λ s past has idle. subst (IsLegalRun plan past s.waived) idle (legal_slot plan log s past legal has).1;
-      waivers = λ s past has. (legal_slot plan log s past legal has).0;
-      least_keys = λ moment has. least_keys plan bound moment (moment_exact plan has.0 moment (subst (IsExact plan) has.1 exact));
-      least_late = λ moment has. exact_least plan bound has.0 moment (subst (IsExact plan) has.1 exact);
-      few_copies = few_copies plan bound log exact;
-      few_slots = bounded_work plan bound log exact;
-      uncertified = none_is plan log bound exact;
-      certified = λ c is. said plan log c (of_worst plan log c bound exact is);
+      arrivals = λ e past has. (legal_entry start log e past legal has).in_time;
+      reads = λ s past number page bytes has ran. (legal_act start log s past number _ legal has ran).1.tells;
+      programs = λ s past number act has ran. (legal_act start log s past number act legal has ran).1.finds;
+      room = λ moment has. owed_fits start moment (legal_moment start log moment legal has);
+      never_idle = λ s past has idle. subst (IsLegalRun start past s.waived) idle (legal_slot start log s past legal has).1;
+      waivers = λ s past has. (legal_slot start log s past legal has).0;
+      least_keys = λ moment has. least_keys start bound moment (moment_exact start has.0 moment (subst (IsExact start) has.1 exact));
+      least_late = λ moment has. exact_least start bound has.0 moment (subst (IsExact start) has.1 exact);
+      few_copies = few_copies start bound log exact;
+      few_slots = bounded_work start bound log exact;
+      uncertified = none_is start log bound exact;
+      certified = λ c is. said start.plan log c (of_worst start log c bound exact is);
     }
 
-pub moment_promises : (plan : DiePlan) → MeetsBound plan → (later moment : Log) → IsExact plan (later ++ moment) → KeepsPromises plan moment
-moment_promises plan bound later moment exact = keeps_promises plan bound moment (moment_exact plan later moment exact)
+pub moment_promises : (start : Start) → IsOpening start → (later moment : Log) → IsExact start (later ++ moment) → KeepsPromises start moment
+moment_promises start bound later moment exact = keeps_promises start bound moment (moment_exact start later moment exact)

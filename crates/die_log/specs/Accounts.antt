@@ -13,6 +13,7 @@ use Rattle.plan_rules.specs.Accounts as moves
 use Rattle.die_log.specs.Log.{Log, Job, Carried, job_at, acts}
 use Rattle.slot_types.specs.Operations.{writes}
 use Rattle.die_log.specs.Work.{are_all, is_copy_program}
+use Rattle.die_log.specs.Start.{Start}
 
 -- an act of a job or collection that had these acts before
 abbrev pub after_act : DiePlan → Option Job → List Act → Act → Accounts → Accounts
@@ -43,6 +44,6 @@ after_entry plan past _ (replies.Slot s) a = after_carried plan past s.ran (afte
 after_entry plan past _ _ a = a
 
 -- the accounts after the calls of a log
-abbrev pub accounts : DiePlan → Log → Accounts
-accounts plan [] = opening plan
-accounts plan (e ∷ past) = after_entry plan past e.event e.reply (accounts plan past)
+abbrev pub accounts : Start → Log → Accounts
+accounts start [] = start.accounts
+accounts start (e ∷ past) = after_entry start.plan past e.event e.reply (accounts start past)

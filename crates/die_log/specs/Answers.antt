@@ -23,6 +23,7 @@ use Rattle.die_log.specs.Work.{are_all, is_done, ready, least, is_collecting, vi
 use Rattle.plan_rules.specs.Accounts.{Accounts, given_of}
 use Rattle.plan_rules.specs.Accounts as moves
 use Rattle.die_log.specs.Accounts.{accounts}
+use Rattle.die_log.specs.Start.{Start}
 
 -- Refusals
 
@@ -30,8 +31,8 @@ use Rattle.die_log.specs.Accounts.{accounts}
 abbrev pub bad_page : DiePlan → List Op → Option ℕ
 bad_page plan ops = option_map page_of (find (λ op. nat_le plan.logical (page_of op)) ops)
 
-abbrev pub balance : DiePlan → Log → ℕ → ℕ
-balance plan past task = slice_index (accounts plan past).balances task
+abbrev pub balance : Start → Log → ℕ → ℕ
+balance start past task = slice_index (accounts start past).balances task
 
 -- the first whose condition stands
 abbrev pub first_standing : List (Bool × Refusal) → Option Refusal
@@ -39,29 +40,29 @@ first_standing [] = None
 first_standing (c ∷ rest) = if c.0 then Some c.1 else first_standing rest
 
 -- what refuses an event, in the order in which it is looked at
-abbrev pub refusals : DiePlan → Log → Event → List (Bool × Refusal)
-refusals plan past (events.Submit task release due ops) =
-    (nat_le (length plan.caps) task, because.UnknownTask)
+abbrev pub refusals : Start → Log → Event → List (Bool × Refusal)
+refusals start past (events.Submit task release due ops) =
+    (nat_le (length start.plan.caps) task, because.UnknownTask)
     ∷ (length ops == 0, because.EmptyJob)
     ∷ (nat_lt MAX_OPS (length ops), because.TooManyOps)
-    ∷ (is_some (bad_page plan ops), because.BadPage (unwrap_or (bad_page plan ops) 0))
+    ∷ (is_some (bad_page start.plan ops), because.BadPage (unwrap_or (bad_page start.plan ops) 0))
     ∷ (nat_lt release (now past), because.ReleasePast (now past))
     ∷ (nat_le due release || nat_lt MAX_SLOT due, because.BadDue)
     ∷ (nat_le MAX_JOBS (length (jobs past)), because.JobsFull)
-    ∷ (nat_lt (balance plan past task) (writes ops), because.NoTokens (balance plan past task) (writes ops))
+    ∷ (nat_lt (balance start past task) (writes ops), because.NoTokens (balance start past task) (writes ops))
     ∷ []
-refusals plan past (events.Collect task release due) =
-    (nat_le (length plan.caps) task, because.UnknownTask)
+refusals start past (events.Collect task release due) =
+    (nat_le (length start.plan.caps) task, because.UnknownTask)
     ∷ (nat_lt release (now past), because.ReleasePast (now past))
     ∷ (nat_le due release || nat_lt MAX_SLOT due, because.BadDue)
-    ∷ (is_collecting plan past task, because.CollectorBusy)
+    ∷ (is_collecting start.plan past task, because.CollectorBusy)
     ∷ (nat_le MAX_JOBS (length (jobs past)), because.JobsFull)
     ∷ []
-refusals plan past events.Slot = (nat_le MAX_SLOT (now past), because.ClockEnd) ∷ []
+refusals start past events.Slot = (nat_le MAX_SLOT (now past), because.ClockEnd) ∷ []
 
 -- why the event is refused, if it is
-abbrev pub refusal_of : DiePlan → Log → Event → Option Refusal
-refusal_of plan past event = first_standing (refusals plan past event)
+abbrev pub refusal_of : Start → Log → Event → Option Refusal
+refusal_of start past event = first_standing (refusals start past event)
 
 -- The head, and the waivers before it
 
@@ -98,16 +99,16 @@ abbrev pub choice_among : DiePlan → Log → ℕ → Accounts → List Job → 
 choice_among plan past zero a waiting = nobody
 choice_among plan past (suc turns) a waiting = chosen plan past a waiting (choice_among plan past turns) (least waiting)
 
-abbrev pub choice : DiePlan → Log → Choice
-choice plan past = let waiting = ready plan past in choice_among plan past (length waiting) (accounts plan past) waiting
+abbrev pub choice : Start → Log → Choice
+choice start past = let waiting = ready start.plan past in choice_among start.plan past (length waiting) (accounts start past) waiting
 
 -- Acts
 
-abbrev pub act_of_op : DiePlan → Log → Option Op → Option Act
-act_of_op plan past None = None
-act_of_op plan past (Some (asks.Read page)) = Some (does.Read page (content plan past page))
-act_of_op plan past (Some (asks.Write page bytes)) = Some (does.Write page bytes)
-act_of_op plan past (Some (asks.Trim page)) = Some (does.Trim page)
+abbrev pub act_of_op : Start → Log → Option Op → Option Act
+act_of_op start past None = None
+act_of_op start past (Some (asks.Read page)) = Some (does.Read page (content start past page))
+act_of_op start past (Some (asks.Write page bytes)) = Some (does.Write page bytes)
+act_of_op start past (Some (asks.Trim page)) = Some (does.Trim page)
 
 -- begun and not done
 abbrev pub is_running : DiePlan → Log → Job → Bool
@@ -118,14 +119,14 @@ is_block b None = false
 is_block b (Some v) = v == b
 
 -- a running collection collects the block
-abbrev pub is_collected : DiePlan → Log → ℕ → Bool
-is_collected plan past b = list_any (λ j. is_running plan past j && is_block b (victim_of plan j.number past)) (jobs past)
+abbrev pub is_collected : Start → Log → ℕ → Bool
+is_collected start past b = list_any (λ j. is_running start.plan past j && is_block b (victim_of start j.number past)) (jobs past)
 
 -- the closed blocks that nobody collects
-abbrev pub candidates : DiePlan → Log → List ℕ
-candidates plan past =
-    let c = cells plan past in
-    filter (λ b. is_closed plan (block_at c b) && not (is_collected plan past b)) (range_with_len 0 plan.shape.blocks)
+abbrev pub candidates : Start → Log → List ℕ
+candidates start past =
+    let c = cells start past in
+    filter (λ b. is_closed start.plan (block_at c b) && not (is_collected start past b)) (range_with_len 0 start.plan.shape.blocks)
 
 -- fewer valid pages, or as many and fewer finished erases
 abbrev pub goes_before : Cells → ℕ → ℕ → Bool
@@ -133,14 +134,14 @@ goes_before c b best =
     nat_lt (valid c b) (valid c best) || ((valid c b == valid c best) && nat_lt (block_at c b).erases (block_at c best).erases)
 
 -- of these the one with the fewest valid pages, then with the fewest erases, then the smaller number
-abbrev pub victim : DiePlan → Log → Option ℕ
-victim plan past =
-    let c = cells plan past in
-    reduce (λ best b. if goes_before c b best then b else best) (candidates plan past)
+abbrev pub victim : Start → Log → Option ℕ
+victim start past =
+    let c = cells start past in
+    reduce (λ best b. if goes_before c b best then b else best) (candidates start past)
 
 -- the block of a collection that has its turn
-abbrev pub block_for : DiePlan → Log → Job → Option ℕ
-block_for plan past j = if work j.number past == 0 then victim plan past else victim_of plan j.number past
+abbrev pub block_for : Start → Log → Job → Option ℕ
+block_for start past j = if work j.number past == 0 then victim start past else victim_of start j.number past
 
 -- the page in the buffer of a collection with these acts
 abbrev pub buffer_after : Option Act → Option ℕ
@@ -165,11 +166,11 @@ collect_act plan c buffer (Some b) =
     else Some (read_or_erase b (valid_pages plan c b))
 
 -- what the head does in the slot
-abbrev pub act_for : DiePlan → Log → Job → Option Act
-act_for plan past j =
+abbrev pub act_for : Start → Log → Job → Option Act
+act_for start past j =
     if j.collects
-    then collect_act plan (cells plan past) (buffer_after (last_or None (acts j.number past))) (block_for plan past j)
-    else act_of_op plan past (slice_get j.ops (work j.number past))
+    then collect_act start.plan (cells start past) (buffer_after (last_or None (acts j.number past))) (block_for start past j)
+    else act_of_op start past (slice_get j.ops (work j.number past))
 
 -- Replies
 
@@ -184,32 +185,32 @@ reply_with plan past waived j (Some act) =
       finished = if are_all plan j (acts j.number past ++ act ∷ []) then Some number else None;
     }
 
-abbrev pub slot_reply : DiePlan → Log → List Waived → Option Job → SlotReply
-slot_reply plan past waived None = record { slot = now past; waived = waived; ran = None; finished = None }
-slot_reply plan past waived (Some j) = reply_with plan past waived j (act_for plan past j)
+abbrev pub slot_reply : Start → Log → List Waived → Option Job → SlotReply
+slot_reply start past waived None = record { slot = now past; waived = waived; ran = None; finished = None }
+slot_reply start past waived (Some j) = reply_with start.plan past waived j (act_for start past j)
 
 -- what an accepted event is answered
-abbrev pub accepted : DiePlan → Log → Event → Reply
-accepted plan past (events.Submit task release due ops) = replies.Taken (length (jobs past))
-accepted plan past (events.Collect task release due) = replies.Taken (length (jobs past))
-accepted plan past events.Slot = let c = choice plan past in replies.Slot (slot_reply plan past c.waived c.head)
+abbrev pub accepted : Start → Log → Event → Reply
+accepted start past (events.Submit task release due ops) = replies.Taken (length (jobs past))
+accepted start past (events.Collect task release due) = replies.Taken (length (jobs past))
+accepted start past events.Slot = let c = choice start past in replies.Slot (slot_reply start past c.waived c.head)
 
-abbrev pub answer_by : DiePlan → Log → Event → Option Refusal → Reply
-answer_by plan past event None = accepted plan past event
-answer_by plan past event (Some refusal) = replies.Refused refusal
+abbrev pub answer_by : Start → Log → Event → Option Refusal → Reply
+answer_by start past event None = accepted start past event
+answer_by start past event (Some refusal) = replies.Refused refusal
 
 -- what an event is answered behind these calls
-unfoldable pub answer : DiePlan → Log → Event → Reply
-answer plan past event = answer_by plan past event (refusal_of plan past event)
+unfoldable pub answer : Start → Log → Event → Reply
+answer start past event = answer_by start past event (refusal_of start past event)
 
 abbrev pub IsAccepted : Reply → Type 0
 IsAccepted (replies.Refused refusal) = ⊥
 IsAccepted _ = Unit {0}
 
 -- each entry is what the die answers behind the entries before it, and no refusal
-abbrev pub IsExact : DiePlan → Log → Type 0
-IsExact plan [] = Unit {0}
-IsExact plan (e ∷ past) = IsExact plan past × (e.reply ≡ answer plan past e.event) × IsAccepted e.reply
+abbrev pub IsExact : Start → Log → Type 0
+IsExact start [] = Unit {0}
+IsExact start (e ∷ past) = IsExact start past × (e.reply ≡ answer start past e.event) × IsAccepted e.reply
 
 -- Runs
 
@@ -218,10 +219,10 @@ with_answer caller event (replies.Refused refusal) past = past
 with_answer caller event reply past = record { caller = caller; event = event; reply = reply } ∷ past
 
 -- the log after one call
-abbrev pub after_call : DiePlan → Log → ℕ × Event → Log
-after_call plan past call = with_answer call.0 call.1 (answer plan past call.1) past
+abbrev pub after_call : Start → Log → ℕ × Event → Log
+after_call start past call = with_answer call.0 call.1 (answer start past call.1) past
 
 -- the log after these calls, the first of which comes first
-abbrev pub run : DiePlan → Log → List (ℕ × Event) → Log
-run plan past [] = past
-run plan past (call ∷ calls) = run plan (after_call plan past call) calls
+abbrev pub run : Start → Log → List (ℕ × Event) → Log
+run start past [] = past
+run start past (call ∷ calls) = run start (after_call start past call) calls

@@ -10,6 +10,7 @@ use Rattle.slot_types.specs.declared.acts.Act.TheVariants as does
 use Rattle.slot_types.specs.declared.replies.Reply.{Reply}
 use Rattle.slot_types.specs.declared.replies.Reply.TheVariants as replies
 use Rattle.die_log.specs.Log.{Log, Carried}
+pub use Rattle.die_log.specs.Start.{Start, Block, Cells, blank_page, free_block, fresh_cells}
 
 -- what a slot of this reply carried
 abbrev pub ran_by : Reply → Carried
@@ -18,10 +19,6 @@ ran_by _ = None
 
 -- Contents
 
--- a page that was never written, or was trimmed since
-abbrev pub blank_page : PageData
-blank_page = record { 0 = replicate 16 255 }
-
 abbrev pub written : Carried → List PageData → List PageData
 written None pages = pages
 written (Some (n, does.Write page bytes)) pages = slice_set pages page bytes
@@ -29,32 +26,14 @@ written (Some (n, does.Trim page)) pages = slice_set pages page blank_page
 written (Some (n, _)) pages = pages
 
 -- the array of logical pages: what was written last stands, and a trimmed page is blank
-abbrev pub contents : DiePlan → Log → List PageData
-contents plan [] = replicate plan.logical blank_page
-contents plan (e ∷ past) = written (ran_by e.reply) (contents plan past)
+abbrev pub contents : Start → Log → List PageData
+contents start [] = start.contents
+contents start (e ∷ past) = written (ran_by e.reply) (contents start past)
 
-abbrev pub content : DiePlan → Log → ℕ → PageData
-content plan log page = slice_index_or (contents plan log) page blank_page
+abbrev pub content : Start → Log → ℕ → PageData
+content start log page = slice_index_or (contents start log) page blank_page
 
 -- Cells
-
--- a block: how many of its pages are programmed, how many slots its running erase has had, how many erases it has had
-pub record Block : Type 0 where
-  pub filled : ℕ
-  pub erasing : ℕ
-  pub erases : ℕ
-
--- the blocks, and by logical page the cell that its last program filled, if it wasn't trimmed since
-pub record Cells : Type 0 where
-  pub blocks : List Block
-  pub places : List (Option Place)
-
--- a wholly free block that was never erased
-abbrev pub free_block : Block
-free_block = record { filled = 0; erasing = 0; erases = 0 }
-
-abbrev pub fresh_cells : DiePlan → Cells
-fresh_cells plan = record { blocks = replicate plan.shape.blocks free_block; places = replicate plan.logical None }
 
 abbrev pub block_at : Cells → ℕ → Block
 block_at c b = slice_index_or c.blocks b free_block
@@ -102,9 +81,9 @@ cells_after plan (Some (n, does.CopyRead page)) c = c
 cells_after plan (Some (n, does.CopyProgram page)) c = programmed plan page c
 cells_after plan (Some (n, does.Erase block)) c = record c { blocks = slice_set c.blocks block (erased_once plan (block_at c block)) }
 
-abbrev pub cells : DiePlan → Log → Cells
-cells plan [] = fresh_cells plan
-cells plan (e ∷ past) = cells_after plan (ran_by e.reply) (cells plan past)
+abbrev pub cells : Start → Log → Cells
+cells start [] = start.cells
+cells start (e ∷ past) = cells_after start.plan (ran_by e.reply) (cells start past)
 
 -- Places
 
@@ -125,5 +104,5 @@ valid_pages plan c b = filter_map (λ cell. owner_of c.places (record { block = 
 abbrev pub free_in : DiePlan → Block → ℕ
 free_in plan s = if s.erasing == 0 then plan.shape.pages - s.filled else 0
 
-abbrev pub free : DiePlan → Log → ℕ
-free plan log = sum_by (free_in plan) (cells plan log).blocks
+abbrev pub free : Start → Log → ℕ
+free start log = sum_by (free_in start.plan) (cells start log).blocks

@@ -11,6 +11,7 @@ use Rattle.die_log.specs.Flash.{free}
 use Rattle.slot_types.specs.Operations.{writes}
 use Rattle.die_log.specs.Work.{are_all, is_copy_program, owed}
 use Rattle.die_log.specs.Accounts.{accounts}
+use Rattle.die_log.specs.Start.{Start}
 
 -- so much at this task, and nothing at others
 abbrev pub at_task : ℕ → ℕ → ℕ → ℕ
@@ -69,9 +70,9 @@ pub record IsTaken (plan : DiePlan) (j : Job) : Type 0 where
 
 -- the accounts at the end of a log come to what the log says; each task has at most one collection that is neither done nor waived, and no
 -- waived one has an act
-pub record AreTrue (plan : DiePlan) (log : Log) : Type 0 where
-  pub agree : Agree plan (accounts plan log) (held_of (λ n. acts n log) (jobs log))
-      (lent_to plan (λ n. acts n log) (is_waived log) (jobs log)) (owed log) (free plan log)
-  pub taken : AllByRecursion (IsTaken plan) (jobs log)
-  pub one_each : (task : ℕ) → pending_of plan (λ n. acts n log) (is_waived log) (jobs log) task ≤ 1
+pub record AreTrue (start : Start) (log : Log) : Type 0 where
+  pub agree : Agree start.plan (accounts start log) (held_of (λ n. acts n log) (jobs log))
+      (lent_to start.plan (λ n. acts n log) (is_waived log) (jobs log)) (owed log) (free start log)
+  pub taken : AllByRecursion (IsTaken start.plan) (jobs log)
+  pub one_each : (task : ℕ) → pending_of start.plan (λ n. acts n log) (is_waived log) (jobs log) task ≤ 1
   pub idle_waived : (number : ℕ) → is_waived log number ≡ true → acts number log ≡ []

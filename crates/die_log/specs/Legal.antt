@@ -20,6 +20,7 @@ use Rattle.die_log.specs.Work.{is_erase, is_done, is_ready, victim_of, shown_by,
 use Rattle.plan_rules.specs.Accounts.{Accounts, given_of}
 use Rattle.plan_rules.specs.Accounts as moves
 use Rattle.die_log.specs.Accounts.{accounts}
+use Rattle.die_log.specs.Start.{Start}
 
 -- Numbers and arrivals
 
@@ -57,8 +58,8 @@ abbrev pub erases_of : ℕ → Log → ℕ
 erases_of number past = count_by is_erase (acts number past)
 
 -- a page that is placed in the block is read, each once, and none after the erase began
-pub record MayCopyRead (plan : DiePlan) (past : Log) (number b page : ℕ) : Type 0 where
-  pub placed : block_of_page (cells plan past) page ≡ Some b
+pub record MayCopyRead (start : Start) (past : Log) (number b page : ℕ) : Type 0 where
+  pub placed : block_of_page (cells start past) page ≡ Some b
   pub once : Contains (acts number past) (does.CopyRead page) → ⊥
   pub unerased : erases_of number past ≡ 0
 
@@ -82,24 +83,24 @@ pub record MayCopyProgram (past : Log) (number page : ℕ) : Type 0 where
   pub unchanged : IsFalse (changed_since number page past)
 
 -- an erase begins on a closed block in which no page is placed, and no other collection erases the block until it is done
-pub record MayErase (plan : DiePlan) (past : Log) (number b block : ℕ) : Type 0 where
+pub record MayErase (start : Start) (past : Log) (number b block : ℕ) : Type 0 where
   pub own : block ≡ b
-  pub left : erases_of number past < plan.shape.erase_slots
-  pub closed : erases_of number past ≡ 0 → (block_at (cells plan past) b).filled ≡ plan.shape.pages
-  pub unplaced : erases_of number past ≡ 0 → valid (cells plan past) b ≡ 0
+  pub left : erases_of number past < start.plan.shape.erase_slots
+  pub closed : erases_of number past ≡ 0 → (block_at (cells start past) b).filled ≡ start.plan.shape.pages
+  pub unplaced : erases_of number past ≡ 0 → valid (cells start past) b ≡ 0
   pub alone : (i : Job) → Contains (jobs past) i → i.number ≢ number → Contains (acts i.number past) (does.Erase b)
-      → IsTrue (is_done plan past i)
+      → IsTrue (is_done start.plan past i)
 
-abbrev pub IsCollectAct : DiePlan → Log → ℕ → ℕ → Act → Type 0
-IsCollectAct plan past number b (does.CopyRead page) = MayCopyRead plan past number b page
-IsCollectAct plan past number b (does.CopyProgram page) = MayCopyProgram past number page
-IsCollectAct plan past number b (does.Erase block) = MayErase plan past number b block
-IsCollectAct plan past number b _ = ⊥
+abbrev pub IsCollectAct : Start → Log → ℕ → ℕ → Act → Type 0
+IsCollectAct start past number b (does.CopyRead page) = MayCopyRead start past number b page
+IsCollectAct start past number b (does.CopyProgram page) = MayCopyProgram past number page
+IsCollectAct start past number b (does.Erase block) = MayErase start past number b block
+IsCollectAct start past number b _ = ⊥
 
 -- all acts of a collection are of the block that its first act shows
-abbrev pub IsNextCollectAct : DiePlan → Log → ℕ → Act → Type 0
-IsNextCollectAct plan past number act =
-    (b : ℕ) × (shown_by plan past (victim_of plan number past) (Some act) ≡ Some b) × IsCollectAct plan past number b act
+abbrev pub IsNextCollectAct : Start → Log → ℕ → Act → Type 0
+IsNextCollectAct start past number act =
+    (b : ℕ) × (shown_by start past (victim_of start number past) (Some act) ≡ Some b) × IsCollectAct start past number b act
 
 -- Waivers
 
@@ -124,47 +125,47 @@ AreWaivers plan past earlier a (w ∷ ws) =
 -- Slots
 
 -- a read tells the page's content
-abbrev pub TellsContent : DiePlan → Log → Act → Type 0
-TellsContent plan past (does.Read page bytes) = bytes ≡ content plan past page
-TellsContent plan past _ = Unit {0}
+abbrev pub TellsContent : Start → Log → Act → Type 0
+TellsContent start past (does.Read page bytes) = bytes ≡ content start past page
+TellsContent start past _ = Unit {0}
 
 -- a program finds a free page
-abbrev pub FindsFree : DiePlan → Log → Act → Type 0
-FindsFree plan past (does.Write page bytes) = 0 < free plan past
-FindsFree plan past (does.CopyProgram page) = 0 < free plan past
-FindsFree plan past _ = Unit {0}
+abbrev pub FindsFree : Start → Log → Act → Type 0
+FindsFree start past (does.Write page bytes) = 0 < free start past
+FindsFree start past (does.CopyProgram page) = 0 < free start past
+FindsFree start past _ = Unit {0}
 
 -- an act of a job or collection that stands, is released, not done and not waived
-pub record IsLegalAct (plan : DiePlan) (past : Log) (waived_by_now : List Waived) (j : Job) (number : ℕ) (act : Act) : Type 0 where
+pub record IsLegalAct (start : Start) (past : Log) (waived_by_now : List Waived) (j : Job) (number : ℕ) (act : Act) : Type 0 where
   pub known : job_at past number ≡ Some j
   pub released : j.release ≤ now past
-  pub undone : IsFalse (is_done plan past j)
+  pub undone : IsFalse (is_done start.plan past j)
   pub unwaived : IsFalse (is_among number waived_by_now)
-  pub next : MatchBool j.collects (IsNextCollectAct plan past number act) (IsNextOperation past j act)
-  pub tells : TellsContent plan past act
-  pub finds : FindsFree plan past act
+  pub next : MatchBool j.collects (IsNextCollectAct start past number act) (IsNextOperation past j act)
+  pub tells : TellsContent start past act
+  pub finds : FindsFree start past act
 
 -- nothing waits that was accepted before the slot, is released, not done and not waived
 abbrev pub NothingWaits : DiePlan → Log → List Waived → Type 0
 NothingWaits plan past ws = (j : Job) → Contains (jobs past) j → IsTrue (is_ready plan past j) → IsTrue (is_among j.number ws)
 
-abbrev pub IsLegalRun : DiePlan → Log → List Waived → Carried → Type 0
-IsLegalRun plan past ws None = NothingWaits plan past ws
-IsLegalRun plan past ws (Some (number, act)) = (j : Job) × IsLegalAct plan past (waived past ++ ws) j number act
+abbrev pub IsLegalRun : Start → Log → List Waived → Carried → Type 0
+IsLegalRun start past ws None = NothingWaits start.plan past ws
+IsLegalRun start past ws (Some (number, act)) = (j : Job) × IsLegalAct start past (waived past ++ ws) j number act
 
-abbrev pub IsLegalReply : DiePlan → Log → Reply → Type 0
-IsLegalReply plan past (replies.Slot s) = AreWaivers plan past (waived past) (accounts plan past) s.waived
-    × IsLegalRun plan past s.waived s.ran
-IsLegalReply plan past _ = Unit {0}
+abbrev pub IsLegalReply : Start → Log → Reply → Type 0
+IsLegalReply start past (replies.Slot s) = AreWaivers start.plan past (waived past) (accounts start past) s.waived
+    × IsLegalRun start past s.waived s.ran
+IsLegalReply start past _ = Unit {0}
 
 -- Logs
 
-pub record IsLegalEntry (plan : DiePlan) (past : Log) (e : Entry) : Type 0 where
+pub record IsLegalEntry (start : Start) (past : Log) (e : Entry) : Type 0 where
   pub numbered : IsNumbered past e.event e.reply
   pub in_time : ArrivesInTime past e.event
-  pub slot : IsLegalReply plan past e.reply
-  pub room : owed (e ∷ past) ≤ free plan (e ∷ past)
+  pub slot : IsLegalReply start past e.reply
+  pub room : owed (e ∷ past) ≤ free start (e ∷ past)
 
-abbrev pub IsLegal : DiePlan → Log → Type 0
-IsLegal plan [] = Unit {0}
-IsLegal plan (e ∷ past) = IsLegal plan past × IsLegalEntry plan past e
+abbrev pub IsLegal : Start → Log → Type 0
+IsLegal start [] = Unit {0}
+IsLegal start (e ∷ past) = IsLegal start past × IsLegalEntry start past e

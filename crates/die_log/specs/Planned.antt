@@ -7,6 +7,7 @@ use Rattle.slot_types.specs.declared.replies.Reply.{Reply}
 use Rattle.die_log.specs.Log.{Log, Job, jobs, now, is_waived}
 use Rattle.die_log.specs.Work.{is_done, lateness_of}
 use Rattle.die_log.specs.Answers.{answer, IsAccepted, after_call}
+use Rattle.die_log.specs.Start.{Start}
 
 -- the events of a log, in their order
 abbrev pub told : Log → List Event
@@ -28,6 +29,6 @@ pub record IsInTime (plan : DiePlan) (log : Log) : Type 0 where
   pub never_late : (j : Job) → Contains (jobs log) j → IsTrue (is_done plan log j) → lateness_of log j ≤ℤ pos 0
 
 -- none of these calls, made one after the other, is refused
-abbrev pub AreAccepted : DiePlan → Log → List (ℕ × Event) → Type 0
-AreAccepted plan past [] = Unit {0}
-AreAccepted plan past (call ∷ calls) = IsAccepted (answer plan past call.1) × AreAccepted plan (after_call plan past call) calls
+abbrev pub AreAccepted : Start → Log → List (ℕ × Event) → Type 0
+AreAccepted start past [] = Unit {0}
+AreAccepted start past (call ∷ calls) = IsAccepted (answer start past call.1) × AreAccepted start (after_call start past call) calls

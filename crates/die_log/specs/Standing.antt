@@ -8,6 +8,7 @@ use Rattle.die_log.specs.Work.{victim_of}
 use Rattle.die_log.specs.Answers.{is_running}
 use Rattle.die_log.specs.Legal.{changed_since}
 use Rattle.die_log.specs.Sound.{AreSound, IsCollecting}
+use Rattle.die_log.specs.Start.{Start}
 
 -- jobs are numbered by place
 abbrev pub AreNumbered : ℕ → List Job → Type 0
@@ -15,10 +16,10 @@ AreNumbered k [] = Unit {0}
 AreNumbered k (j ∷ js) = (j.number ≡ k) × AreNumbered (k + 1) js
 
 -- a running collection, and its block
-pub record Runs (plan : DiePlan) (log : Log) (j : Job) (b : ℕ) : Type 0 where
+pub record Runs (start : Start) (log : Log) (j : Job) (b : ℕ) : Type 0 where
   pub stands : Contains (jobs log) j
-  pub running : is_running plan log j ≡ true
-  pub victim : victim_of plan j.number log ≡ Some b
+  pub running : is_running start.plan log j ≡ true
+  pub victim : victim_of start j.number log ≡ Some b
 
 -- a job did no more than its operations, and erased nothing
 pub record KeepsToOps (log : Log) (j : Job) : Type 0 where
@@ -26,15 +27,15 @@ pub record KeepsToOps (log : Log) (j : Job) : Type 0 where
   pub unerased : (b : ℕ) → Contains (acts j.number log) (does.Erase b) → ⊥
 
 -- cells are sound; running collections have blocks of their own; and who erases runs
-pub record Collects (plan : DiePlan) (log : Log) : Type 0 where
-  pub sound : AreSound plan (cells plan log)
-  pub shown : (j : Job) → Contains (jobs log) j → is_running plan log j ≡ true → (b : ℕ) × Runs plan log j b
-  pub collecting : (j : Job) (b : ℕ) → Runs plan log j b
-      → IsCollecting plan (cells plan log) (acts j.number log) (λ page. changed_since j.number page log) b
-  pub different : (i j : Job) (b : ℕ) → Runs plan log i b → Runs plan log j b → i.number ≡ j.number
-  pub owned : (b : ℕ) → 0 < (block_at (cells plan log) b).erasing → (j : Job) × Runs plan log j b
+pub record Collects (start : Start) (log : Log) : Type 0 where
+  pub sound : AreSound start.plan (cells start log)
+  pub shown : (j : Job) → Contains (jobs log) j → is_running start.plan log j ≡ true → (b : ℕ) × Runs start log j b
+  pub collecting : (j : Job) (b : ℕ) → Runs start log j b
+      → IsCollecting start.plan (cells start log) (acts j.number log) (λ page. changed_since j.number page log) b
+  pub different : (i j : Job) (b : ℕ) → Runs start log i b → Runs start log j b → i.number ≡ j.number
+  pub owned : (b : ℕ) → 0 < (block_at (cells start log) b).erasing → (j : Job) × Runs start log j b
 
-pub record Stands (plan : DiePlan) (log : Log) : Type 0 where
+pub record Stands (start : Start) (log : Log) : Type 0 where
   pub numbered : AreNumbered 0 (jobs log)
   pub of_jobs : (j : Job) → Contains (jobs log) j → j.collects ≡ false → KeepsToOps log j
-  pub collects : Collects plan log
+  pub collects : Collects start log

@@ -7,15 +7,16 @@ use Rattle.die_log.specs.Work.{victim_of}
 use Rattle.die_log.specs.Legal.{IsLegal}
 use Rattle.die_log.specs.Held.{reserve_full}
 use Rattle.die_log.specs.Held.{is_pending, copied_of, AreTrue}
+use Rattle.die_log.specs.Start.{Start}
 
 -- what a pending collection copied, and the pages still placed in its block, fit its collector's reserve
-pub record FewCopies (plan : DiePlan) (log : Log) : Type 0 where
-  pub few : (j : Job) (b : ℕ) → job_at log j.number ≡ Some j → is_pending plan (λ n. acts n log) (is_waived log) j ≡ true
-      → victim_of plan j.number log ≡ Some b
-      → copied_of (λ n. acts n log) j + valid (cells plan log) b ≤ reserve_full plan
+pub record FewCopies (start : Start) (log : Log) : Type 0 where
+  pub few : (j : Job) (b : ℕ) → job_at log j.number ≡ Some j → is_pending start.plan (λ n. acts n log) (is_waived log) j ≡ true
+      → victim_of start j.number log ≡ Some b
+      → copied_of (λ n. acts n log) j + valid (cells start log) b ≤ reserve_full start.plan
 
 -- the accounts are true, each collection copies no more than its reserve, and the log is legal
-pub record IsWell (plan : DiePlan) (log : Log) : Type 0 where
-  pub true_accounts : AreTrue plan log
-  pub copies : FewCopies plan log
-  pub legal : IsLegal plan log
+pub record IsWell (start : Start) (log : Log) : Type 0 where
+  pub true_accounts : AreTrue start log
+  pub copies : FewCopies start log
+  pub legal : IsLegal start log

@@ -9,6 +9,7 @@ use Rattle.slot_types.specs.Operations.{writes}
 use Rattle.late_cert.specs.Schedule as slots
 use Rattle.die_log.specs.Log.{Log, Job, jobs, now, is_waived, acts, act_of, work}
 use Rattle.die_log.specs.Flash.{ran_by, Cells, cells, block_of_page}
+use Rattle.die_log.specs.Start.{Start}
 
 -- Done
 
@@ -95,15 +96,15 @@ block_shown c (does.Erase block) = Some block
 block_shown c _ = None
 
 -- once known, the block stays; else the act that was carried behind this log may show it
-abbrev pub shown_by : DiePlan → Log → Option ℕ → Option Act → Option ℕ
-shown_by plan past (Some b) act = Some b
-shown_by plan past None None = None
-shown_by plan past None (Some act) = block_shown (cells plan past) act
+abbrev pub shown_by : Start → Log → Option ℕ → Option Act → Option ℕ
+shown_by start past (Some b) act = Some b
+shown_by start past None None = None
+shown_by start past None (Some act) = block_shown (cells start past) act
 
 -- the block that a begun collection collects: its first act shows it
-abbrev pub victim_of : DiePlan → ℕ → Log → Option ℕ
-victim_of plan number [] = None
-victim_of plan number (e ∷ past) = shown_by plan past (victim_of plan number past) (act_of number (ran_by e.reply))
+abbrev pub victim_of : Start → ℕ → Log → Option ℕ
+victim_of start number [] = None
+victim_of start number (e ∷ past) = shown_by start past (victim_of start number past) (act_of number (ran_by e.reply))
 
 -- Owed
 

@@ -4,6 +4,7 @@
 //! the log as it was before it, so an earlier moment is what is left behind the last entries. The definitions
 //! stand in `specs/`, to be read in this order:
 //!
+//! - `Start`: where a log starts: the plan, and what its pages, cells and accounts are then; a fresh die's start;
 //! - `Log`: entries; the jobs and collections that were taken; what each slot carried; the waivers;
 //! - `Flash`: the contents of the logical pages; blocks, places and free pages;
 //! - `Work`: what is done, what waits and what goes first; completion, lateness and the worst job; the block of
@@ -16,6 +17,7 @@
 //! - `Certified`: what is said of a certificate of a log;
 //! - `Promised`: all that is promised of a log, in one record;
 //! - `Planned`: the logs that events leave, and what a plan with times promises of them;
+//! - `Opening`: from which starts a log may begin; when all is done, and what stands then, as a start;
 //! - `Supply`: what the balance of a task lacks at most, where the events keep such a plan.
 //!
 //! `Limits`, `Sound`, `Standing`, `Held` and `Well` say what else stands behind every exact log. The definitions
@@ -28,8 +30,9 @@
 mod laws;
 
 pub use laws::{
-    collections_are_bounded, exact_carries_least_keys, exact_is_certified, exact_is_least_late,
-    exact_is_legal, exact_keeps_limits, exact_keeps_promises, exact_stands, holds_are_owed,
-    moments_are_exact, planned_work_is_accepted, planned_work_is_in_time, same_calls,
-    worst_is_worst,
+    collections_are_bounded, equal_calls_have_one_answer, exact_carries_least_keys,
+    exact_is_certified, exact_is_least_late, exact_is_legal, exact_keeps_limits,
+    exact_keeps_promises, exact_stands, fresh_is_opening, holds_are_owed, moments_are_exact,
+    planned_work_goes_on, planned_work_is_accepted, planned_work_is_in_time,
+    quiet_moments_are_openings, worst_is_worst,
 };

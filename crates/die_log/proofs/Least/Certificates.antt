@@ -32,6 +32,8 @@ use Rattle.die_log.proofs.Legal.Exact.{stands_well, has_slots}
 use Rattle.die_log.proofs.Least.Lookups.{row_in, row_at}
 use Rattle.die_log.proofs.Least.Worst.{worst_stands}
 use Rattle.die_log.proofs.Least.Exact.{no_operations, least_keys}
+use Rattle.die_log.specs.Start.{Start}
+use Rattle.die_log.specs.Opening.{IsOpening}
 
 -- What is done was carried
 
@@ -39,39 +41,39 @@ use Rattle.die_log.proofs.Least.Exact.{no_operations, least_keys}
 abbrev Begins : DiePlan → Job → Type 0
 Begins plan j = are_all plan j [] ≡ false
 
-all_begin : (plan : DiePlan) → 0 < plan.shape.erase_slots → (log : Log) → IsExact plan log → AllByRecursion (Begins plan) (jobs log)
-all_begin plan more = exact_induction plan (λ log. AllByRecursion (Begins plan) (jobs log)) tt step
+all_begin : (start : Start) → 0 < start.plan.shape.erase_slots → (log : Log) → IsExact start log → AllByRecursion (Begins start.plan) (jobs log)
+all_begin start more = exact_induction start (λ log. AllByRecursion (Begins start.plan) (jobs log)) tt step
   where
-    step : (past : Log) (caller : ℕ) (event : Event) → IsExact plan past → AllByRecursion (Begins plan) (jobs past)
-        → AllByRecursion (λ c. c.0 ≡ false) (refusals plan past event)
-        → AllByRecursion (Begins plan) (jobs (entry caller event (accepted plan past event) ∷ past))
-    step past caller (events.Submit task release due ops) exact h none = all_append (Begins plan) (jobs past) (_ ∷ []) h
+    step : (past : Log) (caller : ℕ) (event : Event) → IsExact start past → AllByRecursion (Begins start.plan) (jobs past)
+        → AllByRecursion (λ c. c.0 ≡ false) (refusals start past event)
+        → AllByRecursion (Begins start.plan) (jobs (entry caller event (accepted start past event) ∷ past))
+    step past caller (events.Submit task release due ops) exact h none = all_append (Begins start.plan) (jobs past) (_ ∷ []) h
         (no_operations ops none.1.0, tt)
-    step past caller (events.Collect task release due) exact h none = all_append (Begins plan) (jobs past) (_ ∷ []) h
-        (ne_eqb 0 plan.shape.erase_slots (λ e. absurd (omega (arith, e, more))), tt)
+    step past caller (events.Collect task release due) exact h none = all_append (Begins start.plan) (jobs past) (_ ∷ []) h
+        (ne_eqb 0 start.plan.shape.erase_slots (λ e. absurd (omega (arith, e, more))), tt)
     step past caller events.Slot exact h none = h
 
 -- so what is done was not waived
-pub done_unwaived : (plan : DiePlan) (log : Log) (j : Job) → MeetsBound plan → IsExact plan log → Contains (jobs log) j → is_done plan log j
+pub done_unwaived : (start : Start) (log : Log) (j : Job) → IsOpening start → IsExact start log → Contains (jobs log) j → is_done start.plan log j
     ≡ true → is_waived log j.number ≡ false
-done_unwaived plan log j bound exact stands done = false_from_ne_true (is_waived log j.number) idle
+done_unwaived start log j bound exact stands done = false_from_ne_true (is_waived log j.number) idle
   where
-    begins : Begins plan j
-    begins = All-contains (Begins plan) (jobs log) j (All-from_recursion (Begins plan) (jobs log)
-        (all_begin plan (has_slots plan bound) log exact)) stands
+    begins : Begins start.plan j
+    begins = All-contains (Begins start.plan) (jobs log) j (All-from_recursion (Begins start.plan) (jobs log)
+        (all_begin start (has_slots start.plan bound.bound) log exact)) stands
 
     idle : is_waived log j.number ≡ true → ⊥
-    idle gone = true≢false (sym done ∙ (ap (are_all plan j) ((stands_well plan bound log exact).1.true_accounts.idle_waived j.number gone)
+    idle gone = true≢false (sym done ∙ (ap (are_all start.plan j) ((stands_well start bound log exact).1.true_accounts.idle_waived j.number gone)
         ∙ begins))
 
 -- the row of what was not waived
-pub row_stands : (plan : DiePlan) (log : Log) (j : Job) → MeetsBound plan → IsExact plan log → Contains (jobs log) j
-    → is_waived log j.number ≡ false → row_of (rows plan log) j.number ≡ Some (row_for plan log j)
-row_stands plan log j bound exact stands unwaived =
-    let numbered = (stands_well plan bound log exact).0.numbered in
-    row_at (row_for plan log) (is_waived log) (jobs log) j.number (λ i. refl) numbered
-    ∙ (ap (λ (b : Bool). row_in (row_for plan log) b (slice_get (jobs log) j.number)) unwaived
-    ∙ ap (row_in (row_for plan log) false) (stands_at (jobs log) j numbered stands))
+pub row_stands : (start : Start) (log : Log) (j : Job) → IsOpening start → IsExact start log → Contains (jobs log) j
+    → is_waived log j.number ≡ false → row_of (rows start.plan log) j.number ≡ Some (row_for start.plan log j)
+row_stands start log j bound exact stands unwaived =
+    let numbered = (stands_well start bound log exact).0.numbered in
+    row_at (row_for start.plan log) (is_waived log) (jobs log) j.number (λ i. refl) numbered
+    ∙ (ap (λ (b : Bool). row_in (row_for start.plan log) b (slice_get (jobs log) j.number)) unwaived
+    ∙ ap (row_in (row_for start.plan log) false) (stands_at (jobs log) j numbered stands))
 
 -- Certificates
 
@@ -98,31 +100,31 @@ certificate_own rows carried keys k done =
     }
 
 -- what is done has a certificate
-pub done_certified : (plan : DiePlan) (log : Log) (j : Job) → MeetsBound plan → IsExact plan log → Contains (jobs log) j
-    → is_done plan log j ≡ true
-    → (c : Certificate) × (certificate_for plan log (Some j) ≡ Some c) × IsCertified plan log j c
-done_certified plan log j bound exact stands done =
-    let keys = least_keys plan bound log exact in
-    let row = row_stands plan log j bound exact stands (done_unwaived plan log j bound exact stands done) in
-    let done_row = ap is_done_in row ∙ done_with (is_done plan log j) j (completion j.number log) (work j.number log) done in
-    let is = certificate_of-done (rows plan log) (carried_numbers log) keys j.number done_row in (
-      stretch_of (rows plan log) (carried_numbers log) j.number,
+pub done_certified : (start : Start) (log : Log) (j : Job) → IsOpening start → IsExact start log → Contains (jobs log) j
+    → is_done start.plan log j ≡ true
+    → (c : Certificate) × (certificate_for start.plan log (Some j) ≡ Some c) × IsCertified start.plan log j c
+done_certified start log j bound exact stands done =
+    let keys = least_keys start bound log exact in
+    let row = row_stands start log j bound exact stands (done_unwaived start log j bound exact stands done) in
+    let done_row = ap is_done_in row ∙ done_with (is_done start.plan log j) j (completion j.number log) (work j.number log) done in
+    let is = certificate_of-done (rows start.plan log) (carried_numbers log) keys j.number done_row in (
+      stretch_of (rows start.plan log) (carried_numbers log) j.number,
       is,
       record {
-        own = certificate_own (rows plan log) (carried_numbers log) keys j.number done_row;
+        own = certificate_own (rows start.plan log) (carried_numbers log) keys j.number done_row;
         due = ap (number_in (λ r. r.due)) row;
-        completion = ap (number_in (λ r. unwrap_or r.completion 0)) row ∙ completes (is_done plan log j) (completion j.number log) done;
+        completion = ap (number_in (λ r. unwrap_or r.completion 0)) row ∙ completes (is_done start.plan log j) (completion j.number log) done;
       },
     )
 
 -- The worst job
 
-pub worst_certified : (plan : DiePlan) (log : Log) (j : Job) → MeetsBound plan → IsExact plan log → worst plan log ≡ Some j
-    → (c : Certificate) × (certificate plan log ≡ Some c) × IsCertified plan log j c
-worst_certified plan log j bound exact is =
-    let w = subst (OfSome (λ i. Contains (jobs log) i × (is_done plan log i ≡ true))) is (worst_stands plan log) in
-    let c = done_certified plan log j bound exact w.0 w.1 in
-    (c.0, ap (certificate_for plan log) is ∙ c.1, c.2)
+pub worst_certified : (start : Start) (log : Log) (j : Job) → IsOpening start → IsExact start log → worst start.plan log ≡ Some j
+    → (c : Certificate) × (certificate start.plan log ≡ Some c) × IsCertified start.plan log j c
+worst_certified start log j bound exact is =
+    let w = subst (OfSome (λ i. Contains (jobs log) i × (is_done start.plan log i ≡ true))) is (worst_stands start.plan log) in
+    let c = done_certified start log j bound exact w.0 w.1 in
+    (c.0, ap (certificate_for start.plan log) is ∙ c.1, c.2)
 
 -- where nothing is done there is no worst job
 none_passes : {X : Type 0} (t : X → Bool) (xs : List X) → AllByRecursion (λ x. t x ≡ false) xs → filter t xs ≡ []
@@ -157,17 +159,17 @@ nothing_done plan log h =
     let all = contained_all (λ i. is_done plan log i ≡ false) (jobs log) h in
     ap (reduce (λ best x. cond (is_worse log x best) x best)) (none_passes (is_done plan log) (jobs log) all)
 
-none_certified : (plan : DiePlan) (log : Log) (o : Option Job) → MeetsBound plan → IsExact plan log → worst plan log ≡ o
-    → certificate_for plan log o ≡ None → worst plan log ≡ None
-none_certified plan log None bound exact is e = is
-none_certified plan log (Some j) bound exact is e =
-    let w = subst (OfSome (λ i. Contains (jobs log) i × (is_done plan log i ≡ true))) is (worst_stands plan log) in
-    let c = done_certified plan log j bound exact w.0 w.1 in
+none_certified : (start : Start) (log : Log) (o : Option Job) → IsOpening start → IsExact start log → worst start.plan log ≡ o
+    → certificate_for start.plan log o ≡ None → worst start.plan log ≡ None
+none_certified start log None bound exact is e = is
+none_certified start log (Some j) bound exact is e =
+    let w = subst (OfSome (λ i. Contains (jobs log) i × (is_done start.plan log i ≡ true))) is (worst_stands start.plan log) in
+    let c = done_certified start log j bound exact w.0 w.1 in
     absurd (none-some c.0 (sym e ∙ c.1))
 
-pub none_is : (plan : DiePlan) (log : Log) → MeetsBound plan → IsExact plan log → (certificate plan log ≡ None)
-    ↔ ((j : Job) → Contains (jobs log) j → IsFalse (is_done plan log j))
-none_is plan log bound exact = (
-  λ e. no_worst plan log (none_certified plan log (worst plan log) bound exact refl e),
-  λ h. ap (certificate_for plan log) (nothing_done plan log h),
+pub none_is : (start : Start) (log : Log) → IsOpening start → IsExact start log → (certificate start.plan log ≡ None)
+    ↔ ((j : Job) → Contains (jobs log) j → IsFalse (is_done start.plan log j))
+none_is start log bound exact = (
+  λ e. no_worst start.plan log (none_certified start log (worst start.plan log) bound exact refl e),
+  λ h. ap (certificate_for start.plan log) (nothing_done start.plan log h),
 )

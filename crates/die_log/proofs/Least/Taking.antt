@@ -18,6 +18,7 @@ use Rattle.die_log.proofs.Collecting.{no_acts, not_waived}
 use Rattle.die_log.proofs.Standing.Longer.{numbered_push, at_end, elsewhere}
 use Rattle.die_log.proofs.Least.Lookups.{rows_by, row_in, Named, rows_rise, row_at}
 use Rattle.die_log.proofs.Least.Steps.{IsNew, IsKept, accepts_by}
+use Rattle.die_log.specs.Start.{Start}
 
 -- a new number, which wasn't waived, at the end of the jobs
 adds_row : (row : Job → JobRow) (gone : ℕ → Bool) (js : List Job) (new : Job) (k : ℕ) → Named row → AreNumbered 0 js → new.number
@@ -46,18 +47,18 @@ without_completion : (plan : DiePlan) (j : Job) (own : List Act) (n : ℕ) → o
 without_completion plan j own n e undone = ap (λ (b : Bool). cond b (Some n) None) (ap (are_all plan j) e ∙ undone)
 
 -- what is taken waits at first, and is not released before the present slot
-pub taken_keeps : (plan : DiePlan) (past : Log) (new : Job) → IsExact plan past → AreNumbered 0 (jobs past) → new.number
-    ≡ length (jobs past) → are_all plan new [] ≡ false → now past ≤ new.release
-    → CarriesLeastKeys (rows plan past) (carried_numbers past)
-    → CarriesLeastKeys (rows_by (row_for plan past) (is_waived past) (jobs past ++ new ∷ [])) (carried_numbers past)
-taken_keeps plan past new exact numbered number undone later keys =
-    let row : Job → JobRow = row_for plan past in
-    let own : acts new.number past ≡ [] = ap (λ (n : ℕ). acts n past) number ∙ no_acts plan past exact in
-    accepts-keeps (rows plan past) (rows_by row (is_waived past) (jobs past ++ new ∷ [])) (carried_numbers past) (length (jobs past)) keys (
-    accepts_by (rows plan past) (rows_by row (is_waived past) (jobs past ++ new ∷ [])) (carried_numbers past) (length (jobs past)) (row new)
+pub taken_keeps : (start : Start) (past : Log) (new : Job) → IsExact start past → AreNumbered 0 (jobs past) → new.number
+    ≡ length (jobs past) → are_all start.plan new [] ≡ false → now past ≤ new.release
+    → CarriesLeastKeys (rows start.plan past) (carried_numbers past)
+    → CarriesLeastKeys (rows_by (row_for start.plan past) (is_waived past) (jobs past ++ new ∷ [])) (carried_numbers past)
+taken_keeps start past new exact numbered number undone later keys =
+    let row : Job → JobRow = row_for start.plan past in
+    let own : acts new.number past ≡ [] = ap (λ (n : ℕ). acts n past) number ∙ no_acts start past exact in
+    accepts-keeps (rows start.plan past) (rows_by row (is_waived past) (jobs past ++ new ∷ [])) (carried_numbers past) (length (jobs past)) keys (
+    accepts_by (rows start.plan past) (rows_by row (is_waived past) (jobs past ++ new ∷ [])) (carried_numbers past) (length (jobs past)) (row new)
     (rows_rise row (is_waived past) (jobs past ++ new ∷ []) (λ j. refl) (numbered_push 0 (jobs past) new numbered (omega (arith, number))))
-    (λ k. adds_row row (is_waived past) (jobs past) new k (λ j. refl) numbered number (not_waived plan past exact))
-    (without_completion plan new (acts new.number past) (completion new.number past) own undone)
+    (λ k. adds_row row (is_waived past) (jobs past) new k (λ j. refl) numbered number (not_waived start past exact))
+    (without_completion start.plan new (acts new.number past) (completion new.number past) own undone)
     (ap (λ (l : List Act). length l) own)
     (omega (arith, later, length-map (carried past) (λ c. option_map (λ ran. ran.0) c)))
     )

@@ -26,17 +26,18 @@ use Rattle.die_log.proofs.Choices.{OfSome, names_waiting}
 use Rattle.die_log.proofs.Standing.Longer.{stands_at, kept_both, IsWaiting}
 use Rattle.die_log.proofs.Standing.Actors.{IsBegun, runs_from, act_shows, job_act, collection_may}
 use Rattle.die_log.proofs.Standing.Kept.{waiting_undone}
+use Rattle.die_log.specs.Start.{Start}
 
 -- Operations
 
-does_op : (plan : DiePlan) (past : Log) (o : Option Op) (act : Act) → act_of_op plan past o ≡ Some act → MatchOption o ⊥ (λ op. Does op act)
-    × TellsContent plan past act
-does_op plan past None act e = absurd cc
-does_op plan past (Some (asks.Read page)) act e = subst (λ (x : Act). Does (asks.Read page) x × TellsContent plan past x)
+does_op : (start : Start) (past : Log) (o : Option Op) (act : Act) → act_of_op start past o ≡ Some act → MatchOption o ⊥ (λ op. Does op act)
+    × TellsContent start past act
+does_op start past None act e = absurd cc
+does_op start past (Some (asks.Read page)) act e = subst (λ (x : Act). Does (asks.Read page) x × TellsContent start past x)
     (same_Some _ act e) (refl, refl)
-does_op plan past (Some (asks.Write page bytes)) act e = subst (λ (x : Act). Does (asks.Write page bytes) x × TellsContent plan past x)
+does_op start past (Some (asks.Write page bytes)) act e = subst (λ (x : Act). Does (asks.Write page bytes) x × TellsContent start past x)
     (same_Some _ act e) ((refl, refl), tt)
-does_op plan past (Some (asks.Trim page)) act e = subst (λ (x : Act). Does (asks.Trim page) x × TellsContent plan past x)
+does_op start past (Some (asks.Trim page)) act e = subst (λ (x : Act). Does (asks.Trim page) x × TellsContent start past x)
     (same_Some _ act e) (refl, tt)
 
 -- Collections
@@ -45,46 +46,46 @@ some_in : (xs : List Act) (x : Act) → Contains xs x → 0 < length xs
 some_in xs x h = omega (arith, h.1)
 
 -- who erased a slot of the block and isn't done runs on it
-erased_runs : (plan : DiePlan) (past : Log) (i : Job) (b : ℕ) → Stands plan past → Contains (jobs past) i
-    → Contains (acts i.number past) (does.Erase b) → is_done plan past i ≡ false → Runs plan past i b
-erased_runs plan past i b s stands h undone = by_kind i.collects refl
+erased_runs : (start : Start) (past : Log) (i : Job) (b : ℕ) → Stands start past → Contains (jobs past) i
+    → Contains (acts i.number past) (does.Erase b) → is_done start.plan past i ≡ false → Runs start past i b
+erased_runs start past i b s stands h undone = by_kind i.collects refl
   where
-    by_kind : (t : Bool) → i.collects ≡ t → Runs plan past i b
+    by_kind : (t : Bool) → i.collects ≡ t → Runs start past i b
     by_kind false kind = absurd ((s.of_jobs i stands kind).unerased b h)
     by_kind true kind =
-        let running : is_running plan past i ≡ true = runs_from plan i (acts i.number past)
+        let running : is_running start.plan past i ≡ true = runs_from start.plan i (acts i.number past)
         (record { collects = kind; begun = some_in (acts i.number past) (does.Erase b) h; undone = undone }) in
         let r = s.collects.shown i stands running in
-        subst (Runs plan past i) (sym ((s.collects.collecting i r.0 r.1).of_own b h)) r.1
+        subst (Runs start past i) (sym ((s.collects.collecting i r.0 r.1).of_own b h)) r.1
 
-erase_may : (plan : DiePlan) (past : Log) (j : Job) (b block : ℕ) → Stands plan past → IsBegun plan past j b
-    → MayEraseSlot plan (cells plan past) (acts j.number past) b block → MayErase plan past j.number b block
-erase_may plan past j b block s k may = record {
+erase_may : (start : Start) (past : Log) (j : Job) (b block : ℕ) → Stands start past → IsBegun start past j b
+    → MayEraseSlot start.plan (cells start past) (acts j.number past) b block → MayErase start past j.number b block
+erase_may start past j b block s k may = record {
   own = may.same;
   left = may.left;
   closed = λ z. may.closed;
   unplaced = λ z. may.valid_none;
-  alone = λ i stands other h. by_done i stands other h (is_done plan past i) refl;
+  alone = λ i stands other h. by_done i stands other h (is_done start.plan past i) refl;
 }
   where
     by_done : (i : Job) → Contains (jobs past) i → i.number ≢ j.number → Contains (acts i.number past) (does.Erase b) → (t : Bool)
-        → is_done plan past i ≡ t → t ≡ true
+        → is_done start.plan past i ≡ t → t ≡ true
     by_done i stands other h true e = refl
-    by_done i stands other h false e = absurd (other (k.apart i (erased_runs plan past i b s stands h e)))
+    by_done i stands other h false e = absurd (other (k.apart i (erased_runs start past i b s stands h e)))
 
-pub may_legal : (plan : DiePlan) (past : Log) (j : Job) (b : ℕ) (act : Act) → Stands plan past → IsBegun plan past j b
-    → MayDo plan (cells plan past) (acts j.number past) (λ p. changed_since j.number p past) b act
-    → IsCollectAct plan past j.number b act × TellsContent plan past act
-may_legal plan past j b (does.Read page bytes) s k may = absurd may
-may_legal plan past j b (does.Write page bytes) s k may = absurd may
-may_legal plan past j b (does.Trim page) s k may = absurd may
-may_legal plan past j b (does.CopyRead page) s k may = (
+pub may_legal : (start : Start) (past : Log) (j : Job) (b : ℕ) (act : Act) → Stands start past → IsBegun start past j b
+    → MayDo start.plan (cells start past) (acts j.number past) (λ p. changed_since j.number p past) b act
+    → IsCollectAct start past j.number b act × TellsContent start past act
+may_legal start past j b (does.Read page bytes) s k may = absurd may
+may_legal start past j b (does.Write page bytes) s k may = absurd may
+may_legal start past j b (does.Trim page) s k may = absurd may
+may_legal start past j b (does.CopyRead page) s k may = (
   record
       { placed = may.placed; once = λ h. may.none_left page h may.placed; unerased = may.unerased },
   tt,
 )
-may_legal plan past j b (does.CopyProgram page) s k may = (record { follows = may.follows; unchanged = may.unchanged }, tt)
-may_legal plan past j b (does.Erase block) s k may = (erase_may plan past j b block s k may, tt)
+may_legal start past j b (does.CopyProgram page) s k may = (record { follows = may.follows; unchanged = may.unchanged }, tt)
+may_legal start past j b (does.Erase block) s k may = (erase_may start past j b block s k may, tt)
 
 -- Waived in the same slot
 
@@ -141,10 +142,10 @@ head_unwaived plan past (suc turns) a waiting = unwaived_chosen plan past turns 
 -- The head's act
 
 -- the head's act is legal, if it finds the free page that it needs
-pub head_legal : (plan : DiePlan) (past : Log) (ws : List Waived) (j : Job) (act : Act) → 0 < plan.shape.erase_slots → Stands plan past
-    → IsWaiting plan past j → is_among j.number ws ≡ false → act_for plan past j ≡ Some act → FindsFree plan past act
-    → IsLegalAct plan past (waived past ++ ws) j j.number act
-head_legal plan past ws j act more s w unwaived e finds = record {
+pub head_legal : (start : Start) (past : Log) (ws : List Waived) (j : Job) (act : Act) → 0 < start.plan.shape.erase_slots → Stands start past
+    → IsWaiting start.plan past j → is_among j.number ws ≡ false → act_for start past j ≡ Some act → FindsFree start past act
+    → IsLegalAct start past (waived past ++ ws) j j.number act
+head_legal start past ws j act more s w unwaived e finds = record {
   known = stands_at (jobs past) j s.numbered w.0;
   released = leb-true j.release (now past) (and_parts _ _ (and_parts _ _ w.1).0).0;
   undone = undone;
@@ -155,13 +156,13 @@ head_legal plan past ws j act more s w unwaived e finds = record {
   finds = finds;
 }
   where
-    undone : is_done plan past j ≡ false
-    undone = waiting_undone plan past j w.1
+    undone : is_done start.plan past j ≡ false
+    undone = waiting_undone start.plan past j w.1
 
-    by_kind : (t : Bool) → j.collects ≡ t → MatchBool t (IsNextCollectAct plan past j.number act) (IsNextOperation past j act)
-        × TellsContent plan past act
-    by_kind false kind = does_op plan past (slice_get j.ops (work j.number past)) act (job_act plan past j act kind e)
+    by_kind : (t : Bool) → j.collects ≡ t → MatchBool t (IsNextCollectAct start past j.number act) (IsNextOperation past j act)
+        × TellsContent start past act
+    by_kind false kind = does_op start past (slice_get j.ops (work j.number past)) act (job_act start past j act kind e)
     by_kind true kind =
-        let m = collection_may plan past j act more s.collects w.0 kind undone e in
-        let l = may_legal plan past j m.0 act s m.1 m.2 in
-        ((m.0, act_shows plan past j m.0 act m.1 m.2, l.0), l.1)
+        let m = collection_may start past j act more s.collects w.0 kind undone e in
+        let l = may_legal start past j m.0 act s m.1 m.2 in
+        ((m.0, act_shows start past j m.0 act m.1 m.2, l.0), l.1)

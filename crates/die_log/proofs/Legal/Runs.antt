@@ -31,14 +31,15 @@ use Rattle.die_log.proofs.Standing.Longer.{IsWaiting, waits}
 use Rattle.die_log.proofs.Standing.Actors.{runs_from}
 use Rattle.die_log.proofs.Standing.Kept.{waiting_undone}
 use Rattle.die_log.proofs.Legal.Acts.{head_unwaived, head_legal}
+use Rattle.die_log.specs.Start.{Start}
 
 -- The head acts
 
-some_act : (plan : DiePlan) (past : Log) (o : Option Op) (op : Op) → o ≡ Some op → (act : Act) × (act_of_op plan past o ≡ Some act)
-some_act plan past None op e = absurd cc
-some_act plan past (Some (asks.Read page)) op e = (_, refl)
-some_act plan past (Some (asks.Write page bytes)) op e = (_, refl)
-some_act plan past (Some (asks.Trim page)) op e = (_, refl)
+some_act : (start : Start) (past : Log) (o : Option Op) (op : Op) → o ≡ Some op → (act : Act) × (act_of_op start past o ≡ Some act)
+some_act start past None op e = absurd cc
+some_act start past (Some (asks.Read page)) op e = (_, refl)
+some_act start past (Some (asks.Write page bytes)) op e = (_, refl)
+some_act start past (Some (asks.Trim page)) op e = (_, refl)
 
 some_collect : (plan : DiePlan) (c : Cells) (buffer o : Option ℕ) (b : ℕ) → o ≡ Some b → (act : Act)
     × (collect_act plan c buffer o ≡ Some act)
@@ -63,34 +64,34 @@ operation_left plan past j k kind undone =
     less m n le differs = grind arith
 
 -- the head acts, if a collection that begins finds a victim
-pub head_has_act : (plan : DiePlan) (past : Log) (j : Job) → Stands plan past → IsWaiting plan past j
-    → (j.collects ≡ true → work j.number past ≡ 0 → (b : ℕ) × (victim plan past ≡ Some b)) → (act : Act) × (act_for plan past j ≡ Some act)
-head_has_act plan past j s w finds = by_kind j.collects refl
+pub head_has_act : (start : Start) (past : Log) (j : Job) → Stands start past → IsWaiting start.plan past j
+    → (j.collects ≡ true → work j.number past ≡ 0 → (b : ℕ) × (victim start past ≡ Some b)) → (act : Act) × (act_for start past j ≡ Some act)
+head_has_act start past j s w finds = by_kind j.collects refl
   where
-    undone : is_done plan past j ≡ false
-    undone = waiting_undone plan past j w.1
+    undone : is_done start.plan past j ≡ false
+    undone = waiting_undone start.plan past j w.1
 
     positive : (n : ℕ) → (n ≡ 0 → ⊥) → 0 < n
     positive zero h = absurd (h refl)
     positive (suc n) h = omega arith
 
     block : j.collects ≡ true → (t : Bool) → (work j.number past == 0) ≡ t → (b : ℕ)
-        × (cond t (victim plan past) (victim_of plan j.number past) ≡ Some b)
+        × (cond t (victim start past) (victim_of start j.number past) ≡ Some b)
     block kind true e = finds kind (eqb-true (work j.number past) 0 e)
     block kind false e =
-        let r = s.collects.shown j w.0 (runs_from plan j (acts j.number past)
+        let r = s.collects.shown j w.0 (runs_from start.plan j (acts j.number past)
         (record { collects = kind; begun = positive (work j.number past) (eqb-false (work j.number past) 0 e); undone = undone })) in
         (r.0, r.1.victim)
 
     by_kind : (t : Bool) → j.collects ≡ t → (act : Act) × (cond t
-        (collect_act plan (cells plan past) (buffer_after (last_or None (acts j.number past))) (block_for plan past j))
-        (act_of_op plan past (slice_get j.ops (work j.number past))) ≡ Some act)
+        (collect_act start.plan (cells start past) (buffer_after (last_or None (acts j.number past))) (block_for start past j))
+        (act_of_op start past (slice_get j.ops (work j.number past))) ≡ Some act)
     by_kind false kind =
-        let lt : work j.number past < length j.ops = operation_left plan past j (s.of_jobs j w.0 kind) kind undone in
-        some_act plan past (slice_get j.ops (work j.number past)) _ (slice_get-get_or j.ops (work j.number past) (asks.Read 0) lt)
+        let lt : work j.number past < length j.ops = operation_left start.plan past j (s.of_jobs j w.0 kind) kind undone in
+        some_act start past (slice_get j.ops (work j.number past)) _ (slice_get-get_or j.ops (work j.number past) (asks.Read 0) lt)
     by_kind true kind =
         let b = block kind (work j.number past == 0) refl in
-        some_collect plan (cells plan past) (buffer_after (last_or None (acts j.number past))) (block_for plan past j) b.0 b.1
+        some_collect start.plan (cells start past) (buffer_after (last_or None (acts j.number past))) (block_for start past j) b.0 b.1
 
 -- Nothing waits
 
@@ -105,77 +106,77 @@ kept_in {X = X} t Q (x ∷ xs) h = by_test (t x) refl h (λ k. kept_in t Q xs k)
     by_test true e g again = (λ k. g.0, again g.1)
     by_test false e g again = (λ k. absurd (true≢false (sym k ∙ e)), again g)
 
-all_passed_now : (plan : DiePlan) (past : Log) → AllByRecursion (IsPassed (choice plan past)) (ready plan past)
-all_passed_now plan past = all_passed plan past (length (ready plan past)) (accounts plan past) (ready plan past) (omega arith)
+all_passed_now : (start : Start) (past : Log) → AllByRecursion (IsPassed (choice start past)) (ready start.plan past)
+all_passed_now start past = all_passed start.plan past (length (ready start.plan past)) (accounts start past) (ready start.plan past) (omega arith)
 
 passed_none : (c : Choice) (i : Job) → c.head ≡ None → IsPassed c i → is_among i.number c.waived ≡ true
 passed_none c i e (inl h) = h
 passed_none c i e (inr h) = absurd (subst (NotBefore i) e h)
 
 -- each that is ready is waived in the slot, or not before its head
-pub all_passed_ready : (plan : DiePlan) (past : Log) (j : Job) → Contains (jobs past) j → is_ready plan past j ≡ true
-    → IsPassed (choice plan past) j
-all_passed_ready plan past j stands is_ready_now =
-    let all = kept_in (is_ready plan past) (IsPassed (choice plan past)) (jobs past) (all_passed_now plan past) in
-    All-contains (λ (x : Job). is_ready plan past x ≡ true → IsPassed (choice plan past) x) (jobs past) j
-    (All-from_recursion (λ (x : Job). is_ready plan past x ≡ true → IsPassed (choice plan past) x) (jobs past) all) stands is_ready_now
+pub all_passed_ready : (start : Start) (past : Log) (j : Job) → Contains (jobs past) j → is_ready start.plan past j ≡ true
+    → IsPassed (choice start past) j
+all_passed_ready start past j stands is_ready_now =
+    let all = kept_in (is_ready start.plan past) (IsPassed (choice start past)) (jobs past) (all_passed_now start past) in
+    All-contains (λ (x : Job). is_ready start.plan past x ≡ true → IsPassed (choice start past) x) (jobs past) j
+    (All-from_recursion (λ (x : Job). is_ready start.plan past x ≡ true → IsPassed (choice start past) x) (jobs past) all) stands is_ready_now
 
 -- without a head nothing waits
-pub nothing_waits : (plan : DiePlan) (past : Log) → (choice plan past).head ≡ None → NothingWaits plan past (choice plan past).waived
-nothing_waits plan past none j stands is_ready_now = passed_none (choice plan past) j none
-    (all_passed_ready plan past j stands is_ready_now)
+pub nothing_waits : (start : Start) (past : Log) → (choice start past).head ≡ None → NothingWaits start.plan past (choice start past).waived
+nothing_waits start past none j stands is_ready_now = passed_none (choice start past) j none
+    (all_passed_ready start past j stands is_ready_now)
 
-run_by_act : (plan : DiePlan) (past : Log) (ws : List Waived) (j : Job) (o : Option Act) (act : Act) → 0 < plan.shape.erase_slots
-    → Stands plan past → IsWaiting plan past j → is_among j.number ws ≡ false
-    → act_for plan past j ≡ o → o ≡ Some act → FindsBy plan past (reply_with plan past ws j o).ran
-    → IsLegalRun plan past ws (reply_with plan past ws j o).ran
-run_by_act plan past ws j None act more s w unwaived e some finds = absurd cc
-run_by_act plan past ws j (Some a) act more s w unwaived e some finds = (j, head_legal plan past ws j a more s w unwaived e finds)
+run_by_act : (start : Start) (past : Log) (ws : List Waived) (j : Job) (o : Option Act) (act : Act) → 0 < start.plan.shape.erase_slots
+    → Stands start past → IsWaiting start.plan past j → is_among j.number ws ≡ false
+    → act_for start past j ≡ o → o ≡ Some act → FindsBy start past (reply_with start.plan past ws j o).ran
+    → IsLegalRun start past ws (reply_with start.plan past ws j o).ran
+run_by_act start past ws j None act more s w unwaived e some finds = absurd cc
+run_by_act start past ws j (Some a) act more s w unwaived e some finds = (j, head_legal start past ws j a more s w unwaived e finds)
 
-run_by_head : (plan : DiePlan) (past : Log) (ws : List Waived) (o : Option Job) → 0 < plan.shape.erase_slots → Stands plan past
-    → OfSome (IsWaiting plan past) o → OfSome (λ j. is_among j.number ws ≡ false) o
-    → (o ≡ None → NothingWaits plan past ws) → ((j : Job) → o ≡ Some j → j.collects ≡ true → work j.number past ≡ 0 → (b : ℕ)
-    × (victim plan past ≡ Some b))
-    → FindsBy plan past (slot_reply plan past ws o).ran → IsLegalRun plan past ws (slot_reply plan past ws o).ran
-run_by_head plan past ws None more s w unwaived idle victims finds = idle refl
-run_by_head plan past ws (Some j) more s w unwaived idle victims finds =
-    let a = head_has_act plan past j s w (victims j refl) in
-    run_by_act plan past ws j (act_for plan past j) a.0 more s w unwaived refl a.1 finds
+run_by_head : (start : Start) (past : Log) (ws : List Waived) (o : Option Job) → 0 < start.plan.shape.erase_slots → Stands start past
+    → OfSome (IsWaiting start.plan past) o → OfSome (λ j. is_among j.number ws ≡ false) o
+    → (o ≡ None → NothingWaits start.plan past ws) → ((j : Job) → o ≡ Some j → j.collects ≡ true → work j.number past ≡ 0 → (b : ℕ)
+    × (victim start past ≡ Some b))
+    → FindsBy start past (slot_reply start past ws o).ran → IsLegalRun start past ws (slot_reply start past ws o).ran
+run_by_head start past ws None more s w unwaived idle victims finds = idle refl
+run_by_head start past ws (Some j) more s w unwaived idle victims finds =
+    let a = head_has_act start past j s w (victims j refl) in
+    run_by_act start past ws j (act_for start past j) a.0 more s w unwaived refl a.1 finds
 
 -- what a slot carries is legal: an act of the head, or nothing where nothing waits
-pub run_legal : (plan : DiePlan) (past : Log) → 0 < plan.shape.erase_slots → Stands plan past → FindsVictim plan past
-    → FindsBy plan past (slot_reply plan past (choice plan past).waived (choice plan past).head).ran
-    → IsLegalRun plan past (choice plan past).waived (slot_reply plan past (choice plan past).waived (choice plan past).head).ran
-run_legal plan past more s victims finds =
-    run_by_head plan past (choice plan past).waived (choice plan past).head more s (waits plan past).head
-    (head_unwaived plan past (length (ready plan past)) (accounts plan past) (ready plan past))
-    (nothing_waits plan past) victims finds
+pub run_legal : (start : Start) (past : Log) → 0 < start.plan.shape.erase_slots → Stands start past → FindsVictim start past
+    → FindsBy start past (slot_reply start past (choice start past).waived (choice start past).head).ran
+    → IsLegalRun start past (choice start past).waived (slot_reply start past (choice start past).waived (choice start past).head).ran
+run_legal start past more s victims finds =
+    run_by_head start past (choice start past).waived (choice start past).head more s (waits start past).head
+    (head_unwaived start.plan past (length (ready start.plan past)) (accounts start past) (ready start.plan past))
+    (nothing_waits start past) victims finds
 
 -- Entries
 
-reply_legal : (plan : DiePlan) (past : Log) (event : Event) → 0 < plan.shape.erase_slots → Stands plan past → FindsVictim plan past
-    → FindsBy plan past (ran_by (accepted plan past event))
-    → AreWaivers plan past (waived past) (accounts plan past) (choice plan past).waived → IsLegalReply plan past (accepted plan past event)
-reply_legal plan past (events.Submit task release due ops) more s victims finds waivers = tt
-reply_legal plan past (events.Collect task release due) more s victims finds waivers = tt
-reply_legal plan past events.Slot more s victims finds waivers =
-    let same : (slot_reply plan past (choice plan past).waived (choice plan past).head).waived
-    ≡ (choice plan past).waived = waived_is plan past (choice plan past).waived (choice plan past).head in
-    let ran = (slot_reply plan past (choice plan past).waived (choice plan past).head).ran in (
-      subst (AreWaivers plan past (waived past) (accounts plan past)) (sym same) waivers,
-      subst (λ (ws : List Waived). IsLegalRun plan past ws ran) (sym same) (run_legal plan past more s victims finds),
+reply_legal : (start : Start) (past : Log) (event : Event) → 0 < start.plan.shape.erase_slots → Stands start past → FindsVictim start past
+    → FindsBy start past (ran_by (accepted start past event))
+    → AreWaivers start.plan past (waived past) (accounts start past) (choice start past).waived → IsLegalReply start past (accepted start past event)
+reply_legal start past (events.Submit task release due ops) more s victims finds waivers = tt
+reply_legal start past (events.Collect task release due) more s victims finds waivers = tt
+reply_legal start past events.Slot more s victims finds waivers =
+    let same : (slot_reply start past (choice start past).waived (choice start past).head).waived
+    ≡ (choice start past).waived = waived_is start past (choice start past).waived (choice start past).head in
+    let ran = (slot_reply start past (choice start past).waived (choice start past).head).ran in (
+      subst (AreWaivers start.plan past (waived past) (accounts start past)) (sym same) waivers,
+      subst (λ (ws : List Waived). IsLegalRun start past ws ran) (sym same) (run_legal start past more s victims finds),
     )
 
 -- an accepted event makes a legal entry, by what the accounts still owe: waivers, victims, free pages and room
-pub entry_legal : (plan : DiePlan) (past : Log) (caller : ℕ) (event : Event) → 0 < plan.shape.erase_slots → Stands plan past
-    → AllByRecursion (λ c. c.0 ≡ false) (refusals plan past event)
-    → FindsVictim plan past → FindsBy plan past (ran_by (accepted plan past event))
-    → AreWaivers plan past (waived past) (accounts plan past) (choice plan past).waived
-    → owed (entry caller event (accepted plan past event) ∷ past) ≤ free plan (entry caller event (accepted plan past event) ∷ past)
-    → IsLegalEntry plan past (entry caller event (accepted plan past event))
-entry_legal plan past caller event more s none victims finds waivers room = record {
-  numbered = numbered plan past event;
-  in_time = in_time plan past event none;
-  slot = reply_legal plan past event more s victims finds waivers;
+pub entry_legal : (start : Start) (past : Log) (caller : ℕ) (event : Event) → 0 < start.plan.shape.erase_slots → Stands start past
+    → AllByRecursion (λ c. c.0 ≡ false) (refusals start past event)
+    → FindsVictim start past → FindsBy start past (ran_by (accepted start past event))
+    → AreWaivers start.plan past (waived past) (accounts start past) (choice start past).waived
+    → owed (entry caller event (accepted start past event) ∷ past) ≤ free start (entry caller event (accepted start past event) ∷ past)
+    → IsLegalEntry start past (entry caller event (accepted start past event))
+entry_legal start past caller event more s none victims finds waivers room = record {
+  numbered = numbered start past event;
+  in_time = in_time start past event none;
+  slot = reply_legal start past event more s victims finds waivers;
   room = room;
 }

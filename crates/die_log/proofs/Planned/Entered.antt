@@ -22,6 +22,7 @@ use Rattle.die_log.specs.Log.{Log, Job, with_taken, jobs, carried, now}
 use Rattle.die_log.specs.Answers.{accepted, IsAccepted, IsExact, choice, slot_reply}
 use Rattle.die_log.specs.Planned.{Adds, AreEntered}
 use Rattle.die_log.proofs.Legality.{entry, taken_answer}
+use Rattle.die_log.specs.Start.{Start}
 
 -- the arrival is this job
 record IsOf (a : Arrival) (j : Job) : Type 0 where
@@ -43,19 +44,19 @@ refused a came (j ∷ js) h = inr h
 
 -- Along the events
 
-entry_answer : (plan : DiePlan) (caller : ℕ) (event : Event) (reply : Reply) (past : Log) → IsExact plan (entry caller event reply ∷ past)
-    → reply ≡ accepted plan past event
-entry_answer plan caller event reply past h = h.1 ∙ (taken_answer plan past event (subst IsAccepted h.1 h.2)).1
+entry_answer : (start : Start) (caller : ℕ) (event : Event) (reply : Reply) (past : Log) → IsExact start (entry caller event reply ∷ past)
+    → reply ≡ accepted start past event
+entry_answer start caller event reply past h = h.1 ∙ (taken_answer start past event (subst IsAccepted h.1 h.2)).1
 
-entered_next : (plan : DiePlan) (event : Event) (past next : Log) → Adds event past next ⊎ (IsArrival event × (next ≡ past))
-    → IsExact plan next → IsExact plan past
-entered_next plan event past next (inl adds) h = (subst (IsExact plan) adds.2 h).0
-entered_next plan event past next (inr stays) h = subst (IsExact plan) stays.1 h
+entered_next : (start : Start) (event : Event) (past next : Log) → Adds event past next ⊎ (IsArrival event × (next ≡ past))
+    → IsExact start next → IsExact start past
+entered_next start event past next (inl adds) h = (subst (IsExact start) adds.2 h).0
+entered_next start event past next (inr stays) h = subst (IsExact start) stays.1 h
 
 -- what an exact log was before some events is exact
-entered_exact : (plan : DiePlan) (all : List Event) (past log : Log) → AreEntered all past log → IsExact plan log → IsExact plan past
-entered_exact plan [] past log h exact = subst (IsExact plan) h exact
-entered_exact plan (event ∷ rest) past log h exact = entered_next plan event past h.0 h.1 (entered_exact plan rest h.0 log h.2 exact)
+entered_exact : (start : Start) (all : List Event) (past log : Log) → AreEntered all past log → IsExact start log → IsExact start past
+entered_exact start [] past log h exact = subst (IsExact start) h exact
+entered_exact start (event ∷ rest) past log h exact = entered_next start event past h.0 h.1 (entered_exact start rest h.0 log h.2 exact)
 
 -- new jobs, among those that came
 abbrev IsLonger : Log → List Arrival → Log → Type 0
@@ -65,19 +66,19 @@ with_one : (past log : Log) (came : List Arrival) (a : Arrival) (j : Job) → Is
     ++ new → IsAmong came new → IsLonger past (a ∷ came) log
 with_one past log came a j of new is among = (j ∷ new, is ∙ append_assoc (jobs past) (j ∷ []) new, inl (of, among))
 
-entered_by : (plan : DiePlan) (caller : ℕ) (event : Event) (rest : List Event) (past log : Log)
-    → IsLonger (entry caller event (accepted plan past event) ∷ past)
-    (arrivals (now (entry caller event (accepted plan past event) ∷ past)) rest) log
+entered_by : (start : Start) (caller : ℕ) (event : Event) (rest : List Event) (past log : Log)
+    → IsLonger (entry caller event (accepted start past event) ∷ past)
+    (arrivals (now (entry caller event (accepted start past event) ∷ past)) rest) log
     → IsLonger past (arrivals (now past) (event ∷ rest)) log
-entered_by plan caller (events.Submit task release due ops) rest past log h =
+entered_by start caller (events.Submit task release due ops) rest past log h =
     with_one past log (arrivals (now past) rest) _ _ (record { collects = refl; task = refl; release = refl; due = refl; ops = refl }) h.0
     h.1 h.2
-entered_by plan caller (events.Collect task release due) rest past log h =
+entered_by start caller (events.Collect task release due) rest past log h =
     with_one past log (arrivals (now past) rest) _ _ (record { collects = refl; task = refl; release = refl; due = refl; ops = refl }) h.0
     h.1 h.2
-entered_by plan caller events.Slot rest past log h =
-    let c = choice plan past in
-    (h.0, h.1, subst (λ n. IsAmong (arrivals n rest) h.0) (length_push (carried past) (slot_reply plan past c.waived c.head).ran) h.2)
+entered_by start caller events.Slot rest past log h =
+    let c = choice start past in
+    (h.0, h.1, subst (λ n. IsAmong (arrivals n rest) h.0) (length_push (carried past) (slot_reply start past c.waived c.head).ran) h.2)
 
 not_entered : (event : Event) (rest : List Event) (past log : Log) → IsArrival event → IsLonger past (arrivals (now past) rest) log
     → IsLonger past (arrivals (now past) (event ∷ rest)) log
@@ -85,21 +86,21 @@ not_entered (events.Submit task release due ops) rest past log is h = (h.0, h.1,
 not_entered (events.Collect task release due) rest past log is h = (h.0, h.1, refused _ (arrivals (now past) rest) h.0 h.2)
 not_entered events.Slot rest past log is h = absurd is
 
-entered_one : (plan : DiePlan) (event : Event) (rest : List Event) (past next log : Log) → Adds event past next
-    ⊎ (IsArrival event × (next ≡ past)) → IsExact plan next
+entered_one : (start : Start) (event : Event) (rest : List Event) (past next log : Log) → Adds event past next
+    ⊎ (IsArrival event × (next ≡ past)) → IsExact start next
     → IsLonger next (arrivals (now next) rest) log → IsLonger past (arrivals (now past) (event ∷ rest)) log
-entered_one plan event rest past next log (inl adds) exact h =
-    let is : next ≡ entry adds.0 event (accepted plan past event) ∷ past =
-    adds.2 ∙ ap (λ r. entry adds.0 event r ∷ past) (entry_answer plan adds.0 event adds.1 past (subst (IsExact plan) adds.2 exact)) in
-    entered_by plan adds.0 event rest past log (subst (λ l. IsLonger l (arrivals (now l) rest) log) is h)
-entered_one plan event rest past next log (inr stays) exact h =
+entered_one start event rest past next log (inl adds) exact h =
+    let is : next ≡ entry adds.0 event (accepted start past event) ∷ past =
+    adds.2 ∙ ap (λ r. entry adds.0 event r ∷ past) (entry_answer start adds.0 event adds.1 past (subst (IsExact start) adds.2 exact)) in
+    entered_by start adds.0 event rest past log (subst (λ l. IsLonger l (arrivals (now l) rest) log) is h)
+entered_one start event rest past next log (inr stays) exact h =
     not_entered event rest past log stays.0 (subst (λ l. IsLonger l (arrivals (now l) rest) log) stays.1 h)
 
-entered : (plan : DiePlan) (all : List Event) (past log : Log) → AreEntered all past log → IsExact plan log
+entered : (start : Start) (all : List Event) (past log : Log) → AreEntered all past log → IsExact start log
     → IsLonger past (arrivals (now past) all) log
-entered plan [] past log h exact = ([], ap jobs h ∙ sym (append-nil (jobs past)), tt)
-entered plan (event ∷ rest) past log h exact =
-    entered_one plan event rest past h.0 log h.1 (entered_exact plan rest h.0 log h.2 exact) (entered plan rest h.0 log h.2 exact)
+entered start [] past log h exact = ([], ap jobs h ∙ sym (append-nil (jobs past)), tt)
+entered start (event ∷ rest) past log h exact =
+    entered_one start event rest past h.0 log h.1 (entered_exact start rest h.0 log h.2 exact) (entered start rest h.0 log h.2 exact)
 
 -- What jobs have of arrivals
 
@@ -180,19 +181,19 @@ pub record IsSpaced (plan : DiePlan) (times : Times) (log : Log) : Type 0 where
       → windows.AreApart release_of due_of (is_collection_of task) (times_of times task).collect_period (jobs log)
 
 -- so it is in the log that events leave which keep to the plan
-pub spaced : (plan : DiePlan) (times : Times) (all : List Event) (log : Log) → KeepsPlan plan times all → AreEntered all [] log
-    → IsExact plan log → IsSpaced plan times log
-spaced plan times all log keeps enter exact =
-    let longer = entered plan all [] log enter exact in
+pub spaced : (start : Start) (times : Times) (all : List Event) (log : Log) → KeepsPlan start.plan times all → AreEntered all [] log
+    → IsExact start log → IsSpaced start.plan times log
+spaced start times all log keeps enter exact =
+    let longer = entered start all [] log enter exact in
     let among : IsAmong (arrivals 0 all) (jobs log) = subst (IsAmong (arrivals 0 all)) (sym longer.1) longer.2 in
     record {
-      asked = all_of (IsPlanned plan times (slots all)) (IsAsked plan times) (asked_of plan times (slots all)) (arrivals 0 all) (jobs log)
+      asked = all_of (IsPlanned start.plan times (slots all)) (IsAsked start.plan times) (asked_of start.plan times (slots all)) (arrivals 0 all) (jobs log)
           among
-          (recursion_from_All (IsPlanned plan times (slots all)) (arrivals 0 all) keeps.planned);
+          (recursion_from_All (IsPlanned start.plan times (slots all)) (arrivals 0 all) keeps.planned);
       jobs_apart = λ task. apart_of (arriving.is_job_of task) (is_job_of task) (job_test task) (times_of times task).period (arrivals 0 all)
-          (jobs log) among (arriving.jobs_apart plan times all keeps task);
+          (jobs log) among (arriving.jobs_apart start.plan times all keeps task);
       collections_apart = λ task lt. apart_of (arriving.is_collection_of task) (is_collection_of task) (collection_test task)
-          (times_of times task).collect_period (arrivals 0 all) (jobs log) among (arriving.collections_apart plan times all keeps task lt);
+          (times_of times task).collect_period (arrivals 0 all) (jobs log) among (arriving.collections_apart start.plan times all keeps task lt);
     }
 
 -- Earlier moments

@@ -40,6 +40,8 @@ use Rattle.die_log.proofs.Bounds.Exact.{are_bounded, bounded_work}
 use Rattle.die_log.proofs.Planned.Entered.{IsSpaced, IsAsked, spaced, spaced_before}
 use Rattle.die_log.proofs.Planned.Asked.{most_of, is_in_window, asked_in, asked_fits}
 use Rattle.die_log.proofs.Planned.Carrying.{filled, one_behind, carries_one, count_carried, sum_by_less, work_carried}
+use Rattle.die_log.specs.Start.{Start}
+use Rattle.die_log.specs.Opening.{IsOpening}
 
 -- Work
 
@@ -49,44 +51,44 @@ unfinished_job : (plan : DiePlan) (j : Job) (own : List Act) → j.collects ≡ 
 unfinished_job plan j own kind h = subst (λ b. cond b (count_by is_erase own == plan.shape.erase_slots) (length own == length j.ops)
     ≡ false) kind h
 
-unfinished_collection : (plan : DiePlan) (j : Job) (own : List Act) → j.collects ≡ true → are_all plan j own ≡ false
-    → (count_by is_erase own == plan.shape.erase_slots) ≡ false
-unfinished_collection plan j own kind h = subst (λ b. cond b (count_by is_erase own == plan.shape.erase_slots) (length own == length j.ops)
+unfinished_collection : (start : Start) (j : Job) (own : List Act) → j.collects ≡ true → are_all start.plan j own ≡ false
+    → (count_by is_erase own == start.plan.shape.erase_slots) ≡ false
+unfinished_collection start j own kind h = subst (λ b. cond b (count_by is_erase own == start.plan.shape.erase_slots) (length own == length j.ops)
     ≡ false) kind h
 
-module _ (plan : DiePlan) (times : Times) (log : Log) (bound : MeetsBound plan) (exact : IsExact plan log)
-    (spacing : IsSpaced plan times log) where
-  abbrev most_is : (j : Job) (b : Bool) → j.collects ≡ b → most_of plan times j ≡ cond b (collection_work plan) (times_of times j.task).work
-  most_is j b kind = ap (λ c. cond c (collection_work plan) (times_of times j.task).work) kind
+module _ (start : Start) (times : Times) (log : Log) (bound : IsOpening start) (exact : IsExact start log)
+    (spacing : IsSpaced start.plan times log) where
+  abbrev most_is : (j : Job) (b : Bool) → j.collects ≡ b → most_of start.plan times j ≡ cond b (collection_work start.plan) (times_of times j.task).work
+  most_is j b kind = ap (λ c. cond c (collection_work start.plan) (times_of times j.task).work) kind
 
-  asked : (j : Job) → Contains (jobs log) j → IsAsked plan times j
-  asked j stands = All-contains (IsAsked plan times) (jobs log) j (All-from_recursion (IsAsked plan times) (jobs log) spacing.asked) stands
+  asked : (j : Job) → Contains (jobs log) j → IsAsked start.plan times j
+  asked j stands = All-contains (IsAsked start.plan times) (jobs log) j (All-from_recursion (IsAsked start.plan times) (jobs log) spacing.asked) stands
 
   -- nothing takes more slots than the plan has for it
-  few_slots : (j : Job) → Contains (jobs log) j → work j.number log ≤ most_of plan times j
+  few_slots : (j : Job) → Contains (jobs log) j → work j.number log ≤ most_of start.plan times j
   few_slots j stands = elim (cases_Bool j.collects) [
-    | inl kind ↦ omega (arith, most_is j true kind, bounded_work plan bound log exact j stands kind)
+    | inl kind ↦ omega (arith, most_is j true kind, bounded_work start bound log exact j stands kind)
     | inr kind ↦ omega (
       arith,
       most_is j false kind,
-      ((stands_well plan bound log exact).0.of_jobs j stands kind).within,
+      ((stands_well start bound log exact).0.of_jobs j stands kind).within,
       (asked j stands).few kind,
     )
   ]
 
   -- and what isn't done took fewer
-  fewer_slots : (j : Job) → Contains (jobs log) j → is_done plan log j ≡ false → work j.number log < most_of plan times j
+  fewer_slots : (j : Job) → Contains (jobs log) j → is_done start.plan log j ≡ false → work j.number log < most_of start.plan times j
   fewer_slots j stands undone = elim (cases_Bool j.collects) [
     | inl kind ↦ (
-        let h = are_bounded plan bound log exact j stands kind in
+        let h = are_bounded start bound log exact j stands kind in
         let left : count_by is_erase (acts j.number log)
-        < plan.shape.erase_slots = unequal (count_by is_erase (acts j.number log)) plan.shape.erase_slots h.erases
-        (unfinished_collection plan j (acts j.number log) kind undone) in
+        < start.plan.shape.erase_slots = unequal (count_by is_erase (acts j.number log)) start.plan.shape.erase_slots h.erases
+        (unfinished_collection start j (acts j.number log) kind undone) in
         omega (arith, most_is j true kind, h.copies, h.reads, h.total, left))
     | inr kind ↦ (
-        let within = ((stands_well plan bound log exact).0.of_jobs j stands kind).within in
+        let within = ((stands_well start bound log exact).0.of_jobs j stands kind).within in
         let left : work j.number log < length j.ops = unequal (work j.number log) (length j.ops) within
-        (unfinished_job plan j (acts j.number log) kind undone) in
+        (unfinished_job start.plan j (acts j.number log) kind undone) in
         omega (arith, most_is j false kind, left, (asked j stands).few kind))
   ]
     where
@@ -110,12 +112,12 @@ row_by plan log k (Some i) true at numbered row known = absurd (true≢false (sy
 row_by plan log k (Some i) false at numbered row known = record
     { job = i; stands = contained (jobs log) k i at; number = numbered i refl; row = row }
 
-job_of_row : (plan : DiePlan) (log : Log) (k : ℕ) → MeetsBound plan → IsExact plan log → is_known (rows plan log) k ≡ true
-    → IsRowOf plan log k
-job_of_row plan log k bound exact known =
-    let numbered = (stands_well plan bound log exact).0.numbered in
-    row_by plan log k (slice_get (jobs log) k) (is_waived log k) refl (λ i at. omega (arith, number_at 0 (jobs log) k i numbered at))
-    (row_at (row_for plan log) (is_waived log) (jobs log) k (λ i. refl) numbered) known
+job_of_row : (start : Start) (log : Log) (k : ℕ) → IsOpening start → IsExact start log → is_known (rows start.plan log) k ≡ true
+    → IsRowOf start.plan log k
+job_of_row start log k bound exact known =
+    let numbered = (stands_well start bound log exact).0.numbered in
+    row_by start.plan log k (slice_get (jobs log) k) (is_waived log k) refl (λ i at. omega (arith, number_at 0 (jobs log) k i numbered at))
+    (row_at (row_for start.plan log) (is_waived log) (jobs log) k (λ i. refl) numbered) known
 
 completion_if : (b : Bool) (n : ℕ) → b ≡ true → unwrap_or (cond b (Some n) None) 0 ≡ n
 completion_if true n e = refl
@@ -128,70 +130,70 @@ done_if false n = refl
 -- A late job
 
 -- a job or collection that wasn't waived, is due by now, and isn't done by its due
-record IsLate (plan : DiePlan) (log : Log) (j : Job) : Type 0 where
+record IsLate (start : Start) (log : Log) (j : Job) : Type 0 where
   stands : Contains (jobs log) j
   unwaived : is_waived log j.number ≡ false
   due_by_now : j.due ≤ now log
-  behind : is_done plan log j ≡ true → j.due < completion j.number log
+  behind : is_done start.plan log j ≡ true → j.due < completion j.number log
 
-module _ (plan : DiePlan) (times : Times) (log : Log) (bound : MeetsBound plan) (exact : IsExact plan log) (j : Job)
-    (late : IsLate plan log j) where
-  keys : CarriesLeastKeys (rows plan log) (carried_numbers log)
-  keys = least_keys plan bound log exact
+module _ (start : Start) (times : Times) (log : Log) (bound : IsOpening start) (exact : IsExact start log) (j : Job)
+    (late : IsLate start log j) where
+  keys : CarriesLeastKeys (rows start.plan log) (carried_numbers log)
+  keys = least_keys start bound log exact
 
   long_enough : j.due ≤ length (carried_numbers log)
   long_enough = omega (arith, late.due_by_now, length-map (carried log) (λ c. option_map (λ ran. ran.0) c))
 
-  row : row_of (rows plan log) j.number ≡ Some (row_for plan log j)
-  row = row_stands plan log j bound exact late.stands late.unwaived
+  row : row_of (rows start.plan log) j.number ≡ Some (row_for start.plan log j)
+  row = row_stands start log j bound exact late.stands late.unwaived
 
-  due_is : due_of (rows plan log) j.number ≡ j.due
+  due_is : due_of (rows start.plan log) j.number ≡ j.due
   due_is = ap (number_in (λ r. r.due)) row
 
-  release_is : release_of (rows plan log) j.number ≡ j.release
+  release_is : release_of (rows start.plan log) j.number ≡ j.release
   release_is = ap (number_in (λ r. r.release)) row
 
-  done_is : of_rows.is_done (rows plan log) j.number ≡ is_done plan log j
-  done_is = ap is_done_in row ∙ done_if (is_done plan log j) (completion j.number log)
+  done_is : of_rows.is_done (rows start.plan log) j.number ≡ is_done start.plan log j
+  done_is = ap is_done_in row ∙ done_if (is_done start.plan log j) (completion j.number log)
 
-  completion_is : is_done plan log j ≡ true → completion_of (rows plan log) j.number ≡ completion j.number log
+  completion_is : is_done start.plan log j ≡ true → completion_of (rows start.plan log) j.number ≡ completion j.number log
   completion_is done = ap (number_in (λ r. unwrap_or r.completion 0)) row
-      ∙ completion_if (is_done plan log j) (completion j.number log) done
+      ∙ completion_if (is_done start.plan log j) (completion j.number log) done
 
   -- the slots before the due that carried nothing but keys up to that of the job
-  abbrev start : ℕ
-  start = start_of (rows plan log) (carried_numbers log) j.number j.due
+  abbrev since : ℕ
+  since = start_of (rows start.plan log) (carried_numbers log) j.number j.due
 
-  stretch : IsStretch (rows plan log) (carried_numbers log) j.number start j.due (jobs_of (rows plan log) (carried_numbers log) start j.due)
-  stretch = stretch-is (rows plan log) (carried_numbers log) j.number j.due keys.rising
+  stretch : IsStretch (rows start.plan log) (carried_numbers log) j.number since j.due (jobs_of (rows start.plan log) (carried_numbers log) since j.due)
+  stretch = stretch-is (rows start.plan log) (carried_numbers log) j.number j.due keys.rising
 
   -- from the release on the job itself waited
-  from_release : start ≤ j.release
-  from_release = elim (cases_lt j.release start) [
+  from_release : since ≤ j.release
+  from_release = elim (cases_lt j.release since) [
     | inl after ↦ (
-        let before : ℕ = start - 1 in
-        let is : start ≡ suc before = omega (arith, after) in
-        let ordered : start ≤ j.due = stretch.ordered in
-        let waits : is_within (rows plan log) j.number (slot_at (carried_numbers log) before) ≡ true =
+        let before : ℕ = since - 1 in
+        let is : since ≡ suc before = omega (arith, after) in
+        let ordered : since ≤ j.due = stretch.ordered in
+        let waits : is_within (rows start.plan log) j.number (slot_at (carried_numbers log) before) ≡ true =
         keys.least before j.number (omega (arith, is, ordered, long_enough)) (ap is_some row) (omega (arith, release_is, after, is))
-        (λ done. (let done_then : is_done plan log j ≡ true = sym done_is
+        (λ done. (let done_then : is_done start.plan log j ≡ true = sym done_is
         ∙ done in omega (arith, completion_is done_then, late.behind done_then, is, ordered))) in
-        absurd (both_ways (is_within (rows plan log) j.number (slot_at (carried_numbers log) before)) (stretch.least before is) waits))
+        absurd (both_ways (is_within (rows start.plan log) j.number (slot_at (carried_numbers log) before)) (stretch.least before is) waits))
     | inr not_after ↦ not_after
   ]
 
   -- each slot of the stretch carried what was released in it and is due by then
-  each_slot : (t : ℕ) → start ≤ t → t < j.due → carries_one (is_in_window start j.due) (jobs log) (slot_at (carried_numbers log) t) ≡ true
+  each_slot : (t : ℕ) → since ≤ t → t < j.due → carries_one (is_in_window since j.due) (jobs log) (slot_at (carried_numbers log) t) ≡ true
   each_slot t from below =
-      let w = within-true (rows plan log) j.number (slot_at (carried_numbers log) t) (stretch.carries t from below) in
-      let inside = stretch-carries (rows plan log) (carried_numbers log) keys j.number start j.due
-      (jobs_of (rows plan log) (carried_numbers log) start j.due) stretch t w.number from below w.carries in
-      let i = job_of_row plan log w.number bound exact w.known in
-      let released : start ≤ i.job.release = omega (arith, inside.0, ap (number_in (λ r. r.release)) i.row) in
+      let w = within-true (rows start.plan log) j.number (slot_at (carried_numbers log) t) (stretch.carries t from below) in
+      let inside = stretch-carries (rows start.plan log) (carried_numbers log) keys j.number since j.due
+      (jobs_of (rows start.plan log) (carried_numbers log) since j.due) stretch t w.number from below w.carries in
+      let i = job_of_row start log w.number bound exact w.known in
+      let released : since ≤ i.job.release = omega (arith, inside.0, ap (number_in (λ r. r.release)) i.row) in
       let due_by : i.job.due ≤ j.due = omega (arith, inside.1, ap (number_in (λ r. r.due)) i.row, due_is) in
-      any_contained (λ k. is_in_window start j.due k && is_named k.number (slot_at (carried_numbers log) t)) (jobs log) i.job i.stands
-      (and_from (is_in_window start j.due i.job) (is_named i.job.number (slot_at (carried_numbers log) t))
-      (and_from (nat_le start i.job.release) (nat_le i.job.due j.due) (le-leb start i.job.release released) (le-leb i.job.due j.due due_by))
+      any_contained (λ k. is_in_window since j.due k && is_named k.number (slot_at (carried_numbers log) t)) (jobs log) i.job i.stands
+      (and_from (is_in_window since j.due i.job) (is_named i.job.number (slot_at (carried_numbers log) t))
+      (and_from (nat_le since i.job.release) (nat_le i.job.due j.due) (le-leb since i.job.release released) (le-leb i.job.due j.due due_by))
       (ap (is_named i.job.number) w.carries ∙ eq-eqb i.job.number w.number i.number))
 
   -- the slots that a job or collection had before the due
@@ -201,10 +203,10 @@ module _ (plan : DiePlan) (times : Times) (log : Log) (bound : MeetsBound plan) 
   had_within : (i : Job) → had i ≤ work i.number log
   had_within i = omega (arith, sum_by-take-le (λ o. cond (is_named i.number o) 1 0) (carried_numbers log) j.due, work_carried i.number log)
 
-  module _ (spacing : IsSpaced plan times log) where
+  module _ (spacing : IsSpaced start.plan times log) where
     -- the job itself had fewer slots before its due than it may take
-    missed : had j < most_of plan times j
-    missed = elim (cases_Bool (is_done plan log j)) [
+    missed : had j < most_of start.plan times j
+    missed = elim (cases_Bool (is_done start.plan log j)) [
       | inl done ↦ (
           let ends : completion_in (carried_numbers log) j.number
           ≡ completion j.number log = omega (arith, keys.completes j.number (done_is ∙ done), completion_is done) in
@@ -214,13 +216,13 @@ module _ (plan : DiePlan) (times : Times) (log : Log) (bound : MeetsBound plan) 
           (slot-at-end (is_named j.number) (carried_numbers log) last is) in
           let fewer : had j < work_in (carried_numbers log) j.number = one_behind j.number (carried_numbers log) j.due last
           (omega (arith, is, ends, late.behind done)) carries in
-          omega (arith, fewer, work_carried j.number log, few_slots plan times log bound exact spacing j late.stands))
-      | inr undone ↦ omega (arith, had_within j, fewer_slots plan times log bound exact spacing j late.stands undone)
+          omega (arith, fewer, work_carried j.number log, few_slots start times log bound exact spacing j late.stands))
+      | inr undone ↦ omega (arith, had_within j, fewer_slots start times log bound exact spacing j late.stands undone)
     ]
 
-    each_asked : AllByRecursion (λ i. cond (is_in_window start j.due i) (had i) 0 ≤ asked_in plan times start j.due i) (jobs log)
-    each_asked = all_contained (jobs log) (λ i stands. if_inside (is_in_window start j.due i) (had i) (most_of plan times i)
-        (omega (arith, had_within i, few_slots plan times log bound exact spacing i stands)))
+    each_asked : AllByRecursion (λ i. cond (is_in_window since j.due i) (had i) 0 ≤ asked_in start.plan times since j.due i) (jobs log)
+    each_asked = all_contained (jobs log) (λ i stands. if_inside (is_in_window since j.due i) (had i) (most_of start.plan times i)
+        (omega (arith, had_within i, few_slots start times log bound exact spacing i stands)))
       where
         if_inside : (b : Bool) (n m : ℕ) → n ≤ m → cond b n 0 ≤ cond b m 0
         if_inside true n m le = le
@@ -230,21 +232,21 @@ module _ (plan : DiePlan) (times : Times) (log : Log) (bound : MeetsBound plan) 
         all_contained [] h = tt
         all_contained (i ∷ js) h = (h i (0, omega arith, refl), all_contained js (λ k c. h k (suc c.0, omega (arith, c.1), c.2)))
 
-    own_window : is_in_window start j.due j ≡ true
-    own_window = and_from (nat_le start j.release) (nat_le j.due j.due) (le-leb start j.release from_release)
+    own_window : is_in_window since j.due j ≡ true
+    own_window = and_from (nat_le since j.release) (nat_le j.due j.due) (le-leb since j.release from_release)
         (le-leb j.due j.due (omega arith))
 
     -- so all that the window was asked for is more than it has
-    too_much : Passes plan times → ⊥
+    too_much : Passes start.plan times → ⊥
     too_much passes =
-        let full = filled (carries_one (is_in_window start j.due) (jobs log)) (carried_numbers log) start j.due long_enough each_slot in
-        let counted = count_carried (is_in_window start j.due) (jobs log) (take j.due (carried_numbers log)) in
-        let ordered : start ≤ j.due = stretch.ordered in
-        let own : cond (is_in_window start j.due j) (had j) 0
-        < asked_in plan times start j.due j = if_own (is_in_window start j.due j) (had j) (most_of plan times j) own_window missed in
-        let less = sum_by_less (λ i. cond (is_in_window start j.due i) (had i) 0) (asked_in plan times start j.due) (jobs log) j late.stands
+        let full = filled (carries_one (is_in_window since j.due) (jobs log)) (carried_numbers log) since j.due long_enough each_slot in
+        let counted = count_carried (is_in_window since j.due) (jobs log) (take j.due (carried_numbers log)) in
+        let ordered : since ≤ j.due = stretch.ordered in
+        let own : cond (is_in_window since j.due j) (had j) 0
+        < asked_in start.plan times since j.due j = if_own (is_in_window since j.due j) (had j) (most_of start.plan times j) own_window missed in
+        let less = sum_by_less (λ i. cond (is_in_window since j.due i) (had i) 0) (asked_in start.plan times since j.due) (jobs log) j late.stands
         each_asked own in
-        omega (arith, full, counted, ordered, less, asked_fits plan times start j.due log passes spacing)
+        omega (arith, full, counted, ordered, less, asked_fits start.plan times since j.due log passes spacing)
       where
         if_own : (b : Bool) (n m : ℕ) → b ≡ true → n < m → cond b n 0 < cond b m 0
         if_own true n m e lt = lt
@@ -252,19 +254,19 @@ module _ (plan : DiePlan) (times : Times) (log : Log) (bound : MeetsBound plan) 
 
 -- Logs
 
-none_late : (plan : DiePlan) (times : Times) (log : Log) → MeetsBound plan → IsExact plan log → Passes plan times → IsSpaced plan times log
-    → (j : Job) → IsLate plan log j → ⊥
-none_late plan times log bound exact passes spacing j late = too_much plan times log bound exact j late spacing passes
+none_late : (start : Start) (times : Times) (log : Log) → IsOpening start → IsExact start log → Passes start.plan times → IsSpaced start.plan times log
+    → (j : Job) → IsLate start log j → ⊥
+none_late start times log bound exact passes spacing j late = too_much start times log bound exact j late spacing passes
 
-ended_by_now : (plan : DiePlan) (log : Log) (j : Job) → MeetsBound plan → IsExact plan log → Contains (jobs log) j → is_done plan log j
+ended_by_now : (start : Start) (log : Log) (j : Job) → IsOpening start → IsExact start log → Contains (jobs log) j → is_done start.plan log j
     ≡ true → completion j.number log ≤ now log
-ended_by_now plan log j bound exact stands done =
-    let keys = least_keys plan bound log exact in
-    let row = row_stands plan log j bound exact stands (done_unwaived plan log j bound exact stands done) in
-    let done_row : of_rows.is_done (rows plan log) j.number ≡ true = ap is_done_in row
-    ∙ (done_if (is_done plan log j) (completion j.number log) ∙ done) in
-    let is : completion_of (rows plan log) j.number ≡ completion j.number log = ap (number_in (λ r. unwrap_or r.completion 0)) row
-    ∙ completion_if (is_done plan log j) (completion j.number log) done in
+ended_by_now start log j bound exact stands done =
+    let keys = least_keys start bound log exact in
+    let row = row_stands start log j bound exact stands (done_unwaived start log j bound exact stands done) in
+    let done_row : of_rows.is_done (rows start.plan log) j.number ≡ true = ap is_done_in row
+    ∙ (done_if (is_done start.plan log j) (completion j.number log) ∙ done) in
+    let is : completion_of (rows start.plan log) j.number ≡ completion j.number log = ap (number_in (λ r. unwrap_or r.completion 0)) row
+    ∙ completion_if (is_done start.plan log j) (completion j.number log) done in
     omega (
       arith,
       is,
@@ -277,23 +279,23 @@ ended_by_now plan log j bound exact stands done =
 not_late : (c d : ℕ) → c ≤ d → (pos c -ℤ pos d) ≤ℤ pos 0
 not_late c d h = omega (arith, ints)
 
-in_time : (plan : DiePlan) (times : Times) (log : Log) → MeetsBound plan → IsExact plan log → Passes plan times → IsSpaced plan times log
-    → IsInTime plan log
-in_time plan times log bound exact passes spacing = record {
+in_time : (start : Start) (times : Times) (log : Log) → IsOpening start → IsExact start log → Passes start.plan times → IsSpaced start.plan times log
+    → IsInTime start.plan log
+in_time start times log bound exact passes spacing = record {
   due_by_now = λ j stands due. elim (cases_Bool (is_waived log j.number)) [
     | inl gone ↦ inr gone
-    | inr unwaived ↦ elim (cases_Bool (is_done plan log j)) [
+    | inr unwaived ↦ elim (cases_Bool (is_done start.plan log j)) [
       | inl done ↦ inl done
-      | inr undone ↦ absurd (none_late plan times log bound exact passes spacing j
+      | inr undone ↦ absurd (none_late start times log bound exact passes spacing j
           (record { stands = stands; unwaived = unwaived; due_by_now = due; behind = λ done. absurd (true≢false (sym done ∙ undone)) }))
     ]
   ];
   never_late = λ j stands done. not_late (completion j.number log) j.due (elim (cases_lt j.due (completion j.number log)) [
-    | inl late ↦ absurd (none_late plan times log bound exact passes spacing j
+    | inl late ↦ absurd (none_late start times log bound exact passes spacing j
         (record {
           stands = stands;
-          unwaived = done_unwaived plan log j bound exact stands done;
-          due_by_now = omega (arith, late, ended_by_now plan log j bound exact stands done);
+          unwaived = done_unwaived start log j bound exact stands done;
+          due_by_now = omega (arith, late, ended_by_now start log j bound exact stands done);
           behind = λ same. late;
         }))
     | inr soon ↦ omega (arith, soon)
@@ -301,8 +303,8 @@ in_time plan times log bound exact passes spacing = record {
 }
 
 -- at each moment of an exact log that events leave which keep to a passing plan
-pub planned_in_time : (plan : DiePlan) (times : Times) → MeetsBound plan → Passes plan times → (all : List Event) → KeepsPlan plan times all
-    → (later moment : Log) → IsExact plan (later ++ moment) → AreEntered all [] (later ++ moment) → IsInTime plan moment
-planned_in_time plan times bound passes all keeps later moment exact enter =
-    in_time plan times moment bound (moment_exact plan later moment exact) passes
-    (spaced_before plan times later moment (spaced plan times all (later ++ moment) keeps enter exact))
+pub planned_in_time : (start : Start) (times : Times) → IsOpening start → Passes start.plan times → (all : List Event) → KeepsPlan start.plan times all
+    → (later moment : Log) → IsExact start (later ++ moment) → AreEntered all [] (later ++ moment) → IsInTime start.plan moment
+planned_in_time start times bound passes all keeps later moment exact enter =
+    in_time start times moment bound (moment_exact start later moment exact) passes
+    (spaced_before start.plan times later moment (spaced start times all (later ++ moment) keeps enter exact))

@@ -21,6 +21,8 @@ use Rattle.die_log.specs.Answers.{refusal_of, first_standing, answer, answer_by,
 use Rattle.die_log.specs.Planned.{Adds, AreEntered, IsInTime}
 use Rattle.die_log.proofs.Runs.{run_exact}
 use Rattle.die_log.proofs.Planned.InTime.{planned_in_time}
+use Rattle.die_log.specs.Start.{Start}
+use Rattle.die_log.specs.Opening.{IsOpening}
 
 abbrev one_if : Bool → ℕ
 one_if b = cond b 1 0
@@ -30,51 +32,51 @@ record IsEntered (event : Event) (past next : Log) : Type 0 where
   adds : Adds event past next ⊎ (IsArrival event × (next ≡ past))
   slot : now next ≡ now past + cond (is_slot event) 1 0
 
-by_answer : (plan : DiePlan) (caller : ℕ) (event : Event) (past : Log) (o : Option Refusal) → (is_slot event ≡ true → o ≡ None)
-    → IsEntered event past (with_answer caller event (answer_by plan past event o) past)
-by_answer plan caller (events.Submit task release due ops) past None on_time = record { adds = inl (caller, _, refl); slot = omega arith }
-by_answer plan caller (events.Submit task release due ops) past (Some r) on_time = record { adds = inr (tt, refl); slot = omega arith }
-by_answer plan caller (events.Collect task release due) past None on_time = record { adds = inl (caller, _, refl); slot = omega arith }
-by_answer plan caller (events.Collect task release due) past (Some r) on_time = record { adds = inr (tt, refl); slot = omega arith }
-by_answer plan caller events.Slot past None on_time =
-    let c = choice plan past in
-    record { adds = inl (caller, _, refl); slot = omega (arith, length_push (carried past) (slot_reply plan past c.waived c.head).ran) }
-by_answer plan caller events.Slot past (Some r) on_time = absurd (none-some r (sym (on_time refl)))
+by_answer : (start : Start) (caller : ℕ) (event : Event) (past : Log) (o : Option Refusal) → (is_slot event ≡ true → o ≡ None)
+    → IsEntered event past (with_answer caller event (answer_by start past event o) past)
+by_answer start caller (events.Submit task release due ops) past None on_time = record { adds = inl (caller, _, refl); slot = omega arith }
+by_answer start caller (events.Submit task release due ops) past (Some r) on_time = record { adds = inr (tt, refl); slot = omega arith }
+by_answer start caller (events.Collect task release due) past None on_time = record { adds = inl (caller, _, refl); slot = omega arith }
+by_answer start caller (events.Collect task release due) past (Some r) on_time = record { adds = inr (tt, refl); slot = omega arith }
+by_answer start caller events.Slot past None on_time =
+    let c = choice start past in
+    record { adds = inl (caller, _, refl); slot = omega (arith, length_push (carried past) (slot_reply start past c.waived c.head).ran) }
+by_answer start caller events.Slot past (Some r) on_time = absurd (none-some r (sym (on_time refl)))
 
 -- no slot is refused before the last one
-pub slot_open : (plan : DiePlan) (past : Log) → now past < MAX_SLOT → refusal_of plan past events.Slot ≡ None
-slot_open plan past lt = elim (cases_Bool (nat_le MAX_SLOT (now past))) [
+pub slot_open : (start : Start) (past : Log) → now past < MAX_SLOT → refusal_of start past events.Slot ≡ None
+slot_open start past lt = elim (cases_Bool (nat_le MAX_SLOT (now past))) [
   | inl over ↦ absurd (omega (arith, lt, leb-true MAX_SLOT (now past) over))
   | inr left ↦ ap (λ (b : Bool). first_standing ((b, because.ClockEnd) ∷ [])) left
 ]
 
-slot_answered : (plan : DiePlan) (event : Event) (past : Log) → (is_slot event ≡ true → now past < MAX_SLOT) → is_slot event ≡ true
-    → refusal_of plan past event ≡ None
-slot_answered plan (events.Submit task release due ops) past lt is = absurd cc
-slot_answered plan (events.Collect task release due) past lt is = absurd cc
-slot_answered plan events.Slot past lt is = slot_open plan past (lt is)
+slot_answered : (start : Start) (event : Event) (past : Log) → (is_slot event ≡ true → now past < MAX_SLOT) → is_slot event ≡ true
+    → refusal_of start past event ≡ None
+slot_answered start (events.Submit task release due ops) past lt is = absurd cc
+slot_answered start (events.Collect task release due) past lt is = absurd cc
+slot_answered start events.Slot past lt is = slot_open start past (lt is)
 
-call_enters : (plan : DiePlan) (call : ℕ × Event) (past : Log) → (is_slot call.1 ≡ true → now past < MAX_SLOT)
-    → IsEntered call.1 past (after_call plan past call)
+call_enters : (start : Start) (call : ℕ × Event) (past : Log) → (is_slot call.1 ≡ true → now past < MAX_SLOT)
+    → IsEntered call.1 past (after_call start past call)
 unfolding answer
-call_enters plan call past lt = by_answer plan call.0 call.1 past (refusal_of plan past call.1) (slot_answered plan call.1 past lt)
+call_enters start call past lt = by_answer start call.0 call.1 past (refusal_of start past call.1) (slot_answered start call.1 past lt)
 
 -- the events of calls
 abbrev pub events_of : List (ℕ × Event) → List Event
 events_of calls = map (λ call. call.1) calls
 
-pub run_enters : (plan : DiePlan) (calls : List (ℕ × Event)) (past : Log) → now past + slots (events_of calls) ≤ MAX_SLOT
-    → AreEntered (events_of calls) past (run plan past calls)
-run_enters plan [] past few = refl
-run_enters plan (call ∷ calls) past few =
+pub run_enters : (start : Start) (calls : List (ℕ × Event)) (past : Log) → now past + slots (events_of calls) ≤ MAX_SLOT
+    → AreEntered (events_of calls) past (run start past calls)
+run_enters start [] past few = refl
+run_enters start (call ∷ calls) past few =
     let counted : slots (events_of (call ∷ calls)) ≡ cond (is_slot call.1) 1 0 + slots (events_of calls) = sum_by-cons
     (λ e. cond (is_slot e) 1 0) call.1 (events_of calls) in
-    let e = call_enters plan call past (λ is. omega (arith, few, counted, ap one_if is)) in
-    (after_call plan past call, e.adds, run_enters plan calls (after_call plan past call) (omega (arith, few, counted, e.slot)))
+    let e = call_enters start call past (λ is. omega (arith, few, counted, ap one_if is)) in
+    (after_call start past call, e.adds, run_enters start calls (after_call start past call) (omega (arith, few, counted, e.slot)))
 
 -- so nothing is late in a run of events that keep to a passing plan
-pub run_in_time : (plan : DiePlan) (times : Times) → MeetsBound plan → Passes plan times → (calls : List (ℕ × Event))
-    → KeepsPlan plan times (events_of calls) → IsInTime plan (run plan [] calls)
-run_in_time plan times bound passes calls keeps =
-    planned_in_time plan times bound passes (events_of calls) keeps [] (run plan [] calls) (run_exact plan [] calls tt)
-    (run_enters plan calls [] (omega (arith, keeps.few_slots)))
+pub run_in_time : (start : Start) (times : Times) → IsOpening start → Passes start.plan times → (calls : List (ℕ × Event))
+    → KeepsPlan start.plan times (events_of calls) → IsInTime start.plan (run start [] calls)
+run_in_time start times bound passes calls keeps =
+    planned_in_time start times bound passes (events_of calls) keeps [] (run start [] calls) (run_exact start [] calls tt)
+    (run_enters start calls [] (omega (arith, keeps.few_slots)))

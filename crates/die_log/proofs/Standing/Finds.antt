@@ -4,13 +4,14 @@ use Rattle.slot_types.specs.declared.plans.DiePlan.{DiePlan}
 use Rattle.die_log.specs.Log.{Log, Job, Carried, work}
 use Rattle.die_log.specs.Answers.{choice, victim}
 use Rattle.die_log.specs.Legal.{FindsFree}
+use Rattle.die_log.specs.Start.{Start}
 
 -- what a slot carries finds a free page where it programs one
-abbrev pub FindsBy : DiePlan → Log → Carried → Type 0
-FindsBy plan past None = Unit {0}
-FindsBy plan past (Some (number, act)) = FindsFree plan past act
+abbrev pub FindsBy : Start → Log → Carried → Type 0
+FindsBy start past None = Unit {0}
+FindsBy start past (Some (number, act)) = FindsFree start past act
 
 -- a collection that is the head of the next slot, and has not begun, finds a block
-abbrev pub FindsVictim : DiePlan → Log → Type 0
-FindsVictim plan past = (j : Job) → (choice plan past).head ≡ Some j → j.collects ≡ true → work j.number past ≡ 0 → (b : ℕ)
-    × (victim plan past ≡ Some b)
+abbrev pub FindsVictim : Start → Log → Type 0
+FindsVictim start past = (j : Job) → (choice start past).head ≡ Some j → j.collects ≡ true → work j.number past ≡ 0 → (b : ℕ)
+    × (victim start past ≡ Some b)

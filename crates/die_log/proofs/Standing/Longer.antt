@@ -19,6 +19,7 @@ use Rattle.die_log.specs.Accounts.{accounts}
 use Rattle.die_log.specs.Answers.{choice}
 use Rattle.die_log.specs.Standing.{AreNumbered}
 use Rattle.die_log.proofs.Choices.{OfSome, Names, names_waiting}
+use Rattle.die_log.specs.Start.{Start}
 
 -- Numbers
 
@@ -91,17 +92,17 @@ acts_grow n e past act h = acts_more n e past ∙ ap (λ (o : Option Act). acts 
 
 -- Blocks shown
 
-pub shown_none : (plan : DiePlan) (past : Log) (o : Option ℕ) → shown_by plan past o None ≡ o
-shown_none plan past None = refl
-shown_none plan past (Some b) = refl
+pub shown_none : (start : Start) (past : Log) (o : Option ℕ) → shown_by start past o None ≡ o
+shown_none start past None = refl
+shown_none start past (Some b) = refl
 
 -- an act of another number shows nothing
-pub shown_other : (plan : DiePlan) (past : Log) (o : Option ℕ) (act : Option Act) → act ≡ None → shown_by plan past o act ≡ o
-shown_other plan past o act e = ap (shown_by plan past o) e ∙ shown_none plan past o
+pub shown_other : (start : Start) (past : Log) (o : Option ℕ) (act : Option Act) → act ≡ None → shown_by start past o act ≡ o
+shown_other start past o act e = ap (shown_by start past o) e ∙ shown_none start past o
 
-pub victim_stays : (plan : DiePlan) (n : ℕ) (e : Entry) (past : Log) → act_of n (ran_by e.reply) ≡ None → victim_of plan n (e ∷ past)
-    ≡ victim_of plan n past
-victim_stays plan n e past h = ap (shown_by plan past (victim_of plan n past)) h ∙ shown_none plan past (victim_of plan n past)
+pub victim_stays : (start : Start) (n : ℕ) (e : Entry) (past : Log) → act_of n (ran_by e.reply) ≡ None → victim_of start n (e ∷ past)
+    ≡ victim_of start n past
+victim_stays start n e past h = ap (shown_by start past (victim_of start n past)) h ∙ shown_none start past (victim_of start n past)
 
 nil_parts : (o : Option Act) (xs : List Act) → xs ++ cons_option o [] ≡ [] → (xs ≡ []) × (o ≡ None)
 nil_parts None [] e = (refl, refl)
@@ -110,11 +111,11 @@ nil_parts (Some a) [] e = absurd cc
 nil_parts (Some a) (x ∷ xs) e = absurd cc
 
 -- without acts no block is shown
-pub no_victim : (plan : DiePlan) (n : ℕ) (log : Log) → acts n log ≡ [] → victim_of plan n log ≡ None
-no_victim plan n [] h = refl
-no_victim plan n (e ∷ past) h =
+pub no_victim : (start : Start) (n : ℕ) (log : Log) → acts n log ≡ [] → victim_of start n log ≡ None
+no_victim start n [] h = refl
+no_victim start n (e ∷ past) h =
     let parts = nil_parts (act_of n (ran_by e.reply)) (acts n past) (sym (acts_more n e past) ∙ h) in
-    victim_stays plan n e past parts.1 ∙ no_victim plan n past parts.0
+    victim_stays start n e past parts.1 ∙ no_victim start n past parts.0
 
 -- The head
 
@@ -134,10 +135,10 @@ abbrev pub IsWaiting : DiePlan → Log → Job → Type 0
 IsWaiting plan past j = Contains (jobs past) j × (is_ready plan past j ≡ true)
 
 -- the head of a slot, and each that is waived, stands and is ready
-pub waits : (plan : DiePlan) (past : Log) → Names (IsWaiting plan past) (choice plan past)
-waits plan past =
-    names_waiting (IsWaiting plan past) plan past (length (ready plan past)) (accounts plan past) (ready plan past)
-    (kept_both (Contains (jobs past)) (is_ready plan past) (jobs past)
+pub waits : (start : Start) (past : Log) → Names (IsWaiting start.plan past) (choice start past)
+waits start past =
+    names_waiting (IsWaiting start.plan past) start.plan past (length (ready start.plan past)) (accounts start past) (ready start.plan past)
+    (kept_both (Contains (jobs past)) (is_ready start.plan past) (jobs past)
     (recursion_from_All (Contains (jobs past)) (jobs past) (All-contains_itself (jobs past))))
 
 -- The best of a list

@@ -17,6 +17,7 @@ use Rattle.die_log.specs.Standing.{Runs, Collects}
 use Rattle.die_log.proofs.Cells.Acts.{trimmed_block}
 use Rattle.die_log.proofs.Cells.Collections.{keeps_collecting, other_step}
 use Rattle.die_log.proofs.Standing.Longer.{acts_stay, victim_stays, act_other}
+use Rattle.die_log.specs.Start.{Start}
 
 -- begun and not done, by the acts
 abbrev pub runs_with : DiePlan → Job → List Act → Bool
@@ -38,20 +39,20 @@ pub running_stays : (plan : DiePlan) (e : Entry) (past : Log) (j : Job) → act_
 running_stays plan e past j h = ap (runs_with plan j) (acts_stay j.number e past h)
 
 -- who had no act runs as before
-pub runs_later : (plan : DiePlan) (e : Entry) (past : Log) (j : Job) (b : ℕ) → act_of j.number (ran_by e.reply) ≡ None
-    → Contains (jobs (e ∷ past)) j → Runs plan past j b → Runs plan (e ∷ past) j b
-runs_later plan e past j b h in_jobs r = record {
+pub runs_later : (start : Start) (e : Entry) (past : Log) (j : Job) (b : ℕ) → act_of j.number (ran_by e.reply) ≡ None
+    → Contains (jobs (e ∷ past)) j → Runs start past j b → Runs start (e ∷ past) j b
+runs_later start e past j b h in_jobs r = record {
   stands = in_jobs;
-  running = running_stays plan e past j h ∙ r.running;
-  victim = victim_stays plan j.number e past h ∙ r.victim;
+  running = running_stays start.plan e past j h ∙ r.running;
+  victim = victim_stays start j.number e past h ∙ r.victim;
 }
 
-pub runs_before : (plan : DiePlan) (e : Entry) (past : Log) (j : Job) (b : ℕ) → act_of j.number (ran_by e.reply) ≡ None
-    → Contains (jobs past) j → Runs plan (e ∷ past) j b → Runs plan past j b
-runs_before plan e past j b h in_jobs r = record {
+pub runs_before : (start : Start) (e : Entry) (past : Log) (j : Job) (b : ℕ) → act_of j.number (ran_by e.reply) ≡ None
+    → Contains (jobs past) j → Runs start (e ∷ past) j b → Runs start past j b
+runs_before start e past j b h in_jobs r = record {
   stands = in_jobs;
-  running = sym (running_stays plan e past j h) ∙ r.running;
-  victim = sym (victim_stays plan j.number e past h) ∙ r.victim;
+  running = sym (running_stays start.plan e past j h) ∙ r.running;
+  victim = sym (victim_stays start j.number e past h) ∙ r.victim;
 }
 
 pub collecting_as : (plan : DiePlan) (c : Cells) (own after : List Act) (fresh newer : ℕ → Bool) (b : ℕ) → after ≡ own
@@ -67,31 +68,31 @@ no_act : (n : ℕ) (r : Carried) → r ≡ None → act_of n r ≡ None
 no_act n r e = ap (act_of n) e
 
 -- an entry that carried nothing, behind which nobody runs that didn't before
-pub quiet : (plan : DiePlan) (e : Entry) (past : Log) → ran_by e.reply ≡ None
+pub quiet : (start : Start) (e : Entry) (past : Log) → ran_by e.reply ≡ None
     → ((j : Job) → Contains (jobs past) j → Contains (jobs (e ∷ past)) j)
-    → ((j : Job) → Contains (jobs (e ∷ past)) j → is_running plan (e ∷ past) j ≡ true → Contains (jobs past) j)
-    → Collects plan past → Collects plan (e ∷ past)
-quiet plan e past none later before k = record {
-  sound = subst (AreSound plan) (sym same) k.sound;
-  shown = λ j h r. let old = k.shown j (before j h r) (sym (running_stays plan e past j (no_act j.number _ none)) ∙ r) in
-      (old.0, runs_later plan e past j old.0 (no_act j.number _ none) h old.1);
+    → ((j : Job) → Contains (jobs (e ∷ past)) j → is_running start.plan (e ∷ past) j ≡ true → Contains (jobs past) j)
+    → Collects start past → Collects start (e ∷ past)
+quiet start e past none later before k = record {
+  sound = subst (AreSound start.plan) (sym same) k.sound;
+  shown = λ j h r. let old = k.shown j (before j h r) (sym (running_stays start.plan e past j (no_act j.number _ none)) ∙ r) in
+      (old.0, runs_later start e past j old.0 (no_act j.number _ none) h old.1);
   collecting = λ j b r.
-      subst (λ (c : Cells). IsCollecting plan c (acts j.number (e ∷ past)) (λ p. changed_since j.number p (e ∷ past)) b) (sym same)
-      (collecting_as plan (cells plan past) (acts j.number past) (acts j.number (e ∷ past)) (λ p. changed_since j.number p past)
+      subst (λ (c : Cells). IsCollecting start.plan c (acts j.number (e ∷ past)) (λ p. changed_since j.number p (e ∷ past)) b) (sym same)
+      (collecting_as start.plan (cells start past) (acts j.number past) (acts j.number (e ∷ past)) (λ p. changed_since j.number p past)
       (λ p. changed_since j.number p (e ∷ past)) b
       (acts_stay j.number e past (no_act j.number _ none)) (λ p w. sym (written_none j.number p _ (changed_since j.number p past) none) ∙ w)
       (k.collecting j b (back j b r)));
   different = λ i j b r s. k.different i j b (back i b r) (back j b s);
   owned = λ b h.
       let old = k.owned b (subst (λ (c : Cells). 0 < (block_at c b).erasing) same h) in
-      (old.0, runs_later plan e past old.0 b (no_act old.0.number _ none) (later old.0 old.1.stands) old.1);
+      (old.0, runs_later start e past old.0 b (no_act old.0.number _ none) (later old.0 old.1.stands) old.1);
 }
   where
-    same : cells plan (e ∷ past) ≡ cells plan past
-    same = ap (λ (r : Carried). cells_after plan r (cells plan past)) none
+    same : cells start (e ∷ past) ≡ cells start past
+    same = ap (λ (r : Carried). cells_after start.plan r (cells start past)) none
 
-    back : (j : Job) (b : ℕ) → Runs plan (e ∷ past) j b → Runs plan past j b
-    back j b r = runs_before plan e past j b (no_act j.number _ none) (before j r.stands r.running) r
+    back : (j : Job) (b : ℕ) → Runs start (e ∷ past) j b → Runs start past j b
+    back j b r = runs_before start e past j b (no_act j.number _ none) (before j r.stands r.running) r
 
 -- Others, behind an act
 
@@ -99,17 +100,17 @@ written_other : (n m p : ℕ) (act : Act) (before : Bool) → n ≢ m → change
 written_other n m p act before other = rw (ne_eqb n m other) refl
 
 -- another's act keeps who collects another block
-pub others_collect : (plan : DiePlan) (e : Entry) (past : Log) (n : ℕ) (act : Act) (d : Cells) (j : Job) (b : ℕ) → ran_by e.reply
+pub others_collect : (start : Start) (e : Entry) (past : Log) (n : ℕ) (act : Act) (d : Cells) (j : Job) (b : ℕ) → ran_by e.reply
     ≡ Some (n, act) → n ≢ j.number → (act ≡ does.Erase b → ⊥)
-    → IsStep plan act (cells plan past) d → IsCollecting plan (cells plan past) (acts j.number past) (λ p. changed_since j.number p past) b
-    → IsCollecting plan d (acts j.number (e ∷ past)) (λ p. changed_since j.number p (e ∷ past)) b
-others_collect plan e past n act d j b ran other not_erased step k =
-    collecting_as plan d (acts j.number past) (acts j.number (e ∷ past)) (λ p. is_change_of p act || changed_since j.number p past)
+    → IsStep start.plan act (cells start past) d → IsCollecting start.plan (cells start past) (acts j.number past) (λ p. changed_since j.number p past) b
+    → IsCollecting start.plan d (acts j.number (e ∷ past)) (λ p. changed_since j.number p (e ∷ past)) b
+others_collect start e past n act d j b ran other not_erased step k =
+    collecting_as start.plan d (acts j.number past) (acts j.number (e ∷ past)) (λ p. is_change_of p act || changed_since j.number p past)
     (λ p. changed_since j.number p (e ∷ past)) b
     (acts_stay j.number e past (ap (act_of j.number) ran ∙ act_other n j.number act other))
     (λ p w. sym (ap (λ (c : Carried). changed_by c j.number p (changed_since j.number p past)) ran
     ∙ written_other n j.number p act (changed_since j.number p past) other) ∙ w)
-    (other_step plan act (cells plan past) d (acts j.number past) (λ p. changed_since j.number p past) b k not_erased step)
+    (other_step start.plan act (cells start past) d (acts j.number past) (λ p. changed_since j.number p past) b k not_erased step)
 
 program_erasing : (plan : DiePlan) (page o : ℕ) (c d : Cells) (b : ℕ) → IsProgram plan page o c d → (b ≡ o) ⊎ (b ≡ o → ⊥)
     → (block_at d b).erasing ≡ (block_at c b).erasing

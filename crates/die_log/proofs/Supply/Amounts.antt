@@ -59,10 +59,11 @@ opened p w gift cap bal count next pend pend' h one = omega
     (arith, h, times_sum gift count 1, times_one gift, mul-le-mul_left gift one, times_sum gift pend 1)
 
 -- at the start
-pub started : (p w gift cap next pend : ℕ) → p * cap + gift * 0 ≤ p * cap + p * w + gift + w * next + gift * pend
-started p w gift cap next pend =
+pub started : (p w gift cap bal next pend : ℕ) → p * cap ≤ p * bal + p * w + gift
+    → p * cap + gift * 0 ≤ p * bal + p * w + gift + w * next + gift * pend
+started p w gift cap bal next pend stocked =
     let none : gift * 0 ≡ 0 = grind arith in
-    omega (arith, none)
+    omega (arith, none, stocked)
 
 -- in slot n, by which all collections but the last are closed, the balance covers a job
 pub enough : (p q w alpha cap bal count n pend : ℕ) → p * cap + w * q * count ≤ p * bal + p * w + w * q + w * n + w * q * pend

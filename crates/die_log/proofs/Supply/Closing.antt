@@ -22,6 +22,7 @@ use Rattle.die_log.proofs.Tokens.Slots.{slot_entry, slot_waives, idle_acts, ran_
 use Rattle.die_log.proofs.Tokens.Turns.{turn_log, stays_pending}
 use Rattle.die_log.proofs.Supply.Gains.{Gains, Fits, agree_fits, gains_then, then_gains, waivers_rise, act_rises, waivers_gain, waivers_fit}
 use Rattle.die_log.proofs.Supply.Gains.{settled_gains}
+use Rattle.die_log.specs.Start.{Start}
 
 -- Counting
 
@@ -93,23 +94,23 @@ collects_if true d g h = refl
 collects_if false d g h = absurd cc
 
 -- a slot without an act
-pub idle_gains : (plan : DiePlan) (past : Log) (caller slot : ℕ) (ws : List Waived) (finished : Option ℕ) (t : ℕ) → AreTrue plan past
-    → CellsServe plan past → AreWaivers plan past (waived past) (accounts plan past) ws
-    → 1 ≤ pending_of plan (λ n. acts n past) (is_waived past) (jobs past) t
-    → pending_of plan (λ n. acts n (slot_entry caller slot ws None finished ∷ past))
+pub idle_gains : (start : Start) (past : Log) (caller slot : ℕ) (ws : List Waived) (finished : Option ℕ) (t : ℕ) → AreTrue start past
+    → CellsServe start past → AreWaivers start.plan past (waived past) (accounts start past) ws
+    → 1 ≤ pending_of start.plan (λ n. acts n past) (is_waived past) (jobs past) t
+    → pending_of start.plan (λ n. acts n (slot_entry caller slot ws None finished ∷ past))
     (is_waived (slot_entry caller slot ws None finished ∷ past)) (jobs past) t ≤ 0
-    → Gains plan (accounts plan past) (after_waivers past ws (accounts plan past)) t
-idle_gains plan past caller slot ws finished t h c are some none =
+    → Gains start.plan (accounts start past) (after_waivers past ws (accounts start past)) t
+idle_gains start past caller slot ws finished t h c are some none =
     let log : Log = slot_entry caller slot ws None finished ∷ past in
     let own : ℕ → List Act = λ n. acts n past in
     let own' : ℕ → List Act = λ n. acts n log in
-    let r = closed_one plan own own' (is_waived past) (is_waived log) (jobs past) t c.numbered some none in
+    let r = closed_one start.plan own own' (is_waived past) (is_waived log) (jobs past) t c.numbered some none in
     let j : Job = r.0 in
-    let is : is_among j.number ws ≡ true = closed_waived plan own own' (is_waived past) (is_waived log) (λ n. is_among n ws) (jobs past) t j
-    (slot_waives plan caller slot ws None finished past c.numbered are) (idle_acts caller slot ws finished past j.number) r.1 in
-    let within : j.task < length plan.caps = (all_at (IsTaken plan) (jobs past) j.number j h.taken r.1.known).task in
-    subst (Gains plan (accounts plan past) (after_waivers past ws (accounts plan past))) r.1.task
-    (waivers_gain plan past ws (accounts plan past) j (agree_fits plan (accounts plan past) _ _ _ _ h.agree) r.1.known within is)
+    let is : is_among j.number ws ≡ true = closed_waived start.plan own own' (is_waived past) (is_waived log) (λ n. is_among n ws) (jobs past) t j
+    (slot_waives start caller slot ws None finished past c.numbered are) (idle_acts caller slot ws finished past j.number) r.1 in
+    let within : j.task < length start.plan.caps = (all_at (IsTaken start.plan) (jobs past) j.number j h.taken r.1.known).task in
+    subst (Gains start.plan (accounts start past) (after_waivers past ws (accounts start past))) r.1.task
+    (waivers_gain start.plan past ws (accounts start past) j (agree_fits start.plan (accounts start past) _ _ _ _ h.agree) r.1.known within is)
 
 -- Acts
 
@@ -120,63 +121,63 @@ over_now true false true p q h = absurd cc
 over_now false d g p q h = absurd cc
 
 -- the last erase slot settles
-settles : (plan : DiePlan) (past : Log) (ws : List Waived) (j : Job) (act : Act) → IsTurn plan past ws j act → j.collects ≡ true
-    → are_all plan j (acts j.number past ++ act ∷ []) ≡ true
-    → IsJobAct past j act ⊎ IsCollectionAct j act → (a : Accounts) → Fits plan a
-    → Gains plan a (after_act plan (Some j) (acts j.number past) act a) j.task
-settles plan past ws j act h kind all (inl k) a f = absurd (true≢false (sym kind ∙ k.job))
-settles plan past ws j (does.Read page bytes) h kind all (inr k) a f = absurd k.kind
-settles plan past ws j (does.Write page bytes) h kind all (inr k) a f = absurd k.kind
-settles plan past ws j (does.Trim page) h kind all (inr k) a f = absurd k.kind
-settles plan past ws j (does.CopyRead page) h kind all (inr k) a f = absurd
-    (true≢false (sym all ∙ stays_pending plan past ws j (does.CopyRead page) h kind refl))
-settles plan past ws j (does.CopyProgram page) h kind all (inr k) a f = absurd
-    (true≢false (sym all ∙ stays_pending plan past ws j (does.CopyProgram page) h kind refl))
-settles plan past ws j (does.Erase block) h kind all (inr k) a f =
-    subst (λ (b : Bool). Gains plan a (cond b (settled a j.task (count_by is_copy_program (acts j.number past))) a) j.task) (sym all)
-    (settled_gains plan a j.task (count_by is_copy_program (acts j.number past)) f (of_job plan past ws j (does.Erase block) h).task)
+settles : (start : Start) (past : Log) (ws : List Waived) (j : Job) (act : Act) → IsTurn start past ws j act → j.collects ≡ true
+    → are_all start.plan j (acts j.number past ++ act ∷ []) ≡ true
+    → IsJobAct past j act ⊎ IsCollectionAct j act → (a : Accounts) → Fits start.plan a
+    → Gains start.plan a (after_act start.plan (Some j) (acts j.number past) act a) j.task
+settles start past ws j act h kind all (inl k) a f = absurd (true≢false (sym kind ∙ k.job))
+settles start past ws j (does.Read page bytes) h kind all (inr k) a f = absurd k.kind
+settles start past ws j (does.Write page bytes) h kind all (inr k) a f = absurd k.kind
+settles start past ws j (does.Trim page) h kind all (inr k) a f = absurd k.kind
+settles start past ws j (does.CopyRead page) h kind all (inr k) a f = absurd
+    (true≢false (sym all ∙ stays_pending start past ws j (does.CopyRead page) h kind refl))
+settles start past ws j (does.CopyProgram page) h kind all (inr k) a f = absurd
+    (true≢false (sym all ∙ stays_pending start past ws j (does.CopyProgram page) h kind refl))
+settles start past ws j (does.Erase block) h kind all (inr k) a f =
+    subst (λ (b : Bool). Gains start.plan a (cond b (settled a j.task (count_by is_copy_program (acts j.number past))) a) j.task) (sym all)
+    (settled_gains start.plan a j.task (count_by is_copy_program (acts j.number past)) f (of_job start past ws j (does.Erase block) h).task)
 
 -- a slot with an act
-pub turn_gains : (plan : DiePlan) (past : Log) (caller slot : ℕ) (ws : List Waived) (finished : Option ℕ) (j : Job) (act : Act) (t : ℕ)
-    → IsTurn plan past ws j act
-    → 1 ≤ pending_of plan (λ n. acts n past) (is_waived past) (jobs past) t
-    → pending_of plan (λ n. acts n (turn_log past caller slot ws finished j act)) (is_waived (turn_log past caller slot ws finished j act))
+pub turn_gains : (start : Start) (past : Log) (caller slot : ℕ) (ws : List Waived) (finished : Option ℕ) (j : Job) (act : Act) (t : ℕ)
+    → IsTurn start past ws j act
+    → 1 ≤ pending_of start.plan (λ n. acts n past) (is_waived past) (jobs past) t
+    → pending_of start.plan (λ n. acts n (turn_log past caller slot ws finished j act)) (is_waived (turn_log past caller slot ws finished j act))
     (jobs past) t ≤ 0
-    → Gains plan (accounts plan past) (after_act plan (job_at past j.number) (acts j.number past) act
-    (after_waivers past ws (accounts plan past))) t
-turn_gains plan past caller slot ws finished j act t h some none =
+    → Gains start.plan (accounts start past) (after_act start.plan (job_at past j.number) (acts j.number past) act
+    (after_waivers past ws (accounts start past))) t
+turn_gains start past caller slot ws finished j act t h some none =
     let log : Log = turn_log past caller slot ws finished j act in
     let own : ℕ → List Act = λ n. acts n past in
     let own' : ℕ → List Act = λ n. acts n log in
-    let a : Accounts = accounts plan past in
+    let a : Accounts = accounts start past in
     let b : Accounts = after_waivers past ws a in
     let more = ran_acts caller slot ws finished past j.number act in
-    let fits : Fits plan a = agree_fits plan a _ _ _ _ h.true_before.agree in
-    let r = closed_one plan own own' (is_waived past) (is_waived log) (jobs past) t h.serve.numbered some none in
+    let fits : Fits start.plan a = agree_fits start.plan a _ _ _ _ h.true_before.agree in
+    let r = closed_one start.plan own own' (is_waived past) (is_waived log) (jobs past) t h.serve.numbered some none in
     let i : Job = r.0 in
     elim (cases_eq i.number j.number) [
       | inl e ↦
           let same : i ≡ j = same_Some i j (sym r.1.known ∙ (ap (job_at past) e ∙ h.waits.known)) in
           let kind : j.collects ≡ true = sym (ap (λ (x : Job). x.collects) same)
-          ∙ collects_if i.collects (not (are_all plan i (own i.number))) (not (is_waived past i.number)) r.1.was in
-          let over : is_pending plan own' (is_waived log) j ≡ false = sym (ap (is_pending plan own' (is_waived log)) same) ∙ r.1.over in
-          let all : are_all plan j (acts j.number past ++ act ∷ []) ≡ true = sym (ap (are_all plan j) more.more)
-          ∙ over_now j.collects (are_all plan j (own' j.number)) (is_waived log j.number) kind h.waits.new over in
-          subst (Gains plan a (after_act plan (job_at past j.number) (acts j.number past) act b)) (sym (ap (λ (x : Job). x.task) same)
+          ∙ collects_if i.collects (not (are_all start.plan i (own i.number))) (not (is_waived past i.number)) r.1.was in
+          let over : is_pending start.plan own' (is_waived log) j ≡ false = sym (ap (is_pending start.plan own' (is_waived log)) same) ∙ r.1.over in
+          let all : are_all start.plan j (acts j.number past ++ act ∷ []) ≡ true = sym (ap (are_all start.plan j) more.more)
+          ∙ over_now j.collects (are_all start.plan j (own' j.number)) (is_waived log j.number) kind h.waits.new over in
+          subst (Gains start.plan a (after_act start.plan (job_at past j.number) (acts j.number past) act b)) (sym (ap (λ (x : Job). x.task) same)
           ∙ r.1.task) (
-          subst (λ o. Gains plan a (after_act plan o (acts j.number past) act b) j.task) (sym h.waits.known) (
-          then_gains plan a b (after_act plan (Some j) (acts j.number past) act b) j.task (waivers_rise past ws a j.task)
-          (settles plan past ws j act h kind all (act_kind plan past j act h.does_it) b (waivers_fit plan past ws a fits))
+          subst (λ o. Gains start.plan a (after_act start.plan o (acts j.number past) act b) j.task) (sym h.waits.known) (
+          then_gains start.plan a b (after_act start.plan (Some j) (acts j.number past) act b) j.task (waivers_rise past ws a j.task)
+          (settles start past ws j act h kind all (act_kind start past j act h.does_it) b (waivers_fit start.plan past ws a fits))
           )
           )
       | inr apart ↦
-          let is : is_among i.number ws ≡ true = closed_waived plan own own' (is_waived past) (is_waived log) (λ n. is_among n ws)
-          (jobs past) t i (slot_waives plan caller slot ws (Some (j.number, act)) finished past h.serve.numbered h.waivers)
+          let is : is_among i.number ws ≡ true = closed_waived start.plan own own' (is_waived past) (is_waived log) (λ n. is_among n ws)
+          (jobs past) t i (slot_waives start caller slot ws (Some (j.number, act)) finished past h.serve.numbered h.waivers)
           (more.other i.number apart) r.1 in
-          let within : i.task < length plan.caps = (all_at (IsTaken plan) (jobs past) i.number i h.true_before.taken r.1.known).task in
-          subst (Gains plan a (after_act plan (job_at past j.number) (acts j.number past) act b)) r.1.task (
-          gains_then plan a b (after_act plan (job_at past j.number) (acts j.number past) act b) i.task
-          (waivers_gain plan past ws a i fits r.1.known within is)
-          (act_rises plan (job_at past j.number) (acts j.number past) act b i.task)
+          let within : i.task < length start.plan.caps = (all_at (IsTaken start.plan) (jobs past) i.number i h.true_before.taken r.1.known).task in
+          subst (Gains start.plan a (after_act start.plan (job_at past j.number) (acts j.number past) act b)) r.1.task (
+          gains_then start.plan a b (after_act start.plan (job_at past j.number) (acts j.number past) act b) i.task
+          (waivers_gain start.plan past ws a i fits r.1.known within is)
+          (act_rises start.plan (job_at past j.number) (acts j.number past) act b i.task)
           )
     ]

@@ -25,6 +25,7 @@ use Rattle.die_log.specs.Planned.{IsInTime, told}
 use Rattle.die_log.specs.Supply.{collections_of, pending_at, AreDueBy}
 use Rattle.die_log.proofs.Legality.{entry, exact_induction}
 use Rattle.die_log.proofs.Supply.Held.{pending_none}
+use Rattle.die_log.specs.Start.{Start}
 
 -- how a job came that came at its release
 abbrev pub arrival_of : Job → Arrival
@@ -47,42 +48,42 @@ pub one_further : (plan : DiePlan) (times : Times) (past : Log) (event : Event) 
     → KeepsPlan plan times ((told past ++ event ∷ []) ++ rest) → KeepsPlan plan times (told past ++ event ∷ rest)
 one_further plan times past event rest keeps = subst (KeepsPlan plan times) (append_assoc (told past) (event ∷ []) rest) keeps
 
-pub follows : (plan : DiePlan) (times : Times) (log : Log) → IsExact plan log → (rest : List Event)
-    → KeepsPlan plan times (told log ++ rest) → Follows plan times log
-follows plan times = exact_induction plan Q (λ rest keeps. record
+pub follows : (start : Start) (times : Times) (log : Log) → IsExact start log → (rest : List Event)
+    → KeepsPlan start.plan times (told log ++ rest) → Follows start.plan times log
+follows start times = exact_induction start Q (λ rest keeps. record
     { clock = refl; came = refl; paced = λ task lt. paced_start (times_of times task).collect_period task }) step
   where
     Q : Log → Type 0
-    Q log = (rest : List Event) → KeepsPlan plan times (told log ++ rest) → Follows plan times log
+    Q log = (rest : List Event) → KeepsPlan start.plan times (told log ++ rest) → Follows start.plan times log
 
-    step : (past : Log) (caller : ℕ) (event : Event) → IsExact plan past → Q past
-        → AllByRecursion (λ c. c.0 ≡ false) (refusals plan past event) → Q (entry caller event (accepted plan past event) ∷ past)
+    step : (past : Log) (caller : ℕ) (event : Event) → IsExact start past → Q past
+        → AllByRecursion (λ c. c.0 ≡ false) (refusals start past event) → Q (entry caller event (accepted start past event) ∷ past)
     step past caller (events.Submit task release due ops) exact ih none rest keeps =
         let event : Event = events.Submit task release due ops in
-        let k = one_further plan times past event rest keeps in
+        let k = one_further start.plan times past event rest keeps in
         let f = ih (event ∷ rest) k in
-        let n = next_job plan times (told past) rest task release due ops k in
+        let n = next_job start.plan times (told past) rest task release due ops k in
         record {
           clock = omega (arith, slots_append (told past) (event ∷ []), f.clock);
           came = arrivals_after (told past) (event ∷ [])
               ∙ came_push (arrivals 0 (told past)) (jobs past) (job_arrival (slots (told past)) task release due ops) _ f.came
               (ap (λ (m : ℕ). job_arrival m task release due ops) (sym n.planned.comes));
-          paced = λ t lt. paced_event plan times (told past) rest event t lt k (f.paced t lt);
+          paced = λ t lt. paced_event start.plan times (told past) rest event t lt k (f.paced t lt);
         }
     step past caller (events.Collect task release due) exact ih none rest keeps =
         let event : Event = events.Collect task release due in
-        let k = one_further plan times past event rest keeps in
+        let k = one_further start.plan times past event rest keeps in
         let f = ih (event ∷ rest) k in
-        let n = next_collection plan times (told past) rest task release due k in
+        let n = next_collection start.plan times (told past) rest task release due k in
         record {
           clock = omega (arith, slots_append (told past) (event ∷ []), f.clock);
           came = arrivals_after (told past) (event ∷ [])
               ∙ came_push (arrivals 0 (told past)) (jobs past) (collection_arrival (slots (told past)) task release due) _ f.came
               (ap (λ (m : ℕ). collection_arrival m task release due) (sym n.comes));
-          paced = λ t lt. paced_event plan times (told past) rest event t lt k (f.paced t lt);
+          paced = λ t lt. paced_event start.plan times (told past) rest event t lt k (f.paced t lt);
         }
     step past caller events.Slot exact ih none rest keeps =
-        let k = one_further plan times past events.Slot rest keeps in
+        let k = one_further start.plan times past events.Slot rest keeps in
         let f = ih (events.Slot ∷ rest) k in
         record {
           clock = omega (
@@ -90,10 +91,10 @@ follows plan times = exact_induction plan Q (λ rest keeps. record
             slots_append (told past) (events.Slot ∷ []),
             f.clock,
             length_push (carried past)
-                (slot_reply plan past (choice plan past).waived (choice plan past).head).ran,
+                (slot_reply start past (choice start past).waived (choice start past).head).ran,
           );
           came = arrivals_after (told past) (events.Slot ∷ []) ∙ (append-nil (arrivals 0 (told past)) ∙ f.came);
-          paced = λ t lt. paced_event plan times (told past) rest events.Slot t lt k (f.paced t lt);
+          paced = λ t lt. paced_event start.plan times (told past) rest events.Slot t lt k (f.paced t lt);
         }
 
 -- What jobs have of what came

@@ -19,17 +19,18 @@ use Rattle.die_log.proofs.Tokens.Sums.{one_if, all_at}
 use Rattle.die_log.proofs.Tokens.Amounts.{at_other}
 use Rattle.die_log.proofs.Tokens.Taking.{at_none}
 use Rattle.die_log.proofs.Standing.Longer.{contained}
+use Rattle.die_log.specs.Start.{Start}
 
-sum_zero : {X : Type 0} (f : X → ℕ) (xs : List X) → ((k : ℕ) (x : X) → slice_get xs k ≡ Some x → f x ≡ 0) → sum_by f xs ≡ 0
+pub sum_zero : {X : Type 0} (f : X → ℕ) (xs : List X) → ((k : ℕ) (x : X) → slice_get xs k ≡ Some x → f x ≡ 0) → sum_by f xs ≡ 0
 sum_zero f [] h = refl
 sum_zero f (x ∷ xs) h = omega (arith, sum_by-cons f x xs, h zero x refl, sum_zero f xs (λ k y e. h (suc k) y e))
 
 -- Jobs
 
-none_left : (n : ℕ) (ops : List Op) → length ops ≤ n → writes (drop n ops) ≡ 0
+pub none_left : (n : ℕ) (ops : List Op) → length ops ≤ n → writes (drop n ops) ≡ 0
 none_left n ops le = ap writes (drop_all n ops le)
 
-all_done : (plan : DiePlan) (j : Job) (own : List Act) → j.collects ≡ false → are_all plan j own ≡ true → length own ≡ length j.ops
+pub all_done : (plan : DiePlan) (j : Job) (own : List Act) → j.collects ≡ false → are_all plan j own ≡ true → length own ≡ length j.ops
 all_done plan j own kind is = by_kind j.collects kind is
   where
     by_kind : (b : Bool) → b ≡ false → (cond b (count_by is_erase own == plan.shape.erase_slots) (length own == length j.ops)) ≡ true
@@ -38,16 +39,16 @@ all_done plan j own kind is = by_kind j.collects kind is
     by_kind false k h = eqb-true (length own) (length j.ops) h
 
 -- all jobs of a task that are due are done, so it holds nothing for them
-pub hold_none : (plan : DiePlan) (log : Log) (t : ℕ) → AreTrue plan log → t < length plan.caps
+pub hold_none : (start : Start) (log : Log) (t : ℕ) → AreTrue start log → t < length start.plan.caps
     → ((k : ℕ) (j : Job) → job_at log k ≡ Some j → j.number ≡ k)
     → ((number : ℕ) → is_waived log number ≡ true → (j : Job) × (job_at log number ≡ Some j) × (j.collects ≡ true))
-    → IsInTime plan log → AreDueBy (jobs log) t (now log) → hold_of plan log t ≡ 0
-hold_none plan log t h lt numbered collections in_time due_by =
+    → IsInTime start.plan log → AreDueBy (jobs log) t (now log) → hold_of start log t ≡ 0
+hold_none start log t h lt numbered collections in_time due_by =
     h.agree.holds_are t lt ∙ sum_zero (λ j. at_task j.task (left_of (λ n. acts n log) j) t) (jobs log) each
   where
     job_left : (k : ℕ) (j : Job) → slice_get (jobs log) k ≡ Some j → j.task ≡ t → j.collects ≡ false → left_of (λ n. acts n log) j ≡ 0
     job_left k j e task kind = elim (in_time.due_by_now j (contained (jobs log) k j e) (due_by j (contained (jobs log) k j e) kind task)) [
-      | inl done ↦ none_left (length (acts j.number log)) j.ops (omega (arith, all_done plan j (acts j.number log) kind done))
+      | inl done ↦ none_left (length (acts j.number log)) j.ops (omega (arith, all_done start.plan j (acts j.number log) kind done))
       | inr gone ↦
           let c = collections j.number gone in
           let at : job_at log j.number ≡ Some j = ap (job_at log) (numbered k j e) ∙ e in
@@ -56,7 +57,7 @@ hold_none plan log t h lt numbered collections in_time due_by =
 
     left : (k : ℕ) (j : Job) → slice_get (jobs log) k ≡ Some j → j.task ≡ t → (b : Bool) → j.collects ≡ b → left_of (λ n. acts n log) j ≡ 0
     left k j e task true kind =
-        let ops : j.ops ≡ [] = (all_at (IsTaken plan) (jobs log) k j h.taken e).none kind in
+        let ops : j.ops ≡ [] = (all_at (IsTaken start.plan) (jobs log) k j h.taken e).none kind in
         ap (λ (l : List Op). writes (drop (length (acts j.number log)) l)) ops ∙ none_left (length (acts j.number log)) [] (omega arith)
     left k j e task false kind = job_left k j e task kind
 

@@ -21,18 +21,20 @@ use Rattle.die_log.proofs.Legality.{entry, accepted_answer}
 use Rattle.die_log.proofs.Planned.InTime.{planned_in_time}
 use Rattle.die_log.proofs.Planned.Running.{slot_open}
 use Rattle.die_log.proofs.Supply.Following.{follows}
+use Rattle.die_log.specs.Start.{Start}
+use Rattle.die_log.specs.Opening.{IsOpening}
 
 -- a log that these events leave behind `past`
-pub record RunsOn (plan : DiePlan) (past : Log) (rest : List Event) : Type 0 where
+pub record RunsOn (start : Start) (past : Log) (rest : List Event) : Type 0 where
   pub log : Log
   pub later : Log
   pub is : log ≡ later ++ past
-  pub exact : IsExact plan log
+  pub exact : IsExact start log
   pub entered : AreEntered rest past log
 
-with_entry : (plan : DiePlan) (past : Log) (event : Event) (rest : List Event) (reply : Reply)
-    → RunsOn plan (entry 0 event reply ∷ past) rest → RunsOn plan past (event ∷ rest)
-with_entry plan past event rest reply r =
+with_entry : (start : Start) (past : Log) (event : Event) (rest : List Event) (reply : Reply)
+    → RunsOn start (entry 0 event reply ∷ past) rest → RunsOn start past (event ∷ rest)
+with_entry start past event rest reply r =
     let e = entry 0 event reply in
     record {
       log = r.log;
@@ -42,9 +44,9 @@ with_entry plan past event rest reply r =
       entered = (e ∷ past, inl (0, reply, refl), r.entered);
     }
 
-without_entry : (plan : DiePlan) (past : Log) (event : Event) (rest : List Event) → IsArrival event → RunsOn plan past rest
-    → RunsOn plan past (event ∷ rest)
-without_entry plan past event rest is r = record {
+without_entry : (start : Start) (past : Log) (event : Event) (rest : List Event) → IsArrival event → RunsOn start past rest
+    → RunsOn start past (event ∷ rest)
+without_entry start past event rest is r = record {
   log = r.log;
   later = r.later;
   is = r.is;
@@ -54,39 +56,39 @@ without_entry plan past event rest is r = record {
 }
 
 -- an event that is accepted
-accepted_on : (plan : DiePlan) (past : Log) (event : Event) (rest : List Event) → refusal_of plan past event ≡ None
-    → IsAccepted (accepted plan past event) → IsExact plan past
-    → (IsExact plan (entry 0 event (accepted plan past event) ∷ past) → RunsOn plan (entry 0 event (accepted plan past event) ∷ past) rest)
-    → RunsOn plan past (event ∷ rest)
-accepted_on plan past event rest none takes exact further = with_entry plan past event rest (accepted plan past event)
-    (further (exact, sym (accepted_answer plan past event none), takes))
+accepted_on : (start : Start) (past : Log) (event : Event) (rest : List Event) → refusal_of start past event ≡ None
+    → IsAccepted (accepted start past event) → IsExact start past
+    → (IsExact start (entry 0 event (accepted start past event) ∷ past) → RunsOn start (entry 0 event (accepted start past event) ∷ past) rest)
+    → RunsOn start past (event ∷ rest)
+accepted_on start past event rest none takes exact further = with_entry start past event rest (accepted start past event)
+    (further (exact, sym (accepted_answer start past event none), takes))
 
 -- a job or a collection, refused or not
-arrival_on : (plan : DiePlan) (past : Log) (event : Event) (rest : List Event) (o : Option Refusal) → IsArrival event
-    → IsAccepted (accepted plan past event) → refusal_of plan past event ≡ o → IsExact plan past
-    → (IsExact plan (entry 0 event (accepted plan past event) ∷ past) → RunsOn plan (entry 0 event (accepted plan past event) ∷ past) rest)
-    → RunsOn plan past rest → RunsOn plan past (event ∷ rest)
-arrival_on plan past event rest None is takes e exact further stays = accepted_on plan past event rest e takes exact further
-arrival_on plan past event rest (Some refusal) is takes e exact further stays = without_entry plan past event rest is stays
+arrival_on : (start : Start) (past : Log) (event : Event) (rest : List Event) (o : Option Refusal) → IsArrival event
+    → IsAccepted (accepted start past event) → refusal_of start past event ≡ o → IsExact start past
+    → (IsExact start (entry 0 event (accepted start past event) ∷ past) → RunsOn start (entry 0 event (accepted start past event) ∷ past) rest)
+    → RunsOn start past rest → RunsOn start past (event ∷ rest)
+arrival_on start past event rest None is takes e exact further stays = accepted_on start past event rest e takes exact further
+arrival_on start past event rest (Some refusal) is takes e exact further stays = without_entry start past event rest is stays
 
-pub runs_on : (plan : DiePlan) (past : Log) (rest : List Event) → IsExact plan past → now past + slots rest ≤ MAX_SLOT
-    → RunsOn plan past rest
-runs_on plan past [] exact le = record { log = past; later = []; is = refl; exact = exact; entered = refl }
-runs_on plan past (events.Submit task release due ops ∷ rest) exact le =
+pub runs_on : (start : Start) (past : Log) (rest : List Event) → IsExact start past → now past + slots rest ≤ MAX_SLOT
+    → RunsOn start past rest
+runs_on start past [] exact le = record { log = past; later = []; is = refl; exact = exact; entered = refl }
+runs_on start past (events.Submit task release due ops ∷ rest) exact le =
     let event : Event = events.Submit task release due ops in
     let fits : now past + slots rest ≤ MAX_SLOT = omega (arith, le, slots_append (event ∷ []) rest) in
-    arrival_on plan past event rest (refusal_of plan past event) tt tt refl exact
-    (λ next. runs_on plan (entry 0 event (accepted plan past event) ∷ past) rest next fits) (runs_on plan past rest exact fits)
-runs_on plan past (events.Collect task release due ∷ rest) exact le =
+    arrival_on start past event rest (refusal_of start past event) tt tt refl exact
+    (λ next. runs_on start (entry 0 event (accepted start past event) ∷ past) rest next fits) (runs_on start past rest exact fits)
+runs_on start past (events.Collect task release due ∷ rest) exact le =
     let event : Event = events.Collect task release due in
     let fits : now past + slots rest ≤ MAX_SLOT = omega (arith, le, slots_append (event ∷ []) rest) in
-    arrival_on plan past event rest (refusal_of plan past event) tt tt refl exact
-    (λ next. runs_on plan (entry 0 event (accepted plan past event) ∷ past) rest next fits) (runs_on plan past rest exact fits)
-runs_on plan past (events.Slot ∷ rest) exact le =
+    arrival_on start past event rest (refusal_of start past event) tt tt refl exact
+    (λ next. runs_on start (entry 0 event (accepted start past event) ∷ past) rest next fits) (runs_on start past rest exact fits)
+runs_on start past (events.Slot ∷ rest) exact le =
     let one = slots_append (events.Slot ∷ []) rest in
-    let later = length_push (carried past) (slot_reply plan past (choice plan past).waived (choice plan past).head).ran in
-    accepted_on plan past events.Slot rest (slot_open plan past (omega (arith, le, one))) tt exact
-    (λ next. runs_on plan (entry 0 events.Slot (accepted plan past events.Slot) ∷ past) rest next (omega (arith, le, one, later)))
+    let later = length_push (carried past) (slot_reply start past (choice start past).waived (choice start past).head).ran in
+    accepted_on start past events.Slot rest (slot_open start past (omega (arith, le, one))) tt exact
+    (λ next. runs_on start (entry 0 events.Slot (accepted start past events.Slot) ∷ past) rest next (omega (arith, le, one, later)))
 
 -- What was entered
 
@@ -105,10 +107,10 @@ entered_told (e ∷ past) = entered_append (told past) (e.event ∷ []) [] past 
 )
 
 -- so nothing is late at a moment that events reach unrefused which keep a passing plan
-pub never_late : (plan : DiePlan) (times : Times) → MeetsBound plan → Passes plan times → (moment : Log) → IsExact plan moment
-    → (rest : List Event) → KeepsPlan plan times (told moment ++ rest) → IsInTime plan moment
-never_late plan times bound passes moment exact rest keeps =
-    let f = follows plan times moment exact rest keeps in
-    let r = runs_on plan moment rest exact (omega (arith, keeps.few_slots, slots_append (told moment) rest, f.clock)) in
-    planned_in_time plan times bound passes (told moment ++ rest) keeps r.later moment (subst (IsExact plan) r.is r.exact)
+pub never_late : (start : Start) (times : Times) → IsOpening start → Passes start.plan times → (moment : Log) → IsExact start moment
+    → (rest : List Event) → KeepsPlan start.plan times (told moment ++ rest) → IsInTime start.plan moment
+never_late start times bound passes moment exact rest keeps =
+    let f = follows start times moment exact rest keeps in
+    let r = runs_on start moment rest exact (omega (arith, keeps.few_slots, slots_append (told moment) rest, f.clock)) in
+    planned_in_time start times bound passes (told moment ++ rest) keeps r.later moment (subst (IsExact start) r.is r.exact)
     (subst (AreEntered (told moment ++ rest) []) r.is (entered_append (told moment) rest [] moment r.log (entered_told moment) r.entered))

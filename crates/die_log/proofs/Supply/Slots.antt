@@ -22,73 +22,74 @@ use Rattle.die_log.proofs.Tokens.Whole.{all_known}
 use Rattle.die_log.proofs.Supply.Gains.{Rises, Gains, rises_then, waivers_rise, act_rises}
 use Rattle.die_log.proofs.Supply.Closing.{idle_gains, turn_gains}
 use Rattle.die_log.proofs.Supply.Amounts.{kept, given, filled}
+use Rattle.die_log.specs.Start.{Start}
 
 -- the task's balance isn't less, nor its hold more; and where its pending collection was closed, it gained
-pub record Leaves (plan : DiePlan) (past log : Log) (task : ℕ) : Type 0 where
-  pub rises : Rises (accounts plan past) (accounts plan log) task
-  pub gains : 1 ≤ pending_at plan past task → pending_at plan log task ≤ 0 → Gains plan (accounts plan past) (accounts plan log) task
+pub record Leaves (start : Start) (past log : Log) (task : ℕ) : Type 0 where
+  pub rises : Rises (accounts start past) (accounts start log) task
+  pub gains : 1 ≤ pending_at start.plan past task → pending_at start.plan log task ≤ 0 → Gains start.plan (accounts start past) (accounts start log) task
 
-leaves_idle : (plan : DiePlan) (past : Log) (caller slot : ℕ) (ws : List Waived) (finished : Option ℕ) (t : ℕ) → AreTrue plan past
-    → CellsServe plan past → AreWaivers plan past (waived past) (accounts plan past) ws
-    → Leaves plan past (slot_entry caller slot ws None finished ∷ past) t
-leaves_idle plan past caller slot ws finished t h c are = record {
-  rises = waivers_rise past ws (accounts plan past) t;
-  gains = idle_gains plan past caller slot ws finished t h c are;
+leaves_idle : (start : Start) (past : Log) (caller slot : ℕ) (ws : List Waived) (finished : Option ℕ) (t : ℕ) → AreTrue start past
+    → CellsServe start past → AreWaivers start.plan past (waived past) (accounts start past) ws
+    → Leaves start past (slot_entry caller slot ws None finished ∷ past) t
+leaves_idle start past caller slot ws finished t h c are = record {
+  rises = waivers_rise past ws (accounts start past) t;
+  gains = idle_gains start past caller slot ws finished t h c are;
 }
 
-leaves_act : (plan : DiePlan) (past : Log) (caller : ℕ) (ws : List Waived) (j : Job) (o : Option Act) (t : ℕ) → AreTrue plan past
-    → CellsServe plan past → AreWaivers plan past (waived past) (accounts plan past) ws
-    → Waits plan past (waived past ++ ws) j → act_for plan past j ≡ o
-    → Leaves plan past (entry caller events.Slot (replies.Slot (reply_with plan past ws j o)) ∷ past) t
-leaves_act plan past caller ws j None t h c are waits e = leaves_idle plan past caller (now past) ws None t h c are
-leaves_act plan past caller ws j (Some act) t h c are waits e =
-    let a : Accounts = accounts plan past in
+leaves_act : (start : Start) (past : Log) (caller : ℕ) (ws : List Waived) (j : Job) (o : Option Act) (t : ℕ) → AreTrue start past
+    → CellsServe start past → AreWaivers start.plan past (waived past) (accounts start past) ws
+    → Waits start.plan past (waived past ++ ws) j → act_for start past j ≡ o
+    → Leaves start past (entry caller events.Slot (replies.Slot (reply_with start.plan past ws j o)) ∷ past) t
+leaves_act start past caller ws j None t h c are waits e = leaves_idle start past caller (now past) ws None t h c are
+leaves_act start past caller ws j (Some act) t h c are waits e =
+    let a : Accounts = accounts start past in
     let b : Accounts = after_waivers past ws a in
     record {
-      rises = rises_then a b (after_act plan (job_at past j.number) (acts j.number past) act b) t (waivers_rise past ws a t)
-          (act_rises plan (job_at past j.number) (acts j.number past) act b t);
-      gains = turn_gains plan past caller (now past) ws (reply_with plan past ws j (Some act)).finished j act t
+      rises = rises_then a b (after_act start.plan (job_at past j.number) (acts j.number past) act b) t (waivers_rise past ws a t)
+          (act_rises start.plan (job_at past j.number) (acts j.number past) act b t);
+      gains = turn_gains start past caller (now past) ws (reply_with start.plan past ws j (Some act)).finished j act t
           (record { true_before = h; serve = c; waivers = are; waits = waits; does_it = e });
     }
 
-leaves_head : (plan : DiePlan) (past : Log) (caller : ℕ) (ws : List Waived) (o : Option Job) (t : ℕ) → AreTrue plan past
-    → CellsServe plan past → AreWaivers plan past (waived past) (accounts plan past) ws
-    → MatchOption o (Unit {0}) (λ j. Waits plan past (waived past ++ ws) j)
-    → Leaves plan past (entry caller events.Slot (replies.Slot (slot_reply plan past ws o)) ∷ past) t
-leaves_head plan past caller ws None t h c are waits = leaves_idle plan past caller (now past) ws None t h c are
-leaves_head plan past caller ws (Some j) t h c are waits = leaves_act plan past caller ws j (act_for plan past j) t h c are waits refl
+leaves_head : (start : Start) (past : Log) (caller : ℕ) (ws : List Waived) (o : Option Job) (t : ℕ) → AreTrue start past
+    → CellsServe start past → AreWaivers start.plan past (waived past) (accounts start past) ws
+    → MatchOption o (Unit {0}) (λ j. Waits start.plan past (waived past ++ ws) j)
+    → Leaves start past (entry caller events.Slot (replies.Slot (slot_reply start past ws o)) ∷ past) t
+leaves_head start past caller ws None t h c are waits = leaves_idle start past caller (now past) ws None t h c are
+leaves_head start past caller ws (Some j) t h c are waits = leaves_act start past caller ws j (act_for start past j) t h c are waits refl
 
-pub slot_leaves : (plan : DiePlan) (past : Log) (caller : ℕ) (t : ℕ) → AreTrue plan past → CellsServe plan past
-    → Leaves plan past (entry caller events.Slot (accepted plan past events.Slot) ∷ past) t
-slot_leaves plan past caller t h c =
-    let is = choice_is plan past (all_known past c.numbered) in
-    leaves_head plan past caller (choice plan past).waived (choice plan past).head t h c is.waivers is.head
+pub slot_leaves : (start : Start) (past : Log) (caller : ℕ) (t : ℕ) → AreTrue start past → CellsServe start past
+    → Leaves start past (entry caller events.Slot (accepted start past events.Slot) ∷ past) t
+slot_leaves start past caller t h c =
+    let is = choice_is start past (all_known past c.numbered) in
+    leaves_head start past caller (choice start past).waived (choice start past).head t h c is.waivers is.head
 
 -- a slot keeps a task supplied of which not too many collections have come: a gift of alpha pages makes up for the
 -- collection that is closed, and one that fills up to the cap leaves nothing to make up for
-pub slot_supplied : (plan : DiePlan) (p q w : ℕ) (past : Log) (caller : ℕ) (t : ℕ) → AreTrue plan past → CellsServe plan past → w * q
-    ≤ plan.alpha * p → q * collections_of (jobs past) t ≤ now past + q
-    → IsSupplied plan p q w past t → IsSupplied plan p q w (entry caller events.Slot (accepted plan past events.Slot) ∷ past) t
-slot_supplied plan p q w past caller t h c regained few s =
-    let log : Log = entry caller events.Slot (accepted plan past events.Slot) ∷ past in
-    let l = slot_leaves plan past caller t h c in
+pub slot_supplied : (start : Start) (p q w : ℕ) (past : Log) (caller : ℕ) (t : ℕ) → AreTrue start past → CellsServe start past → w * q
+    ≤ start.plan.alpha * p → q * collections_of (jobs past) t ≤ now past + q
+    → IsSupplied start p q w past t → IsSupplied start p q w (entry caller events.Slot (accepted start past events.Slot) ∷ past) t
+slot_supplied start p q w past caller t h c regained few s =
+    let log : Log = entry caller events.Slot (accepted start past events.Slot) ∷ past in
+    let l = slot_leaves start past caller t h c in
     let later : now log ≡ now past + 1 = length_push (carried past)
-    (slot_reply plan past (choice plan past).waived (choice plan past).head).ran in
-    let one : pending_at plan past t ≤ 1 = h.one_each t in
+    (slot_reply start past (choice start past).waived (choice start past).head).ran in
+    let one : pending_at start.plan past t ≤ 1 = h.one_each t in
     record {
       few_held = omega (arith, s.few_held, l.rises.hold);
       covered = λ next le due.
           let before = s.covered next (omega (arith, le, later)) due in
-          elim (cases_lt (pending_at plan log t) (pending_at plan past t)) [
+          elim (cases_lt (pending_at start.plan log t) (pending_at start.plan past t)) [
             | inl closed ↦
                 let g = l.gains (omega (arith, closed)) (omega (arith, closed, one)) in
                 elim g.gain [
-                  | inl more ↦ given p w (w * q) plan.alpha (slice_index plan.caps t) (balance_of plan past t) (balance_of plan log t)
-                      (collections_of (jobs past) t) next (pending_at plan past t) (pending_at plan log t) before more one regained
-                  | inr full ↦ filled p q w (slice_index plan.caps t) (balance_of plan log t) (hold_of plan past t)
-                      (collections_of (jobs past) t) next (pending_at plan log t) full s.few_held (omega (arith, few, le, later))
+                  | inl more ↦ given p w (w * q) start.plan.alpha (slice_index start.plan.caps t) (balance_of start past t) (balance_of start log t)
+                      (collections_of (jobs past) t) next (pending_at start.plan past t) (pending_at start.plan log t) before more one regained
+                  | inr full ↦ filled p q w (slice_index start.plan.caps t) (balance_of start log t) (hold_of start past t)
+                      (collections_of (jobs past) t) next (pending_at start.plan log t) full s.few_held (omega (arith, few, le, later))
                 ]
-            | inr unclosed ↦ kept p w (w * q) (slice_index plan.caps t) (balance_of plan past t) (balance_of plan log t)
-                (collections_of (jobs past) t) next (pending_at plan past t) (pending_at plan log t) before l.rises.balance unclosed
+            | inr unclosed ↦ kept p w (w * q) (slice_index start.plan.caps t) (balance_of start past t) (balance_of start log t)
+                (collections_of (jobs past) t) next (pending_at start.plan past t) (pending_at start.plan log t) before l.rises.balance unclosed
           ];
     }

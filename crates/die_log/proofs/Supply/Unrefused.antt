@@ -24,12 +24,14 @@ use Rattle.die_log.specs.Work.{is_done, is_collecting}
 use Rattle.die_log.specs.Answers.{bad_page, first_standing, refusals, refusal_of, accepted, answer, IsAccepted, IsExact, with_answer}
 use Rattle.die_log.specs.Answers.{after_call}
 use Rattle.die_log.specs.Planned.{IsInTime, told, AreAccepted}
-use Rattle.die_log.specs.Supply.{collections_of}
+use Rattle.die_log.specs.Supply.{collections_of, AreStocked}
 use Rattle.die_log.proofs.Legality.{entry, accepted_answer}
 use Rattle.die_log.proofs.Runs.{call_exact}
 use Rattle.die_log.proofs.Supply.Following.{Follows, arrival_of, follows, collections_are, collections_due}
 use Rattle.die_log.proofs.Supply.RunningOn.{never_late}
 use Rattle.die_log.proofs.Supply.Along.{covers_next}
+use Rattle.die_log.specs.Start.{Start}
+use Rattle.die_log.specs.Opening.{IsOpening}
 
 -- where each condition is false, none stands
 none_stand : (cs : List (Bool × Refusal)) → AllByRecursion (λ c. c.0 ≡ false) cs → first_standing cs ≡ None
@@ -96,29 +98,29 @@ not_busy plan times past task f lt in_time multiple = none_found (λ j. j.collec
 
 -- Events
 
-pub unrefused : (plan : DiePlan) (times : Times) → MeetsBound plan → Passes plan times → (past : Log) (event : Event) (rest : List Event)
-    → IsExact plan past → KeepsPlan plan times (told past ++ event ∷ rest)
-    → refusal_of plan past event ≡ None
-unrefused plan times bound passes past (events.Submit task release due ops) rest exact keeps =
-    let n = (next_job plan times (told past) rest task release due ops keeps).planned in
-    let f = follows plan times past exact (events.Submit task release due ops ∷ rest) keeps in
-    let t = task_times plan times task passes.timed n.task in
-    none_stand (refusals plan past (events.Submit task release due ops)) (
-      lt-leb (length plan.caps) task n.task,
+pub unrefused : (start : Start) (times : Times) → IsOpening start → Passes start.plan times → AreStocked start times → (past : Log) (event : Event) (rest : List Event)
+    → IsExact start past → KeepsPlan start.plan times (told past ++ event ∷ rest)
+    → refusal_of start past event ≡ None
+unrefused start times bound passes stocked past (events.Submit task release due ops) rest exact keeps =
+    let n = (next_job start.plan times (told past) rest task release due ops keeps).planned in
+    let f = follows start times past exact (events.Submit task release due ops ∷ rest) keeps in
+    let t = task_times start.plan times task passes.timed n.task in
+    none_stand (refusals start past (events.Submit task release due ops)) (
+      lt-leb (length start.plan.caps) task n.task,
       (
         some_operations ops n.some,
         (
           not_above MAX_OPS (length ops) (omega (arith, n.few, t.few_work)),
           (
-            no_bad_page plan ops (recursion_from_All (λ op. page_of op < plan.logical) ops n.pages),
+            no_bad_page start.plan ops (recursion_from_All (λ op. page_of op < start.plan.logical) ops n.pages),
             (
               not_above release (now past) (omega (arith, n.comes, f.clock)),
               (
                 dates_fit release due (omega (arith, n.due, t.some_period)) n.due_limit,
                 (
-                  few_jobs plan times past f (next_fits plan times (told past) rest _ _ (events.Submit task release due ops) keeps refl),
+                  few_jobs start.plan times past f (next_fits start.plan times (told past) rest _ _ (events.Submit task release due ops) keeps refl),
                   (
-                    not_above _ (writes ops) (covers_next plan times bound passes past rest task release due ops exact keeps),
+                    not_above _ (writes ops) (covers_next start times bound passes stocked past rest task release due ops exact keeps),
                     tt,
                   ),
                 ),
@@ -128,61 +130,61 @@ unrefused plan times bound passes past (events.Submit task release due ops) rest
         ),
       ),
     )
-unrefused plan times bound passes past (events.Collect task release due) rest exact keeps =
-    let n = next_collection plan times (told past) rest task release due keeps in
-    let f = follows plan times past exact (events.Collect task release due ∷ rest) keeps in
-    let t = task_times plan times task passes.timed n.task in
+unrefused start times bound passes stocked past (events.Collect task release due) rest exact keeps =
+    let n = next_collection start.plan times (told past) rest task release due keeps in
+    let f = follows start times past exact (events.Collect task release due ∷ rest) keeps in
+    let t = task_times start.plan times task passes.timed n.task in
     let q : ℕ = (times_of times task).collect_period in
     let multiple : now past ≡ q * collections_of (jobs past) task = sym f.clock
-    ∙ ((at_multiple plan times (told past) rest task release due keeps (f.paced task n.task)).0
-    ∙ ap (λ m. q * m) (collections_are plan times past task f)) in
-    none_stand (refusals plan past (events.Collect task release due)) (
-      lt-leb (length plan.caps) task n.task,
+    ∙ ((at_multiple start.plan times (told past) rest task release due keeps (f.paced task n.task)).0
+    ∙ ap (λ m. q * m) (collections_are start.plan times past task f)) in
+    none_stand (refusals start past (events.Collect task release due)) (
+      lt-leb (length start.plan.caps) task n.task,
       (
         not_above release (now past) (omega (arith, n.comes, f.clock)),
         (
           dates_fit release due (omega (arith, n.due, t.some_collect_period)) (omega (arith, n.due, n.slot.due_limit)),
           (
-            not_busy plan times past task f n.task (never_late plan times bound passes past exact (events.Collect task release due ∷ rest)
+            not_busy start.plan times past task f n.task (never_late start times bound passes past exact (events.Collect task release due ∷ rest)
                 keeps) multiple,
             (
-              few_jobs plan times past f (next_fits plan times (told past) rest _ _ (events.Collect task release due) keeps refl),
+              few_jobs start.plan times past f (next_fits start.plan times (told past) rest _ _ (events.Collect task release due) keeps refl),
               tt,
             ),
           ),
         ),
       ),
     )
-unrefused plan times bound passes past events.Slot rest exact keeps =
-    let f = follows plan times past exact (events.Slot ∷ rest) keeps in
-    none_stand (refusals plan past events.Slot) (
+unrefused start times bound passes stocked past events.Slot rest exact keeps =
+    let f = follows start times past exact (events.Slot ∷ rest) keeps in
+    none_stand (refusals start past events.Slot) (
       lt-leb MAX_SLOT (now past)
-          (omega (arith, next_slot plan times (told past) rest keeps, f.clock)),
+          (omega (arith, next_slot start.plan times (told past) rest keeps, f.clock)),
       tt,
     )
 
 -- Runs
 
 -- an accepted event is answered by no refusal, and is an entry of the log
-pub entered : (plan : DiePlan) (past : Log) (caller : ℕ) (event : Event) → IsAccepted (accepted plan past event)
-    × (with_answer caller event (accepted plan past event) past ≡ entry caller event (accepted plan past event) ∷ past)
-entered plan past caller (events.Submit task release due ops) = (tt, refl)
-entered plan past caller (events.Collect task release due) = (tt, refl)
-entered plan past caller events.Slot = (tt, refl)
+pub entered : (start : Start) (past : Log) (caller : ℕ) (event : Event) → IsAccepted (accepted start past event)
+    × (with_answer caller event (accepted start past event) past ≡ entry caller event (accepted start past event) ∷ past)
+entered start past caller (events.Submit task release due ops) = (tt, refl)
+entered start past caller (events.Collect task release due) = (tt, refl)
+entered start past caller events.Slot = (tt, refl)
 
 -- none of the events that keep the plan is refused, from any moment on
-pub run_accepted : (plan : DiePlan) (times : Times) → MeetsBound plan → Passes plan times → (past : Log) (calls : List (ℕ × Event))
-    → IsExact plan past → KeepsPlan plan times (told past ++ map (λ call. call.1) calls)
-    → AreAccepted plan past calls
-run_accepted plan times bound passes past [] exact keeps = tt
-run_accepted plan times bound passes past (call ∷ calls) exact keeps =
-    let is : answer plan past call.1 ≡ accepted plan past call.1 = accepted_answer plan past call.1
-    (unrefused plan times bound passes past call.1 (map (λ c. c.1) calls) exact keeps) in
-    let more = entered plan past call.0 call.1 in
-    let next : after_call plan past call ≡ entry call.0 call.1 (accepted plan past call.1)
+pub run_accepted : (start : Start) (times : Times) → IsOpening start → Passes start.plan times → AreStocked start times → (past : Log) (calls : List (ℕ × Event))
+    → IsExact start past → KeepsPlan start.plan times (told past ++ map (λ call. call.1) calls)
+    → AreAccepted start past calls
+run_accepted start times bound passes stocked past [] exact keeps = tt
+run_accepted start times bound passes stocked past (call ∷ calls) exact keeps =
+    let is : answer start past call.1 ≡ accepted start past call.1 = accepted_answer start past call.1
+    (unrefused start times bound passes stocked past call.1 (map (λ c. c.1) calls) exact keeps) in
+    let more = entered start past call.0 call.1 in
+    let next : after_call start past call ≡ entry call.0 call.1 (accepted start past call.1)
     ∷ past = ap (λ r. with_answer call.0 call.1 r past) is ∙ more.1 in (
       subst IsAccepted (sym is) more.0,
-      run_accepted plan times bound passes (after_call plan past call) calls (call_exact plan past call exact)
-          (subst (λ l. KeepsPlan plan times (told l ++ map (λ c. c.1) calls)) (sym next)
-          (subst (KeepsPlan plan times) (sym (append_assoc (told past) (call.1 ∷ []) (map (λ c. c.1) calls))) keeps)),
+      run_accepted start times bound passes stocked (after_call start past call) calls (call_exact start past call exact)
+          (subst (λ l. KeepsPlan start.plan times (told l ++ map (λ c. c.1) calls)) (sym next)
+          (subst (KeepsPlan start.plan times) (sym (append_assoc (told past) (call.1 ∷ []) (map (λ c. c.1) calls))) keeps)),
     )

@@ -19,6 +19,8 @@ use Rattle.die_log.proofs.Legality.{entry, exact_induction}
 use Rattle.die_log.proofs.Known.{waived_is}
 use Rattle.die_log.proofs.Legal.Exact.{stands_well, well_served, chosen_is}
 use Rattle.die_log.proofs.Standing.Longer.{elsewhere}
+use Rattle.die_log.specs.Start.{Start}
+use Rattle.die_log.specs.Opening.{IsOpening}
 
 -- the number is of a collection
 abbrev IsCollection : Log → ℕ → Type 0
@@ -39,24 +41,24 @@ among_collections plan past earlier (w ∷ ws) a number (j, one, rest) is = elim
   | inr later ↦ among_collections plan past (earlier ++ w ∷ []) ws (moves.waived a j.task) number rest later
 ]
 
-pub waives_collections : (plan : DiePlan) → MeetsBound plan → (log : Log) → IsExact plan log → (number : ℕ) → is_waived log number ≡ true
+pub waives_collections : (start : Start) → IsOpening start → (log : Log) → IsExact start log → (number : ℕ) → is_waived log number ≡ true
     → (j : Job) × (job_at log number ≡ Some j) × (j.collects ≡ true)
-waives_collections plan bound = exact_induction plan WaivesCollections (λ number is. absurd cc) step
+waives_collections start bound = exact_induction start WaivesCollections (λ number is. absurd cc) step
   where
-    step : (past : Log) (caller : ℕ) (event : Event) → IsExact plan past → WaivesCollections past
-        → AllByRecursion (λ c. c.0 ≡ false) (refusals plan past event)
-        → WaivesCollections (entry caller event (accepted plan past event) ∷ past)
+    step : (past : Log) (caller : ℕ) (event : Event) → IsExact start past → WaivesCollections past
+        → AllByRecursion (λ c. c.0 ≡ false) (refusals start past event)
+        → WaivesCollections (entry caller event (accepted start past event) ∷ past)
     step past caller (events.Submit task release due ops) exact h none = λ number is. let c = h number is in
         (c.0, earlier_at (jobs past) _ number c.0 c.1, c.2)
     step past caller (events.Collect task release due) exact h none = λ number is. let c = h number is in
         (c.0, earlier_at (jobs past) _ number c.0 c.1, c.2)
     step past caller events.Slot exact h none = λ number is.
-        let c = choice plan past in
-        let ws = (slot_reply plan past c.waived c.head).waived in
-        let chosen = chosen_is plan past (well_served plan past bound (stands_well plan bound past exact)) in
+        let c = choice start past in
+        let ws = (slot_reply start past c.waived c.head).waived in
+        let chosen = chosen_is start past (well_served start past bound (stands_well start bound past exact)) in
         let either = sym (list_any-append (λ w. w.number == number) (waived past) ws) ∙ is in
         elim (or_cases (is_waived past number) (is_among number ws) either) [
           | inl before ↦ h number before
-          | inr now_waived ↦ among_collections plan past (waived past) c.waived (accounts plan past) number chosen.waivers
-              (sym (ap (is_among number) (waived_is plan past c.waived c.head)) ∙ now_waived)
+          | inr now_waived ↦ among_collections start.plan past (waived past) c.waived (accounts start past) number chosen.waivers
+              (sym (ap (is_among number) (waived_is start past c.waived c.head)) ∙ now_waived)
         ]

@@ -19,6 +19,8 @@ use Rattle.die_log.proofs.Tokens.Sums.{all_at}
 use Rattle.die_log.proofs.Tokens.Reserves.{few_free}
 use Rattle.die_log.proofs.Tokens.Slots.{agree_waivers}
 use Rattle.die_log.proofs.Tokens.Finding.{takable, victim_found}
+use Rattle.die_log.specs.Start.{Start}
+use Rattle.die_log.specs.Opening.{IsOpening}
 
 -- A collection that begins
 
@@ -38,16 +40,16 @@ too_few plan past a j e is fresh = elim (and_cases (j.collects && (work j.number
 ]
 
 -- a head that begins finds its block, which has so few placed pages that they fit its collector's reserve
-pub fresh_finds : (plan : DiePlan) (past : Log) (ws : List Waived) (j : Job) → MeetsBound plan → AreTrue plan past → CellsServe plan past
-    → AreWaivers plan past (waived past) (accounts plan past) ws
-    → Waits plan past (waived past ++ ws) j → is_waivable plan past (after_waivers past ws (accounts plan past)) j ≡ false → j.collects
+pub fresh_finds : (start : Start) (past : Log) (ws : List Waived) (j : Job) → IsOpening start → AreTrue start past → CellsServe start past
+    → AreWaivers start.plan past (waived past) (accounts start past) ws
+    → Waits start.plan past (waived past ++ ws) j → is_waivable start.plan past (after_waivers past ws (accounts start past)) j ≡ false → j.collects
     ≡ true → work j.number past ≡ 0
-    → (v : ℕ) × (victim plan past ≡ Some v) × (valid (cells plan past) v ≤ reserve_full plan)
-fresh_finds plan past ws j bound h c waivers waits unwaivable is fresh =
-    let a : Accounts = after_waivers past ws (accounts plan past) in
-    let few = few_free plan a _ _ (owed past) (free plan past)
-    (agree_waivers plan past (waived past) (accounts plan past) ws _ _ (owed past) (free plan past) h.taken h.agree waivers)
-    (too_few plan past a j unwaivable is fresh) in
-    let t = takable plan past j bound h c.sound waits.known (is_pending_if plan past j waits.ready is) fresh few
-    (λ i k e. (all_at (IsTaken plan) (jobs past) k i h.taken e).task) in
-    victim_found plan past t.0 t.1
+    → (v : ℕ) × (victim start past ≡ Some v) × (valid (cells start past) v ≤ reserve_full start.plan)
+fresh_finds start past ws j bound h c waivers waits unwaivable is fresh =
+    let a : Accounts = after_waivers past ws (accounts start past) in
+    let few = few_free start.plan a _ _ (owed past) (free start past)
+    (agree_waivers start past (waived past) (accounts start past) ws _ _ (owed past) (free start past) h.taken h.agree waivers)
+    (too_few start.plan past a j unwaivable is fresh) in
+    let t = takable start past j bound h c.sound waits.known (is_pending_if start.plan past j waits.ready is) fresh few
+    (λ i k e. (all_at (IsTaken start.plan) (jobs past) k i h.taken e).task) in
+    victim_found start past t.0 t.1

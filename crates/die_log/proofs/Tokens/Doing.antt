@@ -11,6 +11,7 @@ use Rattle.die_log.specs.Log.{Log, Job, acts, work}
 use Rattle.die_log.specs.Flash.{Cells, cells, valid_pages, content}
 use Rattle.die_log.specs.Answers.{act_for, act_of_op, collect_act, read_or_erase, is_placed_in, buffer_after, block_for}
 use Rattle.die_log.specs.Legal.{Does}
+use Rattle.die_log.specs.Start.{Start}
 
 -- an act of a collection
 abbrev pub IsOfCollection : Act → Type 0
@@ -45,18 +46,18 @@ collect_kind : (plan : DiePlan) (c : Cells) (buffer block : Option ℕ) (act : A
 collect_kind plan c buffer None act e = absurd cc
 collect_kind plan c buffer (Some b) act e = test_kind plan c _ b (is_placed_in c b buffer) act e
 
-op_kind : (plan : DiePlan) (past : Log) (o : Option Op) (act : Act) → act_of_op plan past o ≡ Some act → (op : Op) × (o ≡ Some op)
+op_kind : (start : Start) (past : Log) (o : Option Op) (act : Act) → act_of_op start past o ≡ Some act → (op : Op) × (o ≡ Some op)
     × Does op act
-op_kind plan past None act e = absurd cc
-op_kind plan past (Some (asks.Read page)) act e = (
+op_kind start past None act e = absurd cc
+op_kind start past (Some (asks.Read page)) act e = (
   asks.Read page,
   refl,
   subst (Does (asks.Read page))
-      (same_Some (does.Read page (content plan past page)) act e) refl,
+      (same_Some (does.Read page (content start past page)) act e) refl,
 )
-op_kind plan past (Some (asks.Write page bytes)) act e =
+op_kind start past (Some (asks.Write page bytes)) act e =
     (asks.Write page bytes, refl, subst (Does (asks.Write page bytes)) (same_Some (does.Write page bytes) act e) (refl, refl))
-op_kind plan past (Some (asks.Trim page)) act e = (
+op_kind start past (Some (asks.Trim page)) act e = (
   asks.Trim page,
   refl,
   subst (Does (asks.Trim page)) (same_Some (does.Trim page) act e)
@@ -70,17 +71,17 @@ job_act past j act is k = record { job = is; op = k.0; next = k.1; done = k.2 }
 abbrev pub buffer_of : DiePlan → Log → Job → Option ℕ
 buffer_of plan past j = buffer_after (last_or None (acts j.number past))
 
-by_collects : (plan : DiePlan) (past : Log) (j : Job) (act : Act) (b : Bool) → j.collects ≡ b
-    → cond b (collect_act plan (cells plan past) (buffer_of plan past j) (block_for plan past j))
-    (act_of_op plan past (slice_get j.ops (work j.number past))) ≡ Some act
+by_collects : (start : Start) (past : Log) (j : Job) (act : Act) (b : Bool) → j.collects ≡ b
+    → cond b (collect_act start.plan (cells start past) (buffer_of start.plan past j) (block_for start past j))
+    (act_of_op start past (slice_get j.ops (work j.number past))) ≡ Some act
     → IsJobAct past j act ⊎ IsCollectionAct j act
-by_collects plan past j act true is e = inr (record {
+by_collects start past j act true is e = inr (record {
   collection = is;
-  kind = collect_kind plan (cells plan past) (buffer_of plan past j)
-      (block_for plan past j) act e;
+  kind = collect_kind start.plan (cells start past) (buffer_of start.plan past j)
+      (block_for start past j) act e;
 })
-by_collects plan past j act false is e = inl (job_act past j act is (op_kind plan past (slice_get j.ops (work j.number past)) act e))
+by_collects start past j act false is e = inl (job_act past j act is (op_kind start past (slice_get j.ops (work j.number past)) act e))
 
-pub act_kind : (plan : DiePlan) (past : Log) (j : Job) (act : Act) → act_for plan past j ≡ Some act → IsJobAct past j act
+pub act_kind : (start : Start) (past : Log) (j : Job) (act : Act) → act_for start past j ≡ Some act → IsJobAct past j act
     ⊎ IsCollectionAct j act
-act_kind plan past j act e = by_collects plan past j act j.collects refl e
+act_kind start past j act e = by_collects start past j act j.collects refl e

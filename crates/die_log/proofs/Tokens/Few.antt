@@ -32,58 +32,60 @@ use Rattle.die_log.proofs.Tokens.Slots.{slot_waives, ran_acts, empty_if, IsTurn,
 use Rattle.die_log.proofs.Tokens.Turns.{turn_log, turn_copy}
 use Rattle.die_log.proofs.Tokens.Begins.{fresh_finds, is_pending_if}
 use Rattle.die_log.proofs.Tokens.Copying.{set_fewer, program_elsewhere, program_away, copy_is, IsPlacedAt, placed_at, some_valid}
+use Rattle.die_log.specs.Start.{Start}
+use Rattle.die_log.specs.Opening.{IsOpening}
 
 -- The act of a collection
 
-collect_of : (plan : DiePlan) (past : Log) (j : Job) (act : Act) → j.collects ≡ true → act_for plan past j ≡ Some act
-    → collect_act plan (cells plan past) (buffer_of plan past j) (block_for plan past j) ≡ Some act
-collect_of plan past j act is e = sym (ap (λ (t : Bool). cond t
-    (collect_act plan (cells plan past) (buffer_of plan past j) (block_for plan past j))
-    (act_of_op plan past (slice_get j.ops (work j.number past)))) is) ∙ e
+collect_of : (start : Start) (past : Log) (j : Job) (act : Act) → j.collects ≡ true → act_for start past j ≡ Some act
+    → collect_act start.plan (cells start past) (buffer_of start.plan past j) (block_for start past j) ≡ Some act
+collect_of start past j act is e = sym (ap (λ (t : Bool). cond t
+    (collect_act start.plan (cells start past) (buffer_of start.plan past j) (block_for start past j))
+    (act_of_op start past (slice_get j.ops (work j.number past)))) is) ∙ e
 
-begun_block : (plan : DiePlan) (past : Log) (j : Job) → 0 < work j.number past → block_for plan past j ≡ victim_of plan j.number past
-begun_block plan past j h = cond-false (work j.number past == 0) (victim plan past) (victim_of plan j.number past)
+begun_block : (start : Start) (past : Log) (j : Job) → 0 < work j.number past → block_for start past j ≡ victim_of start j.number past
+begun_block start past j h = cond-false (work j.number past == 0) (victim start past) (victim_of start j.number past)
     (ne_eqb (work j.number past) 0 (λ e. absurd (omega (arith, h, e))))
 
-fresh_block : (plan : DiePlan) (past : Log) (j : Job) → work j.number past ≡ 0 → block_for plan past j ≡ victim plan past
-fresh_block plan past j e = cond-true (work j.number past == 0) (victim plan past) (victim_of plan j.number past)
+fresh_block : (start : Start) (past : Log) (j : Job) → work j.number past ≡ 0 → block_for start past j ≡ victim start past
+fresh_block start past j e = cond-true (work j.number past == 0) (victim start past) (victim_of start j.number past)
     (eq-eqb (work j.number past) 0 e)
 
 -- without acts the buffer is empty
 fresh_buffer : (plan : DiePlan) (past : Log) (j : Job) → work j.number past ≡ 0 → buffer_of plan past j ≡ None
 fresh_buffer plan past j e = ap (λ (l : List Act). buffer_after (last_or None l)) (empty_if (acts j.number past) e)
 
-pub record IsCopy (plan : DiePlan) (past : Log) (j : Job) (page : ℕ) : Type 0 where
+pub record IsCopy (start : Start) (past : Log) (j : Job) (page : ℕ) : Type 0 where
   pub block : ℕ
-  pub victim_is : victim_of plan j.number past ≡ Some block
-  pub placed : IsPlacedAt (cells plan past) page block
+  pub victim_is : victim_of start j.number past ≡ Some block
+  pub placed : IsPlacedAt (cells start past) page block
 
 some_none : (page : ℕ) (o : Option ℕ) → o ≡ Some page → o ≡ None → ⊥
 some_none page None e h = absurd cc
 some_none page (Some p) e h = absurd cc
 
-pub copy_facts : (plan : DiePlan) (past : Log) (j : Job) (page : ℕ) → j.collects ≡ true → act_for plan past j ≡ Some (does.CopyProgram page)
-    → IsCopy plan past j page
-copy_facts plan past j page is e =
-    let c : Cells = cells plan past in
-    let buffer : Option ℕ = buffer_of plan past j in
-    let does_it = collect_of plan past j (does.CopyProgram page) is e in
-    let b = block_some plan c buffer (block_for plan past j) (does.CopyProgram page) does_it in
-    let k = copy_is plan c b.0 page buffer (sym (ap (λ o. collect_act plan c buffer o) b.1) ∙ does_it) in
+pub copy_facts : (start : Start) (past : Log) (j : Job) (page : ℕ) → j.collects ≡ true → act_for start past j ≡ Some (does.CopyProgram page)
+    → IsCopy start past j page
+copy_facts start past j page is e =
+    let c : Cells = cells start past in
+    let buffer : Option ℕ = buffer_of start.plan past j in
+    let does_it = collect_of start past j (does.CopyProgram page) is e in
+    let b = block_some start.plan c buffer (block_for start past j) (does.CopyProgram page) does_it in
+    let k = copy_is start.plan c b.0 page buffer (sym (ap (λ o. collect_act start.plan c buffer o) b.1) ∙ does_it) in
     let begun : 0 < work j.number past = elim (cases_lt 0 (work j.number past))
-    [ inl h ↦ h | inr h ↦ absurd (some_none page buffer k.0 (fresh_buffer plan past j (omega (arith, h)))) ] in
-    record { block = b.0; victim_is = sym (begun_block plan past j begun) ∙ b.1; placed = placed_at c page b.0 k.1 }
+    [ inl h ↦ h | inr h ↦ absurd (some_none page buffer k.0 (fresh_buffer start.plan past j (omega (arith, h)))) ] in
+    record { block = b.0; victim_is = sym (begun_block start past j begun) ∙ b.1; placed = placed_at c page b.0 k.1 }
 
 -- a copy finds the reserve above 0
-pub few_now : (plan : DiePlan) (past : Log) (j : Job) (page : ℕ) → FewCopies plan past → job_at past j.number ≡ Some j
-    → is_ready plan past j ≡ true → j.collects ≡ true → act_for plan past j ≡ Some (does.CopyProgram page)
-    → copied_of (λ n. acts n past) j < reserve_full plan
-few_now plan past j page few known ready is e =
-    let k = copy_facts plan past j page is e in
+pub few_now : (start : Start) (past : Log) (j : Job) (page : ℕ) → FewCopies start past → job_at past j.number ≡ Some j
+    → is_ready start.plan past j ≡ true → j.collects ≡ true → act_for start past j ≡ Some (does.CopyProgram page)
+    → copied_of (λ n. acts n past) j < reserve_full start.plan
+few_now start past j page few known ready is e =
+    let k = copy_facts start past j page is e in
     omega (
       arith,
-      few.few j k.block known (is_pending_if plan past j ready is) k.victim_is,
-      some_valid (cells plan past) page k.block
+      few.few j k.block known (is_pending_if start.plan past j ready is) k.victim_is,
+      some_valid (cells start past) page k.block
           k.placed,
     )
 
@@ -122,10 +124,10 @@ shown_first plan c b (page ∷ pages) e =
 -- A slot
 
 -- what is known of a slot in which a pending collection j does the act, besides its turn
-pub record MayShow (plan : DiePlan) (past : Log) (ws : List Waived) (j : Job) : Type 0 where
-  pub bound : MeetsBound plan
-  pub few_before : FewCopies plan past
-  pub unwaivable : is_waivable plan past (after_waivers past ws (accounts plan past)) j ≡ false
+pub record MayShow (start : Start) (past : Log) (ws : List Waived) (j : Job) : Type 0 where
+  pub bound : IsOpening start
+  pub few_before : FewCopies start past
+  pub unwaivable : is_waivable start.plan past (after_waivers past ws (accounts start past)) j ≡ false
 
 copies_more : (plan : DiePlan) (past : Log) (caller slot : ℕ) (ws : List Waived) (finished : Option ℕ) (j : Job) (act : Act)
     → copied_of (λ n. acts n (turn_log past caller slot ws finished j act)) j
@@ -135,142 +137,142 @@ copies_more plan past caller slot ws finished j act =
     ∙ sum_by_push (λ x. one_if (is_copy_program x)) (acts j.number past) act
 
 -- a begun collection keeps its block
-begun_shows : (plan : DiePlan) (past : Log) (number b : ℕ) (act : Option Act) (b' : ℕ) → victim_of plan number past ≡ Some b
-    → shown_by plan past (victim_of plan number past) act ≡ Some b' → b ≡ b'
-begun_shows plan past number b act b' e h = same_Some b b' (sym (ap (λ o. shown_by plan past o act) e) ∙ h)
+begun_shows : (start : Start) (past : Log) (number b : ℕ) (act : Option Act) (b' : ℕ) → victim_of start number past ≡ Some b
+    → shown_by start past (victim_of start number past) act ≡ Some b' → b ≡ b'
+begun_shows start past number b act b' e h = same_Some b b' (sym (ap (λ o. shown_by start past o act) e) ∙ h)
 
 -- an act that programs nothing: a begun collection keeps its block, and one that begins shows its victim
-pub still_few : (plan : DiePlan) (past : Log) (ws : List Waived) (j : Job) (act : Act) (b' : ℕ) → IsTurn plan past ws j act
-    → MayShow plan past ws j → j.collects ≡ true
-    → shown_by plan past (victim_of plan j.number past) (Some act) ≡ Some b' → copied_of (λ n. acts n past) j + valid (cells plan past) b'
-    ≤ reserve_full plan
-still_few plan past ws j act b' h m is shows = elim (cases_lt 0 (work j.number past)) [
+pub still_few : (start : Start) (past : Log) (ws : List Waived) (j : Job) (act : Act) (b' : ℕ) → IsTurn start past ws j act
+    → MayShow start past ws j → j.collects ≡ true
+    → shown_by start past (victim_of start j.number past) (Some act) ≡ Some b' → copied_of (λ n. acts n past) j + valid (cells start past) b'
+    ≤ reserve_full start.plan
+still_few start past ws j act b' h m is shows = elim (cases_lt 0 (work j.number past)) [
   | inl begun ↦
-      let c : Cells = cells plan past in
-      let b = block_some plan c (buffer_of plan past j) (block_for plan past j) act (collect_of plan past j act is h.does_it) in
-      let known : victim_of plan j.number past ≡ Some b.0 = sym (begun_block plan past j begun) ∙ b.1 in
-      let few = m.few_before.few j b.0 h.waits.known (was_pending plan past ws j act h is) known in
-      subst (λ n. copied_of (λ n. acts n past) j + valid (cells plan past) n ≤ reserve_full plan)
-      (begun_shows plan past j.number b.0 (Some act) b' known shows) few
+      let c : Cells = cells start past in
+      let b = block_some start.plan c (buffer_of start.plan past j) (block_for start past j) act (collect_of start past j act is h.does_it) in
+      let known : victim_of start j.number past ≡ Some b.0 = sym (begun_block start past j begun) ∙ b.1 in
+      let few = m.few_before.few j b.0 h.waits.known (was_pending start past ws j act h is) known in
+      subst (λ n. copied_of (λ n. acts n past) j + valid (cells start past) n ≤ reserve_full start.plan)
+      (begun_shows start past j.number b.0 (Some act) b' known shows) few
   | inr none ↦
       let fresh : work j.number past ≡ 0 = omega (arith, none) in
-      let c : Cells = cells plan past in
-      let v = fresh_finds plan past ws j m.bound h.true_before h.serve h.waivers h.waits m.unwaivable is fresh in
-      let block : block_for plan past j ≡ Some v.0 = fresh_block plan past j fresh ∙ v.1 in
-      let does_it : collect_act plan c None (Some v.0) ≡ Some act =
-      sym (ap (λ o. collect_act plan c (buffer_of plan past j) o) block
-      ∙ ap (λ o. collect_act plan c o (Some v.0)) (fresh_buffer plan past j fresh)) ∙ collect_of plan past j act is h.does_it in
-      let act_is : read_or_erase v.0 (valid_pages plan c v.0) ≡ act = same_Some (read_or_erase v.0 (valid_pages plan c v.0)) act does_it in
-      let here : shown_by plan past (victim_of plan j.number past) (Some act)
-      ≡ block_shown c act = ap (λ o. shown_by plan past o (Some act))
-      (no_victim plan j.number past (empty_if (acts j.number past) fresh)) in
-      let shown : block_shown c act ≡ Some v.0 = sym (ap (block_shown c) act_is) ∙ shown_first plan c v.0 (valid_pages plan c v.0) refl in
+      let c : Cells = cells start past in
+      let v = fresh_finds start past ws j m.bound h.true_before h.serve h.waivers h.waits m.unwaivable is fresh in
+      let block : block_for start past j ≡ Some v.0 = fresh_block start past j fresh ∙ v.1 in
+      let does_it : collect_act start.plan c None (Some v.0) ≡ Some act =
+      sym (ap (λ o. collect_act start.plan c (buffer_of start.plan past j) o) block
+      ∙ ap (λ o. collect_act start.plan c o (Some v.0)) (fresh_buffer start.plan past j fresh)) ∙ collect_of start past j act is h.does_it in
+      let act_is : read_or_erase v.0 (valid_pages start.plan c v.0) ≡ act = same_Some (read_or_erase v.0 (valid_pages start.plan c v.0)) act does_it in
+      let here : shown_by start past (victim_of start j.number past) (Some act)
+      ≡ block_shown c act = ap (λ o. shown_by start past o (Some act))
+      (no_victim start j.number past (empty_if (acts j.number past) fresh)) in
+      let shown : block_shown c act ≡ Some v.0 = sym (ap (block_shown c) act_is) ∙ shown_first start.plan c v.0 (valid_pages start.plan c v.0) refl in
       let same : v.0 ≡ b' = same_Some v.0 b' (sym shown ∙ (sym here ∙ shows)) in
       let nothing : copied_of (λ n. acts n past) j ≡ 0 = ap (λ (l : List Act). count_by is_copy_program l)
       (empty_if (acts j.number past) fresh) in
-      subst (λ n. copied_of (λ n. acts n past) j + valid (cells plan past) n ≤ reserve_full plan) same (omega (arith, nothing, v.2))
+      subst (λ n. copied_of (λ n. acts n past) j + valid (cells start past) n ≤ reserve_full start.plan) same (omega (arith, nothing, v.2))
 ]
 
 -- the collection that has its turn
-few_own : (plan : DiePlan) (past : Log) (caller slot : ℕ) (ws : List Waived) (finished : Option ℕ) (j : Job) (act : Act) (b' : ℕ)
-    → IsTurn plan past ws j act → MayShow plan past ws j → j.collects ≡ true → IsOfCollection act
-    → shown_by plan past (victim_of plan j.number past) (Some act) ≡ Some b'
+few_own : (start : Start) (past : Log) (caller slot : ℕ) (ws : List Waived) (finished : Option ℕ) (j : Job) (act : Act) (b' : ℕ)
+    → IsTurn start past ws j act → MayShow start past ws j → j.collects ≡ true → IsOfCollection act
+    → shown_by start past (victim_of start j.number past) (Some act) ≡ Some b'
     → copied_of (λ n. acts n (turn_log past caller slot ws finished j act)) j + valid
-    (cells plan (turn_log past caller slot ws finished j act)) b' ≤ reserve_full plan
-few_own plan past caller slot ws finished j (does.Read page bytes) b' h m is kind shows = absurd kind
-few_own plan past caller slot ws finished j (does.Write page bytes) b' h m is kind shows = absurd kind
-few_own plan past caller slot ws finished j (does.Trim page) b' h m is kind shows = absurd kind
-few_own plan past caller slot ws finished j (does.CopyRead page) b' h m is kind shows =
+    (cells start (turn_log past caller slot ws finished j act)) b' ≤ reserve_full start.plan
+few_own start past caller slot ws finished j (does.Read page bytes) b' h m is kind shows = absurd kind
+few_own start past caller slot ws finished j (does.Write page bytes) b' h m is kind shows = absurd kind
+few_own start past caller slot ws finished j (does.Trim page) b' h m is kind shows = absurd kind
+few_own start past caller slot ws finished j (does.CopyRead page) b' h m is kind shows =
     omega (
       arith,
-      copies_more plan past caller slot ws finished j (does.CopyRead page),
-      still_few plan past ws j (does.CopyRead page) b' h m
+      copies_more start.plan past caller slot ws finished j (does.CopyRead page),
+      still_few start past ws j (does.CopyRead page) b' h m
           is shows,
     )
-few_own plan past caller slot ws finished j (does.Erase block) b' h m is kind shows =
+few_own start past caller slot ws finished j (does.Erase block) b' h m is kind shows =
     omega (
       arith,
-      copies_more plan past caller slot ws finished j (does.Erase block),
-      still_few plan past ws j (does.Erase block) b' h m is
+      copies_more start.plan past caller slot ws finished j (does.Erase block),
+      still_few start past ws j (does.Erase block) b' h m is
           shows,
     )
-few_own plan past caller slot ws finished j (does.CopyProgram page) b' h m is kind shows =
-    let c : Cells = cells plan past in
-    let k = copy_facts plan past j page is h.does_it in
-    let same : k.block ≡ b' = begun_shows plan past j.number k.block (Some (does.CopyProgram page)) b' k.victim_is shows in
-    let pending_now = was_pending plan past ws j (does.CopyProgram page) h is in
-    let o = opens plan c (turn_copy plan past caller slot ws finished j page m.bound h is).1 in
-    let away = program_away plan c page k.block o.0 k.placed.place (omega (arith, m.bound.shape.some_pages)) h.serve.sound
+few_own start past caller slot ws finished j (does.CopyProgram page) b' h m is kind shows =
+    let c : Cells = cells start past in
+    let k = copy_facts start past j page is h.does_it in
+    let same : k.block ≡ b' = begun_shows start past j.number k.block (Some (does.CopyProgram page)) b' k.victim_is shows in
+    let pending_now = was_pending start past ws j (does.CopyProgram page) h is in
+    let o = opens start.plan c (turn_copy start past caller slot ws finished j page m.bound h is).1 in
+    let away = program_away start.plan c page k.block o.0 k.placed.place (omega (arith, m.bound.bound.shape.some_pages)) h.serve.sound
     (h.serve.victims_full j k.block h.waits.known pending_now k.victim_is) o.1 k.placed.stands k.placed.inside in
     subst (λ n. copied_of (λ n. acts n (turn_log past caller slot ws finished j (does.CopyProgram page))) j + valid
-    (cells plan (turn_log past caller slot ws finished j (does.CopyProgram page))) n ≤ reserve_full plan) same
+    (cells start (turn_log past caller slot ws finished j (does.CopyProgram page))) n ≤ reserve_full start.plan) same
     (omega (
       arith,
-      copies_more plan past caller slot ws finished j (does.CopyProgram page),
+      copies_more start.plan past caller slot ws finished j (does.CopyProgram page),
       m.few_before.few j k.block h.waits.known
           pending_now k.victim_is,
       away,
     ))
 
 -- no act places a page in a closed block
-pub valid_less : (plan : DiePlan) (past : Log) (caller slot : ℕ) (ws : List Waived) (finished : Option ℕ) (j : Job) (act : Act) (b : ℕ)
-    → MeetsBound plan → IsTurn plan past ws j act → (block_at (cells plan past) b).filled ≡ plan.shape.pages
-    → valid (cells plan (turn_log past caller slot ws finished j act)) b ≤ valid (cells plan past) b
-valid_less plan past caller slot ws finished j (does.Read page bytes) b bound h closed = omega arith
-valid_less plan past caller slot ws finished j (does.Write page bytes) b bound h closed = program_elsewhere plan (cells plan past) page b
-    (omega (arith, bound.shape.some_pages)) h.serve.sound closed
-valid_less plan past caller slot ws finished j (does.Trim page) b bound h closed = set_fewer (cells plan past).places page b None refl
-valid_less plan past caller slot ws finished j (does.CopyRead page) b bound h closed = omega arith
-valid_less plan past caller slot ws finished j (does.CopyProgram page) b bound h closed = program_elsewhere plan (cells plan past) page b
-    (omega (arith, bound.shape.some_pages)) h.serve.sound closed
-valid_less plan past caller slot ws finished j (does.Erase block) b bound h closed = omega arith
+pub valid_less : (start : Start) (past : Log) (caller slot : ℕ) (ws : List Waived) (finished : Option ℕ) (j : Job) (act : Act) (b : ℕ)
+    → IsOpening start → IsTurn start past ws j act → (block_at (cells start past) b).filled ≡ start.plan.shape.pages
+    → valid (cells start (turn_log past caller slot ws finished j act)) b ≤ valid (cells start past) b
+valid_less start past caller slot ws finished j (does.Read page bytes) b bound h closed = omega arith
+valid_less start past caller slot ws finished j (does.Write page bytes) b bound h closed = program_elsewhere start.plan (cells start past) page b
+    (omega (arith, bound.bound.shape.some_pages)) h.serve.sound closed
+valid_less start past caller slot ws finished j (does.Trim page) b bound h closed = set_fewer (cells start past).places page b None refl
+valid_less start past caller slot ws finished j (does.CopyRead page) b bound h closed = omega arith
+valid_less start past caller slot ws finished j (does.CopyProgram page) b bound h closed = program_elsewhere start.plan (cells start past) page b
+    (omega (arith, bound.bound.shape.some_pages)) h.serve.sound closed
+valid_less start past caller slot ws finished j (does.Erase block) b bound h closed = omega arith
 
-own_kind : (plan : DiePlan) (past : Log) (j : Job) (act : Act) → j.collects ≡ true → act_for plan past j ≡ Some act → IsOfCollection act
-own_kind plan past j act is e = elim (act_kind plan past j act e) [
+own_kind : (start : Start) (past : Log) (j : Job) (act : Act) → j.collects ≡ true → act_for start past j ≡ Some act → IsOfCollection act
+own_kind start past j act is e = elim (act_kind start past j act e) [
   | inl k ↦ absurd (true≢false (sym is ∙ k.job))
   | inr k ↦ k.kind
 ]
 
 -- a slot in which the head does an act keeps the copies few
-pub few_turn : (plan : DiePlan) (past : Log) (caller slot : ℕ) (ws : List Waived) (finished : Option ℕ) (j : Job) (act : Act)
-    → IsTurn plan past ws j act → MayShow plan past ws j → FewCopies plan (turn_log past caller slot ws finished j act)
-few_turn plan past caller slot ws finished j act h m = record { few = each }
+pub few_turn : (start : Start) (past : Log) (caller slot : ℕ) (ws : List Waived) (finished : Option ℕ) (j : Job) (act : Act)
+    → IsTurn start past ws j act → MayShow start past ws j → FewCopies start (turn_log past caller slot ws finished j act)
+few_turn start past caller slot ws finished j act h m = record { few = each }
   where
     each : (i : Job) (b : ℕ) → job_at past i.number ≡ Some i
-        → is_pending plan (λ n. acts n (turn_log past caller slot ws finished j act))
+        → is_pending start.plan (λ n. acts n (turn_log past caller slot ws finished j act))
         (is_waived (turn_log past caller slot ws finished j act)) i ≡ true
-        → victim_of plan i.number (turn_log past caller slot ws finished j act) ≡ Some b
+        → victim_of start i.number (turn_log past caller slot ws finished j act) ≡ Some b
         → copied_of (λ n. acts n (turn_log past caller slot ws finished j act)) i + valid
-        (cells plan (turn_log past caller slot ws finished j act)) b ≤ reserve_full plan
+        (cells start (turn_log past caller slot ws finished j act)) b ≤ reserve_full start.plan
     each i b known is shows =
         let log : Log = turn_log past caller slot ws finished j act in
         let a = ran_acts caller slot ws finished past j.number act in
         elim (cases_eq i.number j.number) [
           | inl e ↦
               let same : j ≡ i = same_Some j i (sym h.waits.known ∙ (ap (λ n. job_at past n) (sym e) ∙ known)) in
-              let of_i : i.collects ≡ true = (and_parts i.collects (not (are_all plan i (acts i.number log)))
-              (and_parts (i.collects && not (are_all plan i (acts i.number log))) (not (is_waived log i.number)) is).0).0 in
+              let of_i : i.collects ≡ true = (and_parts i.collects (not (are_all start.plan i (acts i.number log)))
+              (and_parts (i.collects && not (are_all start.plan i (acts i.number log))) (not (is_waived log i.number)) is).0).0 in
               let of_j : j.collects ≡ true = ap (λ (x : Job). x.collects) same ∙ of_i in
-              let shown : shown_by plan past (victim_of plan j.number past) (Some act)
-              ≡ Some b = ap (λ o. shown_by plan past (victim_of plan j.number past) o) (sym (act_own j.number act))
-              ∙ (ap (λ (x : Job). victim_of plan x.number log) same ∙ shows) in
-              subst (λ (x : Job). copied_of (λ n. acts n log) x + valid (cells plan log) b ≤ reserve_full plan) same
-              (few_own plan past caller slot ws finished j act b h m of_j (own_kind plan past j act of_j h.does_it) shown)
+              let shown : shown_by start past (victim_of start j.number past) (Some act)
+              ≡ Some b = ap (λ o. shown_by start past (victim_of start j.number past) o) (sym (act_own j.number act))
+              ∙ (ap (λ (x : Job). victim_of start x.number log) same ∙ shows) in
+              subst (λ (x : Job). copied_of (λ n. acts n log) x + valid (cells start log) b ≤ reserve_full start.plan) same
+              (few_own start past caller slot ws finished j act b h m of_j (own_kind start past j act of_j h.does_it) shown)
           | inr apart ↦
-              let w = slot_waives plan caller slot ws (Some (j.number, act)) finished past h.serve.numbered h.waivers in
-              let was = pending_other plan (λ n. acts n past) (λ n. acts n log) (is_waived past) (is_waived log) (λ n. is_among n ws) i w
+              let w = slot_waives start caller slot ws (Some (j.number, act)) finished past h.serve.numbered h.waivers in
+              let was = pending_other start.plan (λ n. acts n past) (λ n. acts n log) (is_waived past) (is_waived log) (λ n. is_among n ws) i w
               (a.other i.number apart) is in
               let none : act_of i.number (Some (j.number, act))
               ≡ None = cond-false (j.number == i.number) (Some act) None (ne_eqb j.number i.number (λ e. apart (sym e))) in
-              let before : victim_of plan i.number past ≡ Some b = sym
-              (shown_other plan past (victim_of plan i.number past) (act_of i.number (Some (j.number, act))) none) ∙ shows in
+              let before : victim_of start i.number past ≡ Some b = sym
+              (shown_other start past (victim_of start i.number past) (act_of i.number (Some (j.number, act))) none) ∙ shows in
               let copied : copied_of (λ n. acts n past) i
               ≡ copied_of (λ n. acts n log) i = ap (λ (l : List Act). count_by is_copy_program l) (a.other i.number apart) in
               omega (
                 arith,
                 copied,
                 m.few_before.few i b known was before,
-                valid_less plan past caller slot ws finished j act b m.bound h
+                valid_less start past caller slot ws finished j act b m.bound h
                     (h.serve.victims_full i b known was before),
               )
         ]

@@ -1,15 +1,17 @@
 -- The accounts of a die without a call.
-use Rattle.std.proofs.Common.{◌≡◌, ℕ, ◌*◌, List, [], length, get_or, replicate, refl, ap, ◌∙◌, inl, inr, arith}
+use Rattle.std.proofs.Common.{◌≡◌, ℕ, ◌*◌, List, [], length, get_or, replicate, sum_by, refl, ap, ◌∙◌, inl, inr, arith}
 use Rattle.std.proofs.lemmas.List.Folds.{sum_by-replicate}
 use Rattle.std.proofs.lemmas.Bool.{cases_lt}
 use Rattle.std.proofs.lemmas.List.{length-replicate, get_or-replicate, get_or_past}
 use Rattle.slot_types.specs.declared.plans.DiePlan.{DiePlan}
 use Rattle.plan_rules.specs.Bound.{MeetsBound}
-use Rattle.die_log.specs.Flash.{free, free_in, free_block}
+use Rattle.die_log.specs.Flash.{free_in, free_block, fresh_cells}
 use Rattle.plan_rules.specs.Accounts.{opening}
 use Rattle.plan_rules.proofs.Totals.{room}
 use Rattle.die_log.specs.Held.{Agree, reserve_full}
 use Rattle.die_log.specs.Held.{AreTrue}
+use Rattle.die_log.specs.Start.{Start}
+use Rattle.die_log.specs.Opening.{IsOpening}
 
 abbrev pub zeros : ℕ → List ℕ
 zeros n = replicate n 0
@@ -20,10 +22,10 @@ none_at n i = elim (cases_lt i n) [
   | inr past ↦ get_or_past (zeros n) i 0 (omega (arith, past, length-replicate {A = ℕ} n 0))
 ]
 
-all_free : (plan : DiePlan) → free plan [] ≡ plan.shape.blocks * plan.shape.pages
+all_free : (plan : DiePlan) → sum_by (free_in plan) (fresh_cells plan).blocks ≡ plan.shape.blocks * plan.shape.pages
 all_free plan = sum_by-replicate (free_in plan) plan.shape.blocks free_block ∙ ap (λ n. plan.shape.blocks * n) (omega arith)
 
-pub agree_opening : (plan : DiePlan) → MeetsBound plan → Agree plan (opening plan) (λ t. 0) (λ t. 0) 0 (free plan [])
+pub agree_opening : (plan : DiePlan) → MeetsBound plan → Agree plan (opening plan) (λ t. 0) (λ t. 0) 0 (sum_by (free_in plan) (fresh_cells plan).blocks)
 agree_opening plan bound =
     let tasks : ℕ = length plan.caps in
     record {
@@ -44,9 +46,9 @@ agree_opening plan bound =
       );
     }
 
-pub true_opening : (plan : DiePlan) → MeetsBound plan → AreTrue plan []
-true_opening plan bound = record {
-  agree = agree_opening plan bound;
+pub true_opening : (start : Start) → IsOpening start → AreTrue start []
+true_opening start bound = record {
+  agree = bound.agree;
   taken = tt;
   one_each = λ t. omega arith;
   idle_waived = λ n e. absurd cc;

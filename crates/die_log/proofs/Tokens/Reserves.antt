@@ -12,30 +12,31 @@ use Rattle.die_log.specs.Held.{at_task, is_pending, copied_of, lent_of, pending_
 use Rattle.die_log.proofs.Tokens.Sums.{sum_none, lent_alone, not_pending}
 use Rattle.die_log.proofs.Tokens.Amounts.{sum_le}
 use Rattle.plan_rules.proofs.Totals.{sums_le}
+use Rattle.die_log.specs.Start.{Start}
 
 -- while a collection of a task is neither done nor waived, its collector's reserve lacks what it copied
-pub reserve_lacks : (plan : DiePlan) (log : Log) (j : Job) → AreTrue plan log → job_at log j.number ≡ Some j → j.task < length plan.caps
-    → is_pending plan (λ n. acts n log) (is_waived log) j ≡ true
-    → get_or (accounts plan log).reserves j.task 0 + copied_of (λ n. acts n log) j ≡ reserve_full plan
-reserve_lacks plan log j h known within is =
+pub reserve_lacks : (start : Start) (log : Log) (j : Job) → AreTrue start log → job_at log j.number ≡ Some j → j.task < length start.plan.caps
+    → is_pending start.plan (λ n. acts n log) (is_waived log) j ≡ true
+    → get_or (accounts start log).reserves j.task 0 + copied_of (λ n. acts n log) j ≡ reserve_full start.plan
+reserve_lacks start log j h known within is =
     omega (
       arith,
       h.agree.reserves_are j.task within,
-      lent_alone plan (λ n. acts n log) (is_waived log) (jobs log) j.number j
+      lent_alone start.plan (λ n. acts n log) (is_waived log) (jobs log) j.number j
           (h.one_each j.task) known is,
     )
 
 -- and without one it is full
-pub reserve_is_full : (plan : DiePlan) (log : Log) (task : ℕ) → AreTrue plan log → task < length plan.caps
-    → pending_of plan (λ n. acts n log) (is_waived log) (jobs log) task ≡ 0
-    → get_or (accounts plan log).reserves task 0 ≡ reserve_full plan
-reserve_is_full plan log task h within none =
+pub reserve_is_full : (start : Start) (log : Log) (task : ℕ) → AreTrue start log → task < length start.plan.caps
+    → pending_of start.plan (λ n. acts n log) (is_waived log) (jobs log) task ≡ 0
+    → get_or (accounts start log).reserves task 0 ≡ reserve_full start.plan
+reserve_is_full start log task h within none =
     omega (
       arith,
       h.agree.reserves_are task within,
-      sum_none (λ i. (i.task == task) && is_pending plan (λ n. acts n log) (is_waived log) i)
-          (λ i. at_task i.task (lent_of plan (λ n. acts n log) (is_waived log) i) task) (jobs log) (omega (arith, none))
-          (λ i e. not_pending (i.task == task) (is_pending plan (λ n. acts n log) (is_waived log) i) (copied_of (λ n. acts n log) i) e),
+      sum_none (λ i. (i.task == task) && is_pending start.plan (λ n. acts n log) (is_waived log) i)
+          (λ i. at_task i.task (lent_of start.plan (λ n. acts n log) (is_waived log) i) task) (jobs log) (omega (arith, none))
+          (λ i e. not_pending (i.task == task) (is_pending start.plan (λ n. acts n log) (is_waived log) i) (copied_of (λ n. acts n log) i) e),
     )
 
 -- while few pages are spare, few are free

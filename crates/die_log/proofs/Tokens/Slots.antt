@@ -28,19 +28,20 @@ use Rattle.die_log.specs.Held.{left_of, held_of, is_pending, lent_to, IsTaken, A
 use Rattle.die_log.proofs.Tokens.Sums.{all_at, held_same, sum_same}
 use Rattle.die_log.proofs.Tokens.Moves.{agree_same, agree_waived}
 use Rattle.die_log.proofs.Tokens.Changes.{Waives, Acts, lent_idle, pending_idle, pending_after}
+use Rattle.die_log.specs.Start.{Start}
 
 -- Waivers
 
-pub agree_waivers : (plan : DiePlan) (past : Log) (earlier : List Waived) (a : Accounts) (ws : List Waived) (held lent : ℕ → ℕ)
-    (owed free : ℕ) → AllByRecursion (IsTaken plan) (jobs past)
-    → Agree plan a held lent owed free → AreWaivers plan past earlier a ws → Agree plan (after_waivers past ws a) held lent owed free
-agree_waivers plan past earlier a [] held lent owed free taken g h = g
-agree_waivers plan past earlier a (w ∷ ws) held lent owed free taken g (j, is, rest) =
+pub agree_waivers : (start : Start) (past : Log) (earlier : List Waived) (a : Accounts) (ws : List Waived) (held lent : ℕ → ℕ)
+    (owed free : ℕ) → AllByRecursion (IsTaken start.plan) (jobs past)
+    → Agree start.plan a held lent owed free → AreWaivers start.plan past earlier a ws → Agree start.plan (after_waivers past ws a) held lent owed free
+agree_waivers start past earlier a [] held lent owed free taken g h = g
+agree_waivers start past earlier a (w ∷ ws) held lent owed free taken g (j, is, rest) =
     let next : after_waiver (job_at past w.number) a ≡ moves.waived a j.task = ap (λ o. after_waiver o a) is.known in
-    let within : j.task < length plan.caps = (all_at (IsTaken plan) (jobs past) w.number j taken is.known).task in
-    subst (λ b. Agree plan (after_waivers past ws b) held lent owed free) (sym next) (
-    agree_waivers plan past (earlier ++ w ∷ []) (moves.waived a j.task) ws held lent owed free taken
-    (agree_waived plan a held lent owed free j.task g within is.spare) rest
+    let within : j.task < length start.plan.caps = (all_at (IsTaken start.plan) (jobs past) w.number j taken is.known).task in
+    subst (λ b. Agree start.plan (after_waivers past ws b) held lent owed free) (sym next) (
+    agree_waivers start past (earlier ++ w ∷ []) (moves.waived a j.task) ws held lent owed free taken
+    (agree_waived start.plan a held lent owed free j.task g within is.spare) rest
     )
 
 pub empty_if : {X : Type 0} (xs : List X) → length xs ≡ 0 → xs ≡ []
@@ -93,13 +94,13 @@ ran_acts caller slot ws finished past number act =
           ∙ ap (λ (l : List Act). acts number past ++ l) (one_listed number c (Some act) here);
     }
 
-pub slot_waives : (plan : DiePlan) (caller slot : ℕ) (ws : List Waived) (ran : Carried) (finished : Option ℕ) (past : Log)
+pub slot_waives : (start : Start) (caller slot : ℕ) (ws : List Waived) (ran : Carried) (finished : Option ℕ) (past : Log)
     → ((k : ℕ) (j : Job) → job_at past k ≡ Some j → j.number ≡ k)
-    → AreWaivers plan past (waived past) (accounts plan past) ws
+    → AreWaivers start.plan past (waived past) (accounts start past) ws
     → Waives (λ n. acts n past) (is_waived past) (is_waived (slot_entry caller slot ws ran finished ∷ past)) (λ n. is_among n ws)
-slot_waives plan caller slot ws ran finished past numbered h = record {
+slot_waives start caller slot ws ran finished past numbered h = record {
   gone_is = λ n. list_any-append (λ w. w.number == n) (waived past) ws;
-  idle = λ n. waived_idle plan past (waived past) (accounts plan past) ws n numbered h;
+  idle = λ n. waived_idle start.plan past (waived past) (accounts start past) ws n numbered h;
 }
 
 waived_empty : (own : ℕ → List Act) (gone gone' am : ℕ → Bool) → Waives own gone gone' am → ((n : ℕ) → gone n ≡ true → own n ≡ []) → (n : ℕ)
@@ -110,22 +111,22 @@ waived_empty own gone gone' am w before n e = elim (or_cases (gone n) (am n) (sy
 ]
 
 -- a slot that carries nothing
-pub keeps_idle : (plan : DiePlan) (past : Log) (caller slot : ℕ) (ws : List Waived) (finished : Option ℕ) → AreTrue plan past
-    → CellsServe plan past
-    → AreWaivers plan past (waived past) (accounts plan past) ws → AreTrue plan (slot_entry caller slot ws None finished ∷ past)
-keeps_idle plan past caller slot ws finished h c are =
+pub keeps_idle : (start : Start) (past : Log) (caller slot : ℕ) (ws : List Waived) (finished : Option ℕ) → AreTrue start past
+    → CellsServe start past
+    → AreWaivers start.plan past (waived past) (accounts start past) ws → AreTrue start (slot_entry caller slot ws None finished ∷ past)
+keeps_idle start past caller slot ws finished h c are =
     let log : Log = slot_entry caller slot ws None finished ∷ past in
     let own : ℕ → List Act = λ n. acts n past in
     let own' : ℕ → List Act = λ n. acts n log in
-    let w = slot_waives plan caller slot ws None finished past c.numbered are in
+    let w = slot_waives start caller slot ws None finished past c.numbered are in
     let same = idle_acts caller slot ws finished past in
     record {
-      agree = agree_same plan (after_waivers past ws (accounts plan past)) (held_of own (jobs past))
-          (lent_to plan own (is_waived past) (jobs past)) (held_of own' (jobs past)) (lent_to plan own' (is_waived log) (jobs past))
-          (owed past) (free plan past) (owed log) (free plan log)
-          (agree_waivers plan past (waived past) (accounts plan past) ws _ _ (owed past) (free plan past) h.taken h.agree are)
+      agree = agree_same start.plan (after_waivers past ws (accounts start past)) (held_of own (jobs past))
+          (lent_to start.plan own (is_waived past) (jobs past)) (held_of own' (jobs past)) (lent_to start.plan own' (is_waived log) (jobs past))
+          (owed past) (free start past) (owed log) (free start log)
+          (agree_waivers start past (waived past) (accounts start past) ws _ _ (owed past) (free start past) h.taken h.agree are)
           (held_same own own' (jobs past) (λ k i e. ap (λ (l : List Act). writes (drop (length l) i.ops)) (same i.number)))
-          (lent_idle plan own own' (is_waived past) (is_waived log) (λ n. is_among n ws) (jobs past) w same)
+          (lent_idle start.plan own own' (is_waived past) (is_waived log) (λ n. is_among n ws) (jobs past) w same)
           (sum_same (left_of own) (left_of own') (jobs past)
           (λ k i e. ap (λ (l : List Act). writes (drop (length l) i.ops)) (same i.number)))
           refl;
@@ -133,7 +134,7 @@ keeps_idle plan past caller slot ws finished h c are =
       one_each = λ t. omega (
         arith,
         h.one_each t,
-        pending_idle plan own own' (is_waived past) (is_waived log) (λ n. is_among n ws)
+        pending_idle start.plan own own' (is_waived past) (is_waived log) (λ n. is_among n ws)
             (jobs past) w same t,
       );
       idle_waived = λ n e. sym (same n) ∙ waived_empty (λ n. acts n past) (is_waived past) (is_waived log) (λ n. is_among n ws) w
@@ -143,61 +144,61 @@ keeps_idle plan past caller slot ws finished h c are =
 -- The head
 
 -- what is known of a slot in which j does the act
-pub record IsTurn (plan : DiePlan) (past : Log) (ws : List Waived) (j : Job) (act : Act) : Type 0 where
-  pub true_before : AreTrue plan past
-  pub serve : CellsServe plan past
-  pub waivers : AreWaivers plan past (waived past) (accounts plan past) ws
-  pub waits : Waits plan past (waived past ++ ws) j
-  pub does_it : act_for plan past j ≡ Some act
+pub record IsTurn (start : Start) (past : Log) (ws : List Waived) (j : Job) (act : Act) : Type 0 where
+  pub true_before : AreTrue start past
+  pub serve : CellsServe start past
+  pub waivers : AreWaivers start.plan past (waived past) (accounts start past) ws
+  pub waits : Waits start.plan past (waived past ++ ws) j
+  pub does_it : act_for start past j ≡ Some act
 
-pub is_undone : (plan : DiePlan) (past : Log) (ws : List Waived) (j : Job) (act : Act) → IsTurn plan past ws j act
-    → not (is_done plan past j) ≡ true
-is_undone plan past ws j act h =
-    let ready = and_parts (nat_le j.release (now past) && not (is_done plan past j)) (not (is_waived past j.number)) h.waits.ready in
-    (and_parts (nat_le j.release (now past)) (not (is_done plan past j)) ready.0).1
+pub is_undone : (start : Start) (past : Log) (ws : List Waived) (j : Job) (act : Act) → IsTurn start past ws j act
+    → not (is_done start.plan past j) ≡ true
+is_undone start past ws j act h =
+    let ready = and_parts (nat_le j.release (now past) && not (is_done start.plan past j)) (not (is_waived past j.number)) h.waits.ready in
+    (and_parts (nat_le j.release (now past)) (not (is_done start.plan past j)) ready.0).1
 
-is_unwaived : (plan : DiePlan) (past : Log) (ws : List Waived) (j : Job) (act : Act) → IsTurn plan past ws j act
+is_unwaived : (start : Start) (past : Log) (ws : List Waived) (j : Job) (act : Act) → IsTurn start past ws j act
     → not (is_waived past j.number) ≡ true
-is_unwaived plan past ws j act h = (and_parts (nat_le j.release (now past) && not (is_done plan past j)) (not (is_waived past j.number))
+is_unwaived start past ws j act h = (and_parts (nat_le j.release (now past) && not (is_done start.plan past j)) (not (is_waived past j.number))
     h.waits.ready).1
 
-pub was_pending : (plan : DiePlan) (past : Log) (ws : List Waived) (j : Job) (act : Act) → IsTurn plan past ws j act → j.collects ≡ true
-    → is_pending plan (λ n. acts n past) (is_waived past) j ≡ true
-was_pending plan past ws j act h is =
-    and_from (j.collects && not (is_done plan past j)) (not (is_waived past j.number))
-    (and_from j.collects (not (is_done plan past j)) is (is_undone plan past ws j act h)) (is_unwaived plan past ws j act h)
+pub was_pending : (start : Start) (past : Log) (ws : List Waived) (j : Job) (act : Act) → IsTurn start past ws j act → j.collects ≡ true
+    → is_pending start.plan (λ n. acts n past) (is_waived past) j ≡ true
+was_pending start past ws j act h is =
+    and_from (j.collects && not (is_done start.plan past j)) (not (is_waived past j.number))
+    (and_from j.collects (not (is_done start.plan past j)) is (is_undone start past ws j act h)) (is_unwaived start past ws j act h)
 
 -- the accounts before the act
-pub before_act : (plan : DiePlan) (past : Log) (ws : List Waived) (j : Job) (act : Act) → IsTurn plan past ws j act
-    → Agree plan (after_waivers past ws (accounts plan past)) (held_of (λ n. acts n past) (jobs past))
-    (lent_to plan (λ n. acts n past) (is_waived past) (jobs past)) (owed past) (free plan past)
-before_act plan past ws j act h = agree_waivers plan past (waived past) (accounts plan past) ws _ _ (owed past) (free plan past)
+pub before_act : (start : Start) (past : Log) (ws : List Waived) (j : Job) (act : Act) → IsTurn start past ws j act
+    → Agree start.plan (after_waivers past ws (accounts start past)) (held_of (λ n. acts n past) (jobs past))
+    (lent_to start.plan (λ n. acts n past) (is_waived past) (jobs past)) (owed past) (free start past)
+before_act start past ws j act h = agree_waivers start past (waived past) (accounts start past) ws _ _ (owed past) (free start past)
     h.true_before.taken h.true_before.agree h.waivers
 
-pub of_job : (plan : DiePlan) (past : Log) (ws : List Waived) (j : Job) (act : Act) → IsTurn plan past ws j act → IsTaken plan j
-of_job plan past ws j act h = all_at (IsTaken plan) (jobs past) j.number j h.true_before.taken h.waits.known
+pub of_job : (start : Start) (past : Log) (ws : List Waived) (j : Job) (act : Act) → IsTurn start past ws j act → IsTaken start.plan j
+of_job start past ws j act h = all_at (IsTaken start.plan) (jobs past) j.number j h.true_before.taken h.waits.known
 
 -- the accounts after a slot agree, if those after its act do
-pub from_act : (plan : DiePlan) (past : Log) (caller slot : ℕ) (ws : List Waived) (finished : Option ℕ) (j : Job) (act : Act)
-    → IsTurn plan past ws j act
+pub from_act : (start : Start) (past : Log) (caller slot : ℕ) (ws : List Waived) (finished : Option ℕ) (j : Job) (act : Act)
+    → IsTurn start past ws j act
     → (let log : Log = slot_entry caller slot ws (Some (j.number, act)) finished ∷ past in
-    Agree plan (after_act plan (Some j) (acts j.number past) act (after_waivers past ws (accounts plan past)))
-    (held_of (λ n. acts n log) (jobs past)) (lent_to plan (λ n. acts n log) (is_waived log) (jobs past)) (owed log) (free plan log))
-    → AreTrue plan (slot_entry caller slot ws (Some (j.number, act)) finished ∷ past)
-from_act plan past caller slot ws finished j act h agree =
+    Agree start.plan (after_act start.plan (Some j) (acts j.number past) act (after_waivers past ws (accounts start past)))
+    (held_of (λ n. acts n log) (jobs past)) (lent_to start.plan (λ n. acts n log) (is_waived log) (jobs past)) (owed log) (free start log))
+    → AreTrue start (slot_entry caller slot ws (Some (j.number, act)) finished ∷ past)
+from_act start past caller slot ws finished j act h agree =
     let log : Log = slot_entry caller slot ws (Some (j.number, act)) finished ∷ past in
-    let w = slot_waives plan caller slot ws (Some (j.number, act)) finished past h.serve.numbered h.waivers in
+    let w = slot_waives start caller slot ws (Some (j.number, act)) finished past h.serve.numbered h.waivers in
     let a = ran_acts caller slot ws finished past j.number act in
     record {
-      agree = subst (λ o. Agree plan (after_act plan o (acts j.number past) act (after_waivers past ws (accounts plan past)))
-          (held_of (λ n. acts n log) (jobs past)) (lent_to plan (λ n. acts n log) (is_waived log) (jobs past)) (owed log) (free plan log))
+      agree = subst (λ o. Agree start.plan (after_act start.plan o (acts j.number past) act (after_waivers past ws (accounts start past)))
+          (held_of (λ n. acts n log) (jobs past)) (lent_to start.plan (λ n. acts n log) (is_waived log) (jobs past)) (owed log) (free start log))
           (sym h.waits.known) agree;
       taken = h.true_before.taken;
       one_each = λ t. omega (
         arith,
         h.true_before.one_each t,
-        pending_after plan (λ n. acts n past) (λ n. acts n log) (is_waived past)
-            (is_waived log) (λ n. is_among n ws) (jobs past) j act h.serve.numbered h.waits.known w a (was_pending plan past ws j act h) t,
+        pending_after start.plan (λ n. acts n past) (λ n. acts n log) (is_waived past)
+            (is_waived log) (λ n. is_among n ws) (jobs past) j act h.serve.numbered h.waits.known w a (was_pending start past ws j act h) t,
       );
       idle_waived = λ n e. elim (cases_eq n j.number) [
         | inl is ↦ absurd (true≢false (sym e ∙ (ap (is_waived log) is ∙ h.waits.new)))

@@ -20,6 +20,7 @@ use Rattle.die_log.proofs.Collecting.{no_acts}
 use Rattle.die_log.specs.Held.{at_task, left_of, held_of, is_pending, copied_of, lent_of, lent_to, pending_of, IsTaken, AreTrue}
 use Rattle.die_log.proofs.Tokens.Sums.{one_if, some_if}
 use Rattle.die_log.proofs.Tokens.Moves.{agree_same, agree_admitted}
+use Rattle.die_log.specs.Start.{Start}
 
 -- where no test passes, none is counted
 none_counted : {X : Type 0} (p q : X → Bool) (xs : List X) → ((x : X) → p x ≡ false → q x ≡ false) → list_any p xs ≡ false → count_by q xs
@@ -55,56 +56,56 @@ at_most true true = omega arith
 at_most true false = omega arith
 at_most false c = omega arith
 
-pub keeps_submit : (plan : DiePlan) (past : Log) (caller : ℕ) (task : ℕ) (release due : ℕ) (ops : List Op) → IsExact plan past
-    → AreTrue plan past
-    → AllByRecursion (λ c. c.0 ≡ false) (refusals plan past (events.Submit task release due ops))
-    → AreTrue plan (entry caller (events.Submit task release due ops) (accepted plan past (events.Submit task release due ops)) ∷ past)
-keeps_submit plan past caller task release due ops exact h refused =
+pub keeps_submit : (start : Start) (past : Log) (caller : ℕ) (task : ℕ) (release due : ℕ) (ops : List Op) → IsExact start past
+    → AreTrue start past
+    → AllByRecursion (λ c. c.0 ≡ false) (refusals start past (events.Submit task release due ops))
+    → AreTrue start (entry caller (events.Submit task release due ops) (accepted start past (events.Submit task release due ops)) ∷ past)
+keeps_submit start past caller task release due ops exact h refused =
     let own : ℕ → List Act = λ n. acts n past in
     let j : Job = record { number = length (jobs past); collects = false; task = task; release = release; due = due; ops = ops } in
-    let within : task < length plan.caps = leb-false (length plan.caps) task refused.0 in
-    let has : writes ops ≤ balance plan past task = ltb-false (balance plan past task) (writes ops) refused.1.1.1.1.1.1.1.0 in
-    let left : left_of own j ≡ writes ops = ap (λ (l : List Act). writes (drop (length l) ops)) (no_acts plan past exact) in
+    let within : task < length start.plan.caps = leb-false (length start.plan.caps) task refused.0 in
+    let has : writes ops ≤ balance start past task = ltb-false (balance start past task) (writes ops) refused.1.1.1.1.1.1.1.0 in
+    let left : left_of own j ≡ writes ops = ap (λ (l : List Act). writes (drop (length l) ops)) (no_acts start past exact) in
     let old = held_of own (jobs past) in
     record {
-      agree = agree_same plan _ (held_of own (jobs past ++ j ∷ [])) (lent_to plan own (is_waived past) (jobs past))
-          (held_of own (jobs past ++ j ∷ [])) (lent_to plan own (is_waived past) (jobs past ++ j ∷ [])) (owed past + writes ops)
-          (free plan past) _ (free plan past)
-          (agree_admitted plan (accounts plan past) old (lent_to plan own (is_waived past) (jobs past)) (held_of own (jobs past ++ j ∷ []))
-          (owed past) (free plan past) task (writes ops) h.agree within has
+      agree = agree_same start.plan _ (held_of own (jobs past ++ j ∷ [])) (lent_to start.plan own (is_waived past) (jobs past))
+          (held_of own (jobs past ++ j ∷ [])) (lent_to start.plan own (is_waived past) (jobs past ++ j ∷ [])) (owed past + writes ops)
+          (free start past) _ (free start past)
+          (agree_admitted start.plan (accounts start past) old (lent_to start.plan own (is_waived past) (jobs past)) (held_of own (jobs past ++ j ∷ []))
+          (owed past) (free start past) task (writes ops) h.agree within has
           (λ t. sum_by_push (λ i. at_task i.task (left_of own i) t) (jobs past) j ∙ ap (λ n. old t + at_task task n t) left))
           (λ t. refl)
-          (λ t. omega (arith, sum_by_push (λ i. at_task i.task (lent_of plan own (is_waived past) i) t) (jobs past) j, at_none task t))
+          (λ t. omega (arith, sum_by_push (λ i. at_task i.task (lent_of start.plan own (is_waived past) i) t) (jobs past) j, at_none task t))
           (omega (arith, sum_by_push (λ i. left_of own i) (jobs past) j, left))
           refl;
-      taken = all_append (IsTaken plan) (jobs past) (j ∷ []) h.taken (record { task = within; none = λ e. absurd cc }, tt);
+      taken = all_append (IsTaken start.plan) (jobs past) (j ∷ []) h.taken (record { task = within; none = λ e. absurd cc }, tt);
       one_each = λ t. omega (
         arith,
         h.one_each t,
-        sum_by_push (λ i. cond ((i.task == t) && is_pending plan own (is_waived past) i) 1 0)
+        sum_by_push (λ i. cond ((i.task == t) && is_pending start.plan own (is_waived past) i) 1 0)
             (jobs past) j,
         never (eqb task t),
       );
       idle_waived = h.idle_waived;
     }
 
-pub keeps_collect : (plan : DiePlan) (past : Log) (caller : ℕ) (task : ℕ) (release due : ℕ) → IsExact plan past → AreTrue plan past
-    → AllByRecursion (λ c. c.0 ≡ false) (refusals plan past (events.Collect task release due))
-    → AreTrue plan (entry caller (events.Collect task release due) (accepted plan past (events.Collect task release due)) ∷ past)
-keeps_collect plan past caller task release due exact h refused =
+pub keeps_collect : (start : Start) (past : Log) (caller : ℕ) (task : ℕ) (release due : ℕ) → IsExact start past → AreTrue start past
+    → AllByRecursion (λ c. c.0 ≡ false) (refusals start past (events.Collect task release due))
+    → AreTrue start (entry caller (events.Collect task release due) (accepted start past (events.Collect task release due)) ∷ past)
+keeps_collect start past caller task release due exact h refused =
     let own : ℕ → List Act = λ n. acts n past in
     let gone : ℕ → Bool = is_waived past in
     let j : Job = record { number = length (jobs past); collects = true; task = task; release = release; due = due; ops = [] } in
-    let within : task < length plan.caps = leb-false (length plan.caps) task refused.0 in
-    let left : left_of own j ≡ 0 = ap (λ (l : List Act). writes (drop (length l) [])) (no_acts plan past exact) in
-    let copied : copied_of own j ≡ 0 = ap (λ (l : List Act). count_by is_copy_program l) (no_acts plan past exact) in
-    let lent : lent_of plan own gone j ≡ 0 = lent_nothing (is_pending plan own gone j) (copied_of own j) copied in
-    let idle : pending_of plan own gone (jobs past) task
-    ≡ 0 = none_counted _ (λ i. (i.task == task) && is_pending plan own gone i) (jobs past)
-    (λ i e. turned i.collects (i.task == task) (not (are_all plan i (own i.number))) (not (gone i.number)) e) refused.1.1.1.0 in
+    let within : task < length start.plan.caps = leb-false (length start.plan.caps) task refused.0 in
+    let left : left_of own j ≡ 0 = ap (λ (l : List Act). writes (drop (length l) [])) (no_acts start past exact) in
+    let copied : copied_of own j ≡ 0 = ap (λ (l : List Act). count_by is_copy_program l) (no_acts start past exact) in
+    let lent : lent_of start.plan own gone j ≡ 0 = lent_nothing (is_pending start.plan own gone j) (copied_of own j) copied in
+    let idle : pending_of start.plan own gone (jobs past) task
+    ≡ 0 = none_counted _ (λ i. (i.task == task) && is_pending start.plan own gone i) (jobs past)
+    (λ i e. turned i.collects (i.task == task) (not (are_all start.plan i (own i.number))) (not (gone i.number)) e) refused.1.1.1.0 in
     record {
-      agree = agree_same plan (accounts plan past) (held_of own (jobs past)) (lent_to plan own gone (jobs past))
-          (held_of own (jobs past ++ j ∷ [])) (lent_to plan own gone (jobs past ++ j ∷ [])) (owed past) (free plan past) _ (free plan past)
+      agree = agree_same start.plan (accounts start past) (held_of own (jobs past)) (lent_to start.plan own gone (jobs past))
+          (held_of own (jobs past ++ j ∷ [])) (lent_to start.plan own gone (jobs past ++ j ∷ [])) (owed past) (free start past) _ (free start past)
           h.agree
           (λ t. omega (
             arith,
@@ -115,25 +116,25 @@ keeps_collect plan past caller task release due exact h refused =
           ))
           (λ t. omega (
             arith,
-            sum_by_push (λ i. at_task i.task (lent_of plan own gone i) t) (jobs past) j,
+            sum_by_push (λ i. at_task i.task (lent_of start.plan own gone i) t) (jobs past) j,
             ap (λ n. at_task task n t) lent,
             at_none task t,
           ))
           (omega (arith, sum_by_push (λ i. left_of own i) (jobs past) j, left))
           refl;
-      taken = all_append (IsTaken plan) (jobs past) (j ∷ []) h.taken (record { task = within; none = λ e. refl }, tt);
+      taken = all_append (IsTaken start.plan) (jobs past) (j ∷ []) h.taken (record { task = within; none = λ e. refl }, tt);
       one_each = λ t. elim (cases_eq t task) [
         | inl e ↦ rw e (omega (
           arith,
           idle,
-          sum_by_push (λ i. cond ((i.task == task) && is_pending plan own gone i) 1 0) (jobs past) j,
-          at_most (eqb task task) (is_pending plan own gone j),
+          sum_by_push (λ i. cond ((i.task == task) && is_pending start.plan own gone i) 1 0) (jobs past) j,
+          at_most (eqb task task) (is_pending start.plan own gone j),
         ))
         | inr apart ↦ omega (
           arith,
           h.one_each t,
-          sum_by_push (λ i. cond ((i.task == t) && is_pending plan own gone i) 1 0) (jobs past) j,
-          ap (λ (b : Bool). one_if (b && is_pending plan own gone j)) (ne_eqb task t (λ e. apart (sym e))),
+          sum_by_push (λ i. cond ((i.task == t) && is_pending start.plan own gone i) 1 0) (jobs past) j,
+          ap (λ (b : Bool). one_if (b && is_pending start.plan own gone j)) (ne_eqb task t (λ e. apart (sym e))),
         )
       ];
       idle_waived = h.idle_waived;

@@ -14,6 +14,7 @@ use Rattle.die_log.specs.Accounts.{accounts, after_waiver, after_waivers}
 use Rattle.die_log.specs.Answers.{Choice, choice, weighed, chosen, choice_among, is_waivable, without, with_waiver}
 use Rattle.die_log.specs.Legal.{is_among, IsWaiver, AreWaivers}
 use Rattle.die_log.proofs.Choices.{OfSome, least_all}
+use Rattle.die_log.specs.Start.{Start}
 
 -- it stands, is released, not done and not waived, nor among these waivers
 pub record Waits (plan : DiePlan) (past : Log) (ws : List Waived) (j : Job) : Type 0 where
@@ -135,10 +136,10 @@ ready_waits plan past j ready known = record {
 }
 
 -- a slot's choice
-pub choice_is : (plan : DiePlan) (past : Log) → AllByRecursion (λ j. job_at past j.number ≡ Some j) (jobs past)
-    → IsChosen plan past (waived past) (accounts plan past) (choice plan past)
-choice_is plan past known =
-    chosen_among plan past _ (waived past) (accounts plan past) (ready plan past) (
-    all_passing (λ j. job_at past j.number ≡ Some j) (Waits plan past (waived past)) (is_ready plan past) (jobs past)
-    (ready_waits plan past) known
+pub choice_is : (start : Start) (past : Log) → AllByRecursion (λ j. job_at past j.number ≡ Some j) (jobs past)
+    → IsChosen start.plan past (waived past) (accounts start past) (choice start past)
+choice_is start past known =
+    chosen_among start.plan past _ (waived past) (accounts start past) (ready start.plan past) (
+    all_passing (λ j. job_at past j.number ≡ Some j) (Waits start.plan past (waived past)) (is_ready start.plan past) (jobs past)
+    (ready_waits start.plan past) known
     )

@@ -32,84 +32,86 @@ use Rattle.die_log.proofs.Tokens.Turns.{no_job_copy}
 use Rattle.die_log.proofs.Tokens.Whole.{all_known}
 use Rattle.die_log.proofs.Standing.Longer.{elsewhere, shown_none, no_victim}
 use Rattle.die_log.proofs.Tokens.Few.{few_now, few_turn}
+use Rattle.die_log.specs.Start.{Start}
+use Rattle.die_log.specs.Opening.{IsOpening}
 
 none_some : (o : Option ℕ) (b : ℕ) → o ≡ None → o ≡ Some b → ⊥
 none_some None b e h = absurd cc
 none_some (Some d) b e h = absurd cc
 
 -- one more job
-few_taken : (plan : DiePlan) (past : Log) (new i : Job) (b : ℕ) → IsExact plan past → FewCopies plan past
-    → slice_get (jobs past ++ new ∷ []) i.number ≡ Some i → is_pending plan (λ n. acts n past) (is_waived past) i ≡ true
-    → shown_by plan past (victim_of plan i.number past) None ≡ Some b → copied_of (λ n. acts n past) i + valid (cells plan past) b
-    ≤ reserve_full plan
-few_taken plan past new i b exact few e is shows =
-    let shown : victim_of plan i.number past ≡ Some b = sym (shown_none plan past (victim_of plan i.number past)) ∙ shows in
+few_taken : (start : Start) (past : Log) (new i : Job) (b : ℕ) → IsExact start past → FewCopies start past
+    → slice_get (jobs past ++ new ∷ []) i.number ≡ Some i → is_pending start.plan (λ n. acts n past) (is_waived past) i ≡ true
+    → shown_by start past (victim_of start i.number past) None ≡ Some b → copied_of (λ n. acts n past) i + valid (cells start past) b
+    ≤ reserve_full start.plan
+few_taken start past new i b exact few e is shows =
+    let shown : victim_of start i.number past ≡ Some b = sym (shown_none start past (victim_of start i.number past)) ∙ shows in
     elim (cases_lt i.number (length (jobs past))) [
       | inl below ↦ few.few i b (sym (elsewhere (jobs past) new i.number (λ x. absurd (omega (arith, below, x)))) ∙ e) is shown
       | inr past_it ↦
           let last : i.number ≡ length (jobs past) = omega
           (arith, past_it, slice_get_within (jobs past ++ new ∷ []) i.number i e, length-append (jobs past) (new ∷ [])) in
-          absurd (none_some (victim_of plan i.number past) b
-          (no_victim plan i.number past (ap (λ n. acts n past) last ∙ no_acts plan past exact)) shown)
+          absurd (none_some (victim_of start i.number past) b
+          (no_victim start i.number past (ap (λ n. acts n past) last ∙ no_acts start past exact)) shown)
     ]
 
-few_idle : (plan : DiePlan) (past : Log) (caller slot : ℕ) (ws : List Waived) (finished : Option ℕ) → CellsServe plan past
-    → AreWaivers plan past (waived past) (accounts plan past) ws → FewCopies plan past
-    → FewCopies plan (slot_entry caller slot ws None finished ∷ past)
-few_idle plan past caller slot ws finished c are few = record { few = each }
+few_idle : (start : Start) (past : Log) (caller slot : ℕ) (ws : List Waived) (finished : Option ℕ) → CellsServe start past
+    → AreWaivers start.plan past (waived past) (accounts start past) ws → FewCopies start past
+    → FewCopies start (slot_entry caller slot ws None finished ∷ past)
+few_idle start past caller slot ws finished c are few = record { few = each }
   where
     each : (i : Job) (b : ℕ) → job_at past i.number ≡ Some i
-        → is_pending plan (λ n. acts n (slot_entry caller slot ws None finished ∷ past))
+        → is_pending start.plan (λ n. acts n (slot_entry caller slot ws None finished ∷ past))
         (is_waived (slot_entry caller slot ws None finished ∷ past)) i ≡ true
-        → victim_of plan i.number (slot_entry caller slot ws None finished ∷ past) ≡ Some b
-        → copied_of (λ n. acts n (slot_entry caller slot ws None finished ∷ past)) i + valid (cells plan past) b ≤ reserve_full plan
+        → victim_of start i.number (slot_entry caller slot ws None finished ∷ past) ≡ Some b
+        → copied_of (λ n. acts n (slot_entry caller slot ws None finished ∷ past)) i + valid (cells start past) b ≤ reserve_full start.plan
     each i b known is shows =
         let log : Log = slot_entry caller slot ws None finished ∷ past in
         let same = idle_acts caller slot ws finished past i.number in
-        let w = slot_waives plan caller slot ws None finished past c.numbered are in
-        let was = pending_other plan (λ n. acts n past) (λ n. acts n log) (is_waived past) (is_waived log) (λ n. is_among n ws) i w same is
+        let w = slot_waives start caller slot ws None finished past c.numbered are in
+        let was = pending_other start.plan (λ n. acts n past) (λ n. acts n log) (is_waived past) (is_waived log) (λ n. is_among n ws) i w same is
         in
         let copied : copied_of (λ n. acts n past) i ≡ copied_of (λ n. acts n log) i = ap (λ (l : List Act). count_by is_copy_program l) same
         in
-        omega (arith, copied, few.few i b known was (sym (shown_none plan past (victim_of plan i.number past)) ∙ shows))
+        omega (arith, copied, few.few i b known was (sym (shown_none start past (victim_of start i.number past)) ∙ shows))
 
-few_act : (plan : DiePlan) (past : Log) (caller : ℕ) (ws : List Waived) (j : Job) (o : Option Act) → MeetsBound plan → AreTrue plan past
-    → CellsServe plan past → FewCopies plan past
-    → AreWaivers plan past (waived past) (accounts plan past) ws → Waits plan past (waived past ++ ws) j
-    → is_waivable plan past (after_waivers past ws (accounts plan past)) j ≡ false → act_for plan past j ≡ o
-    → FewCopies plan (entry caller events.Slot (replies.Slot (reply_with plan past ws j o)) ∷ past)
-few_act plan past caller ws j None bound h c few are waits unwaivable e = few_idle plan past caller (now past) ws None c are few
-few_act plan past caller ws j (Some act) bound h c few are waits unwaivable e =
-    few_turn plan past caller (now past) ws (reply_with plan past ws j (Some act)).finished j act
+few_act : (start : Start) (past : Log) (caller : ℕ) (ws : List Waived) (j : Job) (o : Option Act) → IsOpening start → AreTrue start past
+    → CellsServe start past → FewCopies start past
+    → AreWaivers start.plan past (waived past) (accounts start past) ws → Waits start.plan past (waived past ++ ws) j
+    → is_waivable start.plan past (after_waivers past ws (accounts start past)) j ≡ false → act_for start past j ≡ o
+    → FewCopies start (entry caller events.Slot (replies.Slot (reply_with start.plan past ws j o)) ∷ past)
+few_act start past caller ws j None bound h c few are waits unwaivable e = few_idle start past caller (now past) ws None c are few
+few_act start past caller ws j (Some act) bound h c few are waits unwaivable e =
+    few_turn start past caller (now past) ws (reply_with start.plan past ws j (Some act)).finished j act
     (record { true_before = h; serve = c; waivers = are; waits = waits; does_it = e })
     (record { bound = bound; few_before = few; unwaivable = unwaivable })
 
-few_head : (plan : DiePlan) (past : Log) (caller : ℕ) (ws : List Waived) (o : Option Job) → MeetsBound plan → AreTrue plan past
-    → CellsServe plan past → FewCopies plan past
-    → AreWaivers plan past (waived past) (accounts plan past) ws → MatchOption o (Unit {0}) (λ j. Waits plan past (waived past ++ ws) j)
-    → MatchOption o (Unit {0}) (λ j. is_waivable plan past (after_waivers past ws (accounts plan past)) j ≡ false)
-    → FewCopies plan (entry caller events.Slot (replies.Slot (slot_reply plan past ws o)) ∷ past)
-few_head plan past caller ws None bound h c few are waits unwaivable = few_idle plan past caller (now past) ws None c are few
-few_head plan past caller ws (Some j) bound h c few are waits unwaivable = few_act plan past caller ws j (act_for plan past j) bound h c few
+few_head : (start : Start) (past : Log) (caller : ℕ) (ws : List Waived) (o : Option Job) → IsOpening start → AreTrue start past
+    → CellsServe start past → FewCopies start past
+    → AreWaivers start.plan past (waived past) (accounts start past) ws → MatchOption o (Unit {0}) (λ j. Waits start.plan past (waived past ++ ws) j)
+    → MatchOption o (Unit {0}) (λ j. is_waivable start.plan past (after_waivers past ws (accounts start past)) j ≡ false)
+    → FewCopies start (entry caller events.Slot (replies.Slot (slot_reply start past ws o)) ∷ past)
+few_head start past caller ws None bound h c few are waits unwaivable = few_idle start past caller (now past) ws None c are few
+few_head start past caller ws (Some j) bound h c few are waits unwaivable = few_act start past caller ws j (act_for start past j) bound h c few
     are waits unwaivable refl
 
 -- an accepted event keeps the copies few
-pub keeps_few : (plan : DiePlan) (past : Log) (caller : ℕ) (event : Event) → MeetsBound plan → IsExact plan past → AreTrue plan past
-    → CellsServe plan past → FewCopies plan past
-    → FewCopies plan (entry caller event (accepted plan past event) ∷ past)
-keeps_few plan past caller (events.Submit task release due ops) bound exact h c few = record
-    { few = λ i b. few_taken plan past _ i b exact few }
-keeps_few plan past caller (events.Collect task release due) bound exact h c few = record
-    { few = λ i b. few_taken plan past _ i b exact few }
-keeps_few plan past caller events.Slot bound exact h c few =
-    let is = choice_is plan past (all_known past c.numbered) in
-    few_head plan past caller (choice plan past).waived (choice plan past).head bound h c few is.waivers is.head is.unwaivable
+pub keeps_few : (start : Start) (past : Log) (caller : ℕ) (event : Event) → IsOpening start → IsExact start past → AreTrue start past
+    → CellsServe start past → FewCopies start past
+    → FewCopies start (entry caller event (accepted start past event) ∷ past)
+keeps_few start past caller (events.Submit task release due ops) bound exact h c few = record
+    { few = λ i b. few_taken start past _ i b exact few }
+keeps_few start past caller (events.Collect task release due) bound exact h c few = record
+    { few = λ i b. few_taken start past _ i b exact few }
+keeps_few start past caller events.Slot bound exact h c few =
+    let is = choice_is start past (all_known past c.numbered) in
+    few_head start past caller (choice start past).waived (choice start past).head bound h c few is.waivers is.head is.unwaivable
 
 -- a copy finds its reserve above 0
-pub copies_fit : (plan : DiePlan) (past : Log) (j : Job) (page : ℕ) → FewCopies plan past → job_at past j.number ≡ Some j
-    → is_ready plan past j ≡ true → act_for plan past j ≡ Some (does.CopyProgram page) → count_by is_copy_program (acts j.number past)
-    < reserve_full plan
-copies_fit plan past j page few known ready e = elim (act_kind plan past j (does.CopyProgram page) e) [
+pub copies_fit : (start : Start) (past : Log) (j : Job) (page : ℕ) → FewCopies start past → job_at past j.number ≡ Some j
+    → is_ready start.plan past j ≡ true → act_for start past j ≡ Some (does.CopyProgram page) → count_by is_copy_program (acts j.number past)
+    < reserve_full start.plan
+copies_fit start past j page few known ready e = elim (act_kind start past j (does.CopyProgram page) e) [
   | inl k ↦ absurd (no_job_copy k.op page k.done)
-  | inr k ↦ few_now plan past j page few known ready k.collection e
+  | inr k ↦ few_now start past j page few known ready k.collection e
 ]

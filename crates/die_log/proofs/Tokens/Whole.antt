@@ -24,6 +24,8 @@ use Rattle.die_log.proofs.Tokens.Taking.{keeps_submit, keeps_collect}
 use Rattle.die_log.proofs.Tokens.Slots.{keeps_idle}
 use Rattle.die_log.proofs.Tokens.Doing.{act_kind}
 use Rattle.die_log.proofs.Tokens.Turns.{keeps_act, owed_fits}
+use Rattle.die_log.specs.Start.{Start}
+use Rattle.die_log.specs.Opening.{IsOpening}
 
 all_from : {X : Type 0} (P : X → Type 0) (xs : List X) → ((k : ℕ) (x : X) → slice_get xs k ≡ Some x → P x) → AllByRecursion P xs
 all_from P [] h = tt
@@ -33,41 +35,41 @@ pub all_known : (past : Log) → ((k : ℕ) (j : Job) → job_at past k ≡ Some
     → AllByRecursion (λ j. job_at past j.number ≡ Some j) (jobs past)
 all_known past numbered = all_from (λ j. job_at past j.number ≡ Some j) (jobs past) (λ k j e. ap (λ n. job_at past n) (numbered k j e) ∙ e)
 
-by_act : (plan : DiePlan) (past : Log) (caller : ℕ) (ws : List Waived) (j : Job) (o : Option Act) → MeetsBound plan → AreTrue plan past
-    → CellsServe plan past → AreWaivers plan past (waived past) (accounts plan past) ws
-    → Waits plan past (waived past ++ ws) j → act_for plan past j ≡ o
-    → AreTrue plan (entry caller events.Slot (replies.Slot (reply_with plan past ws j o)) ∷ past)
-    × FindsBy plan past (reply_with plan past ws j o).ran
-by_act plan past caller ws j None bound h c are waits e = (keeps_idle plan past caller (now past) ws None h c are, tt)
-by_act plan past caller ws j (Some act) bound h c are waits e =
-    keeps_act plan past caller (now past) ws (reply_with plan past ws j (Some act)).finished j act bound
-    (record { true_before = h; serve = c; waivers = are; waits = waits; does_it = e }) (act_kind plan past j act e)
+by_act : (start : Start) (past : Log) (caller : ℕ) (ws : List Waived) (j : Job) (o : Option Act) → IsOpening start → AreTrue start past
+    → CellsServe start past → AreWaivers start.plan past (waived past) (accounts start past) ws
+    → Waits start.plan past (waived past ++ ws) j → act_for start past j ≡ o
+    → AreTrue start (entry caller events.Slot (replies.Slot (reply_with start.plan past ws j o)) ∷ past)
+    × FindsBy start past (reply_with start.plan past ws j o).ran
+by_act start past caller ws j None bound h c are waits e = (keeps_idle start past caller (now past) ws None h c are, tt)
+by_act start past caller ws j (Some act) bound h c are waits e =
+    keeps_act start past caller (now past) ws (reply_with start.plan past ws j (Some act)).finished j act bound
+    (record { true_before = h; serve = c; waivers = are; waits = waits; does_it = e }) (act_kind start past j act e)
 
-by_head : (plan : DiePlan) (past : Log) (caller : ℕ) (ws : List Waived) (o : Option Job) → MeetsBound plan → AreTrue plan past
-    → CellsServe plan past → AreWaivers plan past (waived past) (accounts plan past) ws
-    → MatchOption o (Unit {0}) (λ j. Waits plan past (waived past ++ ws) j)
-    → AreTrue plan (entry caller events.Slot (replies.Slot (slot_reply plan past ws o)) ∷ past)
-    × FindsBy plan past (slot_reply plan past ws o).ran
-by_head plan past caller ws None bound h c are waits = (keeps_idle plan past caller (now past) ws None h c are, tt)
-by_head plan past caller ws (Some j) bound h c are waits = by_act plan past caller ws j (act_for plan past j) bound h c are waits refl
+by_head : (start : Start) (past : Log) (caller : ℕ) (ws : List Waived) (o : Option Job) → IsOpening start → AreTrue start past
+    → CellsServe start past → AreWaivers start.plan past (waived past) (accounts start past) ws
+    → MatchOption o (Unit {0}) (λ j. Waits start.plan past (waived past ++ ws) j)
+    → AreTrue start (entry caller events.Slot (replies.Slot (slot_reply start past ws o)) ∷ past)
+    × FindsBy start past (slot_reply start past ws o).ran
+by_head start past caller ws None bound h c are waits = (keeps_idle start past caller (now past) ws None h c are, tt)
+by_head start past caller ws (Some j) bound h c are waits = by_act start past caller ws j (act_for start past j) bound h c are waits refl
 
 -- a slot keeps the accounts true, and finds a free cell where it programs
-pub keeps_slot : (plan : DiePlan) (past : Log) (caller : ℕ) → MeetsBound plan → AreTrue plan past → CellsServe plan past
-    → AreTrue plan (entry caller events.Slot (accepted plan past events.Slot) ∷ past)
-    × FindsBy plan past (slot_reply plan past (choice plan past).waived (choice plan past).head).ran
-keeps_slot plan past caller bound h c =
-    let is = choice_is plan past (all_known past c.numbered) in
-    by_head plan past caller (choice plan past).waived (choice plan past).head bound h c is.waivers is.head
+pub keeps_slot : (start : Start) (past : Log) (caller : ℕ) → IsOpening start → AreTrue start past → CellsServe start past
+    → AreTrue start (entry caller events.Slot (accepted start past events.Slot) ∷ past)
+    × FindsBy start past (slot_reply start past (choice start past).waived (choice start past).head).ran
+keeps_slot start past caller bound h c =
+    let is = choice_is start past (all_known past c.numbered) in
+    by_head start past caller (choice start past).waived (choice start past).head bound h c is.waivers is.head
 
 -- an accepted event keeps the accounts true
-pub keeps : (plan : DiePlan) (past : Log) (caller : ℕ) (event : Event) → MeetsBound plan → IsExact plan past → AreTrue plan past
-    → CellsServe plan past → AllByRecursion (λ c. c.0 ≡ false) (refusals plan past event)
-    → AreTrue plan (entry caller event (accepted plan past event) ∷ past)
-keeps plan past caller (events.Submit task release due ops) bound exact h c none = keeps_submit plan past caller task release due ops exact
+pub keeps : (start : Start) (past : Log) (caller : ℕ) (event : Event) → IsOpening start → IsExact start past → AreTrue start past
+    → CellsServe start past → AllByRecursion (λ c. c.0 ≡ false) (refusals start past event)
+    → AreTrue start (entry caller event (accepted start past event) ∷ past)
+keeps start past caller (events.Submit task release due ops) bound exact h c none = keeps_submit start past caller task release due ops exact
     h none
-keeps plan past caller (events.Collect task release due) bound exact h c none = keeps_collect plan past caller task release due exact h none
-keeps plan past caller events.Slot bound exact h c none = (keeps_slot plan past caller bound h c).0
+keeps start past caller (events.Collect task release due) bound exact h c none = keeps_collect start past caller task release due exact h none
+keeps start past caller events.Slot bound exact h c none = (keeps_slot start past caller bound h c).0
 
 -- no more is owed than is free
-pub owed_is_free : (plan : DiePlan) (log : Log) → AreTrue plan log → owed log ≤ free plan log
-owed_is_free plan log h = owed_fits plan (accounts plan log) _ _ (owed log) (free plan log) h.agree
+pub owed_is_free : (start : Start) (log : Log) → AreTrue start log → owed log ≤ free start log
+owed_is_free start log h = owed_fits start (accounts start log) _ _ (owed log) (free start log) h.agree

@@ -13,7 +13,7 @@ reads : acts 0 history ≡ does.Read 7 (bytes 255) ∷ []
 unfolding answer
 reads = refl
 
-in_time : worst_of roomy history ≡ Some (0, pos 0)
+in_time : worst_of roomy.plan history ≡ Some (0, pos 0)
 unfolding answer
 in_time = refl
 
@@ -24,6 +24,6 @@ carries_nothing : numbers idle ≡ None ∷ None ∷ None ∷ []
 unfolding answer
 carries_nothing = refl
 
-nobody : worst_of roomy idle ≡ None
+nobody : worst_of roomy.plan idle ≡ None
 unfolding answer
 nobody = refl

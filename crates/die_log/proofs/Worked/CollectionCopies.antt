@@ -37,7 +37,7 @@ erased : block_at (cells tight collected) 1 ≡ record { filled = 0; erasing = 0
 unfolding answer
 erased = refl
 
-tokens : accounts tight collected ≡ amounts tight 1 2 0 2
+tokens : accounts tight collected ≡ amounts tight.plan 1 2 0 2
 unfolding answer
 tokens = refl
 

@@ -17,6 +17,6 @@ lateness : map (λ j. lateness_of history j) (jobs history) ≡ negsuc 5 ∷ neg
 unfolding answer
 lateness = refl
 
-is_worst : worst_of roomy history ≡ Some (1, negsuc 0)
+is_worst : worst_of roomy.plan history ≡ Some (1, negsuc 0)
 unfolding answer
 is_worst = refl

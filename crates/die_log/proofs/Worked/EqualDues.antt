@@ -15,10 +15,10 @@ carries : numbers five ≡ Some 1 ∷ Some 1 ∷ Some 0 ∷ Some 0 ∷ Some 1 �
 unfolding answer
 carries = refl
 
-after_four : worst_of roomy four ≡ Some (0, negsuc 0)
+after_four : worst_of roomy.plan four ≡ Some (0, negsuc 0)
 unfolding answer
 after_four = refl
 
-after_five : worst_of roomy five ≡ Some (1, pos 0)
+after_five : worst_of roomy.plan five ≡ Some (1, pos 0)
 unfolding answer
 after_five = refl

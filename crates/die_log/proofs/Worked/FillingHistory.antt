@@ -49,11 +49,11 @@ filled : map (λ s. s.filled) (cells tight full).blocks ≡ 4 ∷ 4 ∷ 4 ∷ 2 
 unfolding answer
 filled = refl
 
-valid_by_block : map (λ b. valid_pages tight (cells tight full) b) (0 ∷ 1 ∷ 2 ∷ 3 ∷ []) ≡ (0 ∷ 1 ∷ []) ∷ (2 ∷ []) ∷ (3 ∷ []) ∷ (4 ∷ []) ∷ []
+valid_by_block : map (λ b. valid_pages tight.plan (cells tight full) b) (0 ∷ 1 ∷ 2 ∷ 3 ∷ []) ≡ (0 ∷ 1 ∷ []) ∷ (2 ∷ []) ∷ (3 ∷ []) ∷ (4 ∷ []) ∷ []
 unfolding answer
 valid_by_block = refl
 
-tokens : accounts tight full ≡ amounts tight 0 0 0 2
+tokens : accounts tight full ≡ amounts tight.plan 0 0 0 2
 unfolding answer
 tokens = refl
 
@@ -61,7 +61,7 @@ left_free : (now full ∷ free tight full ∷ owed full ∷ []) ≡ 19 ∷ 2 ∷
 unfolding answer
 left_free = refl
 
-is_worst : worst_of tight full ≡ Some (2, pos 0)
+is_worst : worst_of tight.plan full ≡ Some (2, pos 0)
 unfolding answer
 is_worst = refl
 
@@ -75,7 +75,7 @@ less_filled : map (λ s. s.filled) (cells tight one_less).blocks ≡ 4 ∷ 4 ∷
 unfolding answer
 less_filled = refl
 
-less_tokens : accounts tight one_less ≡ amounts tight 0 1 0 2
+less_tokens : accounts tight one_less ≡ amounts tight.plan 0 1 0 2
 unfolding answer
 less_tokens = refl
 

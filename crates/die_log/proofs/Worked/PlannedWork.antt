@@ -5,6 +5,8 @@ use Rattle.std.proofs.lemmas.List.Elements.{All-from_recursion}
 use Rattle.slot_types.specs.declared.events.Op.TheVariants.{Read}
 use Rattle.slot_types.specs.declared.events.Event.{Event}
 use Rattle.plan_rules.specs.Bound.{MeetsBound}
+use Rattle.die_log.specs.Start.{fresh}
+use Rattle.die_log.proofs.Openings.{fresh_opens, fresh_stocked}
 use Rattle.plan_rules.proofs.Worked.PlansWithTimes.{small, each_ten, passes}
 use Rattle.plan_rules.proofs.Worked.EventsThatKeep as came
 use Rattle.die_log.specs.Log.{Log, now, waived}
@@ -20,7 +22,7 @@ abbrev calls : List (ℕ × Event)
 calls = map (λ event. (0, event)) (came.history (Read 0) 10)
 
 abbrev history : Log
-history = run (small 6) [] calls
+history = run (fresh (small 6)) [] calls
 
 twenty : now history ≡ 20
 unfolding answer
@@ -34,7 +36,7 @@ ends : map (λ n. completion n history) (1 ∷ 2 ∷ []) ≡ 1 ∷ 11 ∷ []
 unfolding answer
 ends = refl
 
-tokens : accounts (small 6) history ≡ amounts (small 6) 8 5 0 2
+tokens : accounts (fresh (small 6)) history ≡ amounts (small 6) 8 5 0 2
 unfolding answer
 tokens = refl
 
@@ -63,7 +65,8 @@ bound = record {
 }
 
 in_time : IsInTime (small 6) history
-in_time = run_in_time (small 6) (each_ten 2) bound passes calls came.keeps
+in_time = run_in_time (fresh (small 6)) (each_ten 2) (fresh_opens (small 6) bound) passes calls came.keeps
 
-accepted : AreAccepted (small 6) [] calls
-accepted = run_accepted (small 6) (each_ten 2) bound passes [] calls tt came.keeps
+accepted : AreAccepted (fresh (small 6)) [] calls
+accepted = run_accepted (fresh (small 6)) (each_ten 2) (fresh_opens (small 6) bound) passes
+    (fresh_stocked (small 6) (each_ten 2)) [] calls tt came.keeps

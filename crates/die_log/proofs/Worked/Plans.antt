@@ -9,16 +9,23 @@ use Rattle.slot_types.specs.declared.events.Op.TheVariants.{Write}
 use Rattle.slot_types.specs.declared.events.Event.{Event}
 use Rattle.slot_types.specs.declared.events.Event.TheVariants.{Submit, Collect, Slot}
 use Rattle.plan_rules.specs.Accounts.{Accounts}
+use Rattle.die_log.specs.Start.{Start, fresh}
 use Rattle.die_log.specs.Log.{Log, Carried, carried}
 use Rattle.die_log.specs.Work.{lateness_of, worst}
 
 -- a die with eight blocks for twelve pages
-abbrev pub roomy : DiePlan
-roomy = record { shape = record { blocks = 8; pages = 4; erase_slots = 3 }; logical = 12; alpha = 2; caps = 4 ∷ []; times = None }
+abbrev pub roomy_plan : DiePlan
+roomy_plan = record { shape = record { blocks = 8; pages = 4; erase_slots = 3 }; logical = 12; alpha = 2; caps = 4 ∷ []; times = None }
 
 -- a die with four blocks for five pages
-abbrev pub tight : DiePlan
-tight = record { shape = record { blocks = 4; pages = 4; erase_slots = 3 }; logical = 5; alpha = 2; caps = 4 ∷ []; times = None }
+abbrev pub roomy : Start
+roomy = fresh roomy_plan
+
+abbrev pub tight_plan : DiePlan
+tight_plan = record { shape = record { blocks = 4; pages = 4; erase_slots = 3 }; logical = 5; alpha = 2; caps = 4 ∷ []; times = None }
+
+abbrev pub tight : Start
+tight = fresh tight_plan
 
 -- the accounts of a plan of one task
 abbrev pub amounts : DiePlan → ℕ → ℕ → ℕ → ℕ → Accounts

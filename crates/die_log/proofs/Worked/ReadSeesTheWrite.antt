@@ -19,6 +19,6 @@ unfolding answer
 ends = refl
 
 -- both are one slot early: the one that was completed first
-is_worst : worst_of roomy history ≡ Some (0, negsuc 0)
+is_worst : worst_of roomy.plan history ≡ Some (0, negsuc 0)
 unfolding answer
 is_worst = refl

@@ -39,7 +39,7 @@ is_late : lateness_of (completion 11 history) 40 ≡ negsuc 16
 unfolding answer
 is_late = refl
 
-tokens : accounts tight history ≡ amounts tight 2 2 0 2
+tokens : accounts tight history ≡ amounts tight.plan 2 2 0 2
 unfolding answer
 tokens = refl
 

@@ -30,7 +30,7 @@ unfolding answer
 two_early = refl
 
 -- the token of the write is spent, and the trim gives none back
-tokens : accounts roomy history ≡ amounts roomy 26 3 0 2
+tokens : accounts roomy history ≡ amounts roomy.plan 26 3 0 2
 unfolding answer
 tokens = refl
 

@@ -13,6 +13,6 @@ ends : map (λ n. completion n history) (0 ∷ 1 ∷ []) ≡ 2 ∷ 3 ∷ []
 unfolding answer
 ends = refl
 
-is_worst : worst_of roomy history ≡ Some (1, pos 1)
+is_worst : worst_of roomy.plan history ≡ Some (1, pos 1)
 unfolding answer
 is_worst = refl

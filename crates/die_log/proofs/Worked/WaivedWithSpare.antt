@@ -26,10 +26,10 @@ idle : numbers history ≡ None ∷ []
 unfolding answer
 idle = refl
 
-tokens : accounts roomy history ≡ amounts roomy 26 4 0 2
+tokens : accounts roomy history ≡ amounts roomy.plan 26 4 0 2
 unfolding answer
 tokens = refl
 
-nobody : worst_of roomy history ≡ None
+nobody : worst_of roomy.plan history ≡ None
 unfolding answer
 nobody = refl

@@ -13,6 +13,7 @@ use Rattle.slot_types.specs.declared.replies.Reply.TheVariants as replies
 use Rattle.die_log.specs.Log.{Log, Job, job_at, waived, work}
 use Rattle.die_log.specs.Accounts.{accounts}
 use Rattle.die_log.specs.Legal.{IsLegal, IsLegalAct, IsWaiver, IsNextCollectAct, Does}
+use Rattle.die_log.specs.Start.{Start}
 
 abbrev pub idle : ℕ → Entry
 idle now = record { caller = 0; event = Slot; reply = replies.Slot (record { slot = now; waived = []; ran = None; finished = None }) }
@@ -38,19 +39,19 @@ abbrev pub taken : ℕ → ℕ → List Op → ℕ → Entry
 taken release due ops number = record { caller = 0; event = Submit 0 release due ops; reply = replies.Taken number }
 
 -- the act is one of the job that its number names
-pub act_of_job : (plan : DiePlan) (past : Log) (now number : ℕ) (act : Act) (j : Job) → job_at past number ≡ Some j
-    → IsLegal plan (ran now number act ∷ past) → IsLegalAct plan past (waived past ++ []) j number act
-act_of_job plan past now number act j is h =
-    let a = h.1.slot.1.1 in subst (λ (i : Job). IsLegalAct plan past (waived past ++ []) i number act)
+pub act_of_job : (start : Start) (past : Log) (now number : ℕ) (act : Act) (j : Job) → job_at past number ≡ Some j
+    → IsLegal start (ran now number act ∷ past) → IsLegalAct start past (waived past ++ []) j number act
+act_of_job start past now number act j is h =
+    let a = h.1.slot.1.1 in subst (λ (i : Job). IsLegalAct start past (waived past ++ []) i number act)
     (same_Some h.1.slot.1.0 j (sym a.known ∙ is)) a
 
 -- the waiver is one of the collection that its number names
-pub waiver_of_job : (plan : DiePlan) (past : Log) (now number given : ℕ) (j : Job) → job_at past number ≡ Some j
-    → IsLegal plan (waives now number given ∷ past)
-    → IsWaiver plan past (waived past) (accounts plan past) j (record { number = number; given = given })
-waiver_of_job plan past now number given j is h =
+pub waiver_of_job : (start : Start) (past : Log) (now number given : ℕ) (j : Job) → job_at past number ≡ Some j
+    → IsLegal start (waives now number given ∷ past)
+    → IsWaiver start.plan past (waived past) (accounts start past) j (record { number = number; given = given })
+waiver_of_job start past now number given j is h =
     let w = h.1.slot.0.1 in
-    subst (λ (i : Job). IsWaiver plan past (waived past) (accounts plan past) i (record { number = number; given = given }))
+    subst (λ (i : Job). IsWaiver start.plan past (waived past) (accounts start past) i (record { number = number; given = given }))
     (same_Some h.1.slot.0.0 j (sym w.known ∙ is)) w
 
 -- no operation is done by an act of a collection
@@ -84,13 +85,13 @@ no_operation : (op : Option Op) (act : Act) → IsOfCollection act → MatchOpti
 no_operation None act c h = h
 no_operation (Some op) act c h = not_done op act c h
 
-either : (plan : DiePlan) (past : Log) (number : ℕ) (act : Act) (b : Bool) (op : Option Op) → IsOfCollection act
-    → MatchBool b (IsNextCollectAct plan past number act) (MatchOption op ⊥ (λ o. Does o act)) → IsNextCollectAct plan past number act
-either plan past number act true op c h = h
-either plan past number act false op c h = absurd (no_operation op act c h)
+either : (start : Start) (past : Log) (number : ℕ) (act : Act) (b : Bool) (op : Option Op) → IsOfCollection act
+    → MatchBool b (IsNextCollectAct start past number act) (MatchOption op ⊥ (λ o. Does o act)) → IsNextCollectAct start past number act
+either start past number act true op c h = h
+either start past number act false op c h = absurd (no_operation op act c h)
 
 -- whichever job the number names, its act is a collection's next one
-pub next_of : (plan : DiePlan) (past : Log) (now number : ℕ) (act : Act) → IsOfCollection act → IsLegal plan (ran now number act ∷ past)
-    → IsNextCollectAct plan past number act
-next_of plan past now number act c h = let j = h.1.slot.1.0 in either plan past number act j.collects (slice_get j.ops (work j.number past))
+pub next_of : (start : Start) (past : Log) (now number : ℕ) (act : Act) → IsOfCollection act → IsLegal start (ran now number act ∷ past)
+    → IsNextCollectAct start past number act
+next_of start past now number act c h = let j = h.1.slot.1.0 in either start past number act j.collects (slice_get j.ops (work j.number past))
     c h.1.slot.1.1.next

@@ -5,5 +5,5 @@ use Rattle.die_log.proofs.laws.planned_work_is_accepted.Goals as goal
 pub returns : goal.returns
 returns c = record {
   next = unrefused;
-  run = λ plan times bound passes calls. run_accepted plan times bound passes [] calls tt;
+  run = λ start times bound passes stocked calls. run_accepted start times bound passes stocked [] calls tt;
 }
