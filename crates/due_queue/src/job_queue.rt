@@ -59,6 +59,14 @@ impl<K: JobKey> JobQueue<K> {
         self.pairs.reserve(count)
     }
 
+    /// Takes all keys away. The queue keeps the room that it has for more.
+    pub fn clear(&mut self)
+        ensures keys { self.new.keys ≡ [] }
+        ensures spare { self.old.spare ≤ self.new.spare }
+    {
+        self.pairs.clear();
+    }
+
     /// Puts a key in its place, in room that was reserved. The key is not there yet.
     pub fn insert(&mut self, key: K)
         requires room { 0 < self.old.spare }

@@ -57,6 +57,13 @@ impl PairHeap {
         Ok(())
     }
 
+    pub fn clear(&mut self)
+        ensures keys { self.new.keys ≡ [] }
+        ensures spare { self.old.spare ≤ self.new.spare }
+    {
+        self.heap.clear();
+    }
+
     pub fn insert(&mut self, pair: (u32, u32))
         requires room { 0 < self.old.spare }
         requires absent { ¬ Contains self.old.keys pair }

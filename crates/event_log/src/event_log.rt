@@ -75,6 +75,20 @@ impl EventLog {
         }
     }
 
+    /// Takes all events away. The log keeps its memory, so there is room for at least as many more as before.
+    pub fn clear(&mut self)
+        ensures events { self.new.notes ≡ [] }
+        ensures room { self.old.room ≤ self.new.room }
+        ensures waiver_room { self.old.waiver_room ≤ self.new.waiver_room }
+    {
+        self.deeds.clear();
+        self.callers.clear();
+        self.waivers.clear();
+        self.len = 0;
+        self.stretches = 0;
+        self.waives = false;
+    }
+
     /// How many events there are.
     pub fn len(&self) -> u32
         ensures { result ≡ length self.now.notes }

@@ -59,6 +59,16 @@ impl<T> Runs<T> {
     }
 }
 
+impl<T: Drop> Runs<T> {
+    /// Takes all items away. The list keeps its memory.
+    pub fn clear(&mut self)
+        ensures items { self.new.items ≡ [] }
+        ensures room { self.old.room ≤ self.new.room }
+    {
+        self.runs.clear();
+    }
+}
+
 impl<T> Runs<T> {
     /// For how many more items there is room, however few of them are alike.
     pub fn room(&self) -> usize

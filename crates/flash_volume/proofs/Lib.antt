@@ -8,3 +8,4 @@ pub mod Kept
 pub mod Beginning
 pub mod Fresh
 pub mod Trimming
+pub mod Worn

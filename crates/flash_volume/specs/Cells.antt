@@ -45,6 +45,14 @@ next_cell pages blocks =
     let block = unwrap_or (open_in pages blocks) 0 in
     record { block = block; page = filled_of (block_at blocks block) }
 
+-- more erases than so many
+abbrev pub is_worn_beyond : ℕ → ℕ → Bool
+is_worn_beyond most erases = nat_lt most erases
+
+-- the first block that was erased more often than so many times
+abbrev pub first_worn : ℕ → List Block → Option ℕ
+first_worn most blocks = position (is_worn_beyond most) (erases_in blocks)
+
 -- what a page holds that lies there
 abbrev pub content_at : List Block → Option Place → PageData
 content_at blocks None = blank

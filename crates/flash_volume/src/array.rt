@@ -9,7 +9,7 @@ ghost use Rattle.slot_types.specs.Shapes.{IsShape};
 ghost use Rattle.victim_pick.specs.Candidates.{count_of, HasNone, IsLeast};
 ghost use Rattle.page_map.specs.Placing.{blank_map, unbound};
 ghost use Rattle.flash_die.specs.Flash.{IsFresh, blank, block_at, programmed, erased};
-ghost use Rattle.flash_volume.specs.Cells.{filled_of, is_wholly_free, open_in, left_open, next_cell, content_at, contents, free_cells};
+ghost use Rattle.flash_volume.specs.Cells.{filled_of, first_worn, is_wholly_free, is_worn_beyond, open_in, left_open, next_cell, content_at, contents, free_cells};
 ghost use Rattle.flash_volume.specs.Array.{IsSoundArray, no_candidates, taken_out};
 ghost use Rattle.flash_volume.specs.ArrayCalls.{HasPlaced, HasErased, EndsWithDevice};
 ghost use Rattle.flash_volume.specs.Acts.{IsFirst};
@@ -93,6 +93,17 @@ impl<N: Nand> PageArray<N> {
         ensures { result.now ≡ self.now.device }
     {
         &self.device
+    }
+
+    /// The first block that was erased more than `most` times, if there is one.
+    pub(crate) fn first_worn(&self, most: u32) -> Option<u32>
+        requires alive { self.now.failed ≡ false }
+        ensures { result ≡ first_worn most (N.blocks self.now.device) }
+    {
+        match first_beyond(&self.erases, most) {
+            Some(block) => Some(block as u32),
+            None => None,
+        }
     }
 
     /// What a page holds. A page that was never written is blank, and calls no device.
@@ -262,6 +273,14 @@ fn left_open(block: u32, filled: u32, pages: u32) -> Option<u32>
     ensures { result ≡ left_open pages block filled }
 {
     if filled < pages { Some(block) } else { None }
+}
+
+/// The place of the first count above `most`.
+fn first_beyond(erases: &[u32], most: u32) -> Option<usize>
+    ensures found { result ≡ position (is_worn_beyond most) erases.now }
+    ensures in_range { IfSome result (λ block. block < length erases.now) }
+{
+    erases.iter().position(|count| *count > most)
 }
 
 fn first_wholly_free(fills: &[u32]) -> Option<usize>

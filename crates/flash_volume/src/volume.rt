@@ -8,7 +8,7 @@ ghost use Rattle.slot_types.specs.Places.{place_of};
 ghost use Rattle.plan_rules.specs.Bound.{MeetsBound};
 ghost use Rattle.plan_rules.specs.Accounts.{total_of, admitted};
 ghost use Rattle.flash_die.specs.Flash.{IsFresh, IsProgrammed, blank, programmed};
-ghost use Rattle.flash_volume.specs.Cells.{open_in, contents, free_cells};
+ghost use Rattle.flash_volume.specs.Cells.{first_worn, open_in, contents, free_cells};
 ghost use Rattle.flash_volume.specs.State.{fresh_volume, trimmed};
 ghost use Rattle.flash_volume.specs.Faults.{StopsWithDevice};
 ghost use Rattle.flash_volume.specs.Pages.{HasRead, HasWritten, KeepsBooks};
@@ -105,6 +105,14 @@ impl<N: Nand> Volume<N> {
         ensures { result ≡ self.now.failed }
     {
         self.array.failed()
+    }
+
+    /// The first block that was erased more than `most` times, if there is one. It looks at no page.
+    pub fn first_worn(&self, most: u32) -> Option<u32>
+        requires alive { self.now.failed ≡ false }
+        ensures { result ≡ first_worn most (N.blocks self.now.device) }
+    {
+        self.array.first_worn(most)
     }
 
     /// How many pages the task's next jobs may write.

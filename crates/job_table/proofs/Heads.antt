@@ -9,7 +9,8 @@ use Rattle.due_queue.specs.Keys.{is_due_before}
 use Rattle.job_table.specs.Jobs.{JobRecord, is_pending}
 use Rattle.job_table.specs.Table.{Table, changed_at}
 use Rattle.job_table.specs.Order.{is_ready, due_key, goes_before, IsHead, NothingReady}
-use Rattle.job_table.specs.Queued.{IsAmong, IsStanding, AreQueued, AreLater, release_key}
+use Rattle.job_table.specs.Queued.{IsAmong, IsStanding, AreQueued, AreLater}
+use Rattle.job_table.specs.Order.{release_key}
 use Rattle.job_table.proofs.Changed.{changed_here}
 use Rattle.job_table.proofs.Keyed.{IsQuiet, changed_cases}
 use Rattle.job_table.proofs.Members.{at_member}

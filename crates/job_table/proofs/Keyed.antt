@@ -11,7 +11,8 @@ use Rattle.due_queue.proofs.Inserted.{every, every-inserted}
 use Rattle.job_table.specs.Jobs.{JobRecord, is_pending}
 use Rattle.job_table.specs.Table.{changed_at}
 use Rattle.job_table.specs.Order.{due_key}
-use Rattle.job_table.specs.Queued.{IsWaiting, IsStanding, AreQueued, AreLater, release_key}
+use Rattle.job_table.specs.Queued.{IsWaiting, IsStanding, AreQueued, AreLater}
+use Rattle.job_table.specs.Order.{release_key}
 use Rattle.job_table.proofs.Changed.{changed_elsewhere, push_before, push_here, push_cases, same_at}
 use Rattle.job_table.proofs.Members.{both, inserted_member, inserted_keeps, not_contained}
 use Rattle.job_table.proofs.Orders.{later_release, not_before_same, not_due_before_same}

@@ -3,6 +3,7 @@ pub mod Members
 pub mod Orders
 pub mod Keyed
 pub mod Heads
+pub mod Nexts
 pub mod Worsts
 pub mod OneAnswer
 pub mod Waivers

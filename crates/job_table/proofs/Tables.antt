@@ -18,7 +18,8 @@ use Rattle.job_table.specs.declared.stages.Stage.TheVariants as stages
 use Rattle.job_table.specs.Jobs.{JobRecord, is_pending, is_done, with_stage, carried, with_read}
 use Rattle.job_table.specs.Table.{Table, changed_at, is_collection_of, is_collecting}
 use Rattle.job_table.specs.Order.{due_key, IsHead}
-use Rattle.job_table.specs.Queued.{Lines, AreQueued, AreLater, release_key}
+use Rattle.job_table.specs.Queued.{Lines, AreQueued, AreLater}
+use Rattle.job_table.specs.Order.{release_key}
 use Rattle.job_table.specs.Worst.{IsWorst, NothingDone, IsDoneAt}
 use Rattle.job_table.specs.Kept.{unmarked, IsRunning, IsSound}
 use Rattle.job_table.proofs.Changed.{length-changed_at, changed_here, one_if, count_by-changed_at, list_any-none, list_any-some, push_cases}

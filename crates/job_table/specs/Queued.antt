@@ -6,7 +6,7 @@ use Rattle.due_queue.specs.declared.keys.WaitKey.{WaitKey}
 use Rattle.due_queue.specs.Queue.{IsRising}
 use Rattle.due_queue.specs.Keys.{is_due_before, is_released_before}
 use Rattle.job_table.specs.Jobs.{JobRecord, is_pending}
-use Rattle.job_table.specs.Order.{due_key}
+use Rattle.job_table.specs.Order.{due_key, release_key}
 
 -- the keys in the two queues, and for how many more jobs there is room
 pub record Lines : Type 0 where
@@ -23,10 +23,6 @@ pub record IsRoomy (waiting : List WaitKey) (ready : List Key) (spare : ℕ) : T
 abbrev pub IsAmong : {K : Type 0} → K → List K → Type 0
 IsAmong key [] = ⊥
 IsAmong key (k ∷ ks) = (k ≡ key) ⊎ IsAmong key ks
-
--- the key of a job that waits for its release
-abbrev pub release_key : ℕ → JobRecord → WaitKey
-release_key number job = record { release = job.release; number = number }
 
 -- a key of a pending job
 pub record IsWaiting (jobs : List JobRecord) (key : WaitKey) : Type 0 where

@@ -43,6 +43,14 @@ impl OpArena {
         }
     }
 
+    /// Takes all operations away. The memory stays.
+    pub(crate) fn clear(&mut self)
+        ensures { self.new ≡ [] }
+    {
+        self.words.clear();
+        self.bytes.clear();
+    }
+
     /// How many operations there are.
     pub(crate) fn len(&self) -> usize
         ensures { result ≡ length self.now }

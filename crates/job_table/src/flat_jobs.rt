@@ -108,6 +108,16 @@ impl FlatJobs {
         }
     }
 
+    /// Takes all jobs away. The memory stays.
+    pub(crate) fn clear(&mut self)
+        ensures { self.new ≡ [] }
+    {
+        self.rows.clear();
+        self.ops.clear();
+        self.reads.clear();
+        self.all_reads = 0;
+    }
+
     /// How many there are.
     pub(crate) fn len(&self) -> u32
         requires { length self.now < 2 ^ 32 }

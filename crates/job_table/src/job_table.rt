@@ -6,7 +6,7 @@ ghost use Rattle.slot_types.specs.Refusal.{FailsForMemory};
 ghost use Rattle.job_table.specs.Jobs.{JobRecord, new_job, new_collection, carried, with_read, with_stage};
 ghost use Rattle.job_table.specs.Table.{empty_table, with_job, with_change, work_at, reads_next_at, is_collecting};
 ghost use Rattle.job_table.specs.Waivers.{AreWaived, WerePending, waived_in, stopped};
-ghost use Rattle.job_table.specs.Order.{IsHead, NothingReady};
+ghost use Rattle.job_table.specs.Order.{IsHead, IsNextReleased, NothingReady, NothingWaiting};
 ghost use Rattle.job_table.specs.Worst.{IsWorst, NothingDone, lateness_at};
 
 use crate::changes::{end_job, take_back};
@@ -63,6 +63,18 @@ impl JobTable {
             clock: 0,
             ended: false,
         })
+    }
+
+    /// Takes all jobs and collections away, at slot 0 again. The table keeps its memory for those that come.
+    pub fn clear(&mut self)
+        ensures { self.new ≡ empty_table self.old.tasks }
+    {
+        self.jobs.clear();
+        self.queues.clear();
+        self.collecting.fill(false);
+        self.worst = None;
+        self.clock = 0;
+        self.ended = false;
     }
 
     /// How many jobs and collections there are. The next one has this number.
@@ -197,6 +209,19 @@ impl JobTable {
         self.queues.release_by(&self.jobs, now);
         self.clock = now;
         match self.queues.first() {
+            Some(number) => Some(JobNo(number)),
+            None => None,
+        }
+    }
+
+    /// Of the jobs and collections that are released after the slot that `head` was last asked for, and that are neither
+    /// done nor waived, the one that is released first, and of equal ones the one with the smallest number.
+    pub fn next_released(&self) -> Option<JobNo>
+        requires running { self.now.ended ≡ false }
+        ensures next { IfSome result (IsNextReleased self.now) }
+        ensures none { IfNone result (NothingWaiting self.now) }
+    {
+        match self.queues.first_waiting() {
             Some(number) => Some(JobNo(number)),
             None => None,
         }

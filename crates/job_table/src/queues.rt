@@ -46,6 +46,15 @@ impl Queues {
         }
     }
 
+    /// Takes all keys away.
+    pub(crate) fn clear(&mut self)
+        ensures waiting { self.new.waiting ≡ [] }
+        ensures ready { self.new.ready ≡ [] }
+    {
+        self.waiting.clear();
+        self.ready.clear();
+    }
+
     /// Makes room for one more job.
     pub(crate) fn reserve(&mut self) -> Result<(), Refusal>
         requires { length self.old.waiting < 2 ^ 32 }
@@ -116,6 +125,14 @@ impl Queues {
         ensures rising { IsRising is_due_before self.now.ready }
     {
         self.ready.first().map(|key| key.number)
+    }
+
+    /// The number of the first job that waits for its release, if there is one.
+    pub(crate) fn first_waiting(&self) -> Option<u32>
+        ensures first { result ≡ option_map (λ k. k.number) (first_of self.now.waiting) }
+        ensures rising { IsRising is_released_before self.now.waiting }
+    {
+        self.waiting.first().map(|key| key.number)
     }
 
     /// The first released job is over.
