@@ -4,7 +4,6 @@ use Rattle.std.proofs.Common.{Some, None, Result, Ok, Err, if◌then◌else◌, 
 use Rattle.std.proofs.lemmas.Bool.{leb-false}
 use Rattle.std.proofs.lemmas.List.{append-nil}
 use Rattle.slot_types.specs.declared.limits.TheConstants.{MAX_SLOT}
-use Rattle.slot_types.specs.declared.plans.DiePlan.{DiePlan}
 use Rattle.slot_types.specs.declared.events.Event.{Event}
 use Rattle.slot_types.specs.declared.events.Event.TheVariants as events
 use Rattle.slot_types.specs.declared.refusals.Refusal.{Refusal}
@@ -27,6 +26,7 @@ use Rattle.die_service.specs.Runs.{stop_or}
 use Rattle.die_service.specs.Stores.{DiePass}
 use Rattle.die_service.specs.Drives.{Course, Standing, Asks, IsFit, Comes, NoneDue, BringsOne, Brings, TakesSlot, IsStopped}
 use Rattle.die_service.proofs.Driving.{far_accepts, far_refuses, asks_joins, asks_none, slots_more, stop_more}
+use Rattle.die_log.specs.Start.{Start}
 
 -- One event
 
@@ -63,7 +63,7 @@ module _ (never : Bool) (clock : ℕ) (p q : DiePass) (c d : Course) (event : Ev
         reply = Ok reply;
         asks = record {
           same = same;
-          plan = adds.grown.topic;
+          start = adds.grown.topic;
           far = far_accepts never p.view q.view comes.arrival.event reply adds;
           place = comes.place ∙ sym (behind_arrival comes.arrival.event c.place arrives);
           refused = comes.refused ∙ (sym (append-nil c.refused)
@@ -89,7 +89,7 @@ module _ (never : Bool) (clock : ℕ) (p q : DiePass) (c d : Course) (event : Ev
         reply = Err refused;
         asks = record {
           same = same;
-          plan = none.grown.topic;
+          start = none.grown.topic;
           far = far_refuses never p.view q.view comes.arrival.event refused none;
           place = place ∙ (comes.place ∙ sym (behind_arrival comes.arrival.event c.place arrives));
           refused = notes ∙ (ap (λ l. l ++ record { place = d.place - 1; refused = refused } ∷ []) comes.refused
@@ -102,10 +102,10 @@ module _ (never : Bool) (clock : ℕ) (p q : DiePass) (c d : Course) (event : Ev
 
 -- One slot
 
-pub slot_below : (plan : DiePlan) (past : Log) (reply : SlotReply) → answer plan past events.Slot ≡ replies.Slot reply → reply.slot
+pub slot_below : (start : Start) (past : Log) (reply : SlotReply) → answer start past events.Slot ≡ replies.Slot reply → reply.slot
     < 1048576
 unfolding answer
-slot_below plan past reply is = by (nat_le MAX_SLOT (now past)) refl is
+slot_below start past reply is = by (nat_le MAX_SLOT (now past)) refl is
   where
     same_slot : (a b : SlotReply) → replies.Slot a ≡ replies.Slot b → a ≡ b
     same_slot a b e = cc
@@ -113,13 +113,13 @@ slot_below plan past reply is = by (nat_le MAX_SLOT (now past)) refl is
     no_slot : (refusal : Refusal) (a : SlotReply) → replies.Refused refusal ≡ replies.Slot a → ⊥
     no_slot refusal a e = cc
 
-    by : (b : Bool) → nat_le MAX_SLOT (now past) ≡ b → answer_by plan past events.Slot (if b then Some ClockEnd else None)
+    by : (b : Bool) → nat_le MAX_SLOT (now past) ≡ b → answer_by start past events.Slot (if b then Some ClockEnd else None)
         ≡ replies.Slot reply → reply.slot < 1048576
     by true e h = absurd (no_slot ClockEnd reply h)
     by false e h =
         let below = leb-false MAX_SLOT (now past) e in
         let is_now : reply.slot ≡ now past = ap (λ r. r.slot) (sym (same_slot _ reply h))
-        ∙ slot_is plan past (choice plan past).waived (choice plan past).head in
+        ∙ slot_is start past (choice start past).waived (choice start past).head in
         omega (arith, below, is_now)
 
 module _ (never : Bool) (p q : DiePass) (c : Course) (slots : ℕ) (stop : Option RefusedAt) where
@@ -130,7 +130,7 @@ module _ (never : Bool) (p q : DiePass) (c : Course) (slots : ℕ) (stop : Optio
     slot_is = refl;
     asks = record {
       same = same;
-      plan = added.grown.topic;
+      start = added.grown.topic;
       far = far_accepts never p.view q.view events.Slot (replies.Slot reply) added;
       place = refl;
       refused = sym (append-nil c.refused);
@@ -146,7 +146,7 @@ module _ (never : Bool) (p q : DiePass) (c : Course) (slots : ℕ) (stop : Optio
     refused = refused;
     asks = record {
       same = same;
-      plan = left.grown.topic;
+      start = left.grown.topic;
       far = far_refuses never p.view q.view events.Slot refused left;
       place = refl;
       refused = sym (append-nil c.refused);

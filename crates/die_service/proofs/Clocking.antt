@@ -129,7 +129,7 @@ module _ (never : Bool) (slots from : ℕ) where
         o.asks.same,
         record {
           saids = o.saids;
-          plan = o.asks.plan;
+          start = o.asks.start;
           about_is = o.asks.far.about_is;
           ordered = subst (λ (x : ℕ × ℕ). InClockOrder x.0 x.1 s.course.rest o.saids) (λ i. (slots_are i, from_is i)) o.order;
           starts = o.asks.far.starts;

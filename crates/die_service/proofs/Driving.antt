@@ -2,7 +2,6 @@
 use Rattle.std.proofs.Common.{◌≡◌, ℕ, ◌+◌, ◌<◌, ◌≤◌, ◌⊎◌, inl, inr, Bool, List, [], ◌∷◌, ◌++◌, length, take, Some, None, Result, Ok, Err}
 use Rattle.std.proofs.Common.{refl, ap, sym, ◌∙◌, subst, arith, append_assoc, length-append}
 use Rattle.std.proofs.lemmas.List.{append-nil, take-append-le, take_all}
-use Rattle.slot_types.specs.declared.plans.DiePlan.{DiePlan}
 use Rattle.slot_types.specs.declared.events.Event.{Event}
 use Rattle.slot_types.specs.declared.events.Event.TheVariants as events
 use Rattle.slot_types.specs.declared.replies.Reply.{Reply}
@@ -18,6 +17,7 @@ use Rattle.die_service.specs.Stores.{DiePass}
 use Rattle.die_service.specs.Drives.{Course, place_after, Far, Asks, IsFit}
 use Rattle.die_service.proofs.LastPasses.{same_plan}
 use Rattle.die_service.proofs.Joining.{still_live, made_later, grown_joined, added_joined}
+use Rattle.die_log.specs.Start.{Start}
 
 -- Places in lists
 
@@ -119,24 +119,24 @@ own_more n a b c xs ys second first =
     second ∙ (ap (λ l. l ++ accepted_by n ys) first ∙ (append_assoc c (accepted_by n xs) (accepted_by n ys)
     ∙ ap (λ l. c ++ l) (sym (accepted_more n xs ys))))
 
-module _ (never : Bool) (plan : DiePlan) where
+module _ (never : Bool) (start : Start) where
   -- a reason stands when more was seen
   reasoned_later : (v w x : DieView) (before : List Said) (event : Event) (refused : RefusedAt) → StartsWith x.seen w.seen
-      → IsReasoned never plan v before event refused w → IsReasoned never plan v before event refused x
+      → IsReasoned never start v before event refused w → IsReasoned never start v before event refused x
   reasoned_later v w x before event refused starts r =
       let within : refused.entries ≤ length w.seen = r.within in
       let longer = length-append w.seen starts.0 in
       let same : take refused.entries x.seen ≡ take refused.entries w.seen = ap (take refused.entries) starts.1
       ∙ take-append-le refused.entries w.seen starts.0 within in record {
         within = omega (arith, within, longer, ap length starts.1);
-        reason = subst (λ (l : List Call). MayRefuse never plan (log_of l) event refused.refusal) (sym same) r.reason;
+        reason = subst (λ (l : List Call). MayRefuse never start (log_of l) event refused.refusal) (sym same) r.reason;
         own = ap (calls_by v.number) same ∙ r.own;
       }
 
   -- a reason behind other calls
   reasoned_behind : (v w x : DieView) (xs more : List Said) (event : Event) (refused : RefusedAt) → w.number ≡ v.number
       → calls_by v.number w.seen ≡ calls_by v.number v.seen ++ accepted_by v.number xs
-      → IsReasoned never plan w more event refused x → IsReasoned never plan v (xs ++ more) event refused x
+      → IsReasoned never start w more event refused x → IsReasoned never start v (xs ++ more) event refused x
   reasoned_behind v w x xs more event refused same own r = record {
     within = r.within;
     reason = r.reason;
@@ -144,8 +144,8 @@ module _ (never : Bool) (plan : DiePlan) where
         ++ accepted_by n more) same r.own) own;
   }
 
-  pub far_joins : (v w x : DieView) (xs ys : List Said) → w.number ≡ v.number → w.joined ≡ v.joined → Far never plan v xs w
-      → Far never plan w ys x → Far never plan v (xs ++ ys) x
+  pub far_joins : (v w x : DieView) (xs ys : List Said) → w.number ≡ v.number → w.joined ≡ v.joined → Far never start v xs w
+      → Far never start w ys x → Far never start v (xs ++ ys) x
   far_joins v w x xs ys same joined f g = record {
     about_is = f.about_is;
     starts = (f.starts.0 ++ g.starts.0, g.starts.1 ∙ (ap (λ l. l ++ g.starts.0) f.starts.1 ∙ append_assoc v.seen f.starts.0 g.starts.0));
@@ -163,9 +163,9 @@ module _ (never : Bool) (plan : DiePlan) where
       by : (before after : List Said) (event : Event) (refused : RefusedAt)
           → ((more : List Said) × (xs ≡ before ++ said event (Err refused) ∷ more))
           ⊎ ((more : List Said) × (before ≡ xs ++ more) × (ys ≡ more ++ said event (Err refused) ∷ after))
-          → IsReasoned never plan v before event refused x
+          → IsReasoned never start v before event refused x
       by before after event refused (inl h) = reasoned_later v w x before event refused g.starts (f.refused before h.0 event refused h.1)
-      by before after event refused (inr h) = subst (λ (l : List Said). IsReasoned never plan v l event refused x) (sym h.1)
+      by before after event refused (inr h) = subst (λ (l : List Said). IsReasoned never start v l event refused x) (sym h.1)
           (reasoned_behind v w x xs h.0 event refused same f.own (g.refused h.0 after event refused h.2))
 
 -- One call
@@ -247,11 +247,11 @@ far_refuses never v w event refused a = record {
 pub asks_joins : (never : Bool) (p q r : DiePass) (c d e : Course) (xs ys : List Said) → Asks never p c xs q d → Asks never q d ys r e
     → Asks never p c (xs ++ ys) r e
 asks_joins never p q r c d e xs ys a b =
-    let plan_is : b.plan ≡ a.plan = same_plan b.plan a.plan (sym b.far.about_is ∙ (a.same.3 ∙ a.far.about_is)) in record {
+    let plan_is : b.start ≡ a.start = same_plan b.start a.start (sym b.far.about_is ∙ (a.same.3 ∙ a.far.about_is)) in record {
       same = (b.same.0 ∙ a.same.0, b.same.1 ∙ a.same.1, b.same.2 ∙ a.same.2, b.same.3 ∙ a.same.3);
-      plan = a.plan;
-      far = far_joins never a.plan p.view q.view r.view xs ys a.same.1 a.same.2 a.far
-          (subst (λ (plan : DiePlan). Far never plan q.view ys r.view) plan_is b.far);
+      start = a.start;
+      far = far_joins never a.start p.view q.view r.view xs ys a.same.1 a.same.2 a.far
+          (subst (λ (start : Start). Far never start q.view ys r.view) plan_is b.far);
       place = b.place ∙ (ap (λ n. place_after n ys) a.place ∙ sym (place_more c.place xs ys));
       refused = b.refused ∙ (ap (λ l. l ++ refused_from d.place ys) a.refused
           ∙ (append_assoc c.refused (refused_from c.place xs) (refused_from d.place ys)
@@ -261,7 +261,7 @@ asks_joins never p q r c d e xs ys a b =
 pub asks_none : (never : Bool) (p : DiePass) (c : Course) → IsFit p.view → Asks never p c [] p c
 asks_none never p c fit = record {
   same = (refl, refl, refl, refl);
-  plan = fit.0;
+  start = fit.0;
   far = record {
     about_is = fit.1.0;
     starts = ([], sym (append-nil p.view.seen));
@@ -279,4 +279,4 @@ asks_none never p c fit = record {
 
 -- the pass knows its die still
 pub still_fit : (never : Bool) (p q : DiePass) (c d : Course) (saids : List Said) → Asks never p c saids q d → IsFit q.view
-still_fit never p q c d saids a = (a.plan, (a.same.3 ∙ a.far.about_is, a.far.exact))
+still_fit never p q c d saids a = (a.start, (a.same.3 ∙ a.far.about_is, a.far.exact))

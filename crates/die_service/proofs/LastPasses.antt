@@ -3,13 +3,13 @@ use Rattle.std.proofs.Common.{◌≡◌, ◌≤◌, ◌+◌, ℕ, suc, inl, inr,
 use Rattle.std.proofs.Common.{ap, sym, subst, ◌∙◌, arith}
 use Rattle.std.proofs.lemmas.List.{append-nil}
 use Rattle.std.specs.List.{AllByRecursion, AllZip}
-use Rattle.slot_types.specs.declared.plans.DiePlan.{DiePlan}
 use Rattle.slot_core.specs.Core.{Core}
 use Rattle.turn_lock.specs.Log.{AllBy}
 use Rattle.die_service.specs.Logs.{log_of, calls_of}
 use Rattle.die_service.specs.Passes.{DieView}
 use Rattle.die_service.specs.Stores.{DiePass, IsTold, AreTold, HasLogOf, IsClosed}
 use Rattle.die_service.proofs.Lists.{log_of_calls}
+use Rattle.die_log.specs.Start.{Start}
 
 -- Passes that were told
 
@@ -58,7 +58,7 @@ written n xs ys same is = rw (is, same, drop_all xs, append-nil ys, sym same) (t
 
 -- Dies that were closed
 
-pub same_plan : (a b : DiePlan) → Some a ≡ Some b → a ≡ b
+pub same_plan : (a b : Start) → Some a ≡ Some b → a ≡ b
 same_plan a b e = cc
 
 module _ {N : Type 0} (never : Bool) where
@@ -71,7 +71,7 @@ module _ {N : Type 0} (never : Bool) where
     by_own = subst (λ (x : ℕ × List ℕ). AllBy (x.0 ∷ x.1) (calls_of die.log)) (λ i. (told.0.1 i, told.0.2 i)) has.by_own;
   }
     where
-      about_is : p.view.about ≡ Some die.plan
+      about_is : p.view.about ≡ Some die.start
       about_is = sym told.0.3 ∙ has.about_is
 
       later : p.view.made ≤ q.view.made

@@ -7,6 +7,7 @@ use Rattle.slot_types.specs.declared.plans.Shape.{Shape}
 use Rattle.plan_rules.specs.Bound.{MeetsBound}
 use Rattle.flash_die.specs.Flash.{Block, IsFresh}
 use Rattle.turn_lock.specs.Log.{times}
+use Rattle.die_log.specs.Start.{fresh}
 use Rattle.turn_lock.specs.Views.{first_view, IsLive}
 use Rattle.die_service.specs.Passes.{DieView}
 use Rattle.die_service.specs.Stores.{DiePass, Fit, IsServed}
@@ -43,13 +44,13 @@ below_one : (p : ℕ) → 0 < times p (0 ∷ []) → p < 1
 below_one zero stands = omega arith
 below_one (suc p) stands = absurd (omega (arith, stands, only_zero p))
 
-first_is_live : (plan : DiePlan) (v : DieView) → v ≡ first_view plan → IsLive v
+first_is_live : (plan : DiePlan) (v : DieView) → v ≡ first_view (fresh plan) → IsLive v
 first_is_live plan v is = subst (λ (u : DieView). IsLive u) (sym is) (refl, below_one)
 
-pub first_live : (ps : List DiePass) (plans : List DiePlan) → map (λ (p : DiePass). p.view) ps ≡ map first_view plans
+pub first_live : (ps : List DiePass) (plans : List DiePlan) → map (λ (p : DiePass). p.view) ps ≡ map first_view (map fresh plans)
     → AllByRecursion (λ (p : DiePass). IsLive p.view) ps
 first_live [] plans is = tt
 first_live (p ∷ ps) [] is = absurd (omega (arith, ap length is))
 first_live (p ∷ ps) (plan ∷ plans) is =
-    let first : p.view ≡ first_view plan = cc in
+    let first : p.view ≡ first_view (fresh plan) = cc in
     (first_is_live plan p.view first, first_live ps plans cc)

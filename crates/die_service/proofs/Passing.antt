@@ -3,7 +3,6 @@ use Rattle.std.proofs.Common.{◌≡◌, ℕ, Bool, List, [], ◌∷◌, ◌++�
 use Rattle.std.proofs.Common.{subst}
 use Rattle.std.proofs.lemmas.List.{append-nil}
 use Rattle.std.specs.Prelude.{is_ok}
-use Rattle.slot_types.specs.declared.plans.DiePlan.{DiePlan}
 use Rattle.slot_types.specs.declared.events.Event.{Event}
 use Rattle.slot_types.specs.declared.events.Event.TheVariants.{Submit, Collect, Slot}
 use Rattle.slot_types.specs.declared.events.Op.{Op}
@@ -18,10 +17,11 @@ use Rattle.die_log.specs.Answers.{answer, answer_by, refusal_of, IsAccepted}
 use Rattle.die_service.specs.declared.refused.RefusedAt.{RefusedAt}
 use Rattle.die_service.specs.Replies.{HasExactLog, MayReply, result_noted}
 use Rattle.die_service.specs.Passes.{DieView, AddsEntry, AddsNone, IsTaken, IsSlotReply}
+use Rattle.die_log.specs.Start.{Start}
 
 -- what the lock says of a call
 abbrev Said : Bool → DieView → Event → Result Reply RefusedAt → DieView → Type 0
-Said never v event result w = Replies is_ok HasExactLog (λ plan calls caller event reply. MayReply never plan calls event reply) v event
+Said never v event result w = Replies is_ok HasExactLog (λ start calls caller event reply. MayReply never start calls event reply) v event
     result w
 
 -- and of the pass's own calls
@@ -73,33 +73,33 @@ noted_left never v event (Err refused) w said own = left never v event (Err refu
 
 -- Which replies a die gives
 
-taken_where : (plan : DiePlan) (past : Log) (task release due : ℕ) (ops : List Op) (o : Option Refusal) (reply : Reply)
-    → answer_by plan past (Submit task release due ops) o ≡ reply → IsAccepted reply → IsTaken reply
-taken_where plan past task release due ops None reply is accepted = subst IsTaken is tt
-taken_where plan past task release due ops (Some refusal) reply is accepted = absurd (subst IsAccepted (sym is) accepted)
+taken_where : (start : Start) (past : Log) (task release due : ℕ) (ops : List Op) (o : Option Refusal) (reply : Reply)
+    → answer_by start past (Submit task release due ops) o ≡ reply → IsAccepted reply → IsTaken reply
+taken_where start past task release due ops None reply is accepted = subst IsTaken is tt
+taken_where start past task release due ops (Some refusal) reply is accepted = absurd (subst IsAccepted (sym is) accepted)
 
-collected_where : (plan : DiePlan) (past : Log) (task release due : ℕ) (o : Option Refusal) (reply : Reply)
-    → answer_by plan past (Collect task release due) o ≡ reply → IsAccepted reply → IsTaken reply
-collected_where plan past task release due None reply is accepted = subst IsTaken is tt
-collected_where plan past task release due (Some refusal) reply is accepted = absurd (subst IsAccepted (sym is) accepted)
+collected_where : (start : Start) (past : Log) (task release due : ℕ) (o : Option Refusal) (reply : Reply)
+    → answer_by start past (Collect task release due) o ≡ reply → IsAccepted reply → IsTaken reply
+collected_where start past task release due None reply is accepted = subst IsTaken is tt
+collected_where start past task release due (Some refusal) reply is accepted = absurd (subst IsAccepted (sym is) accepted)
 
-slot_where : (plan : DiePlan) (past : Log) (o : Option Refusal) (reply : Reply) → answer_by plan past Slot o ≡ reply → IsAccepted reply
+slot_where : (start : Start) (past : Log) (o : Option Refusal) (reply : Reply) → answer_by start past Slot o ≡ reply → IsAccepted reply
     → IsSlotReply reply
-slot_where plan past None reply is accepted = subst IsSlotReply is tt
-slot_where plan past (Some refusal) reply is accepted = absurd (subst IsAccepted (sym is) accepted)
+slot_where start past None reply is accepted = subst IsSlotReply is tt
+slot_where start past (Some refusal) reply is accepted = absurd (subst IsAccepted (sym is) accepted)
 
-pub submit_taken : (plan : DiePlan) (past : Log) (task release due : ℕ) (ops : List Op) (reply : Reply)
-    → answer plan past (Submit task release due ops) ≡ reply → IsAccepted reply → IsTaken reply
+pub submit_taken : (start : Start) (past : Log) (task release due : ℕ) (ops : List Op) (reply : Reply)
+    → answer start past (Submit task release due ops) ≡ reply → IsAccepted reply → IsTaken reply
 unfolding answer
-submit_taken plan past task release due ops reply is accepted = taken_where plan past task release due ops
-    (refusal_of plan past (Submit task release due ops)) reply is accepted
+submit_taken start past task release due ops reply is accepted = taken_where start past task release due ops
+    (refusal_of start past (Submit task release due ops)) reply is accepted
 
-pub collect_taken : (plan : DiePlan) (past : Log) (task release due : ℕ) (reply : Reply) → answer plan past (Collect task release due)
+pub collect_taken : (start : Start) (past : Log) (task release due : ℕ) (reply : Reply) → answer start past (Collect task release due)
     ≡ reply → IsAccepted reply → IsTaken reply
 unfolding answer
-collect_taken plan past task release due reply is accepted = collected_where plan past task release due
-    (refusal_of plan past (Collect task release due)) reply is accepted
+collect_taken start past task release due reply is accepted = collected_where start past task release due
+    (refusal_of start past (Collect task release due)) reply is accepted
 
-pub slot_answered : (plan : DiePlan) (past : Log) (reply : Reply) → answer plan past Slot ≡ reply → IsAccepted reply → IsSlotReply reply
+pub slot_answered : (start : Start) (past : Log) (reply : Reply) → answer start past Slot ≡ reply → IsAccepted reply → IsSlotReply reply
 unfolding answer
-slot_answered plan past reply is accepted = slot_where plan past (refusal_of plan past Slot) reply is accepted
+slot_answered start past reply is accepted = slot_where start past (refusal_of start past Slot) reply is accepted

@@ -10,7 +10,6 @@ use Rattle.slot_types.specs.Arrivals.{IsArrival}
 use Rattle.slot_types.specs.Arriving.{arrived, coming}
 use Rattle.slot_types.proofs.Arriving.{arrived_hold, later_hold}
 use Rattle.slot_types.specs.declared.limits.TheConstants.{MAX_SLOT}
-use Rattle.slot_types.specs.declared.plans.DiePlan.{DiePlan}
 use Rattle.slot_types.specs.declared.plans.Times.{Times}
 use Rattle.slot_types.specs.declared.events.Event.{Event}
 use Rattle.slot_types.specs.declared.events.Event.TheVariants as events
@@ -18,7 +17,6 @@ use Rattle.slot_types.specs.declared.refusals.Refusal.{Refusal}
 use Rattle.slot_types.specs.declared.replies.Reply.{Reply}
 use Rattle.slot_types.specs.declared.replies.Reply.TheVariants as replies
 use Rattle.slot_types.specs.declared.replies.SlotReply.{SlotReply}
-use Rattle.plan_rules.specs.Bound.{MeetsBound}
 use Rattle.plan_rules.specs.Times.{Passes}
 use Rattle.plan_rules.specs.Keeping.{is_slot, slots, KeepsPlan}
 use Rattle.die_log.specs.Log.{Log, now}
@@ -42,9 +40,12 @@ use Rattle.die_service.specs.Runs.{Said, said, AllArrive, comes_at, AreAsked, In
 use Rattle.die_service.specs.Runs.{refused_from, stop_or, stop_of}
 use Rattle.die_service.proofs.Passing.{slot_answered}
 use Rattle.die_service.specs.Passes.{IsSlotReply}
-use Rattle.die_service.proofs.RunAlone.{saids, plan_is, said_is, said_exact, are_told}
+use Rattle.die_service.proofs.RunAlone.{saids, start_is, said_is, said_exact, are_told}
 use Rattle.die_service.proofs.SlotCalls.{slot_counted, slot_refused, numbered, stays_at}
 use Rattle.die_service.proofs.Transcripts.{AreTold, said_log, said_accepted, said_refused, front_exact}
+use Rattle.die_log.specs.Start.{Start}
+use Rattle.die_log.specs.Supply.{AreStocked}
+use Rattle.die_log.specs.Opening.{IsOpening}
 
 abbrev asked : List Said → List Event
 asked heard = map (λ (s : Said). s.event) heard
@@ -144,7 +145,7 @@ more_events due later over fed front slot are is =
     ∙ (sym (append_assoc (asked fed) (events.Slot ∷ asked front) over)
     ∙ ap (λ (es : List Event). es ++ over) (sym (map-append (λ (s : Said). s.event) fed (carried slot ∷ front))))
 
-module _ (never : Bool) (plan : DiePlan) (all : List Said) (known : AreTold never plan all) where
+module _ (never : Bool) (start : Start) (all : List Said) (known : AreTold never start all) where
   -- the feed's events take no slot
   fed_stay : (fed before after : List Said) → all ≡ before ++ (fed ++ after) → AllFed fed → now (said_log (before ++ fed))
       ≡ now (said_log before)
@@ -152,7 +153,7 @@ module _ (never : Bool) (plan : DiePlan) (all : List Said) (known : AreTold neve
   fed_stay (s ∷ fed) before after is h =
       ap (λ (b : List Said). now (said_log b)) (split_one before fed s)
       ∙ (fed_stay fed (before ++ s ∷ []) after (behind_first all before fed after s is) h.1
-      ∙ stays_at never plan all before (fed ++ after) s.event s.reply known is h.0)
+      ∙ stays_at never start all before (fed ++ after) s.event s.reply known is h.0)
 
   parts : (left clock : ℕ) (feed : List Arrival) (before rest : List Said) → all ≡ before ++ rest → InClockOrder left clock feed rest
       → now (said_log before) ≡ clock → AllArrive feed → Parts (events_from left clock feed) rest
@@ -178,7 +179,7 @@ module _ (never : Bool) (plan : DiePlan) (all : List Said) (known : AreTold neve
       let at_slot : all ≡ (before ++ fed) ++ carried slot ∷ more = here ∙ sym (append_assoc before fed (carried slot ∷ more)) in
       let answered = known.accepted (before ++ fed) more events.Slot (replies.Slot slot) at_slot in
       let still : now (said_log (before ++ fed)) ≡ clock = fed_stay fed before (carried slot ∷ more) here fed_all ∙ at_now in
-      let number : slot.slot ≡ clock = numbered plan (said_log (before ++ fed)) slot answered.0 ∙ still in
+      let number : slot.slot ≡ clock = numbered start (said_log (before ++ fed)) slot answered.0 ∙ still in
       let counted : now (said_log ((before ++ fed) ++ carried slot ∷ [])) ≡ clock + 1 =
       ap now (said_accepted (before ++ fed) events.Slot (replies.Slot slot))
       ∙ (slot_counted (said_log (before ++ fed)) _ slot refl ∙ ap (λ (n : ℕ). n + 1) still) in
@@ -221,7 +222,7 @@ module _ (never : Bool) (plan : DiePlan) (all : List Said) (known : AreTold neve
       → now (said_log (before ++ said events.Slot (Ok reply) ∷ [])) ≡ now (said_log before) + 1
   counts_slot before after reply is =
       let t = known.accepted before after events.Slot reply is in
-      by reply (slot_answered plan (said_log before) reply t.0 t.1)
+      by reply (slot_answered start (said_log before) reply t.0 t.1)
     where
       by : (r : Reply) → IsSlotReply r → now (said_log (before ++ said events.Slot (Ok r) ∷ [])) ≡ now (said_log before) + 1
       by (replies.Slot slot) h = ap now (said_accepted before events.Slot (replies.Slot slot)) ∙ slot_counted (said_log before) _ slot refl
@@ -234,9 +235,9 @@ module _ (never : Bool) (plan : DiePlan) (all : List Said) (known : AreTold neve
   counts_one before after events.Slot (Ok reply) h is = counts_slot before after reply is
   counts_one before after events.Slot (Err refused) h is = absurd h
   counts_one before after (events.Submit task release due ops) reply h is = omega
-      (arith, stays_at never plan all before after (events.Submit task release due ops) reply known is tt)
+      (arith, stays_at never start all before after (events.Submit task release due ops) reply known is tt)
   counts_one before after (events.Collect task release due) reply h is = omega
-      (arith, stays_at never plan all before after (events.Collect task release due) reply known is tt)
+      (arith, stays_at never start all before after (events.Collect task release due) reply known is tt)
 
   counts : (front before after : List Said) → AreHeard front → all ≡ before ++ (front ++ after) → now (said_log (before ++ front))
       ≡ now (said_log before) + slots (asked front)
@@ -281,10 +282,10 @@ answered_longer caller event (replies.Slot slot) past log h = (
       ∙ sym (append_assoc h.0 (with_entry caller event (replies.Slot slot) []) past),
 )
 
-run_longer : (plan : DiePlan) (calls : List (ℕ × Event)) (past : Log) → (later : Log) × (run plan past calls ≡ later ++ past)
-run_longer plan [] past = ([], refl)
-run_longer plan (call ∷ calls) past = answered_longer call.0 call.1 (answer plan past call.1) past (run plan past (call ∷ calls))
-    (run_longer plan calls (after_call plan past call))
+run_longer : (start : Start) (calls : List (ℕ × Event)) (past : Log) → (later : Log) × (run start past calls ≡ later ++ past)
+run_longer start [] past = ([], refl)
+run_longer start (call ∷ calls) past = answered_longer call.0 call.1 (answer start past call.1) past (run start past (call ∷ calls))
+    (run_longer start calls (after_call start past call))
 
 -- What keeps the plan
 
@@ -293,74 +294,74 @@ pub told_more : (past log : Log) (event : Event) (reply : Reply) (rest : List Ev
     ++ event ∷ rest ≡ told log ++ rest
 told_more past log event reply rest is = sym (append_assoc (told past) (event ∷ []) rest) ∙ ap (λ (l : Log). told l ++ rest) (sym is)
 
-pub not_refused : (plan : DiePlan) (past : Log) (event : Event) (refusal : Refusal) → refusal_of plan past event ≡ None
-    → answer plan past event ≡ replies.Refused refusal → ⊥
-not_refused plan past event refusal none is = subst IsAccepted (sym (accepted_answer plan past event none) ∙ is)
-    (entered plan past 0 event).0
+pub not_refused : (start : Start) (past : Log) (event : Event) (refusal : Refusal) → refusal_of start past event ≡ None
+    → answer start past event ≡ replies.Refused refusal → ⊥
+not_refused start past event refusal none is = subst IsAccepted (sym (accepted_answer start past event none) ∙ is)
+    (entered start past 0 event).0
 
 no_slot : (event : Event) → IsArrival event → event ≡ events.Slot → ⊥
 no_slot event h is = subst IsArrival is h
 
-module _ (never : Bool) (plan : DiePlan) (times : Times) (bound : MeetsBound plan) (passes : Passes plan times) (all : List Said)
-    (known : AreTold never plan all) (exact : IsExact plan (said_log all)) where
+module _ (never : Bool) (start : Start) (times : Times) (bound : IsOpening start) (passes : Passes start.plan times)
+    (stocked : AreStocked start times) (all : List Said) (known : AreTold never start all) (exact : IsExact start (said_log all)) where
   -- an event of the feed that keeps the plan is refused for want of memory alone
-  by_memory : (past : Log) (event : Event) (rest : List Event) (refusal : Refusal) → IsArrival event → IsExact plan past
-      → KeepsPlan plan times (told past ++ event ∷ rest) → MayRefuse never plan past event refusal → IsForMemory never refusal
+  by_memory : (past : Log) (event : Event) (rest : List Event) (refusal : Refusal) → IsArrival event → IsExact start past
+      → KeepsPlan start.plan times (told past ++ event ∷ rest) → MayRefuse never start past event refusal → IsForMemory never refusal
   by_memory past event rest refusal fed is keeps (inl (inl own)) = absurd
-      (not_refused plan past event refusal (unrefused plan times bound passes past event rest is keeps) own)
+      (not_refused start past event refusal (unrefused start times bound passes stocked past event rest is keeps) own)
   by_memory past event rest refusal fed is keeps (inl (inr memory)) = inl memory.1
   by_memory past event rest refusal fed is keeps (inr (inl fault)) = absurd (no_slot event fed fault.1)
   by_memory past event rest refusal fed is keeps (inr (inr stopped)) = inr stopped
 
   taken_from : (front before after : List Said) (over : List Event) (place : ℕ) → all ≡ before ++ (front ++ after) → AreHeard front
-      → KeepsPlan plan times (told (said_log before) ++ (asked front ++ over)) → AreTakenUntilMemory never (refused_from place front)
+      → KeepsPlan start.plan times (told (said_log before) ++ (asked front ++ over)) → AreTakenUntilMemory never (refused_from place front)
   taken_from [] before after over place is h keeps = tt
   taken_from (s ∷ front) before after over place is h keeps = by s.event s.reply is h.0 keeps
       (λ n. taken_from front (before ++ s ∷ []) after over n (behind_first all before front after s is) h.1)
     where
       by : (event : Event) (reply : Result Reply RefusedAt) → all ≡ before ++ ((said event reply ∷ front) ++ after) → IsHeard event reply
-          → KeepsPlan plan times (told (said_log before) ++ (event ∷ asked front ++ over))
-          → ((n : ℕ) → KeepsPlan plan times (told (said_log (before ++ said event reply ∷ [])) ++ (asked front ++ over))
+          → KeepsPlan start.plan times (told (said_log before) ++ (event ∷ asked front ++ over))
+          → ((n : ℕ) → KeepsPlan start.plan times (told (said_log (before ++ said event reply ∷ [])) ++ (asked front ++ over))
           → AreTakenUntilMemory never (refused_from n front))
           → AreTakenUntilMemory never (noted place event reply (refused_from (place_behind event place) front))
       by events.Slot (Ok reply) at heard keep more = more place
-          (subst (KeepsPlan plan times) (told_more (said_log before) _ events.Slot reply (asked front ++ over)
+          (subst (KeepsPlan start.plan times) (told_more (said_log before) _ events.Slot reply (asked front ++ over)
           (said_accepted before events.Slot reply)) keep)
       by events.Slot (Err refused) at heard keep more = absurd heard
       by (events.Submit task release due ops) (Ok reply) at heard keep more =
-          more (suc place) (subst (KeepsPlan plan times)
+          more (suc place) (subst (KeepsPlan start.plan times)
           (told_more (said_log before) _ (events.Submit task release due ops) reply (asked front ++ over)
           (said_accepted before (events.Submit task release due ops) reply)) keep)
       by (events.Submit task release due ops) (Err refused) at heard keep more =
           by_memory (said_log before) (events.Submit task release due ops) (asked front ++ over) refused.refusal tt
-          (front_exact plan all before _ exact at) keep
+          (front_exact start all before _ exact at) keep
           (known.refused before (front ++ after) (events.Submit task release due ops) refused at)
       by (events.Collect task release due) (Ok reply) at heard keep more =
-          more (suc place) (subst (KeepsPlan plan times)
+          more (suc place) (subst (KeepsPlan start.plan times)
           (told_more (said_log before) _ (events.Collect task release due) reply (asked front ++ over)
           (said_accepted before (events.Collect task release due) reply)) keep)
       by (events.Collect task release due) (Err refused) at heard keep more =
           by_memory (said_log before) (events.Collect task release due) (asked front ++ over) refused.refusal tt
-          (front_exact plan all before _ exact at) keep
+          (front_exact start all before _ exact at) keep
           (known.refused before (front ++ after) (events.Collect task release due) refused at)
 
   -- what was heard is in time, since what is left over could be entered behind it
   in_time : (front after : List Said) (over : List Event) → all ≡ front ++ after → AreHeard front
-      → KeepsPlan plan times (asked front ++ over) → IsInTime plan (said_log front)
+      → KeepsPlan start.plan times (asked front ++ over) → IsInTime start.plan (said_log front)
   in_time front after over is h keeps =
       let calls = calls_for over in
-      let later = run_longer plan calls (said_log front) in
+      let later = run_longer start calls (said_log front) in
       let none : now (said_log []) ≡ 0 = refl in
       let few : now (said_log front) + slots over ≤ MAX_SLOT = omega
-      (arith, none, counts never plan all known front [] after h is, slots_more (asked front) over, keeps.few_slots) in
-      let on : AreEntered over (said_log front) (run plan (said_log front) calls) = subst
-      (λ (es : List Event). AreEntered es (said_log front) (run plan (said_log front) calls)) (events_back over)
-      (run_enters plan calls (said_log front) (subst (λ (es : List Event). now (said_log front) + slots es ≤ MAX_SLOT)
+      (arith, none, counts never start all known front [] after h is, slots_more (asked front) over, keeps.few_slots) in
+      let on : AreEntered over (said_log front) (run start (said_log front) calls) = subst
+      (λ (es : List Event). AreEntered es (said_log front) (run start (said_log front) calls)) (events_back over)
+      (run_enters start calls (said_log front) (subst (λ (es : List Event). now (said_log front) + slots es ≤ MAX_SLOT)
       (sym (events_back over)) few)) in
-      let whole = entered_on (asked front) over [] (said_log front) (run plan (said_log front) calls)
-      (enters never plan all known front [] h) on in
-      planned_in_time plan times bound passes (asked front ++ over) keeps later.0 (said_log front)
-      (subst (IsExact plan) later.1 (run_exact plan (said_log front) calls (front_exact plan all front after exact is)))
+      let whole = entered_on (asked front) over [] (said_log front) (run start (said_log front) calls)
+      (enters never start all known front [] h) on in
+      planned_in_time start times bound passes (asked front ++ over) keeps later.0 (said_log front)
+      (subst (IsExact start) later.1 (run_exact start (said_log front) calls (front_exact start all front after exact is)))
       (subst (AreEntered (asked front ++ over) []) later.1 whole)
 
 -- A slot that is refused
@@ -381,35 +382,35 @@ stops_behind : (front rest : List Said) → AreHeard front → stop_of (front ++
 stops_behind [] rest h = refl
 stops_behind (s ∷ front) rest h = heard_on s.event s.reply (stop_of (front ++ rest)) h.0 ∙ stops_behind front rest h.1
 
-stops_for_memory : (never : Bool) (plan : DiePlan) (past : Log) (refusal : Refusal) → now past < MAX_SLOT
-    → MayRefuse never plan past events.Slot refusal → IsForMemoryOrFault never refusal
-stops_for_memory never plan past refusal few (inl own) = inl (inl (slot_refused plan past refusal few own))
-stops_for_memory never plan past refusal few (inr (inl fault)) = inr (fault.0, fault.3)
-stops_for_memory never plan past refusal few (inr (inr stopped)) = inl (inr stopped)
+stops_for_memory : (never : Bool) (start : Start) (past : Log) (refusal : Refusal) → now past < MAX_SLOT
+    → MayRefuse never start past events.Slot refusal → IsForMemoryOrFault never refusal
+stops_for_memory never start past refusal few (inl own) = inl (inl (slot_refused start past refusal few own))
+stops_for_memory never start past refusal few (inr (inl fault)) = inr (fault.0, fault.3)
+stops_for_memory never start past refusal few (inr (inr stopped)) = inl (inr stopped)
 
 -- All together
 
-record Goes (never : Bool) (plan : DiePlan) (all : List Said) : Type 0 where
-  in_time_is : IsInTime plan (said_log all)
+record Goes (never : Bool) (start : Start) (all : List Said) : Type 0 where
+  in_time_is : IsInTime start.plan (said_log all)
   taken_is : AreTakenUntilMemory never (refused_from 0 all)
   carried_is : IfSome (stop_of all) (λ stop. IsForMemoryOrFault never stop.refusal)
 
-module _ (never : Bool) (plan : DiePlan) (times : Times) (bound : MeetsBound plan) (passes : Passes plan times) (all : List Said)
-    (known : AreTold never plan all) (exact : IsExact plan (said_log all)) where
-  goes : (es : List Event) (p : Parts es all) → KeepsPlan plan times es → Goes never plan all
+module _ (never : Bool) (start : Start) (times : Times) (bound : IsOpening start) (passes : Passes start.plan times)
+    (stocked : AreStocked start times) (all : List Said) (known : AreTold never start all) (exact : IsExact start (said_log all)) where
+  goes : (es : List Event) (p : Parts es all) → KeepsPlan start.plan times es → Goes never start all
   goes es p keeps = by p.ends
     where
-      kept : KeepsPlan plan times (asked p.front ++ p.over)
-      kept = subst (KeepsPlan plan times) p.events_are keeps
+      kept : KeepsPlan start.plan times (asked p.front ++ p.over)
+      kept = subst (KeepsPlan start.plan times) p.events_are keeps
 
-      by : Ends p.front p.over all → Goes never plan all
+      by : Ends p.front p.over all → Goes never start all
       by (inl same) =
           let here : all ≡ p.front ++ [] = same ∙ sym (append-nil p.front) in
           record {
-            in_time_is = subst (λ (xs : List Said). IsInTime plan (said_log xs)) (sym same)
-                (in_time never plan times bound passes all known exact p.front [] p.over here p.heard kept);
+            in_time_is = subst (λ (xs : List Said). IsInTime start.plan (said_log xs)) (sym same)
+                (in_time never start times bound passes stocked all known exact p.front [] p.over here p.heard kept);
             taken_is = subst (λ (xs : List Said). AreTakenUntilMemory never (refused_from 0 xs)) (sym same)
-                (taken_from never plan times bound passes all known exact p.front [] [] p.over 0 here p.heard kept);
+                (taken_from never start times bound passes stocked all known exact p.front [] [] p.over 0 here p.heard kept);
             carried_is = subst (λ (o : Option RefusedAt). IfSome o (λ stop. IsForMemoryOrFault never stop.refusal))
                 (sym (ap stop_of here ∙ stops_behind p.front [] p.heard)) tt;
           }
@@ -420,31 +421,31 @@ module _ (never : Bool) (plan : DiePlan) (times : Times) (bound : MeetsBound pla
           let few : now (said_log p.front) < MAX_SLOT = omega (
             arith,
             none,
-            counts never plan all known p.front [] (s ∷ []) p.heard last,
+            counts never start all known p.front [] (s ∷ []) p.heard last,
             slots_more (asked p.front) p.over,
             kept.few_slots,
             at_slot,
           ) in
           record {
-            in_time_is = subst (IsInTime plan) (sym (ap said_log last ∙ said_refused p.front events.Slot refused))
-                (in_time never plan times bound passes all known exact p.front (s ∷ []) p.over last p.heard kept);
+            in_time_is = subst (IsInTime start.plan) (sym (ap said_log last ∙ said_refused p.front events.Slot refused))
+                (in_time never start times bound passes stocked all known exact p.front (s ∷ []) p.over last p.heard kept);
             taken_is = subst (AreTakenUntilMemory never) (sym (ap (refused_from 0) last ∙ refused_last p.front refused 0))
-                (taken_from never plan times bound passes all known exact p.front [] (s ∷ []) p.over 0 last p.heard kept);
+                (taken_from never start times bound passes stocked all known exact p.front [] (s ∷ []) p.over 0 last p.heard kept);
             carried_is = subst (λ (o : Option RefusedAt). IfSome o (λ stop. IsForMemoryOrFault never stop.refusal))
                 (sym (ap stop_of last ∙ stops_behind p.front (s ∷ []) p.heard))
-                (stops_for_memory never plan (said_log p.front) refused.refusal few (known.refused p.front [] events.Slot refused last));
+                (stops_for_memory never start (said_log p.front) refused.refusal few (known.refused p.front [] events.Slot refused last));
           }
 
-pub go_as_planned : (never : Bool) (plan : DiePlan) (count : ℕ) (feed : List Arrival) (end : DieEnd) (log : Log) → AllArrive feed
-    → KeepsItsPlan plan count feed → RanAlone never plan count feed end log → GoesAsPlanned never plan end log
-go_as_planned never plan count feed end log arrive k r =
-    let all : List Said = saids never count plan feed end log r in
-    let known = are_told never count plan feed end log r in
-    let bound : MeetsBound plan = subst MeetsBound (plan_is never count plan feed end log r) r.ran.exact.bound in
-    let g = goes never plan k.times bound k.passes all known (said_exact never count plan feed end log r) (events_of count feed)
-    (parts never plan all known count 0 feed [] all refl r.ran.ordered refl arrive) k.keeps in
+pub go_as_planned : (never : Bool) (start : Start) (count : ℕ) (feed : List Arrival) (end : DieEnd) (log : Log) → AllArrive feed
+    → KeepsItsPlan start count feed → RanAlone never start count feed end log → GoesAsPlanned never start.plan end log
+go_as_planned never start count feed end log arrive k r =
+    let all : List Said = saids never count start feed end log r in
+    let known = are_told never count start feed end log r in
+    let bound : IsOpening start = subst IsOpening (start_is never count start feed end log r) r.ran.exact.opens in
+    let g = goes never start k.times bound k.passes k.stocked all known (said_exact never count start feed end log r) (events_of count feed)
+    (parts never start all known count 0 feed [] all refl r.ran.ordered refl arrive) k.keeps in
     record {
-      in_time = subst (IsInTime plan) (sym (said_is never count plan feed end log r)) g.in_time_is;
+      in_time = subst (IsInTime start.plan) (sym (said_is never count start feed end log r)) g.in_time_is;
       taken = subst (AreTakenUntilMemory never) (sym (ap (λ (e : DieEnd). e.refused) r.ran.end_is)) g.taken_is;
       carried = subst (λ (o : Option RefusedAt). IfSome o (λ stop. IsForMemoryOrFault never stop.refusal))
           (sym (ap (λ (e : DieEnd). e.stop) r.ran.end_is)) g.carried_is;

@@ -1,7 +1,6 @@
 -- What is promised of an exact log is promised of what a pass has seen.
 use Rattle.std.proofs.Common.{◌≡◌, List, ◌++◌, map, reverse, ap, ◌∙◌, subst}
 use Rattle.std.proofs.lemmas.List.{reverse-append, map-append}
-use Rattle.slot_types.specs.declared.plans.DiePlan.{DiePlan}
 use Rattle.turn_lock.specs.Views.{SeesFitting}
 use Rattle.die_log.specs.Answers.{IsExact}
 use Rattle.die_log.specs.Promised.{KeepsPromises}
@@ -9,17 +8,18 @@ use Rattle.die_log.proofs.Promises.{keeps_promises, moment_promises}
 use Rattle.die_service.specs.Logs.{Call, entry_of, log_of}
 use Rattle.die_service.specs.Replies.{HasExactLog}
 use Rattle.die_service.specs.Passes.{DieView, SeesPromised}
+use Rattle.die_log.specs.Start.{Start}
 
-pub seen_promised : (plan : DiePlan) (seen : List Call) → HasExactLog plan seen → KeepsPromises plan (log_of seen)
-seen_promised plan seen h = keeps_promises plan h.bound (log_of seen) h.exact
+pub seen_promised : (start : Start) (seen : List Call) → HasExactLog start seen → KeepsPromises start (log_of seen)
+seen_promised start seen h = keeps_promises start h.opens (log_of seen) h.exact
 
 -- the log of calls and later ones
 log_of_more : (first later : List Call) → log_of (first ++ later) ≡ log_of later ++ log_of first
 log_of_more first later = ap reverse (map-append entry_of first later) ∙ reverse-append (map entry_of first) (map entry_of later)
 
-pub beginning_promised : (plan : DiePlan) (first later : List Call) → HasExactLog plan (first ++ later) → KeepsPromises plan (log_of first)
-beginning_promised plan first later h = moment_promises plan h.bound (log_of later) (log_of first)
-    (subst (IsExact plan) (log_of_more first later) h.exact)
+pub beginning_promised : (start : Start) (first later : List Call) → HasExactLog start (first ++ later) → KeepsPromises start (log_of first)
+beginning_promised start first later h = moment_promises start h.opens (log_of later) (log_of first)
+    (subst (IsExact start) (log_of_more first later) h.exact)
 
 pub sees_promised : (v : DieView) → SeesFitting HasExactLog v → SeesPromised v
-sees_promised v fits = record { plan = fits.0; about_is = fits.1; exact = fits.2; promised = seen_promised fits.0 v.seen fits.2 }
+sees_promised v fits = record { start = fits.0; about_is = fits.1; exact = fits.2; promised = seen_promised fits.0 v.seen fits.2 }

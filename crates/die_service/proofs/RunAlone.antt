@@ -1,6 +1,5 @@
 -- What is known of the log of a die on which nothing was done but one run.
 use Rattle.std.proofs.Common.{◌≡◌, ℕ, List, [], ◌∷◌, ◌++◌, ap, sym, ◌∙◌, subst, take, Bool}
-use Rattle.slot_types.specs.declared.plans.DiePlan.{DiePlan}
 use Rattle.turn_lock.specs.Log.{calls_by, AllBy}
 use Rattle.die_log.specs.Log.{Log}
 use Rattle.die_log.specs.Answers.{IsExact}
@@ -12,14 +11,15 @@ use Rattle.die_service.specs.Replies.{MayRefuse}
 use Rattle.die_service.specs.Runs.{Said, accepted_by}
 use Rattle.die_service.proofs.LastPasses.{same_plan}
 use Rattle.die_service.proofs.Transcripts.{AreTold, said_log, told_accepted, own_of_log, front_own}
+use Rattle.die_log.specs.Start.{Start}
 
-module _ (never_fails : Bool) (slots : ℕ) (plan : DiePlan) (feed : List Arrival) (end : DieEnd) (log : Log)
-    (r : RanAlone never_fails plan slots feed end log) where
+module _ (never_fails : Bool) (slots : ℕ) (start : Start) (feed : List Arrival) (end : DieEnd) (log : Log)
+    (r : RanAlone never_fails start slots feed end log) where
   abbrev pub saids : List Said
   saids = r.ran.saids
 
-  pub plan_is : r.ran.plan ≡ plan
-  plan_is = same_plan r.ran.plan plan (sym r.ran.about_is ∙ ap (λ v. v.about) r.fresh)
+  pub start_is : r.ran.start ≡ start
+  start_is = same_plan r.ran.start start (sym r.ran.about_is ∙ ap (λ v. v.about) r.fresh)
 
   number_is : r.first.view.number ≡ 0
   number_is = ap (λ v. v.number) r.fresh
@@ -38,17 +38,17 @@ module _ (never_fails : Bool) (slots : ℕ) (plan : DiePlan) (feed : List Arriva
   pub said_is : log ≡ said_log saids
   said_is = r.log_is ∙ ap log_of seen_is
 
-  pub said_exact : IsExact plan (said_log saids)
-  said_exact = subst (λ (x : DiePlan × Log). IsExact x.0 x.1) (λ i. (plan_is i, log_of (seen_is i))) r.ran.exact.exact
+  pub said_exact : IsExact start (said_log saids)
+  said_exact = subst (λ (x : Start × Log). IsExact x.0 x.1) (λ i. (start_is i, log_of (seen_is i))) r.ran.exact.exact
 
-  pub are_told : AreTold never_fails plan saids
+  pub are_told : AreTold never_fails start saids
   are_told = record {
-    accepted = λ before after event reply is. told_accepted plan saids before after event reply said_exact is;
+    accepted = λ before after event reply is. told_accepted start saids before after event reply said_exact is;
     refused = λ before after event refused is.
         let why = r.ran.refused before after event refused is in
         let these : take refused.entries r.last.view.seen
         ≡ accepted_by 0 before = sym (front_own 0 refused.entries r.last.view.seen all_mine)
         ∙ (ap (λ n. calls_by n (take refused.entries r.last.view.seen)) (sym number_is) ∙ (why.own
         ∙ λ i. calls_by (number_is i) (ap (λ v. v.seen) r.fresh i) ++ accepted_by (number_is i) before)) in
-        subst (λ (x : DiePlan × Log). MayRefuse never_fails x.0 x.1 event refused.refusal) (λ i. (plan_is i, log_of (these i))) why.reason;
+        subst (λ (x : Start × Log). MayRefuse never_fails x.0 x.1 event refused.refusal) (λ i. (start_is i, log_of (these i))) why.reason;
   }

@@ -5,7 +5,6 @@ use Rattle.std.proofs.lemmas.Bool.{lt-leb}
 use Rattle.std.proofs.lemmas.List.{length_push}
 use Rattle.slot_types.specs.Arrivals.{IsArrival}
 use Rattle.slot_types.specs.declared.limits.TheConstants.{MAX_SLOT}
-use Rattle.slot_types.specs.declared.plans.DiePlan.{DiePlan}
 use Rattle.slot_types.specs.declared.events.Event.{Event}
 use Rattle.slot_types.specs.declared.events.Event.TheVariants as events
 use Rattle.slot_types.specs.declared.refusals.Refusal.{Refusal}
@@ -23,68 +22,69 @@ use Rattle.die_service.specs.Passes.{IsTaken}
 use Rattle.die_service.specs.Runs.{Said, said}
 use Rattle.die_service.proofs.Passing.{submit_taken, collect_taken}
 use Rattle.die_service.proofs.Transcripts.{AreTold, said_log, said_accepted, said_refused}
+use Rattle.die_log.specs.Start.{Start}
 
 -- Slots
 
 pub slot_counted : (past log : Log) (reply : SlotReply) → log ≡ with_entry 0 events.Slot (replies.Slot reply) past → now log ≡ now past + 1
 slot_counted past log reply logged = ap now logged ∙ length_push (carried past) reply.ran
 
-goes_on : (plan : DiePlan) (past : Log) → now past < MAX_SLOT → refusal_of plan past events.Slot ≡ None
-goes_on plan past few = rw (lt-leb MAX_SLOT (now past) few) refl
+goes_on : (start : Start) (past : Log) → now past < MAX_SLOT → refusal_of start past events.Slot ≡ None
+goes_on start past few = rw (lt-leb MAX_SLOT (now past) few) refl
 
-accepted_slot : (plan : DiePlan) (past : Log) → now past < MAX_SLOT → IsAccepted (answer plan past events.Slot)
+accepted_slot : (start : Start) (past : Log) → now past < MAX_SLOT → IsAccepted (answer start past events.Slot)
 unfolding answer
-accepted_slot plan past few = rw (goes_on plan past few) tt
+accepted_slot start past few = rw (goes_on start past few) tt
 
 no_refusal : (r : Reply) (refusal : Refusal) → IsAccepted r → r ≡ replies.Refused refusal → ⊥
 no_refusal r refusal taken is = subst IsAccepted is taken
 
 -- below the clock's end a slot is refused for want of memory alone, unless its device fails
-pub slot_refused : (plan : DiePlan) (past : Log) (refusal : Refusal) → now past < MAX_SLOT → RefusedBy plan past events.Slot refusal
+pub slot_refused : (start : Start) (past : Log) (refusal : Refusal) → now past < MAX_SLOT → RefusedBy start past events.Slot refusal
     → refusal ≡ because.NoMemory
-slot_refused plan past refusal few (inl is) = absurd (no_refusal _ refusal (accepted_slot plan past few) is)
-slot_refused plan past refusal few (inr h) = h.1
+slot_refused start past refusal few (inl is) = absurd (no_refusal _ refusal (accepted_slot start past few) is)
+slot_refused start past refusal few (inr h) = h.1
 
 same_slot : (s t : SlotReply) → replies.Slot s ≡ replies.Slot t → s ≡ t
 same_slot s t e = cc
 
 -- a slot's reply has its number
-numbered_by : (plan : DiePlan) (past : Log) (slot : SlotReply) (o : Option Refusal) → answer_by plan past events.Slot o ≡ replies.Slot slot
+numbered_by : (start : Start) (past : Log) (slot : SlotReply) (o : Option Refusal) → answer_by start past events.Slot o ≡ replies.Slot slot
     → slot.slot ≡ now past
-numbered_by plan past slot None e =
-    let c = choice plan past in
-    ap (λ (s : SlotReply). s.slot) (sym (same_slot (slot_reply plan past c.waived c.head) slot e)) ∙ slot_is plan past c.waived c.head
-numbered_by plan past slot (Some refusal) e = absurd cc
+numbered_by start past slot None e =
+    let c = choice start past in
+    ap (λ (s : SlotReply). s.slot) (sym (same_slot (slot_reply start past c.waived c.head) slot e)) ∙ slot_is start past c.waived c.head
+numbered_by start past slot (Some refusal) e = absurd cc
 
-pub numbered : (plan : DiePlan) (past : Log) (slot : SlotReply) → answer plan past events.Slot ≡ replies.Slot slot → slot.slot ≡ now past
+pub numbered : (start : Start) (past : Log) (slot : SlotReply) → answer start past events.Slot ≡ replies.Slot slot → slot.slot ≡ now past
 unfolding answer
-numbered plan past slot is = numbered_by plan past slot (refusal_of plan past events.Slot) is
+numbered start past slot is = numbered_by start past slot (refusal_of start past events.Slot) is
 
 -- Jobs and collections
 
 -- an accepted one takes no slot
-pub taken_stays : (plan : DiePlan) (past : Log) (event : Event) (reply : Reply) → IsArrival event → answer plan past event ≡ reply
+pub taken_stays : (start : Start) (past : Log) (event : Event) (reply : Reply) → IsArrival event → answer start past event ≡ reply
     → IsAccepted reply → now (with_entry 0 event reply past) ≡ now past
-taken_stays plan past (events.Submit task release due ops) reply h is taken = by reply
-    (submit_taken plan past task release due ops reply is taken)
+taken_stays start past (events.Submit task release due ops) reply h is taken = by reply
+    (submit_taken start past task release due ops reply is taken)
   where
     by : (r : Reply) → IsTaken r → now (with_entry 0 (events.Submit task release due ops) r past) ≡ now past
     by (replies.Taken number) t = refl
     by (replies.Slot slot) t = absurd t
     by (replies.Refused refusal) t = absurd t
-taken_stays plan past (events.Collect task release due) reply h is taken = by reply
-    (collect_taken plan past task release due reply is taken)
+taken_stays start past (events.Collect task release due) reply h is taken = by reply
+    (collect_taken start past task release due reply is taken)
   where
     by : (r : Reply) → IsTaken r → now (with_entry 0 (events.Collect task release due) r past) ≡ now past
     by (replies.Taken number) t = refl
     by (replies.Slot slot) t = absurd t
     by (replies.Refused refusal) t = absurd t
-taken_stays plan past events.Slot reply h is taken = absurd h
+taken_stays start past events.Slot reply h is taken = absurd h
 
-pub stays_at : (never_fails : Bool) (plan : DiePlan) (saids before after : List Said) (event : Event) (reply : Result Reply RefusedAt)
-    → AreTold never_fails plan saids → saids ≡ before ++ said event reply ∷ after → IsArrival event
+pub stays_at : (never_fails : Bool) (start : Start) (saids before after : List Said) (event : Event) (reply : Result Reply RefusedAt)
+    → AreTold never_fails start saids → saids ≡ before ++ said event reply ∷ after → IsArrival event
     → now (said_log (before ++ said event reply ∷ [])) ≡ now (said_log before)
-stays_at never_fails plan saids before after event (Ok reply) told is h =
+stays_at never_fails start saids before after event (Ok reply) told is h =
     let t = told.accepted before after event reply is in
-    ap now (said_accepted before event reply) ∙ taken_stays plan (said_log before) event reply h t.0 t.1
-stays_at never_fails plan saids before after event (Err refused) told is h = ap now (said_refused before event refused)
+    ap now (said_accepted before event reply) ∙ taken_stays start (said_log before) event reply h t.0 t.1
+stays_at never_fails start saids before after event (Err refused) told is h = ap now (said_refused before event refused)

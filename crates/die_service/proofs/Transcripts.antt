@@ -4,7 +4,6 @@ use Rattle.std.proofs.Common.{filter, reverse, take, append_assoc, arith, Ok, Er
 use Rattle.std.proofs.lemmas.Bool.{eq-eqb, false≢true}
 use Rattle.std.proofs.lemmas.List.{map-append, reverse-append, reverse-reverse}
 use Rattle.std.proofs.lemmas.List.Elements.{filter-append}
-use Rattle.slot_types.specs.declared.plans.DiePlan.{DiePlan}
 use Rattle.slot_types.specs.declared.events.Event.{Event}
 use Rattle.slot_types.specs.declared.replies.Reply.{Reply}
 use Rattle.turn_lock.specs.Log.{entry, calls_by, AllBy}
@@ -15,6 +14,7 @@ use Rattle.die_service.specs.declared.refused.RefusedAt.{RefusedAt}
 use Rattle.die_service.specs.Logs.{Call, entry_of, log_of, call_of, calls_of}
 use Rattle.die_service.specs.Replies.{MayRefuse}
 use Rattle.die_service.specs.Runs.{Said, said, accepted_by, was_accepted}
+use Rattle.die_log.specs.Start.{Start}
 
 -- The log of the calls that were accepted
 
@@ -42,32 +42,32 @@ said_refused before event refused = said_more before (said event (Err refused) �
 -- What is known of each call
 
 -- an accepted call was answered by the log of those before it, and a refused one may be refused by a die at that log
-pub record AreTold (never_fails : Bool) (plan : DiePlan) (saids : List Said) : Type 0 where
+pub record AreTold (never_fails : Bool) (start : Start) (saids : List Said) : Type 0 where
   pub accepted : (before after : List Said) (event : Event) (reply : Reply) → saids ≡ before ++ said event (Ok reply) ∷ after
-      → (answer plan (said_log before) event ≡ reply) × IsAccepted reply
+      → (answer start (said_log before) event ≡ reply) × IsAccepted reply
   pub refused : (before after : List Said) (event : Event) (refused : RefusedAt) → saids ≡ before ++ said event (Err refused) ∷ after
-      → MayRefuse never_fails plan (said_log before) event refused.refusal
+      → MayRefuse never_fails start (said_log before) event refused.refusal
 
-exact_behind : (plan : DiePlan) (xs ys : Log) → IsExact plan (xs ++ ys) → IsExact plan ys
-exact_behind plan [] ys h = h
-exact_behind plan (x ∷ xs) ys h = exact_behind plan xs ys h.0
+exact_behind : (start : Start) (xs ys : Log) → IsExact start (xs ++ ys) → IsExact start ys
+exact_behind start [] ys h = h
+exact_behind start (x ∷ xs) ys h = exact_behind start xs ys h.0
 
 split_one : (before after : List Said) (s : Said) → before ++ s ∷ after ≡ (before ++ s ∷ []) ++ after
 split_one before after s = sym (append_assoc before (s ∷ []) after)
 
 -- the log of what was said at first is exact
-pub front_exact : (plan : DiePlan) (saids before after : List Said) → IsExact plan (said_log saids) → saids ≡ before ++ after
-    → IsExact plan (said_log before)
-front_exact plan saids before after exact is = exact_behind plan (log_of (accepted_by 0 after)) (said_log before)
-    (subst (IsExact plan) (ap said_log is ∙ said_more before after) exact)
+pub front_exact : (start : Start) (saids before after : List Said) → IsExact start (said_log saids) → saids ≡ before ++ after
+    → IsExact start (said_log before)
+front_exact start saids before after exact is = exact_behind start (log_of (accepted_by 0 after)) (said_log before)
+    (subst (IsExact start) (ap said_log is ∙ said_more before after) exact)
 
-pub told_accepted : (plan : DiePlan) (saids before after : List Said) (event : Event) (reply : Reply) → IsExact plan (said_log saids)
-    → saids ≡ before ++ said event (Ok reply) ∷ after → (answer plan (said_log before) event ≡ reply) × IsAccepted reply
-told_accepted plan saids before after event reply exact is =
+pub told_accepted : (start : Start) (saids before after : List Said) (event : Event) (reply : Reply) → IsExact start (said_log saids)
+    → saids ≡ before ++ said event (Ok reply) ∷ after → (answer start (said_log before) event ≡ reply) × IsAccepted reply
+told_accepted start saids before after event reply exact is =
     let all : said_log saids ≡ log_of (accepted_by 0 after) ++ said_log (before ++ said event (Ok reply) ∷ []) =
     ap said_log (is ∙ split_one before after (said event (Ok reply))) ∙ said_more (before ++ said event (Ok reply) ∷ []) after in
-    let here : IsExact plan (with_entry 0 event reply (said_log before)) = subst (IsExact plan) (said_accepted before event reply)
-    (exact_behind plan (log_of (accepted_by 0 after)) (said_log (before ++ said event (Ok reply) ∷ [])) (subst (IsExact plan) all exact)) in
+    let here : IsExact start (with_entry 0 event reply (said_log before)) = subst (IsExact start) (said_accepted before event reply)
+    (exact_behind start (log_of (accepted_by 0 after)) (said_log (before ++ said event (Ok reply) ∷ [])) (subst (IsExact start) all exact)) in
     (sym here.1, here.2)
 
 -- Calls of one caller

@@ -1,6 +1,5 @@
 -- What a die behind its turn may answer to a question.
 use Rattle.std.specs.Prelude.{◌≡◌, ℕ, ◌⊎◌, ◌↔◌, List, Option, Some, None, Result, Err, IfOk, IfErr, IfSome}
-use Rattle.slot_types.specs.declared.plans.DiePlan.{DiePlan}
 use Rattle.slot_types.specs.declared.refusals.Refusal.{Refusal}
 use Rattle.slot_types.specs.declared.refusals.Refusal.TheVariants.{NoMemory, UnknownJob}
 use Rattle.late_cert.specs.declared.certificates.Certificate.{Certificate}
@@ -14,28 +13,29 @@ use Rattle.die_service.specs.declared.queries.Query.TheVariants as asks
 use Rattle.die_service.specs.declared.queries.Answer.{Answer}
 use Rattle.die_service.specs.declared.queries.Answer.TheVariants as tells
 use Rattle.die_service.specs.Logs.{Call, log_of}
+use Rattle.die_log.specs.Start.{Start}
 
 -- what became of the job or collection of this number; refused where the log has none of it, or memory is refused
-pub record TellsOutcome (plan : DiePlan) (log : Log) (job : ℕ) (result : Result Outcome Refusal) : Type 0 where
-  pub ok : IfOk result (λ outcome. outcome_at plan log job ≡ Some outcome)
+pub record TellsOutcome (start : Start) (log : Log) (job : ℕ) (result : Result Outcome Refusal) : Type 0 where
+  pub ok : IfOk result (λ outcome. outcome_at start log job ≡ Some outcome)
   pub unknown : (result ≡ Err UnknownJob) ↔ (job_at log job ≡ None)
   pub refused : IfErr result (λ refusal. (refusal ≡ UnknownJob) ⊎ (refusal ≡ NoMemory))
 
 -- the certificate of the log's worst job, none where nothing is done; refused where memory is refused
-pub record TellsCertificate (plan : DiePlan) (log : Log) (result : Result (Option Certificate) Refusal) : Type 0 where
-  pub ok : IfOk result (λ built. built ≡ certificate plan log)
-  pub none : IfOk result (λ built. (built ≡ None) ↔ NothingDone plan log)
-  pub worst : IfOk result (λ built. IfSome built (IsOfWorst plan log))
-  pub holds : IfOk result (λ built. IfSome built (HoldsOver plan log))
-  pub binds : IfOk result (λ built. IfSome built (BindsAll plan log))
+pub record TellsCertificate (start : Start) (log : Log) (result : Result (Option Certificate) Refusal) : Type 0 where
+  pub ok : IfOk result (λ built. built ≡ certificate start.plan log)
+  pub none : IfOk result (λ built. (built ≡ None) ↔ NothingDone start.plan log)
+  pub worst : IfOk result (λ built. IfSome built (IsOfWorst start.plan log))
+  pub holds : IfOk result (λ built. IfSome built (HoldsOver start.plan log))
+  pub binds : IfOk result (λ built. IfSome built (BindsAll start.plan log))
   pub refused : IfErr result (λ refusal. refusal ≡ NoMemory)
 
-abbrev pub Tells : DiePlan → Log → Query → Answer → Type 0
-Tells plan log (asks.Outcome job) (tells.Outcome result) = TellsOutcome plan log job result
-Tells plan log asks.Worst (tells.Worst result) = result ≡ worst_of plan log
-Tells plan log asks.Certificate (tells.Certificate result) = TellsCertificate plan log result
-Tells plan log asks.Now (tells.Now result) = result ≡ now log
-Tells plan log _ _ = ⊥
+abbrev pub Tells : Start → Log → Query → Answer → Type 0
+Tells start log (asks.Outcome job) (tells.Outcome result) = TellsOutcome start log job result
+Tells start log asks.Worst (tells.Worst result) = result ≡ worst_of start.plan log
+Tells start log asks.Certificate (tells.Certificate result) = TellsCertificate start log result
+Tells start log asks.Now (tells.Now result) = result ≡ now log
+Tells start log _ _ = ⊥
 
-abbrev pub MayAnswer : DiePlan → List Call → Query → Answer → Type 0
-MayAnswer plan calls query answer = Tells plan (log_of calls) query answer
+abbrev pub MayAnswer : Start → List Call → Query → Answer → Type 0
+MayAnswer start calls query answer = Tells start (log_of calls) query answer

@@ -1,6 +1,5 @@
 -- How far a worker is with a die, and what it has asked of it on the way.
 use Rattle.std.specs.Prelude.{◌≡◌, ◌≢◌, ℕ, ◌+◌, ◌<◌, ◌≤◌, Bool, true, List, [], ◌∷◌, ◌++◌, Option, Some, None, Result, Ok, Err}
-use Rattle.slot_types.specs.declared.plans.DiePlan.{DiePlan}
 use Rattle.slot_types.specs.declared.events.Event.{Event}
 use Rattle.slot_types.specs.declared.events.Event.TheVariants as events
 use Rattle.slot_types.specs.declared.events.Op.{Op}
@@ -21,6 +20,7 @@ use Rattle.slot_types.specs.Arriving.{arrived, coming}
 use Rattle.die_service.specs.Runs.{Said, said, comes_at, AreAsked, accepted_by, slots_in, place_behind, refused_from, stop_of}
 use Rattle.die_service.specs.Runs.{IsReasoned, HasRun}
 use Rattle.die_service.specs.Stores.{DiePass}
+use Rattle.die_log.specs.Start.{Start}
 
 -- The slot at which a batch begins and how many slots it has, the events of its feed that are still to come, how many came, the
 -- operations of the last of these, and those of them that were refused
@@ -67,21 +67,21 @@ abbrev pub place_after : ℕ → List Said → ℕ
 place_after place [] = place
 place_after place (s ∷ saids) = place_after (place_behind s.event place) saids
 
--- the pass is of a die of this plan, and has seen an exact log
-abbrev pub Knows : DieView → DiePlan → Type 0
-Knows v plan = (v.about ≡ Some plan) × HasExactLog plan v.seen
+-- the pass is of a die with this start, and has seen an exact log
+abbrev pub Knows : DieView → Start → Type 0
+Knows v start = (v.about ≡ Some start) × HasExactLog start v.seen
 
 abbrev pub IsFit : DieView → Type 0
-IsFit v = (plan : DiePlan) × Knows v plan
+IsFit v = (start : Start) × Knows v start
 
 -- what a pass that knew `v` knows once these were asked
-pub record Far (never_fails : Bool) (plan : DiePlan) (v : DieView) (saids : List Said) (w : DieView) : Type 0 where
-  pub about_is : v.about ≡ Some plan
+pub record Far (never_fails : Bool) (start : Start) (v : DieView) (saids : List Said) (w : DieView) : Type 0 where
+  pub about_is : v.about ≡ Some start
   pub starts : StartsWith w.seen v.seen
-  pub exact : HasExactLog plan w.seen
+  pub exact : HasExactLog start w.seen
   pub own : calls_by v.number w.seen ≡ calls_by v.number v.seen ++ accepted_by v.number saids
   pub refused : (before after : List Said) (event : Event) (refused : RefusedAt) → saids ≡ before ++ said event (Err refused) ∷ after
-      → IsReasoned never_fails plan v before event refused w
+      → IsReasoned never_fails start v before event refused w
   pub joined : v.live ≡ true → (p : ℕ) → 0 < times p v.joined → p ≢ v.number → calls_by p w.seen ≡ calls_by p v.seen
   pub live : w.live ≡ v.live
   pub later : v.made ≤ w.made
@@ -90,8 +90,8 @@ pub record Far (never_fails : Bool) (plan : DiePlan) (v : DieView) (saids : List
 -- these were asked, and those of a feed that were refused are noted
 pub record Asks (never_fails : Bool) (p : DiePass) (c : Course) (saids : List Said) (q : DiePass) (d : Course) : Type 0 where
   pub same : IsSamePass p q
-  pub plan : DiePlan
-  pub far : Far never_fails plan p.view saids q.view
+  pub start : Start
+  pub far : Far never_fails start p.view saids q.view
   pub place : d.place ≡ place_after c.place saids
   pub refused : d.refused ≡ c.refused ++ refused_from c.place saids
 

@@ -1,6 +1,5 @@
 -- What a call of a die does to the pass that makes it: `v` is what the pass knew before, `w` what it knows after.
 use Rattle.std.specs.Prelude.{◌≡◌, Bool, [], ◌∷◌, ◌++◌, length, Some, Result, Ok}
-use Rattle.slot_types.specs.declared.plans.DiePlan.{DiePlan}
 use Rattle.slot_types.specs.declared.events.Event.{Event}
 use Rattle.slot_types.specs.declared.replies.Reply.{Reply}
 use Rattle.slot_types.specs.declared.replies.Reply.TheVariants as replies
@@ -13,10 +12,11 @@ use Rattle.die_log.specs.Promised.{KeepsPromises}
 use Rattle.die_service.specs.declared.refused.RefusedAt.{RefusedAt}
 use Rattle.die_service.specs.Logs.{log_of}
 use Rattle.die_service.specs.Replies.{HasExactLog, MayRefuse}
+use Rattle.die_log.specs.Start.{Start}
 
 -- what a pass knows of its die
 abbrev pub DieView : Type 0
-DieView = View Event (Result Reply RefusedAt) DiePlan
+DieView = View Event (Result Reply RefusedAt) Start
 
 -- the pass has seen what others did since, and what it has seen is an exact log
 abbrev pub HasGrown : DieView → DieView → Type 0
@@ -38,16 +38,16 @@ pub record AddsNone (never_fails : Bool) (v : DieView) (event : Event) (refused 
   pub reason : MayRefuse never_fails grown.topic (log_of w.seen) event refused.refusal
   pub own : calls_by v.number w.seen ≡ calls_by v.number v.seen
 
--- this is true of the plan and of the log that the pass has then seen
-abbrev pub Sees : DieView → DieView → (DiePlan → Log → Type 0) → Type 0
+-- this is true of the start and of the log that the pass has then seen
+abbrev pub Sees : DieView → DieView → (Start → Log → Type 0) → Type 0
 Sees v w IsTrueOf = (g : HasGrown v w) × IsTrueOf g.topic (log_of w.seen)
 
--- what the pass has seen is an exact log of its die's plan, and keeps all that is promised of a log
+-- what the pass has seen is an exact log from its die's start, and keeps all that is promised of a log
 pub record SeesPromised (v : DieView) : Type 0 where
-  pub plan : DiePlan
-  pub about_is : v.about ≡ Some plan
-  pub exact : HasExactLog plan v.seen
-  pub promised : KeepsPromises plan (log_of v.seen)
+  pub start : Start
+  pub about_is : v.about ≡ Some start
+  pub exact : HasExactLog start v.seen
+  pub promised : KeepsPromises start (log_of v.seen)
 
 -- the reply that takes a job or collection
 abbrev pub IsTaken : Reply → Type 0

@@ -19,6 +19,8 @@ use Rattle.die_service.specs.declared.feeds.Arrival.{Arrival}
 use Rattle.die_service.specs.Logs.{log_of, calls_of}
 use Rattle.die_service.specs.Runs.{comes_at, whole_batch, HasRun}
 use Rattle.die_service.specs.Stores.{DiePass}
+use Rattle.die_log.specs.Start.{Start}
+use Rattle.die_log.specs.Supply.{AreStocked}
 
 abbrev pub events_in : List Arrival → List Event
 events_in feed = map (λ (arrival : Arrival). arrival.event) feed
@@ -34,18 +36,19 @@ events_from (suc left) clock feed =
 abbrev pub events_of : ℕ → List Arrival → List Event
 events_of slots feed = events_from slots 0 feed
 
--- the feed of a die keeps its plan in so many slots, with times that pass their test
-pub record KeepsItsPlan (plan : DiePlan) (slots : ℕ) (feed : List Arrival) : Type 0 where
+-- the feed of a die keeps its plan in so many slots, with times that pass their test and for which its tasks have the tokens
+pub record KeepsItsPlan (start : Start) (slots : ℕ) (feed : List Arrival) : Type 0 where
   pub times : Times
-  pub passes : Passes plan times
-  pub keeps : KeepsPlan plan times (events_of slots feed)
+  pub passes : Passes start.plan times
+  pub stocked : AreStocked start times
+  pub keeps : KeepsPlan start.plan times (events_of slots feed)
 
 -- A new die, on which nothing was done but the run of its first pass: this is what the pass has seen, each entry by it or
 -- by one that was joined into it. `IsClosed` says the last two of a die that was closed with the pass.
-pub record RanAlone (never_fails : Bool) (plan : DiePlan) (slots : ℕ) (feed : List Arrival) (end : DieEnd) (log : Log) : Type 0 where
+pub record RanAlone (never_fails : Bool) (start : Start) (slots : ℕ) (feed : List Arrival) (end : DieEnd) (log : Log) : Type 0 where
   pub first : DiePass
   pub last : DiePass
-  pub fresh : first.view ≡ first_view plan
+  pub fresh : first.view ≡ first_view start
   pub same : IsSamePass first last
   pub ran : HasRun never_fails (whole_batch slots feed) first.view end last.view
   pub log_is : log ≡ log_of last.view.seen

@@ -1,12 +1,10 @@
 -- What a die behind its turn may reply to an event.
 use Rattle.std.specs.Prelude.{◌≡◌, ◌⊎◌, Bool, false, List, length, Result, Ok, Err}
-use Rattle.slot_types.specs.declared.plans.DiePlan.{DiePlan}
 use Rattle.slot_types.specs.declared.events.Event.{Event}
 use Rattle.slot_types.specs.declared.events.Event.TheVariants.{Slot}
 use Rattle.slot_types.specs.declared.refusals.Refusal.{Refusal}
 use Rattle.slot_types.specs.declared.refusals.Refusal.TheVariants.{DeviceFault, DieStopped}
 use Rattle.slot_types.specs.declared.replies.Reply.{Reply}
-use Rattle.plan_rules.specs.Bound.{MeetsBound}
 use Rattle.die_log.specs.Log.{Log}
 use Rattle.die_log.specs.Answers.{answer, IsAccepted, IsExact}
 use Rattle.slot_core.specs.declared.events.ReplyNote.{ReplyNote}
@@ -14,25 +12,27 @@ use Rattle.slot_core.specs.Calls.{RefusedBy}
 use Rattle.slot_core.specs.Events.{noted}
 use Rattle.die_service.specs.declared.refused.RefusedAt.{RefusedAt}
 use Rattle.die_service.specs.Logs.{Call, log_of}
+use Rattle.die_log.specs.Start.{Start}
+use Rattle.die_log.specs.Opening.{IsOpening}
 
--- the plan meets its bound, and each call was answered as a die of this plan answers it behind the calls before it
-pub record HasExactLog (plan : DiePlan) (calls : List Call) : Type 0 where
-  pub bound : MeetsBound plan
-  pub exact : IsExact plan (log_of calls)
+-- a log may start here, and each call was answered as a die that started so answers it after the calls before it
+pub record HasExactLog (start : Start) (calls : List Call) : Type 0 where
+  pub opens : IsOpening start
+  pub exact : IsExact start (log_of calls)
 
 -- A die at this log may refuse the event so: the log refuses it; or the log accepts it, and memory is refused; or the
 -- log accepts it, it is a slot, and the device fails; or the device failed before. A device that never fails does neither.
-abbrev pub MayRefuse : Bool → DiePlan → Log → Event → Refusal → Type 0
-MayRefuse never_fails plan log event refusal =
-    RefusedBy plan log event refusal
-    ⊎ ((never_fails ≡ false) × (event ≡ Slot) × IsAccepted (answer plan log event) × (refusal ≡ DeviceFault))
+abbrev pub MayRefuse : Bool → Start → Log → Event → Refusal → Type 0
+MayRefuse never_fails start log event refusal =
+    RefusedBy start log event refusal
+    ⊎ ((never_fails ≡ false) × (event ≡ Slot) × IsAccepted (answer start log event) × (refusal ≡ DeviceFault))
     ⊎ ((never_fails ≡ false) × (refusal ≡ DieStopped))
 
 -- an accepted event is answered by the log; a refused one tells how many entries there were
-abbrev pub MayReply : Bool → DiePlan → List Call → Event → Result Reply RefusedAt → Type 0
-MayReply never_fails plan calls event (Ok reply) = (answer plan (log_of calls) event ≡ reply) × IsAccepted reply
-MayReply never_fails plan calls event (Err refused) =
-    (refused.entries ≡ length calls) × MayRefuse never_fails plan (log_of calls) event refused.refusal
+abbrev pub MayReply : Bool → Start → List Call → Event → Result Reply RefusedAt → Type 0
+MayReply never_fails start calls event (Ok reply) = (answer start (log_of calls) event ≡ reply) × IsAccepted reply
+MayReply never_fails start calls event (Err refused) =
+    (refused.entries ≡ length calls) × MayRefuse never_fails start (log_of calls) event refused.refusal
 
 -- the reply that a note is of, where the event was accepted
 abbrev pub result_noted : Result ReplyNote RefusedAt → Result Reply RefusedAt

@@ -1,7 +1,6 @@
 -- A run of slots on a die: what a pass asked of it in which order, what it was replied, and what came of it.
 use Rattle.std.specs.Prelude.{true, ◌≡◌, ◌≢◌, ℕ, zero, suc, ◌+◌, ◌<◌, ◌≤◌, ◌⊎◌, Bool, List, [], ◌∷◌, ◌++◌, length, map, filter}
 use Rattle.std.specs.Prelude.{take, All, Option, Some, None, Result, Ok, Err, is_ok}
-use Rattle.slot_types.specs.declared.plans.DiePlan.{DiePlan}
 use Rattle.slot_types.specs.declared.events.Event.{Event}
 use Rattle.slot_types.specs.declared.events.Event.TheVariants as events
 use Rattle.slot_types.specs.Arrivals.{IsArrival}
@@ -20,6 +19,7 @@ use Rattle.die_service.specs.Logs.{Call, log_of}
 use Rattle.die_service.specs.Passes.{DieView}
 use Rattle.die_service.specs.Replies.{HasExactLog, MayRefuse}
 use Rattle.die_service.specs.Stores.{DiePass}
+use Rattle.die_log.specs.Start.{Start}
 
 -- What is asked, and in which order
 
@@ -103,10 +103,10 @@ end_of saids = record { slots = slots_in saids; refused = refused_from 0 saids; 
 
 -- A call was refused behind so many entries of those that the pass `w` has seen: a die with these may refuse it so, and
 -- of the pass's own entries they are the ones from before the call.
-pub record IsReasoned (never_fails : Bool) (plan : DiePlan) (v : DieView) (before : List Said) (event : Event) (refused : RefusedAt)
+pub record IsReasoned (never_fails : Bool) (start : Start) (v : DieView) (before : List Said) (event : Event) (refused : RefusedAt)
     (w : DieView) : Type 0 where
   pub within : refused.entries ≤ length w.seen
-  pub reason : MayRefuse never_fails plan (log_of (take refused.entries w.seen)) event refused.refusal
+  pub reason : MayRefuse never_fails start (log_of (take refused.entries w.seen)) event refused.refusal
   pub own : calls_by v.number (take refused.entries w.seen) ≡ calls_by v.number v.seen ++ accepted_by v.number before
 
 -- A pass that knew `v` ran the slots of this batch with its feed, and knows `w`: it has seen an exact log, its own entries are
@@ -115,14 +115,14 @@ pub record IsReasoned (never_fails : Bool) (plan : DiePlan) (v : DieView) (befor
 -- where no other pass was left, none is.
 pub record HasRun (never_fails : Bool) (batch : Batch) (v : DieView) (end : DieEnd) (w : DieView) : Type 0 where
   pub saids : List Said
-  pub plan : DiePlan
-  pub about_is : v.about ≡ Some plan
+  pub start : Start
+  pub about_is : v.about ≡ Some start
   pub ordered : InClockOrder batch.slots batch.from batch.feed saids
   pub starts : StartsWith w.seen v.seen
-  pub exact : HasExactLog plan w.seen
+  pub exact : HasExactLog start w.seen
   pub own : calls_by v.number w.seen ≡ calls_by v.number v.seen ++ accepted_by v.number saids
   pub refused : (before after : List Said) (event : Event) (refused : RefusedAt) → saids ≡ before ++ said event (Err refused) ∷ after
-      → IsReasoned never_fails plan v before event refused w
+      → IsReasoned never_fails start v before event refused w
   pub joined : (p : ℕ) → 0 < times p v.joined → p ≢ v.number → calls_by p w.seen ≡ calls_by p v.seen
   pub live : IsLive w
   pub later : v.made ≤ w.made

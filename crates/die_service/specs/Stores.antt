@@ -16,6 +16,7 @@ use Rattle.die_log.specs.Promised.{KeepsPromises}
 use Rattle.die_service.specs.declared.refused.RefusedAt.{RefusedAt}
 use Rattle.die_service.specs.Logs.{log_of, calls_of}
 use Rattle.die_service.specs.Replies.{HasExactLog}
+use Rattle.die_log.specs.Start.{Start}
 
 -- each device has the shape of the die in its place; a die or a device that is alone in its place fits
 abbrev pub Fit : List DiePlan → List Shape → Type 0
@@ -36,7 +37,7 @@ pub record IsServed (plans : List DiePlan) (devices : ℕ) : Type 0 where
 
 -- a pass of a die, as clauses see it
 abbrev pub DiePass : Type 0
-DiePass = Known Event (Result Reply RefusedAt) DiePlan
+DiePass = Known Event (Result Reply RefusedAt) Start
 
 -- the pass was told that so many passes are out
 abbrev pub IsTold : DiePass → ℕ → DiePass → Type 0
@@ -60,16 +61,16 @@ AllJoined pass = (made : ℕ) × (pass.view.made ≤ made) × (made ≡ 1 + leng
 -- is promised of a log is kept: it is exact, hence legal, and at every moment of it the greatest lateness so far is least.
 pub record IsClosed {N : Type 0} (pass : DiePass) (die : Core N) : Type 0 where
   pub log_is : die.log ≡ log_of pass.view.seen
-  pub promised : KeepsPromises die.plan die.log
-  pub about_is : pass.view.about ≡ Some die.plan
+  pub promised : KeepsPromises die.start die.log
+  pub about_is : pass.view.about ≡ Some die.start
   pub all_joined : AllJoined pass
   pub by_own : AllBy (pass.view.number ∷ pass.view.joined) (calls_of die.log)
 
 -- a die whose log is just what the pass has seen, which was its only one; it isn't stopped where its device never fails
 pub record HasLogOf {N : Type 0} (never_fails : Bool) (pass : DiePass) (die : Core N) : Type 0 where
   pub calls_are : calls_of die.log ≡ pass.view.seen
-  pub promised : KeepsPromises die.plan die.log
+  pub promised : KeepsPromises die.start die.log
   pub runs : never_fails ≡ true → die.stopped ≡ false
-  pub about_is : pass.view.about ≡ Some die.plan
+  pub about_is : pass.view.about ≡ Some die.start
   pub all_joined : AllJoined pass
   pub by_own : AllBy (pass.view.number ∷ pass.view.joined) (calls_of die.log)

@@ -6,8 +6,9 @@ ghost use Rattle.std.specs.Box.{box_value};
 use crate::queries::{Answer, Query};
 use crate::refused::RefusedAt;
 use flash_die::Nand;
+use log_start::LogStart;
 use slot_core::{DieCore, EventHead, ReplyNote};
-use slot_types::{DiePlan, Event, Op, Reply};
+use slot_types::{Event, Op, Reply};
 use std::alloc::Global;
 use std::marker::Model;
 use turn_lock::Book;
@@ -72,11 +73,11 @@ impl<N: Nand> Book for DieBook<N> {
 
     type Answer = Answer;
 
-    type About = DiePlan;
+    type About = LogStart;
 
     ghost log = { λ die. calls_of die.log };
 
-    ghost about = { λ die. die.plan };
+    ghost about = { λ die. die.start };
 
     ghost accepts = { is_ok };
 
@@ -84,7 +85,7 @@ impl<N: Nand> Book for DieBook<N> {
 
     ghost whole = { with_ops };
 
-    ghost gives = { λ plan calls _ event reply. MayReply N.never_fails plan calls event reply };
+    ghost gives = { λ start calls _ event reply. MayReply N.never_fails start calls event reply };
 
     ghost tells = { MayAnswer };
 

@@ -217,7 +217,7 @@ impl<N: Nand> Die<N> {
     ) -> Result<Outcome, Refusal>
         requires { pass.old.lock ≡ self.now }
         ensures same { IsSamePass pass.old pass.new }
-        ensures outcome { Sees pass.old.view pass.new.view (λ plan log. TellsOutcome plan log job result) }
+        ensures outcome { Sees pass.old.view pass.new.view (λ start log. TellsOutcome start log job result) }
     {
         match self.turned.ask(rt, pass, Query::Outcome(job)) {
             Answer::Outcome(result) => result,
@@ -230,7 +230,7 @@ impl<N: Nand> Die<N> {
     pub fn worst<R: Wait>(&self, rt: &R, pass: &mut DiePass<N>) -> Option<Worst>
         requires { pass.old.lock ≡ self.now }
         ensures same { IsSamePass pass.old pass.new }
-        ensures worst { Sees pass.old.view pass.new.view (λ plan log. result ≡ worst_of plan log) }
+        ensures worst { Sees pass.old.view pass.new.view (λ start log. result ≡ worst_of start.plan log) }
     {
         match self.turned.ask(rt, pass, Query::Worst) {
             Answer::Worst(worst) => worst,
@@ -247,7 +247,7 @@ impl<N: Nand> Die<N> {
     ) -> Result<Option<Certificate>, Refusal>
         requires { pass.old.lock ≡ self.now }
         ensures same { IsSamePass pass.old pass.new }
-        ensures certificate { Sees pass.old.view pass.new.view (λ plan log. TellsCertificate plan log result) }
+        ensures certificate { Sees pass.old.view pass.new.view (λ start log. TellsCertificate start log result) }
     {
         match self.turned.ask(rt, pass, Query::Certificate) {
             Answer::Certificate(result) => result,
@@ -259,7 +259,7 @@ impl<N: Nand> Die<N> {
     pub fn now<R: Wait>(&self, rt: &R, pass: &mut DiePass<N>) -> u32
         requires { pass.old.lock ≡ self.now }
         ensures same { IsSamePass pass.old pass.new }
-        ensures now { Sees pass.old.view pass.new.view (λ plan log. result ≡ now log) }
+        ensures now { Sees pass.old.view pass.new.view (λ start log. result ≡ now log) }
     {
         match self.turned.ask(rt, pass, Query::Now) {
             Answer::Now(slot) => slot,

@@ -1,7 +1,7 @@
 //! The store: dies that any number of threads use, each die behind a turn of its own.
 //!
 //! A [`Store`] has its [`Die`]s, and a caller uses one with a [`DiePass`] of that die. The clauses speak of what a pass
-//! has seen of its die, the accepted calls from the first: they are an exact log of the die's plan, they begin the
+//! has seen of its die, the accepted calls from the first: they are an exact log from the die's start, they begin the
 //! list of calls that the die has, and of the pass's own calls they are all. All that is promised of a die's log is promised
 //! of what each pass has seen ([`promises`]).
 //!

@@ -1,7 +1,7 @@
 //! What is promised of all that a pass has seen.
 
 ghost use Rattle.std.specs.Prelude.{ℕ, Bool, List, ◌++◌};
-ghost use Rattle.slot_types.specs.declared.plans.DiePlan.{DiePlan};
+ghost use Rattle.die_log.specs.Start.{Start};
 ghost use Rattle.die_log.specs.Log.{Log};
 ghost use Rattle.die_log.specs.Promised.{KeepsPromises};
 ghost use Rattle.die_service.specs.declared.ends.DieEnd.{DieEnd};
@@ -16,20 +16,20 @@ use crate::die::DiePass;
 use flash_die::Nand;
 
 /// What stands of every pass, whatever it and others did, while the store is open; the call does nothing. What the pass
-/// has seen is an exact log of its die's plan, which meets its bound, and keeps all that is promised of a log.
+/// has seen is an exact log from its die's start, which is an opening, and keeps all that is promised of a log.
 pub fn promises<N: Nand>(pass: &DiePass<N>)
     ensures { SeesPromised pass.now.view }
 {
-    // It says that what the pass has seen fits its plan.
+    // It says that what the pass has seen fits its start.
     let _ = pass.number();
 }
 
-/// Whatever list a pass has seen: an exact log of a plan within its bound keeps all that is promised of a log, and so does
+/// Whatever list a pass has seen: an exact log that starts at an opening keeps all that is promised of a log, and so does
 /// each beginning of it.
 pub fn seen_keeps_promises()
-    ensures seen { (plan : DiePlan) (seen : List Call) → HasExactLog plan seen → KeepsPromises plan (log_of seen) }
-    ensures beginnings { (plan : DiePlan) (first later : List Call) → HasExactLog plan (first ++ later)
-        → KeepsPromises plan (log_of first) }
+    ensures seen { (start : Start) (seen : List Call) → HasExactLog start seen → KeepsPromises start (log_of seen) }
+    ensures beginnings { (start : Start) (first later : List Call) → HasExactLog start (first ++ later)
+        → KeepsPromises start (log_of first) }
 {}
 
 /// Whatever [`run_slots`](crate::run_slots) did on a new die, where the events of its feed keep the die's plan, whose times
@@ -39,7 +39,7 @@ pub fn seen_keeps_promises()
 ///
 /// It speaks of a die on which nothing else was done, as [`close`](crate::close) tells of a closed one, whose log this is.
 pub fn planned_feeds_go_as_planned()
-    ensures { (never_fails : Bool) (plan : DiePlan) (slots : ℕ) (feed : List Arrival) (end : DieEnd) (log : Log) →
-        AllArrive feed → KeepsItsPlan plan slots feed → RanAlone never_fails plan slots feed end log →
-        GoesAsPlanned never_fails plan end log }
+    ensures { (never_fails : Bool) (start : Start) (slots : ℕ) (feed : List Arrival) (end : DieEnd) (log : Log) →
+        AllArrive feed → KeepsItsPlan start slots feed → RanAlone never_fails start slots feed end log →
+        GoesAsPlanned never_fails start.plan end log }
 {}

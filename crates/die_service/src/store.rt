@@ -5,6 +5,7 @@ ghost use Rattle.slot_types.specs.Refusal.{FailsForMemory};
 ghost use Rattle.slot_types.specs.Shapes.{IsShape};
 ghost use Rattle.plan_rules.specs.Bound.{MeetsBound};
 ghost use Rattle.flash_die.specs.Flash.{IsFresh};
+ghost use Rattle.die_log.specs.Start.{fresh};
 ghost use Rattle.turn_lock.specs.Views.{first_view, IsLive};
 ghost use Rattle.die_service.specs.Stores.{Fit, IsShaped, IsServed};
 
@@ -91,7 +92,7 @@ fn new_die<N: Nand>(alloc: Global, plan: DiePlan, nand: N) -> Result<(Die<N>, Di
     requires fits { N.shape_of nand ≡ plan.shape }
     requires bound { MeetsBound plan }
     ensures own { IfOk result (λ made. made.1.lock ≡ made.0) }
-    ensures first { IfOk result (λ made. made.1.view ≡ first_view plan) }
+    ensures first { IfOk result (λ made. made.1.view ≡ first_view (fresh plan)) }
     ensures refused { FailsForMemory result }
 {
     let core = DieCore::boxed(alloc, plan, nand)?;
@@ -109,7 +110,7 @@ fn new_dies<N: Nand>(
     requires fit { Fit plans.items (map N.shape_of nands.items) }
     requires served { IsServed plans.items (vec_len nands) }
     ensures own { IfOk result (λ made. map (λ pass. pass.lock) made.1.items ≡ made.0.items) }
-    ensures first { IfOk result (λ made. map (λ pass. pass.view) made.1.items ≡ map first_view plans.items) }
+    ensures first { IfOk result (λ made. map (λ pass. pass.view) made.1.items ≡ map first_view (map fresh plans.items)) }
     ensures refused { FailsForMemory result }
 {
     let count = plans.len();
@@ -141,7 +142,7 @@ impl<N: Nand> Store<N> {
     ) -> Result<(Store<N>, Vec<DiePass<N>>), Refusal>
         requires fresh { All (λ nand. IsFresh (N.shape_of nand) (N.blocks nand) (N.failures nand)) nands.items }
         ensures own { IfOk result (λ made. map (λ pass. pass.lock) made.1.items ≡ made.0) }
-        ensures first { IfOk result (λ made. map (λ pass. pass.view) made.1.items ≡ map first_view plan) }
+        ensures first { IfOk result (λ made. map (λ pass. pass.view) made.1.items ≡ map first_view (map fresh plan)) }
         ensures live { IfOk result (λ made. All (λ pass. IsLive pass.view) made.1.items) }
         ensures bad_shape { (result ≡ Err Refusal.BadShape) ↔ ¬ IsShaped plan (map N.shape_of nands.items) }
         ensures bad_plan { (result ≡ Err Refusal.BadPlan) ↔ (IsShaped plan (map N.shape_of nands.items) × ¬ IsServed plan (vec_len nands)) }

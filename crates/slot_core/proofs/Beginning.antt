@@ -39,33 +39,34 @@ use Rattle.slot_core.proofs.Turning.{IsHeadJob, head_job}
 use Rattle.slot_core.proofs.Victims.{victim_is}
 use Rattle.slot_core.proofs.Waiving.{waiver_fits}
 use Rattle.slot_core.proofs.Reserving.{waiver_closes}
+use Rattle.die_log.specs.Start.{Start, over}
 
 -- The head, and its record
 
 -- the head's job, and that its record is read off the log
-head_record : (plan : DiePlan) (log : Log) (ws : List Waived) (t : Table) (n : ℕ) (j : Job) (r : JobRecord) → IsHeadJob plan log ws t n j
-    → slice_get t.jobs n ≡ Some r → record_with plan log (waived log ++ ws) j ≡ r
-head_record plan log ws t n j r h at = same_Some (record_with plan log (waived log ++ ws) j) r (sym h.record_at ∙ at)
+head_record : (start : Start) (log : Log) (ws : List Waived) (t : Table) (n : ℕ) (j : Job) (r : JobRecord) → IsHeadJob start log ws t n j
+    → slice_get t.jobs n ≡ Some r → record_with start log (waived log ++ ws) j ≡ r
+head_record start log ws t n j r h at = same_Some (record_with start log (waived log ++ ws) j) r (sym h.record_at ∙ at)
 
-fresh_is : (plan : DiePlan) (log : Log) (ws : List Waived) (t : Table) (n : ℕ) (j : Job) (r : JobRecord) → IsHeadJob plan log ws t n j
+fresh_is : (start : Start) (log : Log) (ws : List Waived) (t : Table) (n : ℕ) (j : Job) (r : JobRecord) → IsHeadJob start log ws t n j
     → slice_get t.jobs n ≡ Some r → is_fresh r ≡ (j.collects && (work j.number log == 0))
-fresh_is plan log ws t n j r h at = sym (ap is_fresh (head_record plan log ws t n j r h at))
+fresh_is start log ws t n j r h at = sym (ap is_fresh (head_record start log ws t n j r h at))
 
 -- what the volume asks for before a head begins
-pub begin_fits : {N : Type 0} (blocks_of : N → List device.Block) (log : Log) (present : ℕ) (ws : List Waived) (t : Table) (n : ℕ)
-    (v : State N) (r : JobRecord) → InSlot v.accounts.plan log present ws t (flash_of blocks_of v) → table.IsHead t n → slice_get t.jobs n
+pub begin_fits : (start : Start) {N : Type 0} (blocks_of : N → List device.Block) (log : Log) (present : ℕ) (ws : List Waived) (t : Table) (n : ℕ)
+    (v : State N) (r : JobRecord) → InSlot (over v.accounts.plan start) log present ws t (flash_of blocks_of v) → table.IsHead t n → slice_get t.jobs n
     ≡ Some r
     → (r.task < length v.accounts.plan.caps) × (is_fresh r ≡ true → running_of v.running r.task ≡ None)
-begin_fits blocks_of log present ws t n v r s head at =
-    let found = head_job v.accounts.plan log present ws t n s.slot s.table head in
-    let record_is = head_record v.accounts.plan log ws t n found.0 r found.1 at in
+begin_fits start blocks_of log present ws t n v r s head at =
+    let found = head_job (over v.accounts.plan start) log present ws t n s.slot s.table head in
+    let record_is = head_record (over v.accounts.plan start) log ws t n found.0 r found.1 at in
     let task_is : found.0.task ≡ r.task = ap (λ (x : JobRecord). x.task) record_is in (
       subst (λ (k : ℕ). k < length v.accounts.plan.caps) task_is found.1.limits.task,
       λ fresh.
           let parts = and_parts found.0.collects (work found.0.number log == 0)
-          (sym (fresh_is v.accounts.plan log ws t n found.0 r found.1 at) ∙ fresh) in
+          (sym (fresh_is (over v.accounts.plan start) log ws t n found.0 r found.1 at) ∙ fresh) in
           ap (running_of v.running) (sym task_is)
-          ∙ runs_none v.accounts.plan log found.0 v.running found.1.both.1.true_accounts found.1.both.0.numbered found.1.own_at
+          ∙ runs_none (over v.accounts.plan start) log found.0 v.running found.1.both.1.true_accounts found.1.both.0.numbered found.1.own_at
           (found.1.pending_if parts.0) (eqb-true (work found.0.number log) 0 parts.1) s.running,
     )
 
@@ -116,14 +117,14 @@ waivable_is plan log a j fresh enough = and_from (j.collects && (work j.number l
     (spares plan.alpha a.spare enough)
 
 -- there is room for the waiver of a head
-pub waiver_room : {N : Type 0} (blocks_of : N → List device.Block) (log : Log) (present : ℕ) (ws : List Waived) (t : Table) (n given : ℕ)
-    (v w : State N) (r : JobRecord) → InSlot v.accounts.plan log present ws t (flash_of blocks_of v) → table.IsHead t n
+pub waiver_room : (start : Start) {N : Type 0} (blocks_of : N → List device.Block) (log : Log) (present : ℕ) (ws : List Waived) (t : Table) (n given : ℕ)
+    (v w : State N) (r : JobRecord) → InSlot (over v.accounts.plan start) log present ws t (flash_of blocks_of v) → table.IsHead t n
     → slice_get t.jobs n ≡ Some r → BeginsAs blocks_of v r (Some given) w → length ws < t.tasks
-waiver_room blocks_of log present ws t n given v w r s head at h =
-    let found = head_job v.accounts.plan log present ws t n s.slot s.table head in
+waiver_room start blocks_of log present ws t n given v w r s head at h =
+    let found = head_job (over v.accounts.plan start) log present ws t n s.slot s.table head in
     let waiver = head_waiver blocks_of v w r given h in
-    let fits = waiver_fits v.accounts.plan log ws v.accounts found.0 s.slot.bound s.slot.exact s.goes_on found.1.least_is
-    (waivable_is v.accounts.plan log v.accounts found.0 (sym (fresh_is v.accounts.plan log ws t n found.0 r found.1 at) ∙ waiver.fresh)
+    let fits = waiver_fits (over v.accounts.plan start) log ws v.accounts found.0 s.slot.bound s.slot.exact s.goes_on found.1.least_is
+    (waivable_is v.accounts.plan log v.accounts found.0 (sym (fresh_is (over v.accounts.plan start) log ws t n found.0 r found.1 at) ∙ waiver.fresh)
     waiver.waives.spare) in
     omega (arith, fits, s.table.tasks_are)
 
@@ -146,20 +147,20 @@ among_own n (x ∷ ws) w e none = by_test (x.number == n) none (λ rest. among_o
     by_test false h again = again h
 
 -- the table after one more waiver
-table_waived : (plan : DiePlan) (log : Log) (ws : List Waived) (t : Table) (n given : ℕ) (j : Job) → IsWaivedTable plan log ws t
-    → IsHeadJob plan log ws t n j → table.IsHead t n
-    → IsWaivedTable plan log (ws ++ record { number = n; given = given } ∷ []) (with_change t n (with_stage (Gone given)))
-table_waived plan log ws t n given j k h head = record {
+table_waived : (start : Start) (log : Log) (ws : List Waived) (t : Table) (n given : ℕ) (j : Job) → IsWaivedTable start log ws t
+    → IsHeadJob start log ws t n j → table.IsHead t n
+    → IsWaivedTable start log (ws ++ record { number = n; given = given } ∷ []) (with_change t n (with_stage (Gone given)))
+table_waived start log ws t n given j k h head = record {
   tasks_are = k.tasks_are;
   clock_is = k.clock_is;
   running = k.running;
   jobs_are = ap (λ (js : List JobRecord). changed_at js n (with_stage (Gone given))) k.jobs_are
-      ∙ (map_changed (record_with plan log (waived log ++ ws)) (record_with plan log ((waived log ++ ws) ++ w ∷ [])) (jobs log) n
+      ∙ (map_changed (record_with start log (waived log ++ ws)) (record_with start log ((waived log ++ ws) ++ w ∷ [])) (jobs log) n
       (with_stage (Gone given)) others here
-      ∙ ap (λ (l : List Waived). map (record_with plan log l) (jobs log)) (append_assoc (waived log) ws (w ∷ [])));
-  were_pending = WerePending-push (records plan log) ws w k.were_pending
+      ∙ ap (λ (l : List Waived). map (record_with start log l) (jobs log)) (append_assoc (waived log) ws (w ∷ [])));
+  were_pending = WerePending-push (records start log) ws w k.were_pending
       (subst (λ (js : List JobRecord). IsPendingAt js n) k.were (head_pending t n head));
-  were = ap (λ (js : List JobRecord). gone_after js w) k.were ∙ sym (waived_push (records plan log) ws w);
+  were = ap (λ (js : List JobRecord). gone_after js w) k.were ∙ sym (waived_push (records start log) ws w);
 }
   where
     w : Waived
@@ -171,48 +172,48 @@ table_waived plan log ws t n given j k h head = record {
         not_pending : (x : Waived) → waiver_among j.number (waived log ++ ws) ≡ Some x → ⊥
         not_pending x e =
             let pending_one = head_pending t n head in
-            let same : pending_one.job ≡ record_with plan log (waived log ++ ws) j = same_Some pending_one.job
-            (record_with plan log (waived log ++ ws) j) (sym pending_one.is_at ∙ h.record_at) in
-            let gone : (record_with plan log (waived log ++ ws) j).stage ≡ Gone x.given = rw e refl in
+            let same : pending_one.job ≡ record_with start log (waived log ++ ws) j = same_Some pending_one.job
+            (record_with start log (waived log ++ ws) j) (sym pending_one.is_at ∙ h.record_at) in
+            let gone : (record_with start log (waived log ++ ws) j).stage ≡ Gone x.given = rw e refl in
             absurd (let clash = sym pending_one.pending_is ∙ (ap (λ (r : JobRecord). r.stage) same ∙ gone) in cc)
 
         unwaived_pending : (o : Option Waived) → waiver_among j.number (waived log ++ ws) ≡ o → o ≡ None
         unwaived_pending None e = refl
         unwaived_pending (Some x) e = absurd (not_pending x e)
 
-    others : (k : ℕ) (i : Job) → slice_get (jobs log) k ≡ Some i → (k ≡ n → ⊥) → record_with plan log (waived log ++ ws) i
-        ≡ record_with plan log ((waived log ++ ws) ++ w ∷ []) i
+    others : (k : ℕ) (i : Job) → slice_get (jobs log) k ≡ Some i → (k ≡ n → ⊥) → record_with start log (waived log ++ ws) i
+        ≡ record_with start log ((waived log ++ ws) ++ w ∷ []) i
     others k i at other =
         let is : i.number ≡ 0 + k = number_at 0 (jobs log) k i h.both.0.numbered at in
         rw (among_other i.number (waived log ++ ws) w (ne_eqb n i.number (λ same. other (omega (arith, same, is))))) refl
 
-    here : (i : Job) → slice_get (jobs log) n ≡ Some i → with_stage (Gone given) (record_with plan log (waived log ++ ws) i)
-        ≡ record_with plan log ((waived log ++ ws) ++ w ∷ []) i
+    here : (i : Job) → slice_get (jobs log) n ≡ Some i → with_stage (Gone given) (record_with start log (waived log ++ ws) i)
+        ≡ record_with start log ((waived log ++ ws) ++ w ∷ []) i
     here i at =
         let it : j ≡ i = same_Some j i (sym h.at ∙ at) in
-        subst (λ (x : Job). with_stage (Gone given) (record_with plan log (waived log ++ ws) x)
-        ≡ record_with plan log ((waived log ++ ws) ++ w ∷ []) x) it
+        subst (λ (x : Job). with_stage (Gone given) (record_with start log (waived log ++ ws) x)
+        ≡ record_with start log ((waived log ++ ws) ++ w ∷ []) x) it
         (rw (among_own j.number (waived log ++ ws) w (sym h.number_is) none) refl)
 
 -- what holds within the slot holds after one more waiver
-pub waives_head : {N : Type 0} (blocks_of : N → List device.Block) (log : Log) (present : ℕ) (ws : List Waived) (t : Table) (n given : ℕ)
-    (v w : State N) (r : JobRecord) → InSlot v.accounts.plan log present ws t (flash_of blocks_of v) → table.IsHead t n
+pub waives_head : (start : Start) {N : Type 0} (blocks_of : N → List device.Block) (log : Log) (present : ℕ) (ws : List Waived) (t : Table) (n given : ℕ)
+    (v w : State N) (r : JobRecord) → InSlot (over v.accounts.plan start) log present ws t (flash_of blocks_of v) → table.IsHead t n
     → slice_get t.jobs n ≡ Some r → BeginsAs blocks_of v r (Some given) w
-    → InSlot v.accounts.plan log present (ws ++ record { number = n; given = given } ∷ []) (with_change t n (with_stage (Gone given)))
+    → InSlot (over v.accounts.plan start) log present (ws ++ record { number = n; given = given } ∷ []) (with_change t n (with_stage (Gone given)))
     (flash_of blocks_of w)
-waives_head {N = N} blocks_of log present ws t n given v w r s head at h =
-    subst (λ (x : State N). InSlot v.accounts.plan log present (ws ++ record { number = n; given = given } ∷ [])
+waives_head start {N = N} blocks_of log present ws t n given v w r s head at h =
+    subst (λ (x : State N). InSlot (over v.accounts.plan start) log present (ws ++ record { number = n; given = given } ∷ [])
     (with_change t n (with_stage (Gone given))) (flash_of blocks_of x)) (sym waiver.waives.moved) (record {
       slot = s.slot;
-      table = table_waived v.accounts.plan log ws t n given j s.table job head;
-      goes_on = subst (λ (x : Waived). GoesOn v.accounts.plan log (ws ++ x ∷ []) (moves.waived v.accounts r.task)) waiver_is
-          (subst (λ (k : ℕ). GoesOn v.accounts.plan log (ws ++ waiver_of v.accounts j ∷ []) (moves.waived v.accounts k)) task_is
-          (waives v.accounts.plan log ws v.accounts j s.goes_on job.least_is waivable));
+      table = table_waived (over v.accounts.plan start) log ws t n given j s.table job head;
+      goes_on = subst (λ (x : Waived). GoesOn (over v.accounts.plan start) log (ws ++ x ∷ []) (moves.waived v.accounts r.task)) waiver_is
+          (subst (λ (k : ℕ). GoesOn (over v.accounts.plan start) log (ws ++ waiver_of v.accounts j ∷ []) (moves.waived v.accounts k)) task_is
+          (waives (over v.accounts.plan start) log ws v.accounts j s.goes_on job.least_is waivable));
       flash = record {
         accounts_are = ap (λ (a : Accounts). moves.waived a r.task) s.flash.accounts_are
-            ∙ (ap (λ (k : ℕ). moves.waived (after_waivers log ws (accounts v.accounts.plan log)) k) (sym task_is)
-            ∙ sym (waivers_more log ws (record { number = n; given = given }) (accounts v.accounts.plan log)
-            ∙ ap (λ (o : Option Job). after_waiver o (after_waivers log ws (accounts v.accounts.plan log))) job.at));
+            ∙ (ap (λ (k : ℕ). moves.waived (after_waivers log ws (accounts (over v.accounts.plan start) log)) k) (sym task_is)
+            ∙ sym (waivers_more log ws (record { number = n; given = given }) (accounts (over v.accounts.plan start) log)
+            ∙ ap (λ (o : Option Job). after_waiver o (after_waivers log ws (accounts (over v.accounts.plan start) log))) job.at));
         pages_are = s.flash.pages_are;
         places_are = s.flash.places_are;
         blocks_are = s.flash.blocks_are;
@@ -221,26 +222,26 @@ waives_head {N = N} blocks_of log present ws t n given v w r s head at h =
     })
   where
     j : Job
-    j = (head_job v.accounts.plan log present ws t n s.slot s.table head).0
+    j = (head_job (over v.accounts.plan start) log present ws t n s.slot s.table head).0
 
-    job : IsHeadJob v.accounts.plan log ws t n (head_job v.accounts.plan log present ws t n s.slot s.table head).0
-    job = (head_job v.accounts.plan log present ws t n s.slot s.table head).1
+    job : IsHeadJob (over v.accounts.plan start) log ws t n (head_job (over v.accounts.plan start) log present ws t n s.slot s.table head).0
+    job = (head_job (over v.accounts.plan start) log present ws t n s.slot s.table head).1
 
     waiver : IsHeadWaiver v r given w
     waiver = head_waiver blocks_of v w r given h
 
-    task_is : (head_job v.accounts.plan log present ws t n s.slot s.table head).0.task ≡ r.task
-    task_is = ap (λ (x : JobRecord). x.task) (head_record v.accounts.plan log ws t n j r job at)
+    task_is : (head_job (over v.accounts.plan start) log present ws t n s.slot s.table head).0.task ≡ r.task
+    task_is = ap (λ (x : JobRecord). x.task) (head_record (over v.accounts.plan start) log ws t n j r job at)
 
-    waivable : is_waivable v.accounts.plan log v.accounts (head_job v.accounts.plan log present ws t n s.slot s.table head).0 ≡ true
-    waivable = waivable_is v.accounts.plan log v.accounts j (sym (fresh_is v.accounts.plan log ws t n j r job at) ∙ waiver.fresh)
+    waivable : is_waivable v.accounts.plan log v.accounts (head_job (over v.accounts.plan start) log present ws t n s.slot s.table head).0 ≡ true
+    waivable = waivable_is v.accounts.plan log v.accounts j (sym (fresh_is (over v.accounts.plan start) log ws t n j r job at) ∙ waiver.fresh)
         waiver.waives.spare
 
     same_waiver : (m k : ℕ) (a b : ℕ) → m ≡ k → a ≡ b → ◌≡◌ {A = Waived} (record { number = m; given = a })
         (record { number = k; given = b })
     same_waiver m k a b x y = rw x (rw y refl)
 
-    waiver_is : waiver_of v.accounts (head_job v.accounts.plan log present ws t n s.slot s.table head).0
+    waiver_is : waiver_of v.accounts (head_job (over v.accounts.plan start) log present ws t n s.slot s.table head).0
         ≡ record { number = n; given = given }
     waiver_is = same_waiver j.number n (given_of v.accounts j.task) given job.number_is (ap (given_of v.accounts) task_is
         ∙ sym waiver.waives.given)
@@ -255,20 +256,20 @@ no_more a plan true c e = e
 no_more a plan false c e = refl
 
 -- a collection that has begun runs on the volume
-begun_runs : {N : Type 0} (blocks_of : N → List device.Block) (log : Log) (ws : List Waived) (t : Table) (n : ℕ) (v : State N) (j : Job)
-    → IsHeadJob v.accounts.plan log ws t n j → AreRunning v.accounts.plan log v.running
-    → j.collects ≡ true → (work j.number log == 0) ≡ false → (c : Collection) × RunsHead v.accounts.plan log j (flash_of blocks_of v) c
-begun_runs blocks_of log ws t n v j h r collects begun =
+begun_runs : (start : Start) {N : Type 0} (blocks_of : N → List device.Block) (log : Log) (ws : List Waived) (t : Table) (n : ℕ) (v : State N) (j : Job)
+    → IsHeadJob (over v.accounts.plan start) log ws t n j → AreRunning (over v.accounts.plan start) log v.running
+    → j.collects ≡ true → (work j.number log == 0) ≡ false → (c : Collection) × RunsHead (over v.accounts.plan start) log j (flash_of blocks_of v) c
+begun_runs start blocks_of log ws t n v j h r collects begun =
     let shown = h.both.0.collects.shown j h.stands running in
     let found = r.all j shown.0 shown.1 in
     let own = r.each j.task found.0 found.1 in
-    let it : own.0 ≡ j = one_pending v.accounts.plan log own.0 j h.both.1.true_accounts
+    let it : own.0 ≡ j = one_pending (over v.accounts.plan start) log own.0 j h.both.1.true_accounts
     (stands_at (jobs log) own.0 h.both.0.numbered own.1.runs.stands) h.own_at
-    (running_pending v.accounts.plan log own.0 h.both.1.true_accounts own.1.runs.running) (h.pending_if collects) own.1.task_is in (
+    (running_pending (over v.accounts.plan start) log own.0 h.both.1.true_accounts own.1.runs.running) (h.pending_if collects) own.1.task_is in (
       found.0,
       record {
         runs = found.1;
-        victim = ap (λ (b : Bool). cond b (victim v.accounts.plan log) (victim_of v.accounts.plan j.number log)) begun
+        victim = ap (λ (b : Bool). cond b (victim (over v.accounts.plan start) log) (victim_of (over v.accounts.plan start) j.number log)) begun
             ∙ (shown.1.victim ∙ ap Some (sym found.2));
         holds = own.1.holds ∙ ap (λ (x : Job). page_held log x.number) it;
       },
@@ -281,11 +282,11 @@ begun_runs blocks_of log ws t n v j h r collects begun =
     running = runs_from v.accounts.plan j (acts j.number log)
         (record { collects = collects; begun = above (work j.number log) begun; undone = h.undone })
 
-turn_unfresh : {N : Type 0} (blocks_of : N → List device.Block) (log : Log) (present : ℕ) (ws : List Waived) (t : Table) (n : ℕ)
-    (v : State N) (j : Job) → InSlot v.accounts.plan log present ws t (flash_of blocks_of v) → table.IsHead t n
-    → IsHeadJob v.accounts.plan log ws t n j → (j.collects && (work j.number log == 0)) ≡ false
-    → HasTurn v.accounts.plan log present ws t (flash_of blocks_of v) n
-turn_unfresh blocks_of log present ws t n v j s head h unfresh = record {
+turn_unfresh : (start : Start) {N : Type 0} (blocks_of : N → List device.Block) (log : Log) (present : ℕ) (ws : List Waived) (t : Table) (n : ℕ)
+    (v : State N) (j : Job) → InSlot (over v.accounts.plan start) log present ws t (flash_of blocks_of v) → table.IsHead t n
+    → IsHeadJob (over v.accounts.plan start) log ws t n j → (j.collects && (work j.number log == 0)) ≡ false
+    → HasTurn (over v.accounts.plan start) log present ws t (flash_of blocks_of v) n
+turn_unfresh start blocks_of log present ws t n v j s head h unfresh = record {
   slot = s.slot;
   table = s.table;
   goes_on = s.goes_on;
@@ -294,9 +295,9 @@ turn_unfresh blocks_of log present ws t n v j s head h unfresh = record {
   job = j;
   at = h.at;
   unwaivable = ap (λ (b : Bool). b && nat_le v.accounts.plan.alpha v.accounts.spare) unfresh;
-  runs = λ collects. begun_runs blocks_of log ws t n v j h s.running collects
+  runs = λ collects. begun_runs start blocks_of log ws t n v j h s.running collects
       (sym (ap (λ (b : Bool). b && (work j.number log == 0)) collects) ∙ unfresh);
-  others = others_run v.accounts.plan log j (flash_of blocks_of v) h.both.1.true_accounts h.both.0.numbered h.own_at h.pending_if s.running;
+  others = others_run (over v.accounts.plan start) log j (flash_of blocks_of v) h.both.1.true_accounts h.both.0.numbered h.own_at h.pending_if s.running;
 }
 
 nil_by : (xs : List Act) → length xs ≡ 0 → xs ≡ []
@@ -304,12 +305,12 @@ nil_by [] h = refl
 nil_by (x ∷ xs) h = absurd (omega (arith, h))
 
 -- a collection that has not begun takes its victim
-turn_fresh : {N : Type 0} (blocks_of : N → List device.Block) (log : Log) (present : ℕ) (ws : List Waived) (t : Table) (n block : ℕ)
-    (v : State N) (w : State N) (j : Job) → InSlot v.accounts.plan log present ws t (flash_of blocks_of v) → table.IsHead t n
-    → IsHeadJob v.accounts.plan log ws t n j → (j.collects && (work j.number log == 0)) ≡ true → Begins blocks_of v j.task block w
-    → HasTurn v.accounts.plan log present ws t (record (flash_of blocks_of v)
+turn_fresh : (start : Start) {N : Type 0} (blocks_of : N → List device.Block) (log : Log) (present : ℕ) (ws : List Waived) (t : Table) (n block : ℕ)
+    (v : State N) (w : State N) (j : Job) → InSlot (over v.accounts.plan start) log present ws t (flash_of blocks_of v) → table.IsHead t n
+    → IsHeadJob (over v.accounts.plan start) log ws t n j → (j.collects && (work j.number log == 0)) ≡ true → Begins blocks_of v j.task block w
+    → HasTurn (over v.accounts.plan start) log present ws t (record (flash_of blocks_of v)
     { running = slice_set v.running j.task (Some (record { victim = block; buffer = None })) }) n
-turn_fresh blocks_of log present ws t n block v w j s head h fresh begins = record {
+turn_fresh start blocks_of log present ws t n block v w j s head h fresh begins = record {
   slot = s.slot;
   table = s.table;
   goes_on = s.goes_on;
@@ -329,16 +330,16 @@ turn_fresh blocks_of log present ws t n block v w j s head h fresh begins = reco
     taken,
     record {
       runs = own_running v.running j.task (Some taken) (omega (arith, h.limits.task, s.running.len));
-      victim = ap (λ (b : Bool). cond b (victim v.accounts.plan log) (victim_of v.accounts.plan j.number log)) parts.1
-          ∙ victim_is v.accounts.plan log (blocks_of v.device) v.places v.running block h.both.0.collects.sound s.flash.blocks_are
+      victim = ap (λ (b : Bool). cond b (victim (over v.accounts.plan start) log) (victim_of (over v.accounts.plan start) j.number log)) parts.1
+          ∙ victim_is (over v.accounts.plan start) log (blocks_of v.device) v.places v.running block h.both.0.collects.sound s.flash.blocks_are
           s.flash.places_are s.running begins.victim;
       holds = ap (λ (own : List Act). buffer_after (last_or None own))
           (sym (nil_by (acts j.number log) (eqb-true (work j.number log) 0 parts.1)));
     },
   );
-  others = others_begun v.accounts.plan log j (flash_of blocks_of v)
+  others = others_begun (over v.accounts.plan start) log j (flash_of blocks_of v)
       (record (flash_of blocks_of v) { running = slice_set v.running j.task (Some taken) }) (Some taken) parts.0 refl
-      (others_run v.accounts.plan log j (flash_of blocks_of v) h.both.1.true_accounts h.both.0.numbered h.own_at h.pending_if s.running);
+      (others_run (over v.accounts.plan start) log j (flash_of blocks_of v) h.both.1.true_accounts h.both.0.numbered h.own_at h.pending_if s.running);
 }
   where
     taken : Collection
@@ -348,87 +349,87 @@ turn_fresh blocks_of log present ws t n block v w j s head h fresh begins = reco
     parts = and_parts j.collects (work j.number log == 0) fresh
 
 -- who is not waived has the turn
-pub turn_begins : {N : Type 0} (blocks_of : N → List device.Block) (log : Log) (present : ℕ) (ws : List Waived) (t : Table) (n : ℕ)
-    (v w : State N) (r : JobRecord) → InSlot v.accounts.plan log present ws t (flash_of blocks_of v) → table.IsHead t n
-    → slice_get t.jobs n ≡ Some r → BeginsAs blocks_of v r None w → HasTurn v.accounts.plan log present ws t (flash_of blocks_of w) n
-turn_begins {N = N} blocks_of log present ws t n v w r s head at h = by_fresh (is_fresh r) refl h
+pub turn_begins : (start : Start) {N : Type 0} (blocks_of : N → List device.Block) (log : Log) (present : ℕ) (ws : List Waived) (t : Table) (n : ℕ)
+    (v w : State N) (r : JobRecord) → InSlot (over v.accounts.plan start) log present ws t (flash_of blocks_of v) → table.IsHead t n
+    → slice_get t.jobs n ≡ Some r → BeginsAs blocks_of v r None w → HasTurn (over v.accounts.plan start) log present ws t (flash_of blocks_of w) n
+turn_begins start {N = N} blocks_of log present ws t n v w r s head at h = by_fresh (is_fresh r) refl h
   where
     j : Job
-    j = (head_job v.accounts.plan log present ws t n s.slot s.table head).0
+    j = (head_job (over v.accounts.plan start) log present ws t n s.slot s.table head).0
 
-    job : IsHeadJob v.accounts.plan log ws t n (head_job v.accounts.plan log present ws t n s.slot s.table head).0
-    job = (head_job v.accounts.plan log present ws t n s.slot s.table head).1
+    job : IsHeadJob (over v.accounts.plan start) log ws t n (head_job (over v.accounts.plan start) log present ws t n s.slot s.table head).0
+    job = (head_job (over v.accounts.plan start) log present ws t n s.slot s.table head).1
 
-    task_is : r.task ≡ (head_job v.accounts.plan log present ws t n s.slot s.table head).0.task
-    task_is = sym (ap (λ (x : JobRecord). x.task) (head_record v.accounts.plan log ws t n j r job at))
+    task_is : r.task ≡ (head_job (over v.accounts.plan start) log present ws t n s.slot s.table head).0.task
+    task_is = sym (ap (λ (x : JobRecord). x.task) (head_record (over v.accounts.plan start) log ws t n j r job at))
 
     by_fresh : (b : Bool) → is_fresh r ≡ b → BeginsBy blocks_of v r.task b None w
-        → HasTurn v.accounts.plan log present ws t (flash_of blocks_of w) n
+        → HasTurn (over v.accounts.plan start) log present ws t (flash_of blocks_of w) n
     by_fresh true e k =
         let begins : Begins blocks_of v j.task k.0 w = subst (λ (task : ℕ). Begins blocks_of v task k.0 w) task_is k.1 in
-        subst (λ (x : State N). HasTurn v.accounts.plan log present ws t (flash_of blocks_of x) n) (sym begins.moved)
-        (turn_fresh blocks_of log present ws t n k.0 v w j s head job (sym (fresh_is v.accounts.plan log ws t n j r job at) ∙ e) begins)
+        subst (λ (x : State N). HasTurn (over v.accounts.plan start) log present ws t (flash_of blocks_of x) n) (sym begins.moved)
+        (turn_fresh start blocks_of log present ws t n k.0 v w j s head job (sym (fresh_is (over v.accounts.plan start) log ws t n j r job at) ∙ e) begins)
     by_fresh false e k =
-        subst (λ (x : State N). HasTurn v.accounts.plan log present ws t (flash_of blocks_of x) n) (sym k.1)
-        (turn_unfresh blocks_of log present ws t n v j s head job (sym (fresh_is v.accounts.plan log ws t n j r job at) ∙ e))
+        subst (λ (x : State N). HasTurn (over v.accounts.plan start) log present ws t (flash_of blocks_of x) n) (sym k.1)
+        (turn_unfresh start blocks_of log present ws t n v j s head job (sym (fresh_is (over v.accounts.plan start) log ws t n j r job at) ∙ e))
 
 -- The table is asked for its head
 
 -- asked again in one slot, the table stays
-pub head_asked : (plan : DiePlan) (log : Log) (present : ℕ) (ws : List Waived) (t u : Table) (f : FlashState)
-    → InSlot plan log present ws t f → u ≡ record t { clock = present } → u ≡ t
-head_asked plan log present ws t u f s is = is ∙ ap (λ (c : ℕ). record t { clock = c }) (s.slot.now_is ∙ sym s.table.clock_is)
+pub head_asked : (start : Start) (log : Log) (present : ℕ) (ws : List Waived) (t u : Table) (f : FlashState)
+    → InSlot start log present ws t f → u ≡ record t { clock = present } → u ≡ t
+head_asked start log present ws t u f s is = is ∙ ap (λ (c : ℕ). record t { clock = c }) (s.slot.now_is ∙ sym s.table.clock_is)
 
 -- One look at the head, with a call's values as they come
 
-abbrev Within : {N : Type 0} → (N → List device.Block) → Log → ℕ → List Waived → Table → State N → Type 0
-Within blocks_of log present ws t v = InSlot v.accounts.plan log present ws t (flash_of blocks_of v)
+abbrev Within : (start : Start) {N : Type 0} → (N → List device.Block) → Log → ℕ → List Waived → Table → State N → Type 0
+Within start blocks_of log present ws t v = InSlot (over v.accounts.plan start) log present ws t (flash_of blocks_of v)
 
-asked : {N : Type 0} (blocks_of : N → List device.Block) (log : Log) (present : ℕ) (ws : List Waived) (t u : Table) (v : State N)
-    → Within blocks_of log present ws t v → u ≡ record t { clock = present } → Within blocks_of log present ws u v
-asked blocks_of log present ws t u v s is = subst (λ (x : Table). Within blocks_of log present ws x v)
-    (sym (head_asked v.accounts.plan log present ws t u (flash_of blocks_of v) s is)) s
+asked : (start : Start) {N : Type 0} (blocks_of : N → List device.Block) (log : Log) (present : ℕ) (ws : List Waived) (t u : Table) (v : State N)
+    → Within start blocks_of log present ws t v → u ≡ record t { clock = present } → Within start blocks_of log present ws u v
+asked start blocks_of log present ws t u v s is = subst (λ (x : Table). Within start blocks_of log present ws x v)
+    (sym (head_asked (over v.accounts.plan start) log present ws t u (flash_of blocks_of v) s is)) s
 
-pub looks_idle : {N : Type 0} (blocks_of : N → List device.Block) (log : Log) (present : ℕ) (ws : List Waived) (t u : Table) (v : State N)
-    → Within blocks_of log present ws t v → u ≡ record t { clock = present } → Within blocks_of log present ws u v
-looks_idle blocks_of log present ws t u v s is = asked blocks_of log present ws t u v s is
+pub looks_idle : (start : Start) {N : Type 0} (blocks_of : N → List device.Block) (log : Log) (present : ℕ) (ws : List Waived) (t u : Table) (v : State N)
+    → Within start blocks_of log present ws t v → u ≡ record t { clock = present } → Within start blocks_of log present ws u v
+looks_idle start blocks_of log present ws t u v s is = asked start blocks_of log present ws t u v s is
 
-pub looks_fit : {N : Type 0} (blocks_of : N → List device.Block) (log : Log) (present : ℕ) (ws : List Waived) (t u : Table) (n : ℕ)
-    (v : State N) (r : JobRecord) → Within blocks_of log present ws t v → u ≡ record t { clock = present } → table.IsHead u n
+pub looks_fit : (start : Start) {N : Type 0} (blocks_of : N → List device.Block) (log : Log) (present : ℕ) (ws : List Waived) (t u : Table) (n : ℕ)
+    (v : State N) (r : JobRecord) → Within start blocks_of log present ws t v → u ≡ record t { clock = present } → table.IsHead u n
     → slice_get u.jobs n ≡ Some r → (r.task < length v.accounts.plan.caps) × (is_fresh r ≡ true → running_of v.running r.task ≡ None)
-looks_fit blocks_of log present ws t u n v r s is head at = begin_fits blocks_of log present ws u n v r
-    (asked blocks_of log present ws t u v s is) head at
+looks_fit start blocks_of log present ws t u n v r s is head at = begin_fits start blocks_of log present ws u n v r
+    (asked start blocks_of log present ws t u v s is) head at
 
-pub looks_turn : {N : Type 0} (blocks_of : N → List device.Block) (log : Log) (present : ℕ) (ws : List Waived) (t u : Table) (n : ℕ)
-    (v w : State N) (r : JobRecord) → Within blocks_of log present ws t v → u ≡ record t { clock = present } → table.IsHead u n
-    → slice_get u.jobs n ≡ Some r → BeginsAs blocks_of v r None w → HasTurn w.accounts.plan log present ws u (flash_of blocks_of w) n
-looks_turn blocks_of log present ws t u n v w r s is head at h =
-    subst (λ (p : DiePlan). HasTurn p log present ws u (flash_of blocks_of w) n) (sym (begin_leaves blocks_of v w r None h).plan)
-    (turn_begins blocks_of log present ws u n v w r (asked blocks_of log present ws t u v s is) head at h)
+pub looks_turn : (start : Start) {N : Type 0} (blocks_of : N → List device.Block) (log : Log) (present : ℕ) (ws : List Waived) (t u : Table) (n : ℕ)
+    (v w : State N) (r : JobRecord) → Within start blocks_of log present ws t v → u ≡ record t { clock = present } → table.IsHead u n
+    → slice_get u.jobs n ≡ Some r → BeginsAs blocks_of v r None w → HasTurn (over w.accounts.plan start) log present ws u (flash_of blocks_of w) n
+looks_turn start blocks_of log present ws t u n v w r s is head at h =
+    subst (λ (p : DiePlan). HasTurn (over p start) log present ws u (flash_of blocks_of w) n) (sym (begin_leaves blocks_of v w r None h).plan)
+    (turn_begins start blocks_of log present ws u n v w r (asked start blocks_of log present ws t u v s is) head at h)
 
-pub looks_waived : {N : Type 0} (blocks_of : N → List device.Block) (log : Log) (present : ℕ) (ws after : List Waived) (t u x : Table)
-    (n given : ℕ) (v w : State N) (r : JobRecord) → Within blocks_of log present ws t v → u ≡ record t { clock = present }
+pub looks_waived : (start : Start) {N : Type 0} (blocks_of : N → List device.Block) (log : Log) (present : ℕ) (ws after : List Waived) (t u x : Table)
+    (n given : ℕ) (v w : State N) (r : JobRecord) → Within start blocks_of log present ws t v → u ≡ record t { clock = present }
     → table.IsHead u n → slice_get u.jobs n ≡ Some r → BeginsAs blocks_of v r (Some given) w → x ≡ with_change u n (with_stage (Gone given))
-    → after ≡ ws ++ record { number = n; given = given } ∷ [] → Within blocks_of log present after (record x { clock = present }) w
-looks_waived blocks_of log present ws after t u x n given v w r s is head at h changed more =
+    → after ≡ ws ++ record { number = n; given = given } ∷ [] → Within start blocks_of log present after (record x { clock = present }) w
+looks_waived start blocks_of log present ws after t u x n given v w r s is head at h changed more =
     let same : record u { clock = present } ≡ u = ap (λ (y : Table). record y { clock = present }) is ∙ sym is in
-    rw changed (rw more (subst (λ (p : DiePlan). InSlot p log present (ws ++ record { number = n; given = given } ∷ [])
+    rw changed (rw more (subst (λ (p : DiePlan). InSlot (over p start) log present (ws ++ record { number = n; given = given } ∷ [])
     (with_change (record u { clock = present }) n (with_stage (Gone given))) (flash_of blocks_of w))
     (sym (begin_leaves blocks_of v w r (Some given) h).plan)
-    (subst (λ (y : Table). InSlot v.accounts.plan log present (ws ++ record { number = n; given = given } ∷ [])
+    (subst (λ (y : Table). InSlot (over v.accounts.plan start) log present (ws ++ record { number = n; given = given } ∷ [])
     (with_change y n (with_stage (Gone given))) (flash_of blocks_of w)) (sym same)
-    (waives_head blocks_of log present ws u n given v w r (asked blocks_of log present ws t u v s is) head at h))))
+    (waives_head start blocks_of log present ws u n given v w r (asked start blocks_of log present ws t u v s is) head at h))))
 
-pub looks_few : {N : Type 0} (blocks_of : N → List device.Block) (log : Log) (present : ℕ) (ws : List Waived) (t u : Table) (n given : ℕ)
-    (v w : State N) (r : JobRecord) → Within blocks_of log present ws t v → u ≡ record t { clock = present }
+pub looks_few : (start : Start) {N : Type 0} (blocks_of : N → List device.Block) (log : Log) (present : ℕ) (ws : List Waived) (t u : Table) (n given : ℕ)
+    (v w : State N) (r : JobRecord) → Within start blocks_of log present ws t v → u ≡ record t { clock = present }
     → table.IsHead u n → slice_get u.jobs n ≡ Some r → BeginsAs blocks_of v r (Some given) w → length ws < 16
-looks_few blocks_of log present ws t u n given v w r s is head at h =
-    let within = asked blocks_of log present ws t u v s is in
+looks_few start blocks_of log present ws t u n given v w r s is head at h =
+    let within = asked start blocks_of log present ws t u v s is in
     omega (
       arith,
-      waiver_room blocks_of log present ws u n given v w r within head at h,
+      waiver_room start blocks_of log present ws u n given v w r within head at h,
       within.table.tasks_are,
-      within.slot.bound.limits.few_tasks,
+      within.slot.bound.bound.limits.few_tasks,
     )
 
 -- a waiver leaves one collection less that is neither done nor waived

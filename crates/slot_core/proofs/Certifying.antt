@@ -17,6 +17,8 @@ use Rattle.die_log.proofs.Promises.{keeps_promises}
 use Rattle.slot_core.specs.declared.outcomes.Worst.{Worst}
 use Rattle.slot_core.specs.Outcomes.{worst_from, worst_of}
 use Rattle.die_log.specs.Certified.{NothingDone, IsOfWorst, HoldsOver, BindsAll}
+use Rattle.die_log.specs.Start.{Start}
+use Rattle.die_log.specs.Opening.{IsOpening}
 
 worst_named : (plan : DiePlan) (log : Log) (w : Worst) (o : Option Job) → Some w ≡ option_map (worst_from log) o
     → certificate_for plan log o ≡ certificate_of (rows plan log) (carried_numbers log) w.job
@@ -47,25 +49,25 @@ some_done plan log w e nothing = none-some w (sym (e ∙ ap (λ (o : Option Job)
 
 -- What is said of it
 
-pub none_said : (plan : DiePlan) (log : Log) (built : Option Certificate) → MeetsBound plan → IsExact plan log → built
-    ≡ certificate plan log → (built ≡ None) ↔ NothingDone plan log
-none_said plan log built bound exact is =
-    subst (λ (o : Option Certificate). (o ≡ None) ↔ NothingDone plan log) (sym is) (keeps_promises plan bound log exact).uncertified
+pub none_said : (start : Start) (log : Log) (built : Option Certificate) → IsOpening start → IsExact start log → built
+    ≡ certificate start.plan log → (built ≡ None) ↔ NothingDone start.plan log
+none_said start log built bound exact is =
+    subst (λ (o : Option Certificate). (o ≡ None) ↔ NothingDone start.plan log) (sym is) (keeps_promises start bound log exact).uncertified
 
-pub worst_said : (plan : DiePlan) (log : Log) (built : Option Certificate) → MeetsBound plan → IsExact plan log → built
-    ≡ certificate plan log → IfSome built (IsOfWorst plan log)
-worst_said plan log None bound exact is = tt
-worst_said plan log (Some c) bound exact is = ((keeps_promises plan bound log exact).certified c (sym is)).0
+pub worst_said : (start : Start) (log : Log) (built : Option Certificate) → IsOpening start → IsExact start log → built
+    ≡ certificate start.plan log → IfSome built (IsOfWorst start.plan log)
+worst_said start log None bound exact is = tt
+worst_said start log (Some c) bound exact is = ((keeps_promises start bound log exact).certified c (sym is)).0
 
-pub holds_said : (plan : DiePlan) (log : Log) (built : Option Certificate) → MeetsBound plan → IsExact plan log → built
-    ≡ certificate plan log → IfSome built (HoldsOver plan log)
-holds_said plan log None bound exact is = tt
-holds_said plan log (Some c) bound exact is = ((keeps_promises plan bound log exact).certified c (sym is)).1
+pub holds_said : (start : Start) (log : Log) (built : Option Certificate) → IsOpening start → IsExact start log → built
+    ≡ certificate start.plan log → IfSome built (HoldsOver start.plan log)
+holds_said start log None bound exact is = tt
+holds_said start log (Some c) bound exact is = ((keeps_promises start bound log exact).certified c (sym is)).1
 
-pub binds_said : (plan : DiePlan) (log : Log) (built : Option Certificate) → MeetsBound plan → IsExact plan log → built
-    ≡ certificate plan log → IfSome built (BindsAll plan log)
-binds_said plan log None bound exact is = tt
-binds_said plan log (Some c) bound exact is = ((keeps_promises plan bound log exact).certified c (sym is)).2
+pub binds_said : (start : Start) (log : Log) (built : Option Certificate) → IsOpening start → IsExact start log → built
+    ≡ certificate start.plan log → IfSome built (BindsAll start.plan log)
+binds_said start log None bound exact is = tt
+binds_said start log (Some c) bound exact is = ((keeps_promises start bound log exact).certified c (sym is)).2
 
 -- what is known of an answer
 pub ok_where : {A E : Type 0} (r : Result A E) (P Q : A → Type 0) → IfOk r P → ((a : A) → P a → Q a) → IfOk r Q

@@ -13,6 +13,7 @@ use Rattle.die_log.specs.Legal.{is_among}
 use Rattle.slot_core.specs.Slotted.{unwaived, behind, GoesOn}
 use Rattle.die_log.proofs.Choices.{OfSome}
 use Rattle.die_log.proofs.Heads.{least_less}
+use Rattle.die_log.specs.Start.{Start}
 
 abbrev pub waiver_of : Accounts → Job → Waived
 waiver_of a j = record { number = j.number; given = given_of a j.task }
@@ -21,11 +22,11 @@ filter_all : {X : Type 0} (xs : List X) → filter (λ (x : X). true) xs ≡ xs
 filter_all [] = refl
 filter_all (x ∷ xs) = ap (λ ys. x ∷ ys) (filter_all xs)
 
-pub starts : (plan : DiePlan) (past : Log) → GoesOn plan past [] (accounts plan past)
-starts plan past = record {
-  turns = length (ready plan past);
-  enough = rw (filter_all (ready plan past)) (omega arith);
-  rest = rw (filter_all (ready plan past)) refl;
+pub starts : (start : Start) (past : Log) → GoesOn start past [] (accounts start past)
+starts start past = record {
+  turns = length (ready start.plan past);
+  enough = rw (filter_all (ready start.plan past)) (omega arith);
+  rest = rw (filter_all (ready start.plan past)) refl;
 }
 
 among_more : (n : ℕ) (ws : List Waived) (w : Waived) → is_among n (ws ++ w ∷ []) ≡ (is_among n ws || (w.number == n))
@@ -90,59 +91,59 @@ only : (ws : List Waived) (o : Option Job) → behind ws (record { waived = []; 
 only ws o = ap (λ (ys : List Waived). behind [] (record { waived = ys; head = o })) (append_none ws)
 
 -- the head is waived, and the choice goes on
-pub waives : (plan : DiePlan) (past : Log) (ws : List Waived) (a : Accounts) (j : Job) → GoesOn plan past ws a
-    → least (unwaived ws (ready plan past)) ≡ Some j → is_waivable plan past a j ≡ true
-    → GoesOn plan past (ws ++ waiver_of a j ∷ []) (moves.waived a j.task)
-waives plan past ws a j g e yes_is = by_turns g.turns refl
+pub waives : (start : Start) (past : Log) (ws : List Waived) (a : Accounts) (j : Job) → GoesOn start past ws a
+    → least (unwaived ws (ready start.plan past)) ≡ Some j → is_waivable start.plan past a j ≡ true
+    → GoesOn start past (ws ++ waiver_of a j ∷ []) (moves.waived a j.task)
+waives start past ws a j g e yes_is = by_turns g.turns refl
   where
     xs : List Job
-    xs = unwaived ws (ready plan past)
+    xs = unwaived ws (ready start.plan past)
 
     less : OfSome (λ i. length (without i xs) < length xs) (Some j)
     less = subst (OfSome (λ i. length (without i xs) < length xs)) e (least_less xs)
 
-    by_turns : (n : ℕ) → g.turns ≡ n → GoesOn plan past (ws ++ waiver_of a j ∷ []) (moves.waived a j.task)
+    by_turns : (n : ℕ) → g.turns ≡ n → GoesOn start past (ws ++ waiver_of a j ∷ []) (moves.waived a j.task)
     by_turns zero is = absurd (omega (arith, none_of_nil g.turns xs j e g.enough))
     by_turns (suc n) is = record {
       turns = n;
-      enough = rw (unwaived_more ws (waiver_of a j) j (ready plan past) refl) (omega (arith, less, g.enough));
-      rest = g.rest ∙ (ap (λ t. behind ws (choice_among plan past t a xs)) is
-          ∙ (ap (λ o. behind ws (chosen plan past a xs (choice_among plan past n) o)) e
-          ∙ (ap (λ b. behind ws (weighed a xs (choice_among plan past n) j b)) yes_is ∙ moved n)));
+      enough = rw (unwaived_more ws (waiver_of a j) j (ready start.plan past) refl) (omega (arith, less, g.enough));
+      rest = g.rest ∙ (ap (λ t. behind ws (choice_among start.plan past t a xs)) is
+          ∙ (ap (λ o. behind ws (chosen start.plan past a xs (choice_among start.plan past n) o)) e
+          ∙ (ap (λ b. behind ws (weighed a xs (choice_among start.plan past n) j b)) yes_is ∙ moved n)));
     }
       where
-        moved : (n : ℕ) → behind ws (with_waiver (waiver_of a j) (choice_among plan past n (moves.waived a j.task) (without j xs)))
-            ≡ behind (ws ++ waiver_of a j ∷ []) (choice_among plan past n (moves.waived a j.task)
-            (unwaived (ws ++ waiver_of a j ∷ []) (ready plan past)))
-        moved n = rw (unwaived_more ws (waiver_of a j) j (ready plan past) refl)
-            (joined ws (waiver_of a j) (choice_among plan past n (moves.waived a j.task) (without j xs)))
+        moved : (n : ℕ) → behind ws (with_waiver (waiver_of a j) (choice_among start.plan past n (moves.waived a j.task) (without j xs)))
+            ≡ behind (ws ++ waiver_of a j ∷ []) (choice_among start.plan past n (moves.waived a j.task)
+            (unwaived (ws ++ waiver_of a j ∷ []) (ready start.plan past)))
+        moved n = rw (unwaived_more ws (waiver_of a j) j (ready start.plan past) refl)
+            (joined ws (waiver_of a j) (choice_among start.plan past n (moves.waived a j.task) (without j xs)))
 
 -- the head is not waived: it has the slot
-pub begins : (plan : DiePlan) (past : Log) (ws : List Waived) (a : Accounts) (j : Job) → GoesOn plan past ws a
-    → least (unwaived ws (ready plan past)) ≡ Some j → is_waivable plan past a j ≡ false
-    → choice plan past ≡ record { waived = ws; head = Some j }
-begins plan past ws a j g e no_is = by_turns g.turns refl
+pub begins : (start : Start) (past : Log) (ws : List Waived) (a : Accounts) (j : Job) → GoesOn start past ws a
+    → least (unwaived ws (ready start.plan past)) ≡ Some j → is_waivable start.plan past a j ≡ false
+    → choice start past ≡ record { waived = ws; head = Some j }
+begins start past ws a j g e no_is = by_turns g.turns refl
   where
     xs : List Job
-    xs = unwaived ws (ready plan past)
+    xs = unwaived ws (ready start.plan past)
 
-    by_turns : (n : ℕ) → g.turns ≡ n → choice plan past ≡ record { waived = ws; head = Some j }
+    by_turns : (n : ℕ) → g.turns ≡ n → choice start past ≡ record { waived = ws; head = Some j }
     by_turns zero is = absurd (omega (arith, none_of_nil g.turns xs j e g.enough))
     by_turns (suc n) is =
-        g.rest ∙ (ap (λ t. behind ws (choice_among plan past t a xs)) is
-        ∙ (ap (λ o. behind ws (chosen plan past a xs (choice_among plan past n) o)) e
-        ∙ (ap (λ b. behind ws (weighed a xs (choice_among plan past n) j b)) no_is ∙ only ws (Some j))))
+        g.rest ∙ (ap (λ t. behind ws (choice_among start.plan past t a xs)) is
+        ∙ (ap (λ o. behind ws (chosen start.plan past a xs (choice_among start.plan past n) o)) e
+        ∙ (ap (λ b. behind ws (weighed a xs (choice_among start.plan past n) j b)) no_is ∙ only ws (Some j))))
 
 -- nobody is left
-pub ends : (plan : DiePlan) (past : Log) (ws : List Waived) (a : Accounts) → GoesOn plan past ws a → least (unwaived ws (ready plan past))
-    ≡ None → choice plan past ≡ record { waived = ws; head = None }
-ends plan past ws a g e = by_turns g.turns refl
+pub ends : (start : Start) (past : Log) (ws : List Waived) (a : Accounts) → GoesOn start past ws a → least (unwaived ws (ready start.plan past))
+    ≡ None → choice start past ≡ record { waived = ws; head = None }
+ends start past ws a g e = by_turns g.turns refl
   where
     xs : List Job
-    xs = unwaived ws (ready plan past)
+    xs = unwaived ws (ready start.plan past)
 
-    by_turns : (n : ℕ) → g.turns ≡ n → choice plan past ≡ record { waived = ws; head = None }
-    by_turns zero is = g.rest ∙ (ap (λ t. behind ws (choice_among plan past t a xs)) is ∙ only ws None)
+    by_turns : (n : ℕ) → g.turns ≡ n → choice start past ≡ record { waived = ws; head = None }
+    by_turns zero is = g.rest ∙ (ap (λ t. behind ws (choice_among start.plan past t a xs)) is ∙ only ws None)
     by_turns (suc n) is =
-        g.rest ∙ (ap (λ t. behind ws (choice_among plan past t a xs)) is
-        ∙ (ap (λ o. behind ws (chosen plan past a xs (choice_among plan past n) o)) e ∙ only ws None))
+        g.rest ∙ (ap (λ t. behind ws (choice_among start.plan past t a xs)) is
+        ∙ (ap (λ o. behind ws (chosen start.plan past a xs (choice_among start.plan past n) o)) e ∙ only ws None))

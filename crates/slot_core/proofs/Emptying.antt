@@ -17,6 +17,7 @@ use Rattle.die_log.specs.Flash.{Cells, cells, valid_pages}
 use Rattle.die_log.specs.Answers.{is_block, is_placed_in, read_or_erase, collect_act, act_for, block_for}
 use Rattle.die_log.specs.Sound.{AreSound}
 use Rattle.slot_core.specs.Device.{page_in, page_held}
+use Rattle.die_log.specs.Start.{Start}
 
 -- The pages that lie in a block, in order
 
@@ -100,44 +101,44 @@ held_is c run copied holds here lies = (
 -- The act
 
 -- of a collection that has its turn
-pub collect_is : (plan : DiePlan) (past : Log) (j : Job) (run : Collection) → j.collects ≡ true → block_for plan past j ≡ Some run.victim
+pub collect_is : (start : Start) (past : Log) (j : Job) (run : Collection) → j.collects ≡ true → block_for start past j ≡ Some run.victim
     → page_in run ≡ page_held past j.number
-    → act_for plan past j ≡ collect_act plan (cells plan past) (page_in run) (Some run.victim)
-collect_is plan past j run collects victim holds =
-    rw collects (ap (collect_act plan (cells plan past) (page_held past j.number)) victim
-    ∙ ap (λ (o : Option ℕ). collect_act plan (cells plan past) o (Some run.victim)) (sym holds))
+    → act_for start past j ≡ collect_act start.plan (cells start past) (page_in run) (Some run.victim)
+collect_is start past j run collects victim holds =
+    rw collects (ap (collect_act start.plan (cells start past) (page_held past j.number)) victim
+    ∙ ap (λ (o : Option ℕ). collect_act start.plan (cells start past) o (Some run.victim)) (sym holds))
 
-pub copies : (plan : DiePlan) (past : Log) (j : Job) (run : Collection) (copied : Copied) → j.collects ≡ true → block_for plan past j
+pub copies : (start : Start) (past : Log) (j : Job) (run : Collection) (copied : Copied) → j.collects ≡ true → block_for start past j
     ≡ Some run.victim → page_in run ≡ page_held past j.number
-    → run.buffer ≡ Some copied → copied.source.block ≡ run.victim → place_of (cells plan past).places copied.page ≡ Some copied.source
-    → act_for plan past j ≡ Some (does.CopyProgram copied.page)
-copies plan past j run copied collects victim holds buffer here lies =
-    let held = held_is (cells plan past) run copied buffer here lies in
-    collect_is plan past j run collects victim holds
+    → run.buffer ≡ Some copied → copied.source.block ≡ run.victim → place_of (cells start past).places copied.page ≡ Some copied.source
+    → act_for start past j ≡ Some (does.CopyProgram copied.page)
+copies start past j run copied collects victim holds buffer here lies =
+    let held = held_is (cells start past) run copied buffer here lies in
+    collect_is start past j run collects victim holds
     ∙ (ap (λ (b : Bool). cond b (Some (does.CopyProgram (unwrap_or (page_in run) 0)))
-    (Some (read_or_erase run.victim (valid_pages plan (cells plan past) run.victim)))) held.1
+    (Some (read_or_erase run.victim (valid_pages start.plan (cells start past) run.victim)))) held.1
     ∙ ap (λ (o : Option ℕ). Some (does.CopyProgram (unwrap_or o 0))) held.0)
 
-left : (plan : DiePlan) (past : Log) (j : Job) (run : Collection) (pages : List ℕ) → j.collects ≡ true → block_for plan past j
-    ≡ Some run.victim → page_in run ≡ page_held past j.number → HasDropped (cells plan past).places run
-    → valid_pages plan (cells plan past) run.victim ≡ pages → act_for plan past j ≡ Some (read_or_erase run.victim pages)
-left plan past j run pages collects victim holds dropped valid =
-    collect_is plan past j run collects victim holds
+left : (start : Start) (past : Log) (j : Job) (run : Collection) (pages : List ℕ) → j.collects ≡ true → block_for start past j
+    ≡ Some run.victim → page_in run ≡ page_held past j.number → HasDropped (cells start past).places run
+    → valid_pages start.plan (cells start past) run.victim ≡ pages → act_for start past j ≡ Some (read_or_erase run.victim pages)
+left start past j run pages collects victim holds dropped valid =
+    collect_is start past j run collects victim holds
     ∙ (ap (λ (b : Bool). cond b (Some (does.CopyProgram (unwrap_or (page_in run) 0)))
-    (Some (read_or_erase run.victim (valid_pages plan (cells plan past) run.victim)))) (dropped_is (cells plan past) run dropped)
+    (Some (read_or_erase run.victim (valid_pages start.plan (cells start past) run.victim)))) (dropped_is (cells start past) run dropped)
     ∙ ap (λ (ps : List ℕ). Some (read_or_erase run.victim ps)) valid)
 
-pub reads : (plan : DiePlan) (past : Log) (j : Job) (run : Collection) (page : ℕ) (source : Place) → AreSound plan (cells plan past)
-    → j.collects ≡ true → block_for plan past j ≡ Some run.victim → page_in run ≡ page_held past j.number
-    → HasDropped (cells plan past).places run → IsFirst (cells plan past).places run.victim page source → act_for plan past j
+pub reads : (start : Start) (past : Log) (j : Job) (run : Collection) (page : ℕ) (source : Place) → AreSound start.plan (cells start past)
+    → j.collects ≡ true → block_for start past j ≡ Some run.victim → page_in run ≡ page_held past j.number
+    → HasDropped (cells start past).places run → IsFirst (cells start past).places run.victim page source → act_for start past j
     ≡ Some (does.CopyRead page)
-reads plan past j run page source sound collects victim holds dropped first =
-    let pages = first_valid plan (cells plan past) run.victim page source sound first in
-    left plan past j run (page ∷ pages.0) collects victim holds dropped pages.1
+reads start past j run page source sound collects victim holds dropped first =
+    let pages = first_valid start.plan (cells start past) run.victim page source sound first in
+    left start past j run (page ∷ pages.0) collects victim holds dropped pages.1
 
-pub erases : (plan : DiePlan) (past : Log) (j : Job) (run : Collection) → j.collects ≡ true → block_for plan past j ≡ Some run.victim
+pub erases : (start : Start) (past : Log) (j : Job) (run : Collection) → j.collects ≡ true → block_for start past j ≡ Some run.victim
     → page_in run ≡ page_held past j.number
-    → HasDropped (cells plan past).places run → IsUnplaced (cells plan past).places run.victim → act_for plan past j
+    → HasDropped (cells start past).places run → IsUnplaced (cells start past).places run.victim → act_for start past j
     ≡ Some (does.Erase run.victim)
-erases plan past j run collects victim holds dropped unplaced = left plan past j run [] collects victim holds dropped
-    (none_valid plan (cells plan past) run.victim unplaced)
+erases start past j run collects victim holds dropped unplaced = left start past j run [] collects victim holds dropped
+    (none_valid start.plan (cells start past) run.victim unplaced)

@@ -28,6 +28,7 @@ use Rattle.die_log.proofs.Legality.{entry}
 use Rattle.slot_core.specs.Device.{FlashState, counts_of, IsFlashOf, AreRunning}
 use Rattle.slot_core.specs.Slotted.{IsWaivedFlash}
 use Rattle.slot_core.proofs.Collections.{none_running, running_quiet}
+use Rattle.die_log.specs.Start.{Start, fresh}
 
 -- A fresh die
 
@@ -44,22 +45,22 @@ fresh_state plan = record {
   running = replicate (length plan.caps) None;
 }
 
-pub fresh_flash : (plan : DiePlan) → IsFlashOf plan [] (fresh_state plan)
+pub fresh_flash : (plan : DiePlan) → IsFlashOf (fresh plan) [] (fresh_state plan)
 fresh_flash plan = record {
   accounts_are = refl;
   pages_are = refl;
   places_are = refl;
   blocks_are = map_replicate plan.shape.blocks;
-  running_are = none_running plan;
+  running_are = none_running (fresh plan);
 }
 
 -- Arrivals
 
 -- what arrives has not begun
-running_taken : (plan : DiePlan) (e : Entry) (past : Log) (new : Job) (running : List (Option Collection)) → ran_by e.reply ≡ None
+running_taken : (start : Start) (e : Entry) (past : Log) (new : Job) (running : List (Option Collection)) → ran_by e.reply ≡ None
     → jobs (e ∷ past) ≡ jobs past ++ new ∷ [] → new.number ≡ length (jobs past)
-    → acts (length (jobs past)) past ≡ [] → AreRunning plan past running → AreRunning plan (e ∷ past) running
-running_taken plan e past new running none same is nil r = running_quiet plan e past running none
+    → acts (length (jobs past)) past ≡ [] → AreRunning start past running → AreRunning start (e ∷ past) running
+running_taken start e past new running none same is nil r = running_quiet start e past running none
     (λ j h. subst (λ (js : List Job). Contains js j) (sym same) (Contains-append_left (jobs past) (new ∷ []) j h))
     (λ j h runs. old_by_case j runs (Contains-push_cases (jobs past) new j (subst (λ (js : List Job). Contains js j) same h))) r
   where
@@ -67,38 +68,38 @@ running_taken plan e past new running none same is nil r = running_quiet plan e 
     new_nil j it = acts_stay j.number e past (ap (act_of j.number) none)
         ∙ (ap (λ (n : ℕ). acts n past) (sym (ap (λ (x : Job). x.number) it) ∙ is) ∙ nil)
 
-    old_by_case : (j : Job) → is_running plan (e ∷ past) j ≡ true → Contains (jobs past) j ⊎ (new ≡ j) → Contains (jobs past) j
+    old_by_case : (j : Job) → is_running start.plan (e ∷ past) j ≡ true → Contains (jobs past) j ⊎ (new ≡ j) → Contains (jobs past) j
     old_by_case j runs (inl h) = h
-    old_by_case j runs (inr it) = absurd (omega (arith, (runs_says plan j (acts j.number (e ∷ past)) runs).begun, ap length (new_nil j it)))
+    old_by_case j runs (inr it) = absurd (omega (arith, (runs_says start.plan j (acts j.number (e ∷ past)) runs).begun, ap length (new_nil j it)))
 
-pub flash-submit : (plan : DiePlan) (past : Log) (caller task release due : ℕ) (ops : List Op) (f : FlashState) → IsExact plan past
-    → IsFlashOf plan past f
-    → IsFlashOf plan (entry caller (events.Submit task release due ops) (replies.Taken (length (jobs past))) ∷ past)
+pub flash-submit : (start : Start) (past : Log) (caller task release due : ℕ) (ops : List Op) (f : FlashState) → IsExact start past
+    → IsFlashOf start past f
+    → IsFlashOf start (entry caller (events.Submit task release due ops) (replies.Taken (length (jobs past))) ∷ past)
     (record f { tokens = admitted f.tokens task (writes ops) })
-flash-submit plan past caller task release due ops f exact h = record {
+flash-submit start past caller task release due ops f exact h = record {
   accounts_are = ap (λ a. admitted a task (writes ops)) h.accounts_are;
   pages_are = h.pages_are;
   places_are = h.places_are;
   blocks_are = h.blocks_are;
-  running_are = running_taken plan (entry caller (events.Submit task release due ops) (replies.Taken (length (jobs past)))) past _ f.running
-      refl refl refl (no_acts plan past exact) h.running_are;
+  running_are = running_taken start (entry caller (events.Submit task release due ops) (replies.Taken (length (jobs past)))) past _ f.running
+      refl refl refl (no_acts start past exact) h.running_are;
 }
 
-pub flash-collect : (plan : DiePlan) (past : Log) (caller task release due : ℕ) (f : FlashState) → IsExact plan past → IsFlashOf plan past f
-    → IsFlashOf plan (entry caller (events.Collect task release due) (replies.Taken (length (jobs past))) ∷ past) f
-flash-collect plan past caller task release due f exact h = record {
+pub flash-collect : (start : Start) (past : Log) (caller task release due : ℕ) (f : FlashState) → IsExact start past → IsFlashOf start past f
+    → IsFlashOf start (entry caller (events.Collect task release due) (replies.Taken (length (jobs past))) ∷ past) f
+flash-collect start past caller task release due f exact h = record {
   accounts_are = h.accounts_are;
   pages_are = h.pages_are;
   places_are = h.places_are;
   blocks_are = h.blocks_are;
-  running_are = running_taken plan (entry caller (events.Collect task release due) (replies.Taken (length (jobs past)))) past _ f.running
-      refl refl refl (no_acts plan past exact) h.running_are;
+  running_are = running_taken start (entry caller (events.Collect task release due) (replies.Taken (length (jobs past)))) past _ f.running
+      refl refl refl (no_acts start past exact) h.running_are;
 }
 
 -- Slots
 
-pub unwaived_flash : (plan : DiePlan) (past : Log) (f : FlashState) → IsFlashOf plan past f → IsWaivedFlash plan past [] f
-unwaived_flash plan past f h = record {
+pub unwaived_flash : (start : Start) (past : Log) (f : FlashState) → IsFlashOf start past f → IsWaivedFlash start past [] f
+unwaived_flash start past f h = record {
   accounts_are = h.accounts_are;
   pages_are = h.pages_are;
   places_are = h.places_are;
@@ -106,15 +107,15 @@ unwaived_flash plan past f h = record {
       h.blocks_are;
 }
 
-pub flash-idle : (plan : DiePlan) (past : Log) (caller slot : ℕ) (ws : List Waived) (f : FlashState) → IsWaivedFlash plan past ws f
-    → AreRunning plan past f.running
-    → IsFlashOf plan (entry caller events.Slot (replies.Slot (record { slot = slot; waived = ws; ran = None; finished = None })) ∷ past) f
-flash-idle plan past caller slot ws f h r = record {
+pub flash-idle : (start : Start) (past : Log) (caller slot : ℕ) (ws : List Waived) (f : FlashState) → IsWaivedFlash start past ws f
+    → AreRunning start past f.running
+    → IsFlashOf start (entry caller events.Slot (replies.Slot (record { slot = slot; waived = ws; ran = None; finished = None })) ∷ past) f
+flash-idle start past caller slot ws f h r = record {
   accounts_are = h.accounts_are;
   pages_are = h.pages_are;
   places_are = h.places_are;
   blocks_are = h.blocks_are;
-  running_are = running_quiet plan (entry caller events.Slot
+  running_are = running_quiet start (entry caller events.Slot
       (replies.Slot (record { slot = slot; waived = ws; ran = None; finished = None }))) past f.running refl (λ j h. h) (λ j h runs. h) r;
 }
 
@@ -125,12 +126,12 @@ slot_entry caller slot ws number act finished = entry caller events.Slot
 abbrev pub slot_with : ℕ → ℕ → List Waived → ℕ → Act → Option ℕ → Log → Log
 slot_with caller slot ws number act finished past = slot_entry caller slot ws number act finished ∷ past
 
-pub flash-read : (plan : DiePlan) (past : Log) (caller slot : ℕ) (ws : List Waived) (j : Job) (page : ℕ) (bytes : PageData)
+pub flash-read : (start : Start) (past : Log) (caller slot : ℕ) (ws : List Waived) (j : Job) (page : ℕ) (bytes : PageData)
     (finished : Option ℕ) (f : FlashState)
-    → job_at past j.number ≡ Some j → IsWaivedFlash plan past ws f
-    → AreRunning plan (slot_with caller slot ws j.number (does.Read page bytes) finished past) f.running
-    → IsFlashOf plan (slot_with caller slot ws j.number (does.Read page bytes) finished past) f
-flash-read plan past caller slot ws j page bytes finished f at h r =
+    → job_at past j.number ≡ Some j → IsWaivedFlash start past ws f
+    → AreRunning start (slot_with caller slot ws j.number (does.Read page bytes) finished past) f.running
+    → IsFlashOf start (slot_with caller slot ws j.number (does.Read page bytes) finished past) f
+flash-read start past caller slot ws j page bytes finished f at h r =
     record {
       accounts_are = rw at h.accounts_are;
       pages_are = h.pages_are;
@@ -141,12 +142,12 @@ flash-read plan past caller slot ws j page bytes finished f at h r =
     }
 
 -- a copy's read
-pub flash-copy_read : (plan : DiePlan) (past : Log) (caller slot : ℕ) (ws : List Waived) (j : Job) (page : ℕ) (finished : Option ℕ)
+pub flash-copy_read : (start : Start) (past : Log) (caller slot : ℕ) (ws : List Waived) (j : Job) (page : ℕ) (finished : Option ℕ)
     (f : FlashState) (running : List (Option Collection))
-    → job_at past j.number ≡ Some j → IsWaivedFlash plan past ws f
-    → AreRunning plan (slot_with caller slot ws j.number (does.CopyRead page) finished past) running
-    → IsFlashOf plan (slot_with caller slot ws j.number (does.CopyRead page) finished past) (record f { running = running })
-flash-copy_read plan past caller slot ws j page finished f running at h r =
+    → job_at past j.number ≡ Some j → IsWaivedFlash start past ws f
+    → AreRunning start (slot_with caller slot ws j.number (does.CopyRead page) finished past) running
+    → IsFlashOf start (slot_with caller slot ws j.number (does.CopyRead page) finished past) (record f { running = running })
+flash-copy_read start past caller slot ws j page finished f running at h r =
     record {
       accounts_are = rw at h.accounts_are;
       pages_are = h.pages_are;
@@ -187,37 +188,37 @@ state_programmed f tokens pages page b bytes running = record {
   running = running;
 }
 
-place_is : (plan : DiePlan) (past : Log) (page b : ℕ) (f : FlashState) → map counts_of f.blocks ≡ (cells plan past).blocks
+place_is : (start : Start) (past : Log) (page b : ℕ) (f : FlashState) → map counts_of f.blocks ≡ (cells start past).blocks
     → slice_set f.places page (Some (record { block = b; page = length (device.block_at f.blocks b).pages }))
-    ≡ slice_set f.places page (Some (record { block = b; page = (block_at (cells plan past) b).filled }))
-place_is plan past page b f is =
+    ≡ slice_set f.places page (Some (record { block = b; page = (block_at (cells start past) b).filled }))
+place_is start past page b f is =
     ap (λ (n : ℕ). slice_set f.places page (Some (record { block = b; page = n })))
     (ap (λ (s : Block). s.filled) (counted f.blocks b) ∙ ap (λ (bs : List Block). (slice_index_or bs b free_block).filled) is)
 
 -- a write
-pub flash-write : (plan : DiePlan) (past : Log) (caller slot : ℕ) (ws : List Waived) (j : Job) (page : ℕ) (bytes : PageData)
+pub flash-write : (start : Start) (past : Log) (caller slot : ℕ) (ws : List Waived) (j : Job) (page : ℕ) (bytes : PageData)
     (finished : Option ℕ) (f : FlashState) (b : ℕ)
-    → job_at past j.number ≡ Some j → open_block plan (cells plan past) ≡ Some b → IsWaivedFlash plan past ws f
-    → AreRunning plan (slot_with caller slot ws j.number (does.Write page bytes) finished past) f.running
-    → IsFlashOf plan (slot_with caller slot ws j.number (does.Write page bytes) finished past)
+    → job_at past j.number ≡ Some j → open_block start.plan (cells start past) ≡ Some b → IsWaivedFlash start past ws f
+    → AreRunning start (slot_with caller slot ws j.number (does.Write page bytes) finished past) f.running
+    → IsFlashOf start (slot_with caller slot ws j.number (does.Write page bytes) finished past)
     (state_programmed f (hold_spent f.tokens j.task) (slice_set f.pages page bytes) page b bytes f.running)
-flash-write plan past caller slot ws j page bytes finished f b at opens h r = record {
+flash-write start past caller slot ws j page bytes finished f b at opens h r = record {
   accounts_are = rw at (ap (λ a. hold_spent a j.task) h.accounts_are);
   pages_are = ap (λ ps. slice_set ps page bytes) h.pages_are;
-  places_are = rw opens (place_is plan past page b f h.blocks_are
-      ∙ ap (λ ps. slice_set ps page (Some (record { block = b; page = (block_at (cells plan past) b).filled }))) h.places_are);
-  blocks_are = rw opens (programmed_counts f.blocks b bytes (cells plan past) h.blocks_are);
+  places_are = rw opens (place_is start past page b f h.blocks_are
+      ∙ ap (λ ps. slice_set ps page (Some (record { block = b; page = (block_at (cells start past) b).filled }))) h.places_are);
+  blocks_are = rw opens (programmed_counts f.blocks b bytes (cells start past) h.blocks_are);
   running_are = r;
 }
 
 -- a trim
-pub flash-trim : (plan : DiePlan) (past : Log) (caller slot : ℕ) (ws : List Waived) (j : Job) (page : ℕ) (finished : Option ℕ)
+pub flash-trim : (start : Start) (past : Log) (caller slot : ℕ) (ws : List Waived) (j : Job) (page : ℕ) (finished : Option ℕ)
     (f : FlashState)
-    → job_at past j.number ≡ Some j → IsWaivedFlash plan past ws f
-    → AreRunning plan (slot_with caller slot ws j.number (does.Trim page) finished past) f.running
-    → IsFlashOf plan (slot_with caller slot ws j.number (does.Trim page) finished past)
+    → job_at past j.number ≡ Some j → IsWaivedFlash start past ws f
+    → AreRunning start (slot_with caller slot ws j.number (does.Trim page) finished past) f.running
+    → IsFlashOf start (slot_with caller slot ws j.number (does.Trim page) finished past)
     (record f { pages = slice_set f.pages page device.blank; places = slice_set f.places page None })
-flash-trim plan past caller slot ws j page finished f at h r = record {
+flash-trim start past caller slot ws j page finished f at h r = record {
   accounts_are = rw at h.accounts_are;
   pages_are = ap (λ ps. slice_set ps page device.blank) h.pages_are;
   places_are = ap (λ ps. slice_set ps page None) h.places_are;
@@ -226,18 +227,18 @@ flash-trim plan past caller slot ws j page finished f at h r = record {
 }
 
 -- a copy's program
-pub flash-copy : (plan : DiePlan) (past : Log) (caller slot : ℕ) (ws : List Waived) (j : Job) (page : ℕ) (bytes : PageData)
+pub flash-copy : (start : Start) (past : Log) (caller slot : ℕ) (ws : List Waived) (j : Job) (page : ℕ) (bytes : PageData)
     (finished : Option ℕ) (f : FlashState) (running : List (Option Collection)) (b : ℕ)
-    → job_at past j.number ≡ Some j → open_block plan (cells plan past) ≡ Some b → IsWaivedFlash plan past ws f
-    → AreRunning plan (slot_with caller slot ws j.number (does.CopyProgram page) finished past) running
-    → IsFlashOf plan (slot_with caller slot ws j.number (does.CopyProgram page) finished past)
+    → job_at past j.number ≡ Some j → open_block start.plan (cells start past) ≡ Some b → IsWaivedFlash start past ws f
+    → AreRunning start (slot_with caller slot ws j.number (does.CopyProgram page) finished past) running
+    → IsFlashOf start (slot_with caller slot ws j.number (does.CopyProgram page) finished past)
     (state_programmed f (reserve_spent f.tokens j.task) f.pages page b bytes running)
-flash-copy plan past caller slot ws j page bytes finished f running b at opens h r = record {
+flash-copy start past caller slot ws j page bytes finished f running b at opens h r = record {
   accounts_are = rw at (ap (λ a. reserve_spent a j.task) h.accounts_are);
   pages_are = h.pages_are;
-  places_are = rw opens (place_is plan past page b f h.blocks_are
-      ∙ ap (λ ps. slice_set ps page (Some (record { block = b; page = (block_at (cells plan past) b).filled }))) h.places_are);
-  blocks_are = rw opens (programmed_counts f.blocks b bytes (cells plan past) h.blocks_are);
+  places_are = rw opens (place_is start past page b f h.blocks_are
+      ∙ ap (λ ps. slice_set ps page (Some (record { block = b; page = (block_at (cells start past) b).filled }))) h.places_are);
+  blocks_are = rw opens (programmed_counts f.blocks b bytes (cells start past) h.blocks_are);
   running_are = r;
 }
 
@@ -272,22 +273,22 @@ state_erased f tokens b running = record {
   running = running;
 }
 
-pub flash-erase : (plan : DiePlan) (past : Log) (caller slot : ℕ) (ws : List Waived) (j : Job) (b : ℕ) (finished : Option ℕ)
+pub flash-erase : (start : Start) (past : Log) (caller slot : ℕ) (ws : List Waived) (j : Job) (b : ℕ) (finished : Option ℕ)
     (f : FlashState) (tokens : Accounts) (running : List (Option Collection))
-    → job_at past j.number ≡ Some j → f.tokens.plan ≡ plan → IsWaivedFlash plan past ws f
-    → tokens ≡ after_act plan (Some j) (acts j.number past) (does.Erase b) (after_waivers past ws (accounts plan past))
-    → AreRunning plan (slot_with caller slot ws j.number (does.Erase b) finished past) running
-    → IsFlashOf plan (slot_with caller slot ws j.number (does.Erase b) finished past) (state_erased f tokens b running)
-flash-erase plan past caller slot ws j b finished f tokens running at plan_is h tokens_are r = record {
+    → job_at past j.number ≡ Some j → f.tokens.plan ≡ start.plan → IsWaivedFlash start past ws f
+    → tokens ≡ after_act start.plan (Some j) (acts j.number past) (does.Erase b) (after_waivers past ws (accounts start past))
+    → AreRunning start (slot_with caller slot ws j.number (does.Erase b) finished past) running
+    → IsFlashOf start (slot_with caller slot ws j.number (does.Erase b) finished past) (state_erased f tokens b running)
+flash-erase start past caller slot ws j b finished f tokens running at plan_is h tokens_are r = record {
   accounts_are = rw at tokens_are;
   pages_are = h.pages_are;
   places_are = h.places_are;
-  blocks_are = erased_counts f.tokens.plan.shape.erase_slots f.blocks b plan (cells plan past)
+  blocks_are = erased_counts f.tokens.plan.shape.erase_slots f.blocks b start.plan (cells start past)
       (ap (λ (p : DiePlan). p.shape.erase_slots) plan_is) h.blocks_are;
   running_are = r;
 }
 
 -- what a read gives is the page's content
-pub content_is : (plan : DiePlan) (past : Log) (pages : List PageData) (page : ℕ) → pages ≡ contents plan past
-    → slice_index_or pages page device.blank ≡ content plan past page
-content_is plan past pages page is = ap (λ (ps : List PageData). slice_index_or ps page device.blank) is
+pub content_is : (start : Start) (past : Log) (pages : List PageData) (page : ℕ) → pages ≡ contents start past
+    → slice_index_or pages page device.blank ≡ content start past page
+content_is start past pages page is = ap (λ (ps : List PageData). slice_index_or ps page device.blank) is

@@ -23,6 +23,7 @@ use Rattle.die_log.proofs.Standing.Longer.{number_at, stands_at, same_job, kept_
 use Rattle.slot_core.specs.Records.{record_with, waiver_among, stage_by, given}
 use Rattle.slot_core.specs.Slotted.{unwaived}
 use Rattle.slot_core.proofs.Choosing.{filter_twice}
+use Rattle.die_log.specs.Start.{Start}
 
 -- Lists that are mapped
 
@@ -67,11 +68,11 @@ pending_by None true c g = refl
 pending_by None false c g = refl
 
 -- a record is pending where the job is neither done nor among the waived
-pub pending_is : (plan : DiePlan) (past : Log) (ws : List Waived) (j : Job) → is_pending (record_with plan past ws j).stage
-    ≡ (not (is_done plan past j) && not (is_among j.number ws))
-pending_is plan past ws j =
-    pending_by (waiver_among j.number ws) (is_done plan past j) (completion j.number past) (given plan j.number past)
-    ∙ ap (λ b. not (is_done plan past j) && not b) (waiver_is j.number ws)
+pub pending_is : (start : Start) (past : Log) (ws : List Waived) (j : Job) → is_pending (record_with start past ws j).stage
+    ≡ (not (is_done start.plan past j) && not (is_among j.number ws))
+pending_is start past ws j =
+    pending_by (waiver_among j.number ws) (is_done start.plan past j) (completion j.number past) (given start j.number past)
+    ∙ ap (λ b. not (is_done start.plan past j) && not b) (waiver_is j.number ws)
 
 pub among_both : (n : ℕ) (xs ys : List Waived) → is_among n (xs ++ ys) ≡ (is_among n xs || is_among n ys)
 among_both n [] ys = refl
@@ -98,12 +99,12 @@ tests_join true false false false = refl
 tests_join false b c d = refl
 
 -- a record is ready where its job is ready and stays
-pub ready_is : (plan : DiePlan) (past : Log) (ws : List Waived) (j : Job)
-    → table.is_ready (now past) (record_with plan past (waived past ++ ws) j) ≡ stays plan past ws j
-ready_is plan past ws j =
-    ap (λ b. nat_le j.release (now past) && b) (pending_is plan past (waived past ++ ws) j
-    ∙ ap (λ b. not (is_done plan past j) && not b) (among_both j.number (waived past) ws))
-    ∙ tests_join (nat_le j.release (now past)) (is_done plan past j) (is_waived past j.number) (is_among j.number ws)
+pub ready_is : (start : Start) (past : Log) (ws : List Waived) (j : Job)
+    → table.is_ready (now past) (record_with start past (waived past ++ ws) j) ≡ stays start.plan past ws j
+ready_is start past ws j =
+    ap (λ b. nat_le j.release (now past) && b) (pending_is start past (waived past ++ ws) j
+    ∙ ap (λ b. not (is_done start.plan past j) && not b) (among_both j.number (waived past) ws))
+    ∙ tests_join (nat_le j.release (now past)) (is_done start.plan past j) (is_waived past j.number) (is_among j.number ws)
 
 pub unwaived_is : (plan : DiePlan) (past : Log) (ws : List Waived) → unwaived ws (ready plan past) ≡ filter (stays plan past ws) (jobs past)
 unwaived_is plan past ws = filter_twice (is_ready plan past) (λ i. not (is_among i.number ws)) (jobs past)
@@ -135,61 +136,61 @@ least_none : (xs : List Job) → least xs ≡ None → AllByRecursion (λ (i : J
 least_none [] e = tt
 least_none (x ∷ xs) e = absurd cc
 
-abbrev pub table_at : ℕ → Bool → DiePlan → Log → List Waived → Table
-table_at tasks ended plan past ws = record {
+abbrev pub table_at : ℕ → Bool → Start → Log → List Waived → Table
+table_at tasks ended start past ws = record {
   tasks = tasks;
   clock = now past;
   ended = ended;
   jobs = map
-      (record_with plan past (waived past ++ ws)) (jobs past);
+      (record_with start past (waived past ++ ws)) (jobs past);
 }
 
 -- the head of the table is the least of those that stay
-pub head_least : (plan : DiePlan) (past : Log) (ws : List Waived) (tasks n : ℕ) (ended : Bool) (j : Job) → AreNumbered 0 (jobs past)
+pub head_least : (start : Start) (past : Log) (ws : List Waived) (tasks n : ℕ) (ended : Bool) (j : Job) → AreNumbered 0 (jobs past)
     → slice_get (jobs past) n ≡ Some j
-    → table.IsHead (table_at tasks ended plan past ws) n → least (unwaived ws (ready plan past)) ≡ Some j
-head_least plan past ws tasks n ended j numbered at h = rw (unwaived_is plan past ws)
-    (by_least (least (filter (stays plan past ws) (jobs past))) refl)
+    → table.IsHead (table_at tasks ended start past ws) n → least (unwaived ws (ready start.plan past)) ≡ Some j
+head_least start past ws tasks n ended j numbered at h = rw (unwaived_is start.plan past ws)
+    (by_least (least (filter (stays start.plan past ws) (jobs past))) refl)
   where
     t : Job → Bool
-    t = stays plan past ws
+    t = stays start.plan past ws
 
-    head_is : record_with plan past (waived past ++ ws) j ≡ h.head
-    head_is = same_Some _ _ (sym (slice_get-map (record_with plan past (waived past ++ ws)) (jobs past) n j at) ∙ h.is_at)
+    head_is : record_with start past (waived past ++ ws) j ≡ h.head
+    head_is = same_Some _ _ (sym (slice_get-map (record_with start past (waived past ++ ws)) (jobs past) n j at) ∙ h.is_at)
 
-    passes : stays plan past ws j ≡ true
-    passes = sym (ready_is plan past ws j) ∙ (ap (table.is_ready (now past)) head_is ∙ h.ready)
+    passes : stays start.plan past ws j ≡ true
+    passes = sym (ready_is start past ws j) ∙ (ap (table.is_ready (now past)) head_is ∙ h.ready)
 
     number_is : j.number ≡ n
     number_is = omega (arith, number_at 0 (jobs past) n j numbered at)
 
-    by_least : (o : Option Job) → least (filter (stays plan past ws) (jobs past)) ≡ o → o ≡ Some j
-    by_least None e = absurd (of_kept (λ (i : Job). ⊥) (stays plan past ws) (jobs past) n j at passes
-        (least_none (filter (stays plan past ws) (jobs past)) e))
+    by_least : (o : Option Job) → least (filter (stays start.plan past ws) (jobs past)) ≡ o → o ≡ Some j
+    by_least None e = absurd (of_kept (λ (i : Job). ⊥) (stays start.plan past ws) (jobs past) n j at passes
+        (least_none (filter (stays start.plan past ws) (jobs past)) e))
     by_least (Some m) e = ap Some (same_job (jobs past) m j numbered member.0 contained (same_key m j not_m not_j))
       where
-        member : Contains (jobs past) m × (stays plan past ws m ≡ true)
-        member = subst (OfSome (λ i. Contains (jobs past) i × (stays plan past ws i ≡ true))) e
-            (least_all (λ i. Contains (jobs past) i × (stays plan past ws i ≡ true)) (filter (stays plan past ws) (jobs past))
-            (kept_both (Contains (jobs past)) (stays plan past ws) (jobs past)
+        member : Contains (jobs past) m × (stays start.plan past ws m ≡ true)
+        member = subst (OfSome (λ i. Contains (jobs past) i × (stays start.plan past ws i ≡ true))) e
+            (least_all (λ i. Contains (jobs past) i × (stays start.plan past ws i ≡ true)) (filter (stays start.plan past ws) (jobs past))
+            (kept_both (Contains (jobs past)) (stays start.plan past ws) (jobs past)
             (recursion_from_All (Contains (jobs past)) (jobs past) (All-contains_itself (jobs past)))))
 
         contained : Contains (jobs past) j
         contained = (n, slice_get_within (jobs past) n j at, get_or_from_slice_get (jobs past) n j j at)
 
         not_j : goes_first j m ≡ false
-        not_j = of_kept (λ i. goes_first i m ≡ false) (stays plan past ws) (jobs past) n j at passes
-            (subst (OfSome (λ k. AllByRecursion (λ i. goes_first i k ≡ false) (filter (stays plan past ws) (jobs past)))) e
-            (none_before (filter (stays plan past ws) (jobs past))))
+        not_j = of_kept (λ i. goes_first i m ≡ false) (stays start.plan past ws) (jobs past) n j at passes
+            (subst (OfSome (λ k. AllByRecursion (λ i. goes_first i k ≡ false) (filter (stays start.plan past ws) (jobs past)))) e
+            (none_before (filter (stays start.plan past ws) (jobs past))))
 
         there : slice_get (jobs past) m.number ≡ Some m
         there = stands_at (jobs past) m numbered member.0
 
         not_m : goes_first m j ≡ false
         not_m = subst (λ (k : ℕ). goes_first m (record j { number = k }) ≡ false) (sym number_is)
-            (subst (λ (r : JobRecord). table.goes_before m.number (record_with plan past (waived past ++ ws) m) n r ≡ false) (sym head_is)
-            (h.first m.number (record_with plan past (waived past ++ ws) m)
-            (slice_get-map (record_with plan past (waived past ++ ws)) (jobs past) m.number m there) (ready_is plan past ws m
+            (subst (λ (r : JobRecord). table.goes_before m.number (record_with start past (waived past ++ ws) m) n r ≡ false) (sym head_is)
+            (h.first m.number (record_with start past (waived past ++ ws) m)
+            (slice_get-map (record_with start past (waived past ++ ws)) (jobs past) m.number m there) (ready_is start past ws m
             ∙ member.1)))
 
 none_kept : (t : Job → Bool) (js : List Job) → ((n : ℕ) (j : Job) → slice_get js n ≡ Some j → t j ≡ false) → filter t js ≡ []
@@ -197,9 +198,9 @@ none_kept t [] h = refl
 none_kept t (x ∷ js) h = rw (h 0 x refl) (none_kept t js (λ n j e. h (suc n) j e))
 
 -- where no record is ready, nobody stays
-pub nothing_least : (plan : DiePlan) (past : Log) (ws : List Waived) (tasks : ℕ) (ended : Bool)
-    → table.NothingReady (table_at tasks ended plan past ws) → least (unwaived ws (ready plan past)) ≡ None
-nothing_least plan past ws tasks ended h =
-    ap least (unwaived_is plan past ws
-    ∙ none_kept (stays plan past ws) (jobs past) (λ n j e. sym (ready_is plan past ws j)
-    ∙ h n (record_with plan past (waived past ++ ws) j) (slice_get-map (record_with plan past (waived past ++ ws)) (jobs past) n j e)))
+pub nothing_least : (start : Start) (past : Log) (ws : List Waived) (tasks : ℕ) (ended : Bool)
+    → table.NothingReady (table_at tasks ended start past ws) → least (unwaived ws (ready start.plan past)) ≡ None
+nothing_least start past ws tasks ended h =
+    ap least (unwaived_is start.plan past ws
+    ∙ none_kept (stays start.plan past ws) (jobs past) (λ n j e. sym (ready_is start past ws j)
+    ∙ h n (record_with start past (waived past ++ ws) j) (slice_get-map (record_with start past (waived past ++ ws)) (jobs past) n j e)))

@@ -37,6 +37,9 @@ use Rattle.slot_core.specs.Calls.{RefusedBy}
 use Rattle.slot_core.proofs.Recording.{records-submit, records-collect}
 use Rattle.slot_core.proofs.Heading.{pending_is}
 use Rattle.slot_core.proofs.Flashing.{flash-submit, flash-collect, fresh_state, fresh_flash}
+use Rattle.die_log.specs.Start.{Start, over, fresh}
+use Rattle.die_log.specs.Opening.{IsOpening}
+use Rattle.die_log.proofs.Openings.{fresh_opens, fresh_erases}
 
 -- Arrivals
 
@@ -47,133 +50,136 @@ some_ops (suc n) h = omega arith
 abbrev number_reply : ℕ → Reply
 number_reply n = replies.Taken n
 
-pub keeps_submit : (plan : DiePlan) (log : Log) (present : ℕ) (t : Table) (f : FlashState) (caller task release due : ℕ) (ops : List Op)
-    → Keeps plan log present t false f → refusal_of plan log (events.Submit task release due ops) ≡ None
-    → Keeps plan (entry caller (events.Submit task release due ops) (replies.Taken (length (jobs log))) ∷ log) present
+pub keeps_submit : (start : Start) (log : Log) (present : ℕ) (t : Table) (f : FlashState) (caller task release due : ℕ) (ops : List Op)
+    → Keeps start log present t false f → refusal_of start log (events.Submit task release due ops) ≡ None
+    → Keeps start (entry caller (events.Submit task release due ops) (replies.Taken (length (jobs log))) ∷ log) present
     (with_job t (new_job task release due ops)) false (record f { tokens = admitted f.tokens task (writes ops) })
-keeps_submit plan log present t f caller task release due ops k none = record {
-  exact = (k.exact, sym (accepted_answer plan log (events.Submit task release due ops) none), tt);
+keeps_submit start log present t f caller task release due ops k none = record {
+  exact = (k.exact, sym (accepted_answer start log (events.Submit task release due ops) none), tt);
   bound = k.bound;
+  left = k.left;
   now_is = k.now_is;
   tasks_are = k.tasks_are;
   clock_by = k.clock_by;
   ended_is = k.ended_is;
   jobs_are = ap (λ js. js ++ new_job task release due ops ∷ []) k.jobs_are
-      ∙ sym (records-submit plan log caller task release due ops k.exact some);
-  flash = λ alive. flash-submit plan log caller task release due ops f k.exact (k.flash alive);
+      ∙ sym (records-submit start log caller task release due ops k.exact some);
+  flash = λ alive. flash-submit start log caller task release due ops f k.exact (k.flash alive);
 }
   where
     some : 0 < length ops
-    some = some_ops (length ops) ((none_stands (refusals plan log (events.Submit task release due ops)) none).1.0)
+    some = some_ops (length ops) ((none_stands (refusals start log (events.Submit task release due ops)) none).1.0)
 
-pub keeps_collect : (plan : DiePlan) (log : Log) (present : ℕ) (t : Table) (f : FlashState) (caller task release due : ℕ)
-    → Keeps plan log present t false f → refusal_of plan log (events.Collect task release due) ≡ None
-    → Keeps plan (entry caller (events.Collect task release due) (replies.Taken (length (jobs log))) ∷ log) present
+pub keeps_collect : (start : Start) (log : Log) (present : ℕ) (t : Table) (f : FlashState) (caller task release due : ℕ)
+    → Keeps start log present t false f → refusal_of start log (events.Collect task release due) ≡ None
+    → Keeps start (entry caller (events.Collect task release due) (replies.Taken (length (jobs log))) ∷ log) present
     (with_job t (new_collection task release due)) false f
-keeps_collect plan log present t f caller task release due k none = record {
-  exact = (k.exact, sym (accepted_answer plan log (events.Collect task release due) none), tt);
+keeps_collect start log present t f caller task release due k none = record {
+  exact = (k.exact, sym (accepted_answer start log (events.Collect task release due) none), tt);
   bound = k.bound;
+  left = k.left;
   now_is = k.now_is;
   tasks_are = k.tasks_are;
   clock_by = k.clock_by;
   ended_is = k.ended_is;
   jobs_are = ap (λ js. js ++ new_collection task release due ∷ []) k.jobs_are
-      ∙ sym (records-collect plan log caller task release due k.exact (has_slots plan k.bound));
-  flash = λ alive. flash-collect plan log caller task release due f k.exact (k.flash alive);
+      ∙ sym (records-collect start log caller task release due k.exact (has_slots start.plan k.bound.bound));
+  flash = λ alive. flash-collect start log caller task release due f k.exact (k.flash alive);
 }
 
 -- At the start, and with a call's values as they come
 
 pub keeps_start : {N : Type 0} (blocks_of : N → List device.Block) (plan : DiePlan) (nand : N) (log : Log) (t : Table) (v : State N)
-    → MeetsBound plan → blocks_of nand ≡ device.fresh_blocks plan.shape → log ≡ [] → t ≡ empty_table (length plan.caps) → v
-    ≡ fresh_volume plan nand
-    → Keeps v.accounts.plan log 0 t v.failed (flash_of blocks_of v)
-keeps_start blocks_of plan nand log t v bound fresh none table_is volume_is =
-    rw volume_is (rw none (rw table_is (record {
+    → (start : Start) → MeetsBound plan → blocks_of nand ≡ device.fresh_blocks plan.shape → log ≡ [] → t ≡ empty_table (length plan.caps) → v
+    ≡ fresh_volume plan nand → start ≡ fresh plan
+    → Keeps (over v.accounts.plan start) log 0 t v.failed (flash_of blocks_of v)
+keeps_start blocks_of plan nand log t v start bound unused none table_is volume_is start_is =
+    rw start_is (rw volume_is (rw none (rw table_is (record {
       exact = tt;
-      bound = bound;
+      bound = fresh_opens plan bound;
+      left = λ b. omega (arith, fresh_erases plan b);
       now_is = refl;
       tasks_are = refl;
       clock_by = omega arith;
       ended_is = refl;
       jobs_are = refl;
-      flash = λ alive. subst (λ (bs : List device.Block). IsFlashOf plan [] (record (fresh_state plan) { blocks = bs })) (sym fresh)
+      flash = λ alive. subst (λ (bs : List device.Block). IsFlashOf (fresh plan) [] (record (fresh_state plan) { blocks = bs })) (sym unused)
           (fresh_flash plan);
-    })))
+    }))))
 
 balance_enough : (have need : ℕ) → nat_lt have need ≡ false → need ≤ have
 balance_enough have need h = grind (arith, nat_tests)
 
 -- a job that is not refused has its tokens
-pub tokens_suffice : (plan : DiePlan) (log : Log) (task release due : ℕ) (ops : List Op) (tokens : Accounts) → tokens ≡ accounts plan log
-    → refusal_of plan log (events.Submit task release due ops) ≡ None
+pub tokens_suffice : (start : Start) (log : Log) (task release due : ℕ) (ops : List Op) (tokens : Accounts) → tokens ≡ accounts start log
+    → refusal_of start log (events.Submit task release due ops) ≡ None
     → writes ops ≤ slice_index tokens.balances task
-tokens_suffice plan log task release due ops tokens is none =
-    rw is (balance_enough (slice_index (accounts plan log).balances task) (writes ops)
-    (none_stands (refusals plan log (events.Submit task release due ops)) none).1.1.1.1.1.1.1.0)
+tokens_suffice start log task release due ops tokens is none =
+    rw is (balance_enough (slice_index (accounts start log).balances task) (writes ops)
+    (none_stands (refusals start log (events.Submit task release due ops)) none).1.1.1.1.1.1.1.0)
 
-pub jobs_counted : (plan : DiePlan) (log : Log) (t : Table) → t.jobs ≡ records plan log → length t.jobs ≡ length (jobs log)
-jobs_counted plan log t is = ap length is ∙ length-map (jobs log) (record_with plan log (waived log))
+pub jobs_counted : (start : Start) (log : Log) (t : Table) → t.jobs ≡ records start log → length t.jobs ≡ length (jobs log)
+jobs_counted start log t is = ap length is ∙ length-map (jobs log) (record_with start log (waived log))
 
-pub submit_kept : {N : Type 0} (blocks_of : N → List device.Block) (log later : Log) (present caller number task release due : ℕ)
+pub submit_kept : (start : Start) {N : Type 0} (blocks_of : N → List device.Block) (log later : Log) (present caller number task release due : ℕ)
     (ops : List Op) (t u : Table) (v w : State N)
-    → Keeps v.accounts.plan log present t v.failed (flash_of blocks_of v) → v.failed ≡ false
-    → refusal_of v.accounts.plan log (events.Submit task release due ops) ≡ None → number ≡ length t.jobs → u
+    → Keeps (over v.accounts.plan start) log present t v.failed (flash_of blocks_of v) → v.failed ≡ false
+    → refusal_of (over v.accounts.plan start) log (events.Submit task release due ops) ≡ None → number ≡ length t.jobs → u
     ≡ with_job t (new_job task release due ops)
     → w ≡ record v { accounts = admitted v.accounts task (writes ops) } → later
     ≡ with_entry caller (events.Submit task release due ops) (replies.Taken number) log
-    → Keeps w.accounts.plan later present u w.failed (flash_of blocks_of w)
-submit_kept blocks_of log later present caller number task release due ops t u v w k alive none number_is table_is volume_is log_is =
-    rw volume_is (rw table_is (rw log_is (rw alive (rw (number_is ∙ jobs_counted v.accounts.plan log t k.jobs_are)
-    (keeps_submit v.accounts.plan log present t (flash_of blocks_of v) caller task release due ops
-    (subst (λ (b : Bool). Keeps v.accounts.plan log present t b (flash_of blocks_of v)) alive k) none)))))
+    → Keeps (over w.accounts.plan start) later present u w.failed (flash_of blocks_of w)
+submit_kept start blocks_of log later present caller number task release due ops t u v w k alive none number_is table_is volume_is log_is =
+    rw volume_is (rw table_is (rw log_is (rw alive (rw (number_is ∙ jobs_counted (over v.accounts.plan start) log t k.jobs_are)
+    (keeps_submit (over v.accounts.plan start) log present t (flash_of blocks_of v) caller task release due ops
+    (subst (λ (b : Bool). Keeps (over v.accounts.plan start) log present t b (flash_of blocks_of v)) alive k) none)))))
 
-pub collect_kept : {N : Type 0} (blocks_of : N → List device.Block) (log later : Log) (present caller number task release due : ℕ)
+pub collect_kept : (start : Start) {N : Type 0} (blocks_of : N → List device.Block) (log later : Log) (present caller number task release due : ℕ)
     (t u : Table) (v : State N)
-    → Keeps v.accounts.plan log present t v.failed (flash_of blocks_of v) → v.failed ≡ false
-    → refusal_of v.accounts.plan log (events.Collect task release due) ≡ None → number ≡ length t.jobs → u
+    → Keeps (over v.accounts.plan start) log present t v.failed (flash_of blocks_of v) → v.failed ≡ false
+    → refusal_of (over v.accounts.plan start) log (events.Collect task release due) ≡ None → number ≡ length t.jobs → u
     ≡ with_job t (new_collection task release due)
     → later ≡ with_entry caller (events.Collect task release due) (replies.Taken number) log
-    → Keeps v.accounts.plan later present u v.failed (flash_of blocks_of v)
-collect_kept blocks_of log later present caller number task release due t u v k alive none number_is table_is log_is =
-    rw table_is (rw log_is (rw alive (rw (number_is ∙ jobs_counted v.accounts.plan log t k.jobs_are)
-    (keeps_collect v.accounts.plan log present t (flash_of blocks_of v) caller task release due
-    (subst (λ (b : Bool). Keeps v.accounts.plan log present t b (flash_of blocks_of v)) alive k) none))))
+    → Keeps (over v.accounts.plan start) later present u v.failed (flash_of blocks_of v)
+collect_kept start blocks_of log later present caller number task release due t u v k alive none number_is table_is log_is =
+    rw table_is (rw log_is (rw alive (rw (number_is ∙ jobs_counted (over v.accounts.plan start) log t k.jobs_are)
+    (keeps_collect (over v.accounts.plan start) log present t (flash_of blocks_of v) caller task release due
+    (subst (λ (b : Bool). Keeps (over v.accounts.plan start) log present t b (flash_of blocks_of v)) alive k) none))))
 
-pub submit_accepts : (plan : DiePlan) (log : Log) (task release due : ℕ) (ops : List Op)
-    → refusal_of plan log (events.Submit task release due ops) ≡ None → IsAccepted (answer plan log (events.Submit task release due ops))
-submit_accepts plan log task release due ops none = subst IsAccepted
-    (sym (accepted_answer plan log (events.Submit task release due ops) none)) tt
+pub submit_accepts : (start : Start) (log : Log) (task release due : ℕ) (ops : List Op)
+    → refusal_of start log (events.Submit task release due ops) ≡ None → IsAccepted (answer start log (events.Submit task release due ops))
+submit_accepts start log task release due ops none = subst IsAccepted
+    (sym (accepted_answer start log (events.Submit task release due ops) none)) tt
 
-pub collect_accepts : (plan : DiePlan) (log : Log) (task release due : ℕ) → refusal_of plan log (events.Collect task release due) ≡ None
-    → IsAccepted (answer plan log (events.Collect task release due))
-collect_accepts plan log task release due none = subst IsAccepted (sym (accepted_answer plan log (events.Collect task release due) none)) tt
+pub collect_accepts : (start : Start) (log : Log) (task release due : ℕ) → refusal_of start log (events.Collect task release due) ≡ None
+    → IsAccepted (answer start log (events.Collect task release due))
+collect_accepts start log task release due none = subst IsAccepted (sym (accepted_answer start log (events.Collect task release due) none)) tt
 
-pub collect_taken : (plan : DiePlan) (log : Log) (t : Table) (task release due number : ℕ)
-    → refusal_of plan log (events.Collect task release due) ≡ None → t.jobs ≡ records plan log → number ≡ length t.jobs
-    → answer plan log (events.Collect task release due) ≡ replies.Taken number
-collect_taken plan log t task release due number none jobs_are is = accepted_answer plan log (events.Collect task release due) none
-    ∙ ap number_reply (sym (is ∙ jobs_counted plan log t jobs_are))
+pub collect_taken : (start : Start) (log : Log) (t : Table) (task release due number : ℕ)
+    → refusal_of start log (events.Collect task release due) ≡ None → t.jobs ≡ records start log → number ≡ length t.jobs
+    → answer start log (events.Collect task release due) ≡ replies.Taken number
+collect_taken start log t task release due number none jobs_are is = accepted_answer start log (events.Collect task release due) none
+    ∙ ap number_reply (sym (is ∙ jobs_counted start log t jobs_are))
 
 -- the task of a collection has a pending one in the table where it has one in the log
-pub collecting_is : (plan : DiePlan) (log : Log) (js : List JobRecord) (task : ℕ) → js ≡ records plan log
-    → table_words.is_collecting js task ≡ is_collecting plan log task
-collecting_is plan log js task are = ap (λ (rs : List JobRecord). table_words.is_collecting rs task) are ∙ any_mapped (jobs log)
+pub collecting_is : (start : Start) (log : Log) (js : List JobRecord) (task : ℕ) → js ≡ records start log
+    → table_words.is_collecting js task ≡ is_collecting start.plan log task
+collecting_is start log js task are = ap (λ (rs : List JobRecord). table_words.is_collecting rs task) are ∙ any_mapped (jobs log)
   where
     joined : (a b c d : Bool) → ((a && b) && (c && d)) ≡ (((a && b) && c) && d)
     joined true true c d = refl
     joined true false c d = refl
     joined false b c d = refl
 
-    one : (j : Job) → table_words.is_collection_of task (record_with plan log (waived log) j)
-        ≡ (j.collects && (j.task == task) && not (is_done plan log j) && not (is_waived log j.number))
-    one j = ap (λ (b : Bool). (j.collects && (j.task == task)) && b) (pending_is plan log (waived log) j)
-        ∙ joined j.collects (j.task == task) (not (is_done plan log j)) (not (is_waived log j.number))
+    one : (j : Job) → table_words.is_collection_of task (record_with start log (waived log) j)
+        ≡ (j.collects && (j.task == task) && not (is_done start.plan log j) && not (is_waived log j.number))
+    one j = ap (λ (b : Bool). (j.collects && (j.task == task)) && b) (pending_is start log (waived log) j)
+        ∙ joined j.collects (j.task == task) (not (is_done start.plan log j)) (not (is_waived log j.number))
 
-    any_mapped : (xs : List Job) → list_any (table_words.is_collection_of task) (map (record_with plan log (waived log)) xs)
-        ≡ list_any (λ j. j.collects && (j.task == task) && not (is_done plan log j) && not (is_waived log j.number)) xs
+    any_mapped : (xs : List Job) → list_any (table_words.is_collection_of task) (map (record_with start log (waived log)) xs)
+        ≡ list_any (λ j. j.collects && (j.task == task) && not (is_done start.plan log j) && not (is_waived log j.number)) xs
     any_mapped [] = refl
-    any_mapped (x ∷ xs) = rw (one x) (ap (λ b. (x.collects && (x.task == task) && not (is_done plan log x) && not (is_waived log x.number))
+    any_mapped (x ∷ xs) = rw (one x) (ap (λ b. (x.collects && (x.task == task) && not (is_done start.plan log x) && not (is_waived log x.number))
         || b) (any_mapped xs))
 
 -- a task that may collect is there, and has no pending collection
@@ -185,12 +191,12 @@ pub record MayCollect (plan : DiePlan) (log : Log) (task : ℕ) : Type 0 where
 at_most : (m n : ℕ) → nat_le m n ≡ false → n < m
 at_most m n h = grind (arith, nat_tests)
 
-pub may_collect : (plan : DiePlan) (log : Log) (task release due : ℕ) → refusal_of plan log (events.Collect task release due) ≡ None
-    → MayCollect plan log task
-may_collect plan log task release due none =
-    let all = none_stands (refusals plan log (events.Collect task release due)) none in
+pub may_collect : (start : Start) (log : Log) (task release due : ℕ) → refusal_of start log (events.Collect task release due) ≡ None
+    → MayCollect start.plan log task
+may_collect start log task release due none =
+    let all = none_stands (refusals start log (events.Collect task release due)) none in
     record {
-      task_in = at_most (length plan.caps) task all.0;
+      task_in = at_most (length start.plan.caps) task all.0;
       single = all.1.1.1.0;
       few = at_most MAX_JOBS (length (jobs log)) all.1.1.1.1.0;
     }
@@ -217,11 +223,11 @@ same_shape s t h =
     rw b (rw p (rw e refl))
 
 -- what a job is answered that is not refused
-pub submit_taken : (plan : DiePlan) (log : Log) (t : Table) (task release due number : ℕ) (ops : List Op)
-    → refusal_of plan log (events.Submit task release due ops) ≡ None → t.jobs ≡ records plan log → number ≡ length t.jobs
-    → answer plan log (events.Submit task release due ops) ≡ replies.Taken number
-submit_taken plan log t task release due number ops none jobs_are is = accepted_answer plan log (events.Submit task release due ops) none
-    ∙ ap number_reply (sym (is ∙ jobs_counted plan log t jobs_are))
+pub submit_taken : (start : Start) (log : Log) (t : Table) (task release due number : ℕ) (ops : List Op)
+    → refusal_of start log (events.Submit task release due ops) ≡ None → t.jobs ≡ records start log → number ≡ length t.jobs
+    → answer start log (events.Submit task release due ops) ≡ replies.Taken number
+submit_taken start log t task release due number ops none jobs_are is = accepted_answer start log (events.Submit task release due ops) none
+    ∙ ap number_reply (sym (is ∙ jobs_counted start log t jobs_are))
 
 -- the tokens are there, so they are moved
 pub admit_made : {N A : Type 0} (v w : State N) (task count : ℕ) (ops : List Op) (r : Result A Refusal) → count ≡ writes ops → writes ops
@@ -251,15 +257,15 @@ pub if_err_both : {A E : Type 0} (r : Result A E) (P Q R : E → Type 0) → IfE
 if_err_both (Ok x) P Q R h k f = tt
 if_err_both (Err e) P Q R h k f = f e h k
 
-pub collect_answered : (plan : DiePlan) (log : Log) (t : Table) (task release due : ℕ) (r : Result ℕ Refusal)
-    → refusal_of plan log (events.Collect task release due) ≡ None → t.jobs ≡ records plan log → IfOk r (λ number. number ≡ length t.jobs)
-    → IfOk r (λ number. answer plan log (events.Collect task release due) ≡ replies.Taken number)
-collect_answered plan log t task release due r none jobs_are is =
-    if_ok r (λ number. number ≡ length t.jobs) (λ number. answer plan log (events.Collect task release due) ≡ replies.Taken number) is
-    (λ number e. collect_taken plan log t task release due number none jobs_are e)
+pub collect_answered : (start : Start) (log : Log) (t : Table) (task release due : ℕ) (r : Result ℕ Refusal)
+    → refusal_of start log (events.Collect task release due) ≡ None → t.jobs ≡ records start log → IfOk r (λ number. number ≡ length t.jobs)
+    → IfOk r (λ number. answer start log (events.Collect task release due) ≡ replies.Taken number)
+collect_answered start log t task release due r none jobs_are is =
+    if_ok r (λ number. number ≡ length t.jobs) (λ number. answer start log (events.Collect task release due) ≡ replies.Taken number) is
+    (λ number e. collect_taken start log t task release due number none jobs_are e)
 
-pub collect_short : (plan : DiePlan) (log : Log) (task release due : ℕ) (r : Result ℕ Refusal)
-    → refusal_of plan log (events.Collect task release due) ≡ None → IfErr r (λ refusal. refusal ≡ NoMemory)
-    → IfErr r (RefusedBy plan log (events.Collect task release due))
-collect_short plan log task release due r none is = if_err r (λ refusal. refusal ≡ NoMemory)
-    (RefusedBy plan log (events.Collect task release due)) is (λ refusal e. inr (collect_accepts plan log task release due none, e))
+pub collect_short : (start : Start) (log : Log) (task release due : ℕ) (r : Result ℕ Refusal)
+    → refusal_of start log (events.Collect task release due) ≡ None → IfErr r (λ refusal. refusal ≡ NoMemory)
+    → IfErr r (RefusedBy start log (events.Collect task release due))
+collect_short start log task release due r none is = if_err r (λ refusal. refusal ≡ NoMemory)
+    (RefusedBy start log (events.Collect task release due)) is (λ refusal e. inr (collect_accepts start log task release due none, e))

@@ -9,6 +9,8 @@ pub mod Victims
 pub mod Taking
 pub mod Waiving
 pub mod Reserving
+pub mod Nexts
+pub mod Renewing
 pub mod Keeping
 pub mod Telling
 pub mod Serving

@@ -15,6 +15,7 @@ use Rattle.die_log.specs.Answers.{answer, answer_by, accepted, refusal_of, refus
 use Rattle.slot_core.specs.Core.{Core}
 use Rattle.slot_core.specs.Calls.{RefusedBy, HasTaken, HasRefusedArrival}
 use Rattle.slot_core.specs.Events.{HasRefused}
+use Rattle.die_log.specs.Start.{Start}
 
 -- The log refuses no event for a fault
 
@@ -23,19 +24,19 @@ not_standing r [] others e = absurd cc
 not_standing r ((true, x) ∷ cs) others e = others.0 cc
 not_standing r ((false, x) ∷ cs) others e = not_standing r cs others.1 e
 
-refused_by : (plan : DiePlan) (past : Log) (event : Event) (r : Refusal) (o : Option Refusal) → answer_by plan past event o ≡ Refused r
-    → accepted plan past event ≢ Refused r → o ≡ Some r
-refused_by plan past event r None e other = absurd (other e)
-refused_by plan past event r (Some x) e other = cc
+refused_by : (start : Start) (past : Log) (event : Event) (r : Refusal) (o : Option Refusal) → answer_by start past event o ≡ Refused r
+    → accepted start past event ≢ Refused r → o ≡ Some r
+refused_by start past event r None e other = absurd (other e)
+refused_by start past event r (Some x) e other = cc
 
-log_refuses : (plan : DiePlan) (past : Log) (event : Event) (r : Refusal) → answer plan past event ≡ Refused r → accepted plan past event
-    ≢ Refused r → refusal_of plan past event ≡ Some r
+log_refuses : (start : Start) (past : Log) (event : Event) (r : Refusal) → answer start past event ≡ Refused r → accepted start past event
+    ≢ Refused r → refusal_of start past event ≡ Some r
 unfolding answer
-log_refuses plan past event r e other = refused_by plan past event r (refusal_of plan past event) e other
+log_refuses start past event r e other = refused_by start past event r (refusal_of start past event) e other
 
-pub no_log_fault : (plan : DiePlan) (past : Log) (event : Event) → answer plan past event ≡ Refused DeviceFault → ⊥
-no_log_fault plan past (Submit task release due ops) e =
-    not_standing DeviceFault (refusals plan past (Submit task release due ops)) (
+pub no_log_fault : (start : Start) (past : Log) (event : Event) → answer start past event ≡ Refused DeviceFault → ⊥
+no_log_fault start past (Submit task release due ops) e =
+    not_standing DeviceFault (refusals start past (Submit task release due ops)) (
       (λ h. absurd cc),
       (
         (λ h. absurd cc),
@@ -45,13 +46,13 @@ no_log_fault plan past (Submit task release due ops) e =
         ),
       ),
     )
-    (log_refuses plan past (Submit task release due ops) DeviceFault e (λ h. absurd cc))
-no_log_fault plan past (Collect task release due) e =
-    not_standing DeviceFault (refusals plan past (Collect task release due))
+    (log_refuses start past (Submit task release due ops) DeviceFault e (λ h. absurd cc))
+no_log_fault start past (Collect task release due) e =
+    not_standing DeviceFault (refusals start past (Collect task release due))
     ((λ h. absurd cc), ((λ h. absurd cc), ((λ h. absurd cc), ((λ h. absurd cc), ((λ h. absurd cc), tt)))))
-    (log_refuses plan past (Collect task release due) DeviceFault e (λ h. absurd cc))
-no_log_fault plan past Slot e = not_standing DeviceFault (refusals plan past Slot) ((λ h. absurd cc), tt)
-    (log_refuses plan past Slot DeviceFault e (λ h. absurd cc))
+    (log_refuses start past (Collect task release due) DeviceFault e (λ h. absurd cc))
+no_log_fault start past Slot e = not_standing DeviceFault (refusals start past Slot) ((λ h. absurd cc), tt)
+    (log_refuses start past Slot DeviceFault e (λ h. absurd cc))
 
 -- A job or collection that arrives
 
@@ -67,8 +68,8 @@ faultless : {N T : Type 0} (event : Event) (refusal : Refusal) (old new : Core N
     → refusal ≡ DeviceFault → ⊥
 faultless {N} {T} event refusal old new stopped refused fault = by_stopped old.stopped refl
   where
-    by_cause : RefusedBy old.plan old.log event refusal → ⊥
-    by_cause (inl e) = no_log_fault old.plan old.log event (e ∙ ap Refused fault)
+    by_cause : RefusedBy old.start old.log event refusal → ⊥
+    by_cause (inl e) = no_log_fault old.start old.log event (e ∙ ap Refused fault)
     by_cause (inr h) = let memory = h.1 in absurd cc
 
     by_stopped : (b : Bool) → old.stopped ≡ b → ⊥

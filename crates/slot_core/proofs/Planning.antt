@@ -17,6 +17,8 @@ use Rattle.die_log.specs.Planned.{IsInTime}
 use Rattle.die_log.proofs.Planned.Running.{events_of, run_in_time}
 use Rattle.slot_core.specs.Runs.{Moment, AnsweredByLog, FoundNoMemory, StoppedByFault, FoundStopped, IsRun}
 use Rattle.slot_core.specs.Planned.{IsUnused, IsServed}
+use Rattle.die_log.specs.Start.{Start}
+use Rattle.die_log.specs.Opening.{IsOpening}
 
 -- the calls of a run
 calls_of : List Event → List (ℕ × Event)
@@ -28,44 +30,44 @@ same_events [] = refl
 same_events (event ∷ all) = ap (λ rest. event ∷ rest) (same_events all)
 
 -- a served event is answered by the log
-record IsAnswered (plan : DiePlan) (event : Event) (before after : Moment) : Type 0 where
-  log_is : after.log ≡ after_call plan before.log (0, event)
+record IsAnswered (start : Start) (event : Event) (before after : Moment) : Type 0 where
+  log_is : after.log ≡ after_call start before.log (0, event)
   runs : after.stopped ≡ false
 
-answered : (plan : DiePlan) (event : Event) (reply : Reply) (before after : Moment) → before.stopped ≡ false → IsServed reply
-    → AnsweredByLog plan event reply before after ⊎ FoundNoMemory plan event reply before after
-    ⊎ StoppedByFault plan event reply before after ⊎ FoundStopped plan event reply before after
-    → IsAnswered plan event before after
-answered plan event reply before after runs served (inl by_log) = record {
+answered : (start : Start) (event : Event) (reply : Reply) (before after : Moment) → before.stopped ≡ false → IsServed reply
+    → AnsweredByLog start event reply before after ⊎ FoundNoMemory start event reply before after
+    ⊎ StoppedByFault start event reply before after ⊎ FoundStopped start.plan event reply before after
+    → IsAnswered start event before after
+answered start event reply before after runs served (inl by_log) = record {
   log_is = by_log.log_is
       ∙ ap (λ r. with_answer 0 event r before.log) by_log.reply_is;
   runs = by_log.runs;
 }
-answered plan event reply before after runs served (inr (inl no_memory)) = absurd (served.memory no_memory.reply_is)
-answered plan event reply before after runs served (inr (inr (inl fault))) = absurd (served.device fault.reply_is)
-answered plan event reply before after runs served (inr (inr (inr stopped))) = absurd (true≢false (sym stopped.was_stopped ∙ runs))
+answered start event reply before after runs served (inr (inl no_memory)) = absurd (served.memory no_memory.reply_is)
+answered start event reply before after runs served (inr (inr (inl fault))) = absurd (served.device fault.reply_is)
+answered start event reply before after runs served (inr (inr (inr stopped))) = absurd (true≢false (sym stopped.was_stopped ∙ runs))
 
-ran_calls : (plan : DiePlan) (before : Moment) (all : List Event) (replies : List Reply) (after : Moment) → before.stopped ≡ false
-    → AllByRecursion IsServed replies → IsRun plan before all replies after
-    → after.log ≡ run plan before.log (calls_of all)
+ran_calls : (start : Start) (before : Moment) (all : List Event) (replies : List Reply) (after : Moment) → before.stopped ≡ false
+    → AllByRecursion IsServed replies → IsRun start before all replies after
+    → after.log ≡ run start before.log (calls_of all)
 unfolding calls_of
-ran_calls plan before [] [] after runs served h = ap (λ (m : Moment). m.log) h
-ran_calls plan before [] (reply ∷ replies) after runs served h = absurd h
-ran_calls plan before (event ∷ all) [] after runs served h = absurd h
-ran_calls plan before (event ∷ all) (reply ∷ replies) after runs served h =
-    let a = answered plan event reply before h.0 runs served.0 h.1.answered in
-    ran_calls plan h.0 all replies after a.runs served.1 h.2 ∙ ap (λ l. run plan l (calls_of all)) a.log_is
+ran_calls start before [] [] after runs served h = ap (λ (m : Moment). m.log) h
+ran_calls start before [] (reply ∷ replies) after runs served h = absurd h
+ran_calls start before (event ∷ all) [] after runs served h = absurd h
+ran_calls start before (event ∷ all) (reply ∷ replies) after runs served h =
+    let a = answered start event reply before h.0 runs served.0 h.1.answered in
+    ran_calls start h.0 all replies after a.runs served.1 h.2 ∙ ap (λ l. run start l (calls_of all)) a.log_is
 
 -- so nothing is late
-pub planned_run : (plan : DiePlan) (before : Moment) (all : List Event) (replies : List Reply) (after : Moment) → MeetsBound plan
-    → IsRun plan before all replies after
-    → (times : Times) → Passes plan times → KeepsPlan plan times all → IsUnused before → All IsServed replies → IsInTime plan after.log
-planned_run plan before all replies after bound h times passes keeps unused served =
-    let log : after.log ≡ run plan [] (calls_of all) =
-    ran_calls plan before all replies after unused.runs (recursion_from_All IsServed replies served) h
-    ∙ ap (λ l. run plan l (calls_of all)) unused.empty in
-    subst (IsInTime plan) (sym log) (run_in_time plan times bound passes (calls_of all)
-    (subst (KeepsPlan plan times) (sym (same_events all)) keeps))
+pub planned_run : (start : Start) (before : Moment) (all : List Event) (replies : List Reply) (after : Moment) → IsOpening start
+    → IsRun start before all replies after
+    → (times : Times) → Passes start.plan times → KeepsPlan start.plan times all → IsUnused before → All IsServed replies → IsInTime start.plan after.log
+planned_run start before all replies after bound h times passes keeps unused served =
+    let log : after.log ≡ run start [] (calls_of all) =
+    ran_calls start before all replies after unused.runs (recursion_from_All IsServed replies served) h
+    ∙ ap (λ l. run start l (calls_of all)) unused.empty in
+    subst (IsInTime start.plan) (sym log) (run_in_time start times bound passes (calls_of all)
+    (subst (KeepsPlan start.plan times) (sym (same_events all)) keeps))
 
 -- what holds of a result holds of it by a fact that follows
 pub if_ok : {T E : Type 0} (P Q : T → Type 0) (result : Result T E) → ((x : T) → P x → Q x) → IfOk result P → IfOk result Q

@@ -31,6 +31,7 @@ use Rattle.die_log.proofs.Known.{known, WaivedBelow}
 use Rattle.slot_core.specs.Turns.{after_read}
 use Rattle.slot_core.specs.Records.{record_from, record_with, records, waiver_among, stage_by, gift_by, gift_of, given, reads_of}
 use Rattle.slot_core.specs.Records.{bytes_read}
+use Rattle.die_log.specs.Start.{Start}
 
 map_push : {X Y : Type 0} (f : X → Y) (xs : List X) (x : X) → map f (xs ++ x ∷ []) ≡ map f xs ++ f x ∷ []
 map_push f [] x = refl
@@ -42,8 +43,8 @@ no_waiver : (n : ℕ) (ws : List Waived) → AllByRecursion (WaivedBelow n) ws �
 no_waiver n [] h = refl
 no_waiver n (w ∷ ws) h = rw (other_number w.number n h.0) (no_waiver n ws h.1)
 
-pub fresh_waiver : (plan : DiePlan) (past : Log) → IsExact plan past → waiver_among (length (jobs past)) (waived past) ≡ None
-fresh_waiver plan past x = no_waiver (length (jobs past)) (waived past) (known plan past x).of_waived
+pub fresh_waiver : (start : Start) (past : Log) → IsExact start past → waiver_among (length (jobs past)) (waived past) ≡ None
+fresh_waiver start past x = no_waiver (length (jobs past)) (waived past) (known start past x).of_waived
 
 -- Arrivals
 
@@ -58,15 +59,15 @@ job_from : ℕ → ℕ → ℕ → ℕ → List Op → Job
 job_from number task release due ops = record { number = number; collects = false; task = task; release = release; due = due; ops = ops }
 
 -- an accepted job is one more record, which has not begun
-pub records-submit : (plan : DiePlan) (past : Log) (caller task release due : ℕ) (ops : List Op) → IsExact plan past → 0 < length ops
-    → records plan (entry caller (events.Submit task release due ops) (replies.Taken (length (jobs past))) ∷ past) ≡ records plan past
+pub records-submit : (start : Start) (past : Log) (caller task release due : ℕ) (ops : List Op) → IsExact start past → 0 < length ops
+    → records start (entry caller (events.Submit task release due ops) (replies.Taken (length (jobs past))) ∷ past) ≡ records start past
     ++ new_job task release due ops ∷ []
-records-submit plan past caller task release due ops x some =
-    map_push (record_with plan past (waived past)) (jobs past)
+records-submit start past caller task release due ops x some =
+    map_push (record_with start past (waived past)) (jobs past)
     (record { number = length (jobs past); collects = false; task = task; release = release; due = due; ops = ops })
-    ∙ ap (λ r. records plan past ++ r ∷ []) fresh
+    ∙ ap (λ r. records start past ++ r ∷ []) fresh
   where
-    fresh : record_with plan past (waived past) (record {
+    fresh : record_with start past (waived past) (record {
       number = length (jobs past);
       collects = false;
       task = task;
@@ -75,18 +76,18 @@ records-submit plan past caller task release due ops x some =
           = due;
       ops = ops;
     }) ≡ new_job task release due ops
-    fresh = rw (no_acts plan past x) (rw (fresh_waiver plan past x) (rw (some_left ops some) refl))
+    fresh = rw (no_acts start past x) (rw (fresh_waiver start past x) (rw (some_left ops some) refl))
 
 -- and so is an accepted collection
-pub records-collect : (plan : DiePlan) (past : Log) (caller task release due : ℕ) → IsExact plan past → 0 < plan.shape.erase_slots
-    → records plan (entry caller (events.Collect task release due) (replies.Taken (length (jobs past))) ∷ past) ≡ records plan past
+pub records-collect : (start : Start) (past : Log) (caller task release due : ℕ) → IsExact start past → 0 < start.plan.shape.erase_slots
+    → records start (entry caller (events.Collect task release due) (replies.Taken (length (jobs past))) ∷ past) ≡ records start past
     ++ new_collection task release due ∷ []
-records-collect plan past caller task release due x some =
-    map_push (record_with plan past (waived past)) (jobs past)
+records-collect start past caller task release due x some =
+    map_push (record_with start past (waived past)) (jobs past)
     (record { number = length (jobs past); collects = true; task = task; release = release; due = due; ops = [] })
-    ∙ ap (λ r. records plan past ++ r ∷ []) fresh
+    ∙ ap (λ r. records start past ++ r ∷ []) fresh
   where
-    fresh : record_with plan past (waived past) (record {
+    fresh : record_with start past (waived past) (record {
       number = length (jobs past);
       collects = true;
       task = task;
@@ -95,7 +96,7 @@ records-collect plan past caller task release due x some =
           = due;
       ops = [];
     }) ≡ new_collection task release due
-    fresh = rw (no_acts plan past x) (rw (fresh_waiver plan past x) (rw (some_slots plan.shape.erase_slots some) refl))
+    fresh = rw (no_acts start past x) (rw (fresh_waiver start past x) (rw (some_slots start.plan.shape.erase_slots some) refl))
 
 -- Slots
 
@@ -122,15 +123,15 @@ abbrev pub slot_of : ℕ → SlotReply → Entry
 slot_of caller s = entry caller events.Slot (replies.Slot s)
 
 -- an idle slot changes no record but those of the collections that it waives
-pub records-idle : (plan : DiePlan) (past : Log) (caller : ℕ) (ws : List Waived)
-    → records plan (slot_of caller (record { slot = now past; waived = ws; ran = None; finished = None }) ∷ past)
-    ≡ map (record_with plan past (waived past ++ ws)) (jobs past)
-records-idle plan past caller ws = map_same _ _ each (jobs past)
+pub records-idle : (start : Start) (past : Log) (caller : ℕ) (ws : List Waived)
+    → records start (slot_of caller (record { slot = now past; waived = ws; ran = None; finished = None }) ∷ past)
+    ≡ map (record_with start past (waived past ++ ws)) (jobs past)
+records-idle start past caller ws = map_same _ _ each (jobs past)
   where
-    each : (i : Job) → record_with plan (entry caller events.Slot
+    each : (i : Job) → record_with start (entry caller events.Slot
         (replies.Slot (record { slot = now past; waived = ws; ran = None; finished = None })) ∷ past) (waived past ++ ws) i
-        ≡ record_with plan past (waived past ++ ws) i
-    each i = ap (λ own. record_from plan own (completion i.number past) (given plan i.number past) (waived past ++ ws) i)
+        ≡ record_with start past (waived past ++ ws) i
+    each i = ap (λ own. record_from start own (completion i.number past) (given start i.number past) (waived past ++ ws) i)
         (acts_stay i.number (entry caller events.Slot (replies.Slot (record { slot = now past; waived = ws; ran = None; finished = None })))
         past refl)
 
@@ -145,46 +146,46 @@ acted_reply past ws number act ends = record {
 }
 
 -- the record of the one that acted
-abbrev pub acted_record : DiePlan → Log → ℕ → List Waived → Job → Act → Bool → JobRecord
-acted_record plan past caller ws j act ends =
-    record_with plan (slot_of caller (acted_reply past ws j.number act ends) ∷ past) (waived past ++ ws) j
+abbrev pub acted_record : Start → Log → ℕ → List Waived → Job → Act → Bool → JobRecord
+acted_record start past caller ws j act ends =
+    record_with start (slot_of caller (acted_reply past ws j.number act ends) ∷ past) (waived past ++ ws) j
 
 -- a slot in which one acts changes its record, and those of the collections that it waives
-pub records-act : (plan : DiePlan) (past : Log) (caller : ℕ) (ws : List Waived) (j : Job) (act : Act) (ends : Bool) (change : JobRecord
+pub records-act : (start : Start) (past : Log) (caller : ℕ) (ws : List Waived) (j : Job) (act : Act) (ends : Bool) (change : JobRecord
     → JobRecord)
     → AreNumbered 0 (jobs past) → slice_get (jobs past) j.number ≡ Some j
-    → change (record_with plan past (waived past ++ ws) j) ≡ acted_record plan past caller ws j act ends
-    → changed_at (map (record_with plan past (waived past ++ ws)) (jobs past)) j.number change
-    ≡ records plan (slot_of caller (acted_reply past ws j.number act ends) ∷ past)
-records-act plan past caller ws j act ends change numbered at own =
-    map_changed (record_with plan past (waived past ++ ws))
-    (record_with plan (slot_of caller (acted_reply past ws j.number act ends) ∷ past) (waived past ++ ws)) (jobs past) j.number change
+    → change (record_with start past (waived past ++ ws) j) ≡ acted_record start past caller ws j act ends
+    → changed_at (map (record_with start past (waived past ++ ws)) (jobs past)) j.number change
+    ≡ records start (slot_of caller (acted_reply past ws j.number act ends) ∷ past)
+records-act start past caller ws j act ends change numbered at own =
+    map_changed (record_with start past (waived past ++ ws))
+    (record_with start (slot_of caller (acted_reply past ws j.number act ends) ∷ past) (waived past ++ ws)) (jobs past) j.number change
     others mine
   where
-    mine : (i : Job) → slice_get (jobs past) j.number ≡ Some i → change (record_with plan past (waived past ++ ws) i)
-        ≡ record_with plan (slot_of caller (acted_reply past ws j.number act ends) ∷ past) (waived past ++ ws) i
-    mine i e = subst (λ (k : Job). change (record_with plan past (waived past ++ ws) k)
-        ≡ record_with plan (slot_of caller (acted_reply past ws j.number act ends) ∷ past) (waived past ++ ws) k)
+    mine : (i : Job) → slice_get (jobs past) j.number ≡ Some i → change (record_with start past (waived past ++ ws) i)
+        ≡ record_with start (slot_of caller (acted_reply past ws j.number act ends) ∷ past) (waived past ++ ws) i
+    mine i e = subst (λ (k : Job). change (record_with start past (waived past ++ ws) k)
+        ≡ record_with start (slot_of caller (acted_reply past ws j.number act ends) ∷ past) (waived past ++ ws) k)
         (same_Some j i (sym at ∙ e)) own
 
     other_given : (n : ℕ) → (j.number == n) ≡ false → (b : Bool)
-        → gift_by plan past (acted_reply past ws j.number act ends) n (cond b (Some j.number) None) (given plan n past) ≡ given plan n past
+        → gift_by start past (acted_reply past ws j.number act ends) n (cond b (Some j.number) None) (given start n past) ≡ given start n past
     other_given n differs true = rw differs refl
     other_given n differs false = refl
 
     others : (k : ℕ) (i : Job) → slice_get (jobs past) k ≡ Some i → (k ≡ j.number → ⊥)
-        → record_with plan past (waived past ++ ws) i ≡ record_with plan (slot_of caller (acted_reply past ws j.number act ends) ∷ past)
+        → record_with start past (waived past ++ ws) i ≡ record_with start (slot_of caller (acted_reply past ws j.number act ends) ∷ past)
         (waived past ++ ws) i
     others k i here other =
         let is : i.number ≡ 0 + k = number_at 0 (jobs past) k i numbered here in
         let differs : (j.number == i.number) ≡ false = ne_eqb j.number i.number (λ same. other (omega (arith, same, is))) in
         let none : act_of i.number (Some (j.number, act)) ≡ None = rw differs refl in
-        sym (ap (λ own. record_from plan own (completion i.number (slot_of caller (acted_reply past ws j.number act ends) ∷ past))
-        (given plan i.number (slot_of caller (acted_reply past ws j.number act ends) ∷ past)) (waived past ++ ws) i)
+        sym (ap (λ own. record_from start own (completion i.number (slot_of caller (acted_reply past ws j.number act ends) ∷ past))
+        (given start i.number (slot_of caller (acted_reply past ws j.number act ends) ∷ past)) (waived past ++ ws) i)
         (acts_stay i.number (slot_of caller (acted_reply past ws j.number act ends)) past none)
-        ∙ (ap (λ c. record_from plan (acts i.number past) (ended_by c (completion i.number past) (now past))
-        (given plan i.number (slot_of caller (acted_reply past ws j.number act ends) ∷ past)) (waived past ++ ws) i) none
-        ∙ ap (λ g. record_from plan (acts i.number past) (completion i.number past) g (waived past ++ ws) i)
+        ∙ (ap (λ c. record_from start (acts i.number past) (ended_by c (completion i.number past) (now past))
+        (given start i.number (slot_of caller (acted_reply past ws j.number act ends) ∷ past)) (waived past ++ ws) i) none
+        ∙ ap (λ g. record_from start (acts i.number past) (completion i.number past) g (waived past ++ ws) i)
         (other_given i.number differs ends)))
 
 -- The one that acted
@@ -195,34 +196,34 @@ stage_after ends completion given = stage_by None ends completion given
 reads_more : (own : List Act) (act : Act) → reads_of (own ++ act ∷ []) ≡ reads_of own ++ cons_option (bytes_read act) []
 reads_more own act = filter_map-append bytes_read own (act ∷ [])
 
-with_act : (plan : DiePlan) (own : List Act) (j : Job) (ws : List Waived) (act : Act) (c g c' g' : ℕ) (ends : Bool)
-    → waiver_among j.number ws ≡ None → are_all plan j (own ++ act ∷ []) ≡ ends
-    → record_from plan (own ++ act ∷ []) c g ws j ≡ with_stage (stage_after ends c g)
-    (after_read act (jobs_table.carried (record_from plan own c' g' ws j)))
-with_act plan own j ws (does.Read page bytes) c g c' g' ends none is =
+with_act : (start : Start) (own : List Act) (j : Job) (ws : List Waived) (act : Act) (c g c' g' : ℕ) (ends : Bool)
+    → waiver_among j.number ws ≡ None → are_all start.plan j (own ++ act ∷ []) ≡ ends
+    → record_from start (own ++ act ∷ []) c g ws j ≡ with_stage (stage_after ends c g)
+    (after_read act (jobs_table.carried (record_from start own c' g' ws j)))
+with_act start own j ws (does.Read page bytes) c g c' g' ends none is =
     rw is (rw none (rw (length_push own (does.Read page bytes)) (rw (reads_more own (does.Read page bytes)) refl)))
-with_act plan own j ws (does.Write page bytes) c g c' g' ends none is =
+with_act start own j ws (does.Write page bytes) c g c' g' ends none is =
     rw is (rw none (rw (length_push own (does.Write page bytes))
     (rw (reads_more own (does.Write page bytes)) (rw (append-nil (reads_of own)) refl))))
-with_act plan own j ws (does.Trim page) c g c' g' ends none is =
+with_act start own j ws (does.Trim page) c g c' g' ends none is =
     rw is (rw none (rw (length_push own (does.Trim page)) (rw (reads_more own (does.Trim page)) (rw (append-nil (reads_of own)) refl))))
-with_act plan own j ws (does.CopyRead page) c g c' g' ends none is =
+with_act start own j ws (does.CopyRead page) c g c' g' ends none is =
     rw is (rw none (rw (length_push own (does.CopyRead page))
     (rw (reads_more own (does.CopyRead page)) (rw (append-nil (reads_of own)) refl))))
-with_act plan own j ws (does.CopyProgram page) c g c' g' ends none is =
+with_act start own j ws (does.CopyProgram page) c g c' g' ends none is =
     rw is (rw none (rw (length_push own (does.CopyProgram page))
     (rw (reads_more own (does.CopyProgram page)) (rw (append-nil (reads_of own)) refl))))
-with_act plan own j ws (does.Erase block) c g c' g' ends none is =
+with_act start own j ws (does.Erase block) c g c' g' ends none is =
     rw is (rw none (rw (length_push own (does.Erase block)) (rw (reads_more own (does.Erase block)) (rw (append-nil (reads_of own)) refl))))
 
 -- its record: one slot more, perhaps one read more, and done if that was its last act
-pub acted_is : (plan : DiePlan) (past : Log) (caller : ℕ) (ws : List Waived) (j : Job) (act : Act) (ends : Bool) → job_at past j.number
+pub acted_is : (start : Start) (past : Log) (caller : ℕ) (ws : List Waived) (j : Job) (act : Act) (ends : Bool) → job_at past j.number
     ≡ Some j → waiver_among j.number (waived past ++ ws) ≡ None
-    → are_all plan j (acts j.number past ++ act ∷ []) ≡ ends
-    → acted_record plan past caller ws j act ends
-    ≡ with_stage (stage_after ends (now past + 1) (gift_of plan past (acted_reply past ws j.number act ends) (Some j)))
-    (after_read act (jobs_table.carried (record_with plan past (waived past ++ ws) j)))
-acted_is plan past caller ws j act ends at none is = by_end ends is
+    → are_all start.plan j (acts j.number past ++ act ∷ []) ≡ ends
+    → acted_record start past caller ws j act ends
+    ≡ with_stage (stage_after ends (now past + 1) (gift_of start past (acted_reply past ws j.number act ends) (Some j)))
+    (after_read act (jobs_table.carried (record_with start past (waived past ++ ws) j)))
+acted_is start past caller ws j act ends at none is = by_end ends is
   where
     grown : (b : Bool) → acts j.number (slot_of caller (acted_reply past ws j.number act b) ∷ past) ≡ acts j.number past ++ act ∷ []
     grown b = acts_grow j.number (slot_of caller (acted_reply past ws j.number act b)) past act (act_own j.number act)
@@ -230,12 +231,12 @@ acted_is plan past caller ws j act ends at none is = by_end ends is
     completed : ended_by (act_of j.number (Some (j.number, act))) (completion j.number past) (now past) ≡ now past + 1
     completed = rw (act_own j.number act) refl
 
-    by_end : (b : Bool) → are_all plan j (acts j.number past ++ act ∷ []) ≡ b
-        → acted_record plan past caller ws j act b
-        ≡ with_stage (stage_after b (now past + 1) (gift_of plan past (acted_reply past ws j.number act b) (Some j)))
-        (after_read act (jobs_table.carried (record_with plan past (waived past ++ ws) j)))
+    by_end : (b : Bool) → are_all start.plan j (acts j.number past ++ act ∷ []) ≡ b
+        → acted_record start past caller ws j act b
+        ≡ with_stage (stage_after b (now past + 1) (gift_of start past (acted_reply past ws j.number act b) (Some j)))
+        (after_read act (jobs_table.carried (record_with start past (waived past ++ ws) j)))
     by_end true e =
         rw (grown true) (rw (act_own j.number act) (rw (eq-eqb j.number j.number refl)
-        (rw at (with_act plan (acts j.number past) j (waived past ++ ws) act _ _ _ _ true none e))))
+        (rw at (with_act start (acts j.number past) j (waived past ++ ws) act _ _ _ _ true none e))))
     by_end false e =
-        rw (grown false) (rw (act_own j.number act) (with_act plan (acts j.number past) j (waived past ++ ws) act _ _ _ _ false none e))
+        rw (grown false) (rw (act_own j.number act) (with_act start (acts j.number past) j (waived past ++ ws) act _ _ _ _ false none e))

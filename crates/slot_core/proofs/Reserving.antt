@@ -25,6 +25,8 @@ use Rattle.slot_core.specs.Turns.{after_read, after_turn}
 use Rattle.slot_core.proofs.Slotting.{turned, turn_change}
 use Rattle.slot_core.proofs.Heading.{pending_is}
 use Rattle.slot_core.proofs.Waiving.{tasks_of, few_pending}
+use Rattle.die_log.specs.Start.{Start}
+use Rattle.die_log.specs.Opening.{IsOpening}
 
 abbrev one_if : JobRecord → ℕ
 one_if r = cond (is_open r) 1 0
@@ -104,44 +106,44 @@ open_job (r ∷ js) task release due ops = open_more r (js ++ new_job task relea
 
 -- At most one collection a task
 
-open_is : (plan : DiePlan) (log : Log) (j : Job) → is_open (record_with plan log (waived log) j)
-    ≡ pending plan (λ n. acts n log) (is_waived log) j
-open_is plan log j = by_kind j.collects where
-  by_kind : (c : Bool) → (c && is_pending (record_with plan log (waived log) j).stage)
-      ≡ ((c && not (is_done plan log j)) && not (is_waived log j.number))
-  by_kind true = pending_is plan log (waived log) j
+open_is : (start : Start) (log : Log) (j : Job) → is_open (record_with start log (waived log) j)
+    ≡ pending start.plan (λ n. acts n log) (is_waived log) j
+open_is start log j = by_kind j.collects where
+  by_kind : (c : Bool) → (c && is_pending (record_with start log (waived log) j).stage)
+      ≡ ((c && not (is_done start.plan log j)) && not (is_waived log j.number))
+  by_kind true = pending_is start log (waived log) j
   by_kind false = refl
 
-open_tasks : (plan : DiePlan) (log : Log) (js : List Job) → open_collections (map (record_with plan log (waived log)) js)
-    ≡ length (tasks_of (pending plan (λ n. acts n log) (is_waived log)) js)
-open_tasks plan log [] = refl
-open_tasks plan log (j ∷ js) =
-    open_more (record_with plan log (waived log) j) (map (record_with plan log (waived log)) js)
-    ∙ by_kind (is_open (record_with plan log (waived log) j)) (pending plan (λ n. acts n log) (is_waived log) j) (open_is plan log j)
-    (open_tasks plan log js)
+open_tasks : (start : Start) (log : Log) (js : List Job) → open_collections (map (record_with start log (waived log)) js)
+    ≡ length (tasks_of (pending start.plan (λ n. acts n log) (is_waived log)) js)
+open_tasks start log [] = refl
+open_tasks start log (j ∷ js) =
+    open_more (record_with start log (waived log) j) (map (record_with start log (waived log)) js)
+    ∙ by_kind (is_open (record_with start log (waived log) j)) (pending start.plan (λ n. acts n log) (is_waived log) j) (open_is start log j)
+    (open_tasks start log js)
   where
     rest : List Job
-    rest = filter (pending plan (λ n. acts n log) (is_waived log)) js
+    rest = filter (pending start.plan (λ n. acts n log) (is_waived log)) js
 
-    by_kind : (a b : Bool) → a ≡ b → open_collections (map (record_with plan log (waived log)) js) ≡ length (map (λ (i : Job). i.task) rest)
-        → cond a 1 0 + open_collections (map (record_with plan log (waived log)) js)
+    by_kind : (a b : Bool) → a ≡ b → open_collections (map (record_with start log (waived log)) js) ≡ length (map (λ (i : Job). i.task) rest)
+        → cond a 1 0 + open_collections (map (record_with start log (waived log)) js)
         ≡ length (map (λ (i : Job). i.task) (cond b (j ∷ rest) rest))
     by_kind true true same h = omega (arith, h)
     by_kind true false same h = absurd (true≢false same)
     by_kind false true same h = absurd (true≢false (sym same))
     by_kind false false same h = omega (arith, h)
 
-pub few_open : (plan : DiePlan) (log : Log) (js : List JobRecord) → MeetsBound plan → IsExact plan log → js ≡ records plan log
-    → open_collections js ≤ length plan.caps
-few_open plan log js bound exact is =
-    subst (λ (xs : List JobRecord). open_collections xs ≤ length plan.caps) (sym is)
-    (subst (λ (n : ℕ). n ≤ length plan.caps) (sym (open_tasks plan log (jobs log))) (few_pending plan log bound exact))
+pub few_open : (start : Start) (log : Log) (js : List JobRecord) → IsOpening start → IsExact start log → js ≡ records start log
+    → open_collections js ≤ length start.plan.caps
+few_open start log js bound exact is =
+    subst (λ (xs : List JobRecord). open_collections xs ≤ length start.plan.caps) (sym is)
+    (subst (λ (n : ℕ). n ≤ length start.plan.caps) (sym (open_tasks start log (jobs log))) (few_pending start log bound exact))
 
 -- so there is room for a waiver of each, where there is for one a task
-pub collect_room : (r : Result ℕ Refusal) (plan : DiePlan) (log : Log) (t u : Table) (before after : ℕ) → MeetsBound plan → IsExact plan log
-    → u.jobs ≡ records plan log → t.tasks ≡ length plan.caps → OnOk r (t.tasks ≤ after) → OnErr r (u ≡ t)
+pub collect_room : (r : Result ℕ Refusal) (start : Start) (log : Log) (t u : Table) (before after : ℕ) → IsOpening start → IsExact start log
+    → u.jobs ≡ records start log → t.tasks ≡ length start.plan.caps → OnOk r (t.tasks ≤ after) → OnErr r (u ≡ t)
     → open_collections t.jobs ≤ before → before ≤ after → open_collections u.jobs ≤ after
-collect_room (Ok number) plan log t u before after bound exact jobs_are tasks_are made stays had more = omega
-    (arith, few_open plan log u.jobs bound exact jobs_are, tasks_are, made)
-collect_room (Err refusal) plan log t u before after bound exact jobs_are tasks_are made stays had more = omega
+collect_room (Ok number) start log t u before after bound exact jobs_are tasks_are made stays had more = omega
+    (arith, few_open start log u.jobs bound exact jobs_are, tasks_are, made)
+collect_room (Err refusal) start log t u before after bound exact jobs_are tasks_are made stays had more = omega
     (arith, ap (λ (x : Table). open_collections x.jobs) stays, had, more)

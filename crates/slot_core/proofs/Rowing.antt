@@ -22,6 +22,8 @@ use Rattle.die_log.proofs.Least.Lookups.{rows_rise}
 use Rattle.slot_core.specs.Records.{record_with, records, waiver_among, stage_by, given}
 use Rattle.slot_core.specs.Rowed.{row_as, row_in, rows_in}
 use Rattle.slot_core.proofs.Worsts.{waiver_stands}
+use Rattle.die_log.specs.Start.{Start}
+use Rattle.die_log.specs.Opening.{IsOpening}
 
 -- One more record
 
@@ -99,35 +101,35 @@ row_if log j done = record {
       (Some (completion j.number log)) None;
 }
 
-first_row : (plan : DiePlan) (log : Log) (j : Job) (o : Option Waived) (done gone : Bool) (rest : List JobRow) → is_some o ≡ gone
-    → cons_option (row_as (stage_by o done (completion j.number log) (given plan j.number log)) j.number
-    (record_with plan log (waived log) j)) rest ≡ cond (not gone) (row_if log j done ∷ rest) rest
-first_row plan log j (Some w) done true rest e = refl
-first_row plan log j (Some w) done false rest e = absurd (true≢false e)
-first_row plan log j None done true rest e = absurd (true≢false (sym e))
-first_row plan log j None true false rest e = refl
-first_row plan log j None false false rest e = refl
+first_row : (start : Start) (log : Log) (j : Job) (o : Option Waived) (done gone : Bool) (rest : List JobRow) → is_some o ≡ gone
+    → cons_option (row_as (stage_by o done (completion j.number log) (given start j.number log)) j.number
+    (record_with start log (waived log) j)) rest ≡ cond (not gone) (row_if log j done ∷ rest) rest
+first_row start log j (Some w) done true rest e = refl
+first_row start log j (Some w) done false rest e = absurd (true≢false e)
+first_row start log j None done true rest e = absurd (true≢false (sym e))
+first_row start log j None true false rest e = refl
+first_row start log j None false false rest e = refl
 
 map_cond : (f : Job → JobRow) (b : Bool) (j : Job) (js : List Job) → cond b (f j ∷ map f js) (map f js) ≡ map f (cond b (j ∷ js) js)
 map_cond f true j js = refl
 map_cond f false j js = refl
 
-rows_of : (plan : DiePlan) (log : Log) (first : ℕ) (js : List Job) → AreNumbered first js
-    → rows_in first (map (record_with plan log (waived log)) js) ≡ map (row_for plan log) (filter (λ j. not (is_waived log j.number)) js)
-rows_of plan log first [] h = refl
-rows_of plan log first (j ∷ js) h =
-    ap (λ (n : ℕ). cons_option (row_in n (record_with plan log (waived log) j))
-    (rows_in (first + 1) (map (record_with plan log (waived log)) js))) (sym h.0)
-    ∙ (ap (cons_option (row_in j.number (record_with plan log (waived log) j))) (rows_of plan log (first + 1) js h.1)
-    ∙ (first_row plan log j (waiver_among j.number (waived log)) (is_done plan log j) (is_waived log j.number)
-    (map (row_for plan log) (filter (λ i. not (is_waived log i.number)) js)) (waiver_stands j.number (waived log))
-    ∙ map_cond (row_for plan log) (not (is_waived log j.number)) j (filter (λ i. not (is_waived log i.number)) js)))
+rows_of : (start : Start) (log : Log) (first : ℕ) (js : List Job) → AreNumbered first js
+    → rows_in first (map (record_with start log (waived log)) js) ≡ map (row_for start.plan log) (filter (λ j. not (is_waived log j.number)) js)
+rows_of start log first [] h = refl
+rows_of start log first (j ∷ js) h =
+    ap (λ (n : ℕ). cons_option (row_in n (record_with start log (waived log) j))
+    (rows_in (first + 1) (map (record_with start log (waived log)) js))) (sym h.0)
+    ∙ (ap (cons_option (row_in j.number (record_with start log (waived log) j))) (rows_of start log (first + 1) js h.1)
+    ∙ (first_row start log j (waiver_among j.number (waived log)) (is_done start.plan log j) (is_waived log j.number)
+    (map (row_for start.plan log) (filter (λ i. not (is_waived log i.number)) js)) (waiver_stands j.number (waived log))
+    ∙ map_cond (row_for start.plan log) (not (is_waived log j.number)) j (filter (λ i. not (is_waived log i.number)) js)))
 
-pub rows_are : (plan : DiePlan) (log : Log) (rs : List JobRecord) (made : List JobRow) → MeetsBound plan → IsExact plan log → rs
-    ≡ records plan log → made ≡ rows_in 0 rs → made ≡ rows plan log
-rows_are plan log rs made bound exact are is = is ∙ (ap (rows_in 0) are
-    ∙ rows_of plan log 0 (jobs log) (stands_well plan bound log exact).0.numbered)
+pub rows_are : (start : Start) (log : Log) (rs : List JobRecord) (made : List JobRow) → IsOpening start → IsExact start log → rs
+    ≡ records start log → made ≡ rows_in 0 rs → made ≡ rows start.plan log
+rows_are start log rs made bound exact are is = is ∙ (ap (rows_in 0) are
+    ∙ rows_of start log 0 (jobs log) (stands_well start bound log exact).0.numbered)
 
-pub rising : (plan : DiePlan) (log : Log) → MeetsBound plan → IsExact plan log → RowsRise (rows plan log)
-rising plan log bound exact = rows_rise (row_for plan log) (is_waived log) (jobs log) (λ j. refl)
-    (stands_well plan bound log exact).0.numbered
+pub rising : (start : Start) (log : Log) → IsOpening start → IsExact start log → RowsRise (rows start.plan log)
+rising start log bound exact = rows_rise (row_for start.plan log) (is_waived log) (jobs log) (λ j. refl)
+    (stands_well start bound log exact).0.numbered

@@ -19,6 +19,7 @@ use Rattle.slot_core.specs.Calls.{RefusedBy}
 use Rattle.slot_core.specs.Events.{HasAccepted, HasRefused}
 use Rattle.slot_core.proofs.Performing.{no_log_fault, err_is}
 use Rattle.slot_core.specs.Runs.{Moment, moment_of, AnsweredByLog, FoundNoMemory, StoppedByFault, FoundStopped, IsStep, IsRun}
+use Rattle.die_log.specs.Start.{Start, over}
 
 -- Steps
 
@@ -46,7 +47,7 @@ entered caller event (Refused refusal) log is = absurd is
 pub accepted_step : {N : Type 0} (failures : N → ℕ) (event : Event) (reply : Reply) (old new : Core N)
     → (◌≡◌ {A = Result Reply Refusal} (Ok reply) (Err DieStopped) ↔ (old.stopped ≡ true))
     → (◌≡◌ {A = Result Reply Refusal} (Ok reply) (Err DeviceFault) ↔ (failures new.device ≡ failures old.device + 1))
-    → HasAccepted 0 event reply old new → IsStep old.plan event reply (moment_of failures old) (moment_of failures new)
+    → HasAccepted 0 event reply old new → IsStep old.start event reply (moment_of failures old) (moment_of failures new)
 accepted_step failures event reply old new stopped fault accepted = record {
   answered = inl (record {
     ran = not_stopped old.stopped (λ is. let other = stopped.1 is in absurd cc);
@@ -63,7 +64,7 @@ pub refused_step : {N : Type 0} (failures : N → ℕ) (never_fails : Bool) (eve
     → (◌≡◌ {A = Result Reply Refusal} (Err refusal) (Err DieStopped) ↔ (old.stopped ≡ true))
     → (◌≡◌ {A = Result Reply Refusal} (Err refusal) (Err DeviceFault) ↔ (failures new.device ≡ failures old.device + 1))
     → HasRefused never_fails event refusal old new
-    → IsStep old.plan event (Refused refusal) (moment_of failures old) (moment_of failures new)
+    → IsStep old.start event (Refused refusal) (moment_of failures old) (moment_of failures new)
 refused_step {N} failures never_fails event refusal old new stopped fault refused = record {
   answered = by_stopped old.stopped refl;
   faults = (
@@ -72,18 +73,18 @@ refused_step {N} failures never_fails event refusal old new stopped fault refuse
   );
 } where
   Answered : Type 0
-  Answered = AnsweredByLog old.plan event (Refused refusal) (moment_of failures old) (moment_of failures new)
-      ⊎ FoundNoMemory old.plan event (Refused refusal) (moment_of failures old) (moment_of failures new)
-      ⊎ StoppedByFault old.plan event (Refused refusal) (moment_of failures old) (moment_of failures new)
-      ⊎ FoundStopped old.plan event (Refused refusal) (moment_of failures old) (moment_of failures new)
+  Answered = AnsweredByLog old.start event (Refused refusal) (moment_of failures old) (moment_of failures new)
+      ⊎ FoundNoMemory old.start event (Refused refusal) (moment_of failures old) (moment_of failures new)
+      ⊎ StoppedByFault old.start event (Refused refusal) (moment_of failures old) (moment_of failures new)
+      ⊎ FoundStopped old.start.plan event (Refused refusal) (moment_of failures old) (moment_of failures new)
 
   left : (refusal ≡ DeviceFault → ⊥) → moment_of failures new ≡ moment_of failures old
   left other = ap (moment_of failures) (refused.unchanged other)
 
-  by_refused : old.stopped ≡ false → RefusedBy old.plan old.log event refusal
-      ⊎ ((event ≡ Slot) × IsAccepted (answer old.plan old.log event) × (refusal ≡ DeviceFault)) → Answered
+  by_refused : old.stopped ≡ false → RefusedBy old.start old.log event refusal
+      ⊎ ((event ≡ Slot) × IsAccepted (answer old.start old.log event) × (refusal ≡ DeviceFault)) → Answered
   by_refused runs (inl (inl e)) =
-      let unchanged = left (λ is. no_log_fault old.plan old.log event (e ∙ ap Refused is)) in
+      let unchanged = left (λ is. no_log_fault old.start old.log event (e ∙ ap Refused is)) in
       inl (record {
         ran = runs;
         reply_is = sym e;
@@ -123,26 +124,26 @@ pub taken_front : {X A : Type 0} (s : IntoIter X A) (xs : List X) (t : IntoIter 
 taken_front s [] t y = ap into_iter_items y
 taken_front s (x ∷ xs) t y = y.1.0 ∙ ap (λ ys. x ∷ ys) (taken_front y.0 xs t y.2)
 
-pub run_more : (plan : DiePlan) (before between after : Moment) (es : List Event) (rs : List Reply) (e : Event) (r : Reply)
-    → IsRun plan before es rs between → IsStep plan e r between after → IsRun plan before (es ++ e ∷ []) (rs ++ r ∷ []) after
-run_more plan before between after [] [] e r h s = (after, subst (λ (m : Moment). IsStep plan e r m after) h s, refl)
-run_more plan before between after [] (x ∷ rs) e r h s = absurd h
-run_more plan before between after (y ∷ es) [] e r h s = absurd h
-run_more plan before between after (y ∷ es) (x ∷ rs) e r h s = (h.0, h.1, run_more plan h.0 between after es rs e r h.2 s)
+pub run_more : (start : Start) (before between after : Moment) (es : List Event) (rs : List Reply) (e : Event) (r : Reply)
+    → IsRun start before es rs between → IsStep start e r between after → IsRun start before (es ++ e ∷ []) (rs ++ r ∷ []) after
+run_more start before between after [] [] e r h s = (after, subst (λ (m : Moment). IsStep start e r m after) h s, refl)
+run_more start before between after [] (x ∷ rs) e r h s = absurd h
+run_more start before between after (y ∷ es) [] e r h s = absurd h
+run_more start before between after (y ∷ es) (x ∷ rs) e r h s = (h.0, h.1, run_more start h.0 between after es rs e r h.2 s)
 
 -- a run answers one reply an event
-pub run_length : (plan : DiePlan) (before after : Moment) (es : List Event) (rs : List Reply) → IsRun plan before es rs after → length rs
+pub run_length : (start : Start) (before after : Moment) (es : List Event) (rs : List Reply) → IsRun start before es rs after → length rs
     ≡ length es
-run_length plan before after [] [] h = refl
-run_length plan before after [] (x ∷ rs) h = absurd h
-run_length plan before after (y ∷ es) [] h = absurd h
-run_length plan before after (y ∷ es) (x ∷ rs) h = ap suc (run_length plan h.0 after es rs h.2)
+run_length start before after [] [] h = refl
+run_length start before after [] (x ∷ rs) h = absurd h
+run_length start before after (y ∷ es) [] h = absurd h
+run_length start before after (y ∷ es) (x ∷ rs) h = ap suc (run_length start h.0 after es rs h.2)
 
 -- one more event
 pub goes_on : {N : Type 0} (failures : N → ℕ) (first old new : Core N) (es : List Event) (rs later : List Reply) (e : Event) (r : Reply)
-    → IsRun first.plan (moment_of failures first) es rs (moment_of failures old) → old.plan ≡ first.plan
-    → IsStep old.plan e r (moment_of failures old) (moment_of failures new) → later ≡ rs ++ r ∷ []
-    → IsRun first.plan (moment_of failures first) (es ++ e ∷ []) later (moment_of failures new)
+    → IsRun first.start (moment_of failures first) es rs (moment_of failures old) → old.start ≡ first.start
+    → IsStep old.start e r (moment_of failures old) (moment_of failures new) → later ≡ rs ++ r ∷ []
+    → IsRun first.start (moment_of failures first) (es ++ e ∷ []) later (moment_of failures new)
 goes_on failures first old new es rs later e r ran plan step is =
-    rw is (run_more first.plan (moment_of failures first) (moment_of failures old) (moment_of failures new) es rs e r ran
-    (subst (λ (p : DiePlan). IsStep p e r (moment_of failures old) (moment_of failures new)) plan step))
+    rw is (run_more first.start (moment_of failures first) (moment_of failures old) (moment_of failures new) es rs e r ran
+    (subst (λ (s : Start). IsStep s e r (moment_of failures old) (moment_of failures new)) plan step))

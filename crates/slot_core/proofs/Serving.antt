@@ -35,6 +35,9 @@ use Rattle.slot_types.specs.Operations.{is_write, writes}
 use Rattle.die_log.specs.Held.{Agree, held_of, left_of, at_task}
 use Rattle.die_log.proofs.Tokens.Amounts.{at_itself}
 use Rattle.slot_core.specs.Records.{reads_of, bytes_read}
+use Rattle.die_log.specs.Start.{Start}
+use Rattle.die_log.specs.Opening.{IsOpening}
+use Rattle.die_log.proofs.Renewal.{contents_len as kept_len}
 
 -- Pages
 
@@ -47,9 +50,8 @@ written_len (Some (n, does.CopyRead page)) pages = refl
 written_len (Some (n, does.CopyProgram page)) pages = refl
 written_len (Some (n, does.Erase block)) pages = refl
 
-pub contents_len : (plan : DiePlan) (log : Log) → length (contents plan log) ≡ plan.logical
-contents_len plan [] = length-replicate plan.logical _
-contents_len plan (e ∷ past) = written_len (ran_by e.reply) (contents plan past) ∙ contents_len plan past
+pub contents_len : (start : Start) → IsOpening start → (log : Log) → length (contents start log) ≡ start.plan.logical
+contents_len start bound log = kept_len start log ∙ bound.pages
 
 -- Tokens
 
@@ -169,12 +171,12 @@ acted_reads past e j act is next before plain = by_op (slice_get j.ops (work j.n
           count_next j.ops (work j.number past) op at,
         ))))
 
-ran_reads : (plan : DiePlan) (past : Log) (caller : ℕ) (s : SlotReply) (ws : List Waived) (c : Carried) → s.ran ≡ c
-    → IsLegalRun plan past ws c → CountReads past → CountReads (entry caller events.Slot (replies.Slot s) ∷ past)
-ran_reads plan past caller s ws None is legal h n j at =
+ran_reads : (start : Start) (past : Log) (caller : ℕ) (s : SlotReply) (ws : List Waived) (c : Carried) → s.ran ≡ c
+    → IsLegalRun start past ws c → CountReads past → CountReads (entry caller events.Slot (replies.Slot s) ∷ past)
+ran_reads start past caller s ws None is legal h n j at =
     let k = h n j at in
     (k.0, λ plain. rw (acts_stay j.number (entry caller events.Slot (replies.Slot s)) past (ap (act_of j.number) is)) (k.1 plain))
-ran_reads plan past caller s ws (Some (number, act)) is legal h n j at = by_own (number == j.number) refl
+ran_reads start past caller s ws (Some (number, act)) is legal h n j at = by_own (number == j.number) refl
   where
     e : Entry
     e = entry caller events.Slot (replies.Slot s)
@@ -194,29 +196,29 @@ ran_reads plan past caller s ws (Some (number, act)) is legal h n j at = by_own 
           k.0,
           acted_reads past (entry caller events.Slot (replies.Slot s)) j act (ap (act_of j.number) is ∙ rw same refl)
               (subst (λ (i : Job). i.collects ≡ false → IsNextOperation past i act) job_is
-              (λ plain. subst (λ (b : Bool). MatchBool b (IsNextCollectAct plan past number act) (IsNextOperation past legal.0 act))
+              (λ plain. subst (λ (b : Bool). MatchBool b (IsNextCollectAct start past number act) (IsNextOperation past legal.0 act))
               plain legal.1.next)) k.1,
         )
 
-pub reads_counted : (plan : DiePlan) (log : Log) → IsExact plan log → IsLegal plan log → CountReads log
-reads_counted plan [] x l = λ n j e. absurd (none-some j e)
-reads_counted plan (e ∷ past) x l = by_kind e.event e.reply l.1.numbered l.1.slot (reads_counted plan past x.0 l.0)
+pub reads_counted : (start : Start) (log : Log) → IsExact start log → IsLegal start log → CountReads log
+reads_counted start [] x l = λ n j e. absurd (none-some j e)
+reads_counted start (e ∷ past) x l = by_kind e.event e.reply l.1.numbered l.1.slot (reads_counted start past x.0 l.0)
   where
-    by_kind : (event : Event) (reply : Reply) → IsNumbered past event reply → IsLegalReply plan past reply → CountReads past
+    by_kind : (event : Event) (reply : Reply) → IsNumbered past event reply → IsLegalReply start past reply → CountReads past
         → CountReads (entry e.caller event reply ∷ past)
-    by_kind (events.Submit task release due ops) (replies.Taken number) is legal h = taken_reads past _ is (no_acts plan past x.0) h
+    by_kind (events.Submit task release due ops) (replies.Taken number) is legal h = taken_reads past _ is (no_acts start past x.0) h
     by_kind (events.Submit task release due ops) (replies.Slot s) is legal h = absurd is
     by_kind (events.Submit task release due ops) (replies.Refused r) is legal h = absurd is
-    by_kind (events.Collect task release due) (replies.Taken number) is legal h = taken_reads past _ is (no_acts plan past x.0) h
+    by_kind (events.Collect task release due) (replies.Taken number) is legal h = taken_reads past _ is (no_acts start past x.0) h
     by_kind (events.Collect task release due) (replies.Slot s) is legal h = absurd is
     by_kind (events.Collect task release due) (replies.Refused r) is legal h = absurd is
-    by_kind events.Slot (replies.Slot s) is legal h = ran_reads plan past e.caller s s.waived s.ran refl legal.1 h
+    by_kind events.Slot (replies.Slot s) is legal h = ran_reads start past e.caller s s.waived s.ran refl legal.1 h
     by_kind events.Slot (replies.Taken number) is legal h = absurd is
     by_kind events.Slot (replies.Refused r) is legal h = absurd is
 
 -- a job whose next operation is a read has fewer reads than it asked for
-pub read_left : (plan : DiePlan) (log : Log) (n : ℕ) (j : Job) (op : Op) → IsExact plan log → IsLegal plan log → job_at log n ≡ Some j
+pub read_left : (start : Start) (log : Log) (n : ℕ) (j : Job) (op : Op) → IsExact start log → IsLegal start log → job_at log n ≡ Some j
     → j.collects ≡ false → slice_get j.ops (work j.number log) ≡ Some op → is_read op ≡ true
     → length (reads_of (acts j.number log)) < count_by is_read j.ops
-read_left plan log n j op x l at plain next is =
-    omega (arith, (reads_counted plan log x l n j at).1 plain, read_among j.ops (work j.number log) op next is)
+read_left start log n j op x l at plain next is =
+    omega (arith, (reads_counted start log x l n j at).1 plain, read_among j.ops (work j.number log) op next is)

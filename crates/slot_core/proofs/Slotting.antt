@@ -64,24 +64,25 @@ use Rattle.slot_core.proofs.Opened.{opens_same}
 use Rattle.slot_core.proofs.Serving.{hold_positive}
 use Rattle.slot_core.proofs.Taking.{IsCollector, IsTaken, took}
 use Rattle.slot_core.proofs.Turning.{IsHeadJob, turn_job, table_is}
+use Rattle.die_log.specs.Start.{Start, over}
 
 past_clock : (m n : ℕ) → n < m → nat_le m n ≡ false
 past_clock m n h = grind (arith, nat_tests)
 
 -- a slot before the last one is not refused
-pub slot_unrefused : (plan : DiePlan) (log : Log) (present : ℕ) → present ≡ now log → present < MAX_SLOT → refusal_of plan log events.Slot
+pub slot_unrefused : (start : Start) (log : Log) (present : ℕ) → present ≡ now log → present < MAX_SLOT → refusal_of start log events.Slot
     ≡ None
-slot_unrefused plan log present is few = rw (past_clock MAX_SLOT (now log) (subst (λ (n : ℕ). n < MAX_SLOT) is few)) refl
+slot_unrefused start log present is few = rw (past_clock MAX_SLOT (now log) (subst (λ (n : ℕ). n < MAX_SLOT) is few)) refl
 
-unrefused : (plan : DiePlan) (log : Log) (present : ℕ) → IsSlot plan log present → refusal_of plan log events.Slot ≡ None
-unrefused plan log present s = rw (past_clock MAX_SLOT (now log) s.few) refl
+unrefused : (start : Start) (log : Log) (present : ℕ) → IsSlot start log present → refusal_of start log events.Slot ≡ None
+unrefused start log present s = rw (past_clock MAX_SLOT (now log) s.few) refl
 
 -- The slot begins
 
-starts_with : (plan : DiePlan) (log : Log) (present : ℕ) (t : Table) (f : FlashState) → Keeps plan log present t false f → present
-    < MAX_SLOT → t.clock ≡ present → InSlot plan log present [] t f
-starts_with plan log present t f k few clock = record {
-  slot = record { exact = k.exact; bound = k.bound; now_is = k.now_is; few = subst (λ (n : ℕ). n < MAX_SLOT) k.now_is few };
+starts_with : (start : Start) (log : Log) (present : ℕ) (t : Table) (f : FlashState) → Keeps start log present t false f → present
+    < MAX_SLOT → t.clock ≡ present → InSlot start log present [] t f
+starts_with start log present t f k few clock = record {
+  slot = record { exact = k.exact; bound = k.bound; left = k.left; now_is = k.now_is; few = subst (λ (n : ℕ). n < MAX_SLOT) k.now_is few };
   table = record {
     tasks_are = k.tasks_are;
     clock_is = clock ∙ k.now_is;
@@ -90,24 +91,25 @@ starts_with plan log present t f k few clock = record {
     were_pending = tt;
     were = k.jobs_are;
   };
-  goes_on = subst (GoesOn plan log []) (sym (k.flash refl).accounts_are) (starts plan log);
-  flash = unwaived_flash plan log f (k.flash refl);
+  goes_on = subst (GoesOn start log []) (sym (k.flash refl).accounts_are) (starts start log);
+  flash = unwaived_flash start log f (k.flash refl);
   running = (k.flash refl).running_are;
 }
 
-pub slot_starts : {N : Type 0} (blocks_of : N → List device.Block) (log : Log) (present : ℕ) (t : Table) (v : State N)
-    → Keeps v.accounts.plan log present t v.failed (flash_of blocks_of v) → v.failed ≡ false → present < MAX_SLOT
-    → InSlot v.accounts.plan log present [] (record t { clock = present }) (flash_of blocks_of v)
-slot_starts blocks_of log present t v k alive few =
-    starts_with v.accounts.plan log present (record t { clock = present }) (flash_of blocks_of v)
-    (subst (λ (b : Bool). Keeps v.accounts.plan log present (record t { clock = present }) b (flash_of blocks_of v)) alive (looked k))
+pub slot_starts : (start : Start) {N : Type 0} (blocks_of : N → List device.Block) (log : Log) (present : ℕ) (t : Table) (v : State N)
+    → Keeps (over v.accounts.plan start) log present t v.failed (flash_of blocks_of v) → v.failed ≡ false → present < MAX_SLOT
+    → InSlot (over v.accounts.plan start) log present [] (record t { clock = present }) (flash_of blocks_of v)
+slot_starts start blocks_of log present t v k alive few =
+    starts_with (over v.accounts.plan start) log present (record t { clock = present }) (flash_of blocks_of v)
+    (subst (λ (b : Bool). Keeps (over v.accounts.plan start) log present (record t { clock = present }) b (flash_of blocks_of v)) alive (looked k))
     few refl
   where
-    looked : Keeps v.accounts.plan log present t v.failed (flash_of blocks_of v)
-        → Keeps v.accounts.plan log present (record t { clock = present }) v.failed (flash_of blocks_of v)
+    looked : Keeps (over v.accounts.plan start) log present t v.failed (flash_of blocks_of v)
+        → Keeps (over v.accounts.plan start) log present (record t { clock = present }) v.failed (flash_of blocks_of v)
     looked kept = record {
       exact = kept.exact;
       bound = kept.bound;
+      left = kept.left;
       now_is = kept.now_is;
       tasks_are = kept.tasks_are;
       clock_by = omega arith;
@@ -118,138 +120,139 @@ slot_starts blocks_of log present t v k alive few =
 
 -- Without a head
 
-pub slot_idles : (plan : DiePlan) (log : Log) (present : ℕ) (ws : List Waived) (t : Table) (f : FlashState) (caller : ℕ)
-    → InSlot plan log present ws t f → table.NothingReady t
-    → Keeps plan (entry caller events.Slot (replies.Slot (idle_reply present ws)) ∷ log) (present + 1) t false f
-    × (accepted plan log events.Slot ≡ replies.Slot (idle_reply present ws))
-slot_idles plan log present ws t f caller s nothing = (
-  subst (λ (n : ℕ). Keeps plan (entry caller events.Slot (replies.Slot (idle_reply n ws)) ∷ log) (present + 1) t false f)
+pub slot_idles : (start : Start) (log : Log) (present : ℕ) (ws : List Waived) (t : Table) (f : FlashState) (caller : ℕ)
+    → InSlot start log present ws t f → table.NothingReady t
+    → Keeps start (entry caller events.Slot (replies.Slot (idle_reply present ws)) ∷ log) (present + 1) t false f
+    × (accepted start log events.Slot ≡ replies.Slot (idle_reply present ws))
+slot_idles start log present ws t f caller s nothing = (
+  subst (λ (n : ℕ). Keeps start (entry caller events.Slot (replies.Slot (idle_reply n ws)) ∷ log) (present + 1) t false f)
       (sym s.slot.now_is) kept,
   rw s.slot.now_is replied,
 )
   where
-    chosen : choice plan log ≡ record { waived = ws; head = None }
-    chosen = ends plan log ws f.tokens s.goes_on (nothing_least plan log ws (length plan.caps) false
-        (subst table.NothingReady (table_is plan log ws t s.table) nothing))
+    chosen : choice start log ≡ record { waived = ws; head = None }
+    chosen = ends start log ws f.tokens s.goes_on (nothing_least start log ws (length start.plan.caps) false
+        (subst table.NothingReady (table_is start log ws t s.table) nothing))
 
-    replied : accepted plan log events.Slot ≡ replies.Slot (idle_reply (now log) ws)
-    replied = ap (λ (c : Choice). replies.Slot (slot_reply plan log c.waived c.head)) chosen
+    replied : accepted start log events.Slot ≡ replies.Slot (idle_reply (now log) ws)
+    replied = ap (λ (c : Choice). replies.Slot (slot_reply start log c.waived c.head)) chosen
 
-    kept : Keeps plan (entry caller events.Slot (replies.Slot (idle_reply (now log) ws)) ∷ log) (present + 1) t false f
+    kept : Keeps start (entry caller events.Slot (replies.Slot (idle_reply (now log) ws)) ∷ log) (present + 1) t false f
     kept = record {
-      exact = (s.slot.exact, sym (accepted_answer plan log events.Slot (unrefused plan log present s.slot) ∙ replied), tt);
+      exact = (s.slot.exact, sym (accepted_answer start log events.Slot (unrefused start log present s.slot) ∙ replied), tt);
       bound = s.slot.bound;
+      left = s.slot.left;
       now_is = ap (λ n. n + 1) s.slot.now_is ∙ sym (length_push (carried log) None);
       tasks_are = s.table.tasks_are;
       clock_by = omega (arith, s.table.clock_is, s.slot.now_is);
       ended_is = s.table.running;
-      jobs_are = s.table.jobs_are ∙ sym (records-idle plan log caller ws);
-      flash = λ alive. flash-idle plan log caller (now log) ws f s.flash s.running;
+      jobs_are = s.table.jobs_are ∙ sym (records-idle start log caller ws);
+      flash = λ alive. flash-idle start log caller (now log) ws f s.flash s.running;
     }
 
-pub idle_kept : {N : Type 0} (blocks_of : N → List device.Block) (log later : Log) (present caller : ℕ) (ws : List Waived) (t : Table)
+pub idle_kept : (start : Start) {N : Type 0} (blocks_of : N → List device.Block) (log later : Log) (present caller : ℕ) (ws : List Waived) (t : Table)
     (v : State N) (reply : SlotReply)
-    → InSlot v.accounts.plan log present ws t (flash_of blocks_of v) → table.NothingReady t → v.failed ≡ false → reply
+    → InSlot (over v.accounts.plan start) log present ws t (flash_of blocks_of v) → table.NothingReady t → v.failed ≡ false → reply
     ≡ idle_reply present ws → later ≡ with_entry caller events.Slot (replies.Slot reply) log
-    → Keeps v.accounts.plan later (present + 1) t v.failed (flash_of blocks_of v)
-    × (answer v.accounts.plan log events.Slot ≡ replies.Slot reply)
-idle_kept blocks_of log later present caller ws t v reply s nothing alive reply_is later_is =
-    let done = slot_idles v.accounts.plan log present ws t (flash_of blocks_of v) caller s nothing in (
+    → Keeps (over v.accounts.plan start) later (present + 1) t v.failed (flash_of blocks_of v)
+    × (answer (over v.accounts.plan start) log events.Slot ≡ replies.Slot reply)
+idle_kept start blocks_of log later present caller ws t v reply s nothing alive reply_is later_is =
+    let done = slot_idles (over v.accounts.plan start) log present ws t (flash_of blocks_of v) caller s nothing in (
       rw later_is (rw reply_is (rw alive done.0)),
-      accepted_answer v.accounts.plan log events.Slot (unrefused v.accounts.plan log present s.slot)
+      accepted_answer (over v.accounts.plan start) log events.Slot (unrefused (over v.accounts.plan start) log present s.slot)
           ∙ (done.1 ∙ ap replies.Slot (sym reply_is)),
     )
 
 -- A job's operation
 
 -- the act of the head's operation is what the log determines
-act_is : (plan : DiePlan) (log : Log) (f : FlashState) (j : Job) (op : Op) → f.pages ≡ contents plan log → j.collects ≡ false
-    → slice_get j.ops (work j.number log) ≡ Some op → act_for plan log j ≡ Some (act_by f op)
-act_is plan log f j op pages_are plain next = rw plain (rw next (by_op op))
+act_is : (start : Start) (log : Log) (f : FlashState) (j : Job) (op : Op) → f.pages ≡ contents start log → j.collects ≡ false
+    → slice_get j.ops (work j.number log) ≡ Some op → act_for start log j ≡ Some (act_by f op)
+act_is start log f j op pages_are plain next = rw plain (rw next (by_op op))
   where
-    by_op : (o : Op) → act_of_op plan log (Some o) ≡ Some (act_by f o)
-    by_op (asks.Read page) = ap (λ (bytes : PageData). Some (does.Read page bytes)) (sym (content_is plan log f.pages page pages_are))
+    by_op : (o : Op) → act_of_op start log (Some o) ≡ Some (act_by f o)
+    by_op (asks.Read page) = ap (λ (bytes : PageData). Some (does.Read page bytes)) (sym (content_is start log f.pages page pages_are))
     by_op (asks.Write page bytes) = refl
     by_op (asks.Trim page) = refl
 
 -- and it leaves the flash of the log with that act
-flash_operated : (plan : DiePlan) (log : Log) (caller slot : ℕ) (ws : List Waived) (j : Job) (op : Op) (finished : Option ℕ)
+flash_operated : (start : Start) (log : Log) (caller slot : ℕ) (ws : List Waived) (j : Job) (op : Op) (finished : Option ℕ)
     (f : FlashState)
-    → job_at log j.number ≡ Some j → f.tokens.plan ≡ plan → IsWaivedFlash plan log ws f
-    → AreRunning plan (slot_with caller slot ws j.number (act_by f op) finished log) f.running
-    → (is_write op ≡ true → 0 < free plan log)
-    → IsFlashOf plan (slot_with caller slot ws j.number (act_by f op) finished log) (operated f j.task op)
-flash_operated plan log caller slot ws j (asks.Read page) finished f at plan_is w runs some = flash-read plan log caller slot ws j page
+    → job_at log j.number ≡ Some j → f.tokens.plan ≡ start.plan → IsWaivedFlash start log ws f
+    → AreRunning start (slot_with caller slot ws j.number (act_by f op) finished log) f.running
+    → (is_write op ≡ true → 0 < free start log)
+    → IsFlashOf start (slot_with caller slot ws j.number (act_by f op) finished log) (operated f j.task op)
+flash_operated start log caller slot ws j (asks.Read page) finished f at plan_is w runs some = flash-read start log caller slot ws j page
     (slice_index_or f.pages page device.blank) finished f at w runs
-flash_operated plan log caller slot ws j (asks.Trim page) finished f at plan_is w runs some = flash-trim plan log caller slot ws j page
+flash_operated start log caller slot ws j (asks.Trim page) finished f at plan_is w runs some = flash-trim start log caller slot ws j page
     finished f at w runs
-flash_operated plan log caller slot ws j (asks.Write page bytes) finished f at plan_is w runs some =
-    rw (ap (λ (p : DiePlan). open_in p.shape.pages f.blocks) plan_is ∙ (opens_same plan (cells plan log) f.blocks w.blocks_are ∙ opened.1))
-    (flash-write plan log caller slot ws j page bytes finished f opened.0 at opened.1 w runs)
+flash_operated start log caller slot ws j (asks.Write page bytes) finished f at plan_is w runs some =
+    rw (ap (λ (p : DiePlan). open_in p.shape.pages f.blocks) plan_is ∙ (opens_same start.plan (cells start log) f.blocks w.blocks_are ∙ opened.1))
+    (flash-write start log caller slot ws j page bytes finished f opened.0 at opened.1 w runs)
   where
-    opened : (b : ℕ) × (flash.open_block plan (cells plan log) ≡ Some b)
-    opened = opens plan (cells plan log) (some refl)
+    opened : (b : ℕ) × (flash.open_block start.plan (cells start log) ≡ Some b)
+    opened = opens start.plan (cells start log) (some refl)
 
 plain_all : (plan : DiePlan) (j : Job) (own : List Act) (act : Act) → j.collects ≡ false → are_all plan j (own ++ act ∷ [])
     ≡ (length own + 1 == length j.ops)
 plain_all plan j own act plain = rw plain (ap (λ (n : ℕ). n == length j.ops) (length_push own act))
 
-took_op : {N : Type 0} (blocks_of : N → List device.Block) (log : Log) (present caller : ℕ) (ws : List Waived) (t : Table) (n : ℕ)
-    (v w : State N) (turn : Turn) → (h : HasTurn v.accounts.plan log present ws t (flash_of blocks_of v) n) → h.job.collects ≡ false
-    → DidOp blocks_of v (record_with v.accounts.plan log (waived log ++ ws) h.job) turn w → IsTaken blocks_of log caller ws h.job v w turn
-took_op blocks_of log present caller ws t n v w turn h plain d = rw d.turn_is (record {
-  act_is = act_is v.accounts.plan log (flash_of blocks_of v) h.job d.op h.flash.pages_are plain d.next;
+took_op : (start : Start) {N : Type 0} (blocks_of : N → List device.Block) (log : Log) (present caller : ℕ) (ws : List Waived) (t : Table) (n : ℕ)
+    (v w : State N) (turn : Turn) → (h : HasTurn (over v.accounts.plan start) log present ws t (flash_of blocks_of v) n) → h.job.collects ≡ false
+    → DidOp blocks_of v (record_with (over v.accounts.plan start) log (waived log ++ ws) h.job) turn w → IsTaken start blocks_of log caller ws h.job v w turn
+took_op start blocks_of log present caller ws t n v w turn h plain d = rw d.turn_is (record {
+  act_is = act_is (over v.accounts.plan start) log (flash_of blocks_of v) h.job d.op h.flash.pages_are plain d.next;
   last_is = plain_all v.accounts.plan h.job (acts h.job.number log) (act_by (flash_of blocks_of v) d.op) plain;
   given_is = λ e. rw plain refl;
-  flash = λ slot finished. subst (IsFlashOf v.accounts.plan
+  flash = λ slot finished. subst (IsFlashOf (over v.accounts.plan start)
       (slot_with caller slot ws h.job.number (act_by (flash_of blocks_of v) d.op) finished log)) (sym d.flash)
-      (flash_operated v.accounts.plan log caller slot ws h.job d.op finished (flash_of blocks_of v) job.own_at refl h.flash
+      (flash_operated (over v.accounts.plan start) log caller slot ws h.job d.op finished (flash_of blocks_of v) job.own_at refl h.flash
       (runs slot finished) some_free);
 })
   where
-    job : IsHeadJob v.accounts.plan log ws t n h.job
-    job = turn_job v.accounts.plan log present ws t (flash_of blocks_of v) n h
+    job : IsHeadJob (over v.accounts.plan start) log ws t n h.job
+    job = turn_job (over v.accounts.plan start) log present ws t (flash_of blocks_of v) n h
 
-    runs : (slot : ℕ) (finished : Option ℕ) → AreRunning v.accounts.plan
+    runs : (slot : ℕ) (finished : Option ℕ) → AreRunning (over v.accounts.plan start)
         (slot_with caller slot ws h.job.number (act_by (flash_of blocks_of v) d.op) finished log) v.running
     runs slot finished =
-        running_acted v.accounts.plan (slot_entry caller slot ws h.job.number (act_by (flash_of blocks_of v) d.op) finished) log h.job
+        running_acted (over v.accounts.plan start) (slot_entry caller slot ws h.job.number (act_by (flash_of blocks_of v) d.op) finished) log h.job
         (act_by (flash_of blocks_of v) d.op) (flash_of blocks_of v) v.running refl refl
         job.both.0.numbered job.stands h.others h.others.len (λ task apart. refl) (λ collects. absurd (true≢false (sym collects ∙ plain)))
 
-    some_free : is_write d.op ≡ true → 0 < free v.accounts.plan log
+    some_free : is_write d.op ≡ true → 0 < free (over v.accounts.plan start) log
     some_free is =
         let agree = job.both.1.true_accounts.agree in
-        let held = hold_positive v.accounts.plan (accounts v.accounts.plan log) (λ k. acts k log)
-        (lent_to v.accounts.plan (λ k. acts k log) (is_waived log) (jobs log)) (owed log) (free v.accounts.plan log) (jobs log) h.job
+        let held = hold_positive v.accounts.plan (accounts (over v.accounts.plan start) log) (λ k. acts k log)
+        (lent_to v.accounts.plan (λ k. acts k log) (is_waived log) (jobs log)) (owed log) (free (over v.accounts.plan start) log) (jobs log) h.job
         d.op agree job.limits.task job.own_at d.next is in
         omega (
           arith,
           held,
-          one_le_sum (accounts v.accounts.plan log).holds h.job.task (omega (arith, job.limits.task, agree.holds_len)),
+          one_le_sum (accounts (over v.accounts.plan start) log).holds h.job.task (omega (arith, job.limits.task, agree.holds_len)),
           agree.owed_is,
-          owed_fits v.accounts.plan (accounts v.accounts.plan log) (held_of (λ k. acts k log) (jobs log))
-              (lent_to v.accounts.plan (λ k. acts k log) (is_waived log) (jobs log)) (owed log) (free v.accounts.plan log) agree,
+          owed_fits (over v.accounts.plan start) (accounts (over v.accounts.plan start) log) (held_of (λ k. acts k log) (jobs log))
+              (lent_to v.accounts.plan (λ k. acts k log) (is_waived log) (jobs log)) (owed log) (free (over v.accounts.plan start) log) agree,
         )
 
 -- The head's turn
 
-took_turn : {N : Type 0} (blocks_of : N → List device.Block) (log : Log) (present caller : ℕ) (ws : List Waived) (t : Table) (n : ℕ)
-    (v w : State N) (turn : Turn) → (h : HasTurn v.accounts.plan log present ws t (flash_of blocks_of v) n)
-    → DidTurn blocks_of v (record_with v.accounts.plan log (waived log ++ ws) h.job) turn w → IsTaken blocks_of log caller ws h.job v w turn
-took_turn blocks_of log present caller ws t n v w turn h d = by_kind h.job.collects refl d
+took_turn : (start : Start) {N : Type 0} (blocks_of : N → List device.Block) (log : Log) (present caller : ℕ) (ws : List Waived) (t : Table) (n : ℕ)
+    (v w : State N) (turn : Turn) → (h : HasTurn (over v.accounts.plan start) log present ws t (flash_of blocks_of v) n)
+    → DidTurn blocks_of v (record_with (over v.accounts.plan start) log (waived log ++ ws) h.job) turn w → IsTaken start blocks_of log caller ws h.job v w turn
+took_turn start blocks_of log present caller ws t n v w turn h d = by_kind h.job.collects refl d
   where
-    job : IsHeadJob v.accounts.plan log ws t n h.job
-    job = turn_job v.accounts.plan log present ws t (flash_of blocks_of v) n h
+    job : IsHeadJob (over v.accounts.plan start) log ws t n h.job
+    job = turn_job (over v.accounts.plan start) log present ws t (flash_of blocks_of v) n h
 
-    by_kind : (b : Bool) → h.job.collects ≡ b → DidBy blocks_of v (record_with v.accounts.plan log (waived log ++ ws) h.job) b turn w
-        → IsTaken blocks_of log caller ws h.job v w turn
-    by_kind false plain k = took_op blocks_of log present caller ws t n v w turn h plain k
+    by_kind : (b : Bool) → h.job.collects ≡ b → DidBy blocks_of v (record_with (over v.accounts.plan start) log (waived log ++ ws) h.job) b turn w
+        → IsTaken start blocks_of log caller ws h.job v w turn
+    by_kind false plain k = took_op start blocks_of log present caller ws t n v w turn h plain k
     by_kind true collects k =
         let c = h.runs collects in
         let same : c.0 ≡ k.collection = same_Some c.0 k.collection (sym c.1.runs ∙ k.runs) in
-        rw k.turn_is (took blocks_of log caller ws h.job v w k.collection k.did (subst (IsCollector blocks_of log ws h.job v) same (record {
-          bound = h.slot.bound;
+        rw k.turn_is (took start blocks_of log caller ws h.job v w k.collection k.did (subst (IsCollector start blocks_of log ws h.job v) same (record {
+          bound = h.slot.bound.bound;
           both = job.both;
           stands = job.stands;
           at = job.own_at;
@@ -306,15 +309,15 @@ turn_change t n turn completion = by_last turn.last
         (changed_twice t.jobs n (λ r. after_read turn.act (jobs_table.carried r)) (with_stage (Done completion turn.given)))
     by_last false = refl
 
-turned_is : {N : Type 0} (blocks_of : N → List device.Block) (log : Log) (present caller : ℕ) (ws : List Waived) (t : Table) (n : ℕ)
-    (v w : State N) (turn : Turn) → (h : HasTurn v.accounts.plan log present ws t (flash_of blocks_of v) n)
-    → IsTaken blocks_of log caller ws h.job v w turn
-    → turned turn (present + 1) (record_with v.accounts.plan log (waived log ++ ws) h.job)
-    ≡ acted_record v.accounts.plan log caller ws h.job turn.act turn.last
-turned_is blocks_of log present caller ws t n v w turn h k = by_last turn.last refl
+turned_is : (start : Start) {N : Type 0} (blocks_of : N → List device.Block) (log : Log) (present caller : ℕ) (ws : List Waived) (t : Table) (n : ℕ)
+    (v w : State N) (turn : Turn) → (h : HasTurn (over v.accounts.plan start) log present ws t (flash_of blocks_of v) n)
+    → IsTaken start blocks_of log caller ws h.job v w turn
+    → turned turn (present + 1) (record_with (over v.accounts.plan start) log (waived log ++ ws) h.job)
+    ≡ acted_record (over v.accounts.plan start) log caller ws h.job turn.act turn.last
+turned_is start blocks_of log present caller ws t n v w turn h k = by_last turn.last refl
   where
-    job : IsHeadJob v.accounts.plan log ws t n h.job
-    job = turn_job v.accounts.plan log present ws t (flash_of blocks_of v) n h
+    job : IsHeadJob (over v.accounts.plan start) log ws t n h.job
+    job = turn_job (over v.accounts.plan start) log present ws t (flash_of blocks_of v) n h
 
     unwaived : is_among h.job.number (waived log ++ ws) ≡ false
     unwaived = among_both h.job.number (waived log) ws ∙ or_both (is_among h.job.number (waived log)) (is_among h.job.number ws) past
@@ -327,113 +330,114 @@ turned_is blocks_of log present caller ws t n v w turn h k = by_last turn.last r
     none : waiver_among h.job.number (waived log ++ ws) ≡ None
     none = none_among (waiver_among h.job.number (waived log ++ ws)) (waiver_is h.job.number (waived log ++ ws) ∙ unwaived)
 
-    stage_is : (record_with v.accounts.plan log (waived log ++ ws) h.job).stage ≡ Pending
-    stage_is = stage_pending (record_with v.accounts.plan log (waived log ++ ws) h.job).stage
-        (pending_is v.accounts.plan log (waived log ++ ws) h.job ∙ rw job.undone (rw unwaived refl))
+    stage_is : (record_with (over v.accounts.plan start) log (waived log ++ ws) h.job).stage ≡ Pending
+    stage_is = stage_pending (record_with (over v.accounts.plan start) log (waived log ++ ws) h.job).stage
+        (pending_is (over v.accounts.plan start) log (waived log ++ ws) h.job ∙ rw job.undone (rw unwaived refl))
 
     moved : JobRecord
-    moved = after_read turn.act (jobs_table.carried (record_with v.accounts.plan log (waived log ++ ws) h.job))
+    moved = after_read turn.act (jobs_table.carried (record_with (over v.accounts.plan start) log (waived log ++ ws) h.job))
 
     by_last : (b : Bool) → turn.last ≡ b
         → (if b then with_stage (Done (present + 1) turn.given) moved else moved)
-        ≡ acted_record v.accounts.plan log caller ws h.job turn.act b
+        ≡ acted_record (over v.accounts.plan start) log caller ws h.job turn.act b
     by_last true e =
         ap (λ (m : ℕ). with_stage (Done (m + 1) turn.given) moved) h.slot.now_is
         ∙ (ap (λ (g : ℕ). with_stage (Done (now log + 1) g) moved) (k.given_is e)
-        ∙ sym (acted_is v.accounts.plan log caller ws h.job turn.act true job.own_at none (k.last_is ∙ e)))
+        ∙ sym (acted_is (over v.accounts.plan start) log caller ws h.job turn.act true job.own_at none (k.last_is ∙ e)))
     by_last false e =
-        sym (same_stage turn.act (record_with v.accounts.plan log (waived log ++ ws) h.job) stage_is)
-        ∙ sym (acted_is v.accounts.plan log caller ws h.job turn.act false job.own_at none (k.last_is ∙ e))
+        sym (same_stage turn.act (record_with (over v.accounts.plan start) log (waived log ++ ws) h.job) stage_is)
+        ∙ sym (acted_is (over v.accounts.plan start) log caller ws h.job turn.act false job.own_at none (k.last_is ∙ e))
 
 abbrev pub turn_reply : ℕ → List Waived → ℕ → Turn → SlotReply
 turn_reply slot ws n turn = record { slot = slot; waived = ws; ran = Some (n, turn.act); finished = if turn.last then Some n else None }
 
-slot_acts : {N : Type 0} (blocks_of : N → List device.Block) (log : Log) (present caller : ℕ) (ws : List Waived) (t : Table) (n : ℕ)
+slot_acts : (start : Start) {N : Type 0} (blocks_of : N → List device.Block) (log : Log) (present caller : ℕ) (ws : List Waived) (t : Table) (n : ℕ)
     (v w : State N) (turn : Turn)
-    → (h : HasTurn v.accounts.plan log present ws t (flash_of blocks_of v) n) → IsTaken blocks_of log caller ws h.job v w turn
-    → Keeps v.accounts.plan (with_entry caller events.Slot (replies.Slot (turn_reply (now log) ws h.job.number turn)) log) (present + 1)
+    → (h : HasTurn (over v.accounts.plan start) log present ws t (flash_of blocks_of v) n) → IsTaken start blocks_of log caller ws h.job v w turn
+    → Keeps (over v.accounts.plan start) (with_entry caller events.Slot (replies.Slot (turn_reply (now log) ws h.job.number turn)) log) (present + 1)
     (with_change t h.job.number (turned turn (present + 1))) false (flash_of blocks_of w)
-    × (accepted v.accounts.plan log events.Slot ≡ replies.Slot (turn_reply (now log) ws h.job.number turn))
-slot_acts blocks_of log present caller ws t n v w turn h k = (kept, replied)
+    × (accepted (over v.accounts.plan start) log events.Slot ≡ replies.Slot (turn_reply (now log) ws h.job.number turn))
+slot_acts start blocks_of log present caller ws t n v w turn h k = (kept, replied)
   where
     plan : DiePlan
     plan = v.accounts.plan
 
-    job : IsHeadJob v.accounts.plan log ws t n h.job
-    job = turn_job v.accounts.plan log present ws t (flash_of blocks_of v) n h
+    job : IsHeadJob (over v.accounts.plan start) log ws t n h.job
+    job = turn_job (over v.accounts.plan start) log present ws t (flash_of blocks_of v) n h
 
-    chosen : choice v.accounts.plan log ≡ record { waived = ws; head = Some h.job }
-    chosen = begins v.accounts.plan log ws v.accounts h.job h.goes_on job.least_is h.unwaivable
+    chosen : choice (over v.accounts.plan start) log ≡ record { waived = ws; head = Some h.job }
+    chosen = begins (over v.accounts.plan start) log ws v.accounts h.job h.goes_on job.least_is h.unwaivable
 
-    replied : accepted v.accounts.plan log events.Slot ≡ replies.Slot (turn_reply (now log) ws h.job.number turn)
+    replied : accepted (over v.accounts.plan start) log events.Slot ≡ replies.Slot (turn_reply (now log) ws h.job.number turn)
     replied =
-        ap (λ (c : Choice). replies.Slot (slot_reply v.accounts.plan log c.waived c.head)) chosen
+        ap (λ (c : Choice). replies.Slot (slot_reply (over v.accounts.plan start) log c.waived c.head)) chosen
         ∙ (ap (λ (o : Option Act). replies.Slot (reply_with v.accounts.plan log ws h.job o)) k.act_is
         ∙ ap (λ (b : Bool). replies.Slot (acted_reply log ws h.job.number turn.act b)) k.last_is)
 
-    kept : Keeps v.accounts.plan (with_entry caller events.Slot (replies.Slot (turn_reply (now log) ws h.job.number turn)) log)
+    kept : Keeps (over v.accounts.plan start) (with_entry caller events.Slot (replies.Slot (turn_reply (now log) ws h.job.number turn)) log)
         (present + 1) (with_change t h.job.number (turned turn (present + 1))) false (flash_of blocks_of w)
     kept = record {
       exact = (
         h.slot.exact,
-        sym (accepted_answer v.accounts.plan log events.Slot (unrefused v.accounts.plan log present h.slot) ∙ replied),
+        sym (accepted_answer (over v.accounts.plan start) log events.Slot (unrefused (over v.accounts.plan start) log present h.slot) ∙ replied),
         tt,
       );
       bound = h.slot.bound;
+      left = h.slot.left;
       now_is = ap (λ m. m + 1) h.slot.now_is ∙ sym (length_push (carried log) (Some (h.job.number, turn.act)));
       tasks_are = h.table.tasks_are;
       clock_by = omega (arith, h.table.clock_is, h.slot.now_is);
       ended_is = h.table.running;
       jobs_are = ap (λ (js : List JobRecord). changed_at js h.job.number (turned turn (present + 1))) h.table.jobs_are
-          ∙ records-act v.accounts.plan log caller ws h.job turn.act turn.last (turned turn (present + 1)) job.both.0.numbered job.own_at
-          (turned_is blocks_of log present caller ws t n v w turn h k);
+          ∙ records-act (over v.accounts.plan start) log caller ws h.job turn.act turn.last (turned turn (present + 1)) job.both.0.numbered job.own_at
+          (turned_is start blocks_of log present caller ws t n v w turn h k);
       flash = λ alive. k.flash (now log) (if turn.last then Some h.job.number else None);
     }
 
-pub turn_kept : {N : Type 0} (blocks_of : N → List device.Block) (log later : Log) (present caller : ℕ) (ws : List Waived) (t x : Table)
+pub turn_kept : (start : Start) {N : Type 0} (blocks_of : N → List device.Block) (log later : Log) (present caller : ℕ) (ws : List Waived) (t x : Table)
     (n : ℕ) (v w : State N) (r : JobRecord) (turn : Turn) (reply : SlotReply)
-    → HasTurn v.accounts.plan log present ws t (flash_of blocks_of v) n → slice_get t.jobs n ≡ Some r → DidTurn blocks_of v r turn w
+    → HasTurn (over v.accounts.plan start) log present ws t (flash_of blocks_of v) n → slice_get t.jobs n ≡ Some r → DidTurn blocks_of v r turn w
     → w.accounts.plan ≡ v.accounts.plan → w.failed ≡ false
     → x ≡ after_turn t n turn (present + 1) → reply ≡ turn_reply present ws n turn → later
     ≡ with_entry caller events.Slot (replies.Slot reply) log
-    → Keeps w.accounts.plan later (present + 1) x w.failed (flash_of blocks_of w)
-    × (answer v.accounts.plan log events.Slot ≡ replies.Slot reply)
-turn_kept blocks_of log later present caller ws t x n v w r turn reply h at did plan_is well table_after reply_is later_is = (
-  subst (λ (p : DiePlan). Keeps p later (present + 1) x w.failed (flash_of blocks_of w)) (sym plan_is)
+    → Keeps (over w.accounts.plan start) later (present + 1) x w.failed (flash_of blocks_of w)
+    × (answer (over v.accounts.plan start) log events.Slot ≡ replies.Slot reply)
+turn_kept start blocks_of log later present caller ws t x n v w r turn reply h at did plan_is well table_after reply_is later_is = (
+  subst (λ (p : DiePlan). Keeps (over p start) later (present + 1) x w.failed (flash_of blocks_of w)) (sym plan_is)
       (rw later_is (rw reply_is (rw well (rw (table_after ∙ turn_change t n turn (present + 1))
-      (subst (λ (m : ℕ). Keeps v.accounts.plan (with_entry caller events.Slot (replies.Slot (turn_reply m ws n turn)) log) (present + 1)
+      (subst (λ (m : ℕ). Keeps (over v.accounts.plan start) (with_entry caller events.Slot (replies.Slot (turn_reply m ws n turn)) log) (present + 1)
       (with_change t n (turned turn (present + 1))) false (flash_of blocks_of w)) (sym h.slot.now_is)
-      (subst (λ (m : ℕ). Keeps v.accounts.plan (with_entry caller events.Slot (replies.Slot (turn_reply (now log) ws m turn)) log)
+      (subst (λ (m : ℕ). Keeps (over v.accounts.plan start) (with_entry caller events.Slot (replies.Slot (turn_reply (now log) ws m turn)) log)
       (present + 1) (with_change t m (turned turn (present + 1))) false (flash_of blocks_of w)) job.number_is done.0)))))),
-  accepted_answer v.accounts.plan log events.Slot (unrefused v.accounts.plan log present h.slot)
+  accepted_answer (over v.accounts.plan start) log events.Slot (unrefused (over v.accounts.plan start) log present h.slot)
       ∙ (done.1 ∙ (ap (λ (m : ℕ). replies.Slot (turn_reply (now log) ws m turn)) job.number_is
       ∙ (ap (λ (m : ℕ). replies.Slot (turn_reply m ws n turn)) (sym h.slot.now_is) ∙ ap replies.Slot (sym reply_is)))),
 )
   where
-    job : IsHeadJob v.accounts.plan log ws t n h.job
-    job = turn_job v.accounts.plan log present ws t (flash_of blocks_of v) n h
+    job : IsHeadJob (over v.accounts.plan start) log ws t n h.job
+    job = turn_job (over v.accounts.plan start) log present ws t (flash_of blocks_of v) n h
 
-    record_is : r ≡ record_with v.accounts.plan log (waived log ++ ws) h.job
-    record_is = same_Some r (record_with v.accounts.plan log (waived log ++ ws) h.job) (sym at ∙ job.record_at)
+    record_is : r ≡ record_with (over v.accounts.plan start) log (waived log ++ ws) h.job
+    record_is = same_Some r (record_with (over v.accounts.plan start) log (waived log ++ ws) h.job) (sym at ∙ job.record_at)
 
-    done : Keeps v.accounts.plan (with_entry caller events.Slot (replies.Slot (turn_reply (now log) ws h.job.number turn)) log)
+    done : Keeps (over v.accounts.plan start) (with_entry caller events.Slot (replies.Slot (turn_reply (now log) ws h.job.number turn)) log)
         (present + 1) (with_change t h.job.number (turned turn (present + 1))) false (flash_of blocks_of w)
-        × (accepted v.accounts.plan log events.Slot ≡ replies.Slot (turn_reply (now log) ws h.job.number turn))
-    done = slot_acts blocks_of log present caller ws t n v w turn h
-        (took_turn blocks_of log present caller ws t n v w turn h (subst (λ (x : JobRecord). DidTurn blocks_of v x turn w) record_is did))
+        × (accepted (over v.accounts.plan start) log events.Slot ≡ replies.Slot (turn_reply (now log) ws h.job.number turn))
+    done = slot_acts start blocks_of log present caller ws t n v w turn h
+        (took_turn start blocks_of log present caller ws t n v w turn h (subst (λ (x : JobRecord). DidTurn blocks_of v x turn w) record_is did))
 
 -- a turn carries a read where the next operation is one
-pub turn_reads : {N : Type 0} (blocks_of : N → List device.Block) (log : Log) (present : ℕ) (ws : List Waived) (t : Table) (n : ℕ)
-    (v w : State N) (r : JobRecord) (turn : Turn) → HasTurn v.accounts.plan log present ws t (flash_of blocks_of v) n → slice_get t.jobs n
+pub turn_reads : (start : Start) {N : Type 0} (blocks_of : N → List device.Block) (log : Log) (present : ℕ) (ws : List Waived) (t : Table) (n : ℕ)
+    (v w : State N) (r : JobRecord) (turn : Turn) → HasTurn (over v.accounts.plan start) log present ws t (flash_of blocks_of v) n → slice_get t.jobs n
     ≡ Some r
     → DidTurn blocks_of v r turn w → reads_next_at t.jobs n ≡ is_read_act turn.act
-turn_reads blocks_of log present ws t n v w r turn h at did = ap reads_next_of at ∙ by_kind r.collects refl did
+turn_reads start blocks_of log present ws t n v w r turn h at did = ap reads_next_of at ∙ by_kind r.collects refl did
   where
-    job : IsHeadJob v.accounts.plan log ws t n h.job
-    job = turn_job v.accounts.plan log present ws t (flash_of blocks_of v) n h
+    job : IsHeadJob (over v.accounts.plan start) log ws t n h.job
+    job = turn_job (over v.accounts.plan start) log present ws t (flash_of blocks_of v) n h
 
-    record_is : r ≡ record_with v.accounts.plan log (waived log ++ ws) h.job
-    record_is = same_Some r (record_with v.accounts.plan log (waived log ++ ws) h.job) (sym at ∙ job.record_at)
+    record_is : r ≡ record_with (over v.accounts.plan start) log (waived log ++ ws) h.job
+    record_is = same_Some r (record_with (over v.accounts.plan start) log (waived log ++ ws) h.job) (sym at ∙ job.record_at)
 
     by_op : (op : Op) → is_read op ≡ is_read_act (act_by (flash_of blocks_of v) op)
     by_op (asks.Read page) = refl
@@ -460,22 +464,22 @@ turn_reads blocks_of log present ws t n v w r turn h at did = ap reads_next_of a
 -- A fault
 
 -- the waivers of a slot are all waived
-pub all_waived : (plan : DiePlan) (log : Log) (present : ℕ) (ws : List Waived) (t : Table) (f : FlashState) (n : ℕ)
-    → HasTurn plan log present ws t f n → AreWaived t.jobs ws
-all_waived plan log present ws t f n h = subst (λ (js : List JobRecord). AreWaived js ws) (sym h.table.were)
-    (AreWaived-waived_in (records plan log) ws h.table.were_pending)
+pub all_waived : (start : Start) (log : Log) (present : ℕ) (ws : List Waived) (t : Table) (f : FlashState) (n : ℕ)
+    → HasTurn start log present ws t f n → AreWaived t.jobs ws
+all_waived start log present ws t f n h = subst (λ (js : List JobRecord). AreWaived js ws) (sym h.table.were)
+    (AreWaived-waived_in (records start log) ws h.table.were_pending)
 
 -- What a slot is refused with
 
 at_clock : (m n : ℕ) → m ≤ n → nat_le m n ≡ true
 at_clock m n h = grind (arith, nat_tests)
 
-pub slot_refused : (plan : DiePlan) (log : Log) (present : ℕ) → present ≡ now log → MAX_SLOT ≤ present → answer plan log events.Slot
+pub slot_refused : (start : Start) (log : Log) (present : ℕ) → present ≡ now log → MAX_SLOT ≤ present → answer start log events.Slot
     ≡ replies.Refused ClockEnd
-slot_refused plan log present is past = refused_answer plan log events.Slot ClockEnd
+slot_refused start log present is past = refused_answer start log events.Slot ClockEnd
     (rw (at_clock MAX_SLOT (now log) (subst (λ (n : ℕ). MAX_SLOT ≤ n) is past)) refl)
 
-pub slot_accepts : (plan : DiePlan) (log : Log) (present : ℕ) → present ≡ now log → present < MAX_SLOT
-    → IsAccepted (answer plan log events.Slot)
-slot_accepts plan log present is few = subst IsAccepted (sym
-    (accepted_answer plan log events.Slot (slot_unrefused plan log present is few))) tt
+pub slot_accepts : (start : Start) (log : Log) (present : ℕ) → present ≡ now log → present < MAX_SLOT
+    → IsAccepted (answer start log events.Slot)
+slot_accepts start log present is few = subst IsAccepted (sym
+    (accepted_answer start log events.Slot (slot_unrefused start log present is few))) tt

@@ -31,6 +31,7 @@ use Rattle.slot_core.specs.Device.{flash_of}
 use Rattle.slot_core.specs.Records.{records}
 use Rattle.slot_core.specs.Told.{log_of, Holds}
 use Rattle.slot_core.proofs.Keeping.{collect_kept}
+use Rattle.die_log.specs.Start.{Start, over}
 
 abbrev job_by : ℕ → Bool → ℕ → ℕ → ℕ → List Op → Job
 job_by number collects task release due ops = record {
@@ -77,16 +78,16 @@ all_told js (s ∷ past) fits =
     )
 
 -- a die has room for one more event's number
-pub few_told : (plan : DiePlan) (js : List JobRecord) (notes : List Note) → IsExact plan (entries_of js notes) → AllFit js notes
+pub few_told : (start : Start) (js : List JobRecord) (notes : List Note) → IsExact start (entries_of js notes) → AllFit js notes
     → length notes + 1 < 2 ^ 32
-few_told plan js notes exact fits =
-    let limits = keeps_limits plan (entries_of js notes) exact in
+few_told start js notes exact fits =
+    let limits = keeps_limits start (entries_of js notes) exact in
     omega (arith, limits.slots, limits.few_jobs, all_told js notes fits)
 
 -- as a slot finds it
-pub few_of : (plan : DiePlan) (js : List JobRecord) (notes : List Note) (log : Log) → entries_of js notes ≡ log → IsExact plan log
+pub few_of : (start : Start) (js : List JobRecord) (notes : List Note) (log : Log) → entries_of js notes ≡ log → IsExact start log
     → AllFit js notes → length notes + 1 < 2 ^ 32
-few_of plan js notes log told exact fits = few_told plan js notes (subst (IsExact plan) (sym told) exact) fits
+few_of start js notes log told exact fits = few_told start js notes (subst (IsExact start) (sym told) exact) fits
 
 slot_more : (js : List JobRecord) (slot : ℕ) (ws : List Waived) (d : Deed) (cs : List Carried)
     → length (with_slot (reply_of js slot ws d) cs) ≡ slots_of d + length cs
@@ -173,25 +174,25 @@ pub submit_tells : (t u : Table) (before after : List Note) (caller n task relea
 submit_tells t u before after caller n task release due ops table_is is logged fits = rw (table_is, logged)
     (submit_told t.jobs before caller n task release due ops is fits)
 
-pub collect_enters : {N : Type 0} (blocks_of : N → List device.Block) (before after : List Note) (present caller task release due : ℕ)
+pub collect_enters : (start : Start) {N : Type 0} (blocks_of : N → List device.Block) (before after : List Note) (present caller task release due : ℕ)
     (t u : Table) (v : State N) (r : Result ℕ Refusal)
-    → Holds v.accounts.plan present t before v.failed (flash_of blocks_of v) → v.failed ≡ false
-    → refusal_of v.accounts.plan (log_of t before) (events.Collect task release due) ≡ None
+    → Holds (over v.accounts.plan start) present t before v.failed (flash_of blocks_of v) → v.failed ≡ false
+    → refusal_of (over v.accounts.plan start) (log_of t before) (events.Collect task release due) ≡ None
     → OnOk r (u ≡ with_job t (new_collection task release due)) → IfOk r (λ number. number ≡ length t.jobs)
     → IfOk r (λ number. after ≡ record { caller = caller; deed = Collect number; waived = [] } ∷ before)
     → OnErr r (u ≡ t) → OnErr r (after ≡ before)
-    → Holds v.accounts.plan present u after v.failed (flash_of blocks_of v)
-collect_enters blocks_of before after present caller task release due t u v (Ok number) holds alive none table_is number_is logged
+    → Holds (over v.accounts.plan start) present u after v.failed (flash_of blocks_of v)
+collect_enters start blocks_of before after present caller task release due t u v (Ok number) holds alive none table_is number_is logged
     table_stays log_stays =
     let tells : (log_of u after ≡ with_entry caller (events.Collect task release due) (replies.Taken number) (log_of t before))
     × AllFit u.jobs after =
     rw (table_is, logged) (collect_told t.jobs before caller number task release due number_is holds.fits) in
     record {
-      kept = collect_kept blocks_of (log_of t before) (log_of u after) present caller number task release due t u v holds.kept alive none
+      kept = collect_kept start blocks_of (log_of t before) (log_of u after) present caller number task release due t u v holds.kept alive none
           number_is table_is tells.0;
       fits = tells.1;
     }
-collect_enters blocks_of before after present caller task release due t u v (Err refusal) holds alive none table_is number_is logged
+collect_enters start blocks_of before after present caller task release due t u v (Err refusal) holds alive none table_is number_is logged
     table_stays log_stays = rw (table_stays, log_stays) holds
 
 pub collect_logged : (t u : Table) (before after : List Note) (caller task release due : ℕ) (r : Result ℕ Refusal) → AllFit t.jobs before
@@ -212,9 +213,9 @@ grew_waived js (w ∷ ws) =
     (grew_waived (after_waiver js w) ws)
 
 -- so the jobs grew, where collections were waived in a slot
-pub slot_grew : (plan same : DiePlan) (log : Log) (js later : List JobRecord) (ws : List Waived) → same ≡ plan → js ≡ records plan log
-    → later ≡ waived_in (records same log) ws → Grew js later
-slot_grew plan same log js later ws plan_is jobs_are were = rw (were, plan_is, jobs_are) (grew_waived (records plan log) ws)
+pub slot_grew : (start : Start) (plan same : DiePlan) (log : Log) (js later : List JobRecord) (ws : List Waived) → same ≡ plan → js ≡ records (over plan start) log
+    → later ≡ waived_in (records (over same start) log) ws → Grew js later
+slot_grew start plan same log js later ws plan_is jobs_are were = rw (were, plan_is, jobs_are) (grew_waived (records (over plan start) log) ws)
 
 pub idle_told : (js later : List JobRecord) (notes : List Note) (log : Log) (caller present : ℕ) (ws : List Waived) → entries_of js notes
     ≡ log → AllFit js notes → Grew js later → present ≡ now log

@@ -34,36 +34,38 @@ use Rattle.slot_core.specs.Turns.{OpFits, RunFits, HeadFits}
 use Rattle.slot_core.proofs.Flashing.{counted}
 use Rattle.slot_core.proofs.Heading.{slice_get-mapped, ready_is, stays, table_at, head_least}
 use Rattle.slot_core.proofs.Serving.{contents_len, hold_positive}
+use Rattle.die_log.specs.Start.{Start, over}
+use Rattle.die_log.specs.Opening.{IsOpening}
 
 -- The head in the log
 
 -- the head of a table, within a slot that waived these, is this job or collection of the log
-pub record IsHeadJob (plan : DiePlan) (log : Log) (ws : List Waived) (t : Table) (n : ℕ) (j : Job) : Type 0 where
-  pub both : StandsWell plan log
+pub record IsHeadJob (start : Start) (log : Log) (ws : List Waived) (t : Table) (n : ℕ) (j : Job) : Type 0 where
+  pub both : StandsWell start log
   pub number_is : j.number ≡ n
   pub at : job_at log n ≡ Some j
   pub own_at : job_at log j.number ≡ Some j
   pub stands : Contains (jobs log) j
-  pub record_at : slice_get t.jobs n ≡ Some (record_with plan log (waived log ++ ws) j)
-  pub ready_now : is_ready plan log j ≡ true
+  pub record_at : slice_get t.jobs n ≡ Some (record_with start log (waived log ++ ws) j)
+  pub ready_now : is_ready start.plan log j ≡ true
   pub unwaived_now : is_among j.number ws ≡ false
-  pub undone : is_done plan log j ≡ false
-  pub limits : IsWithinLimits plan j
-  pub pending_if : j.collects ≡ true → is_pending plan (λ k. acts k log) (is_waived log) j ≡ true
-  pub least_is : least (unwaived ws (ready plan log)) ≡ Some j
+  pub undone : is_done start.plan log j ≡ false
+  pub limits : IsWithinLimits start.plan j
+  pub pending_if : j.collects ≡ true → is_pending start.plan (λ k. acts k log) (is_waived log) j ≡ true
+  pub least_is : least (unwaived ws (ready start.plan log)) ≡ Some j
 
 same_table : (t u : Table) → t.tasks ≡ u.tasks → t.clock ≡ u.clock → t.ended ≡ u.ended → t.jobs ≡ u.jobs → t ≡ u
 same_table t u a b c d = rw a (rw b (rw c (rw d refl)))
 
 -- the table within a slot is read off the log
-pub table_is : (plan : DiePlan) (log : Log) (ws : List Waived) (t : Table) → IsWaivedTable plan log ws t → t
-    ≡ table_at (length plan.caps) false plan log ws
-table_is plan log ws t w = same_table t (table_at (length plan.caps) false plan log ws) w.tasks_are w.clock_is w.running w.jobs_are
+pub table_is : (start : Start) (log : Log) (ws : List Waived) (t : Table) → IsWaivedTable start log ws t → t
+    ≡ table_at (length start.plan.caps) false start log ws
+table_is start log ws t w = same_table t (table_at (length start.plan.caps) false start log ws) w.tasks_are w.clock_is w.running w.jobs_are
 
-head_job_by : (plan : DiePlan) (log : Log) (present : ℕ) (ws : List Waived) (t : Table) (n : ℕ) (j : Job) → IsSlot plan log present
-    → IsWaivedTable plan log ws t → (h : table.IsHead t n)
-    → slice_get (jobs log) n ≡ Some j → record_with plan log (waived log ++ ws) j ≡ h.head → IsHeadJob plan log ws t n j
-head_job_by plan log present ws t n j s w h at record_is = record {
+head_job_by : (start : Start) (log : Log) (present : ℕ) (ws : List Waived) (t : Table) (n : ℕ) (j : Job) → IsSlot start log present
+    → IsWaivedTable start log ws t → (h : table.IsHead t n)
+    → slice_get (jobs log) n ≡ Some j → record_with start log (waived log ++ ws) j ≡ h.head → IsHeadJob start log ws t n j
+head_job_by start log present ws t n j s w h at record_is = record {
   both = both;
   number_is = number_is;
   at = at;
@@ -72,45 +74,45 @@ head_job_by plan log present ws t n j s w h at record_is = record {
   record_at = h.is_at ∙ ap Some (sym record_is);
   ready_now = parts.0;
   unwaived_now = not_true (is_among j.number ws) parts.1;
-  undone = waiting_undone plan log j parts.0;
-  limits = (keeps_limits plan log s.exact).each j stands;
-  pending_if = λ collects. is_pending_if plan log j parts.0 collects;
-  least_is = head_least plan log ws (length plan.caps) n false j both.0.numbered at
-      (subst (λ (u : Table). table.IsHead u n) (table_is plan log ws t w) h);
+  undone = waiting_undone start.plan log j parts.0;
+  limits = (keeps_limits start log s.exact).each j stands;
+  pending_if = λ collects. is_pending_if start.plan log j parts.0 collects;
+  least_is = head_least start log ws (length start.plan.caps) n false j both.0.numbered at
+      (subst (λ (u : Table). table.IsHead u n) (table_is start log ws t w) h);
 }
   where
-    both : StandsWell plan log
-    both = stands_well plan s.bound log s.exact
+    both : StandsWell start log
+    both = stands_well start s.bound log s.exact
 
     number_is : j.number ≡ n
-    number_is = omega (arith, number_at 0 (jobs log) n j (stands_well plan s.bound log s.exact).0.numbered at)
+    number_is = omega (arith, number_at 0 (jobs log) n j (stands_well start s.bound log s.exact).0.numbered at)
 
     stands : Contains (jobs log) j
     stands = contained (jobs log) n j at
 
-    stayed : stays plan log ws j ≡ true
-    stayed = sym (ready_is plan log ws j) ∙ (ap (table.is_ready (now log)) record_is
+    stayed : stays start.plan log ws j ≡ true
+    stayed = sym (ready_is start log ws j) ∙ (ap (table.is_ready (now log)) record_is
         ∙ subst (λ (k : ℕ). table.is_ready k h.head ≡ true) w.clock_is h.ready)
 
-    parts : (is_ready plan log j ≡ true) × (not (is_among j.number ws) ≡ true)
-    parts = and_parts (is_ready plan log j) (not (is_among j.number ws)) stayed
+    parts : (is_ready start.plan log j ≡ true) × (not (is_among j.number ws) ≡ true)
+    parts = and_parts (is_ready start.plan log j) (not (is_among j.number ws)) stayed
 
     not_true : (b : Bool) → not b ≡ true → b ≡ false
     not_true true e = absurd (true≢false (sym e))
     not_true false e = refl
 
-pub head_job : (plan : DiePlan) (log : Log) (present : ℕ) (ws : List Waived) (t : Table) (n : ℕ) → IsSlot plan log present
-    → IsWaivedTable plan log ws t → table.IsHead t n → (j : Job) × IsHeadJob plan log ws t n j
-head_job plan log present ws t n s w h =
-    let found = slice_get-mapped (record_with plan log (waived log ++ ws)) (jobs log) n h.head
+pub head_job : (start : Start) (log : Log) (present : ℕ) (ws : List Waived) (t : Table) (n : ℕ) → IsSlot start log present
+    → IsWaivedTable start log ws t → table.IsHead t n → (j : Job) × IsHeadJob start log ws t n j
+head_job start log present ws t n s w h =
+    let found = slice_get-mapped (record_with start log (waived log ++ ws)) (jobs log) n h.head
     (subst (λ (js : List JobRecord). slice_get js n ≡ Some h.head) w.jobs_are h.is_at) in
-    (found.0, head_job_by plan log present ws t n found.0 s w h found.1 found.2)
+    (found.0, head_job_by start log present ws t n found.0 s w h found.1 found.2)
 
-pub turn_job : (plan : DiePlan) (log : Log) (present : ℕ) (ws : List Waived) (t : Table) (f : FlashState) (n : ℕ)
-    → (h : HasTurn plan log present ws t f n) → IsHeadJob plan log ws t n h.job
-turn_job plan log present ws t f n h =
-    let found = head_job plan log present ws t n h.slot h.table h.head in
-    subst (IsHeadJob plan log ws t n) (same_Some found.0 h.job (sym found.1.at ∙ h.at)) found.1
+pub turn_job : (start : Start) (log : Log) (present : ℕ) (ws : List Waived) (t : Table) (f : FlashState) (n : ℕ)
+    → (h : HasTurn start log present ws t f n) → IsHeadJob start log ws t n h.job
+turn_job start log present ws t f n h =
+    let found = head_job start log present ws t n h.slot h.table h.head in
+    subst (IsHeadJob start log ws t n) (same_Some found.0 h.job (sym found.1.at ∙ h.at)) found.1
 
 -- What it finds
 
@@ -127,17 +129,18 @@ some_op [] k lt = absurd (omega arith)
 some_op (x ∷ xs) zero lt = (x, refl)
 some_op (x ∷ xs) (suc k) lt = some_op xs k (omega arith)
 
-op_fits : {N : Type 0} (blocks_of : N → List device.Block) (log : Log) (ws : List Waived) (t : Table) (n : ℕ) (j : Job) (v : State N)
-    → IsHeadJob v.accounts.plan log ws t n j → IsWaivedFlash v.accounts.plan log ws (flash_of blocks_of v) → j.collects ≡ false
-    → OpFits v (record_with v.accounts.plan log (waived log ++ ws) j)
-op_fits blocks_of log ws t n j v h flash plain = record {
+op_fits : (start : Start) {N : Type 0} (blocks_of : N → List device.Block) (log : Log) (ws : List Waived) (t : Table) (n : ℕ) (j : Job) (v : State N)
+    → IsOpening (over v.accounts.plan start) → IsHeadJob (over v.accounts.plan start) log ws t n j
+    → IsWaivedFlash (over v.accounts.plan start) log ws (flash_of blocks_of v) → j.collects ≡ false
+    → OpFits v (record_with (over v.accounts.plan start) log (waived log ++ ws) j)
+op_fits start blocks_of log ws t n j v bound h flash plain = record {
   op = next.0;
   next = next.1;
-  page = omega (arith, h.limits.pages next.0 op_in, contents_len v.accounts.plan log, ap length flash.pages_are);
+  page = omega (arith, h.limits.pages next.0 op_in, contents_len (over v.accounts.plan start) bound log, ap length flash.pages_are);
   held = λ is. subst (λ (l : List ℕ). 0 < slice_index l j.task)
-      (sym (ap (λ (a : Accounts). a.holds) flash.accounts_are ∙ holds_stay log ws (accounts v.accounts.plan log)))
-      (hold_positive v.accounts.plan (accounts v.accounts.plan log) (λ k. acts k log)
-      (lent_to v.accounts.plan (λ k. acts k log) (is_waived log) (jobs log)) (owed log) (free v.accounts.plan log) (jobs log) j next.0
+      (sym (ap (λ (a : Accounts). a.holds) flash.accounts_are ∙ holds_stay log ws (accounts (over v.accounts.plan start) log)))
+      (hold_positive v.accounts.plan (accounts (over v.accounts.plan start) log) (λ k. acts k log)
+      (lent_to v.accounts.plan (λ k. acts k log) (is_waived log) (jobs log)) (owed log) (free (over v.accounts.plan start) log) (jobs log) j next.0
       h.both.1.true_accounts.agree
       h.limits.task h.own_at next.1 is);
 }
@@ -153,38 +156,38 @@ op_fits blocks_of log ws t n j v h flash plain = record {
           next.0 next.0 next.1,
     )
 
-run_fits : {N : Type 0} (blocks_of : N → List device.Block) (log : Log) (present : ℕ) (ws : List Waived) (j : Job) (v : State N)
-    (c : Collection) → IsSlot v.accounts.plan log present → IsWaivedFlash v.accounts.plan log ws (flash_of blocks_of v)
-    → RunsHead v.accounts.plan log j (flash_of blocks_of v) c → RunFits blocks_of v (record_with v.accounts.plan log (waived log ++ ws) j)
-run_fits blocks_of log present ws j v c s flash run =
-    let erases : (device.block_at (blocks_of v.device) c.victim).erases ≡ (block_at (cells v.accounts.plan log) c.victim).erases =
+run_fits : (start : Start) {N : Type 0} (blocks_of : N → List device.Block) (log : Log) (present : ℕ) (ws : List Waived) (j : Job) (v : State N)
+    (c : Collection) → IsSlot (over v.accounts.plan start) log present → IsWaivedFlash (over v.accounts.plan start) log ws (flash_of blocks_of v)
+    → RunsHead (over v.accounts.plan start) log j (flash_of blocks_of v) c → RunFits blocks_of v (record_with (over v.accounts.plan start) log (waived log ++ ws) j)
+run_fits start blocks_of log present ws j v c s flash run =
+    let erases : (device.block_at (blocks_of v.device) c.victim).erases ≡ (block_at (cells (over v.accounts.plan start) log) c.victim).erases =
     ap (λ (x : Block). x.erases) (counted (blocks_of v.device) c.victim
     ∙ ap (λ (bs : List Block). slice_index_or bs c.victim free_block) flash.blocks_are) in
     record {
       collection = c;
       runs = run.runs;
       few_erases = omega
-          (arith, erases, (keeps_limits v.accounts.plan log s.exact).erases c.victim, s.few);
+          (arith, erases, (keeps_limits (over v.accounts.plan start) log s.exact).erases c.victim, s.few, s.left c.victim);
     }
 
-pub head_fits : {N : Type 0} (blocks_of : N → List device.Block) (log : Log) (present : ℕ) (ws : List Waived) (t : Table) (n : ℕ)
-    (v : State N) (r : JobRecord) → HasTurn v.accounts.plan log present ws t (flash_of blocks_of v) n → slice_get t.jobs n ≡ Some r
+pub head_fits : (start : Start) {N : Type 0} (blocks_of : N → List device.Block) (log : Log) (present : ℕ) (ws : List Waived) (t : Table) (n : ℕ)
+    (v : State N) (r : JobRecord) → HasTurn (over v.accounts.plan start) log present ws t (flash_of blocks_of v) n → slice_get t.jobs n ≡ Some r
     → HeadFits blocks_of v r
-head_fits blocks_of log present ws t n v r h at = subst (HeadFits blocks_of v)
-    (same_Some (record_with v.accounts.plan log (waived log ++ ws) h.job) r (sym job.record_at ∙ at)) (record {
+head_fits start blocks_of log present ws t n v r h at = subst (HeadFits blocks_of v)
+    (same_Some (record_with (over v.accounts.plan start) log (waived log ++ ws) h.job) r (sym job.record_at ∙ at)) (record {
       task = job.limits.task;
-      op = λ plain. op_fits blocks_of log ws t n h.job v job h.flash plain;
-      run = λ collects. let c = h.runs collects in run_fits blocks_of log present ws h.job v c.0 h.slot h.flash c.1;
+      op = λ plain. op_fits start blocks_of log ws t n h.job v h.slot.bound job h.flash plain;
+      run = λ collects. let c = h.runs collects in run_fits start blocks_of log present ws h.job v c.0 h.slot h.flash c.1;
     })
   where
-    job : IsHeadJob v.accounts.plan log ws t n h.job
-    job = turn_job v.accounts.plan log present ws t (flash_of blocks_of v) n h
+    job : IsHeadJob (over v.accounts.plan start) log ws t n h.job
+    job = turn_job (over v.accounts.plan start) log present ws t (flash_of blocks_of v) n h
 
 -- Its slots so far are among the log's
 
-pub work_fits : (plan : DiePlan) (log : Log) (present : ℕ) (ws : List Waived) (t : Table) (f : FlashState) (n : ℕ)
-    → HasTurn plan log present ws t f n → work_at t.jobs n + 1 < 2 ^ 32
-work_fits plan log present ws t f n h =
-    let job = turn_job plan log present ws t f n h in
+pub work_fits : (start : Start) (log : Log) (present : ℕ) (ws : List Waived) (t : Table) (f : FlashState) (n : ℕ)
+    → HasTurn start log present ws t f n → work_at t.jobs n + 1 < 2 ^ 32
+work_fits start log present ws t f n h =
+    let job = turn_job start log present ws t f n h in
     let work_is : work_at t.jobs n ≡ work h.job.number log = ap work_of job.record_at in
     omega (arith, work_is, few_found (λ (c : Carried). act_of h.job.number c) (carried log), h.slot.few)

@@ -27,6 +27,7 @@ use Rattle.die_log.proofs.Standing.Longer.{contained}
 use Rattle.die_log.proofs.Tokens.Found.{any_found}
 use Rattle.slot_core.specs.Device.{counts_of, AreRunning}
 use Rattle.slot_core.proofs.Flashing.{counted}
+use Rattle.die_log.specs.Start.{Start}
 
 -- The least of a rising list
 
@@ -149,81 +150,81 @@ filter_has t a (suc n) v low high e = by_place (a == v) refl (λ above. filter_h
 
 -- Closed blocks
 
-abbrev is_candidate : DiePlan → Log → ℕ → Bool
-is_candidate plan past b = is_closed plan (block_at (cells plan past) b) && not (is_collected plan past b)
+abbrev is_candidate : Start → Log → ℕ → Bool
+is_candidate start past b = is_closed start.plan (block_at (cells start past) b) && not (is_collected start past b)
 
-filled_is : (plan : DiePlan) (past : Log) (blocks : List device.Block) (b : ℕ) → map counts_of blocks ≡ (cells plan past).blocks
-    → filled_of (device.block_at blocks b) ≡ (block_at (cells plan past) b).filled
-filled_is plan past blocks b are = ap (λ (s : Block). s.filled) (counted blocks b
+filled_is : (start : Start) (past : Log) (blocks : List device.Block) (b : ℕ) → map counts_of blocks ≡ (cells start past).blocks
+    → filled_of (device.block_at blocks b) ≡ (block_at (cells start past) b).filled
+filled_is start past blocks b are = ap (λ (s : Block). s.filled) (counted blocks b
     ∙ ap (λ (bs : List Block). slice_index_or bs b free_block) are)
 
-erases_is : (plan : DiePlan) (past : Log) (blocks : List device.Block) (b : ℕ) → map counts_of blocks ≡ (cells plan past).blocks
-    → (device.block_at blocks b).erases ≡ (block_at (cells plan past) b).erases
-erases_is plan past blocks b are = ap (λ (s : Block). s.erases) (counted blocks b
+pub erases_is : (start : Start) (past : Log) (blocks : List device.Block) (b : ℕ) → map counts_of blocks ≡ (cells start past).blocks
+    → (device.block_at blocks b).erases ≡ (block_at (cells start past) b).erases
+erases_is start past blocks b are = ap (λ (s : Block). s.erases) (counted blocks b
     ∙ ap (λ (bs : List Block). slice_index_or bs b free_block) are)
 
-closed_is : (plan : DiePlan) (past : Log) (blocks : List device.Block) (running : List (Option Collection)) (b : ℕ)
-    → AreSound plan (cells plan past) → map counts_of blocks ≡ (cells plan past).blocks → AreRunning plan past running
-    → b < plan.shape.blocks → is_candidate plan past b ≡ true → IsCandidate plan.shape.pages blocks running b
-closed_is plan past blocks running b sound are r lt e =
-    let parts = and_parts (is_closed plan (block_at (cells plan past) b)) (not (is_collected plan past b)) e in record {
+closed_is : (start : Start) (past : Log) (blocks : List device.Block) (running : List (Option Collection)) (b : ℕ)
+    → AreSound start.plan (cells start past) → map counts_of blocks ≡ (cells start past).blocks → AreRunning start past running
+    → b < start.plan.shape.blocks → is_candidate start past b ≡ true → IsCandidate start.plan.shape.pages blocks running b
+closed_is start past blocks running b sound are r lt e =
+    let parts = and_parts (is_closed start.plan (block_at (cells start past) b)) (not (is_collected start past b)) e in record {
       in_range = omega (arith, lt, sound.blocks, length-map blocks counts_of, ap length are);
-      closed = filled_is plan past blocks b are ∙ eqb-true _ _ parts.0;
+      closed = filled_is start past blocks b are ∙ eqb-true _ _ parts.0;
       alone = λ task c at is.
           let i = r.each task c at in
-          true≢false (sym (runs_collected plan past i.0 b (subst (λ (x : ℕ). Runs plan past i.0 x) is i.1.runs))
-          ∙ not-true (is_collected plan past b) parts.1);
+          true≢false (sym (runs_collected start past i.0 b (subst (λ (x : ℕ). Runs start past i.0 x) is i.1.runs))
+          ∙ not-true (is_collected start past b) parts.1);
     }
 
 -- a block that somebody collects in the log is a victim of the volume
-collected_runs : (plan : DiePlan) (past : Log) (running : List (Option Collection)) (b : ℕ) → AreRunning plan past running
-    → is_collected plan past b ≡ true
+collected_runs : (start : Start) (past : Log) (running : List (Option Collection)) (b : ℕ) → AreRunning start past running
+    → is_collected start past b ≡ true
     → (task : ℕ) × (c : Collection) × (running_of running task ≡ Some c) × (c.victim ≡ b)
-collected_runs plan past running b r e =
-    let f = any_found (λ j. is_running plan past j && is_block b (victim_of plan j.number past)) (jobs past) e in
-    let both = and_parts (is_running plan past f.0) (is_block b (victim_of plan f.0.number past)) f.1.passes in
+collected_runs start past running b r e =
+    let f = any_found (λ j. is_running start.plan past j && is_block b (victim_of start j.number past)) (jobs past) e in
+    let both = and_parts (is_running start.plan past f.0) (is_block b (victim_of start f.0.number past)) f.1.passes in
     let c = r.all f.0 b (record {
       stands = contained (jobs past) f.1.place f.0 f.1.stands;
       running = both.0;
       victim = is_block_says b
-          (victim_of plan f.0.number past) both.1;
+          (victim_of start f.0.number past) both.1;
     }) in
     (f.0.task, c.0, c.1, c.2)
 
-candidate_is : (plan : DiePlan) (past : Log) (blocks : List device.Block) (running : List (Option Collection)) (b : ℕ)
-    → map counts_of blocks ≡ (cells plan past).blocks → AreRunning plan past running
-    → IsCandidate plan.shape.pages blocks running b → is_candidate plan past b ≡ true
-candidate_is plan past blocks running b are r closed =
-    and_from (is_closed plan (block_at (cells plan past) b)) (not (is_collected plan past b))
-    (eq-eqb _ _ (sym (filled_is plan past blocks b are) ∙ closed.closed))
-    (not_from_false (is_collected plan past b) (false_from_ne_true (is_collected plan past b)
-    (λ e. let t = collected_runs plan past running b r e in closed.alone t.0 t.1 t.2 t.3)))
+candidate_is : (start : Start) (past : Log) (blocks : List device.Block) (running : List (Option Collection)) (b : ℕ)
+    → map counts_of blocks ≡ (cells start past).blocks → AreRunning start past running
+    → IsCandidate start.plan.shape.pages blocks running b → is_candidate start past b ≡ true
+candidate_is start past blocks running b are r closed =
+    and_from (is_closed start.plan (block_at (cells start past) b)) (not (is_collected start past b))
+    (eq-eqb _ _ (sym (filled_is start past blocks b are) ∙ closed.closed))
+    (not_from_false (is_collected start past b) (false_from_ne_true (is_collected start past b)
+    (λ e. let t = collected_runs start past running b r e in closed.alone t.0 t.1 t.2 t.3)))
 
 -- the volume's choice is the log's
-pub victim_is : (plan : DiePlan) (past : Log) (blocks : List device.Block) (places : List (Option Place))
-    (running : List (Option Collection)) (b : ℕ) → AreSound plan (cells plan past) → map counts_of blocks ≡ (cells plan past).blocks
-    → places ≡ (cells plan past).places
-    → AreRunning plan past running → IsVictim plan.shape.pages blocks places running b → victim plan past ≡ Some b
-victim_is plan past blocks places running b sound are places_are r v =
-    reduce_least (valid (cells plan past)) (λ (d : ℕ). (block_at (cells plan past) d).erases) b (candidates plan past)
-    (filter_rises (is_candidate plan past) 0 plan.shape.blocks)
-    (filter_all (is_candidate plan past) (NotAfter (valid (cells plan past)) (λ (d : ℕ). (block_at (cells plan past) d).erases) b) 0
-    plan.shape.blocks not_after)
-    (filter_has (is_candidate plan past) 0 plan.shape.blocks b (omega arith)
+pub victim_is : (start : Start) (past : Log) (blocks : List device.Block) (places : List (Option Place))
+    (running : List (Option Collection)) (b : ℕ) → AreSound start.plan (cells start past) → map counts_of blocks ≡ (cells start past).blocks
+    → places ≡ (cells start past).places
+    → AreRunning start past running → IsVictim start.plan.shape.pages blocks places running b → victim start past ≡ Some b
+victim_is start past blocks places running b sound are places_are r v =
+    reduce_least (valid (cells start past)) (λ (d : ℕ). (block_at (cells start past) d).erases) b (candidates start past)
+    (filter_rises (is_candidate start past) 0 start.plan.shape.blocks)
+    (filter_all (is_candidate start past) (NotAfter (valid (cells start past)) (λ (d : ℕ). (block_at (cells start past) d).erases) b) 0
+    start.plan.shape.blocks not_after)
+    (filter_has (is_candidate start past) 0 start.plan.shape.blocks b (omega arith)
     (omega (arith, v.candidate.in_range, sound.blocks, length-map blocks counts_of, ap length are))
-    (candidate_is plan past blocks running b are r v.candidate))
+    (candidate_is start past blocks running b are r v.candidate))
   where
-    count_is : (o : ℕ) → count_by (is_in o) places ≡ valid (cells plan past) o
+    count_is : (o : ℕ) → count_by (is_in o) places ≡ valid (cells start past) o
     count_is o = ap (count_by (is_in o)) places_are
 
-    worn_is : (o : ℕ) → (device.block_at blocks o).erases ≡ (block_at (cells plan past) o).erases
-    worn_is o = erases_is plan past blocks o are
+    worn_is : (o : ℕ) → (device.block_at blocks o).erases ≡ (block_at (cells start past) o).erases
+    worn_is o = erases_is start past blocks o are
 
-    not_after : (o : ℕ) → o < 0 + plan.shape.blocks → is_candidate plan past o ≡ true
-        → NotAfter (valid (cells plan past)) (λ (d : ℕ). (block_at (cells plan past) d).erases) b o
+    not_after : (o : ℕ) → o < 0 + start.plan.shape.blocks → is_candidate start past o ≡ true
+        → NotAfter (valid (cells start past)) (λ (d : ℕ). (block_at (cells start past) d).erases) b o
     not_after o lt e =
-        let closed = closed_is plan past blocks running o sound are r (omega (arith, lt)) e in
-        let as_few : valid (cells plan past) o ≡ valid (cells plan past) b → count_by (is_in o) places
+        let closed = closed_is start past blocks running o sound are r (omega (arith, lt)) e in
+        let as_few : valid (cells start past) o ≡ valid (cells start past) b → count_by (is_in o) places
         ≡ count_by (is_in b) places = (λ same. count_is o ∙ (same ∙ sym (count_is b))) in
         record {
           least = omega (arith, v.fewest o closed, count_is b, count_is o);

@@ -22,6 +22,8 @@ use Rattle.die_log.proofs.Legal.Exact.{stands_well}
 use Rattle.die_log.proofs.Tokens.Begins.{is_pending_if}
 use Rattle.slot_core.specs.Slotted.{unwaived, GoesOn}
 use Rattle.slot_core.proofs.Choosing.{waiver_of, waives}
+use Rattle.die_log.specs.Start.{Start}
+use Rattle.die_log.specs.Opening.{IsOpening}
 
 -- As many waivers as collections
 
@@ -184,42 +186,42 @@ all_tasks plan [] h = tt
 all_tasks plan (x ∷ xs) h = (h.0.task, all_tasks plan xs h.1)
 
 -- at most one collection a task is neither done nor waived
-pub few_pending : (plan : DiePlan) (log : Log) → MeetsBound plan → IsExact plan log
-    → length (tasks_of (is_pending plan (λ n. acts n log) (is_waived log)) (jobs log)) ≤ length plan.caps
-few_pending plan log bound exact =
-    length-le_from_distinct_below (tasks_of (is_pending plan (λ n. acts n log) (is_waived log)) (jobs log)) (length plan.caps)
-    (distinct_tasks (is_pending plan (λ n. acts n log) (is_waived log)) (jobs log) true_accounts.one_each)
-    (tasks_below (length plan.caps) (is_pending plan (λ n. acts n log) (is_waived log)) (jobs log)
-    (all_tasks plan (jobs log) true_accounts.taken))
+pub few_pending : (start : Start) (log : Log) → IsOpening start → IsExact start log
+    → length (tasks_of (is_pending start.plan (λ n. acts n log) (is_waived log)) (jobs log)) ≤ length start.plan.caps
+few_pending start log bound exact =
+    length-le_from_distinct_below (tasks_of (is_pending start.plan (λ n. acts n log) (is_waived log)) (jobs log)) (length start.plan.caps)
+    (distinct_tasks (is_pending start.plan (λ n. acts n log) (is_waived log)) (jobs log) true_accounts.one_each)
+    (tasks_below (length start.plan.caps) (is_pending start.plan (λ n. acts n log) (is_waived log)) (jobs log)
+    (all_tasks start.plan (jobs log) true_accounts.taken))
   where
-    true_accounts : AreTrue plan log
-    true_accounts = (stands_well plan bound log exact).1.true_accounts
+    true_accounts : AreTrue start log
+    true_accounts = (stands_well start bound log exact).1.true_accounts
 
 -- a slot waives at most one collection a task
-pub few_waivers : (plan : DiePlan) (log : Log) → MeetsBound plan → IsExact plan log → length (choice plan log).waived ≤ length plan.caps
-few_waivers plan log bound exact =
+pub few_waivers : (start : Start) (log : Log) → IsOpening start → IsExact start log → length (choice start log).waived ≤ length start.plan.caps
+few_waivers start log bound exact =
     omega (
       arith,
-      few_among plan log (length (ready plan log)) (accounts plan log) (ready plan log),
-      count_pending (is_pending plan (λ n. acts n log) (is_waived log)) (is_ready plan log) (jobs log)
-          (λ k j e is_ready_now is. is_pending_if plan log j is_ready_now is),
-      few_pending plan log bound exact,
+      few_among start.plan log (length (ready start.plan log)) (accounts start log) (ready start.plan log),
+      count_pending (is_pending start.plan (λ n. acts n log) (is_waived log)) (is_ready start.plan log) (jobs log)
+          (λ k j e is_ready_now is. is_pending_if start.plan log j is_ready_now is),
+      few_pending start log bound exact,
     )
 
 -- so there is room for one more where one more is waived
-pub waiver_fits : (plan : DiePlan) (log : Log) (ws : List Waived) (a : Accounts) (j : Job) → MeetsBound plan → IsExact plan log
-    → GoesOn plan log ws a → least (unwaived ws (ready plan log)) ≡ Some j → is_waivable plan log a j ≡ true
-    → length ws < length plan.caps
-waiver_fits plan log ws a j bound exact g e yes_is =
-    let more = waives plan log ws a j g e yes_is in
-    let whole : length (choice plan log).waived ≡ length ((ws ++ waiver_of a j ∷ [])
-    ++ (choice_among plan log more.turns (moves.waived a j.task) (unwaived (ws ++ waiver_of a j ∷ []) (ready plan log))).waived) = ap
+pub waiver_fits : (start : Start) (log : Log) (ws : List Waived) (a : Accounts) (j : Job) → IsOpening start → IsExact start log
+    → GoesOn start log ws a → least (unwaived ws (ready start.plan log)) ≡ Some j → is_waivable start.plan log a j ≡ true
+    → length ws < length start.plan.caps
+waiver_fits start log ws a j bound exact g e yes_is =
+    let more = waives start log ws a j g e yes_is in
+    let whole : length (choice start log).waived ≡ length ((ws ++ waiver_of a j ∷ [])
+    ++ (choice_among start.plan log more.turns (moves.waived a j.task) (unwaived (ws ++ waiver_of a j ∷ []) (ready start.plan log))).waived) = ap
     (λ (c : Choice). length c.waived) more.rest in
     omega (
       arith,
-      few_waivers plan log bound exact,
+      few_waivers start log bound exact,
       whole,
-      length-append (ws ++ waiver_of a j ∷ []) (choice_among plan log more.turns (moves.waived a j.task)
-          (unwaived (ws ++ waiver_of a j ∷ []) (ready plan log))).waived,
+      length-append (ws ++ waiver_of a j ∷ []) (choice_among start.plan log more.turns (moves.waived a j.task)
+          (unwaived (ws ++ waiver_of a j ∷ []) (ready start.plan log))).waived,
       length-append ws (waiver_of a j ∷ []),
     )

@@ -14,6 +14,7 @@ use Rattle.die_log.specs.Flash.{Block, contents, cells}
 use Rattle.die_log.specs.Accounts.{accounts}
 use Rattle.die_log.specs.Answers.{buffer_after}
 use Rattle.die_log.specs.Standing.{Runs}
+use Rattle.die_log.specs.Start.{Start}
 
 -- what a volume keeps: the accounts, the array of pages, where each page lies, the blocks, and by task the collection that runs
 pub record FlashState : Type 0 where
@@ -41,23 +42,23 @@ abbrev pub page_held : Log → ℕ → Option ℕ
 page_held log number = buffer_after (last_or None (acts number log))
 
 -- the collection that a volume runs for a task is this one of the log, with its block and the page that it holds
-pub record IsRun (plan : DiePlan) (log : Log) (task : ℕ) (c : Collection) (j : Job) : Type 0 where
-  pub runs : Runs plan log j c.victim
+pub record IsRun (start : Start) (log : Log) (task : ℕ) (c : Collection) (j : Job) : Type 0 where
+  pub runs : Runs start log j c.victim
   pub task_is : j.task ≡ task
   pub holds : page_in c ≡ page_held log j.number
 
 -- a volume runs the collections that the log has begun, and no other
-pub record AreRunning (plan : DiePlan) (log : Log) (running : List (Option Collection)) : Type 0 where
-  pub len : length running ≡ length plan.caps
-  pub each : (task : ℕ) (c : Collection) → running_of running task ≡ Some c → (j : Job) × IsRun plan log task c j
-  pub all : (j : Job) (b : ℕ) → Runs plan log j b → (c : Collection) × (running_of running j.task ≡ Some c) × (c.victim ≡ b)
+pub record AreRunning (start : Start) (log : Log) (running : List (Option Collection)) : Type 0 where
+  pub len : length running ≡ length start.plan.caps
+  pub each : (task : ℕ) (c : Collection) → running_of running task ≡ Some c → (j : Job) × IsRun start log task c j
+  pub all : (j : Job) (b : ℕ) → Runs start log j b → (c : Collection) × (running_of running j.task ≡ Some c) × (c.victim ≡ b)
 
 -- The whole
 
 -- the accounts, the array of pages, the places, the blocks and the running collections are the log's
-pub record IsFlashOf (plan : DiePlan) (log : Log) (f : FlashState) : Type 0 where
-  pub accounts_are : f.tokens ≡ accounts plan log
-  pub pages_are : f.pages ≡ contents plan log
-  pub places_are : f.places ≡ (cells plan log).places
-  pub blocks_are : map counts_of f.blocks ≡ (cells plan log).blocks
-  pub running_are : AreRunning plan log f.running
+pub record IsFlashOf (start : Start) (log : Log) (f : FlashState) : Type 0 where
+  pub accounts_are : f.tokens ≡ accounts start log
+  pub pages_are : f.pages ≡ contents start log
+  pub places_are : f.places ≡ (cells start log).places
+  pub blocks_are : map counts_of f.blocks ≡ (cells start log).blocks
+  pub running_are : AreRunning start log f.running

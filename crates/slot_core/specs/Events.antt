@@ -30,7 +30,7 @@ noted (notes.Slot reply) = replies.Slot reply
 -- An event was accepted: the log's own answer, which is no refusal, is its next entry. The die runs on; a slot uses up one of the reserved
 -- ones, if there is one; a job or collection that arrives leaves the device as it was.
 pub record HasAccepted {N : Type 0} (caller : ℕ) (event : Event) (reply : Reply) (before after : Core N) : Type 0 where
-  pub answered : answer before.plan before.log event ≡ reply
+  pub answered : answer before.start before.log event ≡ reply
   pub accepted : IsAccepted reply
   pub logged : after.log ≡ with_entry caller event reply before.log
   pub runs : after.stopped ≡ false
@@ -42,8 +42,8 @@ pub record HasAccepted {N : Type 0} (caller : ℕ) (event : Event) (reply : Repl
 -- A device that never fails gives no such refusal, and memory is never refused to a slot while slots are reserved. A fault stops the die,
 -- and the log and the reserved slots stay; any other refusal changes nothing.
 pub record HasRefused {N : Type 0} (never_fails : Bool) (event : Event) (refusal : Refusal) (before after : Core N) : Type 0 where
-  pub cause : before.stopped ≡ false → RefusedBy before.plan before.log event refusal
-      ⊎ ((event ≡ events.Slot) × IsAccepted (answer before.plan before.log event) × (refusal ≡ DeviceFault))
+  pub cause : before.stopped ≡ false → RefusedBy before.start before.log event refusal
+      ⊎ ((event ≡ events.Slot) × IsAccepted (answer before.start before.log event) × (refusal ≡ DeviceFault))
   pub never : never_fails ≡ true → refusal ≢ DeviceFault
   pub memory : event ≡ events.Slot → 0 < before.reserved → refusal ≢ NoMemory
   pub stops : refusal ≡ DeviceFault → after.stopped ≡ true

@@ -7,14 +7,17 @@ use Rattle.die_log.specs.Log.{Log, now}
 use Rattle.die_log.specs.Answers.{IsExact}
 use Rattle.slot_core.specs.Records.{records}
 use Rattle.slot_core.specs.Device.{FlashState, IsFlashOf}
+use Rattle.die_log.specs.Start.{Start}
+use Rattle.die_log.specs.Opening.{IsOpening, CanBeErased}
 
 -- the log is exact, the table is read off it, and so is the flash until a fault
-pub record Keeps (plan : DiePlan) (log : Log) (present : ℕ) (table : Table) (failed : Bool) (f : FlashState) : Type 0 where
-  pub exact : IsExact plan log
-  pub bound : MeetsBound plan
+pub record Keeps (start : Start) (log : Log) (present : ℕ) (table : Table) (failed : Bool) (f : FlashState) : Type 0 where
+  pub exact : IsExact start log
+  pub bound : IsOpening start
+  pub left : CanBeErased start
   pub now_is : present ≡ now log
-  pub tasks_are : table.tasks ≡ length plan.caps
+  pub tasks_are : table.tasks ≡ length start.plan.caps
   pub clock_by : table.clock ≤ present
   pub ended_is : table.ended ≡ failed
-  pub jobs_are : table.jobs ≡ records plan log
-  pub flash : failed ≡ false → IsFlashOf plan log f
+  pub jobs_are : table.jobs ≡ records start log
+  pub flash : failed ≡ false → IsFlashOf start log f

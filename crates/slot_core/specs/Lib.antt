@@ -4,6 +4,7 @@ pub mod Device
 pub mod Kept
 pub mod Told
 pub mod Reserved
+pub mod Renewals
 pub mod Slotted
 pub mod Acting
 pub mod Calls

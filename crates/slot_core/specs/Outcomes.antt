@@ -14,6 +14,7 @@ use Rattle.slot_core.specs.declared.outcomes.Outcome.TheVariants as outcomes
 use Rattle.slot_types.specs.declared.events.JobHead.{JobHead}
 use Rattle.slot_core.specs.declared.outcomes.Worst.{Worst}
 use Rattle.slot_core.specs.Records.{waiver_among, given, reads_of}
+use Rattle.die_log.specs.Start.{Start}
 
 -- waived, done or waiting
 abbrev pub outcome_by : Option Waived → Bool → ℕ → ℤ → ℕ → List PageData → Outcome
@@ -22,14 +23,14 @@ outcome_by None true completion lateness given reads = outcomes.Done completion 
 outcome_by None false completion lateness given reads = outcomes.Waiting
 
 -- what became of a job or collection of the log
-abbrev pub outcome_of : DiePlan → Log → Job → Outcome
-outcome_of plan log j =
-    outcome_by (waiver_among j.number (waived log)) (is_done plan log j) (completion j.number log) (lateness_of log j)
-    (given plan j.number log) (reads_of (acts j.number log))
+abbrev pub outcome_of : Start → Log → Job → Outcome
+outcome_of start log j =
+    outcome_by (waiver_among j.number (waived log)) (is_done start.plan log j) (completion j.number log) (lateness_of log j)
+    (given start j.number log) (reads_of (acts j.number log))
 
 -- of this number, if there is one
-abbrev pub outcome_at : DiePlan → Log → ℕ → Option Outcome
-outcome_at plan log number = option_map (outcome_of plan log) (job_at log number)
+abbrev pub outcome_at : Start → Log → ℕ → Option Outcome
+outcome_at start log number = option_map (outcome_of start log) (job_at log number)
 
 -- what it was accepted with
 abbrev pub head_of : Job → JobHead

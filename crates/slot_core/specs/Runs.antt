@@ -9,6 +9,7 @@ use Rattle.slot_types.specs.declared.replies.Reply.TheVariants.{Refused, Slot as
 use Rattle.die_log.specs.Log.{Log}
 use Rattle.die_log.specs.Answers.{answer, IsAccepted, with_answer}
 use Rattle.slot_core.specs.Core.{Core}
+use Rattle.die_log.specs.Start.{Start}
 
 -- One event
 
@@ -28,26 +29,26 @@ reserved_after (Answered s) reserved = reserved - 1
 reserved_after _ reserved = reserved
 
 -- the log's own answer, which is an entry of caller 0 if it is no refusal
-pub record AnsweredByLog (plan : DiePlan) (event : Event) (reply : Reply) (before after : Moment) : Type 0 where
+pub record AnsweredByLog (start : Start) (event : Event) (reply : Reply) (before after : Moment) : Type 0 where
   pub ran : before.stopped ≡ false
-  pub reply_is : reply ≡ answer plan before.log event
+  pub reply_is : reply ≡ answer start before.log event
   pub log_is : after.log ≡ with_answer 0 event reply before.log
   pub runs : after.stopped ≡ false
   pub reserved_is : after.reserved ≡ reserved_after reply before.reserved
 
 -- the log accepts the event, but memory is refused, of a slot only where none is reserved; and nothing changes
-pub record FoundNoMemory (plan : DiePlan) (event : Event) (reply : Reply) (before after : Moment) : Type 0 where
+pub record FoundNoMemory (start : Start) (event : Event) (reply : Reply) (before after : Moment) : Type 0 where
   pub ran : before.stopped ≡ false
-  pub accepted : IsAccepted (answer plan before.log event)
+  pub accepted : IsAccepted (answer start before.log event)
   pub reply_is : reply ≡ Refused NoMemory
   pub unreserved : event ≡ Slot → before.reserved ≡ 0
   pub unchanged : after ≡ before
 
 -- the log accepts the slot, but the device fails, which stops the die; the log stays
-pub record StoppedByFault (plan : DiePlan) (event : Event) (reply : Reply) (before after : Moment) : Type 0 where
+pub record StoppedByFault (start : Start) (event : Event) (reply : Reply) (before after : Moment) : Type 0 where
   pub ran : before.stopped ≡ false
   pub slot : event ≡ Slot
-  pub accepted : IsAccepted (answer plan before.log event)
+  pub accepted : IsAccepted (answer start before.log event)
   pub reply_is : reply ≡ Refused DeviceFault
   pub log_stays : after.log ≡ before.log
   pub stops : after.stopped ≡ true
@@ -60,22 +61,22 @@ pub record FoundStopped (plan : DiePlan) (event : Event) (reply : Reply) (before
   pub unchanged : after ≡ before
 
 -- how one event is answered; a fault is answered exactly where the device failed
-pub record IsStep (plan : DiePlan) (event : Event) (reply : Reply) (before after : Moment) : Type 0 where
+pub record IsStep (start : Start) (event : Event) (reply : Reply) (before after : Moment) : Type 0 where
   pub answered :
-      AnsweredByLog plan event reply before after
-      ⊎ FoundNoMemory plan event reply before after
-      ⊎ StoppedByFault plan event reply before after
-      ⊎ FoundStopped plan event reply before after
+      AnsweredByLog start event reply before after
+      ⊎ FoundNoMemory start event reply before after
+      ⊎ StoppedByFault start event reply before after
+      ⊎ FoundStopped start.plan event reply before after
   pub faults : (reply ≡ Refused DeviceFault) ↔ (after.failures ≡ before.failures + 1)
 
 -- Events in order
 
 -- one reply an event, each what its event is answered at its place
-abbrev pub IsRun : DiePlan → Moment → List Event → List Reply → Moment → Type 0
-IsRun plan before [] [] after = after ≡ before
-IsRun plan before (event ∷ events) (reply ∷ replies) after =
-    (between : Moment) × IsStep plan event reply before between × IsRun plan between events replies after
-IsRun plan before _ _ after = ⊥
+abbrev pub IsRun : Start → Moment → List Event → List Reply → Moment → Type 0
+IsRun start before [] [] after = after ≡ before
+IsRun start before (event ∷ events) (reply ∷ replies) after =
+    (between : Moment) × IsStep start event reply before between × IsRun start between events replies after
+IsRun start before _ _ after = ⊥
 
 -- The calls that a run adds
 

@@ -20,6 +20,8 @@ use Rattle.die_log.specs.Legal.{is_among}
 use Rattle.die_log.specs.Standing.{Runs}
 use Rattle.slot_core.specs.Records.{record_with, records}
 use Rattle.slot_core.specs.Device.{FlashState, counts_of, page_in, page_held, IsRun, AreRunning}
+use Rattle.die_log.specs.Start.{Start}
+use Rattle.die_log.specs.Opening.{IsOpening, CanBeErased}
 
 -- The choice
 
@@ -32,10 +34,10 @@ abbrev pub behind : List Waived → Choice → Choice
 behind ws c = record { waived = ws ++ c.waived; head = c.head }
 
 -- so far these were waived, these are the accounts, and the choice goes on among the others that are ready
-pub record GoesOn (plan : DiePlan) (past : Log) (ws : List Waived) (a : Accounts) : Type 0 where
+pub record GoesOn (start : Start) (past : Log) (ws : List Waived) (a : Accounts) : Type 0 where
   pub turns : ℕ
-  pub enough : length (unwaived ws (ready plan past)) ≤ turns
-  pub rest : choice plan past ≡ behind ws (choice_among plan past turns a (unwaived ws (ready plan past)))
+  pub enough : length (unwaived ws (ready start.plan past)) ≤ turns
+  pub rest : choice start past ≡ behind ws (choice_among start.plan past turns a (unwaived ws (ready start.plan past)))
 
 -- the reply of a slot that waived these, without a head
 abbrev pub idle_reply : ℕ → List Waived → SlotReply
@@ -44,61 +46,62 @@ idle_reply slot ws = record { slot = slot; waived = ws; ran = None; finished = N
 -- The fields
 
 -- the flash of a log whose next slot waived these, before its head acts
-pub record IsWaivedFlash (plan : DiePlan) (past : Log) (ws : List Waived) (f : FlashState) : Type 0 where
-  pub accounts_are : f.tokens ≡ after_waivers past ws (accounts plan past)
-  pub pages_are : f.pages ≡ contents plan past
-  pub places_are : f.places ≡ (cells plan past).places
-  pub blocks_are : map counts_of f.blocks ≡ (cells plan past).blocks
+pub record IsWaivedFlash (start : Start) (past : Log) (ws : List Waived) (f : FlashState) : Type 0 where
+  pub accounts_are : f.tokens ≡ after_waivers past ws (accounts start past)
+  pub pages_are : f.pages ≡ contents start past
+  pub places_are : f.places ≡ (cells start past).places
+  pub blocks_are : map counts_of f.blocks ≡ (cells start past).blocks
 
 -- the table within a slot that waived these
-pub record IsWaivedTable (plan : DiePlan) (log : Log) (ws : List Waived) (t : Table) : Type 0 where
-  pub tasks_are : t.tasks ≡ length plan.caps
+pub record IsWaivedTable (start : Start) (log : Log) (ws : List Waived) (t : Table) : Type 0 where
+  pub tasks_are : t.tasks ≡ length start.plan.caps
   pub clock_is : t.clock ≡ now log
   pub running : t.ended ≡ false
-  pub jobs_are : t.jobs ≡ map (record_with plan log (waived log ++ ws)) (jobs log)
-  pub were_pending : WerePending (records plan log) ws
-  pub were : t.jobs ≡ waived_in (records plan log) ws
+  pub jobs_are : t.jobs ≡ map (record_with start log (waived log ++ ws)) (jobs log)
+  pub were_pending : WerePending (records start log) ws
+  pub were : t.jobs ≡ waived_in (records start log) ws
 
 -- the slot is the log's next, and not the last
-pub record IsSlot (plan : DiePlan) (log : Log) (present : ℕ) : Type 0 where
-  pub exact : IsExact plan log
-  pub bound : MeetsBound plan
+pub record IsSlot (start : Start) (log : Log) (present : ℕ) : Type 0 where
+  pub exact : IsExact start log
+  pub bound : IsOpening start
+  pub left : CanBeErased start
   pub now_is : present ≡ now log
   pub few : now log < MAX_SLOT
 
 -- within a slot, after these collections were waived
-pub record InSlot (plan : DiePlan) (log : Log) (present : ℕ) (ws : List Waived) (t : Table) (f : FlashState) : Type 0 where
-  pub slot : IsSlot plan log present
-  pub table : IsWaivedTable plan log ws t
-  pub goes_on : GoesOn plan log ws f.tokens
-  pub flash : IsWaivedFlash plan log ws f
-  pub running : AreRunning plan log f.running
+pub record InSlot (start : Start) (log : Log) (present : ℕ) (ws : List Waived) (t : Table) (f : FlashState) : Type 0 where
+  pub slot : IsSlot start log present
+  pub table : IsWaivedTable start log ws t
+  pub goes_on : GoesOn start log ws f.tokens
+  pub flash : IsWaivedFlash start log ws f
+  pub running : AreRunning start log f.running
 
 -- The head
 
 -- if it is a collection, it runs: on the block that the log gives it, with the page that it holds
-pub record RunsHead (plan : DiePlan) (log : Log) (j : Job) (f : FlashState) (c : Collection) : Type 0 where
+pub record RunsHead (start : Start) (log : Log) (j : Job) (f : FlashState) (c : Collection) : Type 0 where
   pub runs : running_of f.running j.task ≡ Some c
-  pub victim : block_for plan log j ≡ Some c.victim
+  pub victim : block_for start log j ≡ Some c.victim
   pub holds : page_in c ≡ page_held log j.number
 
 -- of the collections that run on the volume, those that aren't the head's are the log's
-pub record OthersRun (plan : DiePlan) (log : Log) (j : Job) (f : FlashState) : Type 0 where
-  pub len : length f.running ≡ length plan.caps
+pub record OthersRun (start : Start) (log : Log) (j : Job) (f : FlashState) : Type 0 where
+  pub len : length f.running ≡ length start.plan.caps
   pub each : (task : ℕ) (c : Collection) → (j.collects ≡ true → task ≢ j.task) → running_of f.running task ≡ Some c → (i : Job)
-      × IsRun plan log task c i
-  pub all : (i : Job) (b : ℕ) → i.number ≢ j.number → Runs plan log i b → (j.collects ≡ true → i.task ≢ j.task)
+      × IsRun start log task c i
+  pub all : (i : Job) (b : ℕ) → i.number ≢ j.number → Runs start log i b → (j.collects ≡ true → i.task ≢ j.task)
       × ((c : Collection) × (running_of f.running i.task ≡ Some c) × (c.victim ≡ b))
 
 -- this job or collection has the slot, in which these were waived
-pub record HasTurn (plan : DiePlan) (log : Log) (present : ℕ) (ws : List Waived) (t : Table) (f : FlashState) (n : ℕ) : Type 0 where
-  pub slot : IsSlot plan log present
-  pub table : IsWaivedTable plan log ws t
-  pub goes_on : GoesOn plan log ws f.tokens
-  pub flash : IsWaivedFlash plan log ws f
+pub record HasTurn (start : Start) (log : Log) (present : ℕ) (ws : List Waived) (t : Table) (f : FlashState) (n : ℕ) : Type 0 where
+  pub slot : IsSlot start log present
+  pub table : IsWaivedTable start log ws t
+  pub goes_on : GoesOn start log ws f.tokens
+  pub flash : IsWaivedFlash start log ws f
   pub head : IsHead t n
   pub job : Job
   pub at : job_at log n ≡ Some job
-  pub unwaivable : is_waivable plan log f.tokens job ≡ false
-  pub runs : job.collects ≡ true → (c : Collection) × RunsHead plan log job f c
-  pub others : OthersRun plan log job f
+  pub unwaivable : is_waivable start.plan log f.tokens job ≡ false
+  pub runs : job.collects ≡ true → (c : Collection) × RunsHead start log job f c
+  pub others : OthersRun start log job f

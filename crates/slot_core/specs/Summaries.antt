@@ -6,6 +6,7 @@ use Rattle.job_table.specs.Jobs.{JobRecord}
 use Rattle.die_log.specs.Log.{Log, Job, job_at, work}
 use Rattle.slot_core.specs.declared.outcomes.Outcome.{Outcome}
 use Rattle.slot_core.specs.Outcomes.{outcome_of, outcome_in, head_of, head_in}
+use Rattle.die_log.specs.Start.{Start}
 
 -- what a job or a collection was accepted with, how many slots it took, and what became of it
 pub record JobSummary : Type 0 where
@@ -14,12 +15,12 @@ pub record JobSummary : Type 0 where
   pub outcome : Outcome
 
 -- a job or collection of the log in short
-abbrev pub summary_of : DiePlan → Log → Job → JobSummary
-summary_of plan log j = record { head = head_of j; work = work j.number log; outcome = outcome_of plan log j }
+abbrev pub summary_of : Start → Log → Job → JobSummary
+summary_of start log j = record { head = head_of j; work = work j.number log; outcome = outcome_of start log j }
 
 -- of this number, if there is one
-abbrev pub summary_at : DiePlan → Log → ℕ → Option JobSummary
-summary_at plan log number = option_map (summary_of plan log) (job_at log number)
+abbrev pub summary_at : Start → Log → ℕ → Option JobSummary
+summary_at start log number = option_map (summary_of start log) (job_at log number)
 
 -- by a table's record of it
 abbrev pub summary_in : JobRecord → JobSummary

@@ -8,11 +8,12 @@ use Rattle.event_log.specs.Growth.{AllFit}
 use Rattle.die_log.specs.Log.{Log}
 use Rattle.slot_core.specs.Device.{FlashState}
 use Rattle.slot_core.specs.Kept.{Keeps}
+use Rattle.die_log.specs.Start.{Start}
 
 abbrev pub log_of : Table → List Note → Log
 log_of table notes = entries_of table.jobs notes
 
 -- the fields of a die are those of the log that they tell, and what its events name stands in the table
-pub record Holds (plan : DiePlan) (present : ℕ) (table : Table) (notes : List Note) (failed : Bool) (f : FlashState) : Type 0 where
-  pub kept : Keeps plan (log_of table notes) present table failed f
+pub record Holds (start : Start) (present : ℕ) (table : Table) (notes : List Note) (failed : Bool) (f : FlashState) : Type 0 where
+  pub kept : Keeps start (log_of table notes) present table failed f
   pub fits : AllFit table.jobs notes

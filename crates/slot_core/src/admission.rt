@@ -88,7 +88,7 @@ impl<N: Nand> DieCore<N> {
     /// Why a job is refused by a die that isn't stopped, if it is.
     fn submit_refusal(&self, task: TaskNo, release: u32, due: u32, ops: &[Op]) -> Option<Refusal>
         requires { self.now.stopped ≡ false }
-        ensures { result ≡ refusal_of self.now.plan self.now.log (Event.Submit task release due ops.now) }
+        ensures { result ≡ refusal_of self.now.start self.now.log (Event.Submit task release due ops.now) }
     {
         let plan = self.volume.plan();
         if task.0 as usize >= plan.caps.len() {
@@ -191,8 +191,8 @@ impl<N: Nand> DieCore<N> {
     /// Whether the task has a collection that is neither done nor waived, on a die that isn't stopped.
     fn is_collecting(&self, task: TaskNo) -> bool
         requires running { self.now.stopped ≡ false }
-        requires task { task < length self.now.plan.caps }
-        ensures { result ≡ collecting self.now.plan self.now.log task }
+        requires task { task < length self.now.start.plan.caps }
+        ensures { result ≡ collecting self.now.start.plan self.now.log task }
     {
         self.table.is_collecting(task)
     }
@@ -200,7 +200,7 @@ impl<N: Nand> DieCore<N> {
     /// Why a collection is refused by a die that isn't stopped, if it is.
     fn collect_refusal(&self, task: TaskNo, release: u32, due: u32) -> Option<Refusal>
         requires { self.now.stopped ≡ false }
-        ensures { result ≡ refusal_of self.now.plan self.now.log (Event.Collect task release due) }
+        ensures { result ≡ refusal_of self.now.start self.now.log (Event.Collect task release due) }
     {
         if task.0 as usize >= self.volume.plan().caps.len() {
             return Some(Refusal::UnknownTask);

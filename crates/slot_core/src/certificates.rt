@@ -56,7 +56,7 @@ impl<N: Nand> DieCore<N> {
     /// The rows of all jobs and collections by number, without those that were waived: what [`late_cert::check`] reads.
     /// The only refusal is for want of memory.
     pub fn rows(&self, alloc: Global) -> Result<JobRows, Refusal>
-        ensures ok { IfOk result (λ made. made ≡ rows self.now.plan self.now.log) }
+        ensures ok { IfOk result (λ made. made ≡ rows self.now.start.plan self.now.log) }
         ensures rise { IfOk result (λ made. RowsRise made) }
         ensures refused { FailsForMemory result }
     {
@@ -68,12 +68,12 @@ impl<N: Nand> DieCore<N> {
     /// release, completes one of them at least as late. The only refusal is for want of memory; where nothing is done, no
     /// memory is taken.
     pub fn certificate(&self, alloc: Global) -> Result<Option<Certificate>, Refusal>
-        ensures ok { IfOk result (λ built. built ≡ certificate self.now.plan self.now.log) }
-        ensures none { IfOk result (λ built. (built ≡ None) ↔ NothingDone self.now.plan self.now.log) }
-        ensures worst { IfOk result (λ built. IfSome built (IsOfWorst self.now.plan self.now.log)) }
-        ensures holds { IfOk result (λ built. IfSome built (HoldsOver self.now.plan self.now.log)) }
-        ensures binds { IfOk result (λ built. IfSome built (BindsAll self.now.plan self.now.log)) }
-        ensures nothing { NothingDone self.now.plan self.now.log → IsOk result }
+        ensures ok { IfOk result (λ built. built ≡ certificate self.now.start.plan self.now.log) }
+        ensures none { IfOk result (λ built. (built ≡ None) ↔ NothingDone self.now.start.plan self.now.log) }
+        ensures worst { IfOk result (λ built. IfSome built (IsOfWorst self.now.start.plan self.now.log)) }
+        ensures holds { IfOk result (λ built. IfSome built (HoldsOver self.now.start.plan self.now.log)) }
+        ensures binds { IfOk result (λ built. IfSome built (BindsAll self.now.start.plan self.now.log)) }
+        ensures nothing { NothingDone self.now.start.plan self.now.log → IsOk result }
         ensures refused { FailsForMemory result }
     {
         match self.worst() {
@@ -92,7 +92,7 @@ impl<N: Nand> DieCore<N> {
     /// and gives what is done as many slots as it took, has a smaller one. Collections keep to their slots, and the worst
     /// job has its certificate.
     pub fn promises(&self)
-        ensures { KeepsPromises self.now.plan self.now.log }
+        ensures { KeepsPromises self.now.start self.now.log }
     {
         // What a die keeps is known where one of its fields is used.
         let _ = &self.volume;

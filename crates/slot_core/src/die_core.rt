@@ -8,11 +8,13 @@ ghost use Rattle.plan_rules.specs.Bound.{MeetsBound};
 ghost use Rattle.flash_die.specs.Flash.{IsFresh};
 ghost use Rattle.event_log.specs.Alike.{records};
 ghost use Rattle.die_log.specs.Log.{now};
+ghost use Rattle.die_log.specs.Start.{fresh};
 
 use event_log::EventLog;
 use flash_die::Nand;
 use flash_volume::Volume;
 use job_table::JobTable;
+use log_start::LogStart;
 use plan_rules::bound;
 use slot_types::{DiePlan, Refusal};
 use std::alloc::Global;
@@ -29,6 +31,8 @@ pub struct DieCore<N: Nand> {
     pub(crate) present: u32,
     /// For how many slots there is room in the log, beside what jobs and collections take.
     pub(crate) reserved: u32,
+    /// Where its log started, which only clauses read.
+    pub(crate) start: LogStart,
 }
 
 impl<N: Nand> Model for DieCore<N> {
@@ -36,11 +40,12 @@ impl<N: Nand> Model for DieCore<N> {
     ghost use Rattle.slot_core.specs.Told.{log_of, Holds};
     ghost use Rattle.slot_core.specs.Reserved.{HasRoom};
     ghost use Rattle.slot_core.specs.Device.{flash_of};
+    ghost use Rattle.die_log.specs.Start.{over};
 
     ghost Value = { Core N };
 
     ghost view = { λ c. record {
-      plan = c.volume.accounts.plan;
+      start = over c.volume.accounts.plan c.start;
       device = c.volume.device;
       stopped = c.volume.failed;
       reserved = c.reserved;
@@ -48,7 +53,7 @@ impl<N: Nand> Model for DieCore<N> {
     } };
 
     ghost invariant = { λ c.
-        Holds c.volume.accounts.plan c.present c.table c.events.notes c.volume.failed (flash_of N.blocks c.volume)
+        Holds (over c.volume.accounts.plan c.start) c.present c.table c.events.notes c.volume.failed (flash_of N.blocks c.volume)
         × HasRoom c.reserved c.table.jobs c.events.room c.events.waiver_room };
 }
 
@@ -59,7 +64,7 @@ impl<N: Nand> DieCore<N> {
     /// not meet its bound; else `NoMemory` where memory is refused. Plan and device are given up then.
     pub fn new(alloc: Global, plan: DiePlan, nand: N) -> Result<DieCore<N>, Refusal>
         requires fresh { IsFresh (N.shape_of nand) (N.blocks nand) (N.failures nand) }
-        ensures ok { IfOk result (λ core. core ≡ record { plan = plan; device = nand; stopped = false; reserved = 0; log = [] }) }
+        ensures ok { IfOk result (λ core. core ≡ record { start = fresh plan; device = nand; stopped = false; reserved = 0; log = [] }) }
         ensures bad_shape { (result ≡ Err Refusal.BadShape) ↔ ¬ (IsShape plan.shape × (N.shape_of nand ≡ plan.shape)) }
         ensures bad_plan { (result ≡ Err Refusal.BadPlan) ↔ (IsShape plan.shape × (N.shape_of nand ≡ plan.shape) × ¬ MeetsBound plan) }
         ensures refused { IfErr result (λ refusal. (refusal ≡ Refusal.BadShape) ⊎ (refusal ≡ Refusal.BadPlan)
@@ -70,6 +75,7 @@ impl<N: Nand> DieCore<N> {
         }
         bound(&plan)?;
         let table = JobTable::new(alloc, plan.caps.len() as u32)?;
+        let start = LogStart::fresh(&plan);
         let volume = Volume::new(alloc, plan, nand)?;
         Ok(DieCore {
             volume,
@@ -77,6 +83,7 @@ impl<N: Nand> DieCore<N> {
             events: EventLog::new(alloc),
             present: 0,
             reserved: 0,
+            start,
         })
     }
 
@@ -85,7 +92,7 @@ impl<N: Nand> DieCore<N> {
     pub fn boxed(alloc: Global, plan: DiePlan, nand: N) -> Result<Box<DieCore<N>>, Refusal>
         requires fresh { IsFresh (N.shape_of nand) (N.blocks nand) (N.failures nand) }
         ensures ok { IfOk result (λ core. box_value core
-            ≡ record { plan = plan; device = nand; stopped = false; reserved = 0; log = [] }) }
+            ≡ record { start = fresh plan; device = nand; stopped = false; reserved = 0; log = [] }) }
         ensures bad_shape { (result ≡ Err Refusal.BadShape) ↔ ¬ (IsShape plan.shape × (N.shape_of nand ≡ plan.shape)) }
         ensures bad_plan { (result ≡ Err Refusal.BadPlan) ↔ (IsShape plan.shape × (N.shape_of nand ≡ plan.shape) × ¬ MeetsBound plan) }
         ensures refused { IfErr result (λ refusal. (refusal ≡ Refusal.BadShape) ⊎ (refusal ≡ Refusal.BadPlan)
@@ -123,7 +130,7 @@ impl<N: Nand> DieCore<N> {
 
     /// What the die is planned for.
     pub fn plan(&self) -> &DiePlan
-        ensures { result.now ≡ self.now.plan }
+        ensures { result.now ≡ self.now.start.plan }
     {
         self.volume.plan()
     }

@@ -41,7 +41,7 @@ impl<N: Nand> DieCore<N> {
         ensures accepted { IfOk result (λ number. HasAccepted caller (arrival_of head ops.now) (Reply.Taken number) self.old self.new) }
         ensures refused { IfErr result (λ refusal. HasRefused N.never_fails (arrival_of head ops.now) refusal self.old self.new) }
         ensures fault { (result ≡ Err Refusal.DeviceFault) ↔ (N.failures self.new.device ≡ N.failures self.old.device + 1) }
-        ensures plan { self.new.plan ≡ self.old.plan }
+        ensures plan { self.new.start ≡ self.old.start }
     {
         let JobHead {
             collects,
@@ -62,7 +62,7 @@ impl<N: Nand> DieCore<N> {
         ensures accepted { IfOk result (λ reply. HasAccepted caller event reply self.old self.new) }
         ensures refused { IfErr result (λ refusal. HasRefused N.never_fails event refusal self.old self.new) }
         ensures fault { (result ≡ Err Refusal.DeviceFault) ↔ (N.failures self.new.device ≡ N.failures self.old.device + 1) }
-        ensures plan { self.new.plan ≡ self.old.plan }
+        ensures plan { self.new.start ≡ self.old.start }
     {
         let taken = match event {
             Event::Submit {
@@ -113,7 +113,7 @@ impl<N: Nand> DieCore<N> {
         ensures accepted { IfOk result (λ note. HasAccepted caller (with_ops head ops.now) (noted note) self.old self.new) }
         ensures refused { IfErr result (λ refusal. HasRefused N.never_fails (with_ops head ops.now) refusal self.old self.new) }
         ensures fault { (result ≡ Err Refusal.DeviceFault) ↔ (N.failures self.new.device ≡ N.failures self.old.device + 1) }
-        ensures plan { self.new.plan ≡ self.old.plan }
+        ensures plan { self.new.start ≡ self.old.start }
     {
         match head {
             EventHead::Arrive(head) => match self.arrive(alloc, caller, head, ops) {

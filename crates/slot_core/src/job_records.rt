@@ -14,8 +14,8 @@ impl<N: Nand> DieCore<N> {
     /// The job or collection of a number, lent by the die, or none where the log has none of that number. It takes no
     /// memory and a short time, however long the log is.
     pub fn job_record(&self, number: JobNo) -> Option<Job<'_>>
-        ensures record { slice_get (records self.now.plan self.now.log) number ≡ result }
-        ensures summary { IfSome result (λ job. summary_at self.now.plan self.now.log number ≡ Some (summary_in job)) }
+        ensures record { slice_get (records self.now.start self.now.log) number ≡ result }
+        ensures summary { IfSome result (λ job. summary_at self.now.start self.now.log number ≡ Some (summary_in job)) }
         ensures unknown { (result ≡ None) ↔ (job_at self.now.log number ≡ None) }
     {
         self.table.job(number)

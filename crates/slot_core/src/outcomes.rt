@@ -88,10 +88,10 @@ impl<N: Nand> DieCore<N> {
     /// `UnknownJob` where the log has none of that number; else `NoMemory` where it is done and memory is refused for what
     /// its reads gave. Of one that waits or was waived no memory is taken.
     pub fn outcome(&self, alloc: Global, job: JobNo) -> Result<Outcome, Refusal>
-        ensures ok { IfOk result (λ outcome. outcome_at self.now.plan self.now.log job ≡ Some outcome) }
+        ensures ok { IfOk result (λ outcome. outcome_at self.now.start self.now.log job ≡ Some outcome) }
         ensures unknown { (result ≡ Err Refusal.UnknownJob) ↔ (job_at self.now.log job ≡ None) }
-        ensures waiting { outcome_at self.now.plan self.now.log job ≡ Some Outcome.Waiting → IsOk result }
-        ensures waived { (given : ℕ) → outcome_at self.now.plan self.now.log job ≡ Some (Outcome.Waived given) → IsOk result }
+        ensures waiting { outcome_at self.now.start self.now.log job ≡ Some Outcome.Waiting → IsOk result }
+        ensures waived { (given : ℕ) → outcome_at self.now.start self.now.log job ≡ Some (Outcome.Waived given) → IsOk result }
         ensures refused { IfErr result (λ refusal. (refusal ≡ Refusal.UnknownJob) ⊎ (refusal ≡ Refusal.NoMemory)) }
     {
         match self.table.job(job) {
@@ -115,7 +115,7 @@ impl<N: Nand> DieCore<N> {
     /// The done job or collection with the greatest lateness, of equal ones the one completed first, or none where
     /// nothing is done. The die keeps it, so this takes the same short time however long the log is.
     pub fn worst(&self) -> Option<Worst>
-        ensures { result ≡ worst_of self.now.plan self.now.log }
+        ensures { result ≡ worst_of self.now.start.plan self.now.log }
     {
         match self.table.worst() {
             Some(found) => Some(worst_as(found)),

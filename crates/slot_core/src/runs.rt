@@ -6,6 +6,7 @@ ghost use Rattle.slot_types.specs.declared.plans.Times.{Times};
 ghost use Rattle.plan_rules.specs.Times.{Passes};
 ghost use Rattle.plan_rules.specs.Keeping.{KeepsPlan};
 ghost use Rattle.die_log.specs.Log.{Log, calls};
+ghost use Rattle.die_log.specs.Supply.{AreStocked};
 ghost use Rattle.die_log.specs.Answers.{IsExact};
 ghost use Rattle.die_log.specs.Planned.{IsInTime};
 ghost use Rattle.slot_core.specs.Runs.{moment_of, IsStep, IsRun, with_accepted};
@@ -22,8 +23,8 @@ pub type Replies = Items<Reply>;
 impl<N: Nand> DieCore<N> {
     /// Carries out one event for caller 0.
     fn apply(&mut self, alloc: Global, event: Event) -> Reply
-        ensures step { IsStep self.old.plan event result (moment_of N.failures self.old) (moment_of N.failures self.new) }
-        ensures plan { self.new.plan ≡ self.old.plan }
+        ensures step { IsStep self.old.start event result (moment_of N.failures self.old) (moment_of N.failures self.new) }
+        ensures plan { self.new.start ≡ self.old.start }
     {
         match self.perform(alloc, 0, event) {
             Ok(reply) => reply,
@@ -34,9 +35,9 @@ impl<N: Nand> DieCore<N> {
     // One reply an event, in memory that is taken first.
     fn answer_each(&mut self, alloc: Global, events: Items<Event>) -> Result<Replies, Refusal>
         ensures one_each { IfOk result (λ replies. length replies ≡ length events) }
-        ensures ran { IfOk result (λ replies. IsRun self.old.plan (moment_of N.failures self.old) events replies
+        ensures ran { IfOk result (λ replies. IsRun self.old.start (moment_of N.failures self.old) events replies
             (moment_of N.failures self.new)) }
-        ensures plan { self.new.plan ≡ self.old.plan }
+        ensures plan { self.new.start ≡ self.old.start }
         ensures refused { FailsForMemory result }
         ensures unchanged { OnErr result (self.new ≡ self.old) }
     {
@@ -62,15 +63,16 @@ impl<N: Nand> DieCore<N> {
     /// The only refusal is `NoMemory`, where memory is refused for the replies; no event is carried out then.
     pub fn run(&mut self, alloc: Global, events: Items<Event>) -> Result<Replies, Refusal>
         ensures one_each { IfOk result (λ replies. length replies ≡ length events) }
-        ensures ran { IfOk result (λ replies. IsRun self.old.plan (moment_of N.failures self.old) events replies
+        ensures ran { IfOk result (λ replies. IsRun self.old.start (moment_of N.failures self.old) events replies
             (moment_of N.failures self.new)) }
-        ensures plan { self.new.plan ≡ self.old.plan }
+        ensures plan { self.new.start ≡ self.old.start }
         ensures grown { IfOk result (λ replies. calls self.new.log ≡ with_accepted events replies (calls self.old.log)) }
-        ensures only { IfOk result (λ replies. self.old.log ≡ [] → (log : Log) → IsExact self.old.plan log → calls log
+        ensures only { IfOk result (λ replies. self.old.log ≡ [] → (log : Log) → IsExact self.old.start log → calls log
             ≡ with_accepted events replies [] → log ≡ self.new.log) }
-        ensures planned { IfOk result (λ replies. (times : Times) → Passes self.old.plan times → KeepsPlan self.old.plan times events
-            → IsUnused (moment_of N.failures self.old) → All IsServed replies → IsInTime self.old.plan self.new.log) }
-        ensures accepted { IfOk result (λ replies. (times : Times) → Passes self.old.plan times → KeepsPlan self.old.plan times events
+        ensures planned { IfOk result (λ replies. (times : Times) → Passes self.old.start.plan times → KeepsPlan self.old.start.plan times events
+            → IsUnused (moment_of N.failures self.old) → All IsServed replies → IsInTime self.old.start.plan self.new.log) }
+        ensures accepted { IfOk result (λ replies. (times : Times) → Passes self.old.start.plan times → AreStocked self.old.start times
+            → KeepsPlan self.old.start.plan times events
             → IsUnused (moment_of N.failures self.old) → All FindsMemory replies → AreAcceptedUntilFault replies) }
         ensures refused { FailsForMemory result }
         ensures unchanged { OnErr result (self.new ≡ self.old) }

@@ -7,6 +7,7 @@ ghost use Rattle.job_table.specs.Order.{NothingReady};
 ghost use Rattle.job_table.specs.Jobs.{JobRecord, is_read};
 ghost use Rattle.job_table.specs.Table.{work_at};
 ghost use Rattle.die_log.specs.Log.{Log};
+ghost use Rattle.die_log.specs.Start.{Start, over};
 ghost use Rattle.die_log.specs.Answers.{answer};
 ghost use Rattle.slot_core.specs.Core.{with_entry};
 ghost use Rattle.flash_volume.specs.Faults.{FailsWithDevice};
@@ -25,6 +26,7 @@ use event_log::{Deed, EventLog};
 use flash_die::Nand;
 use flash_volume::Volume;
 use job_table::JobTable;
+use log_start::LogStart;
 use slot_types::{Event, JobNo, MAX_SLOT, Refusal, Reply, SlotReply, Waived, WaivedList};
 use std::alloc::Global;
 
@@ -36,13 +38,13 @@ fn choose<N: Nand>(
     told: &mut WaivedList,
     present: u32,
 ) -> Option<JobNo>
-    ghost log: { Log }
+    ghost from: { Start × Log }
     requires alive { volume.old.failed ≡ false }
-    requires within { InSlot volume.old.accounts.plan log present told.old (record table.old { clock = present })
+    requires within { InSlot (over volume.old.accounts.plan from.0) from.1 present told.old (record table.old { clock = present })
         (flash_of N.blocks volume.old) }
     requires clock { table.old.clock ≤ present }
-    ensures turn { IfSome result (HasTurn volume.new.accounts.plan log present told.new table.new (flash_of N.blocks volume.new)) }
-    ensures idle { IfNone result (InSlot volume.new.accounts.plan log present told.new table.new (flash_of N.blocks volume.new)
+    ensures turn { IfSome result (HasTurn (over volume.new.accounts.plan from.0) from.1 present told.new table.new (flash_of N.blocks volume.new)) }
+    ensures idle { IfNone result (InSlot (over volume.new.accounts.plan from.0) from.1 present told.new table.new (flash_of N.blocks volume.new)
         × NothingReady table.new) }
     ensures closed { open_collections table.new.jobs + length told.new ≤ open_collections table.old.jobs + length told.old }
     ensures plan { volume.new.accounts.plan ≡ volume.old.accounts.plan }
@@ -75,26 +77,27 @@ fn carry_out<N: Nand>(
     caller: u32,
     present: u32,
     reply: &mut SlotReply,
+    _start: &LogStart,
 ) -> Result<(), Refusal>
-    ghost log: { Log }
+    ghost from: { Start × Log }
     requires alive { volume.old.failed ≡ false }
-    requires log { log_of table.old events.old.notes ≡ log }
+    requires log { log_of table.old events.old.notes ≡ from.1 }
     requires fits { AllFit table.old.jobs events.old.notes }
     requires few { present < MAX_SLOT }
     requires clock { table.old.clock ≤ present }
     requires entry { 0 < events.old.room }
     requires waivers { open_collections table.old.jobs ≤ events.old.waiver_room }
-    requires kept { Keeps volume.old.accounts.plan log present table.old volume.old.failed (flash_of N.blocks volume.old) }
+    requires kept { Keeps (over volume.old.accounts.plan from.0) from.1 present table.old volume.old.failed (flash_of N.blocks volume.old) }
     requires unfilled { reply.old ≡ idle_reply present [] }
-    ensures kept { OnOk result (Keeps volume.new.accounts.plan (log_of table.new events.new.notes) (present + 1) table.new volume.new.failed
+    ensures kept { OnOk result (Keeps (over volume.new.accounts.plan from.0) (log_of table.new events.new.notes) (present + 1) table.new volume.new.failed
         (flash_of N.blocks volume.new)) }
-    ensures answered { OnOk result (answer volume.old.accounts.plan log Event.Slot ≡ Reply.Slot reply.new) }
-    ensures logged { OnOk result (log_of table.new events.new.notes ≡ with_entry caller Event.Slot (Reply.Slot reply.new) log) }
+    ensures answered { OnOk result (answer (over volume.old.accounts.plan from.0) from.1 Event.Slot ≡ Reply.Slot reply.new) }
+    ensures logged { OnOk result (log_of table.new events.new.notes ≡ with_entry caller Event.Slot (Reply.Slot reply.new) from.1) }
     ensures plan { volume.new.accounts.plan ≡ volume.old.accounts.plan }
     ensures fails { FailsWithDevice N.failures N.never_fails result volume.old volume.new }
     ensures log_stays { OnErr result (log_of table.new events.new.notes ≡ log_of table.old events.old.notes) }
     ensures fit { AllFit table.new.jobs events.new.notes }
-    ensures still_kept { OnErr result (Keeps volume.new.accounts.plan (log_of table.new events.new.notes) present table.new
+    ensures still_kept { OnErr result (Keeps (over volume.new.accounts.plan from.0) (log_of table.new events.new.notes) present table.new
         volume.new.failed (flash_of N.blocks volume.new)) }
     ensures room { events.old.room ≤ events.new.room + 1 }
     ensures waiver_room { open_collections table.new.jobs ≤ events.new.waiver_room }
@@ -145,7 +148,7 @@ impl<N: Nand> DieCore<N> {
         ensures carried_out { OnOk result (HasCarriedOut caller reply.new self.old self.new) }
         ensures refused { IfErr result (λ refusal. HasRefusedSlot N.never_fails refusal self.old self.new) }
         ensures fault { (result ≡ Err Refusal.DeviceFault) ↔ (N.failures self.new.device ≡ N.failures self.old.device + 1) }
-        ensures plan { self.new.plan ≡ self.old.plan }
+        ensures plan { self.new.start ≡ self.old.start }
     {
         if self.volume.failed() {
             return Err(Refusal::DieStopped);
@@ -165,6 +168,7 @@ impl<N: Nand> DieCore<N> {
             caller,
             self.present,
             reply,
+            &self.start,
         ) {
             Err(refusal) => Err(refusal),
             Ok(()) => {
@@ -189,7 +193,7 @@ impl<N: Nand> DieCore<N> {
         ensures carried_out { IfOk result (λ reply. HasCarriedOut caller reply self.old self.new) }
         ensures refused { IfErr result (λ refusal. HasRefusedSlot N.never_fails refusal self.old self.new) }
         ensures fault { (result ≡ Err Refusal.DeviceFault) ↔ (N.failures self.new.device ≡ N.failures self.old.device + 1) }
-        ensures plan { self.new.plan ≡ self.old.plan }
+        ensures plan { self.new.start ≡ self.old.start }
     {
         let mut reply = new_reply(alloc);
         match self.fill_slot(caller, &mut reply) {
@@ -204,7 +208,7 @@ impl<N: Nand> DieCore<N> {
         ensures carried_out { IfOk result (λ reply. HasCarriedOut caller reply self.old self.new) }
         ensures refused { IfErr result (λ refusal. HasRefusedSlot N.never_fails refusal self.old self.new) }
         ensures fault { (result ≡ Err Refusal.DeviceFault) ↔ (N.failures self.new.device ≡ N.failures self.old.device + 1) }
-        ensures plan { self.new.plan ≡ self.old.plan }
+        ensures plan { self.new.start ≡ self.old.start }
     {
         let mut reply = new_reply(alloc);
         match self.fill_slot(caller, &mut reply) {

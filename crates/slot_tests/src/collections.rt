@@ -21,13 +21,13 @@ const W2: Op = Op::Write(2, TWOS);
 
 const W3: Op = Op::Write(3, PageData([3; 16]));
 
-const W4: Op = Op::Write(4, FOURS);
+pub(crate) const W4: Op = Op::Write(4, FOURS);
 
-const COPY_READ: Act = Act::CopyRead { page: 2 };
+pub(crate) const COPY_READ: Act = Act::CopyRead { page: 2 };
 
-const COPY_PROGRAM: Act = Act::CopyProgram { page: 2 };
+pub(crate) const COPY_PROGRAM: Act = Act::CopyProgram { page: 2 };
 
-const ERASE: Act = Act::Erase { block: 1 };
+pub(crate) const ERASE: Act = Act::Erase { block: 1 };
 
 /// Five writes are more than the task's two tokens.
 const TWO_TOKENS: Refusal = Refusal::NoTokens { have: 2, need: 5 };

@@ -6,11 +6,11 @@ use crate::histories::agrees;
 use crate::idle::{idles, runs};
 use crate::outcomes::{End, ended};
 use crate::slotted::{acts, at_once, carries, passes, waives};
-use crate::steps::{Fact, Step};
+use crate::steps::{Fact, NotRenewed, Step};
 use crate::told::Told;
 use flash_die::Nand;
 use late_cert::Verdict;
-use slot_core::{DieCore, Outcome, Worst};
+use slot_core::{DieCore, Outcome, RenewalRefusal, Worst};
 use slot_types::{JobNo, Op, Refusal};
 use std::alloc::Global;
 use std::process::Abort;
@@ -20,6 +20,16 @@ fn numbered(answer: Result<JobNo, Refusal>) -> Result<u32, Refusal> {
     match answer {
         Ok(number) => Ok(number.0),
         Err(refusal) => Err(refusal),
+    }
+}
+
+/// What a renewal answers as tables have it.
+fn renewed(answer: Result<(), RenewalRefusal>) -> Result<(), NotRenewed> {
+    match answer {
+        Ok(()) => Ok(()),
+        Err(RenewalRefusal::DieStopped) => Err(NotRenewed::Stopped),
+        Err(RenewalRefusal::NotQuiet { job }) => Err(NotRenewed::Waits(job)),
+        Err(RenewalRefusal::WornOut { block }) => Err(NotRenewed::Worn(block)),
     }
 }
 
@@ -132,6 +142,7 @@ fn goes<N: Nand, R: Abort>(told: &Told<R>, die: &mut DieCore<N>, alloc: Global, 
         Step::Passes { slots } => passes(told, die, alloc, *slots),
         Step::Reserves { slots } => told.same(&reserve(die, *slots), &Ok(())),
         Step::AtOnce { slots } => at_once(told, die, alloc, *slots),
+        Step::Renews { want } => told.same(&renewed(die.renew()), want),
         Step::NoSlot { want } => told.same(&carry(die, alloc), &Err(*want)),
         Step::History { seed } => agrees(told, die, alloc, *seed),
         Step::Is(fact) => stands(told, die, alloc, fact),

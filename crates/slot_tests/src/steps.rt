@@ -69,6 +69,10 @@ pub(crate) enum Step<'a> {
     AtOnce {
         slots: u32,
     },
+    /// The die is renewed.
+    Renews {
+        want: Result<(), NotRenewed>,
+    },
     /// The present slot is refused.
     NoSlot {
         want: Refusal,
@@ -146,6 +150,16 @@ pub(crate) enum Fact<'a> {
     Reserved {
         slots: u32,
     },
+}
+
+/// Why a die is not renewed.
+#[derive(Clone, Copy, PartialEq, Eq, Debug)]
+pub(crate) enum NotRenewed {
+    Stopped,
+    /// This job or collection is carried next.
+    Waits(u32),
+    /// This block is worn out.
+    Worn(u32),
 }
 
 /// A certificate: the jobs that fill the slots from its start to its completion, for the sake of one of them.

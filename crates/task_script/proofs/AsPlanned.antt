@@ -46,6 +46,8 @@ use Rattle.task_script.specs.declared.run_counts.RowEnd.{RowEnd}
 use Rattle.task_script.specs.declared.run_counts.RunCount.{RunCount}
 use Rattle.task_script.proofs.EachCall.{IsCallOf, each_call}
 use Rattle.task_script.proofs.Gathering.{runs_text}
+use Rattle.die_log.specs.Start.{fresh}
+use Rattle.die_log.proofs.Openings.{fresh_opens, fresh_stocked}
 
 -- Logs
 
@@ -54,13 +56,13 @@ told_more : (past log : Log) (event : Event) (reply : Reply) (rest : List Event)
     ∷ rest ≡ told log ++ rest
 told_more past log event reply rest is = sym (append_assoc (told past) (event ∷ []) rest) ∙ ap (λ (l : Log). told l ++ rest) (sym is)
 
-accepts_exact : (plan : DiePlan) (past log : Log) (event : Event) → Accepts plan past event log → IsExact plan past → IsExact plan log
-accepts_exact plan past log event h exact = subst (IsExact plan) (sym h.1) (exact, refl, h.0)
+accepts_exact : (plan : DiePlan) (past log : Log) (event : Event) → Accepts plan past event log → IsExact (fresh plan) past → IsExact (fresh plan) log
+accepts_exact plan past log event h exact = subst (IsExact (fresh plan)) (sym h.1) (exact, refl, h.0)
 
-not_refused : (plan : DiePlan) (past : Log) (event : Event) (refusal : Refusal) → refusal_of plan past event ≡ None → answer plan past event
+not_refused : (plan : DiePlan) (past : Log) (event : Event) (refusal : Refusal) → refusal_of (fresh plan) past event ≡ None → answer (fresh plan) past event
     ≡ replies.Refused refusal → ⊥
-not_refused plan past event refusal none is = subst IsAccepted (sym (accepted_answer plan past event none) ∙ is)
-    (entered plan past 0 event).0
+not_refused plan past event refusal none is = subst IsAccepted (sym (accepted_answer (fresh plan) past event none) ∙ is)
+    (entered (fresh plan) past 0 event).0
 
 -- Runs
 
@@ -78,32 +80,32 @@ ends_more plan before after (Slot ∷ calls) h =
 
 module _ (plan : DiePlan) (times : Times) (bound : MeetsBound plan) (passes : Passes plan times) where
   -- a row that keeps the plan is refused for want of memory alone
-  by_memory : (past : Log) (event : Event) (rest : List Event) (refusal : Refusal) → IsExact plan past
-      → KeepsPlan plan times (told past ++ event ∷ rest) → RefusedBy plan past event refusal → refusal ≡ NoMemory
+  by_memory : (past : Log) (event : Event) (rest : List Event) (refusal : Refusal) → IsExact (fresh plan) past
+      → KeepsPlan plan times (told past ++ event ∷ rest) → RefusedBy (fresh plan) past event refusal → refusal ≡ NoMemory
   by_memory past event rest refusal exact keeps (inl own) = absurd
-      (not_refused plan past event refusal (unrefused plan times bound passes past event rest exact keeps) own)
+      (not_refused plan past event refusal (unrefused (fresh plan) times (fresh_opens plan bound) passes (fresh_stocked plan times) past event rest exact keeps) own)
   by_memory past event rest refusal exact keeps (inr memory) = memory.1
 
   -- what became of the calls that are left
   abbrev TakenBehind : List RowEnd → List RowEnd → Type 0
   TakenBehind before after = (more : List RowEnd) × (after ≡ before ++ more) × AreTakenUntilMemory more
 
-  taken_from : (before after : DieRun) (calls : List Call) → IsExact plan before.log
+  taken_from : (before after : DieRun) (calls : List Call) → IsExact (fresh plan) before.log
       → KeepsPlan plan times (told before.log ++ map event_of calls) → Runs plan before calls after → TakenBehind before.ends after.ends
   taken_from before after [] exact keeps h = ([], ap (λ (r : DieRun). r.ends) h ∙ sym (append-nil before.ends), tt)
   taken_from before after (Slot ∷ calls) exact keeps h =
       let m = taken_from h.0 after calls (accepts_exact plan before.log h.0.log events.Slot h.1.0 exact)
-      (subst (KeepsPlan plan times) (told_more before.log h.0.log events.Slot (answer plan before.log events.Slot) (map event_of calls)
+      (subst (KeepsPlan plan times) (told_more before.log h.0.log events.Slot (answer (fresh plan) before.log events.Slot) (map event_of calls)
       h.1.0.1) keeps) h.2 in
       (m.0, m.1 ∙ ap (λ l. l ++ m.0) h.1.1, m.2)
   taken_from before after (Row item ∷ calls) exact keeps h = by_end (λ e k. taken_from h.0 after calls e k h.2) h.1.0 h.1.1 h.1.2
     where
-      by_end : (IsExact plan h.0.log → KeepsPlan plan times (told h.0.log ++ map event_of calls) → TakenBehind h.0.ends after.ends)
+      by_end : (IsExact (fresh plan) h.0.log → KeepsPlan plan times (told h.0.log ++ map event_of calls) → TakenBehind h.0.ends after.ends)
           → (refusal : Option Refusal) → Ends plan before.log item.event refusal h.0.log → h.0.ends ≡ before.ends ++ end_of item refusal
           ∷ [] → TakenBehind before.ends after.ends
       by_end rest None taken ends =
           let m = rest (accepts_exact plan before.log h.0.log item.event taken exact)
-          (subst (KeepsPlan plan times) (told_more before.log h.0.log item.event (answer plan before.log item.event) (map event_of calls)
+          (subst (KeepsPlan plan times) (told_more before.log h.0.log item.event (answer (fresh plan) before.log item.event) (map event_of calls)
           taken.1) keeps) in
           let e : RowEnd = end_of item None in
           (e ∷ m.0, m.1 ∙ (ap (λ l. l ++ m.0) ends ∙ append_assoc before.ends (e ∷ []) m.0), inl (refl, m.2))
@@ -121,13 +123,13 @@ entered_from : (plan : DiePlan) (before after : DieRun) (calls : List Call) → 
     → Runs plan before calls after → AreEntered (map event_of calls) before.log after.log
 entered_from plan before after [] arrive h = ap (λ (r : DieRun). r.log) h
 entered_from plan before after (Slot ∷ calls) arrive h =
-    (h.0.log, inl (0, answer plan before.log events.Slot, h.1.0.1), entered_from plan h.0 after calls arrive.1 h.2)
+    (h.0.log, inl (0, answer (fresh plan) before.log events.Slot, h.1.0.1), entered_from plan h.0 after calls arrive.1 h.2)
 entered_from plan before after (Row item ∷ calls) arrive h = (h.0.log, by_end h.1.0 h.1.1, entered_from plan h.0 after calls arrive.1 h.2)
   where
     by_end : (refusal : Option Refusal) → Ends plan before.log item.event refusal h.0.log
         → ((caller : ℕ) × (reply : Reply) × (h.0.log ≡ record { caller = caller; event = item.event; reply = reply } ∷ before.log))
         ⊎ (IsArrival item.event × (h.0.log ≡ before.log))
-    by_end None taken = inl (0, answer plan before.log item.event, taken.1)
+    by_end None taken = inl (0, answer (fresh plan) before.log item.event, taken.1)
     by_end (Some refusal) refused = inr (arrive.0, refused.1)
 
 -- Rows of reports
@@ -144,9 +146,9 @@ each_mapped : {X Y : Type 0} (P : Y → Type 0) (f : X → Y) (xs : List X) → 
 each_mapped P f [] h = tt
 each_mapped P f (x ∷ xs) h = (h zero x refl, each_mapped P f xs (λ k y e. h (suc k) y e))
 
-rows_on_time : (plan : DiePlan) (log : Log) → IsInTime plan log → All IsOnTime (map (report_row_of plan log) (jobs log))
+rows_on_time : (plan : DiePlan) (log : Log) → IsInTime plan log → All IsOnTime (map (report_row_of (fresh plan) log) (jobs log))
 rows_on_time plan log in_time =
-    All-from_recursion IsOnTime (map (report_row_of plan log) (jobs log)) (each_mapped IsOnTime (report_row_of plan log) (jobs log)
+    All-from_recursion IsOnTime (map (report_row_of (fresh plan) log) (jobs log)) (each_mapped IsOnTime (report_row_of (fresh plan) log) (jobs log)
     (λ k j e. row_on_time j.number (head_of j) (work j.number log) _ (is_done plan log j) _ _ _ _
     (λ done. in_time.never_late j (contained (jobs log) k j e) done)))
 
@@ -157,7 +159,7 @@ pub as_planned : (plan : DiePlan) (slots : ℕ) (items : List ScriptItem) (run :
 as_planned plan slots items run bound arrive k is =
     let asked = each_call (λ item. IsArrival item.event) 0 slots items (all_events items (recursion_from_All (Arrives slots) items arrive))
     in
-    let in_time = planned_in_time plan k.times bound k.passes (events_of slots items) k.keeps [] run.log is.exact
+    let in_time = planned_in_time (fresh plan) k.times (fresh_opens plan bound) k.passes (events_of slots items) k.keeps [] run.log is.exact
     (entered_from plan fresh_run run _ asked is.ran) in
     let taken = taken_from plan k.times bound k.passes fresh_run run _ tt k.keeps is.ran in
     record {

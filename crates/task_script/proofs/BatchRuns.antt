@@ -42,6 +42,8 @@ use Rattle.task_script.specs.RunCounts.{count_of, counted_behind}
 use Rattle.task_script.specs.declared.batches.Progress.{Progress}
 use Rattle.task_script.specs.declared.run_counts.RowEnd.{RowEnd}
 use Rattle.task_script.specs.declared.run_counts.RunCount.{RunCount}
+use Rattle.die_log.specs.Start.{Start, fresh}
+use Rattle.die_log.proofs.Openings.{fresh_opens}
 
 -- Calls of one caller
 
@@ -54,25 +56,25 @@ all_front ns front more all = λ p other. none_first (calls_by p front) (calls_b
     (sym (calls_append p front more) ∙ all p other)
 
 -- a device in memory doesn't fail
-of_log : (plan : DiePlan) (past : Log) (event : Event) (refusal : Refusal) → MayRefuse true plan past event refusal
-    → RefusedBy plan past event refusal
+of_log : (plan : DiePlan) (past : Log) (event : Event) (refusal : Refusal) → MayRefuse true (fresh plan) past event refusal
+    → RefusedBy (fresh plan) past event refusal
 of_log plan past event refusal (inl h) = h
 of_log plan past event refusal (inr (inl h)) = absurd (false≢true (sym h.0))
 of_log plan past event refusal (inr (inr h)) = absurd (false≢true (sym h.0))
 
 -- What the log says to the calls of a die's first pass, where no other pass called it
 
-module _ (plan : DiePlan) (first p : DiePass) (fresh : first.view ≡ first_view plan) (saids : List Said)
-    (far : Far true plan first.view saids p.view) (mine : AllBy (0 ∷ []) p.view.seen) where
+module _ (plan : DiePlan) (first p : DiePass) (first_is : first.view ≡ first_view (fresh plan)) (saids : List Said)
+    (far : Far true (fresh plan) first.view saids p.view) (mine : AllBy (0 ∷ []) p.view.seen) where
   number_is : first.view.number ≡ 0
-  number_is = ap (λ (v : DieView). v.number) fresh
+  number_is = ap (λ (v : DieView). v.number) first_is
 
   -- of the first entries its own are those that were accepted first
   own_front : (seen : List Call) (xs : List Said) → AllBy (0 ∷ []) seen
       → calls_by first.view.number seen ≡ calls_by first.view.number first.view.seen ++ accepted_by first.view.number xs
       → seen ≡ accepted_by 0 xs
   own_front seen xs all own = sym (all_own 0 seen all) ∙ (ap (λ n. calls_by n seen) (sym number_is) ∙ (own
-      ∙ λ i. calls_by (number_is i) (ap (λ (v : DieView). v.seen) fresh i) ++ accepted_by (number_is i) xs))
+      ∙ λ i. calls_by (number_is i) (ap (λ (v : DieView). v.seen) first_is i) ++ accepted_by (number_is i) xs))
 
   log_is : log_of p.view.seen ≡ said_log saids
   log_is = ap log_of (own_front p.view.seen saids mine far.own)
@@ -83,27 +85,27 @@ module _ (plan : DiePlan) (first p : DiePass) (fresh : first.view ≡ first_view
 
   told : AreTold plan saids
   told = record {
-    accepted = λ before after event reply is. told_accepted plan saids before after event reply
-        (subst (IsExact plan) log_is far.exact.exact) is;
+    accepted = λ before after event reply is. told_accepted (fresh plan) saids before after event reply
+        (subst (IsExact (fresh plan)) log_is far.exact.exact) is;
     refused = λ before after event refused is.
         let why = far.refused before after event refused is in
         let these = own_front (take refused.entries p.view.seen) before (taken_front refused.entries) why.own in
         of_log plan (said_log before) event refused.refusal
-        (subst (λ (l : List Call). MayRefuse true plan (log_of l) event refused.refusal) these why.reason);
+        (subst (λ (l : List Call). MayRefuse true (fresh plan) (log_of l) event refused.refusal) these why.reason);
   }
 
 -- A die on which nothing was done
 
-pub begins : (plan : DiePlan) (p : DiePass) → p.view ≡ first_view plan → MeetsBound plan → HasComeTo plan [] 0 p fresh_progress
-begins plan p fresh bound = record {
+pub begins : (plan : DiePlan) (p : DiePass) → p.view ≡ first_view (fresh plan) → MeetsBound plan → HasComeTo plan [] 0 p fresh_progress
+begins plan p first_is bound = record {
   first = p;
-  fresh = fresh;
+  first_is = first_is;
   same = (refl, refl, refl, refl);
   saids = [];
-  far = subst (λ (v : DieView). Far true plan v [] v) (sym fresh) (record {
+  far = subst (λ (v : DieView). Far true (fresh plan) v [] v) (sym first_is) (record {
     about_is = refl;
     starts = ([], refl);
-    exact = record { bound = bound; exact = tt };
+    exact = record { opens = fresh_opens plan bound; exact = tt };
     own = refl;
     refused = λ before after event refused is. absurd (no_call before after (said event (Err refused)) is);
     joined = λ live n mine other. refl;
@@ -114,7 +116,7 @@ begins plan p fresh bound = record {
   ends = [];
   clock_is = refl;
   counted = refl;
-  ran = λ mine. subst (λ (v : DieView). Runs plan fresh_run [] (run_at (log_of v.seen) []) × (now (log_of v.seen) ≡ 0)) (sym fresh)
+  ran = λ mine. subst (λ (v : DieView). Runs plan fresh_run [] (run_at (log_of v.seen) []) × (now (log_of v.seen) ≡ 0)) (sym first_is)
       (refl, refl);
 }
   where
@@ -126,7 +128,7 @@ begins plan p fresh bound = record {
 
 -- the run of a batch, as what a pass knows of its calls
 far_of : (batch : Batch) (v : DieView) (end : DieEnd) (w : DieView) (r : HasRun true batch v end w) → v.live ≡ true
-    → Far true r.plan v r.saids w
+    → Far true r.start v r.saids w
 far_of batch v end w r live = record {
   about_is = r.about_is;
   starts = r.starts;
@@ -158,15 +160,15 @@ module _ (plan : DiePlan) (items more : List ScriptItem) (until : ℕ) (p q : Di
   ends_at : at.clock + span ≡ max (latest (items ++ more)) until
   ends_at = omega (arith, clock_is, latest_more items more)
 
-  plan_is : r.plan ≡ plan
-  plan_is = same_plan r.plan plan (sym r.about_is ∙ (h.same.3 ∙ h.far.about_is))
+  start_is : r.start ≡ fresh plan
+  start_is = same_plan r.start (fresh plan) (sym r.about_is ∙ (h.same.3 ∙ h.far.about_is))
 
   live : p.view.live ≡ true
-  live = h.far.live ∙ ap (λ (v : DieView). v.live) h.fresh
+  live = h.far.live ∙ ap (λ (v : DieView). v.live) h.first_is
 
-  far : Far true plan h.first.view all q.view
-  far = far_joins true plan h.first.view p.view q.view h.saids r.saids h.same.1 h.same.2 h.far
-      (subst (λ (x : DiePlan). Far true x p.view r.saids q.view) plan_is
+  far : Far true (fresh plan) h.first.view all q.view
+  far = far_joins true (fresh plan) h.first.view p.view q.view h.saids r.saids h.same.1 h.same.2 h.far
+      (subst (λ (x : Start). Far true x p.view r.saids q.view) start_is
       (far_of (batch_of until at.clock more) p.view end q.view r live))
 
   due : All (λ item. item.at ≤ at.clock + span) more
@@ -185,10 +187,10 @@ module _ (plan : DiePlan) (items more : List ScriptItem) (until : ℕ) (p q : Di
     own_before = all_front (0 ∷ []) p.view.seen r.starts.0 (subst (AllBy (0 ∷ [])) r.starts.1 mine)
 
     past_is : log_of p.view.seen ≡ said_log h.saids
-    past_is = log_is plan h.first p h.fresh h.saids h.far own_before
+    past_is = log_is plan h.first p h.first_is h.saids h.far own_before
 
     comes : ComesTo plan all h.saids h.ends (calls_from at.clock span more) 0 (lines_of more) r.saids (at.clock + span)
-    comes = slots_run plan all (told plan h.first q h.fresh all far mine) span at.clock more h.saids r.saids h.ends 0 refl r.ordered
+    comes = slots_run plan all (told plan h.first q h.first_is all far mine) span at.clock more h.saids r.saids h.ends 0 refl r.ordered
         (ap now (sym past_is) ∙ ((h.ran own_before).1 ∙ sym h.clock_is)) none_stopped due arrive
 
     ended_is : comes.ended ≡ ended
@@ -209,18 +211,18 @@ module _ (plan : DiePlan) (items more : List ScriptItem) (until : ℕ) (p q : Di
     all_ran : Runs plan fresh_run (run.calls_of (max (latest (items ++ more)) until) (items ++ more))
         (run_at (log_of q.view.seen) (h.ends ++ ended))
     all_ran = subst (λ (x : List run.Call × Log × List RowEnd). Runs plan fresh_run x.0 (run_at x.1 (h.ends ++ x.2)))
-        (λ i. (calls_are i, sym (log_is plan h.first q h.fresh all far mine) i, ended_is i))
+        (λ i. (calls_are i, sym (log_is plan h.first q h.first_is all far mine) i, ended_is i))
         (ran_more plan fresh_run (run_at (said_log h.saids) h.ends) (run_at (said_log all) (h.ends ++ comes.ended))
         (calls_from 0 at.clock items) (calls_from at.clock span more) first_ran comes.ran)
 
     now_is : now (log_of q.view.seen) ≡ max (latest (items ++ more)) until
-    now_is = ap now (log_is plan h.first q h.fresh all far mine) ∙ (comes.slots ∙ ends_at)
+    now_is = ap now (log_is plan h.first q h.first_is all far mine) ∙ (comes.slots ∙ ends_at)
 
   pub goes_on : HasComeTo plan (items ++ more) (max (latest (items ++ more)) until) q
       (after_batch at (record { end = end_slot until at.clock more; lines = lines_of more }) end)
   goes_on = record {
     first = h.first;
-    fresh = h.fresh;
+    first_is = h.first_is;
     same = (same.0 ∙ h.same.0, same.1 ∙ h.same.1, same.2 ∙ h.same.2, same.3 ∙ h.same.3);
     saids = all;
     far = far;
@@ -237,16 +239,16 @@ module _ {N : Type 0} (plan : DiePlan) (items : List ScriptItem) (slots : ℕ) (
   all_mine : AllBy (0 ∷ []) p.view.seen
   all_mine = by_log 0 p.view.seen (subst (λ (x : List ℕ × List Call). AllBy x.0 x.1)
       (λ i. (
-        (h.same.1 ∙ ap (λ (v : DieView). v.number) h.fresh) i ∷ (h.same.2 ∙ ap (λ (v : DieView). v.joined) h.fresh) i,
+        (h.same.1 ∙ ap (λ (v : DieView). v.number) h.first_is) i ∷ (h.same.2 ∙ ap (λ (v : DieView). v.joined) h.first_is) i,
         calls_of (c.log_is i),
       )) c.by_own)
 
-  pub die_plan : die.plan ≡ plan
-  die_plan = same_plan die.plan plan (sym c.about_is ∙ (h.same.3 ∙ ap (λ (v : DieView). v.about) h.fresh))
+  pub die_start : die.start ≡ fresh plan
+  die_start = same_plan die.start (fresh plan) (sym c.about_is ∙ (h.same.3 ∙ ap (λ (v : DieView). v.about) h.first_is))
 
   pub closed_run : IsRun plan slots items (run_at die.log h.ends)
   closed_run = record {
     ran = subst (λ (log : Log). Runs plan fresh_run (run.calls_of slots items) (run_at log h.ends)) (sym c.log_is) (h.ran all_mine).0;
     all_slots = ap now c.log_is ∙ (h.ran all_mine).1;
-    exact = subst (λ (x : DiePlan). IsExact x die.log) die_plan c.promised.exact;
+    exact = subst (λ (x : Start). IsExact x die.log) die_start c.promised.exact;
   }

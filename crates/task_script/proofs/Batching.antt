@@ -32,6 +32,7 @@ use Rattle.task_script.specs.Batches.{progress_after, latest}
 use Rattle.task_script.specs.Feeds.{AllArrive, AreInTime, AreItemsOf, FailsIn, HasReadRows, IsDealt, IsReadTo, RefusesScript, feed_of}
 use Rattle.task_script.specs.RowEnds.{arrival_of, arrivals_of, lines_of}
 use Rattle.task_script.specs.declared.batches.Progress.{Progress}
+use Rattle.die_log.specs.Start.{fresh}
 
 -- a die carried out all its slots
 abbrev pub IsWhole : DieEnd → Type 0
@@ -39,14 +40,14 @@ IsWhole end = end.stop ≡ None
 
 -- By die
 
-pub all_begin : (number : ℕ) (plans : List DiePlan) (ps : List DiePass) → map (λ (p : DiePass). p.view) ps ≡ map first_view plans
+pub all_begin : (number : ℕ) (plans : List DiePlan) (ps : List DiePass) → map (λ (p : DiePass). p.view) ps ≡ map first_view (map fresh plans)
     → AllByRecursion MeetsBound plans → HaveComeTo 0 (feed_of []) number plans ps (replicate (length plans) fresh_progress)
 all_begin number [] [] first bound = tt
 all_begin number [] (p ∷ ps) first bound = absurd cc
 all_begin number (plan ∷ plans) [] first bound = absurd cc
 all_begin number (plan ∷ plans) (p ∷ ps) first bound =
-    let view : p.view ≡ first_view plan = cc in
-    let rest : map (λ (q : DiePass). q.view) ps ≡ map first_view plans = cc in
+    let view : p.view ≡ first_view (fresh plan) = cc in
+    let rest : map (λ (q : DiePass). q.view) ps ≡ map first_view (map fresh plans) = cc in
     (begins plan p view bound.0, all_begin (number + 1) plans ps rest bound.1)
 
 -- of each die these are the rows before a batch, those of the batch, and all
@@ -132,7 +133,7 @@ pub all_sole : (until : ℕ) (feed : ℕ → List ScriptItem) (number : ℕ) (pl
     → HaveComeTo until feed number plans ps progress → AllByRecursion (λ (p : DiePass). p.view.sole ≡ true) ps
 all_sole until feed number [] [] [] come = tt
 all_sole until feed number (plan ∷ plans) (p ∷ ps) (at ∷ progress) come = (
-  come.0.far.sole (ap (λ (v : DieView). v.sole) come.0.fresh),
+  come.0.far.sole (ap (λ (v : DieView). v.sole) come.0.first_is),
   all_sole until feed (number + 1) plans ps progress come.1,
 )
 all_sole until feed number [] [] (at ∷ progress) come = absurd come
@@ -163,16 +164,16 @@ pub record SoFar (until : ℕ) (whole left : Option Script) (plans : List DiePla
 
 -- nothing was read yet
 pub so_far_none : (whole left : Option Script) (plans : List DiePlan) (slots dies : ℕ) (ps : List DiePass) (progress : List Progress)
-    → left ≡ whole → map (λ (p : DiePass). p.view) ps ≡ map first_view plans → All MeetsBound plans
+    → left ≡ whole → map (λ (p : DiePass). p.view) ps ≡ map first_view (map fresh plans) → All MeetsBound plans
     → progress ≡ replicate dies fresh_progress → dies ≡ length plans → SoFar 0 whole left plans slots ps progress
-so_far_none whole left plans slots dies ps progress same first bound fresh are = record {
+so_far_none whole left plans slots dies ps progress same first bound none are = record {
   items = [];
   read = subst (λ (o : Option Script). IsReadTo whole o []) (sym same) (read_none whole);
   in_time = record {
     arrive = λ die below. All-nil (Arrives slots);
     pages = λ die below. All-nil RowHasPages;
   };
-  come = subst (HaveComeTo 0 (feed_of []) 0 plans ps) (sym (fresh ∙ ap (λ (n : ℕ). replicate n fresh_progress) are))
+  come = subst (HaveComeTo 0 (feed_of []) 0 plans ps) (sym (none ∙ ap (λ (n : ℕ). replicate n fresh_progress) are))
       (all_begin 0 plans ps first (recursion_from_All MeetsBound plans bound));
 }
 

@@ -3,7 +3,6 @@ use Rattle.std.proofs.Common.{◌≡◌, ℕ, zero, suc, ◌+◌, List, [], ◌�
 use Rattle.std.proofs.Common.{slice_get, arith, Result, Ok, Err, OnOk}
 use Rattle.std.specs.Prelude.{option_map}
 use Rattle.std.proofs.lemmas.Option.{same_Some, none-some}
-use Rattle.slot_types.specs.declared.plans.DiePlan.{DiePlan}
 use Rattle.slot_types.specs.declared.events.Event.{Event}
 use Rattle.slot_types.specs.declared.events.Event.TheVariants as events
 use Rattle.slot_types.specs.declared.replies.Reply.{Reply}
@@ -17,6 +16,7 @@ use Rattle.report_texts.specs.declared.reports.ReportRow.{ReportRow}
 use Rattle.report_texts.specs.TextSoFar.{TextSoFar, row_added, rows_added}
 use Rattle.report_texts.proofs.TextParts.{rows_push}
 use Rattle.task_script.specs.DieReports.{row_as, report_row_of, report_rows_of}
+use Rattle.die_log.specs.Start.{Start}
 
 -- Numbers
 
@@ -32,9 +32,9 @@ taken_numbered past (events.Submit task release due ops) (replies.Refused refusa
 taken_numbered past (events.Collect task release due) (replies.Slot s) is h = absurd is
 taken_numbered past (events.Collect task release due) (replies.Refused refusal) is h = absurd is
 
-pub are_numbered : (plan : DiePlan) (log : Log) → IsLegal plan log → AreNumbered 0 (jobs log)
-are_numbered plan [] h = tt
-are_numbered plan (e ∷ past) h = taken_numbered past e.event e.reply h.1.numbered (are_numbered plan past h.0)
+pub are_numbered : (start : Start) (log : Log) → IsLegal start log → AreNumbered 0 (jobs log)
+are_numbered start [] h = tt
+are_numbered start (e ∷ past) h = taken_numbered past e.event e.reply h.1.numbered (are_numbered start past h.0)
 
 -- Lists
 
@@ -58,38 +58,38 @@ map_push f (y ∷ xs) x = ap (λ ys. f y ∷ ys) (map_push f xs x)
 -- One more row
 
 -- a text has the rows of the jobs before a number
-abbrev pub HasSoFar : DiePlan → Log → ℕ → ℕ → TextSoFar → TextSoFar → Type 0
-HasSoFar plan log die n old text = text ≡ rows_added die (map (report_row_of plan log) (take n (jobs log))) old
+abbrev pub HasSoFar : Start → Log → ℕ → ℕ → TextSoFar → TextSoFar → Type 0
+HasSoFar start log die n old text = text ≡ rows_added die (map (report_row_of start log) (take n (jobs log))) old
 
-found : (plan : DiePlan) (log : Log) (summary : JobSummary) (o : Option Job) → option_map (summary_of plan log) o ≡ Some summary
-    → (j : Job) × (o ≡ Some j) × (summary_of plan log j ≡ summary)
-found plan log summary None e = absurd (none-some summary e)
-found plan log summary (Some j) e = (j, refl, same_Some (summary_of plan log j) summary e)
+found : (start : Start) (log : Log) (summary : JobSummary) (o : Option Job) → option_map (summary_of start log) o ≡ Some summary
+    → (j : Job) × (o ≡ Some j) × (summary_of start log j ≡ summary)
+found start log summary None e = absurd (none-some summary e)
+found start log summary (Some j) e = (j, refl, same_Some (summary_of start log j) summary e)
 
 -- the rows up to the next number
-row_next : (plan : DiePlan) (log : Log) (n : ℕ) (summary : JobSummary) → IsLegal plan log → summary_at plan log n ≡ Some summary
-    → map (report_row_of plan log) (take (n + 1) (jobs log)) ≡ map (report_row_of plan log) (take n (jobs log)) ++ row_as n summary ∷ []
-row_next plan log n summary legal summary_is =
-    let f = found plan log summary (job_at log n) summary_is in
-    let number : f.0.number ≡ n = omega (arith, number_at 0 (jobs log) n f.0 (are_numbered plan log legal) f.1) in
-    let row : row_as n summary ≡ report_row_of plan log f.0 = ap (row_as n) (sym f.2)
-    ∙ ap (λ (k : ℕ). row_as k (summary_of plan log f.0)) (sym number) in
-    ap (map (report_row_of plan log)) (take_next (jobs log) n f.0 f.1)
-    ∙ (map_push (report_row_of plan log) (take n (jobs log)) f.0
-    ∙ ap (λ (r : ReportRow). map (report_row_of plan log) (take n (jobs log)) ++ r ∷ []) (sym row))
+row_next : (start : Start) (log : Log) (n : ℕ) (summary : JobSummary) → IsLegal start log → summary_at start log n ≡ Some summary
+    → map (report_row_of start log) (take (n + 1) (jobs log)) ≡ map (report_row_of start log) (take n (jobs log)) ++ row_as n summary ∷ []
+row_next start log n summary legal summary_is =
+    let f = found start log summary (job_at log n) summary_is in
+    let number : f.0.number ≡ n = omega (arith, number_at 0 (jobs log) n f.0 (are_numbered start log legal) f.1) in
+    let row : row_as n summary ≡ report_row_of start log f.0 = ap (row_as n) (sym f.2)
+    ∙ ap (λ (k : ℕ). row_as k (summary_of start log f.0)) (sym number) in
+    ap (map (report_row_of start log)) (take_next (jobs log) n f.0 f.1)
+    ∙ (map_push (report_row_of start log) (take n (jobs log)) f.0
+    ∙ ap (λ (r : ReportRow). map (report_row_of start log) (take n (jobs log)) ++ r ∷ []) (sym row))
 
-pub one_more : (plan : DiePlan) (log : Log) (die n : ℕ) (old text new : TextSoFar) (summary : JobSummary) → IsLegal plan log
-    → summary_at plan log n ≡ Some summary → new ≡ row_added die (row_as n summary) text → HasSoFar plan log die n old text
-    → HasSoFar plan log die (n + 1) old new
-one_more plan log die n old text new summary legal summary_is added so_far =
-    let before = map (report_row_of plan log) (take n (jobs log)) in
+pub one_more : (start : Start) (log : Log) (die n : ℕ) (old text new : TextSoFar) (summary : JobSummary) → IsLegal start log
+    → summary_at start log n ≡ Some summary → new ≡ row_added die (row_as n summary) text → HasSoFar start log die n old text
+    → HasSoFar start log die (n + 1) old new
+one_more start log die n old text new summary legal summary_is added so_far =
+    let before = map (report_row_of start log) (take n (jobs log)) in
     added ∙ (ap (row_added die (row_as n summary)) so_far ∙ (rows_push die before (row_as n summary) old
-    ∙ ap (λ (rows : List ReportRow). rows_added die rows old) (sym (row_next plan log n summary legal summary_is))))
+    ∙ ap (λ (rows : List ReportRow). rows_added die rows old) (sym (row_next start log n summary legal summary_is))))
 
-pub none_more : (plan : DiePlan) (log : Log) (die n : ℕ) (old text : TextSoFar) → job_at log n ≡ None → HasSoFar plan log die n old text
-    → text ≡ rows_added die (report_rows_of plan log) old
-none_more plan log die n old text past so_far =
-    so_far ∙ ap (λ (js : List Job). rows_added die (map (report_row_of plan log) js) old) (take_past (jobs log) n past)
+pub none_more : (start : Start) (log : Log) (die n : ℕ) (old text : TextSoFar) → job_at log n ≡ None → HasSoFar start log die n old text
+    → text ≡ rows_added die (report_rows_of start log) old
+none_more start log die n old text past so_far =
+    so_far ∙ ap (λ (js : List Job). rows_added die (map (report_row_of start log) js) old) (take_past (jobs log) n past)
 
 -- what follows of a call that ends well
 pub ok_then : {T E P Q : Type 0} (result : Result T E) → (P → Q) → OnOk result P → OnOk result Q

@@ -28,6 +28,7 @@ use Rattle.die_log.proofs.Known.{all_append}
 use Rattle.die_log.proofs.Legal.Exact.{has_slots}
 use Rattle.die_log.proofs.Limits.{few_found, keeps_limits}
 use Rattle.slot_core.specs.Records.{bytes_read, gift_by, gift_of, given, given_by, reads_of, waiver_among}
+use Rattle.die_log.specs.Start.{fresh}
 
 -- Completions
 
@@ -47,12 +48,12 @@ completed_by_now n (e ∷ past) = before_end past e.reply (act_of n (ran_by e.re
 -- What is done
 
 -- whatever is done took a slot
-pub done_worked : (plan : DiePlan) (log : Log) (j : Job) → MeetsBound plan → IsExact plan log → Contains (jobs log) j → is_done plan log j
+pub done_worked : (plan : DiePlan) (log : Log) (j : Job) → MeetsBound plan → IsExact (fresh plan) log → Contains (jobs log) j → is_done plan log j
     ≡ true → 0 < work j.number log
 done_worked plan log j bound exact stands = by_acts (acts j.number log)
   where
     within : IsWithinLimits plan j
-    within = (keeps_limits plan log exact).each j stands
+    within = (keeps_limits (fresh plan) log exact).each j stands
 
     none_done : (b : Bool) → j.collects ≡ b → cond b (0 == plan.shape.erase_slots) (0 == length j.ops) ≡ true → ⊥
     none_done true kind e = omega (arith, eqb-true 0 plan.shape.erase_slots e, has_slots plan bound)
@@ -67,14 +68,14 @@ job_reads plan j own kind e = eqb-true (length own) (length j.ops)
     (subst (λ (b : Bool). cond b (count_by is_erase own == plan.shape.erase_slots) (length own == length j.ops) ≡ true) kind e)
 
 -- a done job gave no more pages than a job has operations
-pub few_reads : (plan : DiePlan) (log : Log) (j : Job) → IsExact plan log → Contains (jobs log) j → j.collects ≡ false → is_done plan log j
+pub few_reads : (plan : DiePlan) (log : Log) (j : Job) → IsExact (fresh plan) log → Contains (jobs log) j → j.collects ≡ false → is_done plan log j
     ≡ true → length (reads_of (acts j.number log)) ≤ MAX_OPS
 few_reads plan log j exact stands kind done =
     omega (
       arith,
       few_found bytes_read (acts j.number log),
       job_reads plan j (acts j.number log) kind done,
-      ((keeps_limits plan log exact).each j stands).few,
+      ((keeps_limits (fresh plan) log exact).each j stands).few,
     )
 
 -- What collections give
@@ -85,35 +86,35 @@ few_given a task = omega arith
 given_plan : (plan : DiePlan) (a : Accounts) (task : ℕ) → a.plan ≡ plan → given_of a task ≤ plan.alpha
 given_plan plan a task e = subst (λ (p : DiePlan). given_of a task ≤ p.alpha) e (few_given a task)
 
-gift_few : (plan : DiePlan) (past : Log) (s : SlotReply) (o : Option Job) → gift_of plan past s o ≤ plan.alpha
+gift_few : (plan : DiePlan) (past : Log) (s : SlotReply) (o : Option Job) → gift_of (fresh plan) past s o ≤ plan.alpha
 gift_few plan past s None = omega arith
 gift_few plan past s (Some j) = by_kind j.collects
   where
     settled : Accounts
-    settled = after_waivers past s.waived (accounts plan past)
+    settled = after_waivers past s.waived (accounts (fresh plan) past)
 
     by_kind : (b : Bool) → cond b (given_of settled j.task) 0 ≤ plan.alpha
-    by_kind true = given_plan plan settled j.task (waivers_plan past s.waived (accounts plan past) ∙ accounts_plan plan past)
+    by_kind true = given_plan plan settled j.task (waivers_plan past s.waived (accounts (fresh plan) past) ∙ accounts_plan (fresh plan) past)
     by_kind false = omega arith
 
 gift_by_few : (plan : DiePlan) (past : Log) (s : SlotReply) (number : ℕ) (o : Option ℕ) (earlier : ℕ) → earlier ≤ plan.alpha
-    → gift_by plan past s number o earlier ≤ plan.alpha
+    → gift_by (fresh plan) past s number o earlier ≤ plan.alpha
 gift_by_few plan past s number None earlier h = h
 gift_by_few plan past s number (Some n) earlier h = by_number (n == number)
   where
-    by_number : (b : Bool) → cond b (gift_of plan past s (job_at past number)) earlier ≤ plan.alpha
+    by_number : (b : Bool) → cond b (gift_of (fresh plan) past s (job_at past number)) earlier ≤ plan.alpha
     by_number true = gift_few plan past s (job_at past number)
     by_number false = h
 
 given_by_few : (plan : DiePlan) (past : Log) (reply : Reply) (number earlier : ℕ) → earlier ≤ plan.alpha
-    → given_by plan past reply number earlier ≤ plan.alpha
+    → given_by (fresh plan) past reply number earlier ≤ plan.alpha
 given_by_few plan past (replies.Slot s) number earlier h = gift_by_few plan past s number s.finished earlier h
 given_by_few plan past (replies.Taken n) number earlier h = h
 given_by_few plan past (replies.Refused refusal) number earlier h = h
 
-pub done_gives_few : (plan : DiePlan) (number : ℕ) (log : Log) → given plan number log ≤ plan.alpha
+pub done_gives_few : (plan : DiePlan) (number : ℕ) (log : Log) → given (fresh plan) number log ≤ plan.alpha
 done_gives_few plan number [] = omega arith
-done_gives_few plan number (e ∷ past) = given_by_few plan past e.reply number (given plan number past) (done_gives_few plan number past)
+done_gives_few plan number (e ∷ past) = given_by_few plan past e.reply number (given (fresh plan) number past) (done_gives_few plan number past)
 
 -- What waived collections give
 
@@ -126,14 +127,14 @@ waivers_few plan past earlier a [] e h = tt
 waivers_few plan past earlier a (w ∷ ws) e h =
     (omega (arith, h.1.gives, given_plan plan a h.0.task e), waivers_few plan past (earlier ++ w ∷ []) (moves.waived a h.0.task) ws e h.2)
 
-reply_few : (plan : DiePlan) (past : Log) (reply : Reply) → IsLegalReply plan past reply → AllByRecursion (GivesFew plan) (waived past)
+reply_few : (plan : DiePlan) (past : Log) (reply : Reply) → IsLegalReply (fresh plan) past reply → AllByRecursion (GivesFew plan) (waived past)
     → AllByRecursion (GivesFew plan) (with_waived reply (waived past))
 reply_few plan past (replies.Slot s) h k = all_append (GivesFew plan) (waived past) s.waived k
-    (waivers_few plan past (waived past) (accounts plan past) s.waived (accounts_plan plan past) h.0)
+    (waivers_few plan past (waived past) (accounts (fresh plan) past) s.waived (accounts_plan (fresh plan) past) h.0)
 reply_few plan past (replies.Taken n) h k = k
 reply_few plan past (replies.Refused refusal) h k = k
 
-all_few : (plan : DiePlan) (log : Log) → IsLegal plan log → AllByRecursion (GivesFew plan) (waived log)
+all_few : (plan : DiePlan) (log : Log) → IsLegal (fresh plan) log → AllByRecursion (GivesFew plan) (waived log)
 all_few plan [] h = tt
 all_few plan (e ∷ past) h = reply_few plan past e.reply h.1.slot (all_few plan past h.0)
 
@@ -147,6 +148,6 @@ among_few plan number (w ∷ ws) h = by_number (w.number == number) (among_few p
     by_number true later = h.0
     by_number false later = later
 
-pub waived_gives_few : (plan : DiePlan) (log : Log) (number : ℕ) → IsLegal plan log
+pub waived_gives_few : (plan : DiePlan) (log : Log) (number : ℕ) → IsLegal (fresh plan) log
     → OfSome (λ (w : Waived). w.given ≤ plan.alpha) (waiver_among number (waived log))
 waived_gives_few plan log number legal = among_few plan number (waived log) (all_few plan log legal)

@@ -34,6 +34,8 @@ use Rattle.slot_core.specs.Records.{reads_of}
 use Rattle.script_texts.specs.AskedPages.{WritesPage}
 use Rattle.text_base.specs.Pages.{IsPage}
 use Rattle.task_script.specs.LogPages.{EntryHasPages, HasPages}
+use Rattle.die_log.specs.Start.{fresh}
+use Rattle.die_log.proofs.Openings.{fresh_opens}
 
 -- Lists
 
@@ -97,17 +99,17 @@ HasJobPages j = AllByRecursion WritesPage j.ops
 
 -- a log in which all that was written and read are pages
 record KeepsPages (plan : DiePlan) (log : Log) : Type 0 where
-  held : AllByRecursion IsPage (contents plan log)
+  held : AllByRecursion IsPage (contents (fresh plan) log)
   asked : AllByRecursion HasJobPages (jobs log)
   ran : AllByRecursion (HasRunPages (jobs log)) (carried log)
 
 -- One slot
 
-op_pages : (plan : DiePlan) (past : Log) (o : Option Op) (act : Act) → KeepsPages plan past → OfSome WritesPage o → act_of_op plan past o
+op_pages : (plan : DiePlan) (past : Log) (o : Option Op) (act : Act) → KeepsPages plan past → OfSome WritesPage o → act_of_op (fresh plan) past o
     ≡ Some act → HasActPages false act
 op_pages plan past None act k h e = absurd (none-some act e)
 op_pages plan past (Some (asks.Read page)) act k h e = subst (HasActPages false) (same_Some _ act e)
-    (refl, all_or IsPage (contents plan past) page blank_page k.held blank_is)
+    (refl, all_or IsPage (contents (fresh plan) past) page blank_page k.held blank_is)
 op_pages plan past (Some (asks.Write page bytes)) act k h e = subst (HasActPages false) (same_Some _ act e) h
 op_pages plan past (Some (asks.Trim page)) act k h e = subst (HasActPages false) (same_Some _ act e) tt
 
@@ -129,13 +131,13 @@ collect_pages : (plan : DiePlan) (c : Cells) (buffer block : Option ℕ) (act : 
 collect_pages plan c buffer None act e = absurd (none-some act e)
 collect_pages plan c buffer (Some b) act e = placed_pages (is_placed_in c b buffer) _ b (valid_pages plan c b) act e
 
-act_pages : (plan : DiePlan) (past : Log) (j : Job) (act : Act) → KeepsPages plan past → HasJobPages j → act_for plan past j ≡ Some act
+act_pages : (plan : DiePlan) (past : Log) (j : Job) (act : Act) → KeepsPages plan past → HasJobPages j → act_for (fresh plan) past j ≡ Some act
     → HasActPages j.collects act
 act_pages plan past j act k h = by_kind j.collects
   where
-    by_kind : (b : Bool) → cond b (collect_act plan (cells plan past) (buffer_after (last_or None (acts j.number past)))
-        (block_for plan past j)) (act_of_op plan past (slice_get j.ops (work j.number past))) ≡ Some act → HasActPages b act
-    by_kind true e = collect_pages plan (cells plan past) _ (block_for plan past j) act e
+    by_kind : (b : Bool) → cond b (collect_act plan (cells (fresh plan) past) (buffer_after (last_or None (acts j.number past)))
+        (block_for (fresh plan) past j)) (act_of_op (fresh plan) past (slice_get j.ops (work j.number past))) ≡ Some act → HasActPages b act
+    by_kind true e = collect_pages plan (cells (fresh plan) past) _ (block_for (fresh plan) past j) act e
     by_kind false e = op_pages plan past (slice_get j.ops (work j.number past)) act k (op_at j.ops (work j.number past) _ refl h) e
 
 -- a job that stands, and writes pages
@@ -143,14 +145,14 @@ abbrev IsHead : Log → Job → Type 0
 IsHead past j = (job_at past j.number ≡ Some j) × HasJobPages j
 
 head_ran : (plan : DiePlan) (past : Log) (ws : List Waived) (j : Job) (o : Option Act) → KeepsPages plan past → IsHead past j
-    → act_for plan past j ≡ o → HasRunPages (jobs past) (reply_with plan past ws j o).ran
+    → act_for (fresh plan) past j ≡ o → HasRunPages (jobs past) (reply_with plan past ws j o).ran
 head_ran plan past ws j None k h e = tt
 head_ran plan past ws j (Some act) k h e = (j, h.0, act_pages plan past j act k h.1 e)
 
 slot_ran : (plan : DiePlan) (past : Log) (ws : List Waived) (o : Option Job) → KeepsPages plan past → OfSome (IsHead past) o
-    → HasRunPages (jobs past) (slot_reply plan past ws o).ran
+    → HasRunPages (jobs past) (slot_reply (fresh plan) past ws o).ran
 slot_ran plan past ws None k h = tt
-slot_ran plan past ws (Some j) k h = head_ran plan past ws j (act_for plan past j) k h refl
+slot_ran plan past ws (Some j) k h = head_ran plan past ws j (act_for (fresh plan) past j) k h refl
 
 -- what a slot wrote is a page
 held_after : (js : List Job) (c : Carried) (pages : List PageData) → HasRunPages js c → AllByRecursion IsPage pages
@@ -169,26 +171,26 @@ both : {X : Type 0} (P Q : X → Type 0) (xs : List X) → AllByRecursion P xs �
 both P Q [] h k = tt
 both P Q (x ∷ xs) h k = ((h.0, k.0), both P Q xs h.1 k.1)
 
-numbered : (plan : DiePlan) (log : Log) → MeetsBound plan → IsExact plan log → AreNumbered 0 (jobs log)
-numbered plan log bound exact = (stands_well plan bound log exact).0.numbered
+numbered : (plan : DiePlan) (log : Log) → MeetsBound plan → IsExact (fresh plan) log → AreNumbered 0 (jobs log)
+numbered plan log bound exact = (stands_well (fresh plan) (fresh_opens plan bound) log exact).0.numbered
 
-heads : (plan : DiePlan) (past : Log) → MeetsBound plan → IsExact plan past → KeepsPages plan past
+heads : (plan : DiePlan) (past : Log) → MeetsBound plan → IsExact (fresh plan) past → KeepsPages plan past
     → AllByRecursion (IsHead past) (jobs past)
 heads plan past bound exact k =
     both (λ (j : Job). job_at past j.number ≡ Some j) HasJobPages (jobs past)
     (all_known past (λ i j at. omega (arith, number_at 0 (jobs past) i j (numbered plan past bound exact) at))) k.asked
 
-slot_kept : (plan : DiePlan) (past : Log) (caller : ℕ) → MeetsBound plan → IsExact plan past → KeepsPages plan past
-    → KeepsPages plan (entry caller events.Slot (accepted plan past events.Slot) ∷ past)
+slot_kept : (plan : DiePlan) (past : Log) (caller : ℕ) → MeetsBound plan → IsExact (fresh plan) past → KeepsPages plan past
+    → KeepsPages plan (entry caller events.Slot (accepted (fresh plan) past events.Slot) ∷ past)
 slot_kept plan past caller bound exact k =
-    let c = choice plan past in
-    let ran = (slot_reply plan past c.waived c.head).ran in
+    let c = choice (fresh plan) past in
+    let ran = (slot_reply (fresh plan) past c.waived c.head).ran in
     let names : Names (IsHead past) c =
-    names_waiting (IsHead past) plan past (length (ready plan past)) (accounts plan past) (ready plan past)
+    names_waiting (IsHead past) plan past (length (ready plan past)) (accounts (fresh plan) past) (ready plan past)
     (all_kept (IsHead past) (is_ready plan past) (jobs past) (heads plan past bound exact k)) in
     let good : HasRunPages (jobs past) ran = slot_ran plan past c.waived c.head k names.head in
     record {
-      held = held_after (jobs past) ran (contents plan past) good k.held;
+      held = held_after (jobs past) ran (contents (fresh plan) past) good k.held;
       asked = k.asked;
       ran = all_append (HasRunPages (jobs past)) (carried past) (ran ∷ []) k.ran (good, tt);
     }
@@ -196,16 +198,16 @@ slot_kept plan past caller bound exact k =
 abbrev pub AreAsked : Log → Type 0
 AreAsked log = AllByRecursion EntryHasPages log
 
-pages_kept : (plan : DiePlan) → MeetsBound plan → (log : Log) → IsExact plan log → AreAsked log → KeepsPages plan log
-pages_kept plan bound = exact_induction plan (λ log. AreAsked log → KeepsPages plan log) none step
+pages_kept : (plan : DiePlan) → MeetsBound plan → (log : Log) → IsExact (fresh plan) log → AreAsked log → KeepsPages plan log
+pages_kept plan bound = exact_induction (fresh plan) (λ log. AreAsked log → KeepsPages plan log) none step
   where
     none : AreAsked [] → KeepsPages plan []
     none h = record { held = all_same IsPage plan.logical blank_page blank_is; asked = tt; ran = tt }
 
-    step : (past : Log) (caller : ℕ) (event : Event) → IsExact plan past → (AreAsked past → KeepsPages plan past)
-        → AllByRecursion (λ c. c.0 ≡ false) (refusals plan past event)
-        → AreAsked (entry caller event (accepted plan past event) ∷ past)
-        → KeepsPages plan (entry caller event (accepted plan past event) ∷ past)
+    step : (past : Log) (caller : ℕ) (event : Event) → IsExact (fresh plan) past → (AreAsked past → KeepsPages plan past)
+        → AllByRecursion (λ c. c.0 ≡ false) (refusals (fresh plan) past event)
+        → AreAsked (entry caller event (accepted (fresh plan) past event) ∷ past)
+        → KeepsPages plan (entry caller event (accepted (fresh plan) past event) ∷ past)
     step past caller (events.Submit task release due ops) exact h none asked =
         let k = h asked.1 in
         record {
@@ -247,7 +249,7 @@ own_acts js n j [] at h = tt
 own_acts js n j (c ∷ cs) at h = cons_pages (HasActPages j.collects) (act_of n c) (filter_map (λ x. act_of n x) cs) (own_act js n j c at h.0)
     (own_acts js n j cs at h.1)
 
-acts_pages : (plan : DiePlan) (log : Log) (j : Job) → MeetsBound plan → IsExact plan log → HasPages log → Contains (jobs log) j
+acts_pages : (plan : DiePlan) (log : Log) (j : Job) → MeetsBound plan → IsExact (fresh plan) log → HasPages log → Contains (jobs log) j
     → AllByRecursion (HasActPages j.collects) (acts j.number log)
 acts_pages plan log j bound exact asked stands =
     let k = pages_kept plan bound log exact (recursion_from_All EntryHasPages log asked) in
@@ -271,13 +273,13 @@ no_reads (does.CopyRead page ∷ own) h = no_reads own h.1
 no_reads (does.CopyProgram page ∷ own) h = no_reads own h.1
 no_reads (does.Erase block ∷ own) h = no_reads own h.1
 
-pub reads_are_pages : (plan : DiePlan) (log : Log) (j : Job) → MeetsBound plan → IsExact plan log → HasPages log → Contains (jobs log) j
+pub reads_are_pages : (plan : DiePlan) (log : Log) (j : Job) → MeetsBound plan → IsExact (fresh plan) log → HasPages log → Contains (jobs log) j
     → All IsPage (reads_of (acts j.number log))
 reads_are_pages plan log j bound exact asked stands =
     All-from_recursion IsPage (reads_of (acts j.number log))
     (read_pages j.collects (acts j.number log) (acts_pages plan log j bound exact asked stands))
 
-pub collections_read_nothing : (plan : DiePlan) (log : Log) (j : Job) → MeetsBound plan → IsExact plan log → HasPages log
+pub collections_read_nothing : (plan : DiePlan) (log : Log) (j : Job) → MeetsBound plan → IsExact (fresh plan) log → HasPages log
     → Contains (jobs log) j → j.collects ≡ true → reads_of (acts j.number log) ≡ []
 collections_read_nothing plan log j bound exact asked stands kind =
     no_reads (acts j.number log) (subst (λ (b : Bool). AllByRecursion (HasActPages b) (acts j.number log)) kind

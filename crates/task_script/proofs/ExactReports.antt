@@ -36,6 +36,8 @@ use Rattle.task_script.specs.TextRuns.{reports_from}
 use Rattle.task_script.proofs.ExactNumbers.{completed_by_now, done_gives_few, done_worked, few_reads, waived_gives_few}
 use Rattle.task_script.proofs.ExactPages.{collections_read_nothing, reads_are_pages}
 use Rattle.task_script.proofs.ExactWorst.{contained_all, has_cert, number_small}
+use Rattle.die_log.specs.Start.{fresh}
+use Rattle.die_log.proofs.Openings.{fresh_opens}
 
 -- Rows
 
@@ -152,10 +154,10 @@ some_other P Q (Some x) f h = f x h
 alpha_small : (plan : DiePlan) → MeetsBound plan → plan.alpha ≤ 256
 alpha_small plan bound = omega (arith, bound.limits.alpha_fits, bound.shape.few_pages)
 
-job_placed : (plan : DiePlan) (log : Log) (die : ℕ) (j : Job) → MeetsBound plan → IsExact plan log → die < 8 → Contains (jobs log) j
+job_placed : (plan : DiePlan) (log : Log) (die : ℕ) (j : Job) → MeetsBound plan → IsExact (fresh plan) log → die < 8 → Contains (jobs log) j
     → IsPlaced die j.number j.task j.release j.due (work j.number log)
 job_placed plan log die j bound exact small stands =
-    let limits = keeps_limits plan log exact in
+    let limits = keeps_limits (fresh plan) log exact in
     let own = limits.each j stands in
     record {
       on_die = small;
@@ -166,43 +168,43 @@ job_placed plan log die j bound exact small stands =
       fits = omega (arith, few_work j.number log, limits.slots);
     }
 
-job_ended : (plan : DiePlan) (log : Log) (j : Job) → MeetsBound plan → IsExact plan log → HasPages log → Contains (jobs log) j
+job_ended : (plan : DiePlan) (log : Log) (j : Job) → MeetsBound plan → IsExact (fresh plan) log → HasPages log → Contains (jobs log) j
     → is_done plan log j ≡ true
-    → IsEnded j.collects (work j.number log) (completion j.number log) (given plan j.number log) (reads_of (acts j.number log))
+    → IsEnded j.collects (work j.number log) (completion j.number log) (given (fresh plan) j.number log) (reads_of (acts j.number log))
 job_ended plan log j bound exact asked stands done = record {
   worked = omega (arith, done_worked plan log j bound exact stands done);
-  ended = omega (arith, completed_by_now j.number log, (keeps_limits plan log exact).slots);
+  ended = omega (arith, completed_by_now j.number log, (keeps_limits (fresh plan) log exact).slots);
   gives = omega (arith, done_gives_few plan j.number log, alpha_small plan bound);
   pages = reads_are_pages plan log j bound exact asked stands;
   few = λ kind. few_reads plan log j exact stands kind done;
   none = collections_read_nothing plan log j bound exact asked stands;
 }
 
-job_row : (plan : DiePlan) (log : Log) (die : ℕ) (j : Job) → MeetsBound plan → IsExact plan log → HasPages log → die < 8
-    → Contains (jobs log) j → IsRow die j.number (report_row_of plan log j)
+job_row : (plan : DiePlan) (log : Log) (die : ℕ) (j : Job) → MeetsBound plan → IsExact (fresh plan) log → HasPages log → die < 8
+    → Contains (jobs log) j → IsRow die j.number (report_row_of (fresh plan) log j)
 job_row plan log die j bound exact asked small stands =
     row_good j.collects die j.number j.task j.release j.due (work j.number log) (waiver_among j.number (waived log)) (is_done plan log j)
-    (completion j.number log) (given plan j.number log) (reads_of (acts j.number log))
+    (completion j.number log) (given (fresh plan) j.number log) (reads_of (acts j.number log))
     (job_placed plan log die j bound exact small stands)
     (some_other (λ (w : Waived). w.given ≤ plan.alpha) (λ (w : Waived). w.given < 2 ^ 32) (waiver_among j.number (waived log))
     (λ w few. omega (arith, few, alpha_small plan bound))
-    (waived_gives_few plan log j.number (stands_well plan bound log exact).1.legal))
+    (waived_gives_few plan log j.number (stands_well (fresh plan) (fresh_opens plan bound) log exact).1.legal))
     (job_ended plan log j bound exact asked stands)
 
 rows_numbered : (plan : DiePlan) (log : Log) (die k : ℕ) (js : List Job) → AreNumbered k js
-    → AllByRecursion (λ (j : Job). IsRow die j.number (report_row_of plan log j)) js → AreRows die k (map (report_row_of plan log) js)
+    → AllByRecursion (λ (j : Job). IsRow die j.number (report_row_of (fresh plan) log j)) js → AreRows die k (map (report_row_of (fresh plan) log) js)
 rows_numbered plan log die k [] n h = tt
 rows_numbered plan log die k (j ∷ js) n h =
-    (subst (λ (i : ℕ). IsRow die i (report_row_of plan log j)) n.0 h.0, rows_numbered plan log die (k + 1) js n.1 h.1)
+    (subst (λ (i : ℕ). IsRow die i (report_row_of (fresh plan) log j)) n.0 h.0, rows_numbered plan log die (k + 1) js n.1 h.1)
 
 -- Dies
 
-pub exact_reports_are_well_formed : (plan : DiePlan) (log : Log) (die : ℕ) → MeetsBound plan → IsExact plan log → HasPages log → die < 8 → 0
-    < length (report_rows_of plan log) → IsDie (die_report_of plan log die)
+pub exact_reports_are_well_formed : (plan : DiePlan) (log : Log) (die : ℕ) → MeetsBound plan → IsExact (fresh plan) log → HasPages log → die < 8 → 0
+    < length (report_rows_of (fresh plan) log) → IsDie (die_report_of (fresh plan) log die)
 exact_reports_are_well_formed plan log die bound exact asked small some = record {
   some_rows = some;
-  rows = rows_numbered plan log die 0 (jobs log) (stands_well plan bound log exact).0.numbered
-      (contained_all (λ (j : Job). IsRow die j.number (report_row_of plan log j)) (jobs log)
+  rows = rows_numbered plan log die 0 (jobs log) (stands_well (fresh plan) (fresh_opens plan bound) log exact).0.numbered
+      (contained_all (λ (j : Job). IsRow die j.number (report_row_of (fresh plan) log j)) (jobs log)
       (λ j stands. job_row plan log die j bound exact asked small stands));
   cert = has_cert plan log bound exact;
 }
@@ -222,20 +224,20 @@ reports_good : (die : ℕ) (plans : List DiePlan) (runs : List DieRun) → die +
 reports_good die [] [] few h = tt
 reports_good die [] (run ∷ runs) few h = absurd h
 reports_good die (plan ∷ plans) [] few h = absurd h
-reports_good die (plan ∷ plans) (run ∷ runs) few h = by_rows (length (report_rows_of plan run.log) == 0) refl
+reports_good die (plan ∷ plans) (run ∷ runs) few h = by_rows (length (report_rows_of (fresh plan) run.log) == 0) refl
     (reports_good (die + 1) plans runs (omega (arith, few)) h.3)
   where
     own : DieReport
-    own = die_report_of plan run.log die
+    own = die_report_of (fresh plan) run.log die
 
     rest : List DieReport
     rest = reports_from (die + 1) plans runs
 
-    by_rows : (b : Bool) → (length (report_rows_of plan run.log) == 0) ≡ b → AreDies (die + 1) rest → AreDies die (cond b rest (own ∷ rest))
+    by_rows : (b : Bool) → (length (report_rows_of (fresh plan) run.log) == 0) ≡ b → AreDies (die + 1) rest → AreDies die (cond b rest (own ∷ rest))
     by_rows true e later = dies_above die (die + 1) rest (omega arith) later
     by_rows false e later = (
       omega arith,
-      exact_reports_are_well_formed plan run.log die h.0 h.1 h.2 (omega (arith, few)) (some_rows (length (report_rows_of plan run.log)) e),
+      exact_reports_are_well_formed plan run.log die h.0 h.1 h.2 (omega (arith, few)) (some_rows (length (report_rows_of (fresh plan) run.log)) e),
       later,
     )
 

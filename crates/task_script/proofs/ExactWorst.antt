@@ -37,14 +37,16 @@ use Rattle.report_texts.specs.Worst as report
 use Rattle.report_texts.specs.declared.report_certs.Finish.{Finish}
 use Rattle.task_script.specs.DieReports.{report_row_of, report_rows_of, row_by}
 use Rattle.task_script.proofs.ExactNumbers.{completed_by_now, done_worked}
+use Rattle.die_log.specs.Start.{fresh}
+use Rattle.die_log.proofs.Openings.{fresh_opens}
 
 -- What is done
 
-numbered : (plan : DiePlan) (log : Log) → MeetsBound plan → IsExact plan log → AreNumbered 0 (jobs log)
-numbered plan log bound exact = (stands_well plan bound log exact).0.numbered
+numbered : (plan : DiePlan) (log : Log) → MeetsBound plan → IsExact (fresh plan) log → AreNumbered 0 (jobs log)
+numbered plan log bound exact = (stands_well (fresh plan) (fresh_opens plan bound) log exact).0.numbered
 
 -- what is done was not waived
-pub done_unwaived : (plan : DiePlan) (log : Log) (j : Job) → MeetsBound plan → IsExact plan log → Contains (jobs log) j → is_done plan log j
+pub done_unwaived : (plan : DiePlan) (log : Log) (j : Job) → MeetsBound plan → IsExact (fresh plan) log → Contains (jobs log) j → is_done plan log j
     ≡ true → is_waived log j.number ≡ false
 done_unwaived plan log j bound exact stands done = false_from_ne_true (is_waived log j.number) idle
   where
@@ -53,7 +55,7 @@ done_unwaived plan log j bound exact stands done = false_from_ne_true (is_waived
       arith,
       done_worked plan log j bound exact stands done,
       ap length
-          ((stands_well plan bound log exact).1.true_accounts.idle_waived j.number gone),
+          ((stands_well (fresh plan) (fresh_opens plan bound) log exact).1.true_accounts.idle_waived j.number gone),
     )
 
 abbrev finish_in : Log → Job → Finish
@@ -70,11 +72,11 @@ finish_by n took h None false c l g rs apart = refl
 abbrev IsUnwaived : DiePlan → Log → Job → Type 0
 IsUnwaived plan log j = is_done plan log j ≡ true → is_waived log j.number ≡ false
 
-finish_is : (plan : DiePlan) (log : Log) (j : Job) → IsUnwaived plan log j → finish_of (report_row_of plan log j)
+finish_is : (plan : DiePlan) (log : Log) (j : Job) → IsUnwaived plan log j → finish_of (report_row_of (fresh plan) log j)
     ≡ cond (is_done plan log j) (Some (finish_in log j)) None
 finish_is plan log j apart =
     finish_by j.number (work j.number log) (head_of j) (waiver_among j.number (waived log)) (is_done plan log j) (completion j.number log)
-    (lateness_of log j) (given plan j.number log) (reads_of (acts j.number log))
+    (lateness_of log j) (given (fresh plan) j.number log) (reads_of (acts j.number log))
     (λ done. waiver_stands j.number (waived log) ∙ apart done)
 
 -- The worse of two
@@ -117,43 +119,43 @@ finish_of_done log j done = cond done (Some (finish_in log j)) None
 -- from a job on whose number is smaller than those of the others
 worst_on : (plan : DiePlan) (log : Log) (k : ℕ) (js : List Job) (best : Job) → AreNumbered k js → best.number < k
     → AllByRecursion (IsUnwaived plan log) js
-    → worst_from (Some (finish_in log best)) (map (report_row_of plan log) js)
+    → worst_from (Some (finish_in log best)) (map (report_row_of (fresh plan) log) js)
     ≡ Some (finish_in log (fold (worse_of log) best (filter (is_done plan log) js)))
 worst_on plan log k [] best n lt h = refl
 worst_on plan log k (j ∷ js) best n lt h =
-    ap (λ (o : Option Finish). worst_from (worse (Some (finish_in log best)) o) (map (report_row_of plan log) js))
+    ap (λ (o : Option Finish). worst_from (worse (Some (finish_in log best)) o) (map (report_row_of (fresh plan) log) js))
     (finish_is plan log j h.0)
     ∙ by_done (is_done plan log j) (λ b below. worst_on plan log (k + 1) js b n.1 below h.1)
   where
     IsWorstOn : Job → List Job → Type 0
-    IsWorstOn b rest = worst_from (Some (finish_in log b)) (map (report_row_of plan log) js)
+    IsWorstOn b rest = worst_from (Some (finish_in log b)) (map (report_row_of (fresh plan) log) js)
         ≡ Some (finish_in log (fold (worse_of log) b rest))
 
     by_worse : (b : Bool) → ((i : Job) → i.number < k + 1 → IsWorstOn i (filter (is_done plan log) js))
-        → worst_from (Some (cond b (finish_in log j) (finish_in log best))) (map (report_row_of plan log) js)
+        → worst_from (Some (cond b (finish_in log j) (finish_in log best))) (map (report_row_of (fresh plan) log) js)
         ≡ Some (finish_in log (fold (worse_of log) (cond b j best) (filter (is_done plan log) js)))
     by_worse true again = again j (omega (arith, n.0))
     by_worse false again = again best (omega (arith, lt))
 
     by_done : (b : Bool) → ((i : Job) → i.number < k + 1 → IsWorstOn i (filter (is_done plan log) js))
-        → worst_from (worse (Some (finish_in log best)) (finish_of_done log j b)) (map (report_row_of plan log) js)
+        → worst_from (worse (Some (finish_in log best)) (finish_of_done log j b)) (map (report_row_of (fresh plan) log) js)
         ≡ Some (finish_in log (fold (worse_of log) best (cond b (j ∷ filter (is_done plan log) js) (filter (is_done plan log) js))))
     by_done false again = again best (omega (arith, lt))
     by_done true again =
-        ap (λ (t : Bool). worst_from (Some (cond t (finish_in log j) (finish_in log best))) (map (report_row_of plan log) js))
+        ap (λ (t : Bool). worst_from (Some (cond t (finish_in log j) (finish_in log best))) (map (report_row_of (fresh plan) log) js))
         (one_worse log j best (omega (arith, lt, n.0)))
         ∙ by_worse (is_worse log j best) again
 
 worst_new : (plan : DiePlan) (log : Log) (k : ℕ) (js : List Job) → AreNumbered k js → AllByRecursion (IsUnwaived plan log) js
-    → worst_of (map (report_row_of plan log) js) ≡ option_map (finish_in log) (reduce (worse_of log) (filter (is_done plan log) js))
+    → worst_of (map (report_row_of (fresh plan) log) js) ≡ option_map (finish_in log) (reduce (worse_of log) (filter (is_done plan log) js))
 worst_new plan log k [] n h = refl
 worst_new plan log k (j ∷ js) n h =
-    ap (λ (o : Option Finish). worst_from (worse None o) (map (report_row_of plan log) js)) (finish_is plan log j h.0)
+    ap (λ (o : Option Finish). worst_from (worse None o) (map (report_row_of (fresh plan) log) js)) (finish_is plan log j h.0)
     ∙ by_done (is_done plan log j) (worst_new plan log (k + 1) js n.1 h.1)
   where
-    by_done : (b : Bool) → worst_of (map (report_row_of plan log) js)
+    by_done : (b : Bool) → worst_of (map (report_row_of (fresh plan) log) js)
         ≡ option_map (finish_in log) (reduce (worse_of log) (filter (is_done plan log) js))
-        → worst_from (worse None (finish_of_done log j b)) (map (report_row_of plan log) js)
+        → worst_from (worse None (finish_of_done log j b)) (map (report_row_of (fresh plan) log) js)
         ≡ option_map (finish_in log) (reduce (worse_of log) (cond b (j ∷ filter (is_done plan log) js) (filter (is_done plan log) js)))
     by_done false again = again
     by_done true again = worst_on plan log (k + 1) js j n.1 (omega (arith, n.0)) h.1
@@ -162,7 +164,7 @@ pub contained_all : {X : Type 0} (P : X → Type 0) (xs : List X) → ((x : X) �
 contained_all P [] h = tt
 contained_all P (x ∷ xs) h = (h x (0, omega arith, refl), contained_all P xs (λ y k. h y (suc k.0, omega (arith, k.1), k.2)))
 
-worst_rows : (plan : DiePlan) (log : Log) → MeetsBound plan → IsExact plan log → worst_of (report_rows_of plan log)
+worst_rows : (plan : DiePlan) (log : Log) → MeetsBound plan → IsExact (fresh plan) log → worst_of (report_rows_of (fresh plan) log)
     ≡ option_map (finish_in log) (worst plan log)
 worst_rows plan log bound exact =
     worst_new plan log 0 (jobs log) (numbered plan log bound exact)
@@ -182,28 +184,28 @@ listed_all P (x ∷ xs) h = (
       (λ k e. h k (either (x == k) (is_listed xs k) e)),
 )
 
-pub number_small : (plan : DiePlan) (log : Log) (j : Job) → MeetsBound plan → IsExact plan log → Contains (jobs log) j → j.number < 65536
+pub number_small : (plan : DiePlan) (log : Log) (j : Job) → MeetsBound plan → IsExact (fresh plan) log → Contains (jobs log) j → j.number < 65536
 number_small plan log j bound exact stands =
     omega (
       arith,
       slice_get_within (jobs log) j.number j (stands_at (jobs log) j (numbered plan log bound exact) stands),
-      (keeps_limits plan log exact).few_jobs,
+      (keeps_limits (fresh plan) log exact).few_jobs,
     )
 
-done_number : (plan : DiePlan) (log : Log) (k : ℕ) → MeetsBound plan → IsExact plan log → is_done_row (rows plan log) k ≡ true → k < 2 ^ 32
+done_number : (plan : DiePlan) (log : Log) (k : ℕ) → MeetsBound plan → IsExact (fresh plan) log → is_done_row (rows plan log) k ≡ true → k < 2 ^ 32
 done_number plan log k bound exact done =
     by_job (slice_get (jobs log) k) refl (sym (ap is_done_in
     (row_at (row_for plan log) (is_waived log) (jobs log) k (λ i. refl) (numbered plan log bound exact))) ∙ done)
   where
     by_job : (o : Option Job) → slice_get (jobs log) k ≡ o → is_done_in (row_in (row_for plan log) (is_waived log k) o) ≡ true → k < 2 ^ 32
     by_job None at e = absurd (true≢false (sym e))
-    by_job (Some j) at e = omega (arith, slice_get_within (jobs log) k j at, (keeps_limits plan log exact).few_jobs)
+    by_job (Some j) at e = omega (arith, slice_get_within (jobs log) k j at, (keeps_limits (fresh plan) log exact).few_jobs)
 
-cert_of_worst : (plan : DiePlan) (log : Log) (j : Job) (c : Certificate) → MeetsBound plan → IsExact plan log → worst plan log ≡ Some j
+cert_of_worst : (plan : DiePlan) (log : Log) (j : Job) (c : Certificate) → MeetsBound plan → IsExact (fresh plan) log → worst plan log ≡ Some j
     → IsCertified plan log j c → IsCert (finish_in log j) c
 cert_of_worst plan log j c bound exact is k =
     let stands : Contains (jobs log) j = (worst_is plan log j is).stands in
-    let limits = keeps_limits plan log exact in
+    let limits = keeps_limits (fresh plan) log exact in
     let number = number_small plan log j bound exact stands in
     let few : c.completion ≤ 1048576 = omega (arith, k.completion, completed_by_now j.number log, limits.slots) in
     record {
@@ -218,14 +220,14 @@ cert_of_worst plan log j c bound exact is k =
           (listed_all (λ n. n < 2 ^ 32) c.jobs (λ n listed. done_number plan log n bound exact (k.own.holds.each n listed).done));
     }
 
-pub has_cert : (plan : DiePlan) (log : Log) → MeetsBound plan → IsExact plan log
-    → HasCert (worst_of (report_rows_of plan log)) (certificate plan log)
+pub has_cert : (plan : DiePlan) (log : Log) → MeetsBound plan → IsExact (fresh plan) log
+    → HasCert (worst_of (report_rows_of (fresh plan) log)) (certificate plan log)
 has_cert plan log bound exact = subst (λ (o : Option Finish). HasCert o (certificate plan log)) (sym (worst_rows plan log bound exact))
     (by_worst (worst plan log) refl)
   where
     by_worst : (o : Option Job) → worst plan log ≡ o → HasCert (option_map (finish_in log) o) (certificate_for plan log o)
     by_worst None is = tt
     by_worst (Some j) is =
-        let c = worst_certified plan log j bound exact is in
+        let c = worst_certified (fresh plan) log j (fresh_opens plan bound) exact is in
         let made : certificate_for plan log (Some j) ≡ Some c.0 = sym (ap (certificate_for plan log) is) ∙ c.1 in
         subst (λ (o : Option Certificate). HasCert (Some (finish_in log j)) o) (sym made) (cert_of_worst plan log j c.0 bound exact is c.2)

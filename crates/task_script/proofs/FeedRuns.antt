@@ -32,6 +32,7 @@ use Rattle.die_service.proofs.SlotCalls.{numbered, slot_counted, slot_refused, t
 use Rattle.task_script.proofs.Calling.{ran_more}
 use Rattle.die_service.proofs.Transcripts.{said_log, said_accepted, said_refused}
 use Rattle.task_script.proofs.Transcripts.{AreTold}
+use Rattle.die_log.specs.Start.{fresh}
 
 -- The rows that come by a slot are the events that do
 
@@ -141,7 +142,7 @@ ends_split (item ∷ items) later (s ∷ fed) rest place asked arrive =
 
 -- One call
 
-accepts_at : (plan : DiePlan) (before : List Said) (event : Event) (reply : Reply) → (answer plan (said_log before) event ≡ reply)
+accepts_at : (plan : DiePlan) (before : List Said) (event : Event) (reply : Reply) → (answer (fresh plan) (said_log before) event ≡ reply)
     × IsAccepted reply
     → Accepts plan (said_log before) event (said_log (before ++ said event (Ok reply) ∷ []))
 accepts_at plan before event reply h = (
@@ -161,7 +162,7 @@ stays_at : (plan : DiePlan) (saids before after : List Said) (event : Event) (re
     → now (said_log (before ++ said event reply ∷ [])) ≡ now (said_log before)
 stays_at plan saids before after event (Ok reply) told is h =
     let t = told.accepted before after event reply is in
-    ap now (said_accepted before event reply) ∙ taken_stays plan (said_log before) event reply h t.0 t.1
+    ap now (said_accepted before event reply) ∙ taken_stays (fresh plan) (said_log before) event reply h t.0 t.1
 stays_at plan saids before after event (Err refused) told is h = ap now (said_refused before event refused)
 
 -- Rows one after the other
@@ -283,7 +284,7 @@ carried slot = said events.Slot (Ok (replies.Slot slot))
 
 record Carried (plan : DiePlan) (saids : List Said) (left clock : ℕ) (items : List ScriptItem) (before more : List Said) (slot : SlotReply)
     : Type 0 where
-  answered : (answer plan (said_log before) events.Slot ≡ replies.Slot slot) × IsAccepted (replies.Slot slot)
+  answered : (answer (fresh plan) (said_log before) events.Slot ≡ replies.Slot slot) × IsAccepted (replies.Slot slot)
   next : saids ≡ (before ++ carried slot ∷ []) ++ more
   ordered : InClockOrder left (clock + 1) (arrivals_of (coming row_slot clock items)) more
   counted : now (said_log (before ++ carried slot ∷ [])) ≡ clock + 1
@@ -298,7 +299,7 @@ slot_carried : (plan : DiePlan) (saids : List Said) → AreTold plan saids
     → Carried plan saids left clock items before more slot
 slot_carried plan saids told left clock items before more slot is at_now ordered due arrive =
     let answered = told.accepted before more events.Slot (replies.Slot slot) is in
-    let number : slot.slot ≡ clock = numbered plan (said_log before) slot answered.0 ∙ at_now in
+    let number : slot.slot ≡ clock = numbered (fresh plan) (said_log before) slot answered.0 ∙ at_now in
     record {
       answered = answered;
       next = is ∙ sym (append_assoc before (carried slot ∷ []) more);
@@ -381,7 +382,7 @@ slots_stop plan saids told (suc left) clock items before rest stop is (fed, behi
     let f = rows_fed plan saids told clock items before fed tail rest is (split ∙ ap (λ (xs : List Said). fed ++ xs) last) asked at_now
     arrive in
     ap (λ (r : RefusedAt). r.refusal) (sym (same_refused refused stop (sym f.stops ∙ stopped)))
-    ∙ slot_refused plan (said_log (before ++ fed)) refused.refusal (omega (arith, f.stays, few))
+    ∙ slot_refused (fresh plan) (said_log (before ++ fed)) refused.refusal (omega (arith, f.stays, few))
     (told.refused (before ++ fed) [] events.Slot refused f.next)
 slots_stop plan saids told (suc left) clock items before rest stop is (fed, behind, split, asked, inl (slot, more, first, ordered)) at_now
     stopped few due arrive =

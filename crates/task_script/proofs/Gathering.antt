@@ -23,7 +23,7 @@ use Rattle.report_texts.specs.TextSoFar.{TextSoFar, die_added, text_so_far}
 use Rattle.report_texts.proofs.TextParts.{text_more}
 use Rattle.report_texts.specs.declared.reports.DieReport.{DieReport}
 use Rattle.report_texts.specs.declared.reports.ReportRow.{ReportRow}
-use Rattle.task_script.proofs.BatchRuns.{closed_run, die_plan}
+use Rattle.task_script.proofs.BatchRuns.{closed_run, die_start}
 use Rattle.task_script.proofs.Batching.{SoFar, come_more, in_time_more, items_are}
 use Rattle.task_script.proofs.Counting.{counts_join}
 use Rattle.task_script.specs.Batches.{Closes, RanRows, HasComeTo, HaveComeTo, joined_behind, joined_counts, latest}
@@ -36,6 +36,7 @@ use Rattle.task_script.specs.StoreRuns.{reports_of}
 use Rattle.task_script.specs.declared.batches.Progress.{Progress}
 use Rattle.task_script.specs.declared.run_counts.RowEnd.{RowEnd}
 use Rattle.task_script.specs.declared.run_counts.RunCount.{RunCount}
+use Rattle.die_log.specs.Start.{Start, fresh}
 
 -- Texts
 
@@ -46,15 +47,15 @@ IsToldOf text left all = (done : List DieReport) × (text ≡ text_so_far done) 
 some_rows : (row : ReportRow) (rows : List ReportRow) → (length (row ∷ rows) == 0) ≡ true → ⊥
 some_rows row rows e = grind (arith, nat_tests)
 
-no_cert : (plan : DiePlan) (log : Log) → (length (report_rows_of plan log) == 0) ≡ true → certificate plan log ≡ None
-no_cert plan log none = by (jobs log) refl none
+no_cert : (start : Start) (log : Log) → (length (report_rows_of start log) == 0) ≡ true → certificate start.plan log ≡ None
+no_cert start log none = by (jobs log) refl none
   where
     among : List Job → Option Certificate
-    among js = certificate_for plan log (reduce (λ best j. if is_worse log j best then j else best) (filter (is_done plan log) js))
+    among js = certificate_for start.plan log (reduce (λ best j. if is_worse log j best then j else best) (filter (is_done start.plan log) js))
 
-    by : (js : List Job) → jobs log ≡ js → (length (map (report_row_of plan log) (jobs log)) == 0) ≡ true → certificate plan log ≡ None
+    by : (js : List Job) → jobs log ≡ js → (length (map (report_row_of start log) (jobs log)) == 0) ≡ true → certificate start.plan log ≡ None
     by [] e h = ap among e
-    by (j ∷ js) e h = absurd (some_rows (report_row_of plan log j) (map (report_row_of plan log) js) (rw e at h))
+    by (j ∷ js) e h = absurd (some_rows (report_row_of start log j) (map (report_row_of start log) js) (rw e at h))
 
 -- a die without rows adds nothing
 adds_nothing : (made : DieReport) (text : TextSoFar) → made.rows ≡ [] → made.cert ≡ None → die_added made text ≡ text
@@ -69,12 +70,12 @@ no_rows (row ∷ rows) e = absurd (some_rows row rows e)
 
 -- the lines of one die more
 pub told_more : {N : Type 0} (die : ℕ) (core : Core N) (dies : List (Core N)) (old new : TextSoFar) (all : List DieReport)
-    → new ≡ die_added (die_report_of core.plan core.log die) old → IsToldOf old (reports_of die (core ∷ dies)) all
+    → new ≡ die_added (die_report_of core.start core.log die) old → IsToldOf old (reports_of die (core ∷ dies)) all
     → IsToldOf new (reports_of (die + 1) dies) all
 told_more die core dies old new all added so_far = by (length made.rows == 0) refl
   where
     made : DieReport
-    made = die_report_of core.plan core.log die
+    made = die_report_of core.start core.log die
 
     rest : List DieReport
     rest = reports_of (die + 1) dies
@@ -82,7 +83,7 @@ told_more die core dies old new all added so_far = by (length made.rows == 0) re
     by : (b : Bool) → (length made.rows == 0) ≡ b → IsToldOf new rest all
     by true e = (
       so_far.0,
-      added ∙ (adds_nothing made old (no_rows made.rows e) (no_cert core.plan core.log e) ∙ so_far.1),
+      added ∙ (adds_nothing made old (no_rows made.rows e) (no_cert core.start core.log e) ∙ so_far.1),
       rw e at so_far.2,
     )
     by false e = (
@@ -132,9 +133,9 @@ gathered slots number feed (plan ∷ plans) (p ∷ ps) (at ∷ progress) (die �
     let ran = run_at die.log h.ends in record {
       runs = ran ∷ rest.runs;
       ran = (closed_run plan (feed number) slots p at die h closed.0, rest.ran);
-      reported = ap (λ (x : DiePlan). with_rows (die_report_of x die.log number) (reports_of (number + 1) dies))
-          (die_plan plan (feed number) slots p at die h closed.0)
-          ∙ ap (with_rows (die_report_of plan die.log number)) rest.reported;
+      reported = ap (λ (x : Start). with_rows (die_report_of x die.log number) (reports_of (number + 1) dies))
+          (die_start plan (feed number) slots p at die h closed.0)
+          ∙ ap (with_rows (die_report_of (fresh plan) die.log number)) rest.reported;
       counted = λ before. ap (λ (c : RunCount). joined_behind (joined (count_of before) c) progress) h.counted
           ∙ (ap (λ (c : RunCount). joined_behind c progress) (counts_join before h.ends)
           ∙ (rest.counted (before ++ h.ends) ∙ ap count_of (append_assoc before h.ends (ends_of rest.runs))));

@@ -8,10 +8,11 @@ use Rattle.slot_core.specs.Calls.{RefusedBy}
 use Rattle.die_service.specs.declared.refused.RefusedAt.{RefusedAt}
 use Rattle.die_service.specs.Runs.{Said, said}
 use Rattle.die_service.proofs.Transcripts.{said_log}
+use Rattle.die_log.specs.Start.{fresh}
 
 -- an accepted call was answered by the log of those before it, and so was a refused one
 pub record AreTold (plan : DiePlan) (saids : List Said) : Type 0 where
   pub accepted : (before after : List Said) (event : Event) (reply : Reply) → saids ≡ before ++ said event (Ok reply) ∷ after
-      → (answer plan (said_log before) event ≡ reply) × IsAccepted reply
+      → (answer (fresh plan) (said_log before) event ≡ reply) × IsAccepted reply
   pub refused : (before after : List Said) (event : Event) (refused : RefusedAt) → saids ≡ before ++ said event (Err refused) ∷ after
-      → RefusedBy plan (said_log before) event refused.refusal
+      → RefusedBy (fresh plan) (said_log before) event refused.refusal

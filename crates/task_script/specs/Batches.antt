@@ -23,6 +23,7 @@ use Rattle.task_script.specs.declared.batches.KeptRows.{KeptRows}
 use Rattle.task_script.specs.declared.batches.Progress.{Progress}
 use Rattle.task_script.specs.declared.run_counts.RowEnd.{RowEnd}
 use Rattle.task_script.specs.declared.run_counts.RunCount.{RunCount}
+use Rattle.die_log.specs.Start.{fresh}
 
 -- Batches
 
@@ -74,10 +75,10 @@ pub record RanRows (until : ℕ) (rows : List (List ScriptItem)) (ps : List DieP
 -- slots before this one are its run, and so are the rows counted.
 pub record HasComeTo (plan : DiePlan) (items : List ScriptItem) (slots : ℕ) (p : DiePass) (progress : Progress) : Type 0 where
   pub first : DiePass
-  pub fresh : first.view ≡ first_view plan
+  pub first_is : first.view ≡ first_view (fresh plan)
   pub same : IsSamePass first p
   pub saids : List Said
-  pub far : Far true plan first.view saids p.view
+  pub far : Far true (fresh plan) first.view saids p.view
   pub ends : List RowEnd
   pub clock_is : progress.clock ≡ slots
   pub counted : progress.count ≡ count_of ends

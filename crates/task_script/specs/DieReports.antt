@@ -1,6 +1,5 @@
 -- The report of a die, read off its log.
 use Rattle.std.specs.Prelude.{ℕ, ℤ, Bool, true, false, List, [], map, Option, Some, None}
-use Rattle.slot_types.specs.declared.plans.DiePlan.{DiePlan}
 use Rattle.slot_types.specs.declared.pages.PageData.{PageData}
 use Rattle.die_log.specs.Log.{Log, Job, jobs}
 use Rattle.die_log.specs.Rows.{certificate}
@@ -12,6 +11,7 @@ use Rattle.report_texts.specs.declared.reports.DieReport.{DieReport}
 use Rattle.report_texts.specs.declared.reports.ReportRow.{ReportRow}
 use Rattle.report_texts.specs.declared.reports.RowKind.{RowKind}
 use Rattle.report_texts.specs.declared.reports.RowKind.TheVariants as kind
+use Rattle.die_log.specs.Start.{Start}
 
 abbrev pub kind_of : Bool → RowKind
 kind_of true = kind.Collect
@@ -48,13 +48,13 @@ abbrev pub row_as : ℕ → JobSummary → ReportRow
 row_as number summary = row_by number summary.head summary.work summary.outcome
 
 -- the row of a job or collection of a log
-abbrev pub report_row_of : DiePlan → Log → Job → ReportRow
-report_row_of plan log j = row_as j.number (summary_of plan log j)
+abbrev pub report_row_of : Start → Log → Job → ReportRow
+report_row_of start log j = row_as j.number (summary_of start log j)
 
 -- the rows of all, by number
-abbrev pub report_rows_of : DiePlan → Log → List ReportRow
-report_rows_of plan log = map (report_row_of plan log) (jobs log)
+abbrev pub report_rows_of : Start → Log → List ReportRow
+report_rows_of start log = map (report_row_of start log) (jobs log)
 
 -- the report of the die of this number, whose log this is: all rows, and the certificate of the worst
-abbrev pub die_report_of : DiePlan → Log → ℕ → DieReport
-die_report_of plan log die = record { die = die; rows = report_rows_of plan log; cert = certificate plan log }
+abbrev pub die_report_of : Start → Log → ℕ → DieReport
+die_report_of start log die = record { die = die; rows = report_rows_of start log; cert = certificate start.plan log }

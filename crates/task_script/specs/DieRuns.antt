@@ -11,6 +11,7 @@ use Rattle.slot_core.specs.Calls.{RefusedBy}
 use Rattle.slot_core.specs.Core.{with_entry}
 use Rattle.script_texts.specs.declared.script_rows.ScriptItem.{ScriptItem}
 use Rattle.task_script.specs.declared.run_counts.RowEnd.{RowEnd}
+use Rattle.die_log.specs.Start.{fresh}
 
 -- Calls
 
@@ -47,12 +48,12 @@ fresh_run = run_at [] []
 
 -- the log accepts an event, and its answer is one more entry of caller 0
 abbrev pub Accepts : DiePlan → Log → Event → Log → Type 0
-Accepts plan past event log = IsAccepted (answer plan past event) × (log ≡ with_entry 0 event (answer plan past event) past)
+Accepts plan past event log = IsAccepted (answer (fresh plan) past event) × (log ≡ with_entry 0 event (answer (fresh plan) past event) past)
 
 -- a row's event was accepted; or it was refused, by the log's own answer or for want of memory, and is no event
 abbrev pub Ends : DiePlan → Log → Event → Option Refusal → Log → Type 0
 Ends plan past event None log = Accepts plan past event log
-Ends plan past event (Some refusal) log = RefusedBy plan past event refusal × (log ≡ past)
+Ends plan past event (Some refusal) log = RefusedBy (fresh plan) past event refusal × (log ≡ past)
 
 -- the end of a row
 abbrev pub end_of : ScriptItem → Option Refusal → RowEnd
@@ -73,4 +74,4 @@ Runs plan before (call ∷ calls) after = (between : DieRun) × IsStep plan call
 pub record IsRun (plan : DiePlan) (slots : ℕ) (items : List ScriptItem) (run : DieRun) : Type 0 where
   pub ran : Runs plan fresh_run (calls_of slots items) run
   pub all_slots : now run.log ≡ slots
-  pub exact : IsExact plan run.log
+  pub exact : IsExact (fresh plan) run.log

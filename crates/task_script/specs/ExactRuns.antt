@@ -5,9 +5,10 @@ use Rattle.slot_types.specs.declared.plans.DiePlan.{DiePlan}
 use Rattle.die_log.specs.Answers.{IsExact}
 use Rattle.task_script.specs.LogPages.{HasPages}
 use Rattle.task_script.specs.DieRuns.{DieRun}
+use Rattle.die_log.specs.Start.{fresh}
 
 -- by die, an exact log of a plan within its bound, whose jobs were asked to write pages
 abbrev pub AreExact : List DiePlan → List DieRun → Type 0
 AreExact [] [] = ⊤
-AreExact (plan ∷ plans) (run ∷ runs) = MeetsBound plan × IsExact plan run.log × HasPages run.log × AreExact plans runs
+AreExact (plan ∷ plans) (run ∷ runs) = MeetsBound plan × IsExact (fresh plan) run.log × HasPages run.log × AreExact plans runs
 AreExact _ _ = ⊥

@@ -16,6 +16,7 @@ use Rattle.task_script.specs.Feeds.{feed_of}
 use Rattle.task_script.specs.TextRuns.{RunsText}
 use Rattle.task_script.specs.declared.run_counts.RowEnd.{RowEnd}
 use Rattle.task_script.specs.declared.run_counts.RunCount.{RunCount}
+use Rattle.die_log.specs.Start.{fresh}
 
 -- the event of a call
 abbrev pub event_of : Call → Event
@@ -45,7 +46,7 @@ AreTakenUntilMemory (end ∷ ends) = ((end.refusal ≡ None) × AreTakenUntilMem
 -- that was
 pub record GoesAsPlanned (plan : DiePlan) (run : DieRun) : Type 0 where
   pub in_time : IsInTime plan run.log
-  pub on_time : All IsOnTime (report_rows_of plan run.log)
+  pub on_time : All IsOnTime (report_rows_of (fresh plan) run.log)
   pub taken : AreTakenUntilMemory run.ends
 
 -- by die, from this number on: where its rows keep its plan, its run goes as planned

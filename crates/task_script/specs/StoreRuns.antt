@@ -8,4 +8,4 @@ use Rattle.task_script.specs.TextRuns.{with_rows}
 -- the reports of the dies that have rows, numbered from this number on
 abbrev pub reports_of : {N : Type 0} → ℕ → List (Core N) → List DieReport
 reports_of number [] = []
-reports_of number (die ∷ dies) = with_rows (die_report_of die.plan die.log number) (reports_of (number + 1) dies)
+reports_of number (die ∷ dies) = with_rows (die_report_of die.start die.log number) (reports_of (number + 1) dies)

@@ -15,6 +15,7 @@ use Rattle.task_script.specs.Feeds.{AreInTime, AreItemsOf, RefusesScript, feed_o
 use Rattle.task_script.specs.RunCounts.{count_of}
 use Rattle.task_script.specs.declared.run_counts.RowEnd.{RowEnd}
 use Rattle.task_script.specs.declared.run_counts.RunCount.{RunCount}
+use Rattle.die_log.specs.Start.{fresh}
 
 -- by die, from this number on, a run of its rows
 abbrev pub AreRuns : ℕ → (ℕ → List ScriptItem) → ℕ → List DiePlan → List DieRun → Type 0
@@ -28,7 +29,7 @@ with_rows die report = if length die.rows == 0 then report else die ∷ report
 
 -- the reports of the dies that have rows, numbered from this number on
 abbrev pub reports_from : ℕ → List DiePlan → List DieRun → List DieReport
-reports_from die (plan ∷ plans) (run ∷ runs) = with_rows (die_report_of plan run.log die) (reports_from (die + 1) plans runs)
+reports_from die (plan ∷ plans) (run ∷ runs) = with_rows (die_report_of (fresh plan) run.log die) (reports_from (die + 1) plans runs)
 reports_from die _ _ = []
 
 -- what became of all rows, die by die

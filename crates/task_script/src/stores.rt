@@ -4,6 +4,7 @@ ghost use Rattle.std.specs.Prelude.{◌≡◌, ◌≤◌, length, map, All, IfOk
 ghost use Rattle.slot_types.specs.Refusal.{FailsForMemory};
 ghost use Rattle.plan_rules.specs.Bound.{MeetsBound};
 ghost use Rattle.flash_die.specs.Memory.{fresh_memory};
+ghost use Rattle.die_log.specs.Start.{fresh};
 ghost use Rattle.turn_lock.specs.Views.{first_view};
 
 use die_service::{DiePass, Store};
@@ -88,7 +89,7 @@ pub fn new_store(
     requires few { length plans.now ≤ 8 }
     requires bound { All MeetsBound plans.now }
     ensures own { IfOk result (λ made. map (λ pass. pass.lock) made.1.items ≡ made.0) }
-    ensures first { IfOk result (λ made. map (λ pass. pass.view) made.1.items ≡ map first_view plans.now) }
+    ensures first { IfOk result (λ made. map (λ pass. pass.view) made.1.items ≡ map first_view (map fresh plans.now)) }
     ensures refused { FailsForMemory result }
 {
     let nands = devices(alloc, plans)?;

@@ -42,7 +42,7 @@ fn add_last(
     number: u32,
     die: DieCore<MemoryNand>,
 ) -> Result<(), Refusal>
-    ensures ok { OnOk result (text.new ≡ die_added (die_report_of die.plan die.log number) text.old) }
+    ensures ok { OnOk result (text.new ≡ die_added (die_report_of die.start die.log number) text.old) }
     ensures refused { FailsForMemory result }
 {
     add_die(alloc, text, number, &die)

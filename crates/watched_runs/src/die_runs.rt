@@ -4,6 +4,7 @@ ghost use Rattle.std.specs.Prelude.{◌≡◌, ◌+◌, ◌≤◌, [], IfOk, OnO
 ghost use Rattle.std.specs.Box.{box_value};
 ghost use Rattle.slot_types.specs.Refusal.{FailsForMemory};
 ghost use Rattle.plan_rules.specs.Bound.{MeetsBound};
+ghost use Rattle.die_log.specs.Start.{fresh};
 ghost use Rattle.die_log.specs.Log.{now};
 ghost use Rattle.die_wear.specs.Wear.{IsWearOf};
 
@@ -23,7 +24,7 @@ pub struct DieRun {
     pub core: Box<DieCore<MemoryNand>>,
     pub tally: Tally,
     pub window: Window,
-    ghost worn: { IsWearOf (box_value core).plan.shape.blocks (box_value core).log tally },
+    ghost worn: { IsWearOf (box_value core).start.plan.shape.blocks (box_value core).log tally },
 }
 
 /// A job or a collection of a die.
@@ -66,7 +67,7 @@ impl DieRun {
     /// A fresh die of a plan, of which a window is looked at. The only refusal is NoMemory.
     pub fn new(alloc: Global, die: u32, plan: DiePlan, window: Window) -> Result<DieRun, Refusal>
         requires { MeetsBound plan }
-        ensures plan { IfOk result (λ run. (box_value run.core).plan ≡ plan) }
+        ensures start { IfOk result (λ run. (box_value run.core).start ≡ fresh plan) }
         ensures log { IfOk result (λ run. (box_value run.core).log ≡ []) }
         ensures die { IfOk result (λ run. run.die ≡ die) }
         ensures refused { FailsForMemory result }
@@ -106,7 +107,7 @@ impl DieRun {
 
     /// Carries out the present slot.
     fn step(&mut self, alloc: Global) -> Result<(), Refusal>
-        ensures plan { (box_value self.new.core).plan ≡ (box_value self.old.core).plan }
+        ensures start { (box_value self.new.core).start ≡ (box_value self.old.core).start }
         ensures die { self.new.die ≡ self.old.die }
         ensures slot { OnOk result (now (box_value self.new.core).log ≡ now (box_value self.old.core).log + 1) }
     {
@@ -119,7 +120,7 @@ impl DieRun {
 
     /// Carries out slots until this one is the present one. The only refusal is NoMemory.
     pub fn carry_to(&mut self, alloc: Global, slot: u32) -> Result<(), Refusal>
-        ensures plan { (box_value self.new.core).plan ≡ (box_value self.old.core).plan }
+        ensures start { (box_value self.new.core).start ≡ (box_value self.old.core).start }
         ensures die { self.new.die ≡ self.old.die }
         ensures slot { OnOk result (now (box_value self.old.core).log ≤ slot → now (box_value self.new.core).log ≡ slot) }
     {
@@ -131,7 +132,7 @@ impl DieRun {
 
     /// Asks for what a row says, and answers why it was refused, if it was.
     pub fn ask(&mut self, alloc: Global, event: Event) -> Option<Refusal>
-        ensures plan { (box_value self.new.core).plan ≡ (box_value self.old.core).plan }
+        ensures start { (box_value self.new.core).start ≡ (box_value self.old.core).start }
         ensures die { self.new.die ≡ self.old.die }
         ensures slot { now (box_value self.new.core).log ≡ now (box_value self.old.core).log }
     {

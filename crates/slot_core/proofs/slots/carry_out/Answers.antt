@@ -19,6 +19,7 @@ use Rattle.slot_core.specs.Reserved.{open_collections}
 use Rattle.slot_core.proofs.Reserving.{turn_opens_nothing}
 use Rattle.slot_core.proofs.Turning.{head_fits, work_fits}
 use Rattle.slot_core.proofs.slots.carry_out.Goals as goal
+use Rattle.die_log.specs.Start.{Start, over}
 
 pub choose-requires : goal.choose-requires
 choose-requires g c κs within = (
@@ -26,10 +27,10 @@ choose-requires g c κs within = (
   (
     c.requires.1.0,
     (
-      subst (λ (ws : List Waived). InSlot c.args.volume.now.accounts.plan g.log c.args.present ws
+      subst (λ (ws : List Waived). InSlot (over c.args.volume.now.accounts.plan g.from.0) g.from.1 c.args.present ws
           (record c.args.table.now { clock = c.args.present }) (flash_of g.N.Nand.blocks c.args.volume.now))
           (sym (ap (λ (r : SlotReply). r.waived) c.requires.1.1.1.1.1.1.1.1.1))
-          (slot_starts g.N.Nand.blocks g.log c.args.present c.args.table.now c.args.volume.now c.requires.1.1.1.1.1.1.1.1.0 c.requires.1.0
+          (slot_starts g.from.0 g.N.Nand.blocks g.from.1 c.args.present c.args.table.now c.args.volume.now c.requires.1.1.1.1.1.1.1.1.0 c.requires.1.0
           c.requires.1.1.1.1.0),
       c.requires.1.1.1.1.1.0,
     ),
@@ -37,14 +38,14 @@ choose-requires g c κs within = (
 )
 
 pub push_idle-requires-clause-few : goal.push_idle-requires-clause-few
-push_idle-requires-clause-few g c = few_of c.args.volume.now.accounts.plan c.args.table.now.jobs c.args.events.now.notes g.log
+push_idle-requires-clause-few g c = few_of (over c.args.volume.now.accounts.plan g.from.0) c.args.table.now.jobs c.args.events.now.notes g.from.1
     c.requires.1.1.0 c.requires.1.1.1.1.1.1.1.1.0.exact c.requires.1.1.1.0
 
 -- An idle slot
 
 pub returns-in_default-clause-logged : goal.returns-in_default-clause-logged
 returns-in_default-clause-logged g c =
-    let grew = slot_grew c.args.volume.now.accounts.plan c.choose.new.volume.accounts.plan g.log c.args.table.now.jobs
+    let grew = slot_grew g.from.0 c.args.volume.now.accounts.plan c.choose.new.volume.accounts.plan g.from.1 c.args.table.now.jobs
     c.choose.new.table.jobs c.choose.new.told c.in_default.ensures.plan c.requires.1.1.1.1.1.1.1.1.0.jobs_are
     c.in_default.ensures.idle.0.table.were in
     rw (
@@ -53,12 +54,12 @@ returns-in_default-clause-logged g c =
       ap (λ (r : SlotReply). record r { waived = c.choose.new.told })
           c.requires.1.1.1.1.1.1.1.1.1,
     )
-    (idle_told c.args.table.now.jobs c.choose.new.table.jobs c.args.events.now.notes g.log c.args.caller c.args.present c.choose.new.told
+    (idle_told c.args.table.now.jobs c.choose.new.table.jobs c.args.events.now.notes g.from.1 c.args.caller c.args.present c.choose.new.told
     c.requires.1.1.0 c.requires.1.1.1.0 grew c.requires.1.1.1.1.1.1.1.1.0.now_is)
 
 pub returns-in_default-clause-fit : goal.returns-in_default-clause-fit
 returns-in_default-clause-fit g c =
-    let grew = slot_grew c.args.volume.now.accounts.plan c.choose.new.volume.accounts.plan g.log c.args.table.now.jobs
+    let grew = slot_grew g.from.0 c.args.volume.now.accounts.plan c.choose.new.volume.accounts.plan g.from.1 c.args.table.now.jobs
     c.choose.new.table.jobs c.choose.new.told c.in_default.ensures.plan c.requires.1.1.1.1.1.1.1.1.0.jobs_are
     c.in_default.ensures.idle.0.table.were in
     rw c.push_idle.ensures.events (
@@ -69,7 +70,7 @@ returns-in_default-clause-fit g c =
 
 pub returns-in_default-clause-kept : goal.returns-in_default-clause-kept
 returns-in_default-clause-kept g c =
-    (idle_kept g.N.Nand.blocks g.log (log_of c.choose.new.table c.push_idle.new.self.notes) c.args.present c.args.caller c.choose.new.told
+    (idle_kept g.from.0 g.N.Nand.blocks g.from.1 (log_of c.choose.new.table c.push_idle.new.self.notes) c.args.present c.args.caller c.choose.new.told
     c.choose.new.table c.choose.new.volume _
     c.in_default.ensures.idle.0 c.in_default.ensures.idle.1 c.in_default.ensures.alive
     (ap (λ (r : SlotReply). record r { waived = c.choose.new.told }) c.requires.1.1.1.1.1.1.1.1.1)
@@ -77,8 +78,8 @@ returns-in_default-clause-kept g c =
 
 pub returns-in_default-clause-answered : goal.returns-in_default-clause-answered
 returns-in_default-clause-answered g c =
-    ap (λ (p : DiePlan). answer p g.log Slot) (sym c.in_default.ensures.plan)
-    ∙ (idle_kept g.N.Nand.blocks g.log (log_of c.choose.new.table c.push_idle.new.self.notes) c.args.present c.args.caller c.choose.new.told
+    ap (λ (p : DiePlan). answer (over p g.from.0) g.from.1 Slot) (sym c.in_default.ensures.plan)
+    ∙ (idle_kept g.from.0 g.N.Nand.blocks g.from.1 (log_of c.choose.new.table c.push_idle.new.self.notes) c.args.present c.args.caller c.choose.new.told
     c.choose.new.table c.choose.new.volume _
     c.in_default.ensures.idle.0 c.in_default.ensures.idle.1 c.in_default.ensures.alive
     (ap (λ (r : SlotReply). record r { waived = c.choose.new.told }) c.requires.1.1.1.1.1.1.1.1.1)
@@ -88,35 +89,35 @@ returns-in_default-clause-answered g c =
 
 pub take_turn-turn-requires-clause-fits : goal.take_turn-turn-requires-clause-fits
 take_turn-turn-requires-clause-fits g c =
-    head_fits g.N.Nand.blocks g.log c.args.present c.choose.new.told c.choose.new.table c.in-Some.number c.choose.new.volume
+    head_fits g.from.0 g.N.Nand.blocks g.from.1 c.args.present c.choose.new.told c.choose.new.table c.in-Some.number c.choose.new.volume
     c.in-Some-job.job c.in-Some.ensures.turn c.in-Some-job.ensures
 
 pub stop-requires : goal.stop-requires
 stop-requires g c =
     subst (λ (ws : List Waived). AreWaived c.choose.new.table.jobs ws) (sym c.as_slice-in-Err.ensures)
-    (all_waived c.choose.new.volume.accounts.plan g.log c.args.present c.choose.new.told c.choose.new.table
+    (all_waived (over c.choose.new.volume.accounts.plan g.from.0) g.from.1 c.args.present c.choose.new.told c.choose.new.table
     (flash_of g.N.Nand.blocks c.choose.new.volume) c.in-Some.number c.in-Some.ensures.turn)
 
 pub note_turn-requires-clause-room : goal.note_turn-requires-clause-room
 note_turn-requires-clause-room g c =
-    work_fits c.choose.new.volume.accounts.plan g.log c.args.present c.choose.new.told c.choose.new.table
+    work_fits (over c.choose.new.volume.accounts.plan g.from.0) g.from.1 c.args.present c.choose.new.told c.choose.new.table
     (flash_of g.N.Nand.blocks c.choose.new.volume) c.in-Some.number c.in-Some.ensures.turn
 
 pub note_turn-requires-clause-reads : goal.note_turn-requires-clause-reads
 note_turn-requires-clause-reads g c =
-    turn_reads g.N.Nand.blocks g.log c.args.present c.choose.new.told c.choose.new.table c.in-Some.number c.choose.new.volume
+    turn_reads g.from.0 g.N.Nand.blocks g.from.1 c.args.present c.choose.new.told c.choose.new.table c.in-Some.number c.choose.new.volume
     c.take_turn-turn.new.volume c.in-Some-job.job c.in-Ok.turn c.in-Some.ensures.turn c.in-Some-job.ensures c.in-Ok.ensures.did
 
 pub push_reserved-requires-clause-few : goal.push_reserved-requires-clause-few
-push_reserved-requires-clause-few g c = few_of c.args.volume.now.accounts.plan c.args.table.now.jobs c.args.events.now.notes g.log
+push_reserved-requires-clause-few g c = few_of (over c.args.volume.now.accounts.plan g.from.0) c.args.table.now.jobs c.args.events.now.notes g.from.1
     c.requires.1.1.0 c.requires.1.1.1.1.1.1.1.1.0.exact c.requires.1.1.1.0
 
 pub returns-in-Ok-clause-logged : goal.returns-in-Ok-clause-logged
 returns-in-Ok-clause-logged g c = (turn_told g.N.Nand.blocks c.args.table.now.jobs c.args.events.now.notes c.push_reserved.new.self.notes
-    g.log c.args.caller c.args.present c.work_of-place.result c.choose.new.told c.choose.new.table c.note_turn.new.table c.in-Some.number
+    g.from.1 c.args.caller c.args.present c.work_of-place.result c.choose.new.told c.choose.new.table c.note_turn.new.table c.in-Some.number
     c.in-Some-job.job c.choose.new.volume c.take_turn-turn.new.volume c.in-Ok.turn c.deed_of-deed.result _
     c.requires.1.1.0 c.requires.1.1.1.0
-    (slot_grew c.args.volume.now.accounts.plan c.choose.new.volume.accounts.plan g.log c.args.table.now.jobs c.choose.new.table.jobs
+    (slot_grew g.from.0 c.args.volume.now.accounts.plan c.choose.new.volume.accounts.plan g.from.1 c.args.table.now.jobs c.choose.new.table.jobs
     c.choose.new.told c.in-Some.ensures.plan c.requires.1.1.1.1.1.1.1.1.0.jobs_are c.in-Some.ensures.turn.table.were)
     c.requires.1.1.1.1.1.1.1.1.0.now_is c.in-Some-job.ensures c.in-Ok.ensures.did
     (c.work_of-place.ensures.reads c.in-Some-job.job c.in-Some-job.ensures) (c.work_of-place.ensures.work
@@ -130,11 +131,11 @@ returns-in-Ok-clause-logged g c = (turn_told g.N.Nand.blocks c.args.table.now.jo
     c.finished-reply.ensures)).tells
 
 pub returns-in-Ok-clause-fit : goal.returns-in-Ok-clause-fit
-returns-in-Ok-clause-fit g c = (turn_told g.N.Nand.blocks c.args.table.now.jobs c.args.events.now.notes c.push_reserved.new.self.notes g.log
+returns-in-Ok-clause-fit g c = (turn_told g.N.Nand.blocks c.args.table.now.jobs c.args.events.now.notes c.push_reserved.new.self.notes g.from.1
     c.args.caller c.args.present c.work_of-place.result c.choose.new.told c.choose.new.table c.note_turn.new.table c.in-Some.number
     c.in-Some-job.job c.choose.new.volume c.take_turn-turn.new.volume c.in-Ok.turn c.deed_of-deed.result _
     c.requires.1.1.0 c.requires.1.1.1.0
-    (slot_grew c.args.volume.now.accounts.plan c.choose.new.volume.accounts.plan g.log c.args.table.now.jobs c.choose.new.table.jobs
+    (slot_grew g.from.0 c.args.volume.now.accounts.plan c.choose.new.volume.accounts.plan g.from.1 c.args.table.now.jobs c.choose.new.table.jobs
     c.choose.new.told c.in-Some.ensures.plan c.requires.1.1.1.1.1.1.1.1.0.jobs_are c.in-Some.ensures.turn.table.were)
     c.requires.1.1.1.1.1.1.1.1.0.now_is c.in-Some-job.ensures c.in-Ok.ensures.did
     (c.work_of-place.ensures.reads c.in-Some-job.job c.in-Some-job.ensures) (c.work_of-place.ensures.work
@@ -148,7 +149,7 @@ returns-in-Ok-clause-fit g c = (turn_told g.N.Nand.blocks c.args.table.now.jobs 
     c.finished-reply.ensures)).fits
 
 pub returns-in-Ok-clause-kept : goal.returns-in-Ok-clause-kept
-returns-in-Ok-clause-kept g c = (turn_kept g.N.Nand.blocks g.log (log_of c.note_turn.new.table c.push_reserved.new.self.notes)
+returns-in-Ok-clause-kept g c = (turn_kept g.from.0 g.N.Nand.blocks g.from.1 (log_of c.note_turn.new.table c.push_reserved.new.self.notes)
     c.args.present c.args.caller c.choose.new.told c.choose.new.table c.note_turn.new.table c.in-Some.number c.choose.new.volume
     c.take_turn-turn.new.volume c.in-Some-job.job c.in-Ok.turn _
     c.in-Some.ensures.turn c.in-Some-job.ensures c.in-Ok.ensures.did c.in-Ok.ensures.plan c.in-Ok.ensures.fails.failed c.note_turn.ensures
@@ -167,8 +168,8 @@ returns-in-Ok-clause-kept g c = (turn_kept g.N.Nand.blocks g.log (log_of c.note_
 
 pub returns-in-Ok-clause-answered : goal.returns-in-Ok-clause-answered
 returns-in-Ok-clause-answered g c =
-    ap (λ (p : DiePlan). answer p g.log Slot) (sym c.in-Some.ensures.plan)
-    ∙ (turn_kept g.N.Nand.blocks g.log (log_of c.note_turn.new.table c.push_reserved.new.self.notes) c.args.present c.args.caller
+    ap (λ (p : DiePlan). answer (over p g.from.0) g.from.1 Slot) (sym c.in-Some.ensures.plan)
+    ∙ (turn_kept g.from.0 g.N.Nand.blocks g.from.1 (log_of c.note_turn.new.table c.push_reserved.new.self.notes) c.args.present c.args.caller
     c.choose.new.told c.choose.new.table c.note_turn.new.table c.in-Some.number c.choose.new.volume c.take_turn-turn.new.volume
     c.in-Some-job.job c.in-Ok.turn _
     c.in-Some.ensures.turn c.in-Some-job.ensures c.in-Ok.ensures.did c.in-Ok.ensures.plan c.in-Ok.ensures.fails.failed c.note_turn.ensures
@@ -236,12 +237,12 @@ returns-in-Ok-clause-waiver_room g c =
 
 pub returns-in-Err-clause-waiver_room : goal.returns-in-Err-clause-waiver_room
 returns-in-Err-clause-waiver_room g c =
-    let taken_back : c.stop.new.self.jobs ≡ records c.choose.new.volume.accounts.plan g.log = c.stop.ensures.as_before
-    (records c.choose.new.volume.accounts.plan g.log)
-    (subst (λ (ws : List Waived). WerePending (records c.choose.new.volume.accounts.plan g.log) ws) (sym c.as_slice-in-Err.ensures)
+    let taken_back : c.stop.new.self.jobs ≡ records (over c.choose.new.volume.accounts.plan g.from.0) g.from.1 = c.stop.ensures.as_before
+    (records (over c.choose.new.volume.accounts.plan g.from.0) g.from.1)
+    (subst (λ (ws : List Waived). WerePending (records (over c.choose.new.volume.accounts.plan g.from.0) g.from.1) ws) (sym c.as_slice-in-Err.ensures)
     c.in-Some.ensures.turn.table.were_pending)
-    (c.in-Some.ensures.turn.table.were ∙ ap (λ (ws : List Waived). waived_in (records c.choose.new.volume.accounts.plan g.log) ws)
+    (c.in-Some.ensures.turn.table.were ∙ ap (λ (ws : List Waived). waived_in (records (over c.choose.new.volume.accounts.plan g.from.0) g.from.1) ws)
     (sym c.as_slice-in-Err.ensures)) in
     let same : c.stop.new.self.jobs ≡ c.args.table.now.jobs = taken_back
-    ∙ (ap (λ (p : DiePlan). records p g.log) c.in-Some.ensures.plan ∙ sym c.requires.1.1.1.1.1.1.1.1.0.jobs_are) in
+    ∙ (ap (λ (p : DiePlan). records (over p g.from.0) g.from.1) c.in-Some.ensures.plan ∙ sym c.requires.1.1.1.1.1.1.1.1.0.jobs_are) in
     omega (arith, c.requires.1.1.1.1.1.1.1.0, ap (λ (js : List JobRecord). open_collections js) same)

@@ -3,10 +3,11 @@ use Rattle.slot_core.specs.Device.{flash_of}
 use Rattle.slot_core.specs.Slotted.{InSlot}
 use Rattle.slot_core.specs.Reserved.{open_collections}
 use Rattle.slot_core.proofs.slots.choose.Given as goal
+use Rattle.die_log.specs.Start.{Start, over}
 
 abbrev pub invariant-loop-number : goal.invariant-loop-number
 invariant-loop-number g l = record {
-  within : InSlot l.volume.accounts.plan g.log l.present l.told (record l.table { clock = l.present }) (flash_of g.N.Nand.blocks l.volume);
+  within : InSlot (over l.volume.accounts.plan g.from.0) g.from.1 l.present l.told (record l.table { clock = l.present }) (flash_of g.N.Nand.blocks l.volume);
   clock : l.table.clock ≤ l.present;
   closed : open_collections l.table.jobs + length l.told ≤ open_collections l.fn.table.jobs + length l.fn.told;
   plan : l.volume.accounts.plan ≡ l.fn.volume.accounts.plan;

@@ -9,10 +9,10 @@ returns-clause-most g c =
     let die = c.deref.result.now in
     let entries : c.len.result ≡ length die.log = c.len.ensures
     ∙ ap (λ (k : Core g.row.N.Denot). length k.log) (c.deref-2.ensures ∙ sym c.deref.ensures) in
-    rw entries (few_entries die.plan die.log c.promises.ensures.exact)
+    rw entries (few_entries die.start die.log c.promises.ensures.exact)
 
 pub returns-clause-fits : goal.returns-clause-fits
 returns-clause-fits g c = record {
-  bound = rw (← c.self.view_is, ← c.deref.ensures) c.promises.ensures.bound;
+  opens = rw (← c.self.view_is, ← c.deref.ensures) c.promises.ensures.opens;
   exact = rw (log_of_calls c.args.self.now.log, ← c.self.view_is, ← c.deref.ensures) c.promises.ensures.exact;
 }

@@ -7,7 +7,7 @@ pub returns-clause-asks : goal.returns-clause-asks
 returns-clause-asks g c =
     rw (← c.self.view_is) (record {
       same = c.look.ensures.same;
-      plan = c.look.ensures.grown.topic;
+      start = c.look.ensures.grown.topic;
       far = far_looks g.N.Nand.never_fails _ _ c.look.ensures.grown c.look.ensures.own;
       place = refl;
       refused = sym (append-nil _);

@@ -9,6 +9,6 @@ invariant-loop-event g l = record {
   is_finite : (goal.iterator-loop-event g).is_finite l.event-iterator;
   room : vec_capacity l.replies ≡ length l.fn.events;
   replied : vec_len l.replies ≡ length l.yielded;
-  ran : IsRun l.fn.self.plan (moment_of g.N.Nand.failures l.fn.self) l.yielded l.replies.items (moment_of g.N.Nand.failures l.self);
-  plan : l.self.plan ≡ l.fn.self.plan;
+  ran : IsRun l.fn.self.start (moment_of g.N.Nand.failures l.fn.self) l.yielded l.replies.items (moment_of g.N.Nand.failures l.self);
+  plan : l.self.start ≡ l.fn.self.start;
 }

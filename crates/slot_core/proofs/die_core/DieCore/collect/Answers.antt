@@ -10,6 +10,7 @@ use Rattle.slot_core.specs.Told.{log_of}
 use Rattle.slot_core.proofs.Reserving.{collect_room}
 use Rattle.slot_core.proofs.Telling.{collect_enters, collect_logged, few_told}
 use Rattle.slot_core.proofs.die_core.DieCore.collect.Goals as goal
+use Rattle.die_log.specs.Start.{Start, over}
 
 pub returns-in-Some-clause-refused : goal.returns-in-Some-clause-refused
 returns-in-Some-clause-refused g c = record {
@@ -19,21 +20,21 @@ returns-in-Some-clause-refused g c = record {
 
 pub enter_collection-requires-clause-single : goal.enter_collection-requires-clause-single
 enter_collection-requires-clause-single g c =
-    let none : refusal_of c.self.inside.volume.accounts.plan (log_of c.self.inside.table c.self.inside.events.notes)
+    let none : refusal_of (over c.self.inside.volume.accounts.plan c.self.inside.start) (log_of c.self.inside.table c.self.inside.events.notes)
     (Collect c.args.task c.args.release c.args.due) ≡ None =
-    ap (λ (d : Core g.row.N.Denot). refusal_of d.plan d.log (Collect c.args.task c.args.release c.args.due)) c.self.view_is
+    ap (λ (d : Core g.row.N.Denot). refusal_of d.start d.log (Collect c.args.task c.args.release c.args.due)) c.self.view_is
     ∙ (sym c.collect_refusal.ensures ∙ c.in-None.is) in
-    collecting_is c.self.inside.volume.accounts.plan (log_of c.self.inside.table c.self.inside.events.notes) c.self.inside.table.jobs
-    c.args.task c.self.invariant.0.kept.jobs_are ∙ (may_collect c.self.inside.volume.accounts.plan
+    collecting_is (over c.self.inside.volume.accounts.plan c.self.inside.start) (log_of c.self.inside.table c.self.inside.events.notes) c.self.inside.table.jobs
+    c.args.task c.self.invariant.0.kept.jobs_are ∙ (may_collect (over c.self.inside.volume.accounts.plan c.self.inside.start)
     (log_of c.self.inside.table c.self.inside.events.notes) c.args.task c.args.release c.args.due none).single
 
 pub invariant_of-self : goal.invariant_of-self
 invariant_of-self g c =
-    let none : refusal_of c.self.inside.volume.accounts.plan (log_of c.self.inside.table c.self.inside.events.notes)
+    let none : refusal_of (over c.self.inside.volume.accounts.plan c.self.inside.start) (log_of c.self.inside.table c.self.inside.events.notes)
     (Collect c.args.task c.args.release c.args.due) ≡ None =
-    ap (λ (d : Core g.row.N.Denot). refusal_of d.plan d.log (Collect c.args.task c.args.release c.args.due)) c.self.view_is
+    ap (λ (d : Core g.row.N.Denot). refusal_of d.start d.log (Collect c.args.task c.args.release c.args.due)) c.self.view_is
     ∙ (sym c.collect_refusal.ensures ∙ c.in-None.is) in
-    let entered = collect_enters g.N.Nand.blocks c.self.inside.events.notes c.enter_collection.new.events.notes c.self.inside.present
+    let entered = collect_enters c.self.inside.start g.N.Nand.blocks c.self.inside.events.notes c.enter_collection.new.events.notes c.self.inside.present
     c.args.caller c.args.task c.args.release c.args.due c.self.inside.table c.enter_collection.new.table
     c.self.inside.volume c.enter_collection.result c.self.invariant.0 (sym c.failed.ensures ∙ c.if-failed.false) none
     c.enter_collection.ensures.table c.enter_collection.ensures.number c.enter_collection.ensures.logged
@@ -41,7 +42,7 @@ invariant_of-self g c =
       entered,
       record {
         slots = c.enter_collection.ensures.reserved;
-        waivers = collect_room c.enter_collection.result c.self.inside.volume.accounts.plan
+        waivers = collect_room c.enter_collection.result (over c.self.inside.volume.accounts.plan c.self.inside.start)
             (log_of c.enter_collection.new.table c.enter_collection.new.events.notes) c.self.inside.table c.enter_collection.new.table
             c.self.inside.events.waiver_room c.enter_collection.new.events.waiver_room entered.kept.bound entered.kept.exact
             entered.kept.jobs_are c.self.invariant.0.kept.tasks_are
@@ -51,14 +52,14 @@ invariant_of-self g c =
     )
 
 pub enter_collection-requires-clause-few_events : goal.enter_collection-requires-clause-few_events
-enter_collection-requires-clause-few_events g c = few_told c.self.inside.volume.accounts.plan c.self.inside.table.jobs
+enter_collection-requires-clause-few_events g c = few_told (over c.self.inside.volume.accounts.plan c.self.inside.start) c.self.inside.table.jobs
     c.self.inside.events.notes c.self.invariant.0.kept.exact c.self.invariant.0.fits
 
 pub returns-clause-taken : goal.returns-clause-taken
 returns-clause-taken g c =
-    let none : refusal_of c.args.self.now.plan c.args.self.now.log (Collect c.args.task c.args.release c.args.due) ≡ None =
+    let none : refusal_of c.args.self.now.start c.args.self.now.log (Collect c.args.task c.args.release c.args.due) ≡ None =
     sym c.collect_refusal.ensures ∙ c.in-None.is in
-    let answered : IfOk c.enter_collection.result (λ number. answer c.args.self.now.plan c.args.self.now.log
+    let answered : IfOk c.enter_collection.result (λ number. answer c.args.self.now.start c.args.self.now.log
     (Collect c.args.task c.args.release c.args.due) ≡ Taken number) =
     rw (← c.self.view_is) (collect_answered _ _ c.self.inside.table c.args.task c.args.release c.args.due c.enter_collection.result
     (rw (← c.self.view_is) at none) c.self.invariant.0.kept.jobs_are c.enter_collection.ensures.number) in

@@ -17,10 +17,10 @@ invariant_of-result g c =
     let same : c.shape.result ≡ c.args.plan.shape = same_shape c.shape.result c.args.plan.shape c.if-ne.ensures in (
       record {
         kept = keeps_start g.N.Nand.blocks c.args.plan c.args.nand (log_of c.in_ok-table.table c.new-3.result.notes) c.in_ok-table.table
-            c.in_ok-volume.volume
+            c.in_ok-volume.volume c.fresh-start.result
             (c.in_ok-bound.ensures.ok.0 refl) (c.requires.fresh.unused ∙ ap (λ (s : Shape). fresh_blocks s) (sym c.shape.ensures ∙ same))
             (rw c.new-3.ensures refl)
-            (c.in_ok-table.ensures.ok ∙ ap empty_table c.len.ensures) c.in_ok-volume.ensures.ok;
+            (c.in_ok-table.ensures.ok ∙ ap empty_table c.len.ensures) c.in_ok-volume.ensures.ok c.fresh-start.ensures;
         fits = rw c.new-3.ensures tt;
       },
       record { slots = omega arith; waivers = omega (arith, ap (λ (t : Table). open_collections t.jobs) c.in_ok-table.ensures.ok) },

@@ -12,6 +12,7 @@ use Rattle.slot_core.specs.Reserved.{open_collections}
 use Rattle.slot_core.proofs.Reserving.{open_job}
 use Rattle.slot_core.proofs.Telling.{submit_tells, few_told}
 use Rattle.slot_core.proofs.die_core.DieCore.submit_lent.Goals as goal
+use Rattle.die_log.specs.Start.{Start, over}
 
 pub returns-in-Some-clause-refused : goal.returns-in-Some-clause-refused
 returns-in-Some-clause-refused g c = record {
@@ -31,19 +32,19 @@ returns-in-Err-clause-refused g c = record {
 pub invariant_of-self-in-Ok : goal.invariant_of-self-in-Ok
 invariant_of-self-in-Ok g c =
     let f = c.self.inside in
-    let none : refusal_of f.volume.accounts.plan (log_of f.table f.events.notes)
+    let none : refusal_of (over f.volume.accounts.plan c.self.inside.start) (log_of f.table f.events.notes)
     (Submit c.args.task c.args.release c.args.due c.args.ops.now) ≡ None =
-    ap (λ (d : Core g.row.N.Denot). refusal_of d.plan d.log (Submit c.args.task c.args.release c.args.due c.args.ops.now)) c.self.view_is
+    ap (λ (d : Core g.row.N.Denot). refusal_of d.start d.log (Submit c.args.task c.args.release c.args.due c.args.ops.now)) c.self.view_is
     ∙ (sym c.submit_refusal.ensures ∙ c.in-None.is) in
     let alive = sym c.failed.ensures ∙ c.if-failed.false in
     let made = admit_made f.volume c.admit.new.self c.args.task _ c.args.ops.now c.admit.result (c.count_writes-writes.ensures)
-    (tokens_suffice f.volume.accounts.plan (log_of f.table f.events.notes) c.args.task c.args.release c.args.due c.args.ops.now
+    (tokens_suffice (over f.volume.accounts.plan c.self.inside.start) (log_of f.table f.events.notes) c.args.task c.args.release c.args.due c.args.ops.now
     f.volume.accounts (c.self.invariant.0.kept.flash alive).accounts_are none) c.admit.ensures.ok (c.admit.ensures.accepted alive) in
     let tells = submit_tells f.table c.enter_job.new.table f.events.notes c.enter_job.new.events.notes c.args.caller c.in-Ok.number
     c.args.task c.args.release c.args.due c.args.ops.now c.in-Ok.ensures.table c.in-Ok.ensures.number c.in-Ok.ensures.logged
     c.self.invariant.0.fits in (
       record {
-        kept = submit_kept g.N.Nand.blocks (log_of f.table f.events.notes) (log_of c.enter_job.new.table c.enter_job.new.events.notes)
+        kept = submit_kept c.self.inside.start g.N.Nand.blocks (log_of f.table f.events.notes) (log_of c.enter_job.new.table c.enter_job.new.events.notes)
             f.present c.args.caller c.in-Ok.number c.args.task c.args.release c.args.due c.args.ops.now f.table c.enter_job.new.table
             f.volume c.admit.new.self
             c.self.invariant.0.kept alive none c.in-Ok.ensures.number c.in-Ok.ensures.table made tells.0;
@@ -62,19 +63,19 @@ invariant_of-self-in-Ok g c =
     )
 
 pub enter_job-requires-clause-few_events : goal.enter_job-requires-clause-few_events
-enter_job-requires-clause-few_events g c = few_told c.self.inside.volume.accounts.plan c.self.inside.table.jobs c.self.inside.events.notes
+enter_job-requires-clause-few_events g c = few_told (over c.self.inside.volume.accounts.plan c.self.inside.start) c.self.inside.table.jobs c.self.inside.events.notes
     c.self.invariant.0.kept.exact c.self.invariant.0.fits
 
 pub returns-in-Ok-clause-taken : goal.returns-in-Ok-clause-taken
 returns-in-Ok-clause-taken g c =
     let f = c.self.inside in
-    let none : refusal_of f.volume.accounts.plan (log_of f.table f.events.notes)
+    let none : refusal_of (over f.volume.accounts.plan c.self.inside.start) (log_of f.table f.events.notes)
     (Submit c.args.task c.args.release c.args.due c.args.ops.now) ≡ None =
-    ap (λ (d : Core g.row.N.Denot). refusal_of d.plan d.log (Submit c.args.task c.args.release c.args.due c.args.ops.now)) c.self.view_is
+    ap (λ (d : Core g.row.N.Denot). refusal_of d.start d.log (Submit c.args.task c.args.release c.args.due c.args.ops.now)) c.self.view_is
     ∙ (sym c.submit_refusal.ensures ∙ c.in-None.is) in
     let alive = sym c.failed.ensures ∙ c.if-failed.false in
     let made = admit_made f.volume c.admit.new.self c.args.task _ c.args.ops.now c.admit.result (c.count_writes-writes.ensures)
-    (tokens_suffice f.volume.accounts.plan (log_of f.table f.events.notes) c.args.task c.args.release c.args.due c.args.ops.now
+    (tokens_suffice (over f.volume.accounts.plan c.self.inside.start) (log_of f.table f.events.notes) c.args.task c.args.release c.args.due c.args.ops.now
     f.volume.accounts (c.self.invariant.0.kept.flash alive).accounts_are none) c.admit.ensures.ok (c.admit.ensures.accepted alive) in
     let tells = submit_tells f.table c.enter_job.new.table f.events.notes c.enter_job.new.events.notes c.args.caller c.in-Ok.number
     c.args.task c.args.release c.args.due c.args.ops.now c.in-Ok.ensures.table c.in-Ok.ensures.number c.in-Ok.ensures.logged

@@ -5,7 +5,7 @@ use Rattle.watched_runs.proofs.die_runs.DieRun.carry_to.Given as goal
 
 abbrev pub invariant-loop-present : goal.invariant-loop-present
 invariant-loop-present l = record {
-  plan : (box_value l.self.core).plan ≡ (box_value l.initial.self.core).plan;
+  start : (box_value l.self.core).start ≡ (box_value l.initial.self.core).start;
   die : l.self.die ≡ l.initial.self.die;
   slot : now (box_value l.self.core).log ≡ l._present;
 }

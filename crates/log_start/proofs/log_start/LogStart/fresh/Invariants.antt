@@ -1,0 +1,5 @@
+use Rattle.die_log.specs.Start.{fresh}
+use Rattle.log_start.proofs.log_start.LogStart.fresh.Given as goal
+
+abbrev pub ghost-beside : goal.ghost-beside
+ghost-beside a = fresh a._plan.now

@@ -1,0 +1,120 @@
+-- What is carried next is read off the table, and where nothing is, the log is quiet.
+use Rattle.std.proofs.Common.{◌≡◌, ℕ, suc, ◌<◌, ◌≤◌, ◌&&◌, not, nat_le, nat_lt, Bool, true, false, cond, List, [], ◌∷◌, ◌++◌, Some, None}
+use Rattle.std.proofs.Common.{refl, ap, sym, ◌∙◌, subst, length, map, filter, slice_get, arith, inl, inr}
+use Rattle.std.specs.Prelude.{Contains, IsTrue, IfSome, IfNone, Option, ◌⊎◌}
+use Rattle.std.proofs.lemmas.Bool.{true≢false}
+use Rattle.std.proofs.lemmas.Bool.Decides.{nat_tests}
+use Rattle.std.proofs.lemmas.List.{append-nil}
+use Rattle.std.proofs.lemmas.Option.{slice_get-get_or, slice_get_within, get_or_from_slice_get, same_Some}
+use Rattle.slot_types.specs.declared.replies.Waived.{Waived}
+use Rattle.job_table.specs.Jobs.{JobRecord, is_pending}
+use Rattle.job_table.specs.Table.{Table}
+use Rattle.job_table.specs.Order as table
+use Rattle.die_log.specs.Start.{Start}
+use Rattle.die_log.specs.Log.{Log, Job, jobs, now, waived, is_waived}
+use Rattle.die_log.specs.Work.{is_done, ready, least}
+use Rattle.die_log.specs.Opening.{IsQuiet}
+use Rattle.die_log.specs.Standing.{AreNumbered}
+use Rattle.die_log.proofs.Legal.Exact.{stands_well}
+use Rattle.die_log.proofs.Standing.Longer.{number_at, stands_at}
+use Rattle.slot_core.specs.Records.{record_with, records}
+use Rattle.slot_core.specs.Renewals.{is_coming, is_released_before, IsReleasedNext, IsNext}
+use Rattle.slot_core.specs.Device.{FlashState}
+use Rattle.slot_core.specs.Kept.{Keeps}
+use Rattle.slot_core.specs.Slotted.{unwaived}
+use Rattle.slot_core.proofs.Heading.{slice_get-map, slice_get-mapped, pending_is, head_least, nothing_least, table_at}
+
+unwaived_none : (js : List Job) → unwaived [] js ≡ js
+unwaived_none [] = refl
+unwaived_none (j ∷ js) = ap (λ (l : List Job). j ∷ l) (unwaived_none js)
+
+module _ (start : Start) (past : Log) (tasks : ℕ) (ended : Bool) where
+  -- the table of a log at its present slot
+  abbrev here : Table
+  here = record { tasks = tasks; clock = now past; ended = ended; jobs = records start past }
+
+  here_is : table_at tasks ended start past [] ≡ here
+  here_is = ap (λ (ws : List Waived). record { tasks = tasks; clock = now past; ended = ended; jobs = map (record_with start past ws) (jobs past) })
+      (append-nil (waived past))
+
+  least_of : least (unwaived [] (ready start.plan past)) ≡ least (ready start.plan past)
+  least_of = ap least (unwaived_none (ready start.plan past))
+
+  head_next : (n : ℕ) → AreNumbered 0 (jobs past) → table.IsHead here n → IsNext start.plan past n
+  head_next n numbered h =
+      let f = slice_get-mapped (record_with start past (waived past)) (jobs past) n h.head h.is_at in
+      record {
+        job = f.0;
+        number_is = omega (arith, number_at 0 (jobs past) n f.0 numbered f.1);
+        next = inl (sym least_of ∙ head_least start past [] tasks n ended f.0 numbered f.1
+            (subst (λ (t : Table). table.IsHead t n) (sym here_is) h));
+      }
+
+  -- a record waits for its release where its job is coming
+  waiting_is : (j : Job) → table.is_waiting (now past) (record_with start past (waived past) j) ≡ is_coming start.plan past j
+  waiting_is j = ap (λ (b : Bool). nat_lt (now past) j.release && b) (pending_is start past (waived past) j)
+
+  released_next : (n : ℕ) → AreNumbered 0 (jobs past) → table.NothingReady here → table.IsNextReleased here n → IsNext start.plan past n
+  released_next n numbered nothing h =
+      let f = slice_get-mapped (record_with start past (waived past)) (jobs past) n h.job h.is_at in
+      let number : f.0.number ≡ n = omega (arith, number_at 0 (jobs past) n f.0 numbered f.1) in
+      record {
+        job = f.0;
+        number_is = number;
+        next = inr (
+          sym least_of ∙ nothing_least start past [] tasks ended (subst table.NothingReady (sym here_is) nothing),
+          record {
+            stands = (n, slice_get_within (jobs past) n f.0 f.1, get_or_from_slice_get (jobs past) n f.0 f.0 f.1);
+            coming = sym (waiting_is f.0) ∙ (ap (table.is_waiting (now past)) f.2 ∙ h.waits);
+            first = λ i stands coming.
+                subst (λ (k : ℕ × ℕ). is_released_before i (record f.0 { release = k.0; number = k.1 }) ≡ false)
+                (λ x. ((sym (ap (λ (r : JobRecord). r.release) f.2)) x, (sym number) x))
+                (h.first i.number (record_with start past (waived past) i)
+                (slice_get-map (record_with start past (waived past)) (jobs past) i.number i (stands_at (jobs past) i numbered stands))
+                (waiting_is i ∙ coming));
+          },
+        );
+      }
+
+  over_by : (le lt done gone : Bool) → (le ≡ false → lt ≡ true) → (le && (not done && not gone)) ≡ false
+      → (lt && (not done && not gone)) ≡ false → IsTrue done ⊎ IsTrue gone
+  over_by le lt true gone or h g = inl refl
+  over_by le lt false true or h g = inr refl
+  over_by true lt false false or h g = absurd (true≢false h)
+  over_by false lt false false or h g = absurd (true≢false (sym (ap (λ (b : Bool). b && true) (or refl)) ∙ g))
+
+  late_or : (release : ℕ) → nat_le release (now past) ≡ false → nat_lt (now past) release ≡ true
+  late_or release h = grind (arith, nat_tests)
+
+  quiet_by : table.NothingReady here → table.NothingWaiting here → IsQuiet start past
+  quiet_by unready unwaiting j stands =
+      let at = slice_get-get_or (jobs past) stands.0 j stands.1 ∙ ap Some stands.2 in
+      let kept = slice_get-map (record_with start past (waived past)) (jobs past) stands.0 j at in
+      over_by (nat_le j.release (now past)) (nat_lt (now past) j.release) (is_done start.plan past j) (is_waived past j.number)
+      (late_or j.release)
+      (sym (ap (λ (b : Bool). nat_le j.release (now past) && b) (pending_is start past (waived past) j))
+      ∙ unready stands.0 (record_with start past (waived past) j) kept)
+      (sym (waiting_is j) ∙ unwaiting stands.0 (record_with start past (waived past) j) kept)
+
+-- The table of a die, asked at its present slot
+
+module _ (start : Start) (log : Log) (present : ℕ) (kept : Table) (failed : Bool) (f : FlashState) (t : Table)
+    (k : Keeps start log present kept failed f) (is : t ≡ record kept { clock = present }) where
+  at_present : t ≡ here start log kept.tasks kept.ended
+  at_present = is ∙ (λ i. record { tasks = kept.tasks; clock = k.now_is i; ended = kept.ended; jobs = k.jobs_are i })
+
+  numbered : AreNumbered 0 (jobs log)
+  numbered = (stands_well start k.bound log k.exact).0.numbered
+
+  pub next_told : (o : Option ℕ) → IfSome o (λ n. table.IsHead t n ⊎ (table.NothingReady t × table.IsNextReleased t n))
+      → IfSome o (IsNext start.plan log)
+  next_told None h = tt
+  next_told (Some n) (inl head) = head_next start log kept.tasks kept.ended n numbered
+      (subst (λ (u : Table). table.IsHead u n) at_present head)
+  next_told (Some n) (inr (nothing, later)) = released_next start log kept.tasks kept.ended n numbered
+      (subst table.NothingReady at_present nothing) (subst (λ (u : Table). table.IsNextReleased u n) at_present later)
+
+  pub quiet_told : (o : Option ℕ) → IfNone o (table.NothingReady t × table.NothingWaiting t) → IfNone o (IsQuiet start log)
+  quiet_told (Some n) h = tt
+  quiet_told None (nothing, none) = quiet_by start log kept.tasks kept.ended (subst table.NothingReady at_present nothing)
+      (subst table.NothingWaiting at_present none)

@@ -1,0 +1,26 @@
+use Rattle.std.proofs.Common.{◌≡◌, length, refl, false, sym, subst, ◌∙◌, ap, arith}
+use Rattle.slot_types.specs.declared.plans.DiePlan.{DiePlan}
+use Rattle.job_table.specs.Table.{Table, empty_table}
+use Rattle.die_log.specs.Opening.{IsQuiet, CanBeErased, renewed}
+use Rattle.slot_core.specs.Core.{Core}
+use Rattle.slot_core.specs.Told.{log_of}
+use Rattle.slot_core.specs.Reserved.{open_collections}
+use Rattle.slot_core.proofs.Renewing.{renewed_kept}
+use Rattle.slot_core.proofs.die_core.DieCore.start_anew.Goals as goal
+
+pub invariant_of-self : goal.invariant_of-self
+invariant_of-self g c =
+    let f = c.self.inside in (
+      record {
+        kept = renewed_kept g.N.Nand.blocks f.start c.start_of-start.result (log_of f.table f.events.notes)
+            (log_of c.clear.new.self c.clear-2.new.self.notes) _ f.table c.clear.new.self f.volume
+            c.self.invariant.0.kept
+            (subst (λ (d : Core g.row.N.Denot). d.stopped ≡ false) (sym c.self.view_is) c.requires.runs)
+            (subst (λ (d : Core g.row.N.Denot). IsQuiet d.start d.log) (sym c.self.view_is) c.requires.quiet)
+            (subst (λ (d : Core g.row.N.Denot). CanBeErased (renewed d.start d.log)) (sym c.self.view_is) c.requires.unworn)
+            c.start_of-start.ensures (c.clear.ensures ∙ ap empty_table c.self.invariant.0.kept.tasks_are)
+            (rw c.clear-2.ensures.events refl);
+        fits = rw c.clear-2.ensures.events tt;
+      },
+      record { slots = omega (arith, c.self.invariant.1.slots, c.clear-2.ensures.room); waivers = omega (arith, ap (λ (t : Table). open_collections t.jobs) c.clear.ensures) },
+    )
