@@ -20,5 +20,6 @@ pub mod Planned
 pub mod Supply
 pub mod Renewal
 pub mod Restocking
+pub mod Victims
 mod Worked
 mod Wrong

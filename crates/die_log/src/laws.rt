@@ -14,7 +14,7 @@ ghost use Rattle.late_cert.specs.declared.certificates.Certificate.{Certificate}
 ghost use Rattle.late_cert.specs.Schedule.{IsLeastLate};
 ghost use Rattle.late_cert.specs.Stretch.{CarriesLeastKeys};
 ghost use Rattle.die_log.specs.Log.{Log, Job, calls, jobs, now, acts, work};
-ghost use Rattle.die_log.specs.Work.{is_done, is_copy_program, worst, IsWorst};
+ghost use Rattle.die_log.specs.Work.{is_done, is_copy_program, victim_of, worst, IsWorst};
 ghost use Rattle.die_log.specs.Answers.{refusal_of, run, IsExact};
 ghost use Rattle.die_log.specs.Legal.{IsLegal};
 ghost use Rattle.die_log.specs.Limits.{KeepsLimits};
@@ -25,6 +25,7 @@ ghost use Rattle.die_log.specs.Planned.{told, AreEntered, IsInTime, AreAccepted}
 ghost use Rattle.die_log.specs.Supply.{hold_of, collections_of, AreStocked};
 ghost use Rattle.die_log.specs.Rows.{rows, carried_numbers, certificate, IsCertified};
 ghost use Rattle.die_log.specs.Promised.{KeepsPromises};
+ghost use Rattle.die_log.specs.Victims.{IsFirstTurn, IsSmallVictim, HasFirstAct};
 
 /// Two exact logs of one start with the same calls are one log: each call has one answer.
 pub fn equal_calls_have_one_answer()
@@ -94,6 +95,16 @@ pub fn collections_are_bounded()
         ≡ true → count_by is_copy_program (acts j.number log) ≤ start.plan.shape.pages - start.plan.alpha }
     ensures slots { (start : Start) → IsOpening start → (log : Log) → IsExact start log → (j : Job) → Contains (jobs log) j → j.collects
         ≡ true → work j.number log ≤ 2 * (start.plan.shape.pages - start.plan.alpha) + start.plan.shape.erase_slots }
+{}
+
+/// The pigeonhole, told of logs. A collection that begins in an exact log that starts at an opening finds a victim, and
+/// that block has at most `pages - alpha` valid pages: so at each moment at which such a collection has the next slot,
+/// and so in each slot that carried the first act of one, whose block is then the victim of that moment.
+pub fn collections_find_victims()
+    ensures next { (start : Start) → IsOpening start → (log : Log) → IsExact start log → (j : Job) → IsFirstTurn start log j
+        → (b : ℕ) × IsSmallVictim start log b }
+    ensures carried { (start : Start) → IsOpening start → (log : Log) → IsExact start log → (past : Log) (j : Job) → HasFirstAct log past j
+        → (b : ℕ) × IsSmallVictim start past b × (victim_of start j.number log ≡ Some b) }
 {}
 
 /// An exact log that starts at an opening keeps all that is promised of a log, and so did it at each earlier moment.

@@ -30,9 +30,9 @@
 mod laws;
 
 pub use laws::{
-    collections_are_bounded, equal_calls_have_one_answer, exact_carries_least_keys,
-    exact_is_certified, exact_is_least_late, exact_is_legal, exact_keeps_limits,
-    exact_keeps_promises, exact_stands, fresh_is_opening, holds_are_owed, moments_are_exact,
-    planned_work_goes_on, planned_work_is_accepted, planned_work_is_in_time,
+    collections_are_bounded, collections_find_victims, equal_calls_have_one_answer,
+    exact_carries_least_keys, exact_is_certified, exact_is_least_late, exact_is_legal,
+    exact_keeps_limits, exact_keeps_promises, exact_stands, fresh_is_opening, holds_are_owed,
+    moments_are_exact, planned_work_goes_on, planned_work_is_accepted, planned_work_is_in_time,
     quiet_moments_are_openings, worst_is_worst,
 };
