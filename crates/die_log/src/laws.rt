@@ -8,7 +8,7 @@ ghost use Rattle.slot_types.specs.declared.plans.Times.{Times};
 ghost use Rattle.plan_rules.specs.Bound.{MeetsBound};
 ghost use Rattle.die_log.specs.Start.{Start, fresh};
 ghost use Rattle.die_log.specs.Opening.{IsOpening, IsQuiet, renewed};
-ghost use Rattle.plan_rules.specs.Times.{times_of, Passes};
+ghost use Rattle.plan_rules.specs.Times.{Passes};
 ghost use Rattle.plan_rules.specs.Keeping.{KeepsPlan};
 ghost use Rattle.late_cert.specs.declared.certificates.Certificate.{Certificate};
 ghost use Rattle.late_cert.specs.Schedule.{IsLeastLate};
@@ -21,8 +21,8 @@ ghost use Rattle.die_log.specs.Limits.{KeepsLimits};
 ghost use Rattle.die_log.specs.Standing.{Stands};
 ghost use Rattle.die_log.specs.Well.{IsWell};
 ghost use Rattle.die_log.specs.Held.{held_of};
-ghost use Rattle.die_log.specs.Planned.{told, AreEntered, IsInTime, AreAccepted};
-ghost use Rattle.die_log.specs.Supply.{hold_of, collections_of, AreStocked};
+ghost use Rattle.die_log.specs.Planned.{told, AreEntered, IsInTime, AreAccepted, IsAtPeriodEnd};
+ghost use Rattle.die_log.specs.Supply.{hold_of, AreStocked};
 ghost use Rattle.die_log.specs.Rows.{rows, carried_numbers, certificate, IsCertified};
 ghost use Rattle.die_log.specs.Promised.{KeepsPromises};
 ghost use Rattle.die_log.specs.Victims.{IsFirstTurn, IsSmallVictim, HasFirstAct};
@@ -154,13 +154,11 @@ pub fn quiet_moments_are_openings()
     ensures { (start : Start) (log : Log) → IsOpening start → IsExact start log → IsQuiet start log → IsOpening (renewed start log) }
 {}
 
-/// Planned work goes on over renewals. Let the log start stocked, and let the events keep a passing plan; let all that came
-/// be due by now, and let each task's collections fill the slots so far, as they do at a multiple of all periods. Then the
-/// moment is quiet, and a log that starts there is stocked again: so nothing of the next such events is refused or late.
+/// Planned work goes on over renewals. Let the log start stocked, and let the events keep a passing plan; let all that was
+/// accepted be due by now, and let the slot be a multiple of every collect period. Then the moment is quiet, and a log
+/// that starts there is stocked again: so nothing of the next such events is refused or late.
 pub fn planned_work_goes_on()
     ensures { (start : Start) (times : Times) → IsOpening start → Passes start.plan times → AreStocked start times →
         (log : Log) (rest : List Event) → IsExact start log → KeepsPlan start.plan times (told log ++ rest) →
-        ((j : Job) → Contains (jobs log) j → j.due ≤ now log) →
-        ((task : ℕ) → task < length start.plan.caps → (times_of times task).collect_period * collections_of (jobs log) task ≡ now log) →
-        IsQuiet start log × AreStocked (renewed start log) times }
+        IsAtPeriodEnd start.plan times log → IsQuiet start log × AreStocked (renewed start log) times }
 {}
