@@ -21,5 +21,6 @@ pub mod Supply
 pub mod Renewal
 pub mod Restocking
 pub mod Victims
+pub mod Life
 mod Worked
 mod Wrong

@@ -28,6 +28,7 @@
 #![tactic(auto)]
 
 mod laws;
+mod lives;
 
 pub use laws::{
     collections_are_bounded, collections_find_victims, equal_calls_have_one_answer,
@@ -36,3 +37,4 @@ pub use laws::{
     moments_are_exact, planned_work_goes_on, planned_work_is_accepted, planned_work_is_in_time,
     quiet_moments_are_openings, worst_is_worst,
 };
+pub use lives::{lives_keep_promises, lives_tell_the_last_write};

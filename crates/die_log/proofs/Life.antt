@@ -1,0 +1,3 @@
+-- A die's whole life: what holds of its logs one after the other.
+pub mod Starting
+pub mod Reading

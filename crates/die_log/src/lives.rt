@@ -1,0 +1,34 @@
+//! What holds over a die's whole life: of its logs one after the other, each of which starts at what the one before it
+//! left once all was quiet. Each law is a function that does nothing.
+
+ghost use Rattle.std.specs.Prelude.{◌≡◌, ℕ, ◌∷◌, Some};
+ghost use Rattle.slot_types.specs.declared.acts.Act.{Act};
+ghost use Rattle.slot_types.specs.declared.acts.Act.TheVariants as does;
+ghost use Rattle.slot_types.specs.declared.pages.PageData.{PageData};
+ghost use Rattle.slot_types.specs.declared.replies.SlotReply.{SlotReply};
+ghost use Rattle.die_log.specs.Log.{Log};
+ghost use Rattle.die_log.specs.Start.{Start};
+ghost use Rattle.die_log.specs.Legal.{FindsFree};
+ghost use Rattle.die_log.specs.Opening.{IsOpening};
+ghost use Rattle.die_log.specs.Promised.{HasSlot, KeepsPromises};
+ghost use Rattle.die_log.specs.Lives.{Lives, start_after, HaveEnded, AreLives, HasLife, last_left};
+
+/// Each log of a die's whole life starts at an opening and keeps all that is promised of a log: so it is exact, legal and
+/// least late, and has its certificates. Another log may start where they have ended. No write that was accepted finds
+/// its die without a free page, in whichever log.
+pub fn lives_keep_promises()
+    ensures each { (first : Start) → IsOpening first → (lives : Lives) → AreLives first lives → (log : Log) (earlier : Lives) →
+        HasLife lives log earlier → KeepsPromises (start_after first earlier) log }
+    ensures next { (first : Start) → IsOpening first → (lives : Lives) → HaveEnded first lives → IsOpening (start_after first lives) }
+    ensures room { (first : Start) → IsOpening first → (lives : Lives) → AreLives first lives → (log : Log) (earlier : Lives) →
+        HasLife lives log earlier → (s : SlotReply) (past : Log) (number : ℕ) (act : Act) → HasSlot log s past →
+        s.ran ≡ Some (number, act) → FindsFree (start_after first earlier) past act }
+{}
+
+/// Each read tells what the last finished write or trim of its page left on it, in whichever log that was, or else what
+/// stood on it where the die's first log started.
+pub fn lives_tell_the_last_write()
+    ensures { (first : Start) → IsOpening first → (lives : Lives) → AreLives first lives → (log : Log) (earlier : Lives) →
+        HasLife lives log earlier → (s : SlotReply) (past : Log) (number page : ℕ) (bytes : PageData) → HasSlot log s past →
+        s.ran ≡ Some (number, does.Read page bytes) → bytes ≡ last_left first (past ∷ earlier) page }
+{}
