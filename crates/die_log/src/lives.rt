@@ -1,7 +1,7 @@
 //! What holds over a die's whole life: of its logs one after the other, each of which starts at what the one before it
 //! left once all was quiet. Each law is a function that does nothing.
 
-ghost use Rattle.std.specs.Prelude.{◌≡◌, ℕ, ◌∷◌, Some};
+ghost use Rattle.std.specs.Prelude.{◌≡◌, ℕ, ◌++◌, ◌∷◌, Some};
 ghost use Rattle.slot_types.specs.declared.acts.Act.{Act};
 ghost use Rattle.slot_types.specs.declared.acts.Act.TheVariants as does;
 ghost use Rattle.slot_types.specs.declared.pages.PageData.{PageData};
@@ -11,7 +11,9 @@ ghost use Rattle.die_log.specs.Start.{Start};
 ghost use Rattle.die_log.specs.Legal.{FindsFree};
 ghost use Rattle.die_log.specs.Opening.{IsOpening};
 ghost use Rattle.die_log.specs.Promised.{HasSlot, KeepsPromises};
-ghost use Rattle.die_log.specs.Lives.{Lives, start_after, HaveEnded, AreLives, HasLife, last_left};
+ghost use Rattle.die_log.specs.Lives.{Lives, start_after, HaveEnded, AreLives, HasLife, last_left, rows_of_all, numbers_of_all};
+ghost use Rattle.late_cert.specs.Schedule.{IsLeastLate};
+ghost use Rattle.late_cert.specs.Stretch.{CarriesLeastKeys};
 
 /// Each log of a die's whole life starts at an opening and keeps all that is promised of a log: so it is exact, legal and
 /// least late, and has its certificates. Another log may start where they have ended. No write that was accepted finds
@@ -31,4 +33,17 @@ pub fn lives_tell_the_last_write()
     ensures { (first : Start) → IsOpening first → (lives : Lives) → AreLives first lives → (log : Log) (earlier : Lives) →
         HasLife lives log earlier → (s : SlotReply) (past : Log) (number page : ℕ) (bytes : PageData) → HasSlot log s past →
         s.ran ≡ Some (number, does.Read page bytes) → bytes ≡ last_left first (past ∷ earlier) page }
+{}
+
+/// Time goes on over a die's whole life: put one after the other, the slots of all logs carried least keys. So no schedule
+/// of all their jobs together has a smaller greatest lateness, at no moment: each done job's certificate leaves it none.
+/// A job's release, deadline and completion are those of its log, so many slots later as there were in the logs before.
+pub fn lives_are_least_late()
+    ensures keys { (first : Start) → IsOpening first → (lives : Lives) → AreLives first lives →
+        CarriesLeastKeys (rows_of_all first.plan lives) (numbers_of_all lives) }
+    ensures least_late { (first : Start) → IsOpening first → (lives : Lives) → AreLives first lives →
+        IsLeastLate (rows_of_all first.plan lives) (numbers_of_all lives) }
+    ensures moments { (first : Start) → IsOpening first → (later moment : Log) (earlier : Lives) →
+        AreLives first ((later ++ moment) ∷ earlier) →
+        IsLeastLate (rows_of_all first.plan (moment ∷ earlier)) (numbers_of_all (moment ∷ earlier)) }
 {}
