@@ -2,3 +2,4 @@
 pub mod Starting
 pub mod Reading
 pub mod Timing
+pub mod Wearing

@@ -37,4 +37,6 @@ pub use laws::{
     moments_are_exact, planned_work_goes_on, planned_work_is_accepted, planned_work_is_in_time,
     quiet_moments_are_openings, worst_is_worst,
 };
-pub use lives::{lives_are_least_late, lives_keep_promises, lives_tell_the_last_write};
+pub use lives::{
+    lives_are_least_late, lives_keep_promises, lives_tell_the_last_write, wear_adds_up,
+};

@@ -1,7 +1,7 @@
 //! What holds over a die's whole life: of its logs one after the other, each of which starts at what the one before it
 //! left once all was quiet. Each law is a function that does nothing.
 
-ghost use Rattle.std.specs.Prelude.{◌≡◌, ℕ, ◌++◌, ◌∷◌, Some};
+ghost use Rattle.std.specs.Prelude.{◌≡◌, ℕ, ◌+◌, ◌++◌, ◌∷◌, Some, sum_by};
 ghost use Rattle.slot_types.specs.declared.acts.Act.{Act};
 ghost use Rattle.slot_types.specs.declared.acts.Act.TheVariants as does;
 ghost use Rattle.slot_types.specs.declared.pages.PageData.{PageData};
@@ -11,7 +11,9 @@ ghost use Rattle.die_log.specs.Start.{Start};
 ghost use Rattle.die_log.specs.Legal.{FindsFree};
 ghost use Rattle.die_log.specs.Opening.{IsOpening};
 ghost use Rattle.die_log.specs.Promised.{HasSlot, KeepsPromises};
-ghost use Rattle.die_log.specs.Lives.{Lives, start_after, HaveEnded, AreLives, HasLife, last_left, rows_of_all, numbers_of_all};
+ghost use Rattle.die_log.specs.Lives.{Lives, start_after, HaveEnded, AreLives, HasLife, last_left, rows_of_all, numbers_of_all, erases_in};
+ghost use Rattle.die_log.specs.Flash.{cells, block_at};
+ghost use Rattle.die_log.specs.Answers.{IsExact};
 ghost use Rattle.late_cert.specs.Schedule.{IsLeastLate};
 ghost use Rattle.late_cert.specs.Stretch.{CarriesLeastKeys};
 
@@ -46,4 +48,14 @@ pub fn lives_are_least_late()
     ensures moments { (first : Start) → IsOpening first → (later moment : Log) (earlier : Lives) →
         AreLives first ((later ++ moment) ∷ earlier) →
         IsLeastLate (rows_of_all first.plan (moment ∷ earlier)) (numbers_of_all (moment ∷ earlier)) }
+{}
+
+/// Wear adds up. A block's count of erases after an exact log that starts at an opening is what it was at the start and
+/// one for each erase of the block that was finished in the log; and so over a die's whole life.
+pub fn wear_adds_up()
+    ensures log { (start : Start) → IsOpening start → (log : Log) → IsExact start log → (block : ℕ) →
+        (block_at (cells start log) block).erases ≡ (block_at start.cells block).erases + erases_in block log }
+    ensures lives { (first : Start) → IsOpening first → (lives : Lives) → AreLives first lives → (block : ℕ) →
+        (block_at (start_after first lives).cells block).erases
+        ≡ (block_at first.cells block).erases + sum_by (erases_in block) lives }
 {}

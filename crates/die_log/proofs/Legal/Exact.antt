@@ -38,7 +38,7 @@ use Rattle.die_log.specs.Opening.{IsOpening}
 
 -- What stands serves the accounts
 
-erases_own : (start : Start) (past : Log) (j : Job) (b : ℕ) → 0 < start.plan.shape.erase_slots → Stands start past → job_at past j.number ≡ Some j
+pub erases_own : (start : Start) (past : Log) (j : Job) (b : ℕ) → 0 < start.plan.shape.erase_slots → Stands start past → job_at past j.number ≡ Some j
     → is_ready start.plan past j ≡ true → act_for start past j ≡ Some (does.Erase b)
     → IsClosed start.plan (cells start past) b × ((block_at (cells start past) b).erasing ≡ count_by is_erase (acts j.number past))
 erases_own start past j b more s known ready e = by_kind j.collects refl
