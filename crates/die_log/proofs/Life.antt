@@ -3,3 +3,4 @@ pub mod Starting
 pub mod Reading
 pub mod Timing
 pub mod Wearing
+pub mod Planning

@@ -1,12 +1,17 @@
 //! What holds over a die's whole life: of its logs one after the other, each of which starts at what the one before it
 //! left once all was quiet. Each law is a function that does nothing.
 
-ghost use Rattle.std.specs.Prelude.{◌≡◌, ℕ, ◌+◌, ◌++◌, ◌∷◌, Some, sum_by};
+ghost use Rattle.std.specs.Prelude.{◌≡◌, ℕ, List, ◌+◌, ◌++◌, ◌∷◌, Some, sum_by};
 ghost use Rattle.slot_types.specs.declared.acts.Act.{Act};
 ghost use Rattle.slot_types.specs.declared.acts.Act.TheVariants as does;
 ghost use Rattle.slot_types.specs.declared.pages.PageData.{PageData};
 ghost use Rattle.slot_types.specs.declared.replies.SlotReply.{SlotReply};
+ghost use Rattle.slot_types.specs.declared.plans.Times.{Times};
+ghost use Rattle.plan_rules.specs.Times.{Passes};
+ghost use Rattle.plan_rules.specs.Keeping.{KeepsPlan};
 ghost use Rattle.die_log.specs.Log.{Log};
+ghost use Rattle.die_log.specs.Supply.{AreStocked};
+ghost use Rattle.die_log.specs.PlannedLives.{Calls, events_of, lives_of, KeepPlans, IsServedInTime, AreServedInTime};
 ghost use Rattle.die_log.specs.Start.{Start};
 ghost use Rattle.die_log.specs.Legal.{FindsFree};
 ghost use Rattle.die_log.specs.Opening.{IsOpening};
@@ -58,4 +63,22 @@ pub fn wear_adds_up()
     ensures lives { (first : Start) → IsOpening first → (lives : Lives) → AreLives first lives → (block : ℕ) →
         (block_at (start_after first lives).cells block).erases
         ≡ (block_at first.cells block).erases + sum_by (erases_in block) lives }
+{}
+
+/// Planned work goes on for a die's whole life. Let the first log start stocked, as a fresh die's does, at an opening
+/// whose plan passes the test of its times. Let the calls of each log keep the plan as if there were no other, with as many
+/// jobs and collections as one log may have, and let them end where the periods end: in a slot that is a multiple of
+/// every collect period, by which the deadline of all that came has come. Then no call is refused and nothing is late, in
+/// no log; after each the die is quiet and may be renewed, and it is stocked again. So it is of the calls of the next log
+/// that keep the plan, wherever they end.
+pub fn planned_lives_go_on()
+    ensures served { (first : Start) (times : Times) → IsOpening first → Passes first.plan times → AreStocked first times →
+        (all : List Calls) → KeepPlans first.plan times all → AreServedInTime first all }
+    ensures next { (first : Start) (times : Times) → IsOpening first → Passes first.plan times → AreStocked first times →
+        (all : List Calls) → KeepPlans first.plan times all → (calls : Calls) → KeepsPlan first.plan times (events_of calls) →
+        IsServedInTime (start_after first (lives_of first all)) calls }
+    ensures ended { (first : Start) (times : Times) → IsOpening first → Passes first.plan times → AreStocked first times →
+        (all : List Calls) → KeepPlans first.plan times all → HaveEnded first (lives_of first all) }
+    ensures stocked { (first : Start) (times : Times) → IsOpening first → Passes first.plan times → AreStocked first times →
+        (all : List Calls) → KeepPlans first.plan times all → AreStocked (start_after first (lives_of first all)) times }
 {}
