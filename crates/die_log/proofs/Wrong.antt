@@ -18,3 +18,6 @@ mod MoreOwedThanFree
 mod WaiverGivesWrong
 mod WrongWaivers
 mod ActsOutOfTurn
+mod OnlyTheLastLife
+mod TokensForNothing
+mod TrimmedPageComesBack
