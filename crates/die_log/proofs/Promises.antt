@@ -6,7 +6,6 @@ use Rattle.slot_types.specs.declared.acts.Act.{Act}
 use Rattle.slot_types.specs.declared.replies.Entry.{Entry}
 use Rattle.slot_types.specs.declared.replies.Reply.TheVariants as replies
 use Rattle.slot_types.specs.declared.replies.SlotReply.{SlotReply}
-use Rattle.plan_rules.specs.Bound.{MeetsBound}
 use Rattle.late_cert.specs.declared.certificates.Certificate.{Certificate}
 use Rattle.late_cert.proofs.Binds.{binds}
 use Rattle.late_cert.proofs.Faults.{certificate-verdict}

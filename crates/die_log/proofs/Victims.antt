@@ -1,19 +1,17 @@
 -- A collection that begins finds a victim with few valid pages.
-use Rattle.std.proofs.Common.{◌≡◌, ℕ, true, List, [], ◌∷◌, ◌++◌, Option, Some, None, refl, ap, sym, subst, ◌∙◌}
+use Rattle.std.proofs.Common.{◌≡◌, ℕ, List, [], ◌∷◌, ◌++◌, Option, Some, None, refl, ap, sym, subst, ◌∙◌}
 use Rattle.std.proofs.lemmas.Option.{same_Some}
-use Rattle.slot_types.specs.declared.plans.DiePlan.{DiePlan}
 use Rattle.slot_types.specs.declared.acts.Act.{Act}
 use Rattle.slot_types.specs.declared.events.Event.{Event}
 use Rattle.slot_types.specs.declared.events.Event.TheVariants as events
 use Rattle.slot_types.specs.declared.replies.Entry.{Entry}
-use Rattle.slot_types.specs.declared.replies.Reply.{Reply}
 use Rattle.slot_types.specs.declared.replies.Reply.TheVariants as replies
 use Rattle.slot_types.specs.declared.replies.SlotReply.{SlotReply}
 use Rattle.slot_types.specs.declared.replies.Waived.{Waived}
-use Rattle.die_log.specs.Log.{Log, Job, Carried, job_at, act_of, waived, work}
+use Rattle.die_log.specs.Log.{Log, Job, job_at, act_of, waived}
 use Rattle.die_log.specs.Flash.{ran_by}
 use Rattle.die_log.specs.Work.{victim_of, shown_by}
-use Rattle.die_log.specs.Answers.{IsExact, IsAccepted, accepted, choice, slot_reply, reply_with, act_for, answer}
+use Rattle.die_log.specs.Answers.{IsExact, IsAccepted, accepted, choice, slot_reply, reply_with, act_for}
 use Rattle.die_log.specs.Opening.{IsOpening}
 use Rattle.die_log.specs.Start.{Start}
 use Rattle.die_log.specs.Victims.{IsFirstTurn, IsSmallVictim, HasFirstAct}

@@ -2,7 +2,6 @@
 use Rattle.std.specs.Prelude.{◌≡◌, ℕ, ◌-◌, ◌≤◌, true, Some}
 use Rattle.die_log.specs.Log.{Log, Job, job_at, work}
 use Rattle.die_log.specs.Flash.{cells, valid}
-use Rattle.die_log.specs.Work.{victim_of}
 use Rattle.die_log.specs.Answers.{choice, victim}
 use Rattle.die_log.specs.Promised.{HasSlot}
 use Rattle.slot_types.specs.declared.acts.Act.{Act}

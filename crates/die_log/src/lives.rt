@@ -15,6 +15,7 @@ ghost use Rattle.die_log.specs.PlannedLives.{Calls, events_of, lives_of, KeepPla
 ghost use Rattle.die_log.specs.Start.{Start};
 ghost use Rattle.die_log.specs.Legal.{FindsFree};
 ghost use Rattle.die_log.specs.Opening.{IsOpening};
+ghost use Rattle.die_log.specs.Laws.{ForEveryExactLog, ForEveryWholeLife, ForEveryLogOfALife, ForEveryPlannedLife};
 ghost use Rattle.die_log.specs.Promised.{HasSlot, KeepsPromises};
 ghost use Rattle.die_log.specs.Lives.{Lives, start_after, HaveEnded, AreLives, HasLife, last_left, rows_of_all, numbers_of_all, erases_in};
 ghost use Rattle.die_log.specs.Flash.{cells, block_at};
@@ -23,33 +24,28 @@ ghost use Rattle.late_cert.specs.Schedule.{IsLeastLate};
 ghost use Rattle.late_cert.specs.Stretch.{CarriesLeastKeys};
 
 /// Each log of a die's whole life starts at an opening and keeps all that is promised of a log: so it is exact, legal and
-/// least late, and has its certificates. Another log may start where they have ended. No write that was accepted finds
-/// its die without a free page, in whichever log.
+/// least late, and has its certificates. Another log may start where all have ended. No write that was accepted finds its
+/// die without a free page, in whichever log.
 pub fn lives_keep_promises()
-    ensures each { (first : Start) → IsOpening first → (lives : Lives) → AreLives first lives → (log : Log) (earlier : Lives) →
-        HasLife lives log earlier → KeepsPromises (start_after first earlier) log }
+    ensures each { ForEveryLogOfALife (λ first log earlier. KeepsPromises (start_after first earlier) log) }
     ensures next { (first : Start) → IsOpening first → (lives : Lives) → HaveEnded first lives → IsOpening (start_after first lives) }
-    ensures room { (first : Start) → IsOpening first → (lives : Lives) → AreLives first lives → (log : Log) (earlier : Lives) →
-        HasLife lives log earlier → (s : SlotReply) (past : Log) (number : ℕ) (act : Act) → HasSlot log s past →
-        s.ran ≡ Some (number, act) → FindsFree (start_after first earlier) past act }
+    ensures room { ForEveryLogOfALife (λ first log earlier. (s : SlotReply) (past : Log) (number : ℕ) (act : Act) →
+        HasSlot log s past → s.ran ≡ Some (number, act) → FindsFree (start_after first earlier) past act) }
 {}
 
 /// Each read tells what the last finished write or trim of its page left on it, in whichever log that was, or else what
 /// stood on it where the die's first log started.
 pub fn lives_tell_the_last_write()
-    ensures { (first : Start) → IsOpening first → (lives : Lives) → AreLives first lives → (log : Log) (earlier : Lives) →
-        HasLife lives log earlier → (s : SlotReply) (past : Log) (number page : ℕ) (bytes : PageData) → HasSlot log s past →
-        s.ran ≡ Some (number, does.Read page bytes) → bytes ≡ last_left first (past ∷ earlier) page }
+    ensures { ForEveryLogOfALife (λ first log earlier. (s : SlotReply) (past : Log) (number page : ℕ) (bytes : PageData) →
+        HasSlot log s past → s.ran ≡ Some (number, does.Read page bytes) → bytes ≡ last_left first (past ∷ earlier) page) }
 {}
 
 /// Time goes on over a die's whole life: put one after the other, the slots of all logs carried least keys. So no schedule
-/// of all their jobs together has a smaller greatest lateness, at no moment: each done job's certificate leaves it none.
-/// A job's release, deadline and completion are those of its log, so many slots later as there were in the logs before.
+/// of all their jobs together has a smaller greatest lateness, at no moment. A job's release, deadline and completion are
+/// those of its log, so many slots later as there were in the logs before.
 pub fn lives_are_least_late()
-    ensures keys { (first : Start) → IsOpening first → (lives : Lives) → AreLives first lives →
-        CarriesLeastKeys (rows_of_all first.plan lives) (numbers_of_all lives) }
-    ensures least_late { (first : Start) → IsOpening first → (lives : Lives) → AreLives first lives →
-        IsLeastLate (rows_of_all first.plan lives) (numbers_of_all lives) }
+    ensures keys { ForEveryWholeLife (λ first lives. CarriesLeastKeys (rows_of_all first.plan lives) (numbers_of_all lives)) }
+    ensures least_late { ForEveryWholeLife (λ first lives. IsLeastLate (rows_of_all first.plan lives) (numbers_of_all lives)) }
     ensures moments { (first : Start) → IsOpening first → (later moment : Log) (earlier : Lives) →
         AreLives first ((later ++ moment) ∷ earlier) →
         IsLeastLate (rows_of_all first.plan (moment ∷ earlier)) (numbers_of_all (moment ∷ earlier)) }
@@ -58,11 +54,10 @@ pub fn lives_are_least_late()
 /// Wear adds up. A block's count of erases after an exact log that starts at an opening is what it was at the start and
 /// one for each erase of the block that was finished in the log; and so over a die's whole life.
 pub fn wear_adds_up()
-    ensures log { (start : Start) → IsOpening start → (log : Log) → IsExact start log → (block : ℕ) →
-        (block_at (cells start log) block).erases ≡ (block_at start.cells block).erases + erases_in block log }
-    ensures lives { (first : Start) → IsOpening first → (lives : Lives) → AreLives first lives → (block : ℕ) →
-        (block_at (start_after first lives).cells block).erases
-        ≡ (block_at first.cells block).erases + sum_by (erases_in block) lives }
+    ensures log { ForEveryExactLog (λ start log. (block : ℕ) →
+        (block_at (cells start log) block).erases ≡ (block_at start.cells block).erases + erases_in block log) }
+    ensures lives { ForEveryWholeLife (λ first lives. (block : ℕ) → (block_at (start_after first lives).cells block).erases
+        ≡ (block_at first.cells block).erases + sum_by (erases_in block) lives) }
 {}
 
 /// Planned work goes on for a die's whole life. Let the first log start stocked, as a fresh die's does, at an opening
@@ -72,13 +67,9 @@ pub fn wear_adds_up()
 /// no log; after each the die is quiet and may be renewed, and it is stocked again. So it is of the calls of the next log
 /// that keep the plan, wherever they end.
 pub fn planned_lives_go_on()
-    ensures served { (first : Start) (times : Times) → IsOpening first → Passes first.plan times → AreStocked first times →
-        (all : List Calls) → KeepPlans first.plan times all → AreServedInTime first all }
-    ensures next { (first : Start) (times : Times) → IsOpening first → Passes first.plan times → AreStocked first times →
-        (all : List Calls) → KeepPlans first.plan times all → (calls : Calls) → KeepsPlan first.plan times (events_of calls) →
-        IsServedInTime (start_after first (lives_of first all)) calls }
-    ensures ended { (first : Start) (times : Times) → IsOpening first → Passes first.plan times → AreStocked first times →
-        (all : List Calls) → KeepPlans first.plan times all → HaveEnded first (lives_of first all) }
-    ensures stocked { (first : Start) (times : Times) → IsOpening first → Passes first.plan times → AreStocked first times →
-        (all : List Calls) → KeepPlans first.plan times all → AreStocked (start_after first (lives_of first all)) times }
+    ensures served { ForEveryPlannedLife (λ first times all. AreServedInTime first all) }
+    ensures next { ForEveryPlannedLife (λ first times all. (calls : Calls) → KeepsPlan first.plan times (events_of calls) →
+        IsServedInTime (start_after first (lives_of first all)) calls) }
+    ensures ended { ForEveryPlannedLife (λ first times all. HaveEnded first (lives_of first all)) }
+    ensures stocked { ForEveryPlannedLife (λ first times all. AreStocked (start_after first (lives_of first all)) times) }
 {}

@@ -1,6 +1,6 @@
 -- Where each slot of two logs carried a least key, and all jobs of the first are done, so it is of both, one after the other.
 use Rattle.std.proofs.Common.{◌≡◌, ℕ, zero, suc, ◌+◌, ◌-◌, ◌<◌, ◌≤◌, Bool, true, false, cond, eqb, List, [], ◌∷◌, ◌++◌, length, map, Option}
-use Rattle.std.proofs.Common.{Some, None, is_some, option_map, count_by, arith, refl, sym, ap, ◌∙◌, subst, inl, inr, ◌⊎◌, eqb-true, eq-eqb, ne_eqb}
+use Rattle.std.proofs.Common.{Some, None, is_some, option_map, arith, refl, sym, ap, ◌∙◌, subst, inl, inr, eqb-true, eq-eqb, ne_eqb}
 use Rattle.std.proofs.Common.{get_or, length-append, unwrap_or}
 use Rattle.std.proofs.lemmas.Bool.{cases_Bool, both_ways, cases_lt, false_from_ne_true, or_left, or_right}
 use Rattle.std.proofs.lemmas.List.{get_or_append_left, get_or-append-add, map-append, length-map}
@@ -15,7 +15,7 @@ use Rattle.late_cert.specs.Stretch.{is_within, CarriesLeastKeys}
 use Rattle.late_cert.specs.Joined.{row_after, slot_after, joined_rows, joined_slots, AreOver}
 use Rattle.late_cert.proofs.Binds.{end-le-length}
 use Rattle.late_cert.proofs.Keys.{KeyAtMost, within-true, true-within, done-known, known-listed}
-use Rattle.late_cert.proofs.Least.{count-map, end-map, count-pos, at-length}
+use Rattle.late_cert.proofs.Least.{count-map, end-map, count-pos}
 use Rattle.late_cert.proofs.Moments.{within-same, fresh-work}
 
 -- Rising

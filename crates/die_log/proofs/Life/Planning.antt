@@ -1,6 +1,5 @@
 -- Planned work is never refused and never late, log after log, where each log ends where the periods end.
-use Rattle.std.proofs.Common.{◌≡◌, ℕ, ◌<◌, ◌≤◌, ◌%◌, List, [], ◌∷◌, ◌++◌, length, map, refl, ap, sym, subst, ◌∙◌, arith, append_assoc, append-nil}
-use Rattle.std.specs.Prelude.{Contains}
+use Rattle.std.proofs.Common.{◌≡◌, ℕ, ◌≤◌, ◌%◌, List, [], ◌∷◌, ◌++◌, refl, ap, sym, subst, ◌∙◌, arith, append_assoc, append-nil}
 use Rattle.std.proofs.lemmas.List.Elements.{recursion_from_All}
 use Rattle.slot_types.specs.declared.plans.DiePlan.{DiePlan}
 use Rattle.slot_types.specs.declared.plans.Times.{Times}
@@ -9,7 +8,7 @@ use Rattle.slot_types.specs.declared.replies.Reply.{Reply}
 use Rattle.slot_types.specs.declared.replies.Reply.TheVariants as replies
 use Rattle.plan_rules.specs.Times.{times_of, Passes}
 use Rattle.plan_rules.specs.Keeping.{arrivals, slots, KeepsPlan}
-use Rattle.die_log.specs.Log.{Log, Job, jobs, now}
+use Rattle.die_log.specs.Log.{Log}
 use Rattle.die_log.specs.Start.{Start}
 use Rattle.die_log.specs.Answers.{IsExact, IsAccepted, answer, with_answer, after_call, run}
 use Rattle.die_log.specs.Opening.{IsOpening, IsQuiet, renewed}

@@ -1,15 +1,14 @@
 -- A read tells what the last write or trim of its page left, in whichever log that was.
-use Rattle.std.proofs.Common.{◌≡◌, ℕ, zero, suc, ◌<◌, ◌≤◌, ◌==◌, Bool, true, false, cond, List, [], ◌∷◌, ◌++◌, length, Option, Some, None, MatchOption}
-use Rattle.std.proofs.Common.{refl, ap, sym, subst, ◌∙◌, inl, inr, arith, get_or, set, slice_get, eqb-true, eq-eqb, ne_eqb, unwrap_or, append-nil}
+use Rattle.std.proofs.Common.{◌≡◌, ℕ, ◌<◌, ◌==◌, Bool, true, false, cond, List, [], ◌∷◌, ◌++◌, length, Option, Some, None, MatchOption}
+use Rattle.std.proofs.Common.{refl, ap, sym, subst, ◌∙◌, inl, inr, arith, get_or, set, slice_get, eq-eqb, ne_eqb, unwrap_or}
 use Rattle.std.specs.Prelude.{Contains, MatchBool}
 use Rattle.std.specs.List.{filter_map, last_or, cons_option}
-use Rattle.std.proofs.lemmas.Bool.{cases_Bool, cases_eq}
+use Rattle.std.proofs.lemmas.Bool.{cases_eq}
 use Rattle.std.proofs.lemmas.List.{get_or-set_same, get_or-set_other}
 use Rattle.std.proofs.lemmas.List.Elements.{filter_map-append}
 use Rattle.std.proofs.lemmas.Option.{slice_get_within, get_or_from_slice_get}
 use Rattle.slot_types.specs.declared.plans.DiePlan.{DiePlan}
 use Rattle.slot_types.specs.declared.pages.PageData.{PageData}
-use Rattle.slot_types.specs.declared.acts.Act.{Act}
 use Rattle.slot_types.specs.declared.acts.Act.TheVariants as does
 use Rattle.slot_types.specs.declared.events.Op.{Op}
 use Rattle.slot_types.specs.declared.events.Op.TheVariants as asks
@@ -26,7 +25,7 @@ use Rattle.die_log.specs.Legal.{Does, IsNextOperation, IsNextCollectAct, IsLegal
 use Rattle.die_log.specs.Limits.{IsWithinLimits}
 use Rattle.die_log.specs.Opening.{IsOpening}
 use Rattle.die_log.specs.Promised.{HasSlot}
-use Rattle.die_log.specs.Lives.{Lives, start_after, AreLives, HasLife, HaveEnded, all_carried, left_on, last_left}
+use Rattle.die_log.specs.Lives.{Lives, start_after, AreLives, HasLife, all_carried, left_on, last_left}
 use Rattle.die_log.proofs.Exact.{moment_exact}
 use Rattle.die_log.proofs.Legal.Exact.{exact_legal}
 use Rattle.die_log.proofs.Limits.{keeps_limits}

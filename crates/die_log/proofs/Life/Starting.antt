@@ -1,6 +1,5 @@
 -- Each log of a die's whole life is exact from an opening.
-use Rattle.std.proofs.Common.{◌≡◌, List, [], ◌∷◌, ◌++◌, refl, subst}
-use Rattle.slot_types.specs.declared.plans.DiePlan.{DiePlan}
+use Rattle.std.proofs.Common.{◌≡◌, [], ◌∷◌, ◌++◌, refl, subst}
 use Rattle.die_log.specs.Log.{Log}
 use Rattle.die_log.specs.Start.{Start}
 use Rattle.die_log.specs.Answers.{IsExact}

@@ -1,17 +1,15 @@
 -- The slots of all logs, one after the other, carried least keys; so the greatest lateness over them all is least.
-use Rattle.std.proofs.Common.{◌≡◌, ℕ, ◌+◌, ◌<◌, Bool, true, false, cond, List, [], ◌∷◌, ◌++◌, length, map, Option, Some, None, is_some}
+use Rattle.std.proofs.Common.{◌≡◌, ℕ, ◌<◌, Bool, true, false, cond, [], ◌∷◌, ◌++◌, length, map, Option, Some, None, is_some}
 use Rattle.std.proofs.Common.{option_map, refl, ap, sym, subst, ◌∙◌, inl, inr, arith, slice_get, length-append}
-use Rattle.std.specs.Prelude.{Contains}
 use Rattle.std.proofs.lemmas.Bool.{true≢false}
 use Rattle.std.proofs.lemmas.List.{length-map}
 use Rattle.std.proofs.lemmas.List.Sums.{sum_by-cons}
 use Rattle.std.proofs.lemmas.Option.{slice_get_within}
 use Rattle.slot_types.specs.declared.plans.DiePlan.{DiePlan}
-use Rattle.late_cert.specs.declared.rows.JobRow.{JobRow}
-use Rattle.late_cert.specs.Schedule.{Slots, IsLeastLate}
+use Rattle.late_cert.specs.Schedule.{IsLeastLate}
 use Rattle.late_cert.specs.Rows.{row_of, is_known, is_done_in}
 use Rattle.late_cert.specs.Stretch.{CarriesLeastKeys}
-use Rattle.late_cert.specs.Joined.{slot_after, joined_rows, joined_slots, AreOver}
+use Rattle.late_cert.specs.Joined.{slot_after, joined_rows, AreOver}
 use Rattle.late_cert.proofs.Joined.{keys-joined, over-joined}
 use Rattle.late_cert.proofs.Least.{least-late}
 use Rattle.late_cert.proofs.Moments.{nothing-carried}

@@ -1,11 +1,10 @@
 -- What a block wore: the erases of it that were finished.
-use Rattle.std.proofs.Common.{◌≡◌, ℕ, ◌+◌, ◌<◌, ◌≤◌, ◌==◌, ◌&&◌, Bool, true, false, cond, List, [], ◌∷◌, ◌++◌, length, Option, Some, None, is_some}
-use Rattle.std.proofs.Common.{MatchOption, refl, ap, sym, subst, ◌∙◌, ◌⊎◌, inl, inr, arith, get_or, set, slice_get, count_by, sum_by, eq-eqb, ne_eqb}
+use Rattle.std.proofs.Common.{◌≡◌, ℕ, ◌+◌, ◌<◌, ◌==◌, ◌&&◌, Bool, true, false, cond, List, [], ◌∷◌, ◌++◌, length, Option, Some, None, is_some}
+use Rattle.std.proofs.Common.{MatchOption, refl, ap, sym, ◌∙◌, inl, inr, arith, get_or, set, slice_get, sum_by, eq-eqb, ne_eqb}
 use Rattle.std.specs.List.{AllByRecursion}
 use Rattle.std.proofs.lemmas.Bool.{cases_eq, cases_lt}
 use Rattle.std.proofs.lemmas.List.{get_or-set_same, get_or-set_other, set_past}
 use Rattle.std.proofs.lemmas.List.Sums.{sum_by-cons}
-use Rattle.slot_types.specs.declared.plans.DiePlan.{DiePlan}
 use Rattle.slot_types.specs.declared.acts.Act.{Act}
 use Rattle.slot_types.specs.declared.acts.Act.TheVariants as does
 use Rattle.slot_types.specs.declared.events.Event.{Event}
@@ -13,14 +12,13 @@ use Rattle.slot_types.specs.declared.events.Event.TheVariants as events
 use Rattle.slot_types.specs.declared.replies.Reply.TheVariants as replies
 use Rattle.slot_types.specs.declared.replies.SlotReply.{SlotReply}
 use Rattle.slot_types.specs.declared.replies.Waived.{Waived}
-use Rattle.die_log.specs.Log.{Log, Job, Carried, acts, waived, work}
+use Rattle.die_log.specs.Log.{Log, Job, acts, waived, work}
 use Rattle.die_log.specs.Flash.{Cells, Block, cells, cells_after, block_at, free_block, programmed_in, open_block, erased_once}
 use Rattle.die_log.specs.Start.{Start}
-use Rattle.die_log.specs.Work.{are_all, is_erase}
+use Rattle.die_log.specs.Work.{are_all}
 use Rattle.die_log.specs.Answers.{IsExact, accepted, refusals, choice, slot_reply, reply_with, act_for}
 use Rattle.die_log.specs.Opening.{IsOpening}
-use Rattle.die_log.specs.Sound.{IsClosed}
-use Rattle.die_log.specs.Lives.{Lives, start_after, AreLives, HaveEnded, ends_erase, erases_block, erases_in}
+use Rattle.die_log.specs.Lives.{Lives, start_after, AreLives, HaveEnded, ends_erase, erases_in}
 use Rattle.die_log.proofs.Legality.{entry, exact_induction}
 use Rattle.die_log.proofs.Cells.Steps.{within_blocks}
 use Rattle.die_log.proofs.Legal.Exact.{StandsWell, stands_well, well_served, chosen_is, erases_own, has_pages, has_slots}

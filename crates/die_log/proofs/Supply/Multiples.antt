@@ -1,6 +1,6 @@
 -- At a multiple of its collect period by which all is due, the collections of a task fill the slots so far.
-use Rattle.std.proofs.Common.{◌≡◌, ℕ, ◌+◌, ◌*◌, ◌/◌, ◌%◌, ◌<◌, ◌≤◌, ◌==◌, ◌&&◌, Bool, true, false, List, [], ◌∷◌, ◌++◌, length, count_by}
-use Rattle.std.proofs.Common.{refl, ap, sym, subst, ◌∙◌, ◌⊎◌, inl, inr, arith}
+use Rattle.std.proofs.Common.{◌≡◌, ℕ, ◌+◌, ◌*◌, ◌/◌, ◌<◌, ◌≤◌, ◌==◌, ◌&&◌, Bool, true, false, List, ◌++◌, length, count_by}
+use Rattle.std.proofs.Common.{ap, sym, ◌∙◌, ◌⊎◌, inl, inr, arith}
 use Rattle.std.specs.Prelude.{Contains, MatchBool}
 use Rattle.std.proofs.Math.Nat.{le_of_mul-le-mul_left, mul-le-mul_left, div-add-mod}
 use Rattle.std.proofs.lemmas.Bool.{true≢false, cases_lt, and_parts, eqb-true}
@@ -18,7 +18,6 @@ use Rattle.die_log.specs.Supply.{collections_of}
 use Rattle.die_log.proofs.Standing.Longer.{contained}
 use Rattle.die_log.proofs.Supply.Closing.{found}
 use Rattle.die_log.proofs.Supply.Following.{Follows, arrival_of, of_job, collections_are, count_mapped}
-use Rattle.die_log.specs.Start.{Start}
 
 times_suc : (k n : ℕ) → k * (n + 1) ≡ k * n + k
 times_suc k n = grind arith

@@ -12,7 +12,6 @@ use Rattle.slot_types.specs.declared.pages.Place.{Place}
 use Rattle.slot_types.specs.declared.acts.Act.{Act}
 use Rattle.slot_types.specs.declared.acts.Act.TheVariants as does
 use Rattle.slot_types.specs.declared.replies.Waived.{Waived}
-use Rattle.plan_rules.specs.Bound.{MeetsBound}
 use Rattle.die_log.specs.Log.{Log, Job, job_at, acts, act_of, is_waived, work}
 use Rattle.die_log.specs.Flash.{Cells, cells, valid, valid_pages, block_at}
 use Rattle.die_log.specs.Work.{are_all, is_ready, is_copy_program, victim_of, shown_by, block_shown}

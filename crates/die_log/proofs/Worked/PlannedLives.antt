@@ -1,13 +1,12 @@
 -- Three logs of the same planned work: each ends at a multiple of the collect period by which all is due, so the next one
 -- may start there; nothing is refused and nothing is late.
-use Rattle.std.proofs.Common.{◌≡◌, ℕ, zero, suc, ◌<◌, ◌≤◌, ◌%◌, List, [], ◌∷◌, length, refl, arith}
+use Rattle.std.proofs.Common.{◌≡◌, ℕ, zero, suc, ◌<◌, ◌≤◌, ◌%◌, List, [], ◌∷◌, refl, arith}
 use Rattle.std.proofs.lemmas.List.Elements.{All-from_recursion}
 use Rattle.plan_rules.specs.Keeping.{arrivals, slots}
 use Rattle.plan_rules.specs.Times.{times_of}
 use Rattle.plan_rules.proofs.Worked.PlansWithTimes.{small, each_ten, passes}
 use Rattle.plan_rules.proofs.Worked.EventsThatKeep as came
 use Rattle.die_log.specs.Start.{fresh}
-use Rattle.die_log.specs.Accounts.{accounts}
 use Rattle.die_log.specs.Answers.{answer}
 use Rattle.die_log.specs.Lives.{start_after, HaveEnded}
 use Rattle.die_log.specs.PlannedLives.{Calls, events_of, lives_of, EndPeriods, KeepPlans, AreServedInTime}

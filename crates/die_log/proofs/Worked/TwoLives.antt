@@ -1,12 +1,11 @@
 -- Two logs of a die, one after the other: what was written in the first is read in the second, which starts with the tokens
 -- that the first left.
-use Rattle.std.proofs.Common.{◌≡◌, ℕ, ◌≤◌, List, [], ◌∷◌, map, Some, None, refl, inl, arith, ◌⊎◌}
-use Rattle.std.specs.Prelude.{Contains, IsTrue}
+use Rattle.std.proofs.Common.{◌≡◌, ℕ, ◌≤◌, [], ◌∷◌, Some, None, refl, inl, arith, ◌⊎◌}
+use Rattle.std.specs.Prelude.{IsTrue}
 use Rattle.std.specs.List.{AllByRecursion}
 use Rattle.std.proofs.lemmas.List.Elements.{All-contains, All-from_recursion}
 use Rattle.slot_types.specs.declared.acts.Act.TheVariants as does
 use Rattle.slot_types.specs.declared.events.Op.TheVariants.{Read, Write}
-use Rattle.late_cert.specs.declared.rows.JobRow.{JobRow}
 use Rattle.plan_rules.specs.Bound.{MeetsBound}
 use Rattle.die_log.specs.Log.{Log, Job, jobs, acts, is_waived}
 use Rattle.die_log.specs.Accounts.{accounts}

@@ -1,5 +1,5 @@
 -- A law of reads over a die's whole life that is told of the last log alone: what an earlier log wrote would be forgotten.
-use Rattle.std.proofs.Common.{◌≡◌, ℕ, [], ◌∷◌, Some, refl, ap, sym, ◌∙◌, arith}
+use Rattle.std.proofs.Common.{◌≡◌, ℕ, [], ◌∷◌, Some, refl, ap, arith}
 use Rattle.slot_types.specs.declared.acts.Act.TheVariants as does
 use Rattle.slot_types.specs.declared.pages.PageData.{PageData}
 use Rattle.slot_types.specs.declared.replies.SlotReply.{SlotReply}

@@ -1,9 +1,8 @@
 -- A log that starts where a trimmed page has its bytes again, and a read of them in the log after the trim.
-use Rattle.std.proofs.Common.{◌≡◌, ℕ, [], ◌∷◌, None, set, get_or, refl, ap, ◌∙◌, arith}
+use Rattle.std.proofs.Common.{◌≡◌, [], ◌∷◌, None, set, get_or, refl, ap, ◌∙◌, arith}
 use Rattle.slot_types.specs.Places.{place_of}
 use Rattle.slot_types.specs.declared.acts.Act.TheVariants as does
 use Rattle.slot_types.specs.declared.events.Op.TheVariants.{Read}
-use Rattle.slot_types.specs.declared.pages.PageData.{PageData}
 use Rattle.die_log.specs.Log.{Log}
 use Rattle.die_log.specs.Start.{Start, blank_page}
 use Rattle.die_log.specs.Flash.{cells, content, contents}
