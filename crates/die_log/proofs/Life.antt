@@ -4,3 +4,4 @@ pub mod Reading
 pub mod Timing
 pub mod Wearing
 pub mod Planning
+pub mod FewErases

@@ -12,6 +12,7 @@ use Rattle.late_cert.specs.Schedule.{Slots}
 use Rattle.late_cert.specs.Joined.{joined_rows, joined_slots}
 use Rattle.die_log.specs.Log.{Log, Carried, jobs, now, carried}
 use Rattle.die_log.specs.Start.{Start, blank_page}
+use Rattle.die_log.specs.Work.{is_erase}
 use Rattle.die_log.specs.Answers.{IsExact}
 use Rattle.die_log.specs.Opening.{IsQuiet, renewed}
 use Rattle.die_log.specs.Rows.{rows, carried_numbers}
@@ -94,3 +95,20 @@ ends_erase block _ = false
 -- how many erases of the block were finished in a log
 abbrev pub erases_in : ℕ → Log → ℕ
 erases_in block log = count_by (λ e. ends_erase block e.reply) log
+
+-- the slot carried an erase, of whichever block
+abbrev pub erased_in : Carried → Bool
+erased_in None = false
+erased_in (Some (n, act)) = is_erase act
+
+abbrev pub ends_some_erase : Reply → Bool
+ends_some_erase (replies.Slot s) = is_some s.finished && erased_in s.ran
+ends_some_erase _ = false
+
+-- how many erases were finished in a log, of all blocks together
+abbrev pub all_erases_in : Log → ℕ
+all_erases_in log = count_by (λ e. ends_some_erase e.reply) log
+
+-- how many collections were taken
+abbrev pub collections_taken : Log → ℕ
+collections_taken log = count_by (λ j. j.collects) (jobs log)

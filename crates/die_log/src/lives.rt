@@ -1,7 +1,7 @@
 //! What holds over a die's whole life: of its logs one after the other, each of which starts at what the one before it
 //! left once all was quiet. Each law is a function that does nothing.
 
-ghost use Rattle.std.specs.Prelude.{◌≡◌, ℕ, List, ◌+◌, ◌++◌, ◌∷◌, Some, sum_by};
+ghost use Rattle.std.specs.Prelude.{◌≡◌, ℕ, List, ◌+◌, ◌++◌, ◌∷◌, Some, sum_by, ◌*◌, ◌≤◌, length};
 ghost use Rattle.slot_types.specs.declared.acts.Act.{Act};
 ghost use Rattle.slot_types.specs.declared.acts.Act.TheVariants as does;
 ghost use Rattle.slot_types.specs.declared.pages.PageData.{PageData};
@@ -17,7 +17,8 @@ ghost use Rattle.die_log.specs.Legal.{FindsFree};
 ghost use Rattle.die_log.specs.Opening.{IsOpening};
 ghost use Rattle.die_log.specs.Laws.{ForEveryExactLog, ForEveryWholeLife, ForEveryLogOfALife, ForEveryPlannedLife};
 ghost use Rattle.die_log.specs.Promised.{HasSlot, KeepsPromises};
-ghost use Rattle.die_log.specs.Lives.{Lives, start_after, HaveEnded, AreLives, HasLife, last_left, rows_of_all, numbers_of_all, erases_in};
+ghost use Rattle.die_log.specs.Lives.{Lives, start_after, HaveEnded, AreLives, HasLife, last_left, rows_of_all, numbers_of_all, erases_in, all_erases_in, collections_taken};
+ghost use Rattle.slot_types.specs.declared.limits.TheConstants.{MAX_JOBS};
 ghost use Rattle.die_log.specs.Flash.{cells, block_at};
 ghost use Rattle.die_log.specs.Answers.{IsExact};
 ghost use Rattle.late_cert.specs.Schedule.{IsLeastLate};
@@ -58,6 +59,15 @@ pub fn wear_adds_up()
         (block_at (cells start log) block).erases ≡ (block_at start.cells block).erases + erases_in block log) }
     ensures lives { ForEveryWholeLife (λ first lives. (block : ℕ) → (block_at (start_after first lives).cells block).erases
         ≡ (block_at first.cells block).erases + sum_by (erases_in block) lives) }
+{}
+
+/// A log has at most as many finished erases, of all blocks together, as collections: so at most 65,536. So a block's
+/// count of erases grows by no more than that in each log of a die's whole life.
+pub fn few_erases()
+    ensures log { ForEveryExactLog (λ start log. all_erases_in log ≤ collections_taken log) }
+    ensures block { ForEveryExactLog (λ start log. (block : ℕ) → erases_in block log ≤ MAX_JOBS) }
+    ensures lives { ForEveryWholeLife (λ first lives. (block : ℕ) → (block_at (start_after first lives).cells block).erases
+        ≤ (block_at first.cells block).erases + MAX_JOBS * length lives) }
 {}
 
 /// Planned work goes on for a die's whole life. Let the first log start stocked, as a fresh die's does, at an opening

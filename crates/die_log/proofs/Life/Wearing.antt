@@ -70,7 +70,7 @@ stays : (start : Start) (past : Log) (b m : ℕ) (t : Bool) → m ≡ (block_at 
     → m ≡ (block_at (cells start past) b).erases + one_if (t && false)
 stays start past b m t e = omega (arith, e, never t)
 
-is_collection : (start : Start) (past : Log) (j : Job) (b : ℕ) → act_for start past j ≡ Some (does.Erase b) → j.collects ≡ true
+pub is_collection : (start : Start) (past : Log) (j : Job) (b : ℕ) → act_for start past j ≡ Some (does.Erase b) → j.collects ≡ true
 is_collection start past j b e = by_kind j.collects refl
   where
     by_kind : (t : Bool) → j.collects ≡ t → j.collects ≡ true
