@@ -1,4 +1,4 @@
--- A die's whole life: what holds of its logs one after the other.
+-- A die's lives: what holds of its logs one after the other.
 pub mod Starting
 pub mod Reading
 pub mod Timing

@@ -19,5 +19,6 @@ mod WaiverGivesWrong
 mod WrongWaivers
 mod ActsOutOfTurn
 mod OnlyTheLastLife
+mod WearOfTheLastLife
 mod TokensForNothing
 mod TrimmedPageComesBack

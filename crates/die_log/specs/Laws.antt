@@ -1,4 +1,4 @@
--- What laws of exact logs say, and laws of a die's whole life.
+-- What laws of exact logs say, and laws of a die's lives.
 use Rattle.std.specs.Prelude.{List}
 use Rattle.slot_types.specs.declared.plans.Times.{Times}
 use Rattle.plan_rules.specs.Times.{Passes}
@@ -14,17 +14,17 @@ use Rattle.die_log.specs.PlannedLives.{Calls, KeepPlans}
 abbrev pub ForEveryExactLog : (Start → Log → Type 0) → Type 0
 ForEveryExactLog Holds = (start : Start) → IsOpening start → (log : Log) → IsExact start log → Holds start log
 
--- it holds of each whole life of a die, from an opening on, at each moment of its newest log
-abbrev pub ForEveryWholeLife : (Start → Lives → Type 0) → Type 0
-ForEveryWholeLife Holds = (first : Start) → IsOpening first → (lives : Lives) → AreLives first lives → Holds first lives
+-- it holds of all lives of a die together, from an opening on, at each moment of the newest one
+abbrev pub ForAllLives : (Start → Lives → Type 0) → Type 0
+ForAllLives Holds = (first : Start) → IsOpening first → (lives : Lives) → AreLives first lives → Holds first lives
 
--- it holds of each log of each whole life, with the logs before it
-abbrev pub ForEveryLogOfALife : (Start → Log → Lives → Type 0) → Type 0
-ForEveryLogOfALife Holds =
-    ForEveryWholeLife (λ first lives. (log : Log) (earlier : Lives) → HasLife lives log earlier → Holds first log earlier)
+-- it holds of each life of a die, with the lives before it
+abbrev pub ForEachLife : (Start → Log → Lives → Type 0) → Type 0
+ForEachLife Holds =
+    ForAllLives (λ first lives. (log : Log) (earlier : Lives) → HasLife lives log earlier → Holds first log earlier)
 
--- it holds wherever a die starts stocked, at an opening whose plan passes the test of its times, and the calls of each log
+-- it holds wherever a die starts stocked, at an opening whose plan passes the test of its times, and the calls of each life
 -- keep the plan and end where its periods do
-abbrev pub ForEveryPlannedLife : (Start → Times → List Calls → Type 0) → Type 0
-ForEveryPlannedLife Holds = (first : Start) (times : Times) → IsOpening first → Passes first.plan times → AreStocked first times
+abbrev pub ForPlannedLives : (Start → Times → List Calls → Type 0) → Type 0
+ForPlannedLives Holds = (first : Start) (times : Times) → IsOpening first → Passes first.plan times → AreStocked first times
     → (all : List Calls) → KeepPlans first.plan times all → Holds first times all

@@ -1,4 +1,4 @@
--- A die's whole life: its logs, each of which starts at what the one before it left.
+-- A die's lives: its logs, each of which starts at what the one before it left.
 use Rattle.std.specs.Prelude.{◌≡◌, ℕ, ◌==◌, ◌&&◌, Bool, false, if◌then◌else◌, List, [], ◌∷◌, ◌++◌, length, Option, Some, None, is_some}
 use Rattle.std.specs.Prelude.{slice_index_or, unwrap_or, sum_by, count_by}
 use Rattle.std.specs.List.{filter_map, last_or}
@@ -17,16 +17,16 @@ use Rattle.die_log.specs.Answers.{IsExact}
 use Rattle.die_log.specs.Opening.{IsQuiet, renewed}
 use Rattle.die_log.specs.Rows.{rows, carried_numbers}
 
--- the logs of a die, the newest first: behind a log lie those before it
+-- the logs of a die, one a life, the newest first: behind a log lie those before it
 abbrev pub Lives : Type 0
 Lives = List Log
 
--- where the log after these starts: at what the newest one left, or else where the die's first log did
+-- where the next life starts: at what the newest log left, or else where the die's first log did
 abbrev pub start_after : Start → Lives → Start
 start_after first [] = first
 start_after first (log ∷ earlier) = renewed (start_after first earlier) log
 
--- each log is exact from its start, and at its end all was done or waived
+-- each log is exact from its start, and ended at a quiet moment: all was done or waived
 abbrev pub HaveEnded : Start → Lives → Type 0
 HaveEnded first [] = Unit {0}
 HaveEnded first (log ∷ earlier) =
@@ -37,7 +37,7 @@ abbrev pub AreLives : Start → Lives → Type 0
 AreLives first [] = Unit {0}
 AreLives first (log ∷ earlier) = HaveEnded first earlier × IsExact (start_after first earlier) log
 
--- the log is one of them, and these came before it
+-- the log is that of one life, and these came before it
 abbrev pub HasLife : Lives → Log → Lives → Type 0
 HasLife lives log earlier = (later : Lives) × (lives ≡ later ++ log ∷ earlier)
 
@@ -55,12 +55,12 @@ left_on page (Some (n, does.Write p bytes)) = if p == page then Some bytes else 
 left_on page (Some (n, does.Trim p)) = if p == page then Some blank_page else None
 left_on page (Some (n, _)) = None
 
--- what the last finished write or trim of the page left on it, in whichever log; or else what stood there at first
+-- what the last finished write or trim of the page left on it, in whichever life; or else what stood there at first
 abbrev pub last_left : Start → Lives → ℕ → PageData
 last_left first lives page =
     unwrap_or (last_or None (filter_map (left_on page) (all_carried lives))) (slice_index_or first.contents page blank_page)
 
--- Time: each log begins in the slot after the last one of the log before it
+-- Time: each life begins in the slot after the last one of the life before it
 
 -- how many slots and how many jobs and collections there were
 abbrev pub all_slots : Lives → ℕ
@@ -69,7 +69,7 @@ all_slots lives = sum_by now lives
 abbrev pub all_jobs : Lives → ℕ
 all_jobs lives = sum_by (λ log. length (jobs log)) lives
 
--- the rows of all logs, with releases, dues and completions in the slots of them all, and a number for each job
+-- the rows of all lives, with releases, dues and completions in the slots of them all, and a number of its own for each job
 abbrev pub rows_of_all : DiePlan → Lives → List JobRow
 rows_of_all plan [] = []
 rows_of_all plan (log ∷ earlier) = joined_rows (all_jobs earlier) (all_slots earlier) (rows_of_all plan earlier) (rows plan log)

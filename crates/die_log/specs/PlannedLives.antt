@@ -1,4 +1,4 @@
--- Planned work over a die's whole life.
+-- Planned work over all lives of a die.
 use Rattle.std.specs.Prelude.{◌≡◌, ℕ, ◌<◌, ◌≤◌, ◌%◌, List, [], ◌∷◌, length, map, All}
 use Rattle.slot_types.specs.declared.plans.DiePlan.{DiePlan}
 use Rattle.slot_types.specs.declared.plans.Times.{Times}
@@ -10,14 +10,14 @@ use Rattle.die_log.specs.Answers.{run}
 use Rattle.die_log.specs.Planned.{IsInTime, AreAccepted}
 use Rattle.die_log.specs.Lives.{Lives, start_after}
 
--- the calls of one log, with who made each, the first of which came first
+-- the calls of one life, with who made each, the first of which came first
 abbrev pub Calls : Type 0
 Calls = List (ℕ × Event)
 
 abbrev pub events_of : Calls → List Event
 events_of calls = map (λ call. call.1) calls
 
--- the logs that calls leave, log after log; the newest first, as the lists of calls
+-- the logs that the calls leave, life after life; the newest first, as the lists of calls are
 abbrev pub lives_of : Start → List Calls → Lives
 lives_of first [] = []
 lives_of first (calls ∷ earlier) = run (start_after first (lives_of first earlier)) [] calls ∷ lives_of first earlier
@@ -28,7 +28,7 @@ pub record EndPeriods (plan : DiePlan) (times : Times) (all : List Event) : Type
   pub due : All (λ a. a.due ≤ slots all) (arrivals 0 all)
   pub multiple : (task : ℕ) → task < length plan.caps → slots all % (times_of times task).collect_period ≡ 0
 
--- the calls of each log keep the plan, as if it were the only one, and end where the periods do
+-- the calls of each life keep the plan, as if it were the only one, and end where the periods do
 abbrev pub KeepPlans : DiePlan → Times → List Calls → Type 0
 KeepPlans plan times [] = Unit {0}
 KeepPlans plan times (calls ∷ earlier) =
@@ -39,7 +39,7 @@ pub record IsServedInTime (start : Start) (calls : Calls) : Type 0 where
   pub accepted : AreAccepted start [] calls
   pub in_time : IsInTime start.plan (run start [] calls)
 
--- so it was in each log
+-- so it was in each life
 abbrev pub AreServedInTime : Start → List Calls → Type 0
 AreServedInTime first [] = Unit {0}
 AreServedInTime first (calls ∷ earlier) =

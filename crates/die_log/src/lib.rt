@@ -18,7 +18,12 @@
 //! - `Promised`: all that is promised of a log, in one record;
 //! - `Planned`: the logs that events leave, and what a plan with times promises of them;
 //! - `Opening`: from which starts a log may begin; when all is done, and what stands then, as a start;
-//! - `Supply`: what the balance of a task lacks at most, where the events keep such a plan.
+//! - `Supply`: what the balance of a task lacks at most, where the events keep such a plan;
+//! - `Victims`: when a collection begins, and what it finds;
+//! - `Lives`: all logs of a die, each of which starts at what the one before it left: what was last written, the rows
+//!   and slots of them all, the erases;
+//! - `PlannedLives`: planned work over all of them;
+//! - `Laws`: what a law is told of: every exact log, each life, all lives.
 //!
 //! `Limits`, `Sound`, `Standing`, `Held` and `Well` say what else stands behind every exact log. The definitions
 //! run: `proofs/Worked` has small logs whose answers, cells, accounts and lateness are computed, `proofs/Wrong`

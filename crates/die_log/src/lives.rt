@@ -1,7 +1,7 @@
-//! What holds over a die's whole life: of its logs one after the other, each of which starts at what the one before it
-//! left once all was quiet. Each law is a function that does nothing.
+//! What holds over a die's lives: of its logs one after the other, each of which starts at what the one before it left
+//! once all was quiet. Each law is a function that does nothing.
 
-ghost use Rattle.std.specs.Prelude.{◌≡◌, ℕ, List, ◌+◌, ◌++◌, ◌∷◌, Some, sum_by, ◌*◌, ◌≤◌, length};
+ghost use Rattle.std.specs.Prelude.{◌≡◌, ℕ, List, ◌+◌, ◌++◌, ◌∷◌, Some, sum_by, ◌*◌, ◌≤◌, length, IsSome, true};
 ghost use Rattle.slot_types.specs.declared.acts.Act.{Act};
 ghost use Rattle.slot_types.specs.declared.acts.Act.TheVariants as does;
 ghost use Rattle.slot_types.specs.declared.pages.PageData.{PageData};
@@ -15,71 +15,75 @@ ghost use Rattle.die_log.specs.PlannedLives.{Calls, events_of, lives_of, KeepPla
 ghost use Rattle.die_log.specs.Start.{Start};
 ghost use Rattle.die_log.specs.Legal.{FindsFree};
 ghost use Rattle.die_log.specs.Opening.{IsOpening};
-ghost use Rattle.die_log.specs.Laws.{ForEveryExactLog, ForEveryWholeLife, ForEveryLogOfALife, ForEveryPlannedLife};
+ghost use Rattle.die_log.specs.Laws.{ForEveryExactLog, ForAllLives, ForEachLife, ForPlannedLives};
 ghost use Rattle.die_log.specs.Promised.{HasSlot, KeepsPromises};
 ghost use Rattle.die_log.specs.Lives.{Lives, start_after, HaveEnded, AreLives, HasLife, last_left, rows_of_all, numbers_of_all, erases_in, all_erases_in, collections_taken};
 ghost use Rattle.slot_types.specs.declared.limits.TheConstants.{MAX_JOBS};
 ghost use Rattle.die_log.specs.Flash.{cells, block_at};
 ghost use Rattle.die_log.specs.Answers.{IsExact};
+ghost use Rattle.late_cert.specs.Build.{certificate_of};
+ghost use Rattle.late_cert.specs.Rows.{is_done};
 ghost use Rattle.late_cert.specs.Schedule.{IsLeastLate};
 ghost use Rattle.late_cert.specs.Stretch.{CarriesLeastKeys};
 
-/// Each log of a die's whole life starts at an opening and keeps all that is promised of a log: so it is exact, legal and
-/// least late, and has its certificates. Another log may start where all have ended. No write that was accepted finds its
-/// die without a free page, in whichever log.
+/// Each of a die's lives starts at an opening and keeps all that is promised of a log: so it is exact, legal and least
+/// late, and has its certificates. Another life may start where all have ended. No write that was accepted finds its die
+/// without a free page, in whichever life.
 pub fn lives_keep_promises()
-    ensures each { ForEveryLogOfALife (λ first log earlier. KeepsPromises (start_after first earlier) log) }
+    ensures each { ForEachLife (λ first log earlier. KeepsPromises (start_after first earlier) log) }
     ensures next { (first : Start) → IsOpening first → (lives : Lives) → HaveEnded first lives → IsOpening (start_after first lives) }
-    ensures room { ForEveryLogOfALife (λ first log earlier. (s : SlotReply) (past : Log) (number : ℕ) (act : Act) →
+    ensures room { ForEachLife (λ first log earlier. (s : SlotReply) (past : Log) (number : ℕ) (act : Act) →
         HasSlot log s past → s.ran ≡ Some (number, act) → FindsFree (start_after first earlier) past act) }
 {}
 
-/// Each read tells what the last finished write or trim of its page left on it, in whichever log that was, or else what
-/// stood on it where the die's first log started.
+/// Each read tells what the last finished write or trim of its page left on it, in whichever life that was, or else what
+/// stood on it where the die's first life started.
 pub fn lives_tell_the_last_write()
-    ensures { ForEveryLogOfALife (λ first log earlier. (s : SlotReply) (past : Log) (number page : ℕ) (bytes : PageData) →
+    ensures { ForEachLife (λ first log earlier. (s : SlotReply) (past : Log) (number page : ℕ) (bytes : PageData) →
         HasSlot log s past → s.ran ≡ Some (number, does.Read page bytes) → bytes ≡ last_left first (past ∷ earlier) page) }
 {}
 
-/// Time goes on over a die's whole life: put one after the other, the slots of all logs carried least keys. So no schedule
-/// of all their jobs together has a smaller greatest lateness, at no moment. A job's release, deadline and completion are
-/// those of its log, so many slots later as there were in the logs before.
+/// No schedule of all lives together has a smaller greatest lateness, at no moment: put one life after the other, each slot
+/// carried a least key, and each done job has a certificate over all slots. A job's release, deadline and completion are
+/// those of its life, so many slots later as there were in the lives before.
 pub fn lives_are_least_late()
-    ensures keys { ForEveryWholeLife (λ first lives. CarriesLeastKeys (rows_of_all first.plan lives) (numbers_of_all lives)) }
-    ensures least_late { ForEveryWholeLife (λ first lives. IsLeastLate (rows_of_all first.plan lives) (numbers_of_all lives)) }
+    ensures keys { ForAllLives (λ first lives. CarriesLeastKeys (rows_of_all first.plan lives) (numbers_of_all lives)) }
+    ensures least_late { ForAllLives (λ first lives. IsLeastLate (rows_of_all first.plan lives) (numbers_of_all lives)) }
     ensures moments { (first : Start) → IsOpening first → (later moment : Log) (earlier : Lives) →
         AreLives first ((later ++ moment) ∷ earlier) →
         IsLeastLate (rows_of_all first.plan (moment ∷ earlier)) (numbers_of_all (moment ∷ earlier)) }
+    ensures certified { ForAllLives (λ first lives. (j : ℕ) → is_done (rows_of_all first.plan lives) j ≡ true →
+        IsSome (certificate_of (rows_of_all first.plan lives) (numbers_of_all lives) j)) }
 {}
 
 /// Wear adds up. A block's count of erases after an exact log that starts at an opening is what it was at the start and
-/// one for each erase of the block that was finished in the log; and so over a die's whole life.
+/// one for each erase of the block that was finished in the log; so over all lives it is the sum.
 pub fn wear_adds_up()
     ensures log { ForEveryExactLog (λ start log. (block : ℕ) →
         (block_at (cells start log) block).erases ≡ (block_at start.cells block).erases + erases_in block log) }
-    ensures lives { ForEveryWholeLife (λ first lives. (block : ℕ) → (block_at (start_after first lives).cells block).erases
+    ensures lives { ForAllLives (λ first lives. (block : ℕ) → (block_at (start_after first lives).cells block).erases
         ≡ (block_at first.cells block).erases + sum_by (erases_in block) lives) }
 {}
 
-/// A log has at most as many finished erases, of all blocks together, as collections: so at most 65,536. So a block's
-/// count of erases grows by no more than that in each log of a die's whole life.
+/// A log has at most as many finished erases, of all blocks together, as collections: so at most 65,536. A block's count
+/// of erases grows by no more than that in each life.
 pub fn few_erases()
     ensures log { ForEveryExactLog (λ start log. all_erases_in log ≤ collections_taken log) }
     ensures block { ForEveryExactLog (λ start log. (block : ℕ) → erases_in block log ≤ MAX_JOBS) }
-    ensures lives { ForEveryWholeLife (λ first lives. (block : ℕ) → (block_at (start_after first lives).cells block).erases
+    ensures lives { ForAllLives (λ first lives. (block : ℕ) → (block_at (start_after first lives).cells block).erases
         ≤ (block_at first.cells block).erases + MAX_JOBS * length lives) }
 {}
 
-/// Planned work goes on for a die's whole life. Let the first log start stocked, as a fresh die's does, at an opening
-/// whose plan passes the test of its times. Let the calls of each log keep the plan as if there were no other, with as many
-/// jobs and collections as one log may have, and let them end where the periods end: in a slot that is a multiple of
-/// every collect period, by which the deadline of all that came has come. Then no call is refused and nothing is late, in
-/// no log; after each the die is quiet and may be renewed, and it is stocked again. So it is of the calls of the next log
-/// that keep the plan, wherever they end.
+/// Planned work goes on, life after life. Let a die start stocked, as a fresh one does, at an opening whose plan passes
+/// the test of its times. Let the calls of each life keep the plan as if there were no other, with as many jobs and
+/// collections as one life may have, and let them end where the periods end: in a slot that is a multiple of every
+/// collect period, by which the deadline of all that came has come. Then no call is refused and nothing is late, in no
+/// life; after each the die is quiet, may be renewed, and is stocked again. So it is of the calls of the next life that keep
+/// the plan, wherever they end.
 pub fn planned_lives_go_on()
-    ensures served { ForEveryPlannedLife (λ first times all. AreServedInTime first all) }
-    ensures next { ForEveryPlannedLife (λ first times all. (calls : Calls) → KeepsPlan first.plan times (events_of calls) →
+    ensures served { ForPlannedLives (λ first times all. AreServedInTime first all) }
+    ensures next { ForPlannedLives (λ first times all. (calls : Calls) → KeepsPlan first.plan times (events_of calls) →
         IsServedInTime (start_after first (lives_of first all)) calls) }
-    ensures ended { ForEveryPlannedLife (λ first times all. HaveEnded first (lives_of first all)) }
-    ensures stocked { ForEveryPlannedLife (λ first times all. AreStocked (start_after first (lives_of first all)) times) }
+    ensures ended { ForPlannedLives (λ first times all. HaveEnded first (lives_of first all)) }
+    ensures stocked { ForPlannedLives (λ first times all. AreStocked (start_after first (lives_of first all)) times) }
 {}

@@ -255,7 +255,7 @@ few_of_block start bound log exact b = omega (
   (keeps_limits start log exact).few_jobs,
 )
 
--- All logs
+-- All lives
 
 sum_few : (b : ℕ) (first : Start) → IsOpening first → (lives : Lives) → AreLives first lives → sum_by (erases_in b) lives ≤ MAX_JOBS * length lives
 sum_few b first opens [] h = omega arith

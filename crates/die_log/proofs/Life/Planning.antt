@@ -1,4 +1,4 @@
--- Planned work is never refused and never late, log after log, where each log ends where the periods end.
+-- Planned work is never refused and never late, life after life, where each ends where the periods do.
 use Rattle.std.proofs.Common.{◌≡◌, ℕ, ◌≤◌, ◌%◌, List, [], ◌∷◌, ◌++◌, refl, ap, sym, subst, ◌∙◌, arith, append_assoc, append-nil}
 use Rattle.std.proofs.lemmas.List.Elements.{recursion_from_All}
 use Rattle.slot_types.specs.declared.plans.DiePlan.{DiePlan}
@@ -73,9 +73,9 @@ module _ (start : Start) (times : Times) (bound : IsOpening start) (passes : Pas
       (period_end start.plan times (run start [] calls) (follows start times (run start [] calls) exact_run [] kept)
       (subst (EndPeriods start.plan times) (sym same) ends))
 
--- All logs
+-- All lives
 
--- the logs have ended, and the next one starts stocked
+-- the lives have ended, and the next one starts stocked
 pub record GoOn (first : Start) (times : Times) (all : List Calls) : Type 0 where
   pub ended : HaveEnded first (lives_of first all)
   pub stocked : AreStocked (start_after first (lives_of first all)) times

@@ -1,4 +1,4 @@
--- A read tells what the last write or trim of its page left, in whichever log that was.
+-- A read tells what the last write or trim of its page left, in whichever life that was.
 use Rattle.std.proofs.Common.{◌≡◌, ℕ, ◌<◌, ◌==◌, Bool, true, false, cond, List, [], ◌∷◌, ◌++◌, length, Option, Some, None, MatchOption}
 use Rattle.std.proofs.Common.{refl, ap, sym, subst, ◌∙◌, inl, inr, arith, get_or, set, slice_get, eq-eqb, ne_eqb, unwrap_or}
 use Rattle.std.specs.Prelude.{Contains, MatchBool}
@@ -105,13 +105,13 @@ log_left start (e ∷ past) page lt =
     ∙ (ap (λ d. unwrap_or (left_on page (ran_by e.reply)) d) (log_left start past page lt)
     ∙ sym (slot_left page e.reply (carried past) (page_in start.contents page)))
 
--- All logs
+-- All lives
 
 first_len : (first : Start) (lives : Lives) → length (start_after first lives).contents ≡ length first.contents
 first_len first [] = refl
 first_len first (log ∷ earlier) = contents_len (start_after first earlier) log ∙ first_len first earlier
 
--- what the pages are where the next log starts, is what was left on them
+-- what the pages are where the next life starts is what was left on them
 pub starts_as_left : (first : Start) (lives : Lives) (page : ℕ) → page < length first.contents
     → page_in (start_after first lives).contents page ≡ last_left first lives page
 starts_as_left first [] page lt = refl

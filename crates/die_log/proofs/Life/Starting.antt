@@ -1,4 +1,4 @@
--- Each log of a die's whole life is exact from an opening.
+-- Each of a die's lives is an exact log from an opening.
 use Rattle.std.proofs.Common.{◌≡◌, [], ◌∷◌, ◌++◌, refl, subst}
 use Rattle.die_log.specs.Log.{Log}
 use Rattle.die_log.specs.Start.{Start}

@@ -1,4 +1,4 @@
--- The slots of all logs, one after the other, carried least keys; so the greatest lateness over them all is least.
+-- The slots of all lives, one after the other, carried least keys; so the greatest lateness over them all is least.
 use Rattle.std.proofs.Common.{◌≡◌, ℕ, ◌<◌, Bool, true, false, cond, [], ◌∷◌, ◌++◌, length, map, Option, Some, None, is_some}
 use Rattle.std.proofs.Common.{option_map, refl, ap, sym, subst, ◌∙◌, inl, inr, arith, slice_get, length-append}
 use Rattle.std.proofs.lemmas.Bool.{true≢false}
@@ -59,7 +59,7 @@ ended_over start log bound exact quiet = record { done = λ j known. (all j know
         let q = by_row j (slice_get (jobs log) j) (is_waived log j) refl refl (sym (ap is_some at) ∙ known) in
         (ap is_done_in at ∙ q.0, q.1)
 
--- All logs
+-- All lives
 
 slots_counted : (lives : Lives) → length (numbers_of_all lives) ≡ all_slots lives
 slots_counted [] = refl

@@ -174,7 +174,7 @@ erases_counted start bound = exact_induction start Q (λ b. omega arith) step
           sum_by-cons (λ e. one_if (ends_erase b e.reply)) (entry caller events.Slot (accepted start past events.Slot)) past,
         )
 
--- All logs
+-- All lives
 
 life_wear : (first : Start) → IsOpening first → (log : Log) (earlier : Lives) → HaveEnded first earlier
     → IsExact (start_after first earlier) log → (b : ℕ)

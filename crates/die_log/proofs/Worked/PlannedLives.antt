@@ -1,4 +1,4 @@
--- Three logs of the same planned work: each ends at a multiple of the collect period by which all is due, so the next one
+-- Three lives of the same planned work: each ends at a multiple of the collect period by which all is due, so the next one
 -- may start there; nothing is refused and nothing is late.
 use Rattle.std.proofs.Common.{◌≡◌, ℕ, zero, suc, ◌<◌, ◌≤◌, ◌%◌, List, [], ◌∷◌, refl, arith}
 use Rattle.std.proofs.lemmas.List.Elements.{All-from_recursion}
@@ -38,7 +38,7 @@ served = all_served (fresh (small 6)) (each_ten 2) (fresh_opens (small 6) bound)
 ended : HaveEnded (fresh (small 6)) (lives_of (fresh (small 6)) thrice)
 ended = (lives_go_on (fresh (small 6)) (each_ten 2) (fresh_opens (small 6) bound) passes (fresh_stocked (small 6) (each_ten 2)) thrice keep).ended
 
--- each log's write spends a token, and its waived collection brings it back
+-- each life's write spends a token, and its waived collection brings it back
 tokens : (start_after (fresh (small 6)) (lives_of (fresh (small 6)) thrice)).accounts ≡ amounts (small 6) 6 5 0 2
 unfolding answer
 tokens = refl

@@ -1,5 +1,5 @@
--- Two logs of a die, one after the other: what was written in the first is read in the second, which starts with the tokens
--- that the first left.
+-- Two lives of a die: what was written in the first is read in the second, which starts with the tokens that the first
+-- left.
 use Rattle.std.proofs.Common.{◌≡◌, ℕ, ◌≤◌, [], ◌∷◌, Some, None, refl, inl, arith, ◌⊎◌}
 use Rattle.std.specs.Prelude.{IsTrue}
 use Rattle.std.specs.List.{AllByRecursion}
@@ -53,7 +53,7 @@ carries : numbers_of_all both ≡ Some 0 ∷ None ∷ Some 1 ∷ []
 unfolding answer
 carries = refl
 
--- the second log's job is released in the third slot of all
+-- the second life's job is released in the third slot of all
 rows_are : rows_of_all roomy_plan both
     ≡ record { number = 0; release = 0; due = 2; work = 1; completion = Some 1 }
     ∷ record { number = 1; release = 2; due = 3; work = 1; completion = Some 3 } ∷ []

@@ -1,4 +1,4 @@
--- A law of reads over a die's whole life that is told of the last log alone: what an earlier log wrote would be forgotten.
+-- A law of reads over a die's lives that is told of the last one alone: what an earlier life wrote would be forgotten.
 use Rattle.std.proofs.Common.{◌≡◌, ℕ, [], ◌∷◌, Some, refl, ap, arith}
 use Rattle.slot_types.specs.declared.acts.Act.TheVariants as does
 use Rattle.slot_types.specs.declared.pages.PageData.{PageData}

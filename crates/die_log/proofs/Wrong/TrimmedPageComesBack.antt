@@ -1,4 +1,4 @@
--- A log that starts where a trimmed page has its bytes again, and a read of them in the log after the trim.
+-- A life that begins with a trimmed page's bytes, and a read of them in the life after the trim.
 use Rattle.std.proofs.Common.{◌≡◌, [], ◌∷◌, None, set, get_or, refl, ap, ◌∙◌, arith}
 use Rattle.slot_types.specs.Places.{place_of}
 use Rattle.slot_types.specs.declared.acts.Act.TheVariants as does
@@ -29,7 +29,7 @@ stands = refl
 not_opening : IsOpening back → ⊥
 not_opening h = absurd (omega (arith, ap first_byte (h.blank 3 lies_nowhere), stands))
 
--- in the next log
+-- in the next life
 abbrev asked : Log
 asked = run (renewed roomy trimmed) [] (submit 0 2 (Read 3 ∷ []) ∷ [])
 
