@@ -49,16 +49,16 @@ all_carried [] = []
 all_carried (log ∷ earlier) = all_carried earlier ++ carried log
 
 -- what a slot left on the page, if it wrote or trimmed it
-abbrev pub left_on : ℕ → Carried → Option PageData
-left_on page None = None
-left_on page (Some (n, does.Write p bytes)) = if p == page then Some bytes else None
-left_on page (Some (n, does.Trim p)) = if p == page then Some blank_page else None
-left_on page (Some (n, _)) = None
+abbrev pub content_left_on : ℕ → Carried → Option PageData
+content_left_on page None = None
+content_left_on page (Some (n, does.Write p bytes)) = if p == page then Some bytes else None
+content_left_on page (Some (n, does.Trim p)) = if p == page then Some blank_page else None
+content_left_on page (Some (n, _)) = None
 
 -- what the last finished write or trim of the page left on it, in whichever life; or else what stood there at first
-abbrev pub last_left : Start → Lives → ℕ → PageData
-last_left first lives page =
-    unwrap_or (last_or None (filter_map (left_on page) (all_carried lives))) (slice_index_or first.contents page blank_page)
+abbrev pub last_content : Start → Lives → ℕ → PageData
+last_content first lives page =
+    unwrap_or (last_or None (filter_map (content_left_on page) (all_carried lives))) (slice_index_or first.contents page blank_page)
 
 -- Time: each life begins in the slot after the last one of the life before it
 
@@ -97,12 +97,12 @@ abbrev pub erases_in : ℕ → Log → ℕ
 erases_in block log = count_by (λ e. ends_erase block e.reply) log
 
 -- the slot carried an erase, of whichever block
-abbrev pub erased_in : Carried → Bool
-erased_in None = false
-erased_in (Some (n, act)) = is_erase act
+abbrev pub carries_erase : Carried → Bool
+carries_erase None = false
+carries_erase (Some (n, act)) = is_erase act
 
 abbrev pub ends_some_erase : Reply → Bool
-ends_some_erase (replies.Slot s) = is_some s.finished && erased_in s.ran
+ends_some_erase (replies.Slot s) = is_some s.finished && carries_erase s.ran
 ends_some_erase _ = false
 
 -- how many erases were finished in a log, of all blocks together

@@ -17,7 +17,7 @@ ghost use Rattle.die_log.specs.Legal.{FindsFree};
 ghost use Rattle.die_log.specs.Opening.{IsOpening};
 ghost use Rattle.die_log.specs.Laws.{ForEveryExactLog, ForAllLives, ForEachLife, ForPlannedLives};
 ghost use Rattle.die_log.specs.Promised.{HasSlot, KeepsPromises};
-ghost use Rattle.die_log.specs.Lives.{Lives, start_after, HaveEnded, AreLives, HasLife, last_left, rows_of_all, numbers_of_all, erases_in, all_erases_in, collections_taken};
+ghost use Rattle.die_log.specs.Lives.{Lives, start_after, HaveEnded, AreLives, HasLife, last_content, rows_of_all, numbers_of_all, erases_in, all_erases_in, collections_taken};
 ghost use Rattle.slot_types.specs.declared.limits.TheConstants.{MAX_JOBS};
 ghost use Rattle.die_log.specs.Flash.{cells, block_at};
 ghost use Rattle.die_log.specs.Answers.{IsExact};
@@ -40,7 +40,7 @@ pub fn lives_keep_promises()
 /// stood on it where the die's first life started.
 pub fn lives_tell_the_last_write()
     ensures { ForEachLife (λ first log earlier. (s : SlotReply) (past : Log) (number page : ℕ) (bytes : PageData) →
-        HasSlot log s past → s.ran ≡ Some (number, does.Read page bytes) → bytes ≡ last_left first (past ∷ earlier) page) }
+        HasSlot log s past → s.ran ≡ Some (number, does.Read page bytes) → bytes ≡ last_content first (past ∷ earlier) page) }
 {}
 
 /// No schedule of all lives together has a smaller greatest lateness, at no moment: put one life after the other, each slot

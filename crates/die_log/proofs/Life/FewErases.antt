@@ -19,7 +19,7 @@ use Rattle.die_log.specs.Work.{are_all, is_done, is_erase}
 use Rattle.die_log.specs.Flash.{block_at}
 use Rattle.die_log.specs.Answers.{IsExact, accepted, refusals, choice, slot_reply, reply_with, act_for}
 use Rattle.die_log.specs.Opening.{IsOpening}
-use Rattle.die_log.specs.Lives.{Lives, start_after, AreLives, ends_erase, erases_block, erases_in, ends_some_erase, erased_in}
+use Rattle.die_log.specs.Lives.{Lives, start_after, AreLives, ends_erase, erases_block, erases_in, ends_some_erase, carries_erase}
 use Rattle.die_log.specs.Lives.{all_erases_in, collections_taken}
 use Rattle.die_log.proofs.Legality.{entry, exact_induction}
 use Rattle.die_log.proofs.Legal.Exact.{StandsWell, stands_well, well_served, chosen_is}
@@ -228,9 +228,9 @@ few_erases start bound log exact =
 of_some : (b : ℕ) (r : Reply) → one_if (ends_erase b r) ≤ one_if (ends_some_erase r)
 of_some b (replies.Taken number) = omega arith
 of_some b (replies.Refused refusal) = omega arith
-of_some b (replies.Slot s) = one_less (is_some s.finished) (erased_in s.ran) (erases_block b s.ran) (by_ran s.ran)
+of_some b (replies.Slot s) = one_less (is_some s.finished) (carries_erase s.ran) (erases_block b s.ran) (by_ran s.ran)
   where
-    by_ran : (c : Carried) → erases_block b c ≡ true → erased_in c ≡ true
+    by_ran : (c : Carried) → erases_block b c ≡ true → carries_erase c ≡ true
     by_ran None e = e
     by_ran (Some (n, does.Read page bytes)) e = e
     by_ran (Some (n, does.Write page bytes)) e = e

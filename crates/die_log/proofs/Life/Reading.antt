@@ -25,7 +25,7 @@ use Rattle.die_log.specs.Legal.{Does, IsNextOperation, IsNextCollectAct, IsLegal
 use Rattle.die_log.specs.Limits.{IsWithinLimits}
 use Rattle.die_log.specs.Opening.{IsOpening}
 use Rattle.die_log.specs.Promised.{HasSlot}
-use Rattle.die_log.specs.Lives.{Lives, start_after, AreLives, HasLife, all_carried, left_on, last_left}
+use Rattle.die_log.specs.Lives.{Lives, start_after, AreLives, HasLife, all_carried, content_left_on, last_content}
 use Rattle.die_log.proofs.Exact.{moment_exact}
 use Rattle.die_log.proofs.Legal.Exact.{exact_legal}
 use Rattle.die_log.proofs.Limits.{keeps_limits}
@@ -74,7 +74,7 @@ set_left pages page p bytes lt = elim (cases_eq p page) [
 ]
 
 act_left : (page : ℕ) (ran : Carried) (pages : List PageData) → page < length pages
-    → page_in (written ran pages) page ≡ unwrap_or (left_on page ran) (page_in pages page)
+    → page_in (written ran pages) page ≡ unwrap_or (content_left_on page ran) (page_in pages page)
 act_left page None pages lt = refl
 act_left page (Some (n, does.Read p bytes)) pages lt = refl
 act_left page (Some (n, does.Write p bytes)) pages lt = set_left pages page p bytes lt
@@ -88,21 +88,21 @@ last_one None d = refl
 last_one (Some x) d = refl
 
 slot_left : (page : ℕ) (reply : Reply) (cs : List Carried) (d : PageData)
-    → last_of (filter_map (left_on page) (with_slot reply cs)) d
-    ≡ unwrap_or (left_on page (ran_by reply)) (last_of (filter_map (left_on page) cs) d)
+    → last_of (filter_map (content_left_on page) (with_slot reply cs)) d
+    ≡ unwrap_or (content_left_on page (ran_by reply)) (last_of (filter_map (content_left_on page) cs) d)
 slot_left page (replies.Taken number) cs d = refl
 slot_left page (replies.Refused refusal) cs d = refl
 slot_left page (replies.Slot s) cs d =
-    ap (λ (l : List PageData). last_of l d) (filter_map-append (left_on page) cs (s.ran ∷ []))
-    ∙ (last_joined (filter_map (left_on page) cs) (cons_option (left_on page s.ran) []) d
-    ∙ last_one (left_on page s.ran) (last_of (filter_map (left_on page) cs) d))
+    ap (λ (l : List PageData). last_of l d) (filter_map-append (content_left_on page) cs (s.ran ∷ []))
+    ∙ (last_joined (filter_map (content_left_on page) cs) (cons_option (content_left_on page s.ran) []) d
+    ∙ last_one (content_left_on page s.ran) (last_of (filter_map (content_left_on page) cs) d))
 
 log_left : (start : Start) (log : Log) (page : ℕ) → page < length start.contents
-    → content start log page ≡ last_of (filter_map (left_on page) (carried log)) (page_in start.contents page)
+    → content start log page ≡ last_of (filter_map (content_left_on page) (carried log)) (page_in start.contents page)
 log_left start [] page lt = refl
 log_left start (e ∷ past) page lt =
     act_left page (ran_by e.reply) (contents start past) (omega (arith, lt, contents_len start past))
-    ∙ (ap (λ d. unwrap_or (left_on page (ran_by e.reply)) d) (log_left start past page lt)
+    ∙ (ap (λ d. unwrap_or (content_left_on page (ran_by e.reply)) d) (log_left start past page lt)
     ∙ sym (slot_left page e.reply (carried past) (page_in start.contents page)))
 
 -- All lives
@@ -113,15 +113,15 @@ first_len first (log ∷ earlier) = contents_len (start_after first earlier) log
 
 -- what the pages are where the next life starts is what was left on them
 pub starts_as_left : (first : Start) (lives : Lives) (page : ℕ) → page < length first.contents
-    → page_in (start_after first lives).contents page ≡ last_left first lives page
+    → page_in (start_after first lives).contents page ≡ last_content first lives page
 starts_as_left first [] page lt = refl
 starts_as_left first (log ∷ earlier) page lt =
     log_left (start_after first earlier) log page (omega (arith, lt, first_len first earlier))
-    ∙ (ap (λ d. last_of (filter_map (left_on page) (carried log)) d) (starts_as_left first earlier page lt)
-    ∙ (sym (last_joined (filter_map (left_on page) (all_carried earlier)) (filter_map (left_on page) (carried log))
+    ∙ (ap (λ d. last_of (filter_map (content_left_on page) (carried log)) d) (starts_as_left first earlier page lt)
+    ∙ (sym (last_joined (filter_map (content_left_on page) (all_carried earlier)) (filter_map (content_left_on page) (carried log))
     (page_in first.contents page))
     ∙ sym (ap (λ (l : List PageData). last_of l (page_in first.contents page))
-    (filter_map-append (left_on page) (all_carried earlier) (carried log)))))
+    (filter_map-append (content_left_on page) (all_carried earlier) (carried log)))))
 
 -- Reads
 
@@ -157,7 +157,7 @@ read_within start past number page bytes ws j exact legal = by_kind j.collects l
 
 pub reads_as_left : (first : Start) → IsOpening first → (lives : Lives) → AreLives first lives → (log : Log) (earlier : Lives)
     → HasLife lives log earlier → (s : SlotReply) (past : Log) (number page : ℕ) (bytes : PageData) → HasSlot log s past
-    → s.ran ≡ Some (number, does.Read page bytes) → bytes ≡ last_left first (past ∷ earlier) page
+    → s.ran ≡ Some (number, does.Read page bytes) → bytes ≡ last_content first (past ∷ earlier) page
 reads_as_left first opens lives h log earlier has s past number page bytes slot ran =
     let start : Start = start_after first earlier in
     let bound : IsOpening start = life_opens first opens lives log earlier h has in

@@ -12,7 +12,7 @@ use Rattle.die_log.specs.Accounts.{accounts}
 use Rattle.die_log.specs.Work.{is_done}
 use Rattle.die_log.specs.Answers.{run, answer}
 use Rattle.die_log.specs.Opening.{IsQuiet, renewed}
-use Rattle.die_log.specs.Lives.{Lives, start_after, HaveEnded, AreLives, last_left, rows_of_all, numbers_of_all}
+use Rattle.die_log.specs.Lives.{Lives, start_after, HaveEnded, AreLives, last_content, rows_of_all, numbers_of_all}
 use Rattle.die_log.specs.PlannedLives.{Calls}
 use Rattle.die_log.proofs.Runs.{run_exact}
 use Rattle.die_log.proofs.Worked.Plans.{roomy, roomy_plan, amounts, submit, slot, bytes}
@@ -40,7 +40,7 @@ reads : acts 0 second_log ≡ does.Read 3 (bytes 17) ∷ []
 unfolding answer
 reads = refl
 
-left : last_left roomy (asked ∷ first_log ∷ []) 3 ≡ bytes 17
+left : last_content roomy (asked ∷ first_log ∷ []) 3 ≡ bytes 17
 unfolding answer
 left = refl
 

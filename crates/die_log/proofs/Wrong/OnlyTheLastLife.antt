@@ -8,7 +8,7 @@ use Rattle.die_log.specs.Start.{Start}
 use Rattle.die_log.specs.Answers.{answer}
 use Rattle.die_log.specs.Opening.{IsOpening}
 use Rattle.die_log.specs.Promised.{HasSlot}
-use Rattle.die_log.specs.Lives.{Lives, AreLives, HasLife, last_left}
+use Rattle.die_log.specs.Lives.{Lives, AreLives, HasLife, last_content}
 use Rattle.die_log.proofs.Openings.{fresh_opens}
 use Rattle.die_log.proofs.Worked.Plans.{roomy, roomy_plan, bytes}
 use Rattle.die_log.proofs.Worked.TwoLives.{both, first_log, second_log, asked, bound, are_lives}
@@ -17,7 +17,7 @@ use Rattle.die_log.proofs.Wrong.StaleBytesRead.{first_byte}
 abbrev OfTheLastAlone : Type 0
 OfTheLastAlone = (first : Start) → IsOpening first → (lives : Lives) → AreLives first lives → (log : Log) (earlier : Lives)
     → HasLife lives log earlier → (s : SlotReply) (past : Log) (number page : ℕ) (told : PageData) → HasSlot log s past
-    → s.ran ≡ Some (number, does.Read page told) → told ≡ last_left first (past ∷ []) page
+    → s.ran ≡ Some (number, does.Read page told) → told ≡ last_content first (past ∷ []) page
 
 -- the slot of the read
 abbrev reply : SlotReply
@@ -27,7 +27,7 @@ it_read : HasSlot second_log reply asked
 unfolding answer
 it_read = (_, refl, ([], refl))
 
-blank : first_byte (last_left roomy (asked ∷ []) 3) ≡ 255
+blank : first_byte (last_content roomy (asked ∷ []) 3) ≡ 255
 unfolding answer
 blank = refl
 
