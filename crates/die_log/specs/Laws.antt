@@ -23,8 +23,9 @@ abbrev pub ForEachLife : (Start → Log → Lives → Type 0) → Type 0
 ForEachLife Holds =
     ForAllLives (λ first lives. (log : Log) (earlier : Lives) → HasLife lives log earlier → Holds first log earlier)
 
--- it holds wherever a die starts stocked, at an opening whose plan passes the test of its times, and the calls of each life
--- keep the plan and end where its periods do
+-- it holds wherever a die starts stocked, at an opening whose plan passes the test of its times, and the calls of each
+-- life keep the plan and end where its periods do
 abbrev pub ForPlannedLives : (Start → Times → List Calls → Type 0) → Type 0
-ForPlannedLives Holds = (first : Start) (times : Times) → IsOpening first → Passes first.plan times → AreStocked first times
+ForPlannedLives Holds =
+    (first : Start) (times : Times) → IsOpening first → Passes first.plan times → AreStocked first times
     → (all : List Calls) → KeepPlans first.plan times all → Holds first times all

@@ -58,7 +58,8 @@ content_left_on page (Some (n, _)) = None
 -- what the last finished write or trim of the page left on it, in whichever life; or else what stood there at first
 abbrev pub last_content : Start → Lives → ℕ → PageData
 last_content first lives page =
-    unwrap_or (last_or None (filter_map (content_left_on page) (all_carried lives))) (slice_index_or first.contents page blank_page)
+    let found = last_or None (filter_map (content_left_on page) (all_carried lives)) in
+    unwrap_or found (slice_index_or first.contents page blank_page)
 
 -- Time: each life begins in the slot after the last one of the life before it
 
@@ -69,10 +70,12 @@ all_slots lives = sum_by now lives
 abbrev pub all_jobs : Lives → ℕ
 all_jobs lives = sum_by (λ log. length (jobs log)) lives
 
--- the rows of all lives, with releases, dues and completions in the slots of them all, and a number of its own for each job
+-- the rows of all lives, with releases, dues and completions in the slots of them all, and a number of its own for each
+-- job
 abbrev pub rows_of_all : DiePlan → Lives → List JobRow
 rows_of_all plan [] = []
-rows_of_all plan (log ∷ earlier) = joined_rows (all_jobs earlier) (all_slots earlier) (rows_of_all plan earlier) (rows plan log)
+rows_of_all plan (log ∷ earlier) =
+    joined_rows (all_jobs earlier) (all_slots earlier) (rows_of_all plan earlier) (rows plan log)
 
 -- the numbers carried, by slot
 abbrev pub numbers_of_all : Lives → Slots

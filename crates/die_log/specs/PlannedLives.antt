@@ -22,8 +22,8 @@ abbrev pub lives_of : Start → List Calls → Lives
 lives_of first [] = []
 lives_of first (calls ∷ earlier) = run (start_after first (lives_of first earlier)) [] calls ∷ lives_of first earlier
 
--- events at the end of which the periods end: the deadline of all that came has come by then, and the slot is a multiple
--- of every collect period
+-- events at the end of which the periods end: the deadline of all that came has come by then, and the slot is a
+-- multiple of every collect period
 pub record EndPeriods (plan : DiePlan) (times : Times) (all : List Event) : Type 0 where
   pub due : All (λ a. a.due ≤ slots all) (arrivals 0 all)
   pub multiple : (task : ℕ) → task < length plan.caps → slots all % (times_of times task).collect_period ≡ 0

@@ -102,7 +102,8 @@ pub fn collections_are_bounded()
 /// that block has at most `pages - alpha` valid pages: so at each moment at which such a collection has the next slot,
 /// and so in each slot that carried the first act of one, whose block is then the victim of that moment.
 pub fn collections_find_victims()
-    ensures next { ForEveryExactLog (λ start log. (j : Job) → IsFirstTurn start log j → (b : ℕ) × IsSmallVictim start log b) }
+    ensures next { ForEveryExactLog (λ start log. (j : Job) → IsFirstTurn start log j
+        → (b : ℕ) × IsSmallVictim start log b) }
     ensures carried { ForEveryExactLog (λ start log. (past : Log) (j : Job) → HasFirstAct log past j
         → (b : ℕ) × IsSmallVictim start past b × (victim_of start j.number log ≡ Some b)) }
 {}
@@ -154,9 +155,9 @@ pub fn quiet_moments_are_openings()
     ensures { (start : Start) (log : Log) → IsOpening start → IsExact start log → IsQuiet start log → IsOpening (renewed start log) }
 {}
 
-/// Planned work goes on over renewals. Let the log start stocked, and let the events keep a passing plan; let all that was
-/// accepted be due by now, and let the slot be a multiple of every collect period. Then the moment is quiet, and a log
-/// that starts there is stocked again: so nothing of the next such events is refused or late.
+/// Planned work goes on over renewals. Let the log start stocked, and let the events keep a passing plan; let all that
+/// was accepted be due by now, and let the slot be a multiple of every collect period. Then the moment is quiet, and a
+/// log that starts there is stocked again: so nothing of the next such events is refused or late.
 pub fn planned_work_goes_on()
     ensures { (start : Start) (times : Times) → IsOpening start → Passes start.plan times → AreStocked start times →
         (log : Log) (rest : List Event) → IsExact start log → KeepsPlan start.plan times (told log ++ rest) →

@@ -17,7 +17,8 @@ ghost use Rattle.die_log.specs.Legal.{FindsFree};
 ghost use Rattle.die_log.specs.Opening.{IsOpening};
 ghost use Rattle.die_log.specs.Laws.{ForEveryExactLog, ForAllLives, ForEachLife, ForPlannedLives};
 ghost use Rattle.die_log.specs.Promised.{HasSlot, KeepsPromises};
-ghost use Rattle.die_log.specs.Lives.{Lives, start_after, HaveEnded, AreLives, HasLife, last_content, rows_of_all, numbers_of_all, erases_in, all_erases_in, collections_taken};
+ghost use Rattle.die_log.specs.Lives.{Lives, start_after, HaveEnded, AreLives, HasLife, last_content};
+ghost use Rattle.die_log.specs.Lives.{rows_of_all, numbers_of_all, erases_in, all_erases_in, collections_taken};
 ghost use Rattle.slot_types.specs.declared.limits.TheConstants.{MAX_JOBS};
 ghost use Rattle.die_log.specs.Flash.{cells, block_at};
 ghost use Rattle.die_log.specs.Answers.{IsExact};
@@ -26,29 +27,33 @@ ghost use Rattle.late_cert.specs.Rows.{is_done};
 ghost use Rattle.late_cert.specs.Schedule.{IsLeastLate};
 ghost use Rattle.late_cert.specs.Stretch.{CarriesLeastKeys};
 
-/// Each of a die's lives starts at an opening and keeps all that is promised of a log: so it is exact, legal and least
-/// late, and has its certificates. Another life may start where all have ended. No write that was accepted finds its die
-/// without a free page, in whichever life.
+/// Each of a die's lives starts at an opening and keeps all that is promised of a log: so it is exact, legal and
+/// least late, and has its certificates. Another life may start where all have ended. No write that was accepted finds
+/// its die without a free page, in whichever life.
 pub fn lives_keep_promises()
     ensures each { ForEachLife (λ first log earlier. KeepsPromises (start_after first earlier) log) }
-    ensures next { (first : Start) → IsOpening first → (lives : Lives) → HaveEnded first lives → IsOpening (start_after first lives) }
+    ensures next { (first : Start) → IsOpening first → (lives : Lives) → HaveEnded first lives →
+        IsOpening (start_after first lives) }
     ensures room { ForEachLife (λ first log earlier. (s : SlotReply) (past : Log) (number : ℕ) (act : Act) →
         HasSlot log s past → s.ran ≡ Some (number, act) → FindsFree (start_after first earlier) past act) }
 {}
 
-/// Each read tells what the last finished write or trim of its page left on it, in whichever life that was, or else what
-/// stood on it where the die's first life started.
+/// Each read tells what the last finished write or trim of its page left on it, in whichever life that was, or else
+/// what stood on it where the die's first life started.
 pub fn lives_tell_the_last_write()
     ensures { ForEachLife (λ first log earlier. (s : SlotReply) (past : Log) (number page : ℕ) (bytes : PageData) →
-        HasSlot log s past → s.ran ≡ Some (number, does.Read page bytes) → bytes ≡ last_content first (past ∷ earlier) page) }
+        HasSlot log s past → s.ran ≡ Some (number, does.Read page bytes) →
+        bytes ≡ last_content first (past ∷ earlier) page) }
 {}
 
-/// No schedule of all lives together has a smaller greatest lateness, at no moment: put one life after the other, each slot
-/// carried a least key, and each done job has a certificate over all slots. A job's release, deadline and completion are
-/// those of its life, so many slots later as there were in the lives before.
+/// No schedule of all lives together has a smaller greatest lateness, at no moment: put one life after the other, each
+/// slot carried a least key, and each done job has a certificate over all slots. A job's release, deadline and
+/// completion are those of its life, so many slots later as there were in the lives before.
 pub fn lives_are_least_late()
-    ensures keys { ForAllLives (λ first lives. CarriesLeastKeys (rows_of_all first.plan lives) (numbers_of_all lives)) }
-    ensures least_late { ForAllLives (λ first lives. IsLeastLate (rows_of_all first.plan lives) (numbers_of_all lives)) }
+    ensures keys { ForAllLives (λ first lives.
+        CarriesLeastKeys (rows_of_all first.plan lives) (numbers_of_all lives)) }
+    ensures least_late { ForAllLives (λ first lives.
+        IsLeastLate (rows_of_all first.plan lives) (numbers_of_all lives)) }
     ensures moments { (first : Start) → IsOpening first → (later moment : Log) (earlier : Lives) →
         AreLives first ((later ++ moment) ∷ earlier) →
         IsLeastLate (rows_of_all first.plan (moment ∷ earlier)) (numbers_of_all (moment ∷ earlier)) }
@@ -65,8 +70,8 @@ pub fn wear_adds_up()
         ≡ (block_at first.cells block).erases + sum_by (erases_in block) lives) }
 {}
 
-/// A log has at most as many finished erases, of all blocks together, as collections: so at most 65,536. A block's count
-/// of erases grows by no more than that in each life.
+/// A log has at most as many finished erases, of all blocks together, as collections: so at most 65,536. A block's
+/// count of erases grows by no more than that in each life.
 pub fn few_erases()
     ensures log { ForEveryExactLog (λ start log. all_erases_in log ≤ collections_taken log) }
     ensures block { ForEveryExactLog (λ start log. (block : ℕ) → erases_in block log ≤ MAX_JOBS) }
@@ -78,8 +83,8 @@ pub fn few_erases()
 /// the test of its times. Let the calls of each life keep the plan as if there were no other, with as many jobs and
 /// collections as one life may have, and let them end where the periods end: in a slot that is a multiple of every
 /// collect period, by which the deadline of all that came has come. Then no call is refused and nothing is late, in no
-/// life; after each the die is quiet, may be renewed, and is stocked again. So it is of the calls of the next life that keep
-/// the plan, wherever they end.
+/// life; after each the die is quiet, may be renewed, and is stocked again. So it is of the calls of the next life that
+/// keep the plan, wherever they end.
 pub fn planned_lives_go_on()
     ensures served { ForPlannedLives (λ first times all. AreServedInTime first all) }
     ensures next { ForPlannedLives (λ first times all. (calls : Calls) → KeepsPlan first.plan times (events_of calls) →

@@ -1,5 +1,5 @@
--- Three lives of the same planned work: each ends at a multiple of the collect period by which all is due, so the next one
--- may start there; nothing is refused and nothing is late.
+-- Three lives of the same planned work: each ends at a multiple of the collect period by which all is due, so the next
+-- one may start there; nothing is refused and nothing is late.
 use Rattle.std.proofs.Common.{◌≡◌, ℕ, zero, suc, ◌<◌, ◌≤◌, ◌%◌, List, [], ◌∷◌, refl, arith}
 use Rattle.std.proofs.lemmas.List.Elements.{All-from_recursion}
 use Rattle.plan_rules.specs.Keeping.{arrivals, slots}

@@ -1,4 +1,5 @@
--- A life that begins with balances at the caps, after one in which a task wrote: more pages would be owned than are free.
+-- A life that begins with balances at the caps, after one in which a task wrote: more pages would be owned than are
+-- free.
 use Rattle.std.proofs.Common.{◌≡◌, refl, arith}
 use Rattle.plan_rules.specs.Accounts.{opening}
 use Rattle.die_log.specs.Start.{Start}

@@ -1,4 +1,4 @@
--- A law of wear over a die's lives that is told of the last one alone: the erases of an earlier life would be forgotten.
+-- A law of wear over a die's lives that is told of the last one alone: the erases of an earlier life would be lost.
 use Rattle.std.proofs.Common.{◌≡◌, ℕ, ◌+◌, ◌≤◌, [], ◌∷◌, ◌⊎◌, inl, inr, refl, arith}
 use Rattle.std.specs.Prelude.{IsTrue}
 use Rattle.std.specs.List.{AllByRecursion}
