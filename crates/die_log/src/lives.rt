@@ -1,7 +1,7 @@
 //! What holds over a die's lives: of its logs one after the other, each of which starts at what the one before it left
 //! once all was quiet. Each law is a function that does nothing.
 
-ghost use Rattle.std.specs.Prelude.{◌≡◌, ℕ, List, ◌+◌, ◌++◌, ◌∷◌, Some, sum_by, ◌*◌, ◌≤◌, length, IsSome, true};
+ghost use Rattle.std.specs.Prelude.{◌≡◌, ℕ, List, ◌+◌, ◌++◌, ◌∷◌, Some, sum_by, ◌*◌, ◌≤◌, length, IsSome, true, option_map};
 ghost use Rattle.slot_types.specs.declared.acts.Act.{Act};
 ghost use Rattle.slot_types.specs.declared.acts.Act.TheVariants as does;
 ghost use Rattle.slot_types.specs.declared.pages.PageData.{PageData};
@@ -17,13 +17,15 @@ ghost use Rattle.die_log.specs.Legal.{FindsFree};
 ghost use Rattle.die_log.specs.Opening.{IsOpening};
 ghost use Rattle.die_log.specs.Laws.{ForEveryExactLog, ForAllLives, ForEachLife, ForPlannedLives};
 ghost use Rattle.die_log.specs.Promised.{HasSlot, KeepsPromises};
-ghost use Rattle.die_log.specs.Lives.{Lives, start_after, HaveEnded, AreLives, HasLife, last_content};
+ghost use Rattle.die_log.specs.Lives.{Lives, start_after, HaveEnded, AreLives, HasLife, last_content, all_slots, all_jobs};
 ghost use Rattle.die_log.specs.Lives.{rows_of_all, numbers_of_all, erases_in, all_erases_in, collections_taken};
 ghost use Rattle.slot_types.specs.declared.limits.TheConstants.{MAX_JOBS};
 ghost use Rattle.die_log.specs.Flash.{cells, block_at};
 ghost use Rattle.die_log.specs.Answers.{IsExact};
 ghost use Rattle.late_cert.specs.Build.{certificate_of};
-ghost use Rattle.late_cert.specs.Rows.{is_done};
+ghost use Rattle.late_cert.specs.Joined.{row_after};
+ghost use Rattle.late_cert.specs.Rows.{row_of, is_known, is_done};
+ghost use Rattle.die_log.specs.Rows.{rows};
 ghost use Rattle.late_cert.specs.Schedule.{IsLeastLate};
 ghost use Rattle.late_cert.specs.Stretch.{CarriesLeastKeys};
 
@@ -48,7 +50,7 @@ pub fn lives_tell_the_last_write()
 
 /// No schedule of all lives together has a smaller greatest lateness, at no moment: put one life after the other, each
 /// slot carried a least key, and each done job has a certificate over all slots. A job's release, deadline and
-/// completion are those of its life, so many slots later as there were in the lives before.
+/// completion are those of its life, so many slots later as there were in the lives before (`rows`).
 pub fn lives_are_least_late()
     ensures keys { ForAllLives (λ first lives.
         CarriesLeastKeys (rows_of_all first.plan lives) (numbers_of_all lives)) }
@@ -57,6 +59,9 @@ pub fn lives_are_least_late()
     ensures moments { (first : Start) → IsOpening first → (later moment : Log) (earlier : Lives) →
         AreLives first ((later ++ moment) ∷ earlier) →
         IsLeastLate (rows_of_all first.plan (moment ∷ earlier)) (numbers_of_all (moment ∷ earlier)) }
+    ensures rows { ForAllLives (λ first lives. (log : Log) (earlier : Lives) → HasLife lives log earlier → (j : ℕ) →
+        is_known (rows first.plan log) j ≡ true → row_of (rows_of_all first.plan lives) (all_jobs earlier + j)
+        ≡ option_map (row_after (all_jobs earlier) (all_slots earlier)) (row_of (rows first.plan log) j)) }
     ensures certified { ForAllLives (λ first lives. (j : ℕ) → is_done (rows_of_all first.plan lives) j ≡ true →
         IsSome (certificate_of (rows_of_all first.plan lives) (numbers_of_all lives) j)) }
 {}

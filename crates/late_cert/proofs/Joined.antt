@@ -475,3 +475,14 @@ over-joined rows later n m k over second = record { done = λ j known. (all j kn
           let q = in_later j (sym (ap is_some same) ∙ known) in
           (ap is_done_in same ∙ q.0, q.1)
     ]
+
+-- what the rows of both say of a number of the first log, and of one of the later log
+pub joined-first : (rows later : List JobRow) (n m j : ℕ) → is_known rows j ≡ true → row_of (joined_rows n m rows later) j ≡ row_of rows j
+joined-first rows later n m j known = row-left rows (map (row_after n m) later) j known
+
+pub joined-later : (rows later : List JobRow) (n m k : ℕ) → AreOver rows n
+    → row_of (joined_rows n m rows later) (n + k) ≡ option_map (row_after n m) (row_of later k)
+joined-later rows later n m k over =
+    row-right rows (map (row_after n m) later) (n + k)
+    (false_from_ne_true (is_known rows (n + k)) (λ known. absurd (omega (arith, over.below (n + k) known))))
+    ∙ row-high n m later k

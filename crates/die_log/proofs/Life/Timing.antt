@@ -1,16 +1,17 @@
 -- The slots of all lives, one after the other, carried least keys; so the greatest lateness over them all is least.
-use Rattle.std.proofs.Common.{◌≡◌, ℕ, ◌<◌, Bool, true, false, cond, [], ◌∷◌, ◌++◌, length, map, Option, Some, None, is_some}
+use Rattle.std.proofs.Common.{◌≡◌, ℕ, ◌+◌, ◌<◌, Bool, true, false, cond, [], ◌∷◌, ◌++◌, length, map, Option, Some, None, is_some}
 use Rattle.std.proofs.Common.{option_map, refl, ap, sym, subst, ◌∙◌, inl, inr, arith, slice_get, length-append}
 use Rattle.std.proofs.lemmas.Bool.{true≢false}
 use Rattle.std.proofs.lemmas.List.{length-map}
 use Rattle.std.proofs.lemmas.List.Sums.{sum_by-cons}
 use Rattle.std.proofs.lemmas.Option.{slice_get_within}
 use Rattle.slot_types.specs.declared.plans.DiePlan.{DiePlan}
+use Rattle.late_cert.specs.declared.rows.JobRow.{JobRow}
 use Rattle.late_cert.specs.Schedule.{IsLeastLate}
 use Rattle.late_cert.specs.Rows.{row_of, is_known, is_done_in}
 use Rattle.late_cert.specs.Stretch.{CarriesLeastKeys}
-use Rattle.late_cert.specs.Joined.{slot_after, joined_rows, AreOver}
-use Rattle.late_cert.proofs.Joined.{keys-joined, over-joined}
+use Rattle.late_cert.specs.Joined.{row_after, slot_after, joined_rows, AreOver}
+use Rattle.late_cert.proofs.Joined.{keys-joined, over-joined, joined-first, joined-later}
 use Rattle.late_cert.proofs.Least.{least-late}
 use Rattle.late_cert.proofs.Moments.{nothing-carried}
 use Rattle.die_log.specs.Log.{Log, Job, jobs, now, carried, is_waived}
@@ -19,13 +20,13 @@ use Rattle.die_log.specs.Work.{is_done, completion}
 use Rattle.die_log.specs.Answers.{IsExact}
 use Rattle.die_log.specs.Opening.{IsOpening, IsQuiet}
 use Rattle.die_log.specs.Rows.{rows, row_for, carried_numbers}
-use Rattle.die_log.specs.Lives.{Lives, start_after, HaveEnded, AreLives, all_slots, all_jobs, rows_of_all, numbers_of_all}
+use Rattle.die_log.specs.Lives.{Lives, start_after, HaveEnded, AreLives, HasLife, all_slots, all_jobs, rows_of_all, numbers_of_all}
 use Rattle.die_log.proofs.Exact.{moment_exact}
 use Rattle.die_log.proofs.Least.Exact.{least_keys}
 use Rattle.die_log.proofs.Least.Lookups.{row_in, row_at}
 use Rattle.die_log.proofs.Legal.Exact.{stands_well}
 use Rattle.die_log.proofs.Standing.Longer.{number_at, contained}
-use Rattle.die_log.proofs.Life.Starting.{plan_same, ended_opens}
+use Rattle.die_log.proofs.Life.Starting.{plan_same, ended_opens, ended_live}
 
 -- One log that has ended
 
@@ -116,3 +117,33 @@ pub moments_least : (first : Start) → IsOpening first → (later moment : Log)
     → IsLeastLate (rows_of_all first.plan (moment ∷ earlier)) (numbers_of_all (moment ∷ earlier))
 moments_least first opens later moment earlier h =
     lives_least first opens (moment ∷ earlier) (h.0, moment_exact (start_after first earlier) later moment h.1)
+
+-- Each life's rows
+
+known_later : (numbers slots : ℕ) (o : Option JobRow) → is_some (option_map (row_after numbers slots) o) ≡ is_some o
+known_later numbers slots None = refl
+known_later numbers slots (Some row) = refl
+
+rows_behind : (first : Start) → IsOpening first → (later : Lives) (log : Log) (earlier : Lives) → AreLives first (later ++ log ∷ earlier)
+    → (j : ℕ) → is_known (rows first.plan log) j ≡ true
+    → row_of (rows_of_all first.plan (later ++ log ∷ earlier)) (all_jobs earlier + j)
+    ≡ option_map (row_after (all_jobs earlier) (all_slots earlier)) (row_of (rows first.plan log) j)
+rows_behind first opens [] log earlier h j known =
+    joined-later (rows_of_all first.plan earlier) (rows first.plan log) (all_jobs earlier) (all_slots earlier) j
+    (ended_keys first opens earlier h.0).1
+rows_behind first opens (l ∷ later) log earlier h j known =
+    let lives : Lives = later ++ log ∷ earlier in
+    let behind = rows_behind first opens later log earlier (ended_live first lives h.0) j known in
+    let stands : is_known (rows_of_all first.plan lives) (all_jobs earlier + j) ≡ true =
+    ap is_some behind ∙ (known_later (all_jobs earlier) (all_slots earlier) (row_of (rows first.plan log) j) ∙ known) in
+    joined-first (rows_of_all first.plan lives) (rows first.plan l) (all_jobs lives) (all_slots lives) (all_jobs earlier + j) stands
+    ∙ behind
+
+pub life_rows : (first : Start) → IsOpening first → (lives : Lives) → AreLives first lives → (log : Log) (earlier : Lives)
+    → HasLife lives log earlier → (j : ℕ) → is_known (rows first.plan log) j ≡ true
+    → row_of (rows_of_all first.plan lives) (all_jobs earlier + j)
+    ≡ option_map (row_after (all_jobs earlier) (all_slots earlier)) (row_of (rows first.plan log) j)
+life_rows first opens lives h log earlier has j known =
+    subst (λ l. row_of (rows_of_all first.plan l) (all_jobs earlier + j)
+    ≡ option_map (row_after (all_jobs earlier) (all_slots earlier)) (row_of (rows first.plan log) j)) (sym has.1)
+    (rows_behind first opens has.0 log earlier (subst (AreLives first) has.1 h) j known)
