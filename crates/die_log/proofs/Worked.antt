@@ -17,3 +17,4 @@ pub mod TrimmedCopy
 mod Certificates
 mod LegalCollection
 mod PlannedWork
+mod NeededCalls
