@@ -29,7 +29,7 @@ use victim_pick::Victims;
 /// for a collection. After the device has failed nothing is known of it.
 #[derive(Drop)]
 pub(crate) struct PageArray<N: Nand> {
-    device: N,
+    pub(crate) device: N,
     map: PageMap,
     /// By block how many of its cells are programmed.
     fills: Vec<u32>,

@@ -5,6 +5,7 @@ mod array;
 mod candidates;
 mod collecting;
 pub mod collection;
+mod faults;
 pub mod next_calls;
 pub mod volume;
 
