@@ -19,3 +19,4 @@ mod LegalCollection
 pub mod PlannedWork
 pub mod TwoLives
 mod PlannedLives
+mod NeededCalls

@@ -73,7 +73,7 @@ impl Nand for MemoryNand {
 
     ghost failures = { λ _. 0 };
 
-    ghost ends = { λ _ well _. well ≡ true };
+    ghost ends = { λ _ _ well _. well ≡ true };
 
     ghost never_fails = { true };
 

@@ -205,8 +205,8 @@ impl Ledger {
         self.spare + pages_in(&self.balances) + pages_in(&self.holds) + pages_in(&self.reserves)
     }
 
-    // What a collection that ends now gives the task.
-    fn given(&self, task: TaskNo) -> u32
+    /// How many pages a collection that ends now would give the task: `alpha`, or what the task lacks to its cap.
+    pub fn given(&self, task: TaskNo) -> u32
         requires { task < length self.now.plan.caps }
         ensures { result ≡ given_of self.now task }
     {
