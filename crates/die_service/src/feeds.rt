@@ -51,6 +51,7 @@ impl Model for Feed {
 }
 
 /// An event of a feed, lent. Contracts see the event, and the slot before which it comes.
+#[derive(Drop)]
 pub struct FeedItem<'a> {
     at: u32,
     head: EventHead,

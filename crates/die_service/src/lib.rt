@@ -39,7 +39,7 @@ pub use batches::Batch;
 pub use closing::{StillOpen, close};
 pub use die::{Die, DiePass};
 pub use ends::{DieEnd, DieEnds, RefusedEvent, RefusedList};
-pub use feeds::{Arrival, Feed};
+pub use feeds::{Arrival, Feed, FeedItem};
 pub use gate::{FreeGate, Gate};
 pub use promised::{planned_feeds_go_as_planned, promises, seen_keeps_promises};
 pub use refused::RefusedAt;

@@ -105,7 +105,7 @@ const READS: &[Step] = &[
     Slot { want: Ok(Some(1)) },
     Is(Read { job: 0, page: ONES }),
     Is(Read { job: 1, page: TWOS }),
-    Is(Certified(Bounds { job: 1, start: 0, due: 6, completion: 2 })),
+    Is(Certified(Bounds { job: 0, start: 0, due: 5, completion: 1 })),
 ];
 
 #[rattlefmt::skip]
