@@ -28,7 +28,7 @@ fn feed(alloc: Global, jobs: &[Job]) -> Result<Feed, Refusal>
             release,
             due,
         };
-        feed.push(release, head, &[op])?;
+        feed.push_lent(release, head, &[op])?;
     }
     Ok(feed)
 }
