@@ -1,11 +1,12 @@
 //! A map of places that are given as a whole.
 
 ghost use Rattle.std.specs.Prelude.{◌≡◌, ◌<◌, ◌^◌, length, IfOk, IfErr, OnOk};
+ghost use Rattle.slot_types.specs.Refusal.{FailsForMemory};
 ghost use Rattle.page_map.specs.Placing.{AreApart};
 ghost use Rattle.page_map.specs.Given.{AreCells, HasFault};
 
 use crate::map::PageMap;
-use slot_types::{Place, Shape};
+use slot_types::{Place, Refusal, Shape};
 use std::alloc::Global;
 
 /// Why there is no map of given places.
@@ -46,5 +47,17 @@ impl PageMap {
             }
         }
         Ok(map)
+    }
+
+    /// By page the cell in which it lies. Refused with `NoMemory` alone.
+    pub fn to_places(&self, alloc: Global) -> Result<Vec<Option<Place>>, Refusal>
+        ensures ok { IfOk result (λ places. places.items ≡ self.now.places) }
+        ensures err { FailsForMemory result }
+    {
+        let mut places = vec![in alloc; None; self.logical as usize]?;
+        for page in 0..self.logical {
+            places[page as usize] = self.place(page);
+        }
+        Ok(places)
     }
 }
