@@ -18,11 +18,11 @@ use std::marker::Model;
 /// one for each cap of the plan. Only `new` takes memory.
 #[derive(Drop)]
 pub struct Ledger {
-    plan: DiePlan,
-    spare: u32,
-    balances: Vec<u32>,
-    holds: Vec<u32>,
-    reserves: Vec<u32>,
+    pub(crate) plan: DiePlan,
+    pub(crate) spare: u32,
+    pub(crate) balances: Vec<u32>,
+    pub(crate) holds: Vec<u32>,
+    pub(crate) reserves: Vec<u32>,
 }
 
 impl Model for Ledger {
