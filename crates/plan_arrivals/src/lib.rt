@@ -14,8 +14,10 @@ mod manners;
 mod pages;
 mod scripts;
 
+pub use die_events::{Events, events_on};
 pub use faults::Fault;
 pub use fillings::full_from;
+pub use keeping::keeps_plans;
 pub use laws::planned_scripts_go_as_planned;
 pub use manners::Manner;
-pub use scripts::arrivals;
+pub use scripts::{arrivals, test_all};

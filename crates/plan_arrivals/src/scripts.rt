@@ -12,8 +12,9 @@ use plan_rules::plan_test;
 use slot_types::{DiePlan, Refusal, StorePlan};
 use std::alloc::Global;
 
-/// The test of each plan, as [`plan_test`](plan_rules::plan_test) tells it.
-fn test_all(plans: &[DiePlan]) -> Result<(), Refusal>
+/// The test of each plan, as [`plan_test`](plan_rules::plan_test) tells it: BadPlan where one has no times, or these don't
+/// pass their test.
+pub fn test_all(plans: &[DiePlan]) -> Result<(), Refusal>
     requires { All MeetsBound plans.now }
     ensures passed { OnOk result (All HasPassed plans.now) }
     ensures refused { IfErr result (λ refusal. (refusal ≡ Refusal.BadPlan) × ¬ All HasPassed plans.now) }

@@ -1,8 +1,7 @@
 //! The first condition that doesn't hold.
 
-ghost use Rattle.std.specs.Prelude.{◌≤◌, IfOk, IfSome};
+ghost use Rattle.std.specs.Prelude.{IfOk, IfSome};
 ghost use Rattle.slot_types.specs.Refusal.{FailsForMemory};
-ghost use Rattle.plan_rules.specs.Keeping.{slots};
 ghost use Rattle.plan_breaches.specs.Breaches.{IsBreach};
 
 use crate::coming::{Arrived, arrivals_in, slots_of};
@@ -151,18 +150,21 @@ fn nothing_seen(alloc: Global, tasks: usize) -> Result<Vec<Seen>, Refusal>
 
 /// The first condition of a plan with times that doesn't hold of events: where jobs, collections and the slots in which a
 /// collection is missing are looked at in their order. What is told is put to the test, so it doesn't hold; none is told
-/// where none is found. The only refusal is NoMemory.
+/// where none is found, or where more than 1,048,576 slots are carried out. The only refusal is NoMemory.
 pub fn first_breach(
     alloc: Global,
     plan: &DiePlan,
     times: &Times,
     events: &[Event],
 ) -> Result<Option<Breach>, Refusal>
-    requires { slots events.now ≤ 1048576 }
     ensures told { IfOk result (λ found. IfSome found (IsBreach plan.now times.now events.now)) }
     ensures refused { FailsForMemory result }
 {
-    let end = slots_of(events) as u32;
+    let slots = slots_of(events);
+    if slots > MAX_SLOT as usize {
+        return Ok(None);
+    }
+    let end = slots as u32;
     let all = arrivals_in(alloc, events)?;
     let mut seen = nothing_seen(alloc, plan.caps.len())?;
     let look = Look {
