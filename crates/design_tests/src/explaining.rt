@@ -28,12 +28,12 @@ die 0: with its other numbers as they are, the greatest logical that would do is
         "blocks = 4",
         false,
         "The plan is refused: BadPlan.
+die 0: logical is 12, and has to be below 6: 7 too many.
+die 0: with its other numbers as they are, the least blocks that would do is 7.
+die 0: with its other numbers as they are, the greatest logical that would do is 5.
 die 0: while fewer than alpha pages are spare, up to 7 may be free.
 die 0: the closed blocks that no collection works on are then at least 2.
 die 0: if none of these were worth collecting, at least 6 pages would be valid.
-die 0: logical is 12, and has to be below that: 7 too many.
-die 0: with its other numbers as they are, the least blocks that would do is 7.
-die 0: with its other numbers as they are, the greatest logical that would do is 5.
 ",
     ),
     (
@@ -41,10 +41,10 @@ die 0: with its other numbers as they are, the greatest logical that would do is
         "blocks = 2",
         false,
         "The plan is refused: BadPlan.
-die 0: while fewer than alpha pages are spare, up to 7 may be free.
-die 0: 2 blocks may then be free or collected; blocks is 2, and has to be above that: 1 missing.
+die 0: blocks is 2, and has to be above 2, which may be free or collected: 1 missing.
 die 0: with its other numbers as they are, the least blocks that would do is 7.
 die 0: with its other numbers as they are, no logical would do.
+die 0: while fewer than alpha pages are spare, up to 7 may be free.
 ",
     ),
     (
@@ -52,12 +52,12 @@ die 0: with its other numbers as they are, no logical would do.
         "logical = 100000",
         false,
         "The plan is refused: BadPlan.
+die 0: logical is 100000, and has to be below 18: 99983 too many.
+die 0: with its other numbers as they are, no blocks would do.
+die 0: with its other numbers as they are, the greatest logical that would do is 17.
 die 0: while fewer than alpha pages are spare, up to 7 may be free.
 die 0: the closed blocks that no collection works on are then at least 6.
 die 0: if none of these were worth collecting, at least 18 pages would be valid.
-die 0: logical is 100000, and has to be below that: 99983 too many.
-die 0: with its other numbers as they are, no blocks would do.
-die 0: with its other numbers as they are, the greatest logical that would do is 17.
 ",
     ),
     (
@@ -65,16 +65,16 @@ die 0: with its other numbers as they are, the greatest logical that would do is
         "cap = 4294967295",
         false,
         "The plan is refused: BadPlan.
-die 0: while fewer than alpha pages are spare, up to 4294967298 may be free.
-die 0: 1073741825 blocks may then be free or collected; blocks is 8, and has to be above that: 1073741818 missing.
+die 0: blocks is 8, and has to be above 1073741825, which may be free or collected: 1073741818 missing.
 die 0: with its other numbers as they are, no blocks would do.
 die 0: with its other numbers as they are, no logical would do.
+die 0: while fewer than alpha pages are spare, up to 4294967298 may be free.
 ",
     ),
 ];
 
 /// Numbers out of their limits.
-const LIMITS: [Said; 4] = [
+const LIMITS: [Said; 5] = [
     (
         "logical = 12",
         "logical = 0",
@@ -88,7 +88,15 @@ die 0: logical is 0, and has to be at least 1.
         "cap = 0",
         false,
         "The plan is refused: BadPlan.
-die 0 task 0: cap is 0, and has to be at least 1.
+[[task]] 1 (die 0 task 0): cap is 0, and has to be at least 1.
+",
+    ),
+    (
+        "alpha = 2",
+        "alpha = 5",
+        false,
+        "The plan is refused: BadPlan.
+die 0: alpha is 5, and has to be from 1 to `pages`.
 ",
     ),
     (
@@ -104,14 +112,14 @@ plan: pages is 257, and has to be from 2 to 256.
         "die = 3",
         false,
         "The plan is refused: BadPlan.
-plan: [[task]] number 1 is of die 3, and dies are numbered from 0 to 0.
+[[task]] 1: die is 3, and dies are numbered from 0 to 0.
 die 0: it has 0 tasks, and has to have from 1 to 16.
 ",
     ),
 ];
 
 /// Loads that fit, and not.
-const LOADS: [Said; 5] = [
+const LOADS: [Said; 6] = [
     (
         "cap = 6",
         "cap = 6",
@@ -123,10 +131,11 @@ die 0: if none of these were worth collecting, at least 3 pages would be valid.
 die 0: logical is 2, which is below that.
 die 0: with its other numbers as they are, the least blocks that would do is 4.
 die 0: with its other numbers as they are, the greatest logical that would do is 2.
-die 0 task 0: of each 20 slots its jobs take at most 4, its collections 7.
-die 0 task 0: alpha * period is 20, and writes * collect_period is 20: 0 to spare.
-die 0 task 0: cap is 6, and 2 * writes + 2 * alpha is 6: 0 to spare.
+[[task]] 1 (die 0 task 0): alpha * period is 20, and writes * collect_period is 20: 0 to spare.
+[[task]] 1 (die 0 task 0): cap is 6, and 2 * writes + 2 * alpha is 6: 0 to spare.
+[[task]] 1 (die 0 task 0): of each 20 slots its jobs take at most 4, its collections 7.
 die 0: of each 20 slots all tasks take at most 11: 9 to spare.
+die 0: its 65536 numbers for jobs and collections last for 436900 slots; `renew` begins the next life.
 ",
     ),
     (
@@ -134,16 +143,17 @@ die 0: of each 20 slots all tasks take at most 11: 9 to spare.
         "cap = 5",
         false,
         "The plan is refused: BadPlan.
+[[task]] 1 (die 0 task 0): cap is 5, and has to be at least 2 * writes + 2 * alpha, which is 6: 1 missing.
 die 0: while fewer than alpha pages are spare, at most 8 are free.
 die 0: the closed blocks that no collection works on are then at least 1.
 die 0: if none of these were worth collecting, at least 3 pages would be valid.
 die 0: logical is 2, which is below that.
 die 0: with its other numbers as they are, the least blocks that would do is 4.
 die 0: with its other numbers as they are, the greatest logical that would do is 2.
-die 0 task 0: of each 20 slots its jobs take at most 4, its collections 7.
-die 0 task 0: alpha * period is 20, and writes * collect_period is 20: 0 to spare.
-die 0 task 0: cap is 5, and has to be at least 2 * writes + 2 * alpha, which is 6: 1 missing.
+[[task]] 1 (die 0 task 0): alpha * period is 20, and writes * collect_period is 20: 0 to spare.
+[[task]] 1 (die 0 task 0): of each 20 slots its jobs take at most 4, its collections 7.
 die 0: of each 20 slots all tasks take at most 11: 9 to spare.
+die 0: its 65536 numbers for jobs and collections last for 436900 slots; `renew` begins the next life.
 ",
     ),
     (
@@ -151,16 +161,17 @@ die 0: of each 20 slots all tasks take at most 11: 9 to spare.
         "work = 7",
         false,
         "The plan is refused: BadPlan.
+die 0: of each 20 slots all tasks may take 21: 1 missing.
 die 0: while fewer than alpha pages are spare, at most 9 are free.
 die 0: the closed blocks that no collection works on are then at least 1.
 die 0: if none of these were worth collecting, at least 3 pages would be valid.
 die 0: logical is 2, which is below that.
 die 0: with its other numbers as they are, the least blocks that would do is 4.
 die 0: with its other numbers as they are, the greatest logical that would do is 2.
-die 0 task 0: of each 20 slots its jobs take at most 14, its collections 7.
-die 0 task 0: alpha * period is 20, and writes * collect_period is 20: 0 to spare.
-die 0 task 0: cap is 6, and 2 * writes + 2 * alpha is 6: 0 to spare.
-die 0: of each 20 slots all tasks may take 21: 1 missing.
+[[task]] 1 (die 0 task 0): alpha * period is 20, and writes * collect_period is 20: 0 to spare.
+[[task]] 1 (die 0 task 0): cap is 6, and 2 * writes + 2 * alpha is 6: 0 to spare.
+[[task]] 1 (die 0 task 0): of each 20 slots its jobs take at most 14, its collections 7.
+die 0: its 65536 numbers for jobs and collections last for 436900 slots; `renew` begins the next life.
 ",
     ),
     (
@@ -168,17 +179,36 @@ die 0: of each 20 slots all tasks may take 21: 1 missing.
         "common = 10",
         false,
         "The plan is refused: BadPlan.
+[[task]] 1 (die 0 task 0): collect_period is 20, and has to divide common, which is 10.
+die 0: the least common that all its periods divide is 20.
 die 0: while fewer than alpha pages are spare, at most 9 are free.
 die 0: the closed blocks that no collection works on are then at least 1.
 die 0: if none of these were worth collecting, at least 3 pages would be valid.
 die 0: logical is 2, which is below that.
 die 0: with its other numbers as they are, the least blocks that would do is 4.
 die 0: with its other numbers as they are, the greatest logical that would do is 2.
-die 0 task 0: collect_period is 20, and has to divide common, which is 10.
-die 0 task 0: of each 10 slots its jobs take at most 2, its collections 0.
-die 0 task 0: alpha * period is 20, and writes * collect_period is 20: 0 to spare.
-die 0 task 0: cap is 6, and 2 * writes + 2 * alpha is 6: 0 to spare.
-die 0: of each 10 slots all tasks take at most 2: 8 to spare.
+[[task]] 1 (die 0 task 0): alpha * period is 20, and writes * collect_period is 20: 0 to spare.
+[[task]] 1 (die 0 task 0): cap is 6, and 2 * writes + 2 * alpha is 6: 0 to spare.
+die 0: its 65536 numbers for jobs and collections last for 436900 slots; `renew` begins the next life.
+",
+    ),
+    (
+        "period = 10\ncollect_period = 20",
+        "period = 1048575\ncollect_period = 1048574",
+        false,
+        "The plan is refused: BadPlan.
+[[task]] 1 (die 0 task 0): period is 1048575, and has to divide common, which is 20.
+[[task]] 1 (die 0 task 0): collect_period is 1048574, and has to divide common, which is 20.
+die 0: all its periods divide no common up to 1048576.
+die 0: while fewer than alpha pages are spare, at most 9 are free.
+die 0: the closed blocks that no collection works on are then at least 1.
+die 0: if none of these were worth collecting, at least 3 pages would be valid.
+die 0: logical is 2, which is below that.
+die 0: with its other numbers as they are, the least blocks that would do is 4.
+die 0: with its other numbers as they are, the greatest logical that would do is 2.
+[[task]] 1 (die 0 task 0): alpha * period is 2097150, and writes * collect_period is 1048574: 1048576 to spare.
+[[task]] 1 (die 0 task 0): cap is 6, and 2 * writes + 2 * alpha is 6: 0 to spare.
+die 0: its 1048576 slots end before its 65536 numbers do; `renew` begins the next life.
 ",
     ),
     (
@@ -186,16 +216,17 @@ die 0: of each 10 slots all tasks take at most 2: 8 to spare.
         "writes = 2",
         false,
         "The plan is refused: BadPlan.
+[[task]] 1 (die 0 task 0): alpha * period is 20, and has to be at least writes * collect_period, which is 40: 20 missing.
+[[task]] 1 (die 0 task 0): cap is 6, and has to be at least 2 * writes + 2 * alpha, which is 8: 2 missing.
 die 0: while fewer than alpha pages are spare, at most 9 are free.
 die 0: the closed blocks that no collection works on are then at least 1.
 die 0: if none of these were worth collecting, at least 3 pages would be valid.
 die 0: logical is 2, which is below that.
 die 0: with its other numbers as they are, the least blocks that would do is 4.
 die 0: with its other numbers as they are, the greatest logical that would do is 2.
-die 0 task 0: of each 20 slots its jobs take at most 4, its collections 7.
-die 0 task 0: alpha * period is 20, and has to be at least writes * collect_period, which is 40: 20 missing.
-die 0 task 0: cap is 6, and has to be at least 2 * writes + 2 * alpha, which is 8: 2 missing.
+[[task]] 1 (die 0 task 0): of each 20 slots its jobs take at most 4, its collections 7.
 die 0: of each 20 slots all tasks take at most 11: 9 to spare.
+die 0: its 65536 numbers for jobs and collections last for 436900 slots; `renew` begins the next life.
 ",
     ),
 ];
@@ -206,8 +237,8 @@ const TIMES: [Said; 1] = [(
     "work = 0",
     false,
     "The plan is refused: BadPlan.
-die 0 task 0: work is 0, and has to be from 1 to 64.
-die 0 task 0: writes is 1, and has to be at most work, which is 0.
+[[task]] 1 (die 0 task 0): work is 0, and has to be from 1 to 64.
+[[task]] 1 (die 0 task 0): writes is 1, and has to be at most work, which is 0.
 ",
 )];
 

@@ -14,7 +14,8 @@ plan: where version is 2, it also has common; in each [[task]] period, collect_p
 /// What stands in a plan, what comes in its place, and what is said of the fault.
 type Said = (&'static str, &'static str, &'static str);
 
-/// Keys that the plan shouldn't have: the first in the order of the letters is told, before any that is missing.
+/// Keys that the plan shouldn't have: the first in the order of the letters is told, before any that is missing; but a
+/// version that isn't read comes before them.
 const EXTRA: [Said; 7] = [
     (
         "alpha = 2",
@@ -39,17 +40,17 @@ const EXTRA: [Said; 7] = [
     (
         "version = 1",
         "version = 3\nzeal = 1",
-        "it has the key `zeal`, which no plan of version 1 has.",
+        "version is 3, and has to be 1 or 2.",
     ),
     (
         "cap = 4",
         "caps = 4",
-        "[[task]] number 1 has the key `caps`, which no plan of version 1 has.",
+        "[[task]] 1 has the key `caps`, which no plan of version 1 has.",
     ),
     (
         "cap = 4\n",
         "cap = 4\n[[task]]\ndie = 0\ncap = 4\n[[task]]\ndie = 0\ncap = 4\nwork = 1\n",
-        "[[task]] number 3 has the key `work`, which no plan of version 1 has.",
+        "[[task]] 3 has the key `work`, which no plan of version 1 has.",
     ),
 ];
 
@@ -66,7 +67,7 @@ const MISSING: [Said; 5] = [
     (
         "cap = 4\n",
         "cap = 4\n[[task]]\ndie = \"one\"\n",
-        "[[task]] number 2 has no `cap`.",
+        "[[task]] 2 has no `cap`.",
     ),
 ];
 
@@ -75,17 +76,17 @@ const KINDS: [Said; 7] = [
     (
         "version = 1",
         "version = \"1\"",
-        "it has to have a whole number from 0 to 4294967295 at `version`.",
+        "it has to have a whole number at `version`: 1 or 2.",
     ),
     (
         "alpha = 2",
         "alpha = 4294967296",
-        "it has to have a whole number from 0 to 4294967295 at `alpha`.",
+        "it has to have a whole number at `alpha`: from 1 to `pages`.",
     ),
     (
         "alpha = 2\n\n[[task]]\ndie = 0\ncap = 4\n",
         "alpha = 0.5\ntask = 7\n",
-        "it has to have a whole number from 0 to 4294967295 at `alpha`.",
+        "it has to have a whole number at `alpha`: from 1 to `pages`.",
     ),
     (
         "[[task]]",
@@ -100,12 +101,12 @@ const KINDS: [Said; 7] = [
     (
         "cap = 4",
         "cap = -1",
-        "[[task]] number 1 has to have a whole number from 0 to 4294967295 at `cap`.",
+        "[[task]] 1 has to have a whole number at `cap`: at least 1.",
     ),
     (
         "cap = 4\n",
         "cap = 4\n[[task]]\ndie = true\ncap = []\n",
-        "[[task]] number 2 has to have a whole number from 0 to 4294967295 at `die`.",
+        "[[task]] 2 has to have a whole number at `die`: from 0 to 7, and below `dies`.",
     ),
 ];
 
@@ -143,11 +144,16 @@ const NO_TOML: [Said; 3] = [
 ];
 
 /// Keys of a plan with times.
-const TIMED_EXTRA: [Said; 2] = [
+const TIMED_EXTRA: [Said; 3] = [
+    (
+        "version = 2\n",
+        "",
+        "it has no `version`: 1, or 2 where the plan has times.",
+    ),
     (
         "cap = 6",
         "cap = 6\nslack = 1",
-        "[[task]] number 1 has the key `slack`, which no plan of version 2 has.",
+        "[[task]] 1 has the key `slack`, which no plan of version 2 has.",
     ),
     (
         "version = 2",
@@ -159,7 +165,7 @@ const TIMED_EXTRA: [Said; 2] = [
 /// Keys that a plan with times lacks.
 const TIMED_MISSING: [Said; 2] = [
     ("common = 20\n", "", "it has no `common`."),
-    ("writes = 1\n", "", "[[task]] number 1 has no `writes`."),
+    ("writes = 1\n", "", "[[task]] 1 has no `writes`."),
 ];
 
 /// Values of another kind in a plan with times.
@@ -167,12 +173,12 @@ const TIMED_KINDS: [Said; 2] = [
     (
         "common = 20",
         "common = {}",
-        "it has to have a whole number from 0 to 4294967295 at `common`.",
+        "it has to have a whole number at `common`: from 1 to 1048576.",
     ),
     (
         "collect_period = 20",
         "collect_period = 1979-05-27",
-        "[[task]] number 1 has to have a whole number from 0 to 4294967295 at `collect_period`.",
+        "[[task]] 1 has to have a whole number at `collect_period`: from 1 to 1048576.",
     ),
 ];
 
@@ -223,7 +229,7 @@ fn a_missing_key_is_told_with_its_place(rt: HostRuntime) -> Result<(), Fail> {
         rt.alloc(),
         b"",
         "MissingKey",
-        "it has no `version`.",
+        "it has no `version`: 1, or 2 where the plan has times.",
         KEYS,
     )
 }

@@ -63,7 +63,7 @@ fn add_own(
 }
 
 /// The events of a run of so many slots on a die: what its rows of a script ask for, and its slots.
-pub fn die_events<R: Read + Drop>(
+pub fn events_on<R: Read + Drop>(
     alloc: Global,
     reader: R,
     plan: &StorePlan,

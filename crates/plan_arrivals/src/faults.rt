@@ -11,8 +11,12 @@ pub enum Fault {
     #[error("{0}")]
     Refused(Refusal),
     /// A die accepts no more than 65,536 jobs and collections.
-    #[error("die {0} would get more than 65536 jobs and collections: take fewer slots")]
-    TooMany(u32),
+    #[error("die {die} would get more than 65536 jobs and collections: the most slots that serve are {most}")]
+    TooMany {
+        die: u32,
+        /// The greatest number of slots for which no die gets more.
+        most: u32,
+    },
     /// A script is read up to 67,108,864 bytes.
     #[error("the script would have more than 67108864 bytes: take fewer slots")]
     TooLong,

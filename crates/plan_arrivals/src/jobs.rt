@@ -1,6 +1,7 @@
 //! The jobs of a task, as the most that its plan lets it ask for.
 
 use crate::chances::Chance;
+use crate::pages::Share;
 use slot_types::TaskTimes;
 use std::io;
 use std::io::Write;
@@ -8,27 +9,28 @@ use std::io::Write;
 /// Of a task that writes, one in so many of the other operations is a trim.
 const TRIM_IN: u32 = 8;
 
-/// A task, the times that it has, and its pages: each page whose number leaves the task's own, when divided by the number
-/// of tasks. A task beyond the last page has one page.
+/// A task, the times that it has, and its pages.
 #[derive(Clone, Copy, Drop)]
 pub struct Asker {
     pub die: u32,
     pub task: u32,
-    /// How many tasks the die has.
-    pub tasks: u32,
-    /// How many pages it has.
-    pub logical: u32,
     pub times: TaskTimes,
+    pub share: Share,
+    /// How many of its pages it still writes in order.
+    pub to_fill: u32,
+    /// Whether it trims pages.
+    pub trims: bool,
 }
 
 impl Asker {
-    /// One of the task's pages.
-    fn page(&self, chance: &mut Chance) -> u32 {
-        let tasks = self.tasks.max(1);
-        let others = self.logical.saturating_sub(1).saturating_sub(self.task) / tasks;
-        let drawn = chance.below(others.saturating_add(1));
-        let page = self.task.saturating_add(tasks.saturating_mul(drawn));
-        page % self.logical.max(1)
+    /// The page of a write: the next one that is written in order, or one that is drawn.
+    fn written_page(&mut self, drawn: u32) -> u32 {
+        if self.to_fill == 0 {
+            return drawn;
+        }
+        let place = self.share.count().saturating_sub(self.to_fill);
+        self.to_fill -= 1;
+        self.share.page_at(place)
     }
 
     /// Adds a write. Its bytes tell where they come from: slot, task, page, and the place among the job's operations.
@@ -39,7 +41,7 @@ impl Asker {
 
     /// Adds a read, or a trim.
     fn put_other(&self, text: &mut Vec<u8>, chance: &mut Chance, page: u32) -> io::Result<()> {
-        if self.times.writes > 0 && chance.below(TRIM_IN) == 0 {
+        if self.trims && chance.below(TRIM_IN) == 0 {
             write!(text, "T{page}")
         } else {
             write!(text, "R{page}")
@@ -48,26 +50,32 @@ impl Asker {
 
     /// Adds the operations of a job that is released in a slot: as many as the plan has, and of these as many writes, at
     /// places that are drawn.
-    fn put_ops(&self, text: &mut Vec<u8>, chance: &mut Chance, slot: u32) -> io::Result<()> {
+    fn put_ops(&mut self, text: &mut Vec<u8>, chance: &mut Chance, slot: u32) -> io::Result<()> {
         let mut writes = self.times.writes;
         for place in 0..self.times.work {
             if place > 0 {
                 text.push(b' ')?;
             }
-            let left = self.times.work - place;
-            let page = self.page(chance);
+            let left = self.times.work.saturating_sub(place);
+            let drawn = self.share.draw(chance);
             if chance.below(left) < writes {
+                let page = self.written_page(drawn);
                 self.put_write(text, page, slot, place)?;
                 writes = writes.saturating_sub(1);
             } else {
-                self.put_other(text, chance, page)?;
+                self.put_other(text, chance, drawn)?;
             }
         }
         Ok(())
     }
 
     /// Adds the record of the task's job in a slot.
-    pub fn put_job(&self, text: &mut Vec<u8>, chance: &mut Chance, slot: u32) -> io::Result<()> {
+    pub fn put_job(
+        &mut self,
+        text: &mut Vec<u8>,
+        chance: &mut Chance,
+        slot: u32,
+    ) -> io::Result<()> {
         let (die, task) = (self.die, self.task);
         let due = slot.saturating_add(self.times.period);
         write!(text, "{slot},{die},{task},job,{slot},{due},")?;

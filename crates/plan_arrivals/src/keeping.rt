@@ -4,7 +4,7 @@ ghost use Rattle.std.specs.Prelude.{◌≤◌, All, IfOk, IsTrue, length};
 ghost use Rattle.plan_rules.specs.Bound.{MeetsBound};
 ghost use Rattle.plan_arrivals.specs.Planned.{AreKept, IsPlannedScript};
 
-use crate::die_events::{Events, die_events};
+use crate::die_events::{Events, events_on};
 use plan_rules::{keeps_plan, plan_test};
 use slot_types::{DiePlan, Refusal, StorePlan};
 use std::alloc::Global;
@@ -35,7 +35,7 @@ pub fn keeps_plans(
 {
     let plans = plan.as_slice();
     for die in 0..plans.len() {
-        let events = die_events(alloc, text, plan, slots, die as u32)?;
+        let events = events_on(alloc, text, plan, slots, die as u32)?;
         if !keeps_its_plan(&plans[die], &events) {
             return Ok(false);
         }

@@ -1,15 +1,23 @@
 //! The arrivals of a plan with times: a script of all that its tasks may ask for, which is proved to keep the plan.
 #![tactic(auto)]
 
+mod askers;
 mod chances;
 mod die_events;
 mod faults;
+mod fillings;
 mod jobs;
 mod keeping;
 mod laws;
 mod makers;
+mod manners;
+mod pages;
 mod scripts;
 
+pub use die_events::{Events, events_on};
 pub use faults::Fault;
+pub use fillings::full_from;
+pub use keeping::keeps_plans;
 pub use laws::planned_scripts_go_as_planned;
-pub use scripts::arrivals;
+pub use manners::Manner;
+pub use scripts::{arrivals, test_all};

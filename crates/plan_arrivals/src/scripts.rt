@@ -7,12 +7,14 @@ ghost use Rattle.plan_arrivals.specs.Planned.{HasPassed, IsOwnFault, IsPlannedSc
 use crate::faults::Fault;
 use crate::keeping::keeps_plans;
 use crate::makers::script;
+use crate::manners::Manner;
 use plan_rules::plan_test;
 use slot_types::{DiePlan, Refusal, StorePlan};
 use std::alloc::Global;
 
-/// The test of each plan, as [`plan_test`](plan_rules::plan_test) tells it.
-fn test_all(plans: &[DiePlan]) -> Result<(), Refusal>
+/// The test of each plan, as [`plan_test`](plan_rules::plan_test) tells it: BadPlan where one has no times, or these don't
+/// pass their test.
+pub fn test_all(plans: &[DiePlan]) -> Result<(), Refusal>
     requires { All MeetsBound plans.now }
     ensures passed { OnOk result (All HasPassed plans.now) }
     ensures refused { IfErr result (λ refusal. (refusal ≡ Refusal.BadPlan) × ¬ All HasPassed plans.now) }
@@ -44,11 +46,17 @@ fn kept(alloc: Global, text: &[u8], plan: &StorePlan, slots: u32) -> Result<(), 
 /// The script, as its readers take it, of all that the tasks of a plan ask for in so many slots: a collection of each task
 /// at each multiple of its collect period, and a job at each multiple of its period, as far as their dues are at most
 /// 1,048,576. A job has as many operations as the plan lets it have, and of these as many writes; which ones, and their
-/// pages, are drawn by the seed.
+/// pages, are drawn by the seed. Where the tasks fill the die, the writing ones share its pages, and each writes its own
+/// once, in order, before it draws any; from [`full_from`](crate::full_from) on all pages are written.
 ///
 /// The text that is given is proved to be a script whose rows keep the plan of their die, so that its run refuses none
 /// of them and is never late: [`planned_scripts_go_as_planned`](crate::planned_scripts_go_as_planned).
-pub fn arrivals(alloc: Global, plan: &StorePlan, slots: u32, seed: u32) -> Result<Vec<u8>, Fault>
+pub fn arrivals(
+    alloc: Global,
+    plan: &StorePlan,
+    slots: u32,
+    manner: Manner,
+) -> Result<Vec<u8>, Fault>
     requires some { 1 ≤ length plan.now }
     requires few { length plan.now ≤ 8 }
     requires bound { All MeetsBound plan.now }
@@ -56,7 +64,7 @@ pub fn arrivals(alloc: Global, plan: &StorePlan, slots: u32, seed: u32) -> Resul
     ensures refused { IfErr result (IsUnplanned plan.now) }
 {
     test_all(plan.as_slice())?;
-    let text = script(alloc, plan, slots, seed)?;
+    let text = script(alloc, plan, slots, manner)?;
     kept(alloc, &text, plan, slots)?;
     Ok(text)
 }

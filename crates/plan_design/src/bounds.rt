@@ -1,5 +1,6 @@
 //! The bound on a die, in sentences: what it comes to, what is missing, and what would mend it.
 
+use crate::sayings::Sayings;
 use crate::subjects::Subject;
 use crate::trials::{greatest_logical, least_blocks};
 use plan_rules::{Figures, bound, figures};
@@ -46,52 +47,55 @@ fn tell_few_blocks(text: &mut Vec<u8>, of: Subject, blocks: u64, kept: u64) -> i
     let missing = kept.saturating_sub(blocks).saturating_add(1);
     writeln!(
         text,
-        "{of}: {kept} blocks may then be free or collected; blocks is {blocks}, and has to be above that: {missing} \
-         missing."
+        "{of}: blocks is {blocks}, and has to be above {kept}, which may be free or collected: {missing} missing."
     )
 }
 
 /// Tells that a die has too many logical pages.
-fn tell_many_pages(text: &mut Vec<u8>, of: Subject, closed: u64, plan: &DiePlan) -> io::Result<()> {
+fn tell_many_pages(said: &mut Sayings, of: Subject, closed: u64, plan: &DiePlan) -> io::Result<()> {
     let least = u64::from(plan.shape.pages.saturating_sub(plan.alpha)) + 1;
     let live = closed.saturating_mul(least);
     let logical = u64::from(plan.logical);
     let beyond = logical.saturating_sub(live).saturating_add(1);
-    tell_closed(text, of, closed, live)?;
+    tell_closed(&mut said.figures, of, closed, live)?;
     writeln!(
-        text,
-        "{of}: logical is {logical}, and has to be below that: {beyond} too many."
+        said.faults,
+        "{of}: logical is {logical}, and has to be below {live}: {beyond} too many."
     )
 }
 
 /// Tells what a die lacks of its bound.
-fn tell_unmet(text: &mut Vec<u8>, of: Subject, plan: &DiePlan) -> io::Result<()> {
+fn tell_unmet(said: &mut Sayings, of: Subject, plan: &DiePlan) -> io::Result<()> {
     let fmax = most_free(plan);
     let kept = (fmax / u64::from(plan.shape.pages.max(1))).saturating_add(plan.caps.len() as u64);
     let blocks = u64::from(plan.shape.blocks);
     writeln!(
-        text,
+        said.figures,
         "{of}: while fewer than alpha pages are spare, up to {fmax} may be free."
     )?;
     if blocks <= kept {
-        tell_few_blocks(text, of, blocks, kept)
+        tell_few_blocks(&mut said.faults, of, blocks, kept)
     } else {
-        tell_many_pages(text, of, blocks - kept, plan)
+        tell_many_pages(said, of, blocks - kept, plan)
     }
 }
 
-/// Tells the least number of blocks and the greatest `logical` that would do.
-fn tell_mends(text: &mut Vec<u8>, of: Subject, plan: &mut DiePlan) -> io::Result<()> {
+/// Tells the least number of blocks that would do.
+fn tell_blocks(text: &mut Vec<u8>, of: Subject, plan: &mut DiePlan) -> io::Result<()> {
     match least_blocks(plan) {
         Some(blocks) => writeln!(
             text,
             "{of}: with its other numbers as they are, the least blocks that would do is {blocks}."
-        )?,
+        ),
         None => writeln!(
             text,
             "{of}: with its other numbers as they are, no blocks would do."
-        )?,
+        ),
     }
+}
+
+/// Tells the greatest `logical` that would do.
+fn tell_logical(text: &mut Vec<u8>, of: Subject, plan: &mut DiePlan) -> io::Result<()> {
     match greatest_logical(plan) {
         Some(logical) => writeln!(
             text,
@@ -104,12 +108,20 @@ fn tell_mends(text: &mut Vec<u8>, of: Subject, plan: &mut DiePlan) -> io::Result
     }
 }
 
-/// Tells what the bound on a die comes to, or what is missing, and what would mend it. The plan is afterwards what it was.
-pub fn tell_bound(text: &mut Vec<u8>, die: u32, plan: &mut DiePlan) -> io::Result<()> {
+/// Tells what the bound on a die comes to, or what is missing; and what would mend it, which stands with what is missing. The
+/// plan is afterwards what it was.
+pub fn tell_bound(said: &mut Sayings, die: u32, plan: &mut DiePlan) -> io::Result<()> {
     let of = Subject::Die(die);
     match bound(plan) {
-        Ok(()) => tell_met(text, of, figures(plan), plan.logical)?,
-        Err(_) => tell_unmet(text, of, plan)?,
+        Ok(()) => {
+            tell_met(&mut said.figures, of, figures(plan), plan.logical)?;
+            tell_blocks(&mut said.figures, of, plan)?;
+            tell_logical(&mut said.figures, of, plan)
+        }
+        Err(_) => {
+            tell_unmet(said, of, plan)?;
+            tell_blocks(&mut said.faults, of, plan)?;
+            tell_logical(&mut said.faults, of, plan)
+        }
     }
-    tell_mends(text, of, plan)
 }

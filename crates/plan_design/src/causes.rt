@@ -73,7 +73,7 @@ fn tell_place(alloc: Global, text: &mut Vec<u8>, plan: &str, cause: Cause) -> io
         Err(error) => return tell_toml(text, plan.as_bytes(), &error),
     };
     match first_fault(&table) {
-        Some(fault) if fault.cause() == cause => writeln!(text, "plan: {fault}"),
+        Some(fault) if fault.may_be(cause) => writeln!(text, "plan: {fault}"),
         _ => tell_alone(text, cause),
     }
 }

@@ -1,5 +1,6 @@
 //! Faults of a plan's table, in sentences.
 
+use crate::ranges::range_of;
 use slot_types::Cause;
 use std::fmt;
 use std::fmt::{Display, Formatter, Write};
@@ -16,7 +17,7 @@ impl Display for Place {
     fn fmt<W: Write>(&self, f: &mut Formatter<W>) -> fmt::Result {
         match self {
             Place::Top => f.write_str("it"),
-            Place::Task(task) => write!(f, "[[task]] number {}", task.saturating_add(1)),
+            Place::Task(task) => write!(f, "[[task]] {}", task.saturating_add(1)),
         }
     }
 }
@@ -34,25 +35,29 @@ pub enum Fault<'a> {
         place: Place,
         key: &'a str,
     },
-    /// A value that is no whole number from 0 to 4,294,967,295.
+    /// A value that is no whole number, or far out of its range.
     NotNumber {
         place: Place,
         key: &'a str,
     },
     /// Tasks that are no array of tables.
     NotTables,
+    /// No version, beside any other fault: without one the other keys can't be judged.
+    NoVersion,
     /// A version that isn't read.
     Version(u32),
 }
 
 impl Fault<'_> {
-    /// What the reader of a plan names this fault.
-    pub fn cause(&self) -> Cause {
+    /// Whether the reader of a plan may name a plan with this fault so. A version that isn't read is told before anything
+    /// that the reader finds.
+    pub fn may_be(&self, cause: Cause) -> bool {
         match self {
-            Fault::Extra { .. } => Cause::ExtraKey,
-            Fault::Missing { .. } => Cause::MissingKey,
-            Fault::NotNumber { .. } | Fault::NotTables => Cause::WrongKind,
-            Fault::Version(_) => Cause::BadVersion,
+            Fault::Extra { .. } => cause == Cause::ExtraKey,
+            Fault::Missing { .. } => cause == Cause::MissingKey,
+            Fault::NotNumber { key, .. } => cause == Cause::WrongKind || *key == "version",
+            Fault::NotTables => cause == Cause::WrongKind,
+            Fault::NoVersion | Fault::Version(_) => true,
         }
     }
 }
@@ -73,12 +78,14 @@ impl Display for Fault<'_> {
                 )
             }
             Fault::Missing { place, key } => write!(f, "{place} has no `{key}`."),
-            Fault::NotNumber { place, key } => write!(
-                f,
-                "{place} has to have a whole number from 0 to {} at `{key}`.",
-                u32::MAX
-            ),
+            Fault::NotNumber { place, key } => {
+                let range = range_of(key);
+                write!(f, "{place} has to have a whole number at `{key}`: {range}.")
+            }
             Fault::NotTables => f.write_str("it has to have an array of tables at `task`."),
+            Fault::NoVersion => {
+                f.write_str("it has no `version`: 1, or 2 where the plan has times.")
+            }
             Fault::Version(version) => write!(f, "version is {version}, and has to be 1 or 2."),
         }
     }

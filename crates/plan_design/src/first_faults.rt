@@ -1,6 +1,6 @@
-//! The first fault of a plan's table, in the order in which the reader of a plan judges: the top table, the version, and
-//! then each task; and in a table a key too many, a key too few, and a value of another kind. The reader answers the
-//! cause alone.
+//! The first fault of a plan's table: the version, since the other keys are judged by it; and then in the order in which
+//! the reader of a plan judges: the top table, and each task; and in a table a key too many, a key too few, and a value of
+//! another kind. The reader answers the cause alone.
 
 use crate::faults::{Fault, Place};
 use toml::{Table, Value};
@@ -106,19 +106,32 @@ fn tasks_fault<'a>(tasks: &'a [Value], timed: bool) -> Option<Fault<'a>> {
     None
 }
 
+/// The fault of the version, where it isn't one that is read.
+fn version_fault(table: &Table) -> Option<Fault<'_>> {
+    if table.get("version").is_none() {
+        return Some(Fault::NoVersion);
+    }
+    match number_at(table, "version") {
+        Some(1 | 2) => None,
+        Some(other) => Some(Fault::Version(other)),
+        None => Some(Fault::NotNumber {
+            place: Place::Top,
+            key: "version",
+        }),
+    }
+}
+
 /// The first fault of a plan's table.
 pub fn first_fault(table: &Table) -> Option<Fault<'_>> {
-    let version = number_at(table, "version");
-    let timed = version == Some(2);
+    if let Some(fault) = version_fault(table) {
+        return Some(fault);
+    }
+    let timed = number_at(table, "version") == Some(2);
     if let Some(fault) = table_fault(table, Place::Top, timed) {
         return Some(fault);
     }
-    let Some(tasks) = task_tables(table) else {
-        return Some(Fault::NotTables);
-    };
-    match version {
-        Some(1 | 2) => tasks_fault(tasks, timed),
-        Some(other) => Some(Fault::Version(other)),
-        None => None,
+    match task_tables(table) {
+        Some(tasks) => tasks_fault(tasks, timed),
+        None => Some(Fault::NotTables),
     }
 }

@@ -3,13 +3,18 @@
 
 mod bounds;
 mod causes;
+mod commons;
 mod explained;
 mod faults;
 mod first_faults;
+mod lifetimes;
 mod limits;
 mod loads;
+mod ranges;
+mod sayings;
 mod subjects;
 mod trials;
 
+pub use commons::{divides_all, least_common};
 pub use explained::{Explained, explain};
 pub use trials::{greatest_logical, least_blocks};

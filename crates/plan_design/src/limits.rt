@@ -1,6 +1,7 @@
 //! Numbers that are out of their limits, in sentences.
 
-use crate::subjects::Subject;
+use crate::ranges::range_of;
+use crate::subjects::{Subject, TaskName};
 use plan_texts::{TaskNumbers, TopNumbers};
 use slot_types::{
     DiePlan, MAX_BLOCKS, MAX_DIES, MAX_ERASE_SLOTS, MAX_OPS, MAX_PAGES, MAX_SLOT, MAX_TASKS,
@@ -9,39 +10,52 @@ use slot_types::{
 use std::io;
 use std::io::Write;
 
-/// Tells a number that isn't from `least` to `most`.
-fn tell_between(
-    text: &mut Vec<u8>,
-    of: Subject,
-    name: &str,
+/// A number of a plan, by its key, and its limits.
+#[derive(Clone, Copy)]
+struct Limited {
+    key: &'static str,
     value: u32,
     least: u32,
     most: u32,
-) -> io::Result<()> {
-    if value < least || most < value {
-        writeln!(
-            text,
-            "{of}: {name} is {value}, and has to be from {least} to {most}."
-        )?;
+}
+
+/// Tells a number that is out of its limits.
+fn tell_between(text: &mut Vec<u8>, of: Subject, number: Limited) -> io::Result<()> {
+    let (key, value) = (number.key, number.value);
+    if number.least <= value && value <= number.most {
+        return Ok(());
+    }
+    let range = range_of(key);
+    writeln!(text, "{of}: {key} is {value}, and has to be {range}.")
+}
+
+/// Tells the limits of numbers that are out of them.
+fn tell_each(text: &mut Vec<u8>, of: Subject, numbers: &[Limited]) -> io::Result<()> {
+    for number in numbers {
+        tell_between(text, of, *number)?;
     }
     Ok(())
 }
 
-/// Tells a number that is 0.
-fn tell_none(text: &mut Vec<u8>, of: Subject, name: &str, value: u32) -> io::Result<()> {
-    if value == 0 {
-        writeln!(text, "{of}: {name} is 0, and has to be at least 1.")?;
+/// A number with its limits.
+fn with_limits(key: &'static str, value: u32, least: u32, most: u32) -> Limited {
+    Limited {
+        key,
+        value,
+        least,
+        most,
     }
-    Ok(())
 }
 
 /// Tells what of the dies' number and shape is out of its limits.
 pub fn tell_shape(text: &mut Vec<u8>, top: &TopNumbers) -> io::Result<()> {
-    let (plan, erase) = (Subject::Plan, top.erase_slots);
-    tell_between(text, plan, "dies", top.dies, 1, MAX_DIES)?;
-    tell_between(text, plan, "blocks", top.blocks, MIN_BLOCKS, MAX_BLOCKS)?;
-    tell_between(text, plan, "pages", top.pages, MIN_PAGES, MAX_PAGES)?;
-    tell_between(text, plan, "erase_slots", erase, 1, MAX_ERASE_SLOTS)
+    let numbers = [
+        with_limits("dies", top.dies, 1, MAX_DIES),
+        with_limits("blocks", top.blocks, MIN_BLOCKS, MAX_BLOCKS),
+        with_limits("pages", top.pages, MIN_PAGES, MAX_PAGES),
+        with_limits("erase_slots", top.erase_slots, 1, MAX_ERASE_SLOTS),
+    ];
+    tell_each(text, Subject::Plan, &numbers)
 }
 
 /// Tells tasks whose die isn't there, by their places in the text, the first being 1.
@@ -50,10 +64,10 @@ pub fn tell_strays(text: &mut Vec<u8>, tasks: &[TaskNumbers], dies: u32) -> io::
         let die = tasks[place].die;
         if dies <= die {
             let nth = place as u64 + 1;
+            let last = dies.saturating_sub(1);
             writeln!(
                 text,
-                "plan: [[task]] number {nth} is of die {die}, and dies are numbered from 0 to {}.",
-                dies.saturating_sub(1)
+                "[[task]] {nth}: die is {die}, and dies are numbered from 0 to {last}."
             )?;
         }
     }
@@ -61,55 +75,76 @@ pub fn tell_strays(text: &mut Vec<u8>, tasks: &[TaskNumbers], dies: u32) -> io::
 }
 
 /// Tells caps that are 0.
-fn tell_caps(text: &mut Vec<u8>, die: u32, caps: &[u32]) -> io::Result<()> {
-    for task in 0..caps.len() {
-        let of = Subject::Task { die, task };
-        tell_none(text, of, "cap", caps[task])?;
+fn tell_caps(text: &mut Vec<u8>, names: &[TaskName], caps: &[u32]) -> io::Result<()> {
+    for task in 0..caps.len().min(names.len()) {
+        let cap = with_limits("cap", caps[task], 1, u32::MAX);
+        tell_between(text, Subject::Task(names[task]), cap)?;
     }
     Ok(())
+}
+
+/// Tells more writes than operations.
+fn tell_writes(text: &mut Vec<u8>, of: Subject, task: &TaskTimes) -> io::Result<()> {
+    let (writes, work) = (task.writes, task.work);
+    if writes <= work {
+        return Ok(());
+    }
+    writeln!(
+        text,
+        "{of}: writes is {writes}, and has to be at most work, which is {work}."
+    )
 }
 
 /// Tells what of a task's times is out of its limits.
 fn tell_task_times(text: &mut Vec<u8>, of: Subject, task: &TaskTimes) -> io::Result<()> {
-    let collect = task.collect_period;
-    tell_between(text, of, "period", task.period, 1, MAX_SLOT)?;
-    tell_between(text, of, "collect_period", collect, 1, MAX_SLOT)?;
-    tell_between(text, of, "work", task.work, 1, MAX_OPS)?;
-    if task.work < task.writes {
-        let (writes, work) = (task.writes, task.work);
-        writeln!(
-            text,
-            "{of}: writes is {writes}, and has to be at most work, which is {work}."
-        )?;
-    }
-    Ok(())
+    let numbers = [
+        with_limits("period", task.period, 1, MAX_SLOT),
+        with_limits("collect_period", task.collect_period, 1, MAX_SLOT),
+        with_limits("work", task.work, 1, MAX_OPS),
+    ];
+    tell_each(text, of, &numbers)?;
+    tell_writes(text, of, task)
 }
 
 /// Tells what of a die's times is out of its limits.
-fn tell_times(text: &mut Vec<u8>, die: u32, times: &Times) -> io::Result<()> {
-    tell_between(text, Subject::Die(die), "common", times.common, 1, MAX_SLOT)?;
+fn tell_times(text: &mut Vec<u8>, die: u32, names: &[TaskName], times: &Times) -> io::Result<()> {
+    let common = with_limits("common", times.common, 1, MAX_SLOT);
+    tell_between(text, Subject::Die(die), common)?;
     let tasks = times.tasks.as_slice();
-    for task in 0..tasks.len() {
-        let of = Subject::Task { die, task };
-        tell_task_times(text, of, &tasks[task])?;
+    for task in 0..tasks.len().min(names.len()) {
+        tell_task_times(text, Subject::Task(names[task]), &tasks[task])?;
     }
     Ok(())
 }
 
-/// Tells what of a die's own numbers is out of its limits. Its shape is within its own.
-pub fn tell_die_limits(text: &mut Vec<u8>, die: u32, plan: &DiePlan) -> io::Result<()> {
-    let (of, tasks) = (Subject::Die(die), plan.caps.len());
-    if tasks == 0 || tasks > MAX_TASKS as usize {
-        writeln!(
-            text,
-            "{of}: it has {tasks} tasks, and has to have from 1 to {MAX_TASKS}."
-        )?;
+/// Tells how many tasks a die has, where it has none or too many.
+fn tell_tasks(text: &mut Vec<u8>, die: u32, tasks: usize) -> io::Result<()> {
+    if 1 <= tasks && tasks <= MAX_TASKS as usize {
+        return Ok(());
     }
-    tell_none(text, of, "logical", plan.logical)?;
-    tell_between(text, of, "alpha", plan.alpha, 1, plan.shape.pages)?;
-    tell_caps(text, die, plan.caps.as_slice())?;
+    let of = Subject::Die(die);
+    writeln!(
+        text,
+        "{of}: it has {tasks} tasks, and has to have from 1 to {MAX_TASKS}."
+    )
+}
+
+/// Tells what of a die's own numbers is out of its limits. Its shape is within its own. The names are those of its tasks.
+pub fn tell_die_limits(
+    text: &mut Vec<u8>,
+    die: u32,
+    names: &[TaskName],
+    plan: &DiePlan,
+) -> io::Result<()> {
+    tell_tasks(text, die, plan.caps.len())?;
+    let numbers = [
+        with_limits("logical", plan.logical, 1, u32::MAX),
+        with_limits("alpha", plan.alpha, 1, plan.shape.pages),
+    ];
+    tell_each(text, Subject::Die(die), &numbers)?;
+    tell_caps(text, names, plan.caps.as_slice())?;
     match &plan.times {
-        Some(times) => tell_times(text, die, times),
+        Some(times) => tell_times(text, die, names, times),
         None => Ok(()),
     }
 }

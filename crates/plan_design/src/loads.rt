@@ -1,7 +1,9 @@
 //! The load of a die with times, in sentences: by task and in sum, and the margins of what its collections give.
 
-use crate::subjects::Subject;
-use slot_types::{DiePlan, TaskTimes, Times};
+use crate::commons::{divides_all, least_common};
+use crate::sayings::Sayings;
+use crate::subjects::{Subject, TaskName};
+use slot_types::{DiePlan, MAX_SLOT, TaskTimes, Times};
 use std::io;
 use std::io::Write;
 
@@ -43,98 +45,169 @@ fn tell_divides(
     period: u32,
     common: u32,
 ) -> io::Result<()> {
-    if common % period.max(1) != 0 {
-        writeln!(
-            text,
-            "{of}: {name} is {period}, and has to divide common, which is {common}."
-        )?;
+    if common % period.max(1) == 0 {
+        return Ok(());
     }
-    Ok(())
+    writeln!(
+        text,
+        "{of}: {name} is {period}, and has to divide common, which is {common}."
+    )
+}
+
+/// Something that has to be at least something else.
+#[derive(Clone, Copy)]
+struct Margin {
+    has: &'static str,
+    have: u64,
+    needs: &'static str,
+    need: u64,
 }
 
 /// Tells by how much one number is at least another, or how much is missing.
-fn tell_margin(
-    text: &mut Vec<u8>,
-    of: Subject,
-    has: &str,
-    have: u64,
-    needs: &str,
-    need: u64,
-) -> io::Result<()> {
+fn tell_margin(said: &mut Sayings, of: Subject, margin: Margin) -> io::Result<()> {
+    let Margin {
+        has,
+        have,
+        needs,
+        need,
+    } = margin;
     if need <= have {
-        let margin = have - need;
+        let spare = have - need;
         writeln!(
-            text,
-            "{of}: {has} is {have}, and {needs} is {need}: {margin} to spare."
+            said.figures,
+            "{of}: {has} is {have}, and {needs} is {need}: {spare} to spare."
         )
     } else {
         let missing = need - have;
         writeln!(
-            text,
+            said.faults,
             "{of}: {has} is {have}, and has to be at least {needs}, which is {need}: {missing} missing."
         )
     }
 }
 
+/// What a task's collections give it, beside what its jobs write.
+fn gain_of(alpha: u32, task: &TaskTimes) -> Margin {
+    Margin {
+        has: "alpha * period",
+        have: u64::from(alpha).saturating_mul(u64::from(task.period)),
+        needs: "writes * collect_period",
+        need: u64::from(task.writes).saturating_mul(u64::from(task.collect_period)),
+    }
+}
+
+/// A task's cap, beside what it has to cover.
+fn stock_of(alpha: u32, cap: u32, task: &TaskTimes) -> Margin {
+    Margin {
+        has: "cap",
+        have: u64::from(cap),
+        needs: "2 * writes + 2 * alpha",
+        need: 2 * u64::from(task.writes) + 2 * u64::from(alpha),
+    }
+}
+
 /// Tells how a task's collections keep up with its writes.
 fn tell_margins(
-    text: &mut Vec<u8>,
+    said: &mut Sayings,
     of: Subject,
     alpha: u32,
     cap: u32,
     task: &TaskTimes,
 ) -> io::Result<()> {
-    let given = u64::from(alpha).saturating_mul(u64::from(task.period));
-    let written = u64::from(task.writes).saturating_mul(u64::from(task.collect_period));
-    let stock = 2 * u64::from(task.writes) + 2 * u64::from(alpha);
-    let (gain, loss) = ("alpha * period", "writes * collect_period");
-    tell_margin(text, of, gain, given, loss, written)?;
-    let (has, needs) = ("cap", "2 * writes + 2 * alpha");
-    tell_margin(text, of, has, u64::from(cap), needs, stock)
-}
-
-/// Tells the load of a task, and gives the slots that it takes.
-fn tell_task(
-    text: &mut Vec<u8>,
-    of: Subject,
-    plan: &DiePlan,
-    cap: u32,
-    common: u32,
-    task: &TaskTimes,
-) -> io::Result<u64> {
-    tell_divides(text, of, "period", task.period, common)?;
-    tell_divides(text, of, "collect_period", task.collect_period, common)?;
-    let demand = tell_taken(text, of, plan, common, task)?;
-    tell_margins(text, of, plan.alpha, cap, task)?;
-    Ok(demand)
+    tell_margin(said, of, gain_of(alpha, task))?;
+    tell_margin(said, of, stock_of(alpha, cap, task))
 }
 
 /// Tells the load of all tasks.
-fn tell_sum(text: &mut Vec<u8>, of: Subject, demand: u64, common: u32) -> io::Result<()> {
+fn tell_sum(said: &mut Sayings, of: Subject, demand: u64, common: u32) -> io::Result<()> {
     let common = u64::from(common);
     if demand <= common {
         let left = common - demand;
         writeln!(
-            text,
+            said.figures,
             "{of}: of each {common} slots all tasks take at most {demand}: {left} to spare."
         )
     } else {
         let missing = demand - common;
         writeln!(
-            text,
+            said.faults,
             "{of}: of each {common} slots all tasks may take {demand}: {missing} missing."
         )
     }
 }
 
-/// Tells the load of a die with times.
-pub fn tell_load(text: &mut Vec<u8>, die: u32, plan: &DiePlan, times: &Times) -> io::Result<()> {
+/// Tells the periods that don't divide the common number of slots, and the least one that all of them divide.
+fn tell_undivided(
+    text: &mut Vec<u8>,
+    die: u32,
+    names: &[TaskName],
+    times: &Times,
+) -> io::Result<()> {
+    let tasks = times.tasks.as_slice();
+    for task in 0..tasks.len().min(names.len()) {
+        let (of, own) = (Subject::Task(names[task]), tasks[task]);
+        tell_divides(text, of, "period", own.period, times.common)?;
+        tell_divides(text, of, "collect_period", own.collect_period, times.common)?;
+    }
+    let of = Subject::Die(die);
+    match least_common(tasks) {
+        Some(least) => writeln!(
+            text,
+            "{of}: the least common that all its periods divide is {least}."
+        ),
+        None => writeln!(
+            text,
+            "{of}: all its periods divide no common up to {MAX_SLOT}."
+        ),
+    }
+}
+
+/// Tells the load of each task and of all of them, where all periods divide the common number of slots.
+fn tell_divided(
+    said: &mut Sayings,
+    die: u32,
+    names: &[TaskName],
+    plan: &DiePlan,
+    times: &Times,
+) -> io::Result<()> {
     let mut demand: u64 = 0;
-    let (caps, tasks) = (plan.caps.as_slice(), times.tasks.as_slice());
-    for task in 0..caps.len().min(tasks.len()) {
-        let of = Subject::Task { die, task };
-        let taken = tell_task(text, of, plan, caps[task], times.common, &tasks[task])?;
+    let tasks = times.tasks.as_slice();
+    for task in 0..tasks.len().min(names.len()) {
+        let of = Subject::Task(names[task]);
+        let taken = tell_taken(&mut said.figures, of, plan, times.common, &tasks[task])?;
         demand = demand.saturating_add(taken);
     }
-    tell_sum(text, Subject::Die(die), demand, times.common)
+    tell_sum(said, Subject::Die(die), demand, times.common)
+}
+
+/// Tells the margins of each task.
+fn tell_all_margins(
+    said: &mut Sayings,
+    names: &[TaskName],
+    plan: &DiePlan,
+    times: &Times,
+) -> io::Result<()> {
+    let (caps, tasks) = (plan.caps.as_slice(), times.tasks.as_slice());
+    for task in 0..caps.len().min(tasks.len()).min(names.len()) {
+        let of = Subject::Task(names[task]);
+        tell_margins(said, of, plan.alpha, caps[task], &tasks[task])?;
+    }
+    Ok(())
+}
+
+/// Tells the load of a die with times: where a period doesn't divide the common number of slots, that, and no sums, which
+/// would be false.
+pub fn tell_load(
+    said: &mut Sayings,
+    die: u32,
+    names: &[TaskName],
+    plan: &DiePlan,
+    times: &Times,
+) -> io::Result<()> {
+    tell_all_margins(said, names, plan, times)?;
+    if divides_all(times.common, times.tasks.as_slice()) {
+        tell_divided(said, die, names, plan, times)
+    } else {
+        tell_undivided(&mut said.faults, die, names, times)
+    }
 }

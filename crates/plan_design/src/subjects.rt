@@ -3,12 +3,21 @@
 use std::fmt;
 use std::fmt::{Display, Formatter, Write};
 
+/// A task of a die, by its place in the text of its plan and by its number on its die.
+#[derive(Clone, Copy, PartialEq, Eq, Debug, Drop)]
+pub struct TaskName {
+    /// Its place in the text, the first being 1.
+    pub nth: u64,
+    pub die: u32,
+    pub task: u32,
+}
+
 /// What a sentence speaks of.
 #[derive(Clone, Copy, PartialEq, Eq, Debug, Drop)]
 pub enum Subject {
     Plan,
     Die(u32),
-    Task { die: u32, task: usize },
+    Task(TaskName),
 }
 
 impl Display for Subject {
@@ -16,7 +25,10 @@ impl Display for Subject {
         match self {
             Subject::Plan => f.write_str("plan"),
             Subject::Die(die) => write!(f, "die {die}"),
-            Subject::Task { die, task } => write!(f, "die {die} task {task}"),
+            Subject::Task(name) => {
+                let (nth, die, task) = (name.nth, name.die, name.task);
+                write!(f, "[[task]] {nth} (die {die} task {task})")
+            }
         }
     }
 }

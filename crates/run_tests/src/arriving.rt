@@ -1,7 +1,7 @@
 //! The arrivals of plans that are drawn by chance, run: none is refused, and nothing is late.
 
 use example_texts::TIMED;
-use plan_arrivals::{Fault, arrivals};
+use plan_arrivals::{Fault, Manner, arrivals, full_from};
 use rand_core::utils::NextWord;
 use rand_pcg::Pcg32;
 use report_texts::Report;
@@ -116,7 +116,8 @@ fn goes_as_planned<R: Threads + Wait + Sync>(
         Err(Refusal::BadPlan) => return Ok(None),
         Err(refusal) => return Err(Fail::from(refusal)),
     };
-    let script = arrivals(alloc, &plan, SLOTS, seed)?;
+    let fills = seed % 2 == 1;
+    let script = arrivals(alloc, &plan, SLOTS, Manner { seed, fills })?;
     let mut text = Vec::new(alloc);
     let count = run_text(rt, alloc, &plan, script.as_slice(), &mut text, SLOTS, 2)?;
     let report = read_report(alloc, text.as_slice())?;
@@ -147,11 +148,17 @@ fn arrivals_of_ten_plans_are_taken_and_never_late(rt: HostRuntime) -> Result<(),
     Ok(())
 }
 
+/// The first seed, on a die that isn't filled.
+const PLAIN: Manner = Manner {
+    seed: 0,
+    fills: false,
+};
+
 /// What comes of a plan with a change, for so many slots.
 fn made(alloc: Global, old: &str, new: &str, slots: u32) -> Result<Result<usize, Fault>, Fail> {
     let text = TIMED.replace(alloc, old, new)?;
     let plan = read_plan(alloc, text.as_bytes())?;
-    match arrivals(alloc, &plan, slots, 0) {
+    match arrivals(alloc, &plan, slots, PLAIN) {
         Ok(script) => Ok(Ok(script.len())),
         Err(fault) => Ok(Err(fault)),
     }
@@ -165,7 +172,72 @@ fn a_plan_without_times_and_too_many_slots_have_no_script(rt: HostRuntime) -> Re
         "version = 1\ndies = 1\nblocks = 4\npages = 4\nerase_slots = 3\nlogical = 2\nalpha = 2\n[[task]]\ndie = 0\ncap = 6\n";
     assert_eq!(rt; made(alloc, TIMED, untimed, 20)?, bad);
     assert_eq!(rt; made(alloc, "", "", 0)?, Ok(33));
-    // 43,691 jobs, and 21,846 collections.
-    assert_eq!(rt; made(alloc, "", "", 436_901)?, Err(Fault::TooMany(0)));
+    // 43,691 jobs, and 21,846 collections; in one slot less 43,690 jobs.
+    let too_many = Err(Fault::TooMany {
+        die: 0,
+        most: 436_900,
+    });
+    assert_eq!(rt; made(alloc, "", "", 436_901)?, too_many);
+    assert!(rt; made(alloc, "", "", 436_900)?.is_ok());
+    Ok(())
+}
+
+/// Two tasks that write, and one that doesn't, on ten pages.
+const WRITERS: &str = "version = 2
+dies = 1
+blocks = 12
+pages = 4
+erase_slots = 3
+logical = 10
+alpha = 4
+common = 40
+[[task]]
+die = 0
+cap = 12
+period = 20
+collect_period = 20
+work = 3
+writes = 2
+[[task]]
+die = 0
+cap = 8
+period = 40
+collect_period = 40
+work = 1
+writes = 0
+[[task]]
+die = 0
+cap = 14
+period = 40
+collect_period = 40
+work = 3
+writes = 3
+";
+
+/// What they ask for where they fill the die: the first task writes the pages 0, 2, 4, 6 and 8 first, in three jobs of two
+/// writes each, so by slot 60; the third one the pages 1, 3, 5, 7 and 9, in two jobs of three, so by slot 80. These are
+/// the first two jobs of the third task.
+const FILLED: [&str; 2] = [
+    "0,0,2,job,0,40,W1=00000000000000020000000100000000 W3=00000000000000020000000300000001 W5=00000000000000020000000500000002",
+    "40,0,2,job,40,80,W7=00000028000000020000000700000000 W9=00000028000000020000000900000001 W",
+];
+
+#[test]
+fn a_die_is_filled_in_order_and_never_trimmed(rt: HostRuntime) -> Result<(), Fail> {
+    let alloc = rt.alloc();
+    let plan = read_plan(alloc, WRITERS.as_bytes())?;
+    let fills = Manner {
+        seed: 0,
+        fills: true,
+    };
+    let script = arrivals(alloc, &plan, 400, fills)?;
+    let text = std::str::from_utf8(&script).unwrap_or("");
+    for page in 0..10u32 {
+        assert_eq!(rt; text.contains(format!(in alloc; "W{page}=")?.as_str()), true);
+    }
+    assert!(rt; !text.contains("T"));
+    assert!(rt; text.contains(FILLED[0]));
+    assert!(rt; text.contains(FILLED[1]));
+    assert_eq!(rt; full_from(alloc, &plan)?.as_slice(), [80u32].as_slice());
     Ok(())
 }

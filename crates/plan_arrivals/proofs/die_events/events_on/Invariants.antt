@@ -3,7 +3,7 @@ use Rattle.std.specs.Prelude.{option_map}
 use Rattle.script_texts.specs.Left.{dies_of, script_left, slots_of}
 use Rattle.script_texts.specs.Script.{script_of}
 use Rattle.plan_arrivals.proofs.Reading.{HasCome}
-use Rattle.plan_arrivals.proofs.die_events.die_events.Given as goal
+use Rattle.plan_arrivals.proofs.die_events.events_on.Given as goal
 
 abbrev pub invariant-loop : goal.invariant-loop
 invariant-loop g l = record {

@@ -1,6 +1,6 @@
 use Rattle.std.proofs.Common.{length, arith}
 use Rattle.plan_arrivals.proofs.Reading.{come_none, come_more, come_all}
-use Rattle.plan_arrivals.proofs.die_events.die_events.Goals as goal
+use Rattle.plan_arrivals.proofs.die_events.events_on.Goals as goal
 
 pub loop-init : goal.loop-init
 loop-init g c = record { within = omega arith; come = come_none _ _ _ _ _ c.in_ok-script.ensures.script c.new-events.ensures }
