@@ -44,6 +44,13 @@ impl<N: Nand> FaultNand<N> {
         self.armed = true;
     }
 
+    /// The device that its calls are passed on to.
+    pub fn inner(&self) -> &N
+        ensures { result.now ≡ self.now.inner }
+    {
+        &self.inner
+    }
+
     /// Whether every later call fails.
     pub fn is_armed(&self) -> bool
         ensures { result ≡ self.now.armed }
