@@ -1,0 +1,1 @@
+//! Plays by hand.
