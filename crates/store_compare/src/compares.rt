@@ -1,7 +1,6 @@
 //! A script on the store and on plain layers.
 
-ghost use Rattle.std.specs.Prelude.{◌≤◌, All};
-ghost use Rattle.plan_rules.specs.Bound.{MeetsBound};
+ghost use Rattle.std.specs.Prelude.{◌≤◌};
 
 use crate::figures::End;
 use crate::store_dies::{Carried, JobRow, StoreDie};
@@ -41,9 +40,7 @@ impl From<Refusal> for CompareFault {
     }
 }
 
-fn fresh_dies(alloc: Global, plan: &StorePlan, from: u32) -> Result<Vec<Box<StoreDie>>, Refusal>
-    requires { All MeetsBound plan.now }
-{
+fn fresh_dies(alloc: Global, plan: &StorePlan, from: u32) -> Result<Vec<Box<StoreDie>>, Refusal> {
     let mut dies = Vec::new(alloc);
     for plan in plan.as_slice() {
         let die = StoreDie::new(alloc, plan.clone()?, from)?;
@@ -109,14 +106,10 @@ fn run_rows<R: Read + Drop>(
 
 // What became of the jobs of a play.
 fn ends_of(alloc: Global, completions: &[Option<u32>]) -> Result<Vec<End>, Refusal> {
-    let mut ends = Vec::with_capacity(alloc, completions.len())?;
+    let mut ends = Vec::new(alloc);
     for completion in completions {
-        ends.push_reserved(match completion {
-            None => End::Unfinished,
-            Some(completion) => End::Done {
-                completion: *completion,
-            },
-        });
+        ends.reserve(1)?;
+        ends.push_reserved(End::of_play(*completion));
     }
     Ok(ends)
 }
@@ -217,8 +210,7 @@ pub fn compare<R: Read + Drop>(
     script: R,
     measure: Measure,
 ) -> Result<Vec<u8>, CompareFault>
-    requires few { measure.slots ≤ MAX_SLOT }
-    requires bound { All MeetsBound plan.now }
+    requires { measure.slots ≤ MAX_SLOT }
 {
     let script = ScriptReader::new(alloc, script, plan, measure.slots)?;
     let mut dies = fresh_dies(alloc, plan, measure.from)?;

@@ -18,6 +18,14 @@ pub(crate) enum End {
 pub(crate) const REFUSED: i64 = i64::MAX;
 
 impl End {
+    /// What became of a job of a plain layer, which refuses none.
+    pub(crate) fn of_play(completion: Option<u32>) -> End {
+        match completion {
+            None => End::Unfinished,
+            Some(completion) => End::Done { completion },
+        }
+    }
+
     /// How late a job was that is due then: completion minus deadline. What isn't done after so many slots counts as completed
     /// one slot later, which is the least that it can be.
     pub(crate) fn lateness(self, due: u32, slots: u32) -> i64 {

@@ -1,11 +1,9 @@
 //! A die of the store that runs the rows of a script.
 
-ghost use Rattle.std.specs.Prelude.{◌≡◌, IfOk};
-ghost use Rattle.plan_rules.specs.Bound.{MeetsBound};
-
 use crate::figures::End;
 use flash_die::MemoryNand;
 use plain_layers::Load;
+use plan_rules::bound;
 use slot_core::{DieCore, Outcome};
 use slot_types::{Act, DiePlan, JobNo, OpList, Refusal, SlotReply, TaskNo};
 use std::alloc::Global;
@@ -59,10 +57,9 @@ pub(crate) struct StoreDie {
 }
 
 impl StoreDie {
-    /// A fresh die, whose slots are counted from this one on. The only refusal is `NoMemory`.
-    pub(crate) fn new(alloc: Global, plan: DiePlan, from: u32) -> Result<Box<StoreDie>, Refusal>
-        requires { MeetsBound plan }
-    {
+    /// A fresh die, whose slots are counted from this one on. `BadShape` or `BadPlan` where the plan misses its bound.
+    pub(crate) fn new(alloc: Global, plan: DiePlan, from: u32) -> Result<Box<StoreDie>, Refusal> {
+        bound(&plan)?;
         let nand = match MemoryNand::new(alloc, plan.shape) {
             Ok(nand) => nand,
             Err(_) => return Err(Refusal::NoMemory),
@@ -133,12 +130,14 @@ impl StoreDie {
 
     /// By job of the load what became of it.
     pub(crate) fn ends(&self, alloc: Global) -> Result<Vec<End>, Refusal> {
-        let mut ends = Vec::with_capacity(alloc, self.numbers.len())?;
+        let mut ends = Vec::new(alloc);
         for number in self.numbers.as_slice() {
-            ends.push_reserved(match number {
+            let end = match number {
                 None => End::Refused,
                 Some(number) => self.end_of(alloc, *number)?,
-            });
+            };
+            ends.reserve(1)?;
+            ends.push_reserved(end);
         }
         Ok(ends)
     }
