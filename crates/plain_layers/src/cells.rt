@@ -62,7 +62,9 @@ impl Cells {
             Some(block) => self.pages.saturating_sub(self.filled(block)),
             None => 0,
         };
-        self.wholly_free.saturating_mul(self.pages).saturating_add(open)
+        self.wholly_free
+            .saturating_mul(self.pages)
+            .saturating_add(open)
     }
 
     fn filled(&self, block: usize) -> usize {
@@ -120,10 +122,16 @@ impl Cells {
             return false;
         };
         self.unbind(page);
-        let cell = block.saturating_mul(self.pages).saturating_add(self.filled(block));
+        let cell = block
+            .saturating_mul(self.pages)
+            .saturating_add(self.filled(block));
         set(self.owners.as_mut_slice(), cell, page);
         set(self.writes.as_mut_slice(), cell, write);
-        set(self.places.as_mut_slice(), page as usize, u32::try_from(cell).unwrap_or(NONE));
+        set(
+            self.places.as_mut_slice(),
+            page as usize,
+            u32::try_from(cell).unwrap_or(NONE),
+        );
         add_one(self.filled.as_mut_slice(), block);
         add_one(self.valid.as_mut_slice(), block);
         if self.filled(block) >= self.pages {

@@ -12,8 +12,6 @@ mod lists;
 mod load;
 mod plays;
 mod policy;
-#[cfg(test)]
-mod tests;
 
 pub use load::{Load, PlainJob};
 pub use plays::{Fault, Marks, Played, play};

@@ -65,7 +65,9 @@ impl Load {
         if place as usize >= job.count {
             return None;
         }
-        self.ops.get(job.first.saturating_add(place as usize)).copied()
+        self.ops
+            .get(job.first.saturating_add(place as usize))
+            .copied()
     }
 
     /// By task the least time from release to deadline that a job of it has.

@@ -127,7 +127,9 @@ impl<'a> Layer<'a> {
         };
         let place = *place;
         let job = self.load.jobs().get(place as usize)?;
-        let op = self.load.op(job, at(self.carried.as_slice(), place as usize, 0))?;
+        let op = self
+            .load
+            .op(job, at(self.carried.as_slice(), place as usize, 0))?;
         Some(Head { place, op })
     }
 

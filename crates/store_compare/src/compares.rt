@@ -141,7 +141,16 @@ fn put_layer(
     };
     let tasks = tasks_of(plan);
     let counted = Counted { from, slots };
-    put_die(alloc, text, whose, load, ends.as_slice(), counted, tasks, carried)?;
+    put_die(
+        alloc,
+        text,
+        whose,
+        load,
+        ends.as_slice(),
+        counted,
+        tasks,
+        carried,
+    )?;
     Ok(())
 }
 
@@ -167,7 +176,16 @@ fn put_store(
         slots: measure.slots,
     };
     let tasks = tasks_of(plan);
-    put_die(alloc, text, whose, &run.load, ends.as_slice(), counted, tasks, run.carried)
+    put_die(
+        alloc,
+        text,
+        whose,
+        &run.load,
+        ends.as_slice(),
+        counted,
+        tasks,
+        run.carried,
+    )
 }
 
 fn put_stores(

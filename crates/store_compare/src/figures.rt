@@ -9,9 +9,7 @@ pub(crate) enum End {
     Refused,
     /// It wasn't done.
     Unfinished,
-    Done {
-        completion: u32,
-    },
+    Done { completion: u32 },
 }
 
 /// The lateness of a job that was refused: above every other.

@@ -9,7 +9,5 @@ mod compares;
 mod figures;
 mod store_dies;
 mod tables;
-#[cfg(test)]
-mod tests;
 
 pub use compares::{CompareFault, Measure, compare};

@@ -100,7 +100,8 @@ impl StoreDie {
     // Keeps a job that was taken with this number, or refused for want of tokens.
     fn keep(&mut self, row: &JobRow<'_>, number: Option<JobNo>) -> Result<(), Refusal> {
         self.numbers.reserve(1)?;
-        self.load.push(row.task.0, row.release, row.due, row.ops.as_slice())?;
+        self.load
+            .push(row.task.0, row.release, row.due, row.ops.as_slice())?;
         self.numbers.push_reserved(number);
         Ok(())
     }
@@ -108,7 +109,10 @@ impl StoreDie {
     /// Asks for a job. What is refused for another cause than want of tokens is in no count.
     pub(crate) fn submit(&mut self, alloc: Global, row: &JobRow<'_>) -> Result<(), Refusal> {
         let ops = row.ops.clone()?;
-        match self.core.submit(alloc, 0, row.task, row.release, row.due, ops) {
+        match self
+            .core
+            .submit(alloc, 0, row.task, row.release, row.due, ops)
+        {
             Ok(number) => self.keep(row, Some(number)),
             Err(Refusal::NoTokens { .. }) => self.keep(row, None),
             Err(Refusal::NoMemory) => Err(Refusal::NoMemory),

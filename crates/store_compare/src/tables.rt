@@ -9,7 +9,8 @@ use std::io;
 use std::io::Write;
 
 /// The header of the table.
-const HEADER: &str = "policy,die,task,jobs,refused,late,unfinished,worst,mean,p99,p999,written,copied,amplification,idle\n";
+const HEADER: &str =
+    "policy,die,task,jobs,refused,late,unfinished,worst,mean,p99,p999,written,copied,amplification,idle\n";
 
 /// Which jobs are counted: those that are released from the first slot on, and due by the last.
 #[derive(Clone, Copy, PartialEq, Eq, Debug, Drop)]
@@ -107,7 +108,12 @@ fn put_amplification(text: &mut Vec<u8>, carried: Carried) -> io::Result<()> {
 }
 
 fn put_counts(text: &mut Vec<u8>, figures: &Figures) -> io::Result<()> {
-    for count in [figures.jobs, figures.refused, figures.late, figures.unfinished] {
+    for count in [
+        figures.jobs,
+        figures.refused,
+        figures.late,
+        figures.unfinished,
+    ] {
         put_count(text, count)?;
     }
     Ok(())

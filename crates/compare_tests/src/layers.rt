@@ -1,8 +1,6 @@
 //! Plays whose completions were found by hand, and random loads whose reads are looked at.
 
-use crate::load::Load;
-use crate::plays::{Fault, Marks, Played, play};
-use crate::policy::Policy;
+use plain_layers::{Fault, Load, Marks, Played, Policy, play};
 use slot_types::{Caps, DiePlan, Op, PageData, Shape};
 use std::alloc::{AllocError, Global};
 use std::test::Fail;
@@ -58,7 +56,12 @@ fn jobs_go_in_the_order_of_their_policy(rt: HostRuntime) -> Result<(), Fail> {
         (Policy::RateMonotonic, (4, 2)),
         (Policy::EarliestDeadline, (4, 2)),
     ] {
-        assert_eq!(rt; first_two(rt.alloc(), &load, policy), Ok(want), "{}", policy.name());
+        assert_eq!(rt;
+            first_two(rt.alloc(), &load, policy),
+            Ok(want),
+            "{}",
+            policy.name()
+        );
     }
     Ok(())
 }
@@ -69,7 +72,15 @@ fn nine_writes_and_a_read(alloc: Global) -> Result<Load, AllocError> {
     let mut load = Load::new(alloc);
     let write = |page: u32| Op::Write(page, ONES);
     let writes = [
-        write(0), write(1), write(2), write(3), write(0), write(1), write(2), write(3), write(0),
+        write(0),
+        write(1),
+        write(2),
+        write(3),
+        write(0),
+        write(1),
+        write(2),
+        write(3),
+        write(0),
     ];
     load.push(0, 0, 30, &writes)?;
     load.push(1, 9, 12, &[Op::Read(0)])?;
@@ -88,7 +99,12 @@ fn an_erase_on_demand_holds_a_read_up(rt: HostRuntime) -> Result<(), Fail> {
         (Policy::EarliestDeadlineBackground, (9, 10)),
         (Policy::EarliestDeadlineStepwise, (9, 10)),
     ] {
-        assert_eq!(rt; first_two(rt.alloc(), &load, policy), Ok(want), "{}", policy.name());
+        assert_eq!(rt;
+            first_two(rt.alloc(), &load, policy),
+            Ok(want),
+            "{}",
+            policy.name()
+        );
     }
     Ok(())
 }
@@ -97,7 +113,15 @@ fn an_erase_on_demand_holds_a_read_up(rt: HostRuntime) -> Result<(), Fail> {
 fn what_is_counted_begins_with_the_first_measured_slot(rt: HostRuntime) -> Result<(), Fail> {
     let load = nine_writes_and_a_read(rt.alloc())?;
     let plan = small_plan(rt.alloc())?;
-    let played = play(rt.alloc(), &plan, &load, Policy::EarliestDeadline, MARKS, 40, 5);
+    let played = play(
+        rt.alloc(),
+        &plan,
+        &load,
+        Policy::EarliestDeadline,
+        MARKS,
+        40,
+        5,
+    );
     match played {
         Ok(played) => {
             // Of slots 5 to 39: four writes, three of the erase, the read, and 27 that carry nothing.
@@ -111,7 +135,9 @@ fn what_is_counted_begins_with_the_first_measured_slot(rt: HostRuntime) -> Resul
 
 // A number by chance: the high bits of a linear congruential generator (Knuth's constants for 64 bits).
 fn next(chance: &mut u64, below: u32) -> u32 {
-    *chance = chance.wrapping_mul(6364136223846793005).wrapping_add(1442695040888963407);
+    *chance = chance
+        .wrapping_mul(6364136223846793005)
+        .wrapping_add(1442695040888963407);
     ((*chance >> 33) % u64::from(below.max(1))) as u32
 }
 
@@ -138,7 +164,12 @@ fn chance_load(alloc: Global, seed: u64) -> Result<Load, AllocError> {
         let count = next(&mut chance, 3).saturating_add(1) as usize;
         let release = job.saturating_mul(5);
         let task = next(&mut chance, 2);
-        load.push(task, release, release.saturating_add(20), &ops[..count.min(3)])?;
+        load.push(
+            task,
+            release,
+            release.saturating_add(20),
+            &ops[..count.min(3)],
+        )?;
     }
     Ok(load)
 }

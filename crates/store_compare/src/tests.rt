@@ -1,1 +1,0 @@
-//! Plays by hand.
