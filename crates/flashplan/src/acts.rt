@@ -6,12 +6,14 @@ ghost use Rattle.flashplan.specs.Commands.{FitsRun};
 
 use crate::commands::Command;
 use flash_commands::{Fault, end};
+use plain_layers::Marks;
 use plan_arrivals::{Fault as Unplanned, arrivals};
 use plan_design::explain;
 use plan_texts::{plan_text, read_plan_from};
 use slot_types::{MAX_SLOT, Refusal};
 use std::alloc::Global;
 use std::io::{Read, Write};
+use store_compare::{CompareFault, Measure, compare};
 use text_base::write_whole;
 use watched_runs::{RefusedRows, draw, wear};
 
@@ -105,6 +107,41 @@ fn print_drawn<P: Read + Drop, S: Read + Drop, W: Write>(
     Ok(drawn.refused)
 }
 
+/// With fewer wholly free blocks than these a plain layer has to collect.
+const LOW: usize = 2;
+
+/// Prints how late the jobs of a script were on the store and by plain layers.
+fn print_compared<P: Read + Drop, S: Read + Drop, W: Write>(
+    alloc: Global,
+    plan: P,
+    script: S,
+    measure: Measure,
+    out: &mut W,
+) -> Result<(), CompareFault>
+    requires slots { measure.slots ≤ MAX_SLOT }
+{
+    let store = read_plan_from(alloc, plan)?;
+    let table = compare(alloc, &store, script, measure)?;
+    write_whole(out, &table)?;
+    Ok(())
+}
+
+/// Answers the status of a comparison, and tells why there is none. A writer that fails is passed over.
+fn end_compared<E: Write>(err: &mut E, compared: Result<(), CompareFault>) -> u8 {
+    match compared {
+        Ok(()) => 0,
+        Err(CompareFault::Refused(refusal)) => end(err, Err(Fault::Refused(refusal))),
+        Err(CompareFault::WrongLayer { policy, fault }) => {
+            let _ = writeln!(
+                err,
+                "error: the plain layer {} is wrong: {fault:?}",
+                policy.name()
+            );
+            1
+        }
+    }
+}
+
 /// Tells the rows that were refused, if there are any, and answers the status. A writer that fails is passed over.
 fn end_run<E: Write>(err: &mut E, ran: Result<RefusedRows, Refusal>) -> u8 {
     let refused = match ran {
@@ -126,7 +163,8 @@ fn end_run<E: Write>(err: &mut E, ran: Result<RefusedRows, Refusal>) -> u8 {
 /// is never late. A plan without times that pass their test is told as `error 3 BadPlan`; then, and where more slots are
 /// asked for than a script may have, nothing is printed, and the status is 1. `wear` prints what
 /// [`wear`](watched_runs::wear) tells of the run of the script, and `draw` what [`draw`](watched_runs::draw) draws of it,
-/// each whole; the status is 0, and where rows were refused, `err` gets a line, as `refused 1 first line 6 with 6`.
+/// each whole; the status is 0, and where rows were refused, `err` gets a line, as `refused 1 first line 6 with 6`. `compare`
+/// prints the table of [`compare`](store_compare::compare), whole.
 ///
 /// No more of the plan is read than 1,048,577 bytes. Where a text is refused, memory runs out, or a reader or `out`
 /// fails, that is told in a line to `err`, as `error 21 ReadFault`, and the status is 1. Where `err` fails, that is passed over.
@@ -166,6 +204,20 @@ pub fn act<P: Read + Drop, S: Read + Drop, W: Write, E: Write>(
         } => {
             let ran = print_drawn(alloc, plan, script, slots, die, from, to, out);
             end_run(err, ran)
+        }
+        Command::Compare {
+            slots,
+            from,
+            pool,
+            ..
+        } => {
+            let marks = Marks {
+                low: LOW,
+                pool: pool as usize,
+            };
+            let measure = Measure { slots, from, marks };
+            let compared = print_compared(alloc, plan, script, measure, out);
+            end_compared(err, compared)
         }
     }
 }

@@ -57,6 +57,17 @@ pub(crate) fn three(
     Ok(feeds)
 }
 
+/// The feeds of five dies, none of which gets an event.
+pub(crate) fn five_empty(alloc: Global) -> Result<Vec<Feed>, Refusal>
+    ensures { IfOk result (λ feeds. All AllArrive feeds.items) }
+{
+    let mut feeds = Vec::with_capacity(alloc, 5)?;
+    for _ in 0..5u32 {
+        feeds.push_reserved(Feed::new(alloc));
+    }
+    Ok(feeds)
+}
+
 /// The feeds of two dies.
 pub(crate) fn both(alloc: Global, first: &[Job], second: &[Job]) -> Result<Vec<Feed>, Refusal>
     ensures { IfOk result (λ feeds. All AllArrive feeds.items) }
