@@ -11,7 +11,7 @@ ghost use Rattle.flash_c.specs.Lists.{filled};
 ghost use Rattle.flash_c.specs.Names.{name_of};
 ghost use Rattle.flash_c.specs.Told as tells;
 
-use crate::codes::{NOTHING_DONE, OK, of_refusal};
+use crate::codes::{NOTHING_DONE, OK, of_refusal, of_step};
 use crate::counts::count_of;
 use crate::handles::{Handle, put, take};
 use crate::lists::{put_jobs, put_names, put_rows};
@@ -102,7 +102,7 @@ pub extern "C" fn flash_outcome(
     ensures silent { result ≢ 0 → (outcome.new ≡ outcome.old) × (reads.new ≡ reads.old) }
 {
     let boxed = take(alloc, die);
-    let told = boxed.core().outcome(alloc, JobNo(job));
+    let told = boxed.outcome(alloc, JobNo(job));
     put(die, boxed);
     match told {
         Ok(told) => {
@@ -110,7 +110,7 @@ pub extern "C" fn flash_outcome(
             *outcome = outcome_of(&told);
             OK
         }
-        Err(refusal) => of_refusal(refusal),
+        Err(refusal) => of_step(refusal),
     }
 }
 

@@ -1,8 +1,9 @@
 -- What a device is told to do, and what that does to its blocks.
-use Rattle.std.specs.Prelude.{◌≡◌, ◌+◌, ◌==◌, Bool, true, List, Option, Some, None, ⊤}
+use Rattle.std.specs.Prelude.{◌≡◌, ◌+◌, ◌==◌, Bool, true, List, Option, Some, None, ⊤, ℕ, IfSome, IsSome}
 use Rattle.slot_types.specs.declared.pages.PageData.{PageData}
 use Rattle.flash_die.specs.Flash.{Block, block_at, cell_at, programmed, erased}
 use Rattle.flash_die.specs.Memory.{Memory}
+use Rattle.stepped_die.specs.declared.calls.Begun.{Begun}
 use Rattle.stepped_die.specs.declared.calls.Call.{Call}
 use Rattle.stepped_die.specs.declared.calls.Call.TheVariants as calls
 
@@ -25,3 +26,8 @@ IsDone None ok bytes = ⊤
 IsDone (Some (calls.Read place programmed)) ok bytes = (ok ≡ true) × (bytes ≡ programmed)
 IsDone (Some (calls.Program place programmed)) ok bytes = ok ≡ true
 IsDone (Some (calls.Erase block last)) ok bytes = ok ≡ true
+
+-- the slot that has begun is that of the job or collection of this number
+abbrev pub IsHeld : ℕ → Option Begun → Type 0
+IsHeld job None = ⊥
+IsHeld job (Some begun) = IfSome begun.runs (λ ran. ran.0 ≡ job) × IsSome begun.runs

@@ -1,17 +1,18 @@
 //! A die whose slots are begun and ended.
 
-ghost use Rattle.std.specs.Prelude.{◌≡◌, ◌⊎◌, true, Some, max, IfOk, IfErr, OnOk, OnErr};
+ghost use Rattle.std.specs.Prelude.{◌≡◌, ◌⊎◌, true, Some, max, IfOk, IfErr, OnOk, OnErr, IsErr};
 ghost use Rattle.slot_types.specs.declared.refusals.Refusal.{Refusal};
 ghost use Rattle.slot_types.specs.declared.events.Event.TheVariants as events;
 ghost use Rattle.slot_core.specs.Calls.{HasTaken, HasRefusedArrival};
 ghost use Rattle.slot_types.specs.Refusal.{FailsForMemory};
+ghost use Rattle.slot_core.specs.Outcomes.{outcome_at};
 ghost use Rattle.slot_core.specs.Renewals.{MayBeRenewed, renewed_core};
-ghost use Rattle.stepped_die.specs.Told.{IsDone};
+ghost use Rattle.stepped_die.specs.Told.{IsDone, IsHeld};
 
 use crate::calls::{Begun, Call};
 use crate::mirror::MirrorNand;
 use crate::refusals::{StepRefusal, StepRenewalRefusal};
-use slot_core::{DieCore, RenewalRefusal};
+use slot_core::{DieCore, Outcome, RenewalRefusal};
 use slot_types::{DiePlan, JobNo, Op, PageData, Refusal, SlotReply, TaskNo};
 use std::alloc::Global;
 use std::marker::Model;
@@ -216,11 +217,43 @@ impl SteppedDie {
         }
     }
 
+    /// What became of a job or a collection, as [`DieCore::outcome`]. Of the one whose slot has begun it isn't told, nor of the
+    /// one whose slot failed: `Begun`, and `DeviceFault`.
+    pub fn outcome(&self, alloc: Global, job: JobNo) -> Result<Outcome, StepRefusal>
+        ensures told { IfOk result (λ outcome. outcome_at self.now.core.start self.now.core.log job ≡ Some outcome) }
+        ensures held { IsHeld job self.now.begun → IsErr result }
+    {
+        if is_held(job, &self.begun) {
+            return Err(if self.failed {
+                StepRefusal::Die(Refusal::DeviceFault)
+            } else {
+                StepRefusal::Begun
+            });
+        }
+        match self.core.outcome(alloc, job) {
+            Ok(outcome) => Ok(outcome),
+            Err(refusal) => Err(StepRefusal::Die(refusal)),
+        }
+    }
+
     /// The die, for questions.
     pub fn core(&self) -> &DieCore<MirrorNand>
         ensures { result.now ≡ self.now.core }
     {
         &self.core
+    }
+}
+
+/// Whether the slot that has begun is that of the job.
+fn is_held(job: JobNo, begun: &Option<Begun>) -> bool
+    ensures { IsHeld job begun.now → result ≡ true }
+{
+    match begun {
+        Some(begun) => match begun.runs {
+            Some((number, _)) => number == job,
+            None => false,
+        },
+        None => false,
     }
 }
 
