@@ -153,6 +153,7 @@ fn main() -> Result<(), Refusal> {
 
     // So does a slot that is let go.
     let (mut die, _) = made()?;
+    die.submit(1, 0, 0, 1, &[Op::Write(0, Name::BLANK)])?;
     drop(die.begin(9)?);
     assert!(matches!(die.begin(9), Err(Refusal::DieStopped)));
     println!("a slot that is let go stops the die");

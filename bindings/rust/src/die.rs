@@ -194,7 +194,7 @@ impl Drop for Die {
 
 /// A slot that has begun. It derefs to the die for questions, which are answered by the log before it.
 ///
-/// One that is let go without an end is ended as a fault, which stops the die.
+/// One that is let go without an end is ended as a fault, which stops the die if the device was to do something.
 pub struct Slot<'a> {
     die: &'a mut Die,
     call: raw::Call,
