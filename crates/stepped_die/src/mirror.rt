@@ -54,7 +54,7 @@ impl Nand for MirrorNand {
 
     ghost failures = { λ _. 0 };
 
-    ghost ends = { λ d well e. ChangesAsTold d.memory well e.last e.memory };
+    ghost ends = { λ d _ well e. ChangesAsTold d.memory well e.last e.memory };
 
     ghost never_fails = { true };
 
