@@ -19,6 +19,7 @@ pub mod Beginning
 pub mod Slotting
 pub mod Needing
 pub mod Making
+pub mod Foreseeing
 pub mod Noting
 pub mod Performing
 pub mod Running
