@@ -9,7 +9,7 @@ mod faults;
 pub mod next_calls;
 pub mod volume;
 
-pub use collection::{Began, Collected, CollectStep, Collection, Copied};
+pub use collection::{Began, CollectStep, Collected, Collection, Copied};
 pub use volume::Volume;
 
 #[cfg(test)]
