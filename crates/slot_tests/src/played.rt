@@ -4,6 +4,7 @@ use crate::again::{carry, certificate_of, collect, outcome_of, reserve, submit};
 use crate::certified::{is_built, is_certified, verdict_of, work_of};
 use crate::histories::agrees;
 use crate::idle::{idles, runs};
+use crate::nexts::is_next;
 use crate::outcomes::{End, ended};
 use crate::slotted::{acts, at_once, carries, passes, waives};
 use crate::steps::{Fact, NotRenewed, Step};
@@ -143,6 +144,7 @@ fn goes<N: Nand, R: Abort>(told: &Told<R>, die: &mut DieCore<N>, alloc: Global, 
         Step::Reserves { slots } => told.same(&reserve(die, *slots), &Ok(())),
         Step::AtOnce { slots } => at_once(told, die, alloc, *slots),
         Step::Renews { want } => told.same(&renewed(die.renew()), want),
+        Step::Next { ran, call } => is_next(told, die, alloc, *ran, *call),
         Step::NoSlot { want } => told.same(&carry(die, alloc), &Err(*want)),
         Step::History { seed } => agrees(told, die, alloc, *seed),
         Step::Is(fact) => stands(told, die, alloc, fact),
