@@ -3,12 +3,13 @@
 ghost use Rattle.std.specs.Prelude.{◌≡◌, All, IfOk, map};
 ghost use Rattle.die_service.specs.Stores.{IsAtStart};
 
-use crate::dies::{play_both, play_only};
+use crate::dies::play_only;
 use crate::made::{ONES, TWOS, faulty_dies, two_dies};
+use crate::played::play;
 use crate::steps::Fact::{Certified, Entries, Now, Out, Read};
 use crate::steps::Step::{HandOver, Is, Slot, Submit};
 use crate::steps::{Bounds, Step};
-use die_service::{DiePass, RefusedAt, Store, close, renew_each};
+use die_service::{DiePass, RefusedAt, StillClosed, Store, close, renew_each};
 use flash_die::{MemoryNand, Nand};
 use slot_core::{DieCore, RenewalRefusal};
 use slot_types::{Op, Refusal};
@@ -17,7 +18,24 @@ use std::process::Abort;
 use std::sync::Wait;
 use std::test::Fail;
 
-// The store of these dies. Where memory is refused, it is asked for again, with the dies that were handed back.
+// The store of the dies that were handed back, where that was for want of memory.
+fn reopen_kept<N: Nand>(
+    alloc: Global,
+    kept: StillClosed<N>,
+) -> Result<(Store<N>, Vec<DiePass<N>>), Refusal>
+    requires { All IsAtStart kept.dies.items }
+    ensures { IfOk result (λ made. map (λ pass. pass.lock) made.1.items ≡ made.0) }
+{
+    if kept.refusal != Refusal::NoMemory {
+        return Err(kept.refusal);
+    }
+    match Store::reopen(alloc, kept.dies) {
+        Ok(made) => Ok(made),
+        Err(kept) => Err(kept.refusal),
+    }
+}
+
+// The store of these dies, which is asked for again where memory is refused.
 fn reopen<N: Nand>(
     alloc: Global,
     dies: Vec<DieCore<N>>,
@@ -25,18 +43,9 @@ fn reopen<N: Nand>(
     requires { All IsAtStart dies.items }
     ensures { IfOk result (λ made. map (λ pass. pass.lock) made.1.items ≡ made.0) }
 {
-    let dies = match Store::reopen(alloc, dies) {
-        Ok(made) => return Ok(made),
-        Err(kept) => {
-            if kept.refusal != Refusal::NoMemory {
-                return Err(kept.refusal);
-            }
-            kept.dies
-        }
-    };
     match Store::reopen(alloc, dies) {
         Ok(made) => Ok(made),
-        Err(kept) => Err(kept.refusal),
+        Err(kept) => reopen_kept(alloc, kept),
     }
 }
 
@@ -116,12 +125,38 @@ const READS_TOO: &[Step] = &[
     Is(Read { job: 0, page: TWOS }),
 ];
 
+// Plays a table on each of a store's two dies, one after the other, and hands their passes back.
+fn play_two<N: Nand, R: Wait + Abort>(
+    rt: &R,
+    alloc: Global,
+    store: &Store<N>,
+    passes: Vec<DiePass<N>>,
+    first: &[Step],
+    second: &[Step],
+) -> Result<Vec<DiePass<N>>, Refusal>
+    requires { map (λ pass. pass.lock) passes.items ≡ store.now }
+    ensures { IfOk result (λ back. map (λ pass. pass.lock) back.items ≡ store.now) }
+{
+    let mut passes = passes;
+    let (Some(mut one), Some(mut zero), None) = (passes.pop(), passes.pop(), passes.pop()) else {
+        return Err(Refusal::UnknownDie);
+    };
+    let first_die = store.die(0)?;
+    let second_die = store.die(1)?;
+    let mut back = Vec::with_capacity(alloc, 2)?;
+    play(rt, alloc, first_die, &mut zero, "first table", first);
+    play(rt, alloc, second_die, &mut one, "second table", second);
+    back.push_reserved(zero);
+    back.push_reserved(one);
+    Ok(back)
+}
+
 // Plays two tables on each die of a store, one in each of two lives, and tells how many dies there are then.
 fn live_twice<R: Wait + Abort>(rt: &R, alloc: Global) -> Result<u32, Refusal> {
-    let (store, mut passes) = two_dies(alloc)?;
-    play_both(rt, alloc, &store, passes.as_mut_slice(), WRITES, WRITES_TOO)?;
-    let (store, mut passes) = next_life(rt, alloc, store, passes)?;
-    play_both(rt, alloc, &store, passes.as_mut_slice(), READS, READS_TOO)?;
+    let (store, passes) = two_dies(alloc)?;
+    let passes = play_two(rt, alloc, &store, passes, WRITES, WRITES_TOO)?;
+    let (store, passes) = next_life(rt, alloc, store, passes)?;
+    play_two(rt, alloc, &store, passes, READS, READS_TOO)?;
     Ok(store.dies())
 }
 
@@ -180,8 +215,8 @@ fn what_is_left<N: Nand, R: Wait>(
 
 // Plays tables on a store of two dies, one of which is stopped, and on the store of the other, and tells how many dies that has.
 fn go_on_with_one<R: Wait + Abort>(rt: &R, alloc: Global) -> Result<u32, Refusal> {
-    let (store, mut passes) = faulty_dies(alloc)?;
-    play_both(rt, alloc, &store, passes.as_mut_slice(), STOPS, WRITES_TOO)?;
+    let (store, passes) = faulty_dies(alloc)?;
+    let passes = play_two(rt, alloc, &store, passes, STOPS, WRITES_TOO)?;
     let (store, mut passes) = what_is_left(rt, alloc, store, passes)?;
     play_only(rt, alloc, &store, passes.as_mut_slice(), READS_ALONE)?;
     Ok(store.dies())
