@@ -1,4 +1,4 @@
-/* How long a slot takes through the C interface, with no device behind it. */
+/* How long a slot takes through C, with no device behind it: processor time, the best of ten runs. */
 #include "flash.h"
 #include <inttypes.h>
 #include <stdio.h>
@@ -6,47 +6,54 @@
 #include <string.h>
 #include <time.h>
 
+enum { RUNS = 10, ROUNDS = 30000 };
+
 static double seconds(void) {
     struct timespec t;
-    clock_gettime(CLOCK_MONOTONIC, &t);
+    clock_gettime(CLOCK_PROCESS_CPUTIME_ID, &t);
     return (double)t.tv_sec + (double)t.tv_nsec * 1e-9;
 }
 
 static void must(int holds) { if (!holds) { puts("wrong"); exit(1); } }
 
-int main(int argc, char **argv) {
-    uint32_t rounds = argc > 1 ? (uint32_t)atoi(argv[1]) : 30000;
+/* In each round a collection and a job of two writes and a read, and slots until one is idle. Answers the slots. */
+static uint32_t run(flash_die *die, uint32_t *seed) {
+    struct flash_why why;
+    uint32_t job, slots = 0;
+    for (uint32_t r = 0; r < ROUNDS; r++) {
+        uint32_t now = flash_now(die), page = (*seed = *seed * 1664525u + 1013904223u) >> 22;
+        struct flash_op ops[3] = {{FLASH_WRITE, page, {{0}}}, {FLASH_WRITE, (page + 1) % 1024, {{1}}}, {FLASH_READ, page, {{0}}}};
+        memcpy(ops[0].name.bytes, &r, 4);
+        must(flash_collect(die, 1, 0, now, now + 90, &job, &why) == FLASH_OK);
+        must(flash_submit(die, 1, 0, now, now + 8, ops, 3, &job, &why) == FLASH_OK);
+        struct flash_reply reply;
+        do {
+            struct flash_call call;
+            struct flash_waived waived[16];
+            must(flash_begin(die, 9, &call) == FLASH_OK);
+            must(flash_end(die, 1, &call.name, &reply, waived, 16) == FLASH_OK);
+            slots++;
+        } while (reply.act != FLASH_IDLE);
+    }
+    return slots;
+}
+
+int main(void) {
     struct flash_plan plan = {64, 32, 3, 1024, 8, 0};
     struct flash_task task = {32, 0, 0, 0, 0};
     flash_die die = {0};
     must(flash_new(&die, &plan, &task, 1) == FLASH_OK);
-    struct flash_why why;
-    uint32_t seed = 1, job, slots = 0, calls = 0;
-    double begun = seconds();
-    for (uint32_t r = 0; r < rounds; r++) {
-        uint32_t now = flash_now(&die);
-        seed = seed * 1664525u + 1013904223u;
-        uint32_t page = seed >> 22;
-        struct flash_op ops[3] = {{FLASH_WRITE, page, {{0}}}, {FLASH_WRITE, (page + 1) % 1024, {{1}}}, {FLASH_READ, page, {{0}}}};
-        memcpy(ops[0].name.bytes, &r, 4);
-        flash_collect(&die, 1, 0, now, now + 90, &job, &why);
-        must(flash_submit(&die, 1, 0, now, now + 8, ops, 3, &job, &why) == FLASH_OK);
-        for (;;) {
-            struct flash_call call;
-            struct flash_reply reply;
-            struct flash_waived waived[16];
-            must(flash_begin(&die, 9, &call) == FLASH_OK);
-            calls += call.kind != FLASH_CALL_NONE;
-            must(flash_end(&die, 1, &call.name, &reply, waived, 16) == FLASH_OK);
-            slots++;
-            if (reply.act == FLASH_IDLE) break;
-        }
+    double best = 1e9;
+    uint32_t seed = 1;
+    for (int i = 0; i < RUNS; i++) {
+        struct flash_why why;
+        double begun = seconds();
+        uint32_t slots = run(&die, &seed);
+        double took = (seconds() - begun) / slots * 1e9;
+        if (took < best) best = took;
+        must(flash_renew(&die, &why) == FLASH_OK);
     }
-    double took = seconds() - begun;
-    struct flash_worst worst;
-    must(flash_worst(&die, &worst) == FLASH_OK);
-    printf("%" PRIu32 " rounds, %" PRIu32 " slots, %" PRIu32 " device calls, worst %" PRId64 ": %.0f ns a slot, with its arrivals\n", rounds, slots, calls,
-           worst.lateness, took / slots * 1e9);
+    printf("%.0f ns a slot, with its share of arrivals\n", best);
     flash_free(&die);
     return 0;
 }
