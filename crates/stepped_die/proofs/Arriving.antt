@@ -48,18 +48,18 @@ waived_own : (a b : Accounts) (task : ℕ) → Alike a b → owned_of (waived a 
 waived_own a b task h =
     elim (cases_lt task (length a.balances)) [
       | inl below ↦ omega (
-          arith,
-          h.owned task,
-          given_alike a b task h,
-          get_or-set_same a.balances task (get_or a.balances task 0 + given_of a task) 0 below,
-          get_or-set_same b.balances task (get_or b.balances task 0 + given_of b task) 0 (omega (arith, below, h.len)),
-        )
+        arith,
+        h.owned task,
+        given_alike a b task h,
+        get_or-set_same a.balances task (get_or a.balances task 0 + given_of a task) 0 below,
+        get_or-set_same b.balances task (get_or b.balances task 0 + given_of b task) 0 (omega (arith, below, h.len)),
+      )
       | inr past ↦ omega (
-          arith,
-          h.owned task,
-          past_all a.balances task (get_or a.balances task 0 + given_of a task) past,
-          past_all b.balances task (get_or b.balances task 0 + given_of b task) (omega (arith, past, h.len)),
-        )
+        arith,
+        h.owned task,
+        past_all a.balances task (get_or a.balances task 0 + given_of a task) past,
+        past_all b.balances task (get_or b.balances task 0 + given_of b task) (omega (arith, past, h.len)),
+      )
     ]
 
 waived_alike : (a b : Accounts) (task : ℕ) → Alike a b → Alike (waived a task) (waived b task)
