@@ -118,7 +118,7 @@ total_opening plan bound = omega (
       (λ (n : ℕ). n) (length plan.caps) (plan.shape.pages - plan.alpha),
 )
 
-none_running : (n task : ℕ) → running_of (replicate n None) task ≡ None
+pub none_running : (n task : ℕ) → running_of (replicate n None) task ≡ None
 none_running n task =
     elim (cases_lt task n) [
       | inl below ↦ get_or-replicate n task None None below

@@ -7,6 +7,8 @@ mod collecting;
 pub mod collection;
 mod faults;
 pub mod next_calls;
+mod resumed;
+mod tables;
 pub mod volume;
 
 pub use collection::{Began, CollectStep, Collected, Collection, Copied};
