@@ -230,11 +230,7 @@ fn warn_many<E: Write>(err: &mut E, slots: u32, sights: Sights) {
 }
 
 /// Tells what was drawn, and answers the status.
-fn end_drawn<E: Write>(
-    err: &mut E,
-    slots: u32,
-    drawn: Result<(RefusedRows, Sights), Refusal>,
-) -> u8
+fn end_drawn<E: Write>(err: &mut E, slots: u32, drawn: Result<(RefusedRows, Sights), Refusal>) -> u8
     ensures { result ≢ 3 }
 {
     match drawn {
@@ -293,7 +289,10 @@ pub fn act<P: Read + Drop, S: Read + Drop, W: Write, E: Write>(
             Err(refusal) => end_refused(err, refusal),
         },
         Command::Arrivals {
-            slots, seed, fills, ..
+            slots,
+            seed,
+            fills,
+            ..
         } => {
             let manner = Manner { seed, fills };
             let made = print_arrivals(alloc, plan, slots, manner, out);

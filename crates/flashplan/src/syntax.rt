@@ -108,7 +108,9 @@ fn fill<'a>(alloc: Global) -> Arg<'a>
     Arg::new(alloc, "fill")
         .long("fill")
         .action(ArgAction::SetTrue)
-        .help("Write each page once before any is drawn, and trim none; tells from which slot on the die is full")
+        .help(
+            "Write each page once before any is drawn, and trim none; tells from which slot on the die is full",
+        )
 }
 
 /// The command `explain`.
@@ -150,7 +152,9 @@ fn keeps_files<'a>(alloc: Global) -> Result<Command<'a>, AllocError>
     ensures local { IfOk result (λ c. has_globals c ≡ false) }
 {
     Command::new(alloc, "keeps")
-        .about("Tell whether a script keeps the plans of its dies, and if not, what breaks them first")
+        .about(
+            "Tell whether a script keeps the plans of its dies, and if not, what breaks them first",
+        )
         .after_help(
             "Ends with 0 where it keeps them, and with 3 where it doesn't.\n\n\
              Example: flashplan keeps plan.toml script.csv --slots 1000",

@@ -12,25 +12,12 @@ use slot_types::{DiePlan, MAX_JOBS, MAX_SLOT, Times};
 /// A condition that doesn't hold. Places are those of jobs and collections in their order on the die, from 0.
 #[derive(Clone, Copy, PartialEq, Eq, Debug, Drop)]
 pub enum Breach {
-    Job {
-        place: usize,
-        rule: JobRule,
-    },
-    Collection {
-        place: usize,
-        rule: CollectionRule,
-    },
+    Job { place: usize, rule: JobRule },
+    Collection { place: usize, rule: CollectionRule },
     /// The later one of two jobs of a task is released less than a period behind the earlier one.
-    Period {
-        earlier: usize,
-        later: usize,
-    },
+    Period { earlier: usize, later: usize },
     /// In a slot in which the plan has a collection of a task, none comes, or more than one.
-    Count {
-        task: u32,
-        slot: u32,
-        came: usize,
-    },
+    Count { task: u32, slot: u32, came: usize },
     /// There are more than 65,536 jobs and collections.
     TooMany,
 }
@@ -153,13 +140,7 @@ fn breaks_count(
 }
 
 /// Whether what is told is a condition that doesn't hold of these jobs and collections.
-pub fn is_breach(
-    plan: &DiePlan,
-    times: &Times,
-    end: u32,
-    all: &[Arrived<'_>],
-    told: Breach,
-) -> bool
+pub fn is_breach(plan: &DiePlan, times: &Times, end: u32, all: &[Arrived<'_>], told: Breach) -> bool
     ensures { IsTrue result → BreaksAt plan.now times.now end (map arrival_of all.now) told }
 {
     match told {

@@ -4,8 +4,8 @@ ghost use Rattle.std.specs.Prelude.{IfOk, IfSome};
 ghost use Rattle.slot_types.specs.Refusal.{FailsForMemory};
 ghost use Rattle.plan_breaches.specs.Breaches.{IsBreach};
 
-use crate::coming::{Arrived, arrivals_in, slots_of};
 use crate::breaches::{Breach, count_at, is_breach};
+use crate::coming::{Arrived, arrivals_in, slots_of};
 use crate::rules::{COLLECTION_RULES, JOB_RULES, collection_holds, job_holds, task_times};
 use slot_types::{DiePlan, Event, MAX_JOBS, MAX_SLOT, Refusal, Times};
 use std::alloc::Global;

@@ -18,7 +18,6 @@ set_by f g [] i d same = refl
 set_by f g (x ∷ xs) zero d same = ap (λ y. y ∷ xs) (same x)
 set_by f g (x ∷ xs) (suc i) d same = ap (λ ys. x ∷ ys) (set_by f g xs i d same)
 
-
 retimed_again : (which : Number) (m n : ℕ) (times : Times) → retimed which n (retimed which m times) ≡ retimed which n times
 retimed_again number.Alpha m n times = refl
 retimed_again number.Common m n times = refl

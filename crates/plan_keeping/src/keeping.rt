@@ -53,12 +53,7 @@ fn first_broken(
 /// Whether the rows of a script keep the plan of each die, as [`keeps_plan`](plan_rules::keeps_plan) judges; and if not, a
 /// condition that doesn't hold, of the first die that has one. BadPlan comes where a plan has no times that pass their
 /// test, and else what the reader of scripts refuses.
-pub fn keep(
-    alloc: Global,
-    text: &[u8],
-    plan: &StorePlan,
-    slots: u32,
-) -> Result<Verdict, Refusal>
+pub fn keep(alloc: Global, text: &[u8], plan: &StorePlan, slots: u32) -> Result<Verdict, Refusal>
     requires some { 1 ≤ length plan.now }
     requires few { length plan.now ≤ 8 }
     requires bound { All MeetsBound plan.now }

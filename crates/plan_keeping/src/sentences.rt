@@ -73,7 +73,10 @@ fn put_job(
         }
         JobRule::Pages => {
             let (page, last) = (line.page, plan.logical.saturating_sub(1));
-            writeln!(text, "it asks for page {page}, and pages go from 0 to {last}")
+            writeln!(
+                text,
+                "it asks for page {page}, and pages go from 0 to {last}"
+            )
         }
         JobRule::FewWrites => put_count(text, line.writes as u64, "writes", 0, own.writes),
     }
@@ -199,7 +202,10 @@ impl Told<'_> {
                 Some(first) => put_period(text, own, first, line),
                 None => Ok(()),
             },
-            _ => writeln!(text, "{MAX_JOBS} jobs and collections come before it, and no more may"),
+            _ => writeln!(
+                text,
+                "{MAX_JOBS} jobs and collections come before it, and no more may"
+            ),
         }
     }
 

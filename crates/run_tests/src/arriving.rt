@@ -233,7 +233,10 @@ fn a_die_is_filled_in_order_and_never_trimmed(rt: HostRuntime) -> Result<(), Fai
     let script = arrivals(alloc, &plan, 400, fills)?;
     let text = std::str::from_utf8(&script).unwrap_or("");
     for page in 0..10u32 {
-        assert_eq!(rt; text.contains(format!(in alloc; "W{page}=")?.as_str()), true);
+        assert_eq!(rt;
+            text.contains(format!(in alloc; "W{page}=")?.as_str()),
+            true
+        );
     }
     assert!(rt; !text.contains("T"));
     assert!(rt; text.contains(FILLED[0]));

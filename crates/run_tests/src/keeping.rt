@@ -113,7 +113,12 @@ fn said_of(alloc: Global, plan: &StorePlan, script: &[u8], slots: u32) -> Result
 }
 
 /// That each of these is said of the script with its change.
-fn assert_each(rt: &impl Abort, alloc: Global, plan: &StorePlan, each: &[Said]) -> Result<(), Fail> {
+fn assert_each(
+    rt: &impl Abort,
+    alloc: Global,
+    plan: &StorePlan,
+    each: &[Said],
+) -> Result<(), Fail> {
     for (old, new, want) in each {
         let script = KEPT.replace(alloc, *old, *new)?;
         let said = said_of(alloc, plan, script.as_bytes(), SLOTS)?;
@@ -126,7 +131,10 @@ fn assert_each(rt: &impl Abort, alloc: Global, plan: &StorePlan, each: &[Said]) 
 #[test]
 fn what_breaks_a_plan_is_told_with_its_record(rt: HostRuntime) -> Result<(), Fail> {
     let plan = read_plan(rt.alloc(), TIMED.as_bytes())?;
-    assert_eq!(rt; said_of(rt.alloc(), &plan, KEPT.as_bytes(), SLOTS)?.len(), 0);
+    assert_eq!(rt;
+        said_of(rt.alloc(), &plan, KEPT.as_bytes(), SLOTS)?.len(),
+        0
+    );
     assert_each(&rt, rt.alloc(), &plan, &JOBS)?;
     assert_each(&rt, rt.alloc(), &plan, &COLLECTIONS)
 }
