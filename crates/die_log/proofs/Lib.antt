@@ -20,5 +20,7 @@ pub mod Planned
 pub mod Supply
 pub mod Renewal
 pub mod Restocking
+pub mod Victims
+pub mod Life
 mod Worked
 mod Wrong

@@ -1,13 +1,12 @@
 -- A fresh die may start a log.
-use Rattle.std.proofs.Common.{◌≡◌, ℕ, ◌≤◌, ◌*◌, ◌+◌, ◌<◌, length, None, inl, inr, arith, get_or, replicate, refl, ap}
+use Rattle.std.proofs.Common.{◌≡◌, ℕ, inl, inr, arith, get_or, replicate, ap}
 use Rattle.std.proofs.lemmas.Bool.{cases_lt}
 use Rattle.std.proofs.lemmas.List.{length-replicate, get_or-replicate, get_or_past}
 use Rattle.slot_types.specs.declared.plans.DiePlan.{DiePlan}
 use Rattle.slot_types.specs.declared.pages.PageData.{PageData}
 use Rattle.slot_types.specs.declared.plans.Times.{Times}
 use Rattle.plan_rules.specs.Bound.{MeetsBound}
-use Rattle.plan_rules.specs.Times.{times_of}
-use Rattle.die_log.specs.Start.{Start, Block, fresh, fresh_cells, free_block, blank_page}
+use Rattle.die_log.specs.Start.{Block, fresh, fresh_cells, free_block, blank_page}
 use Rattle.die_log.specs.Flash.{block_at}
 use Rattle.die_log.specs.Opening.{IsOpening}
 use Rattle.die_log.specs.Supply.{AreStocked}

@@ -6,7 +6,6 @@ use Rattle.slot_types.specs.declared.acts.Act.{Act}
 use Rattle.slot_types.specs.declared.replies.Entry.{Entry}
 use Rattle.slot_types.specs.declared.replies.Reply.TheVariants as replies
 use Rattle.slot_types.specs.declared.replies.SlotReply.{SlotReply}
-use Rattle.plan_rules.specs.Bound.{MeetsBound}
 use Rattle.late_cert.specs.declared.certificates.Certificate.{Certificate}
 use Rattle.late_cert.proofs.Binds.{binds}
 use Rattle.late_cert.proofs.Faults.{certificate-verdict}
@@ -39,7 +38,7 @@ legal_slot : (start : Start) (log : Log) (s : SlotReply) (past : Log) → IsLega
     → IsLegalReply start past (replies.Slot s)
 legal_slot start log s past h has = subst (IsLegalReply start past) has.1 (legal_entry start log has.0 past h has.2).slot
 
-legal_act : (start : Start) (log : Log) (s : SlotReply) (past : Log) (number : ℕ) (act : Act) → IsLegal start log → HasSlot log s past
+pub legal_act : (start : Start) (log : Log) (s : SlotReply) (past : Log) (number : ℕ) (act : Act) → IsLegal start log → HasSlot log s past
     → s.ran ≡ Some (number, act)
     → (j : Job) × IsLegalAct start past (waived past ++ s.waived) j number act
 legal_act start log s past number act h has ran = subst (IsLegalRun start past s.waived) ran (legal_slot start log s past h has).1

@@ -1,5 +1,5 @@
 -- A quiet moment of an exact log is an opening: another log may start there.
-use Rattle.std.proofs.Common.{◌≡◌, ℕ, zero, suc, ◌<◌, ◌≤◌, Bool, true, false, List, [], ◌∷◌, length, sum_by, drop, cond, not, ◌&&◌, Option, Some, None, refl, ap, sym, ◌∙◌}
+use Rattle.std.proofs.Common.{◌≡◌, ℕ, zero, suc, ◌<◌, ◌≤◌, Bool, true, false, List, [], ◌∷◌, length, drop, cond, not, ◌&&◌, Option, Some, None, refl, ap, sym, ◌∙◌}
 use Rattle.std.proofs.Common.{subst, inl, inr, arith, slice_get, get_or, set}
 use Rattle.std.specs.List.{AllByRecursion}
 use Rattle.std.proofs.lemmas.Bool.{true≢false, cases_eq, cases_lt, and_parts, not-true}
@@ -8,12 +8,9 @@ use Rattle.std.proofs.lemmas.List.{length-set, get_or-set_same, get_or-set_other
 use Rattle.slot_types.specs.Places.{place_of}
 use Rattle.slot_types.specs.declared.pages.Place.{Place}
 use Rattle.slot_types.specs.declared.pages.PageData.{PageData}
-use Rattle.slot_types.specs.declared.plans.DiePlan.{DiePlan}
 use Rattle.slot_types.specs.declared.acts.Act.TheVariants as does
 use Rattle.slot_types.specs.declared.events.Op.{Op}
 use Rattle.slot_types.specs.declared.events.Event.{Event}
-use Rattle.slot_types.specs.declared.replies.Reply.{Reply}
-use Rattle.slot_types.specs.declared.replies.Reply.TheVariants as replies
 use Rattle.slot_types.specs.Operations.{writes}
 use Rattle.die_log.specs.Log.{Log, Job, Carried, jobs, job_at, acts, work, is_waived}
 use Rattle.die_log.specs.Flash.{Cells, cells, cells_after, block_at, contents, written, programmed_in, open_block, ran_by}
@@ -23,14 +20,13 @@ use Rattle.die_log.specs.Answers.{IsExact, accepted, refusals}
 use Rattle.die_log.specs.Held.{at_task, left_of, lent_of, held_of, lent_to, is_pending, copied_of, IsTaken}
 use Rattle.die_log.specs.Standing.{Runs}
 use Rattle.die_log.specs.Opening.{IsOpening, IsQuiet, renewed}
-use Rattle.die_log.proofs.Legality.{entry, exact_induction}
+use Rattle.die_log.proofs.Legality.{exact_induction}
 use Rattle.die_log.proofs.Cells.Steps.{opens}
 use Rattle.die_log.proofs.Standing.Finds.{FindsBy}
 use Rattle.die_log.proofs.Standing.Longer.{contained}
 use Rattle.die_log.proofs.Standing.Quiet.{runs_says}
 use Rattle.die_log.proofs.Legal.Exact.{StandsWell, stands_well, well_served, event_finds}
 use Rattle.die_log.proofs.Tokens.Sums.{all_at}
-use Rattle.die_log.proofs.Tokens.Amounts.{at_other}
 use Rattle.die_log.proofs.Tokens.Taking.{at_none}
 use Rattle.die_log.proofs.Supply.Held.{sum_zero, none_left, all_done}
 use Rattle.die_log.proofs.Supply.Waived.{waives_collections}

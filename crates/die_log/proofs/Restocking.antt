@@ -1,19 +1,22 @@
--- Planned work goes on: where all that came is due by now, and the collections of each task fill the slots so far, the
--- moment is quiet, and a log that starts there is stocked as the one before it was.
-use Rattle.std.proofs.Common.{◌≡◌, ℕ, ◌+◌, ◌*◌, ◌<◌, ◌≤◌, List, ◌++◌, length, ap, ◌∙◌, arith, slice_index}
-use Rattle.std.specs.Prelude.{Contains}
+-- Planned work goes on: where the periods end, the moment is quiet, and a log that starts there is stocked as the one
+-- before it was.
+use Rattle.std.proofs.Common.{◌≡◌, ℕ, ◌+◌, ◌*◌, ◌≤◌, List, ◌++◌, ap, arith, slice_index}
 use Rattle.slot_types.specs.declared.events.Event.{Event}
 use Rattle.slot_types.specs.declared.plans.TaskTimes.{TaskTimes}
 use Rattle.slot_types.specs.declared.plans.Times.{Times}
 use Rattle.plan_rules.specs.Times.{times_of, Passes}
 use Rattle.plan_rules.specs.Keeping.{KeepsPlan}
+use Rattle.plan_rules.proofs.Moments.{slots_append}
+use Rattle.slot_types.specs.declared.limits.TheConstants.{MAX_SLOT}
 use Rattle.die_log.specs.Start.{Start}
 use Rattle.die_log.specs.Opening.{IsOpening, IsQuiet, renewed}
-use Rattle.die_log.specs.Log.{Log, Job, jobs, now}
+use Rattle.die_log.specs.Log.{Log, jobs, now}
 use Rattle.die_log.specs.Answers.{IsExact}
-use Rattle.die_log.specs.Planned.{told, IsInTime}
+use Rattle.die_log.specs.Planned.{told, IsInTime, IsAtPeriodEnd}
 use Rattle.die_log.specs.Supply.{balance_of, collections_of, pending_at, AreStocked}
 use Rattle.die_log.proofs.Supply.Held.{pending_none}
+use Rattle.die_log.proofs.Supply.Following.{follows}
+use Rattle.die_log.proofs.Supply.Multiples.{collections_fill}
 use Rattle.die_log.proofs.Supply.RunningOn.{never_late}
 use Rattle.die_log.proofs.Supply.Along.{supplied}
 
@@ -26,17 +29,18 @@ again p q w cap bal count n pend h none is =
 
 pub goes_on : (start : Start) (times : Times) → IsOpening start → Passes start.plan times → AreStocked start times
     → (log : Log) (rest : List Event) → IsExact start log → KeepsPlan start.plan times (told log ++ rest)
-    → ((j : Job) → Contains (jobs log) j → j.due ≤ now log)
-    → ((task : ℕ) → task < length start.plan.caps → (times_of times task).collect_period * collections_of (jobs log) task ≡ now log)
-    → IsQuiet start log × AreStocked (renewed start log) times
-goes_on start times bound passes stocked log rest exact keeps due_by turned =
-    let in_time : IsInTime start.plan log = never_late start times bound passes log exact rest keeps in (
-      λ j stands. in_time.due_by_now j stands (due_by j stands),
+    → IsAtPeriodEnd start.plan times log → IsQuiet start log × AreStocked (renewed start log) times
+goes_on start times bound passes stocked log rest exact keeps ends =
+    let in_time : IsInTime start.plan log = never_late start times bound passes log exact rest keeps in
+    let f = follows start times log exact rest keeps in
+    let within : now log ≤ MAX_SLOT = omega (arith, keeps.few_slots, slots_append (told log) rest, f.clock) in (
+      λ j stands. in_time.due_by_now j stands (ends.due_by_now j stands),
       λ task lt.
           let t : TaskTimes = times_of times task in
           let covered = (supplied start times bound passes stocked log exact rest keeps task lt).covered (now log) (omega arith)
-          (λ j stands kind is. due_by j stands) in
+          (λ j stands kind is. ends.due_by_now j stands) in
           again t.period t.collect_period t.writes (slice_index start.plan.caps task) (balance_of start log task)
           (collections_of (jobs log) task) (now log) (pending_at start.plan log task) covered
-          (pending_none start.plan log task in_time (λ j stands kind is. due_by j stands)) (turned task lt),
+          (pending_none start.plan log task in_time (λ j stands kind is. ends.due_by_now j stands))
+          (collections_fill start.plan times log rest task keeps f within ends lt),
     )

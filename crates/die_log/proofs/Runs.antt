@@ -1,6 +1,5 @@
 -- A run of an exact log is exact.
 use Rattle.std.proofs.Common.{◌≡◌, ℕ, List, [], ◌∷◌, refl, sym}
-use Rattle.slot_types.specs.declared.plans.DiePlan.{DiePlan}
 use Rattle.slot_types.specs.declared.events.Event.{Event}
 use Rattle.slot_types.specs.declared.replies.Reply.{Reply}
 use Rattle.slot_types.specs.declared.replies.Reply.TheVariants as replies

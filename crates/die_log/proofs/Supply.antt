@@ -7,6 +7,7 @@ pub mod Taking
 pub mod Waived
 pub mod Held
 pub mod Following
+pub mod Multiples
 pub mod RunningOn
 pub mod Along
 pub mod Unrefused

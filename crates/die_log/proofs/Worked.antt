@@ -16,4 +16,7 @@ pub mod TrimmedPage
 pub mod TrimmedCopy
 mod Certificates
 mod LegalCollection
-mod PlannedWork
+pub mod PlannedWork
+pub mod TwoLives
+mod PlannedLives
+mod NeededCalls

@@ -18,3 +18,7 @@ mod MoreOwedThanFree
 mod WaiverGivesWrong
 mod WrongWaivers
 mod ActsOutOfTurn
+mod OnlyTheLastLife
+mod WearOfTheLastLife
+mod TokensForNothing
+mod TrimmedPageComesBack

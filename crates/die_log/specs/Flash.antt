@@ -1,10 +1,9 @@
 -- What the acts of a die did: the contents of its pages, and its cells.
-use Rattle.std.specs.Prelude.{ℕ, ◌+◌, ◌-◌, ◌&&◌, ◌==◌, nat_lt, Bool, if◌then◌else◌, List, [], ◌∷◌, Option, Some, None, replicate}
+use Rattle.std.specs.Prelude.{ℕ, ◌+◌, ◌-◌, ◌&&◌, ◌==◌, nat_lt, Bool, if◌then◌else◌, List, [], ◌∷◌, Option, Some, None}
 use Rattle.std.specs.Prelude.{slice_index_or, slice_set, position, count_by, sum_by, option_map}
 use Rattle.std.specs.List.{filter_map, range_with_len}
 use Rattle.slot_types.specs.declared.plans.DiePlan.{DiePlan}
 use Rattle.slot_types.specs.declared.pages.PageData.{PageData}
-use Rattle.slot_types.specs.declared.pages.Place.{Place}
 use Rattle.slot_types.specs.Places.{is_in, place_of, owner_of}
 use Rattle.slot_types.specs.declared.acts.Act.TheVariants as does
 use Rattle.slot_types.specs.declared.replies.Reply.{Reply}

@@ -1,7 +1,9 @@
 -- Which logs events leave, and what a plan with times promises of them.
-use Rattle.std.specs.Prelude.{◌≡◌, ℕ, ◌⊎◌, ◌≤◌, List, [], ◌∷◌, ◌++◌, Contains, IsTrue, pos, ◌≤ℤ◌}
+use Rattle.std.specs.Prelude.{◌≡◌, ℕ, ◌⊎◌, ◌<◌, ◌≤◌, ◌%◌, List, [], ◌∷◌, ◌++◌, length, Contains, IsTrue, pos, ◌≤ℤ◌}
 use Rattle.slot_types.specs.Arrivals.{IsArrival}
 use Rattle.slot_types.specs.declared.plans.DiePlan.{DiePlan}
+use Rattle.slot_types.specs.declared.plans.Times.{Times}
+use Rattle.plan_rules.specs.Times.{times_of}
 use Rattle.slot_types.specs.declared.events.Event.{Event}
 use Rattle.slot_types.specs.declared.replies.Reply.{Reply}
 use Rattle.die_log.specs.Log.{Log, Job, jobs, now, is_waived}
@@ -32,3 +34,9 @@ pub record IsInTime (plan : DiePlan) (log : Log) : Type 0 where
 abbrev pub AreAccepted : Start → Log → List (ℕ × Event) → Type 0
 AreAccepted start past [] = Unit {0}
 AreAccepted start past (call ∷ calls) = IsAccepted (answer start past call.1) × AreAccepted start (after_call start past call) calls
+
+-- a moment at which the periods end: all that was accepted is due by now, and the slot is a multiple of every collect
+-- period
+pub record IsAtPeriodEnd (plan : DiePlan) (times : Times) (log : Log) : Type 0 where
+  pub due_by_now : (j : Job) → Contains (jobs log) j → j.due ≤ now log
+  pub multiple : (task : ℕ) → task < length plan.caps → now log % (times_of times task).collect_period ≡ 0

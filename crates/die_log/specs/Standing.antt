@@ -1,6 +1,5 @@
 -- What stands of an exact log: its jobs, its cells and its running collections.
 use Rattle.std.specs.Prelude.{◌≡◌, ℕ, ◌+◌, ◌<◌, ◌≤◌, true, false, List, [], ◌∷◌, length, Some, Contains}
-use Rattle.slot_types.specs.declared.plans.DiePlan.{DiePlan}
 use Rattle.slot_types.specs.declared.acts.Act.TheVariants as does
 use Rattle.die_log.specs.Log.{Log, Job, jobs, acts, work}
 use Rattle.die_log.specs.Flash.{cells, block_at}

@@ -1,6 +1,5 @@
 -- What the accounts of an exact log come to, and that it is legal.
 use Rattle.std.specs.Prelude.{◌≡◌, ℕ, ◌+◌, ◌≤◌, true, Some}
-use Rattle.slot_types.specs.declared.plans.DiePlan.{DiePlan}
 use Rattle.die_log.specs.Log.{Log, Job, job_at, acts, is_waived}
 use Rattle.die_log.specs.Flash.{cells, valid}
 use Rattle.die_log.specs.Work.{victim_of}

@@ -8,23 +8,26 @@ ghost use Rattle.slot_types.specs.declared.plans.Times.{Times};
 ghost use Rattle.plan_rules.specs.Bound.{MeetsBound};
 ghost use Rattle.die_log.specs.Start.{Start, fresh};
 ghost use Rattle.die_log.specs.Opening.{IsOpening, IsQuiet, renewed};
-ghost use Rattle.plan_rules.specs.Times.{times_of, Passes};
+ghost use Rattle.die_log.specs.Laws.{ForEveryExactLog};
+ghost use Rattle.die_log.specs.Certified.{NothingDone};
+ghost use Rattle.plan_rules.specs.Times.{Passes};
 ghost use Rattle.plan_rules.specs.Keeping.{KeepsPlan};
 ghost use Rattle.late_cert.specs.declared.certificates.Certificate.{Certificate};
 ghost use Rattle.late_cert.specs.Schedule.{IsLeastLate};
 ghost use Rattle.late_cert.specs.Stretch.{CarriesLeastKeys};
 ghost use Rattle.die_log.specs.Log.{Log, Job, calls, jobs, now, acts, work};
-ghost use Rattle.die_log.specs.Work.{is_done, is_copy_program, worst, IsWorst};
+ghost use Rattle.die_log.specs.Work.{is_done, is_copy_program, victim_of, worst, IsWorst};
 ghost use Rattle.die_log.specs.Answers.{refusal_of, run, IsExact};
 ghost use Rattle.die_log.specs.Legal.{IsLegal};
 ghost use Rattle.die_log.specs.Limits.{KeepsLimits};
 ghost use Rattle.die_log.specs.Standing.{Stands};
 ghost use Rattle.die_log.specs.Well.{IsWell};
 ghost use Rattle.die_log.specs.Held.{held_of};
-ghost use Rattle.die_log.specs.Planned.{told, AreEntered, IsInTime, AreAccepted};
-ghost use Rattle.die_log.specs.Supply.{hold_of, collections_of, AreStocked};
+ghost use Rattle.die_log.specs.Planned.{told, AreEntered, IsInTime, AreAccepted, IsAtPeriodEnd};
+ghost use Rattle.die_log.specs.Supply.{hold_of, AreStocked};
 ghost use Rattle.die_log.specs.Rows.{rows, carried_numbers, certificate, IsCertified};
 ghost use Rattle.die_log.specs.Promised.{KeepsPromises};
+ghost use Rattle.die_log.specs.Victims.{IsFirstTurn, IsSmallVictim, HasFirstAct};
 
 /// Two exact logs of one start with the same calls are one log: each call has one answer.
 pub fn equal_calls_have_one_answer()
@@ -45,14 +48,14 @@ pub fn exact_keeps_limits()
 
 /// Exact logs that start at an opening are legal.
 pub fn exact_is_legal()
-    ensures { (start : Start) → IsOpening start → (log : Log) → IsExact start log → IsLegal start log }
+    ensures { ForEveryExactLog IsLegal }
 {}
 
 /// After each exact log that starts at an opening the jobs, the cells and the collections stand,
 /// and the accounts come to what the log says.
 pub fn exact_stands()
-    ensures stands { (start : Start) → IsOpening start → (log : Log) → IsExact start log → Stands start log }
-    ensures well { (start : Start) → IsOpening start → (log : Log) → IsExact start log → IsWell start log }
+    ensures stands { ForEveryExactLog Stands }
+    ensures well { ForEveryExactLog IsWell }
 {}
 
 /// What is read off any log as its worst job is the done one with the greatest lateness, of equal
@@ -67,7 +70,7 @@ pub fn worst_is_worst()
 /// Each slot of an exact log that starts at an opening carried the least key, of due and number, of
 /// those that waited in it: all that were released, not done and not waived.
 pub fn exact_carries_least_keys()
-    ensures { (start : Start) → IsOpening start → (log : Log) → IsExact start log → CarriesLeastKeys (rows start.plan log) (carried_numbers log) }
+    ensures { ForEveryExactLog (λ start log. CarriesLeastKeys (rows start.plan log) (carried_numbers log)) }
 {}
 
 /// At each moment of an exact log that starts at an opening the greatest lateness so far is least:
@@ -81,24 +84,33 @@ pub fn exact_is_least_late()
 /// The certificate of an exact log that starts at an opening: none where nothing is done, and else
 /// that of its worst job, which holds over the log's rows.
 pub fn exact_is_certified()
-    ensures none { (start : Start) → IsOpening start → (log : Log) → IsExact start log → (certificate start.plan log ≡ None)
-        ↔ ((j : Job) → Contains (jobs log) j → IsFalse (is_done start.plan log j)) }
-    ensures worst { (start : Start) → IsOpening start → (log : Log) → IsExact start log → (j : Job) → worst start.plan log ≡ Some j
-        → (c : Certificate) × (certificate start.plan log ≡ Some c) × IsCertified start.plan log j c }
+    ensures none { ForEveryExactLog (λ start log. (certificate start.plan log ≡ None) ↔ NothingDone start.plan log) }
+    ensures worst { ForEveryExactLog (λ start log. (j : Job) → worst start.plan log ≡ Some j
+        → (c : Certificate) × (certificate start.plan log ≡ Some c) × IsCertified start.plan log j c) }
 {}
 
 /// In an exact log that starts at an opening a collection copies at most the pages that its collector
 /// keeps in reserve, and takes at most two slots for each of these beside those of its erase.
 pub fn collections_are_bounded()
-    ensures copies { (start : Start) → IsOpening start → (log : Log) → IsExact start log → (j : Job) → Contains (jobs log) j → j.collects
-        ≡ true → count_by is_copy_program (acts j.number log) ≤ start.plan.shape.pages - start.plan.alpha }
-    ensures slots { (start : Start) → IsOpening start → (log : Log) → IsExact start log → (j : Job) → Contains (jobs log) j → j.collects
-        ≡ true → work j.number log ≤ 2 * (start.plan.shape.pages - start.plan.alpha) + start.plan.shape.erase_slots }
+    ensures copies { ForEveryExactLog (λ start log. (j : Job) → Contains (jobs log) j → j.collects ≡ true
+        → count_by is_copy_program (acts j.number log) ≤ start.plan.shape.pages - start.plan.alpha) }
+    ensures slots { ForEveryExactLog (λ start log. (j : Job) → Contains (jobs log) j → j.collects ≡ true
+        → work j.number log ≤ 2 * (start.plan.shape.pages - start.plan.alpha) + start.plan.shape.erase_slots) }
+{}
+
+/// The pigeonhole, told of logs. A collection that begins in an exact log that starts at an opening finds a victim, and
+/// that block has at most `pages - alpha` valid pages: so at each moment at which such a collection has the next slot,
+/// and so in each slot that carried the first act of one, whose block is then the victim of that moment.
+pub fn collections_find_victims()
+    ensures next { ForEveryExactLog (λ start log. (j : Job) → IsFirstTurn start log j
+        → (b : ℕ) × IsSmallVictim start log b) }
+    ensures carried { ForEveryExactLog (λ start log. (past : Log) (j : Job) → HasFirstAct log past j
+        → (b : ℕ) × IsSmallVictim start past b × (victim_of start j.number log ≡ Some b)) }
 {}
 
 /// An exact log that starts at an opening keeps all that is promised of a log, and so did it at each earlier moment.
 pub fn exact_keeps_promises()
-    ensures log { (start : Start) → IsOpening start → (log : Log) → IsExact start log → KeepsPromises start log }
+    ensures log { ForEveryExactLog KeepsPromises }
     ensures moments { (start : Start) → IsOpening start → (later moment : Log) → IsExact start (later ++ moment)
         → KeepsPromises start moment }
 {}
@@ -106,8 +118,8 @@ pub fn exact_keeps_promises()
 /// What an exact log that starts at an opening holds for a task is what the task's accepted jobs still owe: those of
 /// their writes that were not carried out yet.
 pub fn holds_are_owed()
-    ensures { (start : Start) → IsOpening start → (log : Log) → IsExact start log →
-        (task : ℕ) → task < length start.plan.caps → hold_of start log task ≡ held_of (λ n. acts n log) (jobs log) task }
+    ensures { ForEveryExactLog (λ start log. (task : ℕ) → task < length start.plan.caps
+        → hold_of start log task ≡ held_of (λ n. acts n log) (jobs log) task) }
 {}
 
 /// Nothing is late that was planned. Let the log start at an opening whose plan passes the test of its times, and let
@@ -143,13 +155,11 @@ pub fn quiet_moments_are_openings()
     ensures { (start : Start) (log : Log) → IsOpening start → IsExact start log → IsQuiet start log → IsOpening (renewed start log) }
 {}
 
-/// Planned work goes on over renewals. Let the log start stocked, and let the events keep a passing plan; let all that came
-/// be due by now, and let each task's collections fill the slots so far, as they do at a multiple of all periods. Then the
-/// moment is quiet, and a log that starts there is stocked again: so nothing of the next such events is refused or late.
+/// Planned work goes on over renewals. Let the log start stocked, and let the events keep a passing plan; let all that
+/// was accepted be due by now, and let the slot be a multiple of every collect period. Then the moment is quiet, and a
+/// log that starts there is stocked again: so nothing of the next such events is refused or late.
 pub fn planned_work_goes_on()
     ensures { (start : Start) (times : Times) → IsOpening start → Passes start.plan times → AreStocked start times →
         (log : Log) (rest : List Event) → IsExact start log → KeepsPlan start.plan times (told log ++ rest) →
-        ((j : Job) → Contains (jobs log) j → j.due ≤ now log) →
-        ((task : ℕ) → task < length start.plan.caps → (times_of times task).collect_period * collections_of (jobs log) task ≡ now log) →
-        IsQuiet start log × AreStocked (renewed start log) times }
+        IsAtPeriodEnd start.plan times log → IsQuiet start log × AreStocked (renewed start log) times }
 {}

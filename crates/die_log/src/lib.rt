@@ -18,7 +18,12 @@
 //! - `Promised`: all that is promised of a log, in one record;
 //! - `Planned`: the logs that events leave, and what a plan with times promises of them;
 //! - `Opening`: from which starts a log may begin; when all is done, and what stands then, as a start;
-//! - `Supply`: what the balance of a task lacks at most, where the events keep such a plan.
+//! - `Supply`: what the balance of a task lacks at most, where the events keep such a plan;
+//! - `Victims`: when a collection begins, and what it finds;
+//! - `Lives`: all logs of a die, each of which starts at what the one before it left: what was last written, the rows
+//!   and slots of them all, the erases;
+//! - `PlannedLives`: planned work over all of them;
+//! - `Laws`: what a law is told of: every exact log, each life, all lives.
 //!
 //! `Limits`, `Sound`, `Standing`, `Held` and `Well` say what else stands behind every exact log. The definitions
 //! run: `proofs/Worked` has small logs whose answers, cells, accounts and lateness are computed, `proofs/Wrong`
@@ -28,11 +33,16 @@
 #![tactic(auto)]
 
 mod laws;
+mod lives;
 
 pub use laws::{
-    collections_are_bounded, equal_calls_have_one_answer, exact_carries_least_keys,
-    exact_is_certified, exact_is_least_late, exact_is_legal, exact_keeps_limits,
-    exact_keeps_promises, exact_stands, fresh_is_opening, holds_are_owed, moments_are_exact,
-    planned_work_goes_on, planned_work_is_accepted, planned_work_is_in_time,
+    collections_are_bounded, collections_find_victims, equal_calls_have_one_answer,
+    exact_carries_least_keys, exact_is_certified, exact_is_least_late, exact_is_legal,
+    exact_keeps_limits, exact_keeps_promises, exact_stands, fresh_is_opening, holds_are_owed,
+    moments_are_exact, planned_work_goes_on, planned_work_is_accepted, planned_work_is_in_time,
     quiet_moments_are_openings, worst_is_worst,
+};
+pub use lives::{
+    few_erases, lives_are_least_late, lives_keep_promises, lives_tell_the_last_write,
+    planned_lives_go_on, wear_adds_up,
 };

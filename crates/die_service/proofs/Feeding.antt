@@ -1,12 +1,13 @@
 -- The rows of a feed, and what a course reads of them.
-use Rattle.std.proofs.Common.{◌≡◌, ℕ, zero, suc, ◌+◌, ◌<◌, ◌≤◌, Bool, true, false, List, [], ◌∷◌, ◌++◌, Option, Some, None}
-use Rattle.std.proofs.Common.{refl, sym, ap, ◌∙◌, subst, arith, length, take, drop, slice_get, length-append}
-use Rattle.std.specs.Prelude.{option_map}
+use Rattle.std.proofs.Common.{◌≡◌, ℕ, zero, suc, ◌+◌, ◌-◌, ◌<◌, ◌≤◌, Bool, true, false, true≢false, List, [], ◌∷◌, ◌++◌, Option, Some, None}
+use Rattle.std.proofs.Common.{refl, sym, ap, ◌∙◌, subst, arith, length, take, drop, slice_get, get_or, length-append}
+use Rattle.std.specs.Prelude.{option_map, not, ◌&&◌, nat_le}
+use Rattle.std.proofs.lemmas.Bool.Decides.{nat_tests}
 use Rattle.std.specs.List.{AllByRecursion}
 use Rattle.std.proofs.Math.Seq.{drop-append_seam}
-use Rattle.std.proofs.lemmas.List.{length-take, length-drop, take_all, take-append-le, drop-append-le, map-append}
-use Rattle.std.proofs.lemmas.List.Elements.{All-from_recursion, recursion_from_All, All-push, All-weaker}
-use Rattle.std.proofs.lemmas.Option.{none-some, same_Some, slice_get-map}
+use Rattle.std.proofs.lemmas.List.{length-take, length-drop, take_all, take-append-le, drop-append-le}
+use Rattle.std.proofs.lemmas.List.Elements.{All-from_recursion, recursion_from_All}
+use Rattle.std.proofs.lemmas.Option.{none-some, same_Some, slice_get-get_or}
 use Rattle.slot_types.specs.Arrivals.{IsArrival, arrival_of}
 use Rattle.slot_types.proofs.Arriving.{arrived_none, later_none}
 use Rattle.slot_types.specs.declared.events.Event.{Event}
@@ -14,93 +15,17 @@ use Rattle.slot_types.specs.declared.events.Op.{Op}
 use Rattle.die_service.specs.declared.ends.RefusedEvent.{RefusedEvent}
 use Rattle.die_service.specs.declared.feeds.Arrival.{Arrival}
 use Rattle.die_service.specs.declared.feeds.FeedRow.{FeedRow}
-use Rattle.die_service.specs.Feeds.{op_count, HaveAtMost, ops_at, event_at, arrival_at, feed_at, IsRowOf, AreRowsOf}
+use Rattle.slot_types.specs.declared.events.JobHead.{JobHead}
+use Rattle.slot_core.specs.declared.events.EventHead.{EventHead}
+use Rattle.slot_core.specs.declared.events.EventHead.TheVariants as heads
+use Rattle.slot_core.specs.Events.{with_ops}
+use Rattle.die_service.specs.Feeds.{ops_in, op_count, HaveAtMost, ops_between, arrival_at, feed_from, AreRowsOf, begins_at, last_end}
+use Rattle.die_service.specs.Feeds.{is_job, arrives, follows, all_follow, IsInOrder}
+use Rattle.die_service.proofs.Packing.{slice_get_drop}
 use Rattle.die_service.specs.Runs.{AllArrive, comes_at}
 use Rattle.die_service.specs.Drives.{Course, Comes, NoneDue}
 
--- Rows
-
-row_stays : (ops more : List Op) (row : FeedRow) → row.first_op + row.op_count ≤ length ops → arrival_at (ops ++ more) row
-    ≡ arrival_at ops row
-row_stays ops more row there = ap (λ (l : List Op). record {
-  at = row.at;
-  event = arrival_of row.head l;
-}) same
-  where
-    same : ops_at (ops ++ more) row ≡ ops_at ops row
-    same =
-        ap (take row.op_count) (drop-append-le row.first_op ops more (omega (arith, there)))
-        ∙ take-append-le row.op_count (drop row.first_op ops) more (omega (arith, there, length-drop row.first_op ops))
-
-rows_stay : (ops more : List Op) (most : ℕ) (rows : List FeedRow) → AllByRecursion (IsRowOf ops most) rows → feed_at (ops ++ more) rows
-    ≡ feed_at ops rows
-rows_stay ops more most [] are = refl
-rows_stay ops more most (row ∷ rows) are = ap (λ (a : Arrival). a ∷ feed_at (ops ++ more) rows) (row_stays ops more row are.0.there)
-    ∙ ap (λ (l : List Arrival). arrival_at ops row ∷ l) (rows_stay ops more most rows are.1)
-
--- one row more, over operations that go on
-pub feed_more : (ops more : List Op) (most : ℕ) (rows : List FeedRow) (row : FeedRow) → AreRowsOf ops most rows
-    → feed_at (ops ++ more) (rows ++ row ∷ []) ≡ feed_at ops rows ++ arrival_at (ops ++ more) row ∷ []
-feed_more ops more most rows row are =
-    map-append (arrival_at (ops ++ more)) rows (row ∷ [])
-    ∙ ap (λ (l : List Arrival). l ++ arrival_at (ops ++ more) row ∷ [])
-    (rows_stay ops more most rows (recursion_from_All (IsRowOf ops most) rows are))
-
-pub rows_more : (ops more : List Op) (most most2 : ℕ) (rows : List FeedRow) (row : FeedRow) → most ≤ most2 → IsRowOf (ops ++ more) most2 row
-    → AreRowsOf ops most rows → AreRowsOf (ops ++ more) most2 (rows ++ row ∷ [])
-rows_more ops more most most2 rows row rise is are =
-    All-push (IsRowOf (ops ++ more) most2) rows row (All-weaker (IsRowOf ops most) (IsRowOf (ops ++ more) most2) (λ other h. record {
-      there = omega (arith, h.there, length-append ops more);
-      few = omega (arith, h.few);
-    }) rows are) is
-
--- the operations of a job that came last
-pub new_ops : (ops more : List Op) (first count : ℕ) → first ≡ length ops → count ≡ length more → take count (drop first (ops ++ more))
-    ≡ more
-new_ops ops more first count first_is count_is = ap (λ n. take count (drop n (ops ++ more))) first_is
-    ∙ ap (take count) (drop-append_seam ops more) ∙ take_all count more (omega (arith, count_is))
-
-few_ops : (ops : List Op) (most : ℕ) (row : FeedRow) (b : Bool) → row.head.collects ≡ b → IsRowOf ops most row → op_count (event_at ops row)
-    ≤ most
-few_ops ops most row true e is = rw e (omega arith)
-few_ops ops most row false e is = rw e (omega (arith, is.few, length-take row.op_count (drop row.first_op ops)))
-
-few_by : (ops : List Op) (most : ℕ) (rows : List FeedRow) → AllByRecursion (IsRowOf ops most) rows
-    → AllByRecursion (λ (a : Arrival). op_count a.event ≤ most) (feed_at ops rows)
-few_by ops most [] are = tt
-few_by ops most (row ∷ rows) are = (few_ops ops most row row.head.collects refl are.0, few_by ops most rows are.1)
-
-pub have_at_most : (ops : List Op) (most : ℕ) (rows : List FeedRow) → AreRowsOf ops most rows → HaveAtMost most (feed_at ops rows)
-have_at_most ops most rows are = All-from_recursion (λ (a : Arrival). op_count a.event ≤ most) (feed_at ops rows)
-    (few_by ops most rows (recursion_from_All (IsRowOf ops most) rows are))
-
--- A place
-
-all_at : {A : Type 0} (P : A → Type 0) (xs : List A) (n : ℕ) (x : A) → AllByRecursion P xs → slice_get xs n ≡ Some x → P x
-all_at P [] n x all at = absurd (none-some x at)
-all_at P (y ∷ xs) zero x all at = subst P (same_Some y x at) all.0
-all_at P (y ∷ xs) (suc n) x all at = all_at P xs n x all.1 at
-
--- the row of a place
-pub row_at : (ops : List Op) (most : ℕ) (rows : List FeedRow) (n : ℕ) (row : FeedRow) → slice_get rows n ≡ Some row
-    → AreRowsOf ops most rows → IsRowOf ops most row
-row_at ops most rows n row at are = all_at (IsRowOf ops most) rows n row (recursion_from_All (IsRowOf ops most) rows are) at
-
-pub place_at : (ops : List Op) (rows : List FeedRow) (n : ℕ) (row : FeedRow) → slice_get rows n ≡ Some row → slice_get (feed_at ops rows) n
-    ≡ Some (arrival_at ops row)
-place_at ops rows n row at = slice_get-map (arrival_at ops) rows n ∙ ap (option_map (arrival_at ops)) at
-
--- there is room for the operations of the job of a place
-pub room_at : (ops : List Op) (most room : ℕ) (rows : List FeedRow) (n : ℕ) (row : FeedRow) → slice_get rows n ≡ Some row
-    → row.head.collects ≡ false → IsRowOf ops most row → HaveAtMost room (feed_at ops rows) → row.op_count ≤ room
-room_at ops most room rows n row at job is h =
-    let few : op_count (event_at ops row) ≤ room = all_at (λ (a : Arrival). op_count a.event ≤ room) (feed_at ops rows) n
-    (arrival_at ops row) (recursion_from_All (λ (a : Arrival). op_count a.event ≤ room) (feed_at ops rows) h)
-    (place_at ops rows n row at) in
-    let counted : op_count (event_at ops row) ≡ length (take row.op_count (drop row.first_op ops)) = rw job refl in
-    omega (arith, few, counted, is.there, length-take row.op_count (drop row.first_op ops), length-drop row.first_op ops)
-
--- A course
+-- Lists
 
 drop_next : {A : Type 0} (xs : List A) (n : ℕ) (x : A) → slice_get xs n ≡ Some x → drop n xs ≡ x ∷ drop (n + 1) xs
 drop_next [] n x at = absurd (none-some x at)
@@ -114,6 +39,260 @@ drop_past [] zero past = refl
 drop_past [] (suc n) past = refl
 drop_past (x ∷ xs) zero past = absurd (omega (arith, past))
 drop_past (x ∷ xs) (suc n) past = drop_past xs n (omega (arith, past))
+
+-- Rows
+
+pub end_within : (most first : ℕ) (rows : List FeedRow) → AreRowsOf most first rows → first ≤ last_end first rows
+end_within most first [] are = let same : first ≤ first = omega arith in same
+end_within most first (row ∷ rows) are = let later = end_within most row.ops_end rows are.2 in let here = are.0 in omega arith
+
+row_stays : (ops more : List Op) (first : ℕ) (row : FeedRow) → first ≤ row.ops_end → row.ops_end ≤ length ops
+    → arrival_at (ops ++ more) first row ≡ arrival_at ops first row
+row_stays ops more first row forward there = ap (λ (l : List Op). record { at = row.at; event = with_ops row.head l }) same
+  where
+    same : ops_between (ops ++ more) first row.ops_end ≡ ops_between ops first row.ops_end
+    same =
+        ap (take (row.ops_end - first)) (drop-append-le first ops more (omega (arith, forward, there)))
+        ∙ take-append-le (row.ops_end - first) (drop first ops) more (omega (arith, forward, there, length-drop first ops))
+
+-- the operations of a job that came last
+pub new_ops : (ops more : List Op) (first count : ℕ) → first ≡ length ops → count ≡ length more → take count (drop first (ops ++ more))
+    ≡ more
+new_ops ops more first count first_is count_is = ap (λ n. take count (drop n (ops ++ more))) first_is
+    ∙ ap (take count) (drop-append_seam ops more) ∙ take_all count more (omega (arith, count_is))
+
+-- one row more, over operations that go on
+pub feed_more : (ops more : List Op) (most first : ℕ) (rows : List FeedRow) (row : FeedRow) → AreRowsOf most first rows
+    → last_end first rows ≡ length ops → row.ops_end ≡ length ops + length more
+    → feed_from (ops ++ more) first (rows ++ row ∷ [])
+    ≡ feed_from ops first rows ++ record { at = row.at; event = with_ops row.head more } ∷ []
+feed_more ops more most first [] row are ends is = ap (λ (l : List Op). record { at = row.at; event = with_ops row.head l } ∷ [])
+    (new_ops ops more first (row.ops_end - first) ends (omega (arith, ends, is)))
+feed_more ops more most first (r ∷ rows) row are ends is =
+    ap (λ (a : Arrival). a ∷ feed_from (ops ++ more) r.ops_end (rows ++ row ∷ [])) (row_stays ops more first r are.0
+    (let within = end_within most r.ops_end rows are.2 in omega (arith, ends, within)))
+    ∙ ap (λ (l : List Arrival). arrival_at ops first r ∷ l) (feed_more ops more most r.ops_end rows row are.2 ends is)
+
+pub rows_more : (most most2 first : ℕ) (rows : List FeedRow) (row : FeedRow) → most ≤ most2 → AreRowsOf most first rows
+    → last_end first rows ≤ row.ops_end → row.ops_end - last_end first rows ≤ most2 → AreRowsOf most2 first (rows ++ row ∷ [])
+rows_more most most2 first [] row rise are forward few = (forward, few, tt)
+rows_more most most2 first (r ∷ rows) row rise are forward few =
+    (are.0, (let few_here = are.1 in omega (arith, few_here, rise)), rows_more most most2 r.ops_end rows row rise are.2 forward few)
+
+pub end_more : (first : ℕ) (rows : List FeedRow) (row : FeedRow) → last_end first (rows ++ row ∷ []) ≡ row.ops_end
+end_more first [] row = refl
+end_more first (r ∷ rows) row = end_more r.ops_end rows row
+
+pub length_feed : (ops : List Op) (first : ℕ) (rows : List FeedRow) → length (feed_from ops first rows) ≡ length rows
+length_feed ops first [] = refl
+length_feed ops first (row ∷ rows) = ap suc (length_feed ops row.ops_end rows)
+
+count_arrival : (head : JobHead) (ops : List Op) (b : Bool) → head.collects ≡ b → op_count (arrival_of head ops) ≤ length ops
+count_arrival head ops true e = rw e (omega arith)
+count_arrival head ops false e = rw e (omega arith)
+
+-- an event has no more operations than lie beside its head
+pub few_ops : (head : EventHead) (ops : List Op) → op_count (with_ops head ops) ≤ length ops
+few_ops (heads.Arrive head) ops = count_arrival head ops head.collects refl
+few_ops heads.Slot ops = omega arith
+
+few_by : (ops : List Op) (most first : ℕ) (rows : List FeedRow) → AreRowsOf most first rows
+    → AllByRecursion (λ (a : Arrival). op_count a.event ≤ most) (feed_from ops first rows)
+few_by ops most first [] are = tt
+few_by ops most first (row ∷ rows) are = (
+  let few = few_ops row.head (ops_between ops first row.ops_end) in
+      let most_here = are.1 in
+      omega (arith, few, most_here, length-take (row.ops_end - first) (drop first ops)),
+  few_by ops most row.ops_end rows are.2,
+)
+
+pub have_at_most : (ops : List Op) (most : ℕ) (rows : List FeedRow) → AreRowsOf most 0 rows → HaveAtMost most (feed_from ops 0 rows)
+have_at_most ops most rows are = All-from_recursion (λ (a : Arrival). op_count a.event ≤ most) (feed_from ops 0 rows)
+    (few_by ops most 0 rows are)
+
+-- A place
+
+all_at : {A : Type 0} (P : A → Type 0) (xs : List A) (n : ℕ) (x : A) → AllByRecursion P xs → slice_get xs n ≡ Some x → P x
+all_at P [] n x all at = absurd (none-some x at)
+all_at P (y ∷ xs) zero x all at = subst P (same_Some y x at) all.0
+all_at P (y ∷ xs) (suc n) x all at = all_at P xs n x all.1 at
+
+pub get_at : {A : Type 0} (xs : List A) (n : ℕ) (x : A) → n < length xs → x ≡ get_or xs n x → slice_get xs n ≡ Some x
+get_at xs n x within is = slice_get-get_or xs n x within ∙ ap Some (sym is)
+
+-- where the row of a place lies among the operations
+pub row_at : (most first : ℕ) (rows : List FeedRow) (n : ℕ) (row : FeedRow) → slice_get rows n ≡ Some row → AreRowsOf most first rows
+    → (begins_at first rows n ≤ row.ops_end) × (row.ops_end ≤ last_end first rows)
+row_at most first [] n row at are = absurd (none-some row at)
+row_at most first (r ∷ rows) zero row at are =
+    let same : r ≡ row = same_Some r row at in
+    let within = end_within most r.ops_end rows are.2 in
+    subst (λ (x : FeedRow). (first ≤ x.ops_end) × (x.ops_end ≤ last_end r.ops_end rows)) same (are.0, within)
+row_at most first (r ∷ rows) (suc n) row at are = row_at most r.ops_end rows n row at are.2
+
+-- the operations of a row begin where those of the row before it end
+pub begins_behind : (first : ℕ) (rows : List FeedRow) (n : ℕ) (before : FeedRow) → slice_get rows n ≡ Some before
+    → begins_at first rows (suc n) ≡ before.ops_end
+begins_behind first [] n before at = absurd (none-some before at)
+begins_behind first (r ∷ rows) zero before at = ap (λ (x : FeedRow). x.ops_end) (same_Some r before at)
+begins_behind first (r ∷ rows) (suc n) before at = begins_behind r.ops_end rows n before at
+
+pub place_at : (ops : List Op) (first : ℕ) (rows : List FeedRow) (n : ℕ) (row : FeedRow) → slice_get rows n ≡ Some row
+    → slice_get (feed_from ops first rows) n ≡ Some (arrival_at ops (begins_at first rows n) row)
+place_at ops first [] n row at = absurd (none-some row at)
+place_at ops first (r ∷ rows) zero row at = ap (λ (x : FeedRow). Some (arrival_at ops first x)) (same_Some r row at)
+place_at ops first (r ∷ rows) (suc n) row at = place_at ops r.ops_end rows n row at
+
+pub none_at : (ops : List Op) (first : ℕ) (rows : List FeedRow) (n : ℕ) → slice_get rows n ≡ None
+    → slice_get (feed_from ops first rows) n ≡ None
+none_at ops first [] n at = refl
+none_at ops first (r ∷ rows) zero at = absurd (none-some r (sym at))
+none_at ops first (r ∷ rows) (suc n) at = none_at ops r.ops_end rows n at
+
+job_by : (head : JobHead) (ops : List Op) (b : Bool) → head.collects ≡ b → not b ≡ true → ops_in (arrival_of head ops) ≡ ops
+job_by head ops true e is = absurd (true≢false (sym is))
+job_by head ops false e is = rw e refl
+
+-- the operations of a job are those beside its head
+pub job_ops : (head : EventHead) (ops : List Op) → is_job head ≡ true → ops_in (with_ops head ops) ≡ ops
+job_ops (heads.Arrive head) ops is = job_by head ops head.collects refl is
+job_ops heads.Slot ops is = absurd (true≢false (sym is))
+
+other_by : (head : JobHead) (ops : List Op) (b : Bool) → head.collects ≡ b → not b ≡ false
+    → (ops_in (arrival_of head ops) ≡ []) × (arrival_of head ops ≡ arrival_of head [])
+other_by head ops true e is = rw e (refl, refl)
+other_by head ops false e is = absurd (true≢false is)
+
+-- an event that isn't a job has none
+pub other_ops : (head : EventHead) (ops : List Op) → is_job head ≡ false
+    → (ops_in (with_ops head ops) ≡ []) × (with_ops head ops ≡ with_ops head [])
+other_ops (heads.Arrive head) ops is = other_by head ops head.collects refl is
+other_ops heads.Slot ops is = (refl, refl)
+
+job_if : (head : EventHead) (ops : List Op) (n : ℕ) (b : Bool) → is_job head ≡ b → n < length (ops_in (with_ops head ops)) → b ≡ true
+job_if head ops n true e within = refl
+job_if head ops n false e within = let none = ap length (other_ops head ops e).0 in absurd (omega (arith, within, none))
+
+-- where there is an operation, there is a job
+pub job_of : (head : EventHead) (ops : List Op) (n : ℕ) → n < length (ops_in (with_ops head ops)) → is_job head ≡ true
+job_of head ops n within = job_if head ops n (is_job head) refl within
+
+own_by : (head : JobHead) (ops : List Op) (b : Bool) → head.collects ≡ b → arrival_of head (ops_in (arrival_of head ops))
+    ≡ arrival_of head ops
+own_by head ops true e = rw e refl
+own_by head ops false e = rw e refl
+
+-- an event is its head and its operations
+pub own_ops : (head : EventHead) (ops : List Op) → with_ops head (ops_in (with_ops head ops)) ≡ with_ops head ops
+own_ops (heads.Arrive head) ops = own_by head ops head.collects refl
+own_ops heads.Slot ops = refl
+
+op_length : (head : JobHead) (ops : List Op) (b : Bool) → head.collects ≡ b → op_count (arrival_of head ops)
+    ≡ length (ops_in (arrival_of head ops))
+op_length head ops true e = rw e refl
+op_length head ops false e = rw e refl
+
+counted : (head : EventHead) (ops : List Op) → op_count (with_ops head ops) ≡ length (ops_in (with_ops head ops))
+counted (heads.Arrive head) ops = op_length head ops head.collects refl
+counted heads.Slot ops = refl
+
+pub between_length : (ops : List Op) (first last : ℕ) → first ≤ last → last ≤ length ops → length (ops_between ops first last) ≡ last - first
+between_length ops first last forward there =
+    omega (arith, forward, there, length-take (last - first) (drop first ops), length-drop first ops)
+
+get_taken : {A : Type 0} (xs : List A) (count n : ℕ) → n < count → slice_get (take count xs) n ≡ slice_get xs n
+get_taken [] zero n within = absurd (omega (arith, within))
+get_taken [] (suc count) n within = refl
+get_taken (x ∷ xs) zero n within = absurd (omega (arith, within))
+get_taken (x ∷ xs) (suc count) zero within = refl
+get_taken (x ∷ xs) (suc count) (suc n) within = get_taken xs count n (omega (arith, within))
+
+-- an operation of a row
+pub op_between : (ops : List Op) (first last n : ℕ) → n < last - first → slice_get (ops_between ops first last) n ≡ slice_get ops (first + n)
+op_between ops first last n within = get_taken (drop first ops) (last - first) n within ∙ slice_get_drop ops first n
+
+pub get_past : {A : Type 0} (xs : List A) (n : ℕ) → length xs ≤ n → slice_get xs n ≡ None
+get_past [] n past = refl
+get_past (x ∷ xs) zero past = absurd (omega (arith, past))
+get_past (x ∷ xs) (suc n) past = get_past xs n (omega (arith, past))
+
+-- there is room for the operations of the job of a place
+pub room_at : (ops : List Op) (most room : ℕ) (rows : List FeedRow) (n : ℕ) (row : FeedRow) → slice_get rows n ≡ Some row
+    → is_job row.head ≡ true → AreRowsOf most 0 rows → last_end 0 rows ≡ length ops → HaveAtMost room (feed_from ops 0 rows)
+    → row.ops_end - begins_at 0 rows n ≤ room
+room_at ops most room rows n row at job are ends h =
+    let lies = row_at most 0 rows n row at are in
+    let few : op_count (with_ops row.head (ops_between ops (begins_at 0 rows n) row.ops_end)) ≤ room =
+    all_at (λ (a : Arrival). op_count a.event ≤ room) (feed_from ops 0 rows) n (arrival_at ops (begins_at 0 rows n) row)
+    (recursion_from_All (λ (a : Arrival). op_count a.event ≤ room) (feed_from ops 0 rows) h) (place_at ops 0 rows n row at) in
+    let count = counted row.head (ops_between ops (begins_at 0 rows n) row.ops_end) in
+    let all = ap length (job_ops row.head (ops_between ops (begins_at 0 rows n) row.ops_end) job) in
+    let long = between_length ops (begins_at 0 rows n) row.ops_end lies.0 (omega (arith, lies.1, ends)) in
+    omega (arith, few, count, all, long)
+
+-- In order
+
+head_arrives : (head : EventHead) (ops : List Op) → (arrives head ≡ true → IsArrival (with_ops head ops))
+    × (IsArrival (with_ops head ops) → arrives head ≡ true)
+head_arrives (heads.Arrive head) ops = (λ _. arrival_by head ops head.collects refl, λ _. refl)
+  where
+    arrival_by : (head : JobHead) (ops : List Op) (b : Bool) → head.collects ≡ b → IsArrival (arrival_of head ops)
+    arrival_by head ops true e = rw e tt
+    arrival_by head ops false e = rw e tt
+head_arrives heads.Slot ops = (λ is. absurd (true≢false (sym is)), λ is. absurd is)
+
+both_true : (a b : Bool) → a && b ≡ true → (a ≡ true) × (b ≡ true)
+both_true true true is = (refl, refl)
+both_true true false is = absurd (true≢false (sym is))
+both_true false b is = absurd (true≢false (sym is))
+
+true_both : (a b : Bool) → a ≡ true → b ≡ true → a && b ≡ true
+true_both a b here there = rw (here, there) refl
+
+at_most : (m n : ℕ) → (nat_le m n ≡ true → m ≤ n) × (m ≤ n → nat_le m n ≡ true)
+at_most m n = (λ is. grind (arith, nat_tests), λ le. grind (arith, nat_tests))
+
+-- the rows of a feed that a run may be given are told by their test
+pub in_order : (ops : List Op) (from first : ℕ) (rows : List FeedRow) → all_follow from rows ≡ true
+    → IsInOrder from (feed_from ops first rows)
+in_order ops from first [] is = tt
+in_order ops from first (row ∷ rows) is =
+    let both = both_true (follows from row) (all_follow row.at rows) is in
+    let here = both_true (arrives row.head) (nat_le from row.at) both.0 in (
+      (head_arrives row.head (ops_between ops first row.ops_end)).0 here.0,
+      (at_most from row.at).0 here.1,
+      in_order ops row.at row.ops_end rows both.1,
+    )
+
+pub order_tells : (ops : List Op) (from first : ℕ) (rows : List FeedRow) → IsInOrder from (feed_from ops first rows)
+    → all_follow from rows ≡ true
+order_tells ops from first [] is = refl
+order_tells ops from first (row ∷ rows) is = true_both (follows from row) (all_follow row.at rows)
+    (true_both (arrives row.head) (nat_le from row.at) ((head_arrives row.head (ops_between ops first row.ops_end)).1 is.0)
+    ((at_most from row.at).1 is.1)) (order_tells ops row.at row.ops_end rows is.2)
+
+arrive_by : (from : ℕ) (feed : List Arrival) → IsInOrder from feed → AllByRecursion (λ (a : Arrival). IsArrival a.event) feed
+arrive_by from [] is = tt
+arrive_by from (a ∷ feed) is = (is.0, arrive_by a.at feed is.2)
+
+pub all_arrive : (from : ℕ) (feed : List Arrival) → IsInOrder from feed → AllArrive feed
+all_arrive from feed is = All-from_recursion (λ (a : Arrival). IsArrival a.event) feed (arrive_by from feed is)
+
+-- the test goes over one row more
+pub follows_on : (from2 n : ℕ) (rows : List FeedRow) (row : FeedRow) (b : Bool) → slice_get rows n ≡ Some row → follows from2 row ≡ true
+    → b ≡ all_follow from2 (drop n rows) → b ≡ all_follow row.at (drop (n + 1) rows)
+follows_on from2 n rows row b at is so_far = so_far ∙ ap (all_follow from2) (drop_next rows n row at)
+    ∙ ap (λ (c : Bool). c && all_follow row.at (drop (n + 1) rows)) is
+
+pub follows_not : (from2 n : ℕ) (rows : List FeedRow) (row : FeedRow) (b : Bool) → slice_get rows n ≡ Some row → follows from2 row ≡ false
+    → b ≡ all_follow from2 (drop n rows) → b ≡ false
+follows_not from2 n rows row b at is so_far = so_far ∙ ap (all_follow from2) (drop_next rows n row at)
+    ∙ ap (λ (c : Bool). c && all_follow row.at (drop (n + 1) rows)) is
+
+pub follows_all : (from2 n : ℕ) (rows : List FeedRow) (b : Bool) → length rows ≤ n → b ≡ all_follow from2 (drop n rows) → b ≡ true
+follows_all from2 n rows b past so_far = so_far ∙ ap (all_follow from2) (drop_past rows n past)
+
+-- A course
 
 get_some : {A B : Type 0} (f : A → B) (o : Option A) (y : B) → option_map f o ≡ Some y → (x : A) × (o ≡ Some x) × (f x ≡ y)
 get_some f None y e = absurd (none-some y e)

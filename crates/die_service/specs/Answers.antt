@@ -1,11 +1,12 @@
 -- What a die behind its turn may answer to a question.
-use Rattle.std.specs.Prelude.{◌≡◌, ℕ, ◌⊎◌, ◌↔◌, List, Option, Some, None, Result, Err, IfOk, IfErr, IfSome}
+use Rattle.std.specs.Prelude.{◌≡◌, ℕ, ◌⊎◌, ◌↔◌, List, Option, Some, None, Result, Err, IsOk, IfOk, IfErr, IfSome}
 use Rattle.slot_types.specs.declared.refusals.Refusal.{Refusal}
 use Rattle.slot_types.specs.declared.refusals.Refusal.TheVariants.{NoMemory, UnknownJob}
 use Rattle.late_cert.specs.declared.certificates.Certificate.{Certificate}
 use Rattle.die_log.specs.Log.{Log, job_at, now}
 use Rattle.die_log.specs.Rows.{certificate}
 use Rattle.slot_core.specs.declared.outcomes.Outcome.{Outcome}
+use Rattle.slot_core.specs.declared.outcomes.Outcome.TheVariants.{Waiting, Waived}
 use Rattle.slot_core.specs.Outcomes.{outcome_at, worst_of}
 use Rattle.die_log.specs.Certified.{NothingDone, IsOfWorst, HoldsOver, BindsAll}
 use Rattle.die_service.specs.declared.queries.Query.{Query}
@@ -15,19 +16,24 @@ use Rattle.die_service.specs.declared.queries.Answer.TheVariants as tells
 use Rattle.die_service.specs.Logs.{Call, log_of}
 use Rattle.die_log.specs.Start.{Start}
 
--- what became of the job or collection of this number; refused where the log has none of it, or memory is refused
+-- what became of the job or collection of this number; refused where the log has none of it, or memory is refused. One that waits or was
+-- waived takes no memory
 pub record TellsOutcome (start : Start) (log : Log) (job : ℕ) (result : Result Outcome Refusal) : Type 0 where
   pub ok : IfOk result (λ outcome. outcome_at start log job ≡ Some outcome)
   pub unknown : (result ≡ Err UnknownJob) ↔ (job_at log job ≡ None)
+  pub waiting : outcome_at start log job ≡ Some Waiting → IsOk result
+  pub waived : (given : ℕ) → outcome_at start log job ≡ Some (Waived given) → IsOk result
   pub refused : IfErr result (λ refusal. (refusal ≡ UnknownJob) ⊎ (refusal ≡ NoMemory))
 
--- the certificate of the log's worst job, none where nothing is done; refused where memory is refused
+-- the certificate of the log's worst job, none where nothing is done; refused where memory is refused, which it never is where nothing is
+-- done
 pub record TellsCertificate (start : Start) (log : Log) (result : Result (Option Certificate) Refusal) : Type 0 where
   pub ok : IfOk result (λ built. built ≡ certificate start.plan log)
   pub none : IfOk result (λ built. (built ≡ None) ↔ NothingDone start.plan log)
   pub worst : IfOk result (λ built. IfSome built (IsOfWorst start.plan log))
   pub holds : IfOk result (λ built. IfSome built (HoldsOver start.plan log))
   pub binds : IfOk result (λ built. IfSome built (BindsAll start.plan log))
+  pub nothing : NothingDone start.plan log → IsOk result
   pub refused : IfErr result (λ refusal. refusal ≡ NoMemory)
 
 abbrev pub Tells : Start → Log → Query → Answer → Type 0

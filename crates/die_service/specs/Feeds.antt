@@ -1,11 +1,19 @@
 -- The events of a feed as flat rows, with the operations of all jobs one behind another.
-use Rattle.std.specs.Prelude.{ℕ, ◌+◌, ◌≤◌, List, length, take, drop, map, All}
+use Rattle.std.specs.Prelude.{◌≡◌, ℕ, zero, suc, ◌-◌, ◌≤◌, nat_le, Bool, true, false, not, ◌&&◌, ⊤, List, [], ◌∷◌, length, take, drop, All}
 use Rattle.slot_types.specs.declared.events.Event.{Event}
 use Rattle.slot_types.specs.declared.events.Event.TheVariants as events
 use Rattle.slot_types.specs.declared.events.Op.{Op}
-use Rattle.slot_types.specs.Arrivals.{arrival_of}
+use Rattle.slot_types.specs.Arrivals.{IsArrival}
+use Rattle.slot_core.specs.declared.events.EventHead.{EventHead}
+use Rattle.slot_core.specs.declared.events.EventHead.TheVariants as heads
+use Rattle.slot_core.specs.Events.{with_ops}
 use Rattle.die_service.specs.declared.feeds.Arrival.{Arrival}
 use Rattle.die_service.specs.declared.feeds.FeedRow.{FeedRow}
+
+-- the operations of an event: none, where it isn't a job
+abbrev pub ops_in : Event → List Op
+ops_in (events.Submit task release due ops) = ops
+ops_in _ = []
 
 abbrev pub op_count : Event → ℕ
 op_count (events.Submit task release due ops) = length ops
@@ -15,25 +23,56 @@ op_count _ = 0
 abbrev pub HaveAtMost : ℕ → List Arrival → Type 0
 HaveAtMost most feed = All (λ arrival. op_count arrival.event ≤ most) feed
 
+-- what a run is to be given: no event is a slot, and the slots before which they come never fall, from this one on
+abbrev pub IsInOrder : ℕ → List Arrival → Type 0
+IsInOrder from [] = ⊤
+IsInOrder from (arrival ∷ feed) = IsArrival arrival.event × (from ≤ arrival.at) × IsInOrder arrival.at feed
+
 -- Rows
 
-abbrev pub ops_at : List Op → FeedRow → List Op
-ops_at ops row = take row.op_count (drop row.first_op ops)
+-- the operations from one place to another
+abbrev pub ops_between : List Op → ℕ → ℕ → List Op
+ops_between ops first last = take (last - first) (drop first ops)
 
-abbrev pub event_at : List Op → FeedRow → Event
-event_at ops row = arrival_of row.head (ops_at ops row)
+-- what a row stands for whose operations begin at this place
+abbrev pub arrival_at : List Op → ℕ → FeedRow → Arrival
+arrival_at ops first row = record { at = row.at; event = with_ops row.head (ops_between ops first row.ops_end) }
 
--- what a row stands for
-abbrev pub arrival_at : List Op → FeedRow → Arrival
-arrival_at ops row = record { at = row.at; event = event_at ops row }
+-- what rows stand for: the operations of the first begin at this place, and those of each other one where those before it end
+abbrev pub feed_from : List Op → ℕ → List FeedRow → List Arrival
+feed_from ops first [] = []
+feed_from ops first (row ∷ rows) = arrival_at ops first row ∷ feed_from ops row.ops_end rows
 
-abbrev pub feed_at : List Op → List FeedRow → List Arrival
-feed_at ops rows = map (arrival_at ops) rows
+-- where the operations of the row of a place begin
+abbrev pub begins_at : ℕ → List FeedRow → ℕ → ℕ
+begins_at first rows zero = first
+begins_at first [] (suc place) = first
+begins_at first (row ∷ rows) (suc place) = begins_at row.ops_end rows place
 
--- the operations of a row are there, and no more than so many
-pub record IsRowOf (ops : List Op) (most : ℕ) (row : FeedRow) : Type 0 where
-  pub there : row.first_op + row.op_count ≤ length ops
-  pub few : row.op_count ≤ most
+-- where the operations of the rows end
+abbrev pub last_end : ℕ → List FeedRow → ℕ
+last_end first [] = first
+last_end first (row ∷ rows) = last_end row.ops_end rows
 
-abbrev pub AreRowsOf : List Op → ℕ → List FeedRow → Type 0
-AreRowsOf ops most rows = All (IsRowOf ops most) rows
+-- no row's operations end before they begin, and no row has more than so many
+abbrev pub AreRowsOf : ℕ → ℕ → List FeedRow → Type 0
+AreRowsOf most first [] = ⊤
+AreRowsOf most first (row ∷ rows) = (first ≤ row.ops_end) × (row.ops_end - first ≤ most) × AreRowsOf most row.ops_end rows
+
+-- it is the head of a job
+abbrev pub is_job : EventHead → Bool
+is_job (heads.Arrive head) = not head.collects
+is_job heads.Slot = false
+
+-- it is no slot
+abbrev pub arrives : EventHead → Bool
+arrives (heads.Arrive head) = true
+arrives heads.Slot = false
+
+-- the rows are of a feed that a run may be given
+abbrev pub follows : ℕ → FeedRow → Bool
+follows from row = arrives row.head && nat_le from row.at
+
+abbrev pub all_follow : ℕ → List FeedRow → Bool
+all_follow from [] = true
+all_follow from (row ∷ rows) = follows from row && all_follow row.at rows

@@ -1,19 +1,26 @@
 -- Operations as words.
-use Rattle.std.specs.Prelude.{ℕ, ◌-◌, ◌*◌, nat_lt, if◌then◌else◌}
+use Rattle.std.specs.Prelude.{ℕ, ◌+◌, ◌-◌, ◌*◌, ◌<◌, nat_lt, if◌then◌else◌}
 use Rattle.die_service.specs.declared.op_words.PackedOp.{PackedOp}
 use Rattle.die_service.specs.declared.op_words.PackedOp.TheVariants as packed
 
--- how many words there are of a kind: a number has the bits below the top two
-abbrev pub numbers : ℕ
-numbers = 1073741824
+-- how many words the writes have, as many as a vector may have places; and how many the reads have, and the trims, as many as there are
+-- pages in 32 bits
+abbrev pub places : ℕ
+places = 9223372036854775808
 
-abbrev pub number_of : PackedOp → ℕ
-number_of (packed.Read page) = page
-number_of (packed.Write place) = place
-number_of (packed.Trim page) = page
-number_of (packed.Far place) = place
+abbrev pub pages : ℕ
+pages = 4294967296
 
--- what a word says: those of the reads come first, then those of the writes, of the trims and of the far ones
+abbrev pub words : ℕ
+words = places + 2 * pages
+
+-- what a word can say
+abbrev pub HasWord : PackedOp → Type 0
+HasWord (packed.Read page) = page < pages
+HasWord (packed.Write place) = place < places
+HasWord (packed.Trim page) = page < pages
+
+-- what a word says: those of the writes come first, then those of the reads and of the trims
 abbrev pub packed_in : ℕ → PackedOp
-packed_in word = if nat_lt word numbers then packed.Read word else if nat_lt word (2 * numbers) then packed.Write (word - numbers)
-    else if nat_lt word (3 * numbers) then packed.Trim (word - 2 * numbers) else packed.Far (word - 3 * numbers)
+packed_in word = if nat_lt word places then packed.Write word
+    else if nat_lt word (places + pages) then packed.Read (word - places) else packed.Trim (word - (places + pages))

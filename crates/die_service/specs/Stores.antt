@@ -12,6 +12,8 @@ use Rattle.turn_lock.specs.Views.{Known, IsSamePass}
 use Rattle.turn_lock.specs.Log.{AllBy}
 use Rattle.turn_lock.specs.Passes.{IsOut}
 use Rattle.slot_core.specs.Core.{Core}
+use Rattle.slot_core.specs.declared.renewals.RenewalRefusal.{RenewalRefusal}
+use Rattle.slot_core.specs.Renewals.{MayBeRenewed, RefusesRenewal, renewed_core}
 use Rattle.die_log.specs.Promised.{KeepsPromises}
 use Rattle.die_service.specs.declared.refused.RefusedAt.{RefusedAt}
 use Rattle.die_service.specs.Logs.{log_of, calls_of}
@@ -34,6 +36,28 @@ pub record IsShaped (plans : List DiePlan) (shapes : List Shape) : Type 0 where
 pub record IsServed (plans : List DiePlan) (devices : ℕ) : Type 0 where
   pub one_each : devices ≡ length plans
   pub bound : All MeetsBound plans
+
+-- nothing was done on the die since its log began, and it isn't stopped
+pub record IsAtStart {N : Type 0} (die : Core N) : Type 0 where
+  pub no_call : die.log ≡ []
+  pub runs : die.stopped ≡ false
+
+-- each die was renewed
+abbrev pub AreRenewed : {N : Type 0} → List (Core N) → List (Core N) → Type 0
+AreRenewed [] [] = Unit {0}
+AreRenewed (die ∷ dies) (after ∷ afters) = MayBeRenewed die × (after ≡ renewed_core die) × AreRenewed dies afters
+AreRenewed _ _ = ⊥
+
+-- the dies were renewed in order until one is refused so; it and the later ones are as they were
+abbrev pub AreRenewedUntil : {N : Type 0} → List (Core N) → RenewalRefusal → List (Core N) → Type 0
+AreRenewedUntil (die ∷ dies) refusal (after ∷ afters) =
+    (MayBeRenewed die × (after ≡ renewed_core die) × AreRenewedUntil dies refusal afters)
+    ⊎ (RefusesRenewal die refusal × (after ≡ die) × (afters ≡ dies))
+AreRenewedUntil _ _ _ = ⊥
+
+-- a store may have so many dies
+abbrev pub IsDieCount : ℕ → Type 0
+IsDieCount dies = (1 ≤ dies) × (dies ≤ 8)
 
 -- a pass of a die, as clauses see it
 abbrev pub DiePass : Type 0

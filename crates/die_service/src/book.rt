@@ -11,7 +11,7 @@ use slot_core::{DieCore, EventHead, ReplyNote};
 use slot_types::{Event, Op, Reply};
 use std::alloc::Global;
 use std::marker::Model;
-use turn_lock::Book;
+use turn_lock::{Book, NotingBook};
 
 /// A die and what it takes its memory from. Contracts see the die.
 // The book is moved out of its slot and back at each turn, so the die itself lies in a box.
@@ -55,19 +55,12 @@ impl<N: Nand> DieBook<N> {
 impl<N: Nand> Book for DieBook<N> {
     ghost use Rattle.std.specs.Prelude.{is_ok};
     ghost use Rattle.die_service.specs.Logs.{calls_of};
-    ghost use Rattle.die_service.specs.Replies.{HasExactLog, MayReply, result_noted};
+    ghost use Rattle.die_service.specs.Replies.{HasExactLog, MayReply};
     ghost use Rattle.die_service.specs.Answers.{MayAnswer};
-    ghost use Rattle.slot_core.specs.Events.{with_ops};
 
     type Event = Event;
 
     type Reply = Result<Reply, RefusedAt>;
-
-    type Note = Result<ReplyNote, RefusedAt>;
-
-    type Head = EventHead;
-
-    type Part = Op;
 
     type Query = Query;
 
@@ -81,10 +74,6 @@ impl<N: Nand> Book for DieBook<N> {
 
     ghost accepts = { is_ok };
 
-    ghost noted = { result_noted };
-
-    ghost whole = { with_ops };
-
     ghost gives = { λ start calls _ event reply. MayReply N.never_fails start calls event reply };
 
     ghost tells = { MayAnswer };
@@ -96,17 +85,6 @@ impl<N: Nand> Book for DieBook<N> {
         match self.core.perform(self.alloc, caller, event) {
             Ok(reply) => Ok(reply),
             Err(refusal) => Err(RefusedAt { entries, refusal }),
-        }
-    }
-
-    fn note(&mut self, caller: u32, head: EventHead, ops: &[Op]) -> Result<ReplyNote, RefusedAt> {
-        let before = self.core.len();
-        match self.core.note(self.alloc, caller, head, ops) {
-            Ok(note) => Ok(note),
-            Err(refusal) => Err(RefusedAt {
-                entries: before,
-                refusal,
-            }),
         }
     }
 
@@ -123,5 +101,31 @@ impl<N: Nand> Book for DieBook<N> {
         // It says that the plan meets its bound, and that the log is exact.
         self.core.promises();
         self.core.len()
+    }
+}
+
+impl<N: Nand> NotingBook for DieBook<N> {
+    ghost use Rattle.die_service.specs.Replies.{result_noted};
+    ghost use Rattle.slot_core.specs.Events.{with_ops};
+
+    type Note = Result<ReplyNote, RefusedAt>;
+
+    type Head = EventHead;
+
+    type Part = Op;
+
+    ghost noted = { result_noted };
+
+    ghost whole = { with_ops };
+
+    fn note(&mut self, caller: u32, head: EventHead, ops: &[Op]) -> Result<ReplyNote, RefusedAt> {
+        let before = self.core.len();
+        match self.core.note(self.alloc, caller, head, ops) {
+            Ok(note) => Ok(note),
+            Err(refusal) => Err(RefusedAt {
+                entries: before,
+                refusal,
+            }),
+        }
     }
 }

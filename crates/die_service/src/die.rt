@@ -1,6 +1,6 @@
 //! A die, as its passes use it. The condition of each call: the pass is of this die.
 
-ghost use Rattle.std.specs.Prelude.{◌≡◌, length, IfOk, IfErr};
+ghost use Rattle.std.specs.Prelude.{◌≡◌, [], length, IfOk, IfErr};
 ghost use Rattle.die_log.specs.Log.{now};
 ghost use Rattle.die_log.specs.Answers.{IsAccepted};
 ghost use Rattle.slot_core.specs.Outcomes.{worst_of};
@@ -207,8 +207,8 @@ impl<N: Nand> Die<N> {
 
     /// What became of the job or collection of a number. May wait for the turn.
     ///
-    /// `UnknownJob` where the log has none of that number; else `NoMemory` where memory is refused for what its reads
-    /// gave.
+    /// `UnknownJob` where the log has none of that number; else `NoMemory` where it is done and memory is refused for what
+    /// its reads gave. Of one that waits or was waived no memory is taken.
     pub fn outcome<R: Wait>(
         &self,
         rt: &R,
@@ -239,7 +239,7 @@ impl<N: Nand> Die<N> {
     }
 
     /// The certificate of the worst job or collection, or none where nothing is done. The only refusal is for want of
-    /// memory. May wait for the turn.
+    /// memory; where nothing is done, none is taken. May wait for the turn.
     pub fn certificate<R: Wait>(
         &self,
         rt: &R,
@@ -287,13 +287,16 @@ impl<N: Nand> Die<N> {
         ensures own { IfOk result (λ made. made.lock ≡ pass.old.lock) }
         ensures parts { IfOk result (λ made. Parts HasExactLog pass.old.view pass.new.view made.view) }
         ensures live { IfOk result (λ made. IsLive pass.new.view × IsLive made.view) }
+        // no entry is by the new number
+        ensures unused { IfOk result (λ made. calls_by made.view.number made.view.seen ≡ []) }
         ensures refused { IfErr result (λ refusal. refusal ≡ Refusal.PassesFull) }
         ensures full { IfErr result (λ _. IsFull HasExactLog pass.old.view pass.new.view) }
     {
         self.turned.split_pass(rt, pass)
     }
 
-    /// Joins another pass of this die into this one, which keeps its number and the longer of what both had seen.
+    /// Joins another pass of this die into this one, which keeps its number and the longer of what both had seen. The calls
+    /// by each number of either pass are then those that it had seen before.
     pub fn join_pass(&self, pass: &mut DiePass<N>, other: DiePass<N>)
         requires own { pass.old.lock ≡ self.now }
         requires other { other.lock ≡ self.now }

@@ -1,10 +1,11 @@
 //! The events that a run brings to a die.
 
-ghost use Rattle.std.specs.Prelude.{◌≡◌, ◌<◌, ◌∷◌, ◌++◌, [], Some, length, slice_get, option_map, vec_capacity, IfOk, OnOk, OnErr};
+ghost use Rattle.std.specs.Prelude.{◌≡◌, ◌↔◌, ◌<◌, ◌≤◌, ◌∷◌, ◌++◌, [], IsTrue, Some, length, slice_get, option_map, vec_capacity, OnOk, OnErr};
 ghost use Rattle.slot_types.specs.Refusal.{FailsForMemory};
 ghost use Rattle.slot_types.specs.Arrivals.{arrival_of};
 ghost use Rattle.slot_core.specs.Events.{with_ops};
-ghost use Rattle.die_service.specs.Feeds.{HaveAtMost};
+ghost use Rattle.die_service.specs.Feeds.{HaveAtMost, IsInOrder, all_follow, begins_at, follows, is_job, ops_in};
+ghost use Rattle.die_service.specs.Runs.{AllArrive};
 
 use crate::packed_ops::PackedOps;
 use slot_core::EventHead;
@@ -19,13 +20,12 @@ pub struct Arrival {
     pub event: Event,
 }
 
-/// A job or a collection that comes, flat. A job's operations are `op_count` of the feed's from `first_op` on.
+/// An event that comes, flat. A job's operations are those of the feed from where those of the row before it end to `ops_end`.
 #[derive(Clone, Copy, Debug, Drop)]
 pub(crate) struct FeedRow {
+    pub(crate) ops_end: usize,
     pub(crate) at: u32,
-    pub(crate) head: JobHead,
-    pub(crate) first_op: u32,
-    pub(crate) op_count: u32,
+    pub(crate) head: EventHead,
 }
 
 /// The events that come to a die in a run, in their order. Contracts see the list of these.
@@ -34,31 +34,128 @@ pub struct Feed {
     rows: Vec<FeedRow>,
     /// The operations of all jobs, one behind another.
     ops: PackedOps,
-    /// The most operations that a job has.
-    most: u32,
+    /// The most operations that a row has.
+    most: usize,
 }
 
 impl Model for Feed {
-    ghost use Rattle.std.specs.Prelude.{List};
+    ghost use Rattle.std.specs.Prelude.{◌≡◌, List, length};
     ghost use Rattle.die_service.specs.declared.feeds.Arrival.{Arrival};
-    ghost use Rattle.die_service.specs.Feeds.{feed_at, AreRowsOf};
+    ghost use Rattle.die_service.specs.Feeds.{feed_from, AreRowsOf, last_end};
 
     ghost Value = { List Arrival };
 
-    ghost view = { λ f. feed_at f.ops f.rows.items };
+    ghost view = { λ f. feed_from f.ops 0 f.rows.items };
 
-    ghost invariant = { λ f. AreRowsOf f.ops f.most f.rows.items };
+    ghost invariant = { λ f. AreRowsOf f.most 0 f.rows.items × (last_end 0 f.rows.items ≡ length f.ops) };
 }
 
-/// A number of operations as a row keeps it. What 32 bits can't count finds no memory.
-fn count_in_row(len: usize) -> Result<u32, Refusal>
-    ensures ok { IfOk result (λ count. count ≡ len) }
-    ensures refused { FailsForMemory result }
+/// An event of a feed, lent. Contracts see the event, and the slot before which it comes.
+#[derive(Drop)]
+pub struct FeedItem<'a> {
+    at: u32,
+    head: EventHead,
+    ops: &'a PackedOps,
+    first_op: usize,
+    ops_end: usize,
+}
+
+impl<'a> Model for FeedItem<'a> {
+    ghost use Rattle.std.specs.Prelude.{◌≤◌, length};
+    ghost use Rattle.slot_core.specs.Events.{with_ops};
+    ghost use Rattle.die_service.specs.declared.feeds.Arrival.{Arrival};
+    ghost use Rattle.die_service.specs.Feeds.{ops_between};
+
+    ghost Value = { Arrival };
+
+    ghost view = { λ i. record { at = i.at; event = with_ops i.head (ops_between i.ops.now i.first_op i.ops_end) } };
+
+    ghost invariant = { λ i. (i.first_op ≤ i.ops_end) × (i.ops_end ≤ length i.ops.now) };
+}
+
+/// Whether it is the head of a job, which has operations.
+fn has_ops(head: &EventHead) -> bool
+    ensures { result ≡ is_job head.now }
 {
-    if len > u32::MAX as usize {
-        return Err(Refusal::NoMemory);
+    match head {
+        EventHead::Arrive(head) => !head.collects,
+        EventHead::Slot => false,
     }
-    Ok(len as u32)
+}
+
+/// Where the operations of the row of a place begin.
+fn first_op(rows: &[FeedRow], place: usize) -> usize
+    requires { place ≤ length rows.now }
+    ensures { result ≡ begins_at 0 rows.now place }
+{
+    if place == 0 {
+        return 0;
+    }
+    match rows.get(place - 1) {
+        Some(before) => before.ops_end,
+        None => unreachable!(),
+    }
+}
+
+/// Whether a row may come behind one that comes before this slot, in a feed for a run.
+fn may_follow(from: u32, row: &FeedRow) -> bool
+    ensures { result ≡ follows from row.now }
+{
+    match row.head {
+        EventHead::Arrive(_) => from <= row.at,
+        EventHead::Slot => false,
+    }
+}
+
+/// Whether the rows are of a feed that a run may be given.
+fn are_in_order(rows: &[FeedRow]) -> bool
+    ensures { result ≡ all_follow 0 rows.now }
+{
+    let mut from = 0;
+    for row in rows {
+        if !may_follow(from, row) {
+            return false;
+        }
+        from = row.at;
+    }
+    true
+}
+
+impl FeedItem<'_> {
+    /// The slot before which the event comes.
+    pub fn at(&self) -> u32
+        ensures { result ≡ self.now.at }
+    {
+        self.at
+    }
+
+    /// The event but for a job's operations.
+    pub fn head(&self) -> EventHead
+        ensures { with_ops result (ops_in self.now.event) ≡ self.now.event }
+    {
+        self.head
+    }
+
+    /// How many operations the event has: none, where it isn't a job.
+    pub fn len(&self) -> usize
+        ensures { result ≡ length (ops_in self.now.event) }
+    {
+        if !has_ops(&self.head) {
+            return 0;
+        }
+        self.ops_end - self.first_op
+    }
+
+    /// The operation at a place from 0, if there is one.
+    pub fn op(&self, place: usize) -> Option<Op>
+        ensures { slice_get (ops_in self.now.event) place ≡ result }
+    {
+        let count = self.len();
+        if place >= count {
+            return None;
+        }
+        Some(self.ops.get(self.ops_end - (count - place)))
+    }
 }
 
 impl Feed {
@@ -80,44 +177,98 @@ impl Feed {
         self.rows.len()
     }
 
-    /// Adds a row of a job of these operations, or of a collection.
-    fn push_row(&mut self, at: u32, head: JobHead, ops: &[Op]) -> Result<(), Refusal>
-        ensures ok { OnOk result (self.new ≡ self.old ++ record { at = at; event = arrival_of head ops.now } ∷ []) }
+    /// The event at a place from 0, if there is one.
+    pub fn get(&self, place: usize) -> Option<FeedItem<'_>>
+        ensures { slice_get self.now place ≡ result }
+    {
+        match self.rows.get(place) {
+            Some(row) => Some(FeedItem {
+                at: row.at,
+                head: row.head,
+                ops: &self.ops,
+                first_op: first_op(self.rows.as_slice(), place),
+                ops_end: row.ops_end,
+            }),
+            None => None,
+        }
+    }
+
+    /// Whether the feed may be given to a run: no event is a slot, and no event comes before an earlier slot than the one in
+    /// front of it.
+    pub fn is_in_order(&self) -> bool
+        ensures exact { IsTrue result ↔ IsInOrder 0 self.now }
+        ensures arrive { IsTrue result → AllArrive self.now }
+    {
+        are_in_order(self.rows.as_slice())
+    }
+
+    /// Adds a row of this head and these operations, which only a job has.
+    fn push_row(&mut self, at: u32, head: EventHead, ops: &[Op]) -> Result<(), Refusal>
+        ensures ok { OnOk result (self.new ≡ self.old ++ record { at = at; event = with_ops head ops.now } ∷ []) }
         ensures refused { FailsForMemory result }
         ensures err { OnErr result (self.new ≡ self.old) }
     {
-        let first_op = count_in_row(self.ops.len())?;
-        let op_count = count_in_row(ops.len())?;
         self.rows.reserve(1)?;
         self.ops.push_all(ops)?;
-        self.most = self.most.max(op_count);
-        self.rows.push_reserved(FeedRow {
-            at,
-            head,
-            first_op,
-            op_count,
-        });
+        self.most = self.most.max(ops.len());
+        let ops_end = self.ops.len();
+        self.rows.push_reserved(FeedRow { ops_end, at, head });
         Ok(())
     }
 
-    /// Adds a job of these operations that comes before slot `at`, or a collection, which leaves them aside. Refused with
-    /// `NoMemory`, the feed stays as it was.
-    pub fn push(&mut self, at: u32, head: JobHead, ops: &[Op]) -> Result<(), Refusal>
+    /// Adds an event that comes before slot `at`, at the end. Refused with `NoMemory`, the feed stays as it was, and the
+    /// event is let go.
+    pub fn push(&mut self, at: u32, event: Event) -> Result<(), Refusal>
+        ensures ok { OnOk result (self.new ≡ self.old ++ record { at = at; event = event } ∷ []) }
+        ensures refused { FailsForMemory result }
+        ensures err { OnErr result (self.new ≡ self.old) }
+    {
+        match event {
+            Event::Submit {
+                task,
+                release,
+                due,
+                ops,
+            } => {
+                let head = JobHead {
+                    collects: false,
+                    task,
+                    release,
+                    due,
+                };
+                self.push_row(at, EventHead::Arrive(head), ops.as_slice())
+            }
+            Event::Collect { task, release, due } => {
+                let head = JobHead {
+                    collects: true,
+                    task,
+                    release,
+                    due,
+                };
+                self.push_row(at, EventHead::Arrive(head), &[])
+            }
+            Event::Slot => self.push_row(at, EventHead::Slot, &[]),
+        }
+    }
+
+    /// Adds a job of these operations, which are lent, that comes before slot `at`; or a collection, which leaves them aside.
+    /// Refused with `NoMemory`, the feed stays as it was.
+    pub fn push_lent(&mut self, at: u32, head: JobHead, ops: &[Op]) -> Result<(), Refusal>
         ensures ok { OnOk result (self.new ≡ self.old ++ record { at = at; event = arrival_of head ops.now } ∷ []) }
         ensures refused { FailsForMemory result }
         ensures err { OnErr result (self.new ≡ self.old) }
     {
         if head.collects {
-            return self.push_row(at, head, &[]);
+            return self.push_row(at, EventHead::Arrive(head), &[]);
         }
-        self.push_row(at, head, ops)
+        self.push_row(at, EventHead::Arrive(head), ops)
     }
 
-    /// The most operations that a job of the feed has.
+    /// The most operations that an event of the feed has.
     pub(crate) fn most_ops(&self) -> usize
         ensures { HaveAtMost result self.now }
     {
-        self.most as usize
+        self.most
     }
 
     /// The slot before which the event of a place comes.
@@ -137,10 +288,11 @@ impl Feed {
     {
         let row = self.rows[place];
         ops.clear();
-        if row.head.collects {
-            return EventHead::Arrive(row.head);
+        if !has_ops(&row.head) {
+            return row.head;
         }
-        self.ops.copy_to(row.first_op, row.op_count, ops);
-        EventHead::Arrive(row.head)
+        let first = first_op(self.rows.as_slice(), place);
+        self.ops.copy_to(first, row.ops_end, ops);
+        row.head
     }
 }

@@ -9,6 +9,9 @@
 //! and says what was asked of each in which order, and what came of it. A [`Gate`] is called around each slot. So does
 //! [`run_batches`], each die for slots of its own that begin where an earlier run ended: a run may be made in parts.
 //!
+//! A store goes on: the dies that [`close`] gives back are renewed by [`renew_each`], and [`Store::reopen`] makes a store of
+//! them, with new passes.
+//!
 //! `look` and `join_pass` don't wait. The other calls of a die, [`close`], [`run_slots`] and [`run_batches`] may wait for the
 //! die's turn, and nothing is claimed of how long.
 #![tactic(auto)]
@@ -23,10 +26,12 @@ pub mod ends;
 pub mod feeds;
 pub mod gate;
 mod op_words;
+mod opening;
 mod packed_ops;
 pub mod promised;
 pub mod queries;
 pub mod refused;
+pub mod renewing;
 pub mod runs;
 pub mod store;
 
@@ -34,9 +39,10 @@ pub use batches::Batch;
 pub use closing::{StillOpen, close};
 pub use die::{Die, DiePass};
 pub use ends::{DieEnd, DieEnds, RefusedEvent, RefusedList};
-pub use feeds::{Arrival, Feed};
+pub use feeds::{Arrival, Feed, FeedItem};
 pub use gate::{FreeGate, Gate};
 pub use promised::{planned_feeds_go_as_planned, promises, seen_keeps_promises};
 pub use refused::RefusedAt;
+pub use renewing::renew_each;
 pub use runs::{run_batches, run_slots};
-pub use store::Store;
+pub use store::{StillClosed, Store};

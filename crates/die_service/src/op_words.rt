@@ -1,57 +1,50 @@
 //! Operations as words.
 
-ghost use Rattle.std.specs.Prelude.{◌≡◌, ◌<◌};
-ghost use Rattle.die_service.specs.OpWords.{number_of, numbers};
+ghost use Rattle.std.specs.Prelude.{◌≡◌};
+ghost use Rattle.die_service.specs.OpWords.{HasWord};
 
 use std::marker::Model;
 
-/// How many numbers a word can have, beside what they are.
-pub(crate) const NUMBERS: u32 = 1 << 30;
-
-/// The first word of a write; those of the reads come before it.
-const WRITES: u32 = NUMBERS;
+/// The first word of a read; those of the writes come before it. No vector has a place from here on.
+const READS: u64 = 1 << 63;
 
 /// The first word of a trim.
-const TRIMS: u32 = 2 * NUMBERS;
+const TRIMS: u64 = READS + (1 << 32);
 
-/// The first word of an operation that lies elsewhere.
-const FARS: u32 = 3 * NUMBERS;
-
-/// What a word says: a read or a trim with its page, a write with its place among the writes, or an operation whose page is too
-/// wide for a word, with its place among these.
+/// What a word says: a read or a trim with its page, or a write with its place among the writes.
 #[derive(Clone, Copy, Debug, Drop)]
 pub(crate) enum PackedOp {
     Read(u32),
-    Write(u32),
+    Write(usize),
     Trim(u32),
-    Far(u32),
 }
 
-/// An operation in four bytes: in the top two bits what it is, and below them its number. Contracts see what it says.
+/// An operation in eight bytes. Contracts see what it says.
 #[derive(Drop)]
-pub(crate) struct OpWord(u32);
+pub(crate) struct OpWord(u64);
 
 impl Model for OpWord {
+    ghost use Rattle.std.specs.Prelude.{◌<◌};
     ghost use Rattle.die_service.specs.declared.op_words.PackedOp.{PackedOp as Packed};
+    ghost use Rattle.die_service.specs.OpWords.{packed_in, words};
 
     ghost Value = { Packed };
 
-    ghost use Rattle.die_service.specs.OpWords.{packed_in};
-
     ghost view = { λ w. packed_in w.0 };
+
+    ghost invariant = { λ w. w.0 < words };
 }
 
 impl OpWord {
     /// The word that says so.
     pub(crate) fn pack(packed: PackedOp) -> OpWord
-        requires { number_of packed < numbers }
+        requires { HasWord packed }
         ensures { result ≡ packed }
     {
         match packed {
-            PackedOp::Read(page) => OpWord(page),
-            PackedOp::Write(place) => OpWord(WRITES + place),
-            PackedOp::Trim(page) => OpWord(TRIMS + page),
-            PackedOp::Far(place) => OpWord(FARS + place),
+            PackedOp::Read(page) => OpWord(READS + page as u64),
+            PackedOp::Write(place) => OpWord(place as u64),
+            PackedOp::Trim(page) => OpWord(TRIMS + page as u64),
         }
     }
 
@@ -60,14 +53,12 @@ impl OpWord {
         ensures { result ≡ self.now }
     {
         let word = self.0;
-        if word < WRITES {
-            PackedOp::Read(word)
+        if word < READS {
+            PackedOp::Write(word as usize)
         } else if word < TRIMS {
-            PackedOp::Write(word - WRITES)
-        } else if word < FARS {
-            PackedOp::Trim(word - TRIMS)
+            PackedOp::Read((word - READS) as u32)
         } else {
-            PackedOp::Far(word - FARS)
+            PackedOp::Trim((word - TRIMS) as u32)
         }
     }
 }

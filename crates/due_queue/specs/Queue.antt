@@ -1,5 +1,5 @@
 -- A queue as its callers see it.
-use Rattle.std.specs.Prelude.{◌≡◌, ℕ, Bool, true, cond, List, [], ◌∷◌, Option, Some, None}
+use Rattle.std.specs.Prelude.{◌≡◌, ℕ, zero, suc, Bool, true, cond, List, [], ◌∷◌, Option, Some, None}
 use Rattle.std.specs.List.{AllByRecursion}
 
 -- the keys, each before all that follow it, and how many more there is room for
@@ -30,3 +30,8 @@ first_of (k ∷ ks) = Some k
 abbrev pub rest_of : {K : Type 0} → List K → List K
 rest_of [] = []
 rest_of (k ∷ ks) = ks
+
+-- all but so many of the first
+abbrev pub behind : {K : Type 0} → ℕ → List K → List K
+behind zero ks = ks
+behind (suc n) ks = behind n (rest_of ks)

@@ -2,7 +2,7 @@
 
 ghost use Rattle.std.specs.Prelude.{◌≡◌, ◌+◌, ◌<◌, ◌≤◌, [], length, Contains, IsOk, OnOk, OnErr, OnSome, IfNone};
 ghost use Rattle.slot_types.specs.Refusal.{FailsForMemory};
-ghost use Rattle.due_queue.specs.Queue.{inserted, first_of, rest_of, IsRising};
+ghost use Rattle.due_queue.specs.Queue.{behind, inserted, first_of, rest_of, IsRising};
 ghost use Rattle.due_queue.specs.Keys.{released_by};
 
 use crate::keys::{JobKey, Key, WaitKey};
@@ -83,6 +83,17 @@ impl<K: JobKey> JobQueue<K> {
         ensures rising { IsRising K.is_before self.now.keys }
     {
         match self.pairs.first() {
+            Some((slot, number)) => Some(K::of(slot, number)),
+            None => None,
+        }
+    }
+
+    /// The first key behind `count` others. It takes the time of so many removals and insertions. The queue is as before.
+    pub fn first_behind(&mut self, count: usize) -> Option<K>
+        ensures first { result ≡ first_of (behind count self.old.keys) }
+        ensures unchanged { self.new ≡ self.old }
+    {
+        match self.pairs.first_behind(count) {
             Some((slot, number)) => Some(K::of(slot, number)),
             None => None,
         }

@@ -3,3 +3,4 @@ pub mod Erase
 pub mod Laid
 pub mod Fresh
 pub mod OneDevice
+mod Looking

@@ -3,3 +3,4 @@ pub mod Calls
 pub mod Memory
 pub mod MemoryView
 pub mod Fuse
+pub mod Faulty

@@ -3,7 +3,7 @@
 //! Each law is a function that does nothing. Its premises are the clauses of a call that decide, said of two answers
 //! `one` and `other`, which leave the devices `left` and `right`, where there was the device `before`.
 
-ghost use Rattle.std.specs.Prelude.{◌≡◌, ◌==◌, ◌+◌, ◌↔◌, ◌⊎◌, ℕ, Bool, Result, IfOk, OnOk};
+ghost use Rattle.std.specs.Prelude.{◌≡◌, ◌==◌, ◌+◌, ◌↔◌, ◌⊎◌, ℕ, Bool, true, false, Result, IfOk, OnOk};
 ghost use Rattle.slot_types.specs.declared.pages.PageData.{PageData};
 ghost use Rattle.slot_types.specs.declared.pages.Place.{Place};
 ghost use Rattle.slot_types.specs.declared.plans.Shape.{Shape};
@@ -12,7 +12,9 @@ ghost use Rattle.slot_types.specs.Refusal.{FailsForMemory};
 ghost use Rattle.slot_types.specs.Shapes.{IsShape};
 ghost use Rattle.flash_die.specs.Flash.{block_at, cell_at, programmed, erased};
 ghost use Rattle.flash_die.specs.Calls.{FailsByFault, AreOneButForFault};
+ghost use Rattle.flash_die.specs.declared.nand.NandCall.{NandCall};
 ghost use Rattle.flash_die.specs.Fuse.{Fuse, EndsAsFused};
+ghost use Rattle.flash_die.specs.Faulty.{Faulty, EndsAsTold};
 ghost use Rattle.flash_die.specs.Memory.{Memory, fresh_memory};
 
 use crate::nand::Nand;
@@ -81,8 +83,17 @@ pub fn erasing_a_block_has_one_answer<N: Nand>()
 /// A fuse (`FuseNand`) counts each call in one way, and fails each call that it doesn't pass on. Left open is how the
 /// device ends a call that is passed on to it.
 pub fn a_fuse_burns_in_one_way<N: Nand>()
-    ensures { (before left right : Fuse N) (one other : Bool) →
-        EndsAsFused N.ends before one left → EndsAsFused N.ends before other right →
+    ensures { (before left right : Fuse N) (call : NandCall) (one other : Bool) →
+        EndsAsFused N.ends before call one left → EndsAsFused N.ends before call other right →
         (left.left ≡ right.left) × (left.failed ≡ right.failed)
         × (before.left ≡ 0 → (one ≡ other) × (left.inner ≡ right.inner)) }
+{}
+
+/// A device that fails as it is told (`FaultNand`) ends each call that it doesn't pass on in one way. Left open is how
+/// the device ends a call that is passed on to it.
+pub fn an_armed_device_fails_in_one_way<N: Nand>()
+    ensures { (before left right : Faulty N) (call : NandCall) (one other : Bool) →
+        EndsAsTold N.ends before call one left → EndsAsTold N.ends before call other right →
+        (left.armed ≡ before.armed) × (right.armed ≡ before.armed)
+        × (before.armed ≡ true → (one ≡ false) × (other ≡ false) × (left ≡ right)) }
 {}

@@ -1,11 +1,13 @@
-//! Flash devices: what one does, one in memory, and one that fails after some calls.
+//! Flash devices: what one does, one in memory, one that fails after some calls, and one that fails when it is told to.
 #![tactic(auto)]
 
+pub mod fault;
 pub mod fuse;
 pub mod laws;
 pub mod memory;
 pub mod nand;
 
+pub use fault::FaultNand;
 pub use fuse::FuseNand;
 pub use memory::MemoryNand;
-pub use nand::Nand;
+pub use nand::{Nand, NandCall};

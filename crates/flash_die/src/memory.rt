@@ -1,9 +1,9 @@
 //! A device in memory.
 
-ghost use Rattle.std.specs.Prelude.{◌≡◌, ◌≤◌, ◌↔◌, IfOk, slice_index_or, vec_capacity};
+ghost use Rattle.std.specs.Prelude.{◌≡◌, ◌≤◌, ◌+◌, ◌==◌, ◌↔◌, IfOk, slice_index_or, vec_capacity};
 ghost use Rattle.slot_types.specs.Refusal.{FailsForMemory};
 ghost use Rattle.slot_types.specs.Shapes.{IsShape};
-ghost use Rattle.flash_die.specs.Flash.{blank};
+ghost use Rattle.flash_die.specs.Flash.{blank, block_at, cell_at};
 ghost use Rattle.flash_die.specs.Memory.{fresh_memory, laid};
 
 use crate::nand::Nand;
@@ -62,6 +62,31 @@ impl MemoryNand {
             erases: vec![in alloc; 0; blocks]?,
         })
     }
+
+    /// What a cell holds; one that is free, or that the device doesn't have, is blank.
+    pub fn cell(&self, place: Place) -> PageData
+        ensures { result ≡ cell_at self.now.blocks place }
+    {
+        match self.filled.get(place.block as usize) {
+            Some(filled) if place.page < *filled => {
+                read_cell(
+                    &self.cells,
+                    (place.block * self.shape.pages + place.page) as usize,
+                )
+            }
+            _ => PageData::BLANK,
+        }
+    }
+
+    /// Whether the next slot of the block's erase is its last.
+    pub fn ends_erase(&self, block: u32) -> bool
+        ensures { result ≡ ((block_at self.now.blocks block).erasing + 1 == self.now.shape.erase_slots) }
+    {
+        match self.erasing.get(block as usize) {
+            Some(done) => *done + 1 == self.shape.erase_slots,
+            None => 1 == self.shape.erase_slots,
+        }
+    }
 }
 
 impl Nand for MemoryNand {
@@ -73,7 +98,7 @@ impl Nand for MemoryNand {
 
     ghost failures = { λ _. 0 };
 
-    ghost ends = { λ _ well _. well ≡ true };
+    ghost ends = { λ _ _ well _. well ≡ true };
 
     ghost never_fails = { true };
 

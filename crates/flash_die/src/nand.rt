@@ -6,6 +6,17 @@ ghost use Rattle.flash_die.specs.Calls.{FailsByFault};
 
 use slot_types::{PageData, Place, Refusal, Shape};
 
+/// One call of a device, of those that may fail.
+#[derive(Clone, Copy, PartialEq, Eq, Debug, Drop)]
+pub enum NandCall {
+    /// A page is read.
+    Read(Place),
+    /// A page is programmed with these bytes.
+    Program(Place, PageData),
+    /// A block has one slot of its erase.
+    EraseSlot(u32),
+}
+
 /// A flash device: blocks of pages, which are programmed in rising order and freed by the erase
 /// of their block. Blocks and pages count from 0.
 ///
@@ -17,6 +28,7 @@ pub trait Nand: Drop {
     ghost use Rattle.std.specs.Prelude.{ℕ, Bool, List};
     ghost use Rattle.slot_types.specs.declared.plans.Shape.{Shape};
     ghost use Rattle.flash_die.specs.Flash.{Block};
+    ghost use Rattle.flash_die.specs.declared.nand.NandCall.{NandCall};
 
     ghost shape_of: { Self → Shape };
 
@@ -24,8 +36,8 @@ pub trait Nand: Drop {
 
     ghost failures: { Self → ℕ };
 
-    // whether a call may end well, or with a fault, and which device it then leaves
-    ghost ends: { Self → Bool → Self → Type 0 };
+    // whether this call may end well, or with a fault, and which device it then leaves
+    ghost ends: { Self → NandCall → Bool → Self → Type 0 };
 
     // whether each call of this type ends well
     ghost never_fails: { Bool };
@@ -42,7 +54,7 @@ pub trait Nand: Drop {
         ensures blocks { OnOk result (blocks self.new ≡ blocks self.old) }
         ensures fails { FailsByFault never_fails result (failures self.old) (failures self.new) }
         ensures shape { shape_of self.new ≡ shape_of self.old }
-        ensures ends { ends self.old (is_ok result) self.new };
+        ensures ends { ends self.old (NandCall.Read place) (is_ok result) self.new };
 
     /// Fills the next free page of a block that isn't in erase.
     fn program(&mut self, place: Place, bytes: PageData) -> Result<(), Refusal>
@@ -51,7 +63,7 @@ pub trait Nand: Drop {
         ensures blocks { OnOk result (blocks self.new ≡ programmed (blocks self.old) place.block bytes) }
         ensures fails { FailsByFault never_fails result (failures self.old) (failures self.new) }
         ensures shape { shape_of self.new ≡ shape_of self.old }
-        ensures ends { ends self.old (is_ok result) self.new };
+        ensures ends { ends self.old (NandCall.Program place bytes) (is_ok result) self.new };
 
     /// Does one slot of the erase of a block, which has all its pages programmed or is in erase
     /// already, and answers whether it was the last. The last slot frees the block's pages.
@@ -62,5 +74,5 @@ pub trait Nand: Drop {
         ensures blocks { OnOk result (blocks self.new ≡ erased (blocks self.old) (shape_of self.old).erase_slots block) }
         ensures fails { FailsByFault never_fails result (failures self.old) (failures self.new) }
         ensures shape { shape_of self.new ≡ shape_of self.old }
-        ensures ends { ends self.old (is_ok result) self.new };
+        ensures ends { ends self.old (NandCall.EraseSlot block) (is_ok result) self.new };
 }

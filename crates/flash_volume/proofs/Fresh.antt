@@ -1,6 +1,7 @@
 -- A fresh device: the array of pages on it, and the volume.
 use Rattle.std.proofs.Common.{◌≡◌, ℕ, zero, suc, ◌+◌, ◌-◌, ◌*◌, ◌<◌, List, ◌∷◌, length, get_or, Option, Some, None, refl, sym, ap, ◌∙◌}
-use Rattle.std.proofs.Common.{subst, arith, inl, inr, count_by}
+use Rattle.std.proofs.Common.{subst, arith, inl, inr, count_by, ◌^◌, ◌≤◌}
+use Rattle.std.proofs.Math.Nat.{mul-le-mul_right}
 use Rattle.std.specs.Prelude.{replicate}
 use Rattle.std.proofs.lemmas.Bool.{cases_lt}
 use Rattle.std.proofs.lemmas.List.Sums.{sum_by-cons}
@@ -23,6 +24,12 @@ use Rattle.flash_volume.specs.Running.{running_of}
 use Rattle.flash_volume.specs.Sound.{IsSound}
 use Rattle.flash_volume.specs.declared.collection.Collection.{Collection}
 use Rattle.flash_volume.proofs.Opening.{seen, opened_none}
+
+-- a die within its limits has few cells
+pub few_cells : (shape : Shape) → IsShape shape → shape.blocks * shape.pages < 2 ^ 32
+few_cells shape limits =
+    let most : shape.blocks * shape.pages ≤ 1024 * shape.pages = mul-le-mul_right shape.pages limits.few_blocks in
+    omega (arith, most, limits.few_pages)
 
 abbrev zeros : ℕ → List ℕ
 zeros n = replicate n 0

@@ -9,3 +9,4 @@ pub mod Beginning
 pub mod Fresh
 pub mod Trimming
 pub mod Worn
+pub mod Stepping

@@ -8,3 +8,5 @@ pub mod State
 pub mod Pages
 pub mod Faults
 pub mod Acts
+pub mod Calls
+pub mod Steps

@@ -1,7 +1,7 @@
 //! An array of pages on a flash device.
 
 ghost use Rattle.std.specs.Prelude.{◌≡◌, ◌==◌, ◌+◌, ◌<◌, ◌↔◌, ℕ, true, false, Some, None, length};
-ghost use Rattle.std.specs.Prelude.{slice_set, is_err, is_ok, is_some, IsSome, IfOk, IfSome, IfNone, OnOk, OnErr, position};
+ghost use Rattle.std.specs.Prelude.{slice_set, is_err, is_ok, is_some, IsSome, IsNone, IfOk, IfSome, IfNone, OnOk, OnErr, position};
 ghost use Rattle.slot_types.specs.Refusal.{FailsForMemory};
 ghost use Rattle.slot_types.specs.declared.pages.Place.{Place};
 ghost use Rattle.slot_types.specs.Places.{place_of, owner_of};
@@ -15,7 +15,7 @@ ghost use Rattle.flash_volume.specs.ArrayCalls.{HasPlaced, HasErased, EndsWithDe
 ghost use Rattle.flash_volume.specs.Acts.{IsFirst};
 
 use crate::candidates::{close_when_filled, leave};
-use flash_die::Nand;
+use flash_die::{Nand, NandCall};
 use page_map::PageMap;
 use slot_types::{PageData, Place, Refusal};
 use std::alloc::Global;
@@ -29,7 +29,7 @@ use victim_pick::Victims;
 /// for a collection. After the device has failed nothing is known of it.
 #[derive(Drop)]
 pub(crate) struct PageArray<N: Nand> {
-    device: N,
+    pub(crate) device: N,
     map: PageMap,
     /// By block how many of its cells are programmed.
     fills: Vec<u32>,
@@ -113,7 +113,7 @@ impl<N: Nand> PageArray<N> {
         ensures page { IfOk result (λ bytes. bytes ≡ content_at (N.blocks self.old.device) (place_of self.old.placing.places page)) }
         ensures unwritten { place_of self.old.placing.places page ≡ None → (result ≡ Ok blank) × (self.new ≡ self.old) }
         ensures once { (place : Place) → place_of self.old.placing.places page ≡ Some place
-            → N.ends self.old.device (is_ok result) self.new.device }
+            → N.ends self.old.device (NandCall.Read place) (is_ok result) self.new.device }
         ensures cells { OnOk result (N.blocks self.new.device ≡ N.blocks self.old.device) }
         ensures placing { self.new.placing ≡ self.old.placing }
         ensures candidates { self.new.candidates ≡ self.old.candidates }
@@ -134,7 +134,9 @@ impl<N: Nand> PageArray<N> {
         requires alive { self.old.failed ≡ false }
         requires page { page < length self.old.placing.places }
         requires free { 0 < free_cells (N.shape_of self.old.device).pages (N.blocks self.old.device) }
-        ensures once { N.ends self.old.device (is_ok result) self.new.device }
+        ensures once { N.ends self.old.device
+            (NandCall.Program (next_cell (N.shape_of self.old.device).pages (N.blocks self.old.device)) bytes) (is_ok result)
+            self.new.device }
         ensures finds { IsSome (open_in (N.shape_of self.old.device).pages (N.blocks self.old.device)) }
         ensures placed { OnOk result (HasPlaced N.shape_of N.blocks page bytes self.old self.new) }
         ensures sound { IsSoundArray N.shape_of N.failures N.blocks self.new }
@@ -192,7 +194,7 @@ impl<N: Nand> PageArray<N> {
             → owner_of self.old.placing.places (record { block = block; page = page }) ≡ None }
         requires taken { count_of self.old.candidates.counts block ≡ None }
         requires few_erases { (block_at (N.blocks self.old.device) block).erases < 4294967295 }
-        ensures once { N.ends self.old.device (is_ok result) self.new.device }
+        ensures once { N.ends self.old.device (NandCall.EraseSlot block) (is_ok result) self.new.device }
         ensures erased { IfOk result (λ last. HasErased N.shape_of N.blocks block last self.old self.new) }
         ensures placing { self.new.placing ≡ self.old.placing }
         ensures candidates { self.new.candidates ≡ self.old.candidates }
@@ -225,6 +227,22 @@ impl<N: Nand> PageArray<N> {
         self.victims.take_least().unwrap()
     }
 
+    /// The candidate that `take_victim` would take away, if there is one.
+    pub(crate) fn victim(&self) -> Option<u32>
+        ensures none { IsNone result ↔ HasNone self.now.candidates.counts }
+        ensures least { IfSome result (IsLeast self.now.candidates.counts self.now.candidates.erases) }
+    {
+        self.victims.least()
+    }
+
+    /// The cell in which a page lies.
+    pub(crate) fn place(&self, page: u32) -> Option<Place>
+        requires { page < length self.now.placing.places }
+        ensures { result ≡ place_of self.now.placing.places page }
+    {
+        self.map.place(page)
+    }
+
     /// Whether a page lies in this cell.
     pub(crate) fn lies(&self, page: u32, place: Place) -> bool
         ensures { result ≡ true ↔ place_of self.now.placing.places page ≡ Some place }
@@ -252,7 +270,7 @@ impl<N: Nand> PageArray<N> {
     }
 
     /// The cell that is written next, while a cell is free.
-    fn next_cell(&self) -> Place
+    pub(crate) fn next_cell(&self) -> Place
         requires alive { self.now.failed ≡ false }
         requires free { 0 < free_cells (N.shape_of self.now.device).pages (N.blocks self.now.device) }
         ensures { result ≡ next_cell (N.shape_of self.now.device).pages (N.blocks self.now.device) }

@@ -8,12 +8,14 @@ ghost use Rattle.flash_volume.specs.declared.collection.Collection.{Collection};
 ghost use Rattle.flash_volume.specs.declared.collection.Copied.{Copied};
 ghost use Rattle.flash_volume.specs.Running.{running_of};
 ghost use Rattle.flash_volume.specs.Faults.{StopsWithDevice, FailsWithDevice};
-ghost use Rattle.flash_volume.specs.Pages.{KeepsBooks};
+ghost use Rattle.flash_volume.specs.Pages.{KeepsBooks, next_in};
+ghost use Rattle.flash_volume.specs.Cells.{open_in};
+ghost use Rattle.flash_volume.specs.Steps.{EndsStep};
 ghost use Rattle.flash_volume.specs.Acts.{IsFirst, HasLeft, DoesBegin, Reads, Programs, Does};
 
 use crate::collection::{Began, Collected, Collection, Copied};
 use crate::volume::Volume;
-use flash_die::Nand;
+use flash_die::{Nand, NandCall};
 use slot_types::{Place, Refusal, TaskNo};
 
 impl<N: Nand> Volume<N> {
@@ -63,7 +65,8 @@ impl<N: Nand> Volume<N> {
         requires runs { IsSome (running_of self.old.running task) }
         requires few_erases { (c : Collection) → running_of self.old.running task ≡ Some c
             → (block_at (N.blocks self.old.device) c.victim).erases < 4294967295 }
-        ensures once { self.old.failed ≡ false → N.ends self.old.device (is_ok result) self.new.device }
+        ensures once { self.old.failed ≡ false → (c : Collection) → running_of self.old.running task ≡ Some c
+            → EndsStep N.ends N.blocks self.old c (is_ok result) self.new }
         ensures did { (c : Collection) → running_of self.old.running task ≡ Some c
             → IfOk result (λ did. Does N.blocks self.old task c did self.new) }
         ensures stays { OnErr result (KeepsBooks self.old self.new) }
@@ -89,7 +92,7 @@ impl<N: Nand> Volume<N> {
     }
 
     /// The page in a collection's buffer, if it still lies where it was read.
-    fn live_copy(&self, collection: Collection) -> Option<Copied>
+    pub(crate) fn live_copy(&self, collection: Collection) -> Option<Copied>
         ensures some { IfSome result (λ copied. (collection.buffer ≡ Some copied)
             × (place_of self.now.places copied.page ≡ Some copied.source)) }
         ensures none { IfNone result (HasLeft self.now.places collection) }
@@ -112,7 +115,8 @@ impl<N: Nand> Volume<N> {
         requires runs { running_of self.old.running task ≡ Some collection }
         requires holds { collection.buffer ≡ Some copied }
         requires lies { place_of self.old.places copied.page ≡ Some copied.source }
-        ensures once { N.ends self.old.device (is_ok result) self.new.device }
+        ensures once { N.ends self.old.device (NandCall.Program (next_in N.blocks self.old) copied.bytes) (is_ok result) self.new.device }
+        ensures finds { IsSome (open_in self.old.accounts.plan.shape.pages (N.blocks self.old.device)) }
         ensures did { OnOk result (Programs N.blocks self.old task collection copied.page self.new) }
         ensures stays { OnErr result (KeepsBooks self.old self.new) }
         ensures fails { FailsWithDevice N.failures N.never_fails result self.old self.new }
@@ -143,7 +147,7 @@ impl<N: Nand> Volume<N> {
         requires runs { running_of self.old.running task ≡ Some collection }
         requires left { HasLeft self.old.places collection }
         requires first { IsFirst self.old.places collection.victim page source }
-        ensures once { N.ends self.old.device (is_ok result) self.new.device }
+        ensures once { N.ends self.old.device (NandCall.Read source) (is_ok result) self.new.device }
         ensures did { OnOk result (Reads N.blocks self.old task collection page self.new) }
         ensures stays { OnErr result (KeepsBooks self.old self.new) }
         ensures fails { FailsWithDevice N.failures N.never_fails result self.old self.new }
@@ -173,7 +177,7 @@ impl<N: Nand> Volume<N> {
         requires unplaced { (page : ℕ) → page < self.old.accounts.plan.shape.pages
             → owner_of self.old.places (record { block = collection.victim; page = page }) ≡ None }
         requires few_erases { (block_at (N.blocks self.old.device) collection.victim).erases < 4294967295 }
-        ensures once { N.ends self.old.device (is_ok result) self.new.device }
+        ensures once { N.ends self.old.device (NandCall.EraseSlot collection.victim) (is_ok result) self.new.device }
         ensures did { IfOk result (λ did. Does N.blocks self.old task collection did self.new) }
         ensures stays { OnErr result (KeepsBooks self.old self.new) }
         ensures fails { FailsWithDevice N.failures N.never_fails result self.old self.new }

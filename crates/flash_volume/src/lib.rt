@@ -5,9 +5,11 @@ mod array;
 mod candidates;
 mod collecting;
 pub mod collection;
+mod faults;
+pub mod next_calls;
 pub mod volume;
 
-pub use collection::{Began, Collected, Collection, Copied};
+pub use collection::{Began, Collected, CollectStep, Collection, Copied};
 pub use volume::Volume;
 
 #[cfg(test)]

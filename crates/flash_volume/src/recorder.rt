@@ -64,7 +64,7 @@ impl Nand for Recorder {
 
     ghost failures = { λ r. r.failures };
 
-    ghost ends = { λ _ _ _. Unit {0} };
+    ghost ends = { λ _ _ _ _. Unit {0} };
 
     ghost never_fails = { false };
 

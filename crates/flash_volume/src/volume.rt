@@ -11,11 +11,11 @@ ghost use Rattle.flash_die.specs.Flash.{IsFresh, IsProgrammed, blank, programmed
 ghost use Rattle.flash_volume.specs.Cells.{first_worn, open_in, contents, free_cells};
 ghost use Rattle.flash_volume.specs.State.{fresh_volume, trimmed};
 ghost use Rattle.flash_volume.specs.Faults.{StopsWithDevice};
-ghost use Rattle.flash_volume.specs.Pages.{HasRead, HasWritten, KeepsBooks};
+ghost use Rattle.flash_volume.specs.Pages.{HasRead, HasWritten, KeepsBooks, next_in};
 
 use crate::array::PageArray;
 use crate::collection::Collection;
-use flash_die::Nand;
+use flash_die::{Nand, NandCall};
 use page_ledger::Ledger;
 use slot_types::{DiePlan, PageData, Refusal, TaskNo};
 use std::alloc::Global;
@@ -158,7 +158,7 @@ impl<N: Nand> Volume<N> {
     pub fn read(&mut self, page: u32) -> Result<PageData, Refusal>
         requires { page < length self.old.pages }
         ensures once { self.old.failed ≡ false → (place : Place) → place_of self.old.places page ≡ Some place
-            → N.ends self.old.device (is_ok result) self.new.device }
+            → N.ends self.old.device (NandCall.Read place) (is_ok result) self.new.device }
         ensures unwritten { place_of self.old.places page ≡ None → self.new ≡ self.old }
         ensures read { IfOk result (λ bytes. HasRead N.blocks page bytes self.old self.new) }
         ensures books { KeepsBooks self.old self.new }
@@ -178,7 +178,8 @@ impl<N: Nand> Volume<N> {
         requires task { task < length self.old.accounts.plan.caps }
         requires page { page < length self.old.pages }
         requires held { 0 < slice_index self.old.accounts.holds task }
-        ensures once { self.old.failed ≡ false → N.ends self.old.device (is_ok result) self.new.device }
+        ensures once { self.old.failed ≡ false
+            → N.ends self.old.device (NandCall.Program (next_in N.blocks self.old) bytes) (is_ok result) self.new.device }
         ensures finds { self.old.failed ≡ false → IsSome (open_in self.old.accounts.plan.shape.pages (N.blocks self.old.device)) }
         ensures written { OnOk result (HasWritten N.blocks task page bytes self.old self.new) }
         ensures stays { OnErr result (KeepsBooks self.old self.new) }

@@ -17,6 +17,7 @@ pub data Task : Type 0 where
   Keeps : (plan script : Text) (slots : ℕ) → Task
   Wear : (plan script : Text) (slots : ℕ) → Task
   Draw : (plan script : Text) (slots die first end : ℕ) → Task
+  Compare : (plan script : Text) (slots first pool : ℕ) → Task
 
 abbrev pub task_of : Command → Task
 task_of (command.Explain plan) = Explain plan.now
@@ -24,6 +25,7 @@ task_of (command.Arrivals plan slots seed fills) = Arrivals plan.now slots seed 
 task_of (command.Keeps plan script slots) = Keeps plan.now script.now slots
 task_of (command.Wear plan script slots) = Wear plan.now script.now slots
 task_of (command.Draw plan script slots die first end) = Draw plan.now script.now slots die first end
+task_of (command.Compare plan script slots first pool) = Compare plan.now script.now slots first pool
 
 -- a run has at most 1,048,576 slots
 abbrev pub FitsRun : Command → Type 0
@@ -31,6 +33,7 @@ FitsRun (command.Arrivals plan slots seed fills) = slots ≤ 1048576
 FitsRun (command.Keeps plan script slots) = slots ≤ 1048576
 FitsRun (command.Wear plan script slots) = slots ≤ 1048576
 FitsRun (command.Draw plan script slots die first end) = slots ≤ 1048576
+FitsRun (command.Compare plan script slots first pool) = slots ≤ 1048576
 FitsRun _ = ⊤
 
 -- the next step, where there is a value
@@ -79,6 +82,15 @@ draw_of rows = do
   end ← first_of (codes "to") rows >>= number_upto
   Some (Draw plan script slots die first end)
 
+abbrev pub compare_of : List Row → Option Task
+compare_of rows = do
+  plan ← first_of (codes "PLAN") rows
+  script ← first_of (codes "SCRIPT") rows
+  slots ← first_of (codes "slots") rows >>= number_upto
+  first ← first_of (codes "from") rows >>= number_upto
+  pool ← first_of (codes "pool") rows >>= number_upto
+  Some (Compare plan script slots first pool)
+
 abbrev pub named : Text → List Row → Option Task
 named name rows =
     if bytes_eq name (codes "explain") then explain_of rows
@@ -86,6 +98,7 @@ named name rows =
     else if bytes_eq name (codes "keeps") then keeps_of rows
     else if bytes_eq name (codes "wear") then wear_of rows
     else if bytes_eq name (codes "draw") then draw_of rows
+    else if bytes_eq name (codes "compare") then compare_of rows
     else None
 
 -- what the command that clap met in the words asks for, if there is one, and its numbers lie in their ranges

@@ -37,6 +37,10 @@ flag id = record (new_rule id) { long = Some id; action = Some SetTrue }
 abbrev pub fill_rule : Rule
 fill_rule = flag (codes "fill")
 
+-- `--pool A`, which is 4 where it isn't there
+abbrev pub pool_rule : Rule
+pool_rule = record (new_rule (codes "pool")) { long = Some (codes "pool"); value_names = 1; defaults = codes "4" ∷ [] }
+
 abbrev pub explain_app : App
 explain_app = with_rule (new_app (codes "explain")) (needed (codes "PLAN"))
 
@@ -67,14 +71,20 @@ draw_run_app = with_rule (with_rule draw_files_app slots_rule) die_rule
 abbrev pub draw_app : App
 draw_app = with_rule (with_rule draw_run_app from_rule) to_rule
 
+abbrev pub compare_files_app : App
+compare_files_app = with_rule (with_rule (new_app (codes "compare")) (needed (codes "PLAN"))) (needed (codes "SCRIPT"))
+
+abbrev pub compare_app : App
+compare_app = with_rule (with_rule (with_rule compare_files_app slots_rule) from_rule) pool_rule
+
 -- the program alone, which has a version
 abbrev pub named_app : App
 named_app = let app = new_app (codes "flashplan") in record app { top = record app.top { has_version = true } }
 
 -- the program's command line
 abbrev pub flashplan_app : App
-flashplan_app = with_subcommand (with_subcommand (with_subcommand (with_subcommand (with_subcommand named_app explain_app.top)
-    arrivals_app.top) keeps_app.top) wear_app.top) draw_app.top
+flashplan_app = with_subcommand (with_subcommand (with_subcommand (with_subcommand (with_subcommand (with_subcommand named_app
+    explain_app.top) arrivals_app.top) keeps_app.top) wear_app.top) draw_app.top) compare_app.top
 
 -- whether a command has an argument that is global
 abbrev pub has_globals : Command → Bool

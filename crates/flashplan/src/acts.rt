@@ -6,6 +6,7 @@ ghost use Rattle.flashplan.specs.Commands.{FitsRun};
 
 use crate::commands::Command;
 use flash_commands::{Fault, end};
+use plain_layers::Marks;
 use plan_arrivals::{Fault as Unplanned, Manner, arrivals, full_from};
 use plan_design::explain;
 use plan_keeping::{Verdict, keep, script_text, sentence};
@@ -13,6 +14,7 @@ use plan_texts::{plan_text, read_plan_from};
 use slot_types::{MAX_SLOT, Refusal, StorePlan};
 use std::alloc::Global;
 use std::io::{Read, Write};
+use store_compare::{CompareFault, Measure, compare};
 use text_base::write_whole;
 use watched_runs::{RefusedRows, Sights, draw, wear};
 
@@ -242,6 +244,43 @@ fn end_drawn<E: Write>(err: &mut E, slots: u32, drawn: Result<(RefusedRows, Sigh
     }
 }
 
+/// With fewer wholly free blocks than these a plain layer has to collect.
+const LOW: usize = 2;
+
+/// Prints how late the jobs of a script were on the store and by plain layers.
+fn print_compared<P: Read + Drop, S: Read + Drop, W: Write>(
+    alloc: Global,
+    plan: P,
+    script: S,
+    measure: Measure,
+    out: &mut W,
+) -> Result<(), CompareFault>
+    requires slots { measure.slots ≤ MAX_SLOT }
+{
+    let store = read_plan_from(alloc, plan)?;
+    let table = compare(alloc, &store, script, measure)?;
+    write_whole(out, &table)?;
+    Ok(())
+}
+
+/// Answers the status of a comparison, and tells why there is none. A writer that fails is passed over.
+fn end_compared<E: Write>(err: &mut E, compared: Result<(), CompareFault>) -> u8
+    ensures { result ≢ 3 }
+{
+    match compared {
+        Ok(()) => 0,
+        Err(CompareFault::Refused(refusal)) => end_refused(err, refusal),
+        Err(CompareFault::WrongLayer { policy, fault }) => {
+            let _ = writeln!(
+                err,
+                "error: the plain layer {} is wrong: {fault:?}",
+                policy.name()
+            );
+            1
+        }
+    }
+}
+
 /// Tells the rows that were refused, if there are any, and answers the status. A writer that fails is passed over.
 fn end_run<E: Write>(err: &mut E, ran: Result<RefusedRows, Refusal>) -> u8
     ensures { result ≢ 3 }
@@ -266,10 +305,12 @@ fn end_run<E: Write>(err: &mut E, ran: Result<RefusedRows, Refusal>) -> u8
 /// asked for than a script may have, nothing is printed, and the status is 1. `keeps` prints whether the script keeps the
 /// plan of each die (status 0), or a condition that doesn't hold, and of which record (status 3). `wear` prints what
 /// [`wear`](watched_runs::wear) tells of the run of the script, and `draw` what [`draw`](watched_runs::draw) draws of it,
-/// each whole; the status is 0, and where rows were refused, `err` gets a line, as `refused 1 first line 6 with 6`.
+/// each whole; the status is 0, and where rows were refused, `err` gets a line, as `refused 1 first line 6 with 6`. `compare`
+/// prints the table of [`compare`](store_compare::compare), whole.
 ///
 /// No more of the plan is read than 1,048,577 bytes. Where a text is refused, memory runs out, or a reader or `out`
-/// fails, that is told in a line to `err`, as `error 21 ReadFault`, and the status is 1; where `out` fails nothing is told. Where `err` fails, that is passed over.
+/// fails, that is told in a line to `err`, as `error 21 ReadFault`, and the status is 1; where `out` fails nothing is told.
+/// Where `err` fails, that is passed over.
 pub fn act<P: Read + Drop, S: Read + Drop, W: Write, E: Write>(
     alloc: Global,
     command: Command<'_>,
@@ -315,6 +356,20 @@ pub fn act<P: Read + Drop, S: Read + Drop, W: Write, E: Write>(
         } => {
             let drawn = print_drawn(alloc, plan, script, slots, die, from, to, out);
             end_drawn(err, to.min(slots).saturating_sub(from), drawn)
+        }
+        Command::Compare {
+            slots,
+            from,
+            pool,
+            ..
+        } => {
+            let marks = Marks {
+                low: LOW,
+                pool: pool as usize,
+            };
+            let measure = Measure { slots, from, marks };
+            let compared = print_compared(alloc, plan, script, measure, out);
+            end_compared(err, compared)
         }
     }
 }

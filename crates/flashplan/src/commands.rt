@@ -5,7 +5,7 @@ ghost use Rattle.clap.specs.Words.{app_of, first_of, found_of, rows_of, subcomma
 ghost use Rattle.clap.specs.Kinds.{FailsBy, HasKind};
 ghost use Rattle.clap.specs.Faults.{fault_of};
 ghost use Rattle.flashplan.specs.Commands.{FitsRun, arrivals_of, asked, asked_by, draw_of, keeps_of, named, number_upto};
-ghost use Rattle.flashplan.specs.Commands.{range_fault, task_of, wear_of, words_fault};
+ghost use Rattle.flashplan.specs.Commands.{compare_of, range_fault, task_of, wear_of, words_fault};
 ghost use Rattle.flashplan.specs.Syntax.{flashplan_app};
 
 use crate::syntax::program_words;
@@ -58,6 +58,17 @@ pub enum Command<'a> {
         from: u32,
         /// The slot before which the picture ends.
         to: u32,
+    },
+    /// Run a script on a store and by plain layers.
+    Compare {
+        plan: &'a str,
+        script: &'a str,
+        /// How many slots each die runs, from 0 to 1,048,576.
+        slots: u32,
+        /// The first slot that counts.
+        from: u32,
+        /// With fewer wholly free blocks a plain layer collects in idle slots.
+        pool: u32,
     },
 }
 
@@ -145,6 +156,25 @@ fn draw<'a>(met: &ArgMatches<'a>) -> Option<Command<'a>>
     })
 }
 
+/// The command `compare` that was met.
+fn compare<'a>(met: &ArgMatches<'a>) -> Option<Command<'a>>
+    ensures compare { option_map task_of result ≡ compare_of (rows_of (found_of met.now)) }
+    ensures fits { IfSome result FitsRun }
+{
+    let plan = value(met, "PLAN")?;
+    let script = value(met, "SCRIPT")?;
+    let slots = number_in(value(met, "slots")?)?;
+    let from = number_in(value(met, "from")?)?;
+    let pool = number_in(value(met, "pool")?)?;
+    Some(Command::Compare {
+        plan,
+        script,
+        slots,
+        from,
+        pool,
+    })
+}
+
 /// The command that was met, by its name.
 fn command_named<'a>(name: &str, met: &ArgMatches<'a>) -> Option<Command<'a>>
     ensures named { option_map task_of result ≡ named name.now (rows_of (found_of met.now)) }
@@ -161,6 +191,8 @@ fn command_named<'a>(name: &str, met: &ArgMatches<'a>) -> Option<Command<'a>>
         wear(met)
     } else if name == "draw" {
         draw(met)
+    } else if name == "compare" {
+        compare(met)
     } else {
         None
     }
@@ -197,7 +229,7 @@ fn command_error(mut program: clap::Command<'_>) -> Error
 {
     match program.error(
         ErrorKind::ValueValidation,
-        "a command is wanted: explain, arrivals, keeps, wear or draw; each of its numbers is a whole one from 0 to 1048576",
+        "a command is wanted: explain, arrivals, keeps, wear, draw or compare; each of its numbers is a whole one from 0 to 1048576",
     ) {
         Ok(error) => error,
         Err(error) => Error::from(error),
@@ -207,9 +239,11 @@ fn command_error(mut program: clap::Command<'_>) -> Error
 /// What the words ask for, the first of them being the program's name.
 ///
 /// The words are `explain PLAN`, `arrivals PLAN --slots N --seed S --fill`, where S may be left out and is then 0, and
-/// `--fill` too, `keeps PLAN SCRIPT --slots N`, `wear PLAN SCRIPT --slots N`, or `draw PLAN SCRIPT --slots N --die D --from A --to B`,
-/// where A and B may be left out: the picture then begins with slot 0, or ends with the run. A number is 1 to 10 decimal
-/// digits, and at most 1,048,576. The error is that of clap, which prints itself: a call for help, a fault of the words,
+/// `--fill` too, `keeps PLAN SCRIPT --slots N`, `wear PLAN SCRIPT --slots N`,
+/// `draw PLAN SCRIPT --slots N --die D --from A --to B`, where A and B may be left out: the picture then begins with slot 0,
+/// or ends with the run; or `compare PLAN SCRIPT --slots N --from F --pool A`, where F is 0 and A is 4 if left out. A number
+/// is 1 to 10 decimal digits, and at most 1,048,576. The error is that of clap, which prints itself: a call for help, a
+/// fault of the words,
 /// or want of memory; and ValueValidation where there is no command, or a number that is none or too great.
 #[tactic(auto, using(crate::proofs::KindLemmas::has_kind_in_first))]
 pub fn read_words<'a>(alloc: Global, words: &'a [String]) -> Result<Command<'a>, Error>

@@ -33,7 +33,8 @@ fn act_on<D: Folder, W: Write, E: Write>(
         }
         Command::Keeps { plan, script, .. }
         | Command::Wear { plan, script, .. }
-        | Command::Draw { plan, script, .. } => {
+        | Command::Draw { plan, script, .. }
+        | Command::Compare { plan, script, .. } => {
             let plan = folder.open(plan)?;
             let script = folder.open(script)?;
             Ok(act(alloc, command, plan, script, out, err))

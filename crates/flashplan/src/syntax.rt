@@ -4,7 +4,7 @@ ghost use Rattle.std.specs.Prelude.{◌≡◌, false, codes, IfOk};
 ghost use Rattle.clap.specs.Words.{app_of, rule_of, with_subcommand};
 ghost use Rattle.flashplan.specs.Syntax.{arrivals_app, arrivals_run_app, die_rule, draw_app, draw_files_app, draw_run_app, explain_app, fill_rule};
 ghost use Rattle.flashplan.specs.Syntax.{from_rule, flashplan_app, has_globals, keeps_app, keeps_files_app, named_app, needed, seed_rule, slots_rule};
-ghost use Rattle.flashplan.specs.Syntax.{to_rule, wear_app, wear_files_app};
+ghost use Rattle.flashplan.specs.Syntax.{compare_app, compare_files_app, pool_rule, to_rule, wear_app, wear_files_app};
 
 use clap::{Arg, ArgAction, Command};
 use std::alloc::{AllocError, Global};
@@ -19,6 +19,17 @@ With --fill the writing tasks share all pages, and each first writes its own onc
 What is written tells where it comes from: slot, task, page and place in the job, each in 8 digits.
 
 Example: flashplan arrivals plan.toml --slots 1000 > script.csv";
+
+/// What a comparison prints.
+const COMPARE_HELP: &str =
+    "The jobs of the script run on the store, and once more by plain flash translation layers on the same
+blocks and slots, which have no tokens and refuse nothing; nothing is proved of these.
+fifo: first come, first served; rm: rate-monotonic; edf: earliest deadline first. A collection on demand begins with fewer
+than 2 wholly free blocks, and nothing interrupts it. Of rm-back and edf-back it also begins in an idle slot with fewer
+than A, and gives way to jobs unless it is urgent; of edf-step it gives way in every slot.
+Counted are the jobs that are released from slot F on and due by slot N.
+
+Example: flashplan compare plan.toml script.csv --slots 100000 --from 20000 --pool 4";
 
 /// The file that has the plan.
 fn plan_file<'a>(alloc: Global) -> Arg<'a>
@@ -86,6 +97,30 @@ fn end<'a>(alloc: Global) -> Arg<'a>
         .value_name("B")
         .default_value("1048576")
         .help("The slot before which the picture ends, at most that of the run")
+}
+
+/// The first slot that counts.
+fn counted<'a>(alloc: Global) -> Arg<'a>
+    ensures rule { rule_of result ≡ from_rule }
+    ensures local { result.global ≡ false }
+{
+    Arg::new(alloc, "from")
+        .long("from")
+        .value_name("F")
+        .default_value("0")
+        .help("The first slot that counts")
+}
+
+/// How many wholly free blocks a plain layer wants.
+fn pool<'a>(alloc: Global) -> Arg<'a>
+    ensures rule { rule_of result ≡ pool_rule }
+    ensures local { result.global ≡ false }
+{
+    Arg::new(alloc, "pool")
+        .long("pool")
+        .value_name("A")
+        .default_value("4")
+        .help("With fewer wholly free blocks a plain layer collects in idle slots")
 }
 
 /// What is left to chance.
@@ -221,6 +256,29 @@ fn draw_words<'a>(alloc: Global) -> Result<Command<'a>, AllocError>
     draw_run(alloc)?.arg(first(alloc))?.arg(end(alloc))
 }
 
+/// The command `compare`, with its files.
+fn compare_files<'a>(alloc: Global) -> Result<Command<'a>, AllocError>
+    ensures app { IfOk result (λ c. app_of c ≡ compare_files_app) }
+    ensures local { IfOk result (λ c. has_globals c ≡ false) }
+{
+    Command::new(alloc, "compare")
+        .about("Run a script on a store and by plain layers, and tell how late its jobs were")
+        .after_help(COMPARE_HELP)
+        .arg(plan_file(alloc))?
+        .arg(script_file(alloc))
+}
+
+/// The command `compare`.
+fn compare_words<'a>(alloc: Global) -> Result<Command<'a>, AllocError>
+    ensures app { IfOk result (λ c. app_of c ≡ compare_app) }
+    ensures local { IfOk result (λ c. has_globals c ≡ false) }
+{
+    compare_files(alloc)?
+        .arg(slots(alloc))?
+        .arg(counted(alloc))?
+        .arg(pool(alloc))
+}
+
 /// The program's name and version, and what it is about.
 fn name<'a>(alloc: Global) -> Command<'a>
     ensures { app_of result ≡ named_app }
@@ -255,5 +313,7 @@ pub fn program_words<'a>(alloc: Global) -> Result<Command<'a>, AllocError>
     let with_keeps = with_command(with_arrivals, keeps)?;
     let draw = draw_words(alloc)?;
     let with_wear = with_command(with_keeps, wear)?;
-    with_command(with_wear, draw)
+    let compare = compare_words(alloc)?;
+    let with_draw = with_command(with_wear, draw)?;
+    with_command(with_draw, compare)
 }

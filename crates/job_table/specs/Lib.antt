@@ -7,3 +7,4 @@ pub mod Order
 pub mod Worst
 pub mod Queued
 pub mod Kept
+pub mod Heads

@@ -6,6 +6,7 @@ ghost use Rattle.slot_types.specs.Refusal.{FailsForMemory};
 ghost use Rattle.job_table.specs.Jobs.{JobRecord, new_job, new_collection, carried, with_read, with_stage};
 ghost use Rattle.job_table.specs.Table.{empty_table, with_job, with_change, work_at, reads_next_at, is_collecting};
 ghost use Rattle.job_table.specs.Waivers.{AreWaived, WerePending, waived_in, stopped};
+ghost use Rattle.job_table.specs.Heads.{WereHeads, with_waived};
 ghost use Rattle.job_table.specs.Order.{IsHead, IsNextReleased, NothingReady, NothingWaiting};
 ghost use Rattle.job_table.specs.Worst.{IsWorst, NothingDone, lateness_at};
 
@@ -209,6 +210,24 @@ impl JobTable {
         self.queues.release_by(&self.jobs, now);
         self.clock = now;
         match self.queues.first() {
+            Some(number) => Some(JobNo(number)),
+            None => None,
+        }
+    }
+
+    /// The job or collection that would have slot `now` if these were waived, each of which would be the head in its turn:
+    /// the head behind so many others. Nothing is waived.
+    pub fn head_behind(&mut self, now: u32, waived: &[Waived]) -> Option<JobNo>
+        requires running { self.old.ended ≡ false }
+        requires forward { self.old.clock ≤ now }
+        requires heads { WereHeads (record self.old { clock = now }) waived.now }
+        ensures clock { self.new ≡ record self.old { clock = now } }
+        ensures head { IfSome result (λ number. IsHead (with_waived (record self.old { clock = now }) waived.now) number) }
+        ensures idle { IfNone result (NothingReady (with_waived (record self.old { clock = now }) waived.now)) }
+    {
+        self.queues.release_by(&self.jobs, now);
+        self.clock = now;
+        match self.queues.first_behind(waived.len()) {
             Some(number) => Some(JobNo(number)),
             None => None,
         }

@@ -10,3 +10,4 @@ pub mod Walking
 pub mod Least
 pub mod OneStretch
 pub mod Moments
+pub mod Joined

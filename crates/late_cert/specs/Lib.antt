@@ -7,3 +7,4 @@ pub mod Verdict
 pub mod Check
 pub mod Build
 pub mod Moments
+pub mod Joined

@@ -6,7 +6,7 @@
 //! The premises of a law of one answer are the clauses of a call that decide, said of two answers `one` and `other`,
 //! which leave the slots `left` and `right`, where there were the slots `before`.
 
-ghost use Rattle.std.specs.Prelude.{◌≡◌, ℕ, ◌<◌, ◌≤◌, ◌↔◌, ◌⊎◌, Bool, List, [], ◌∷◌, ◌++◌, Option, Some, IsSome, true};
+ghost use Rattle.std.specs.Prelude.{◌≡◌, ℕ, ◌+◌, ◌<◌, ◌≤◌, ◌↔◌, ◌⊎◌, Bool, List, [], ◌∷◌, ◌++◌, length, Option, Some, IsSome, true};
 ghost use Rattle.std.specs.Prelude.{Result, IsTrue, IfOk, OnOk, OnErr, replicate};
 ghost use Rattle.slot_types.specs.declared.refusals.Refusal.{Refusal};
 ghost use Rattle.slot_types.specs.Refusal.{FailsForMemory};
@@ -18,6 +18,7 @@ ghost use Rattle.late_cert.specs.Bound.{IsCertificate, BindsEverySchedule};
 ghost use Rattle.late_cert.specs.Stretch.{IsStretch, CarriesLeastKeys};
 ghost use Rattle.late_cert.specs.Build.{certificate_of};
 ghost use Rattle.late_cert.specs.Moments.{AcceptsJob, WaivesJob, CarriesSlot};
+ghost use Rattle.late_cert.specs.Joined.{AreOver, joined_rows, joined_slots};
 
 use slot_types::Refusal;
 
@@ -67,6 +68,21 @@ pub fn least_keys_are_kept()
     ensures slot { (rows later : List JobRow) (carried : Slots) (slot : Option ℕ) →
         CarriesLeastKeys rows carried → CarriesSlot rows later carried slot →
         CarriesLeastKeys later (carried ++ slot ∷ []) }
+{}
+
+/// Least keys stay least over logs that follow each other. Where each slot of two logs carried a least key, and all jobs
+/// of the first are done, each slot of both carried one, where the jobs of the later log come that many slots later and
+/// have higher numbers. So no schedule of the jobs of both has a smaller greatest lateness, and each certificate of a
+/// done job holds over both.
+pub fn least_keys_are_joined()
+    ensures keys { (rows later : List JobRow) (carried slots : Slots) (numbers : ℕ) →
+        CarriesLeastKeys rows carried → AreOver rows numbers → CarriesLeastKeys later slots →
+        CarriesLeastKeys (joined_rows numbers (length carried) rows later) (joined_slots numbers carried slots) }
+    ensures least_late { (rows later : List JobRow) (carried slots : Slots) (numbers : ℕ) →
+        CarriesLeastKeys rows carried → AreOver rows numbers → CarriesLeastKeys later slots →
+        IsLeastLate (joined_rows numbers (length carried) rows later) (joined_slots numbers carried slots) }
+    ensures over { (rows later : List JobRow) (numbers slots further : ℕ) →
+        AreOver rows numbers → AreOver later further → AreOver (joined_rows numbers slots rows later) (numbers + further) }
 {}
 
 /// Adding what slots carried (`push`, `push_run`) leaves the slots in one way, or as they were. Left open is whether

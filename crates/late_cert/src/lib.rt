@@ -22,8 +22,8 @@ pub use carried::Carried;
 pub use certificates::{Certificate, JobList};
 pub use checks::check;
 pub use laws::{
-    certificates_bind_every_schedule, done_jobs_have_certificates, least_keys_are_kept,
-    least_keys_are_least_late, stretches_are_certificates,
+    certificates_bind_every_schedule, done_jobs_have_certificates, least_keys_are_joined,
+    least_keys_are_kept, least_keys_are_least_late, stretches_are_certificates,
     stretches_carry_what_was_released_in_them,
 };
 pub use rows::{JobRow, JobRows, lateness, rows_rise};

@@ -63,12 +63,6 @@ impl Book for Numbers {
 
     type Reply = NumberReply;
 
-    type Note = NumberReply;
-
-    type Head = u64;
-
-    type Part = ();
-
     type Query = usize;
 
     type Answer = Option<u64>;
@@ -80,10 +74,6 @@ impl Book for Numbers {
     ghost about = { λ _. tt };
 
     ghost accepts = { is_added };
-
-    ghost noted = { λ reply. reply };
-
-    ghost whole = { λ number _. number };
 
     ghost gives = { λ _ log _ number reply. Gives log number reply };
 
@@ -108,10 +98,6 @@ impl Book for Numbers {
             reply,
         });
         reply
-    }
-
-    fn note(&mut self, caller: u32, head: u64, _parts: &[()]) -> NumberReply {
-        self.apply(caller, head)
     }
 
     fn ask(&self, query: usize) -> Option<u64> {

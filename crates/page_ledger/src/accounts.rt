@@ -18,11 +18,11 @@ use std::marker::Model;
 /// one for each cap of the plan. Only `new` takes memory.
 #[derive(Drop)]
 pub struct Ledger {
-    plan: DiePlan,
-    spare: u32,
-    balances: Vec<u32>,
-    holds: Vec<u32>,
-    reserves: Vec<u32>,
+    pub(crate) plan: DiePlan,
+    pub(crate) spare: u32,
+    pub(crate) balances: Vec<u32>,
+    pub(crate) holds: Vec<u32>,
+    pub(crate) reserves: Vec<u32>,
 }
 
 impl Model for Ledger {
@@ -205,8 +205,8 @@ impl Ledger {
         self.spare + pages_in(&self.balances) + pages_in(&self.holds) + pages_in(&self.reserves)
     }
 
-    // What a collection that ends now gives the task.
-    fn given(&self, task: TaskNo) -> u32
+    /// How many pages a collection that ends now would give the task: `alpha`, or what the task lacks to its cap.
+    pub fn given(&self, task: TaskNo) -> u32
         requires { task < length self.now.plan.caps }
         ensures { result ≡ given_of self.now task }
     {

@@ -3,6 +3,7 @@
 
 pub mod accounts;
 pub mod laws;
+mod resumed;
 
 pub use accounts::Ledger;
 pub use laws::{grows_to_cap, writes_alone_lower_owned};

@@ -11,10 +11,10 @@ use Rattle.page_map.specs.Tables.{AreTables}
 use Rattle.page_map.proofs.Owners.{no_owner}
 use Rattle.page_map.proofs.Moving.{in_table}
 
-abbrev nowhere : ℕ → List (Option Place)
+abbrev pub nowhere : ℕ → List (Option Place)
 nowhere logical = replicate logical None
 
-lies_nowhere : (logical page : ℕ) → place_of (nowhere logical) page ≡ None
+pub lies_nowhere : (logical page : ℕ) → place_of (nowhere logical) page ≡ None
 lies_nowhere logical page =
     elim (cases_lt page logical) [
       | inl below ↦ get_or-replicate logical page None None below

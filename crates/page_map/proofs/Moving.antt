@@ -147,11 +147,11 @@ tables_without shape places owners valid page count old are below lay count_is =
 
 -- A page comes into a cell
 
-record Came (places : List (Option Place)) (page i : ℕ) (place q : Place) : Type 0 where
+pub record Came (places : List (Option Place)) (page i : ℕ) (place q : Place) : Type 0 where
   pub moved : i ≡ page → place ≡ q
   pub stayed : i ≢ page → place_of places i ≡ Some q
 
-came : (places : List (Option Place)) (page i : ℕ) (place q : Place) → page < length places → place_of (set places page (Some place)) i
+pub came : (places : List (Option Place)) (page i : ℕ) (place q : Place) → page < length places → place_of (set places page (Some place)) i
     ≡ Some q → Came places page i place q
 came places page i place q below lies = record {
   moved = λ same.
@@ -166,7 +166,7 @@ comes : (places : List (Option Place)) (page i : ℕ) (place : Place) → page <
 comes places page i place below same = ap (λ (j : ℕ). place_of (set places page (Some place)) j) same
     ∙ get_or-set_same places page (Some place) None below
 
-apart_with : (places : List (Option Place)) (page : ℕ) (place : Place) → AreApart places → page < length places → owner_of places place
+pub apart_with : (places : List (Option Place)) (page : ℕ) (place : Place) → AreApart places → page < length places → owner_of places place
     ≡ None → AreApart (set places page (Some place))
 apart_with places page place are below free = record {
   apart = λ i j q at_i at_j.

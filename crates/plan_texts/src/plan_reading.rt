@@ -10,15 +10,21 @@ use crate::stores::read_plan;
 use slot_types::{Refusal, StorePlan};
 use std::alloc::Global;
 use std::io::Read;
+use text_base::read_again;
 
 /// The most bytes of a plan that are read: one more than a plan may have.
 const MAX_BYTES: usize = 1_048_577;
 
-/// The most calls that a plan is read with.
-const MAX_CALLS: u32 = 1_048_577;
+/// The most calls that a plan is read with, those among them that are interrupted.
+const MAX_CALLS: usize = 1_048_577;
 
-/// Puts what one call gives behind a text, and answers how many bytes these are: none at the end.
-fn read_more<R: Read>(reader: &mut R, text: &mut Vec<u8>) -> Result<usize, Refusal>
+/// Puts what one call gives behind a text, and answers how many bytes these are: none at the end. An interrupted call is
+/// made again, while calls are left.
+fn read_more<R: Read>(
+    reader: &mut R,
+    calls: &mut usize,
+    text: &mut Vec<u8>,
+) -> Result<usize, Refusal>
     requires { length text.old.items < 1048577 }
     ensures more { IfOk result (TakesMore (R.remaining reader.old) (R.remaining reader.new) text.old.items text.new.items) }
     ensures room { IfOk result (λ _. length text.new.items ≤ 1048577) }
@@ -26,7 +32,7 @@ fn read_more<R: Read>(reader: &mut R, text: &mut Vec<u8>) -> Result<usize, Refus
 {
     let mut chunk = [0u8; 4096];
     let most = chunk.len().min(MAX_BYTES - text.len());
-    let Ok(n) = reader.read(&mut chunk[..most]) else {
+    let Ok(n) = read_again(reader, calls, &mut chunk[..most]) else {
         return Err(Refusal::ReadFault);
     };
     text.extend_from_slice(&chunk[..n])?;
@@ -34,16 +40,17 @@ fn read_more<R: Read>(reader: &mut R, text: &mut Vec<u8>) -> Result<usize, Refus
 }
 
 /// Reads the text of a plan: all of it, or the first 1,048,577 bytes, of which [`plan_numbers`](crate::plan_numbers)
-/// tells that they are too many. The reader is called 1,048,577 times at most, and no more where it fails: an error of
-/// its own is ReadFault, of whatever kind it is. NoMemory comes where memory is refused.
+/// tells that they are too many. The reader is called 1,048,577 times at most, again where it is interrupted, and no more
+/// where it fails: an error of its own is ReadFault, of whatever other kind it is. NoMemory comes where memory is refused.
 pub fn plan_text<R: Read + Drop>(alloc: Global, reader: R) -> Result<Vec<u8>, Refusal>
     ensures text { IfOk result (λ text. IfSome (R.remaining reader) (λ bytes. text.items ≡ take 1048577 bytes)) }
     ensures refused { IfErr result IsOutside }
 {
     let mut reader = reader;
+    let mut calls = MAX_CALLS;
     let mut text = Vec::new(alloc);
     for _call in 0..MAX_CALLS {
-        let more = read_more(&mut reader, &mut text)?;
+        let more = read_more(&mut reader, &mut calls, &mut text)?;
         if more == 0 || text.len() == MAX_BYTES {
             return Ok(text);
         }

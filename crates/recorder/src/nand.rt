@@ -105,7 +105,7 @@ impl<N: Nand> Nand for WearNand<N> {
 
     ghost failures = { λ d. N.failures d.chip + d.failed };
 
-    ghost ends = { λ _ _ _. ⊤ };
+    ghost ends = { λ _ _ _ _. ⊤ };
 
     ghost never_fails = { false };
 

@@ -28,7 +28,7 @@ fn feed(alloc: Global, jobs: &[Job]) -> Result<Feed, Refusal>
             release,
             due,
         };
-        feed.push(release, head, &[op])?;
+        feed.push_lent(release, head, &[op])?;
     }
     Ok(feed)
 }
@@ -54,6 +54,17 @@ pub(crate) fn three(
     feeds.push_reserved(feed(alloc, first)?);
     feeds.push_reserved(feed(alloc, second)?);
     feeds.push_reserved(feed(alloc, third)?);
+    Ok(feeds)
+}
+
+/// The feeds of five dies, none of which gets an event.
+pub(crate) fn five_empty(alloc: Global) -> Result<Vec<Feed>, Refusal>
+    ensures { IfOk result (λ feeds. All AllArrive feeds.items) }
+{
+    let mut feeds = Vec::with_capacity(alloc, 5)?;
+    for _ in 0..5u32 {
+        feeds.push_reserved(Feed::new(alloc));
+    }
     Ok(feeds)
 }
 

@@ -5,7 +5,8 @@
 //! `closing` tells what becomes of the store.
 //!
 //! A test of runs is a table of courses: `feeds` has the jobs of a die, `courses` how its run has to end. `runs`, `dealt` and
-//! `gated` have the tests, with the devices and gates of `held` and `noted`. `scarce` is for where memory is refused.
+//! `gated` have the tests, with the devices and gates of `held` and `noted`. `scarce` is for where memory is refused. `lives`
+//! has a store that goes on, and `listed` feeds as lists.
 #![tactic(auto)]
 
 #[cfg(test)]
@@ -24,6 +25,10 @@ mod feeds;
 mod gated;
 #[cfg(test)]
 mod held;
+#[cfg(test)]
+mod listed;
+#[cfg(test)]
+mod lives;
 #[cfg(test)]
 mod made;
 #[cfg(test)]

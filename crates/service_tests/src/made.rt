@@ -89,6 +89,21 @@ pub(crate) fn two_dies(
     store_of(alloc, memory(alloc)?, memory(alloc)?)
 }
 
+/// A store of five dies with devices in memory.
+pub(crate) fn five_dies(
+    alloc: Global,
+) -> Result<(Store<MemoryNand>, Vec<DiePass<MemoryNand>>), Refusal>
+    ensures { IfOk result (λ made. map (λ pass. pass.lock) made.1.items ≡ made.0) }
+{
+    let mut nands = Vec::with_capacity(alloc, 5)?;
+    nands.push_reserved(memory(alloc)?);
+    nands.push_reserved(memory(alloc)?);
+    nands.push_reserved(memory(alloc)?);
+    nands.push_reserved(memory(alloc)?);
+    nands.push_reserved(memory(alloc)?);
+    Store::new(alloc, ROOMY.of_store(alloc, 5)?, nands)
+}
+
 // A store of one die with this device.
 fn store_with<N: Nand>(alloc: Global, nand: N) -> Result<(Store<N>, Vec<DiePass<N>>), Refusal>
     requires { IsFresh (N.shape_of nand) (N.blocks nand) (N.failures nand) }

@@ -3,10 +3,10 @@
 ghost use Rattle.std.specs.Prelude.{◌≡◌, ◌≤◌, map, IfOk};
 ghost use Rattle.flash_die.specs.Flash.{IsFresh};
 
-use crate::courses::{Course, WRITES_AND_READS, run_courses, run_part};
-use crate::feeds::Job;
-use crate::held::{HeldNand, HoldGate, Mark};
-use crate::made::{ONES, faulty_dies, memory, store_of, two_dies};
+use crate::courses::{Course, WRITES_AND_READS, run, run_courses, run_part};
+use crate::feeds::{Job, five_empty};
+use crate::held::{EnterGate, HeldNand, HoldGate, ListGate, Mark, Read};
+use crate::made::{ONES, faulty_dies, five_dies, memory, store_of, two_dies};
 use die_service::{DiePass, FreeGate, RefusedAt, RefusedEvent, Store, close};
 use flash_die::{MemoryNand, Nand};
 use slot_core::{DieCore, Outcome};
@@ -166,67 +166,89 @@ fn a_run_in_two_parts_ends_as_one(rt: HostRuntime) -> Result<(), Fail> {
 // Each die with the same feed.
 const SAME: [Course; 2] = [WRITES_AND_READS, WRITES_AND_READS];
 
-// Runs two dies, the first of which waits at its gate for the second.
+// Runs two dies by two workers, one die held at its gate until the other has carried out a slot. Tells whether it had.
 fn run_held<R: Threads + Wait + Sync + Abort>(
     rt: &R,
     alloc: Global,
-    gate: &HoldGate,
-) -> Result<(), Refusal> {
+    held: u32,
+) -> Result<bool, Refusal> {
+    let gate = HoldGate {
+        held,
+        mark: Mark::new(),
+    };
     let (store, mut passes) = two_dies(alloc)?;
-    run_courses(rt, alloc, &store, &mut passes, &SAME, 2, 2, gate)
+    run_courses(rt, alloc, &store, &mut passes, &SAME, 2, 2, &gate)?;
+    Ok(gate.mark.was_met())
 }
 
 #[test]
 fn dies_run_at_once(rt: HostRuntime) -> Result<(), Fail> {
-    let gate = HoldGate { mark: Mark::new() };
-    run_held(&rt, rt.alloc(), &gate)?;
-    assert!(rt; gate.mark.was_met());
+    assert!(rt; run_held(&rt, rt.alloc(), 0)?, "die 1 goes on while die 0 is held");
+    assert!(rt; run_held(&rt, rt.alloc(), 1)?, "die 0 goes on while die 1 is held");
     Ok(())
 }
 
-// A device that waits with its reads for the mark, or sets it with each.
+// A device that waits within its reads for the other one, or says that it has answered.
 fn held(
     alloc: Global,
     waits: bool,
-    mark: &Arc<Mark, Global>,
+    read: &Arc<Read, Global>,
 ) -> Result<HeldNand<MemoryNand>, Refusal>
     ensures { IfOk result (λ nand. IsFresh (⟦<HeldNand<MemoryNand> as Nand>⟧.shape_of nand) (⟦<HeldNand<MemoryNand> as Nand>⟧.blocks nand)
         (⟦<HeldNand<MemoryNand> as Nand>⟧.failures nand)) }
 {
-    Ok(HeldNand::new(memory(alloc)?, waits, Arc::try_clone(mark)?))
+    Ok(HeldNand::new(memory(alloc)?, waits, Arc::try_clone(read)?))
 }
 
-// Runs two dies with these devices and these courses.
-fn run_on<N: Nand + Send, R: Threads + Wait + Sync + Abort>(
-    rt: &R,
-    alloc: Global,
-    first: N,
-    second: N,
-    courses: &[Course; 2],
-    slots: u32,
-) -> Result<(), Refusal>
-    requires first { IsFresh (N.shape_of first) (N.blocks first) (N.failures first) }
-    requires second { IsFresh (N.shape_of second) (N.blocks second) (N.failures second) }
-{
-    let (store, mut passes) = store_of(alloc, first, second)?;
-    run_courses(rt, alloc, &store, &mut passes, courses, slots, 2, &FreeGate)
-}
-
-// Runs two dies, the device of the first of which waits in the die's turn for that of the second.
+// Runs two dies by two workers. The device of one waits within its first read, so in its die's turn, until that of the other
+// die has answered a read; and the other die's slots begin only behind that. Tells whether both came to pass.
 fn run_apart<R: Threads + Wait + Sync + Abort>(
     rt: &R,
     alloc: Global,
-    mark: &Arc<Mark, Global>,
-) -> Result<(), Refusal> {
-    let waiting = held(alloc, true, mark)?;
-    run_on(rt, alloc, waiting, held(alloc, false, mark)?, &SAME, 2)
+    read: &Arc<Read, Global>,
+    first_waits: bool,
+) -> Result<bool, Refusal> {
+    let gate = EnterGate {
+        held: if first_waits { 1 } else { 0 },
+        read: Arc::try_clone(read)?,
+    };
+    let first = held(alloc, first_waits, read)?;
+    let (store, mut passes) = store_of(alloc, first, held(alloc, !first_waits, read)?)?;
+    run_courses(rt, alloc, &store, &mut passes, &SAME, 2, 2, &gate)?;
+    Ok(read.was_met())
 }
 
 #[test]
 fn turns_are_apart(rt: HostRuntime) -> Result<(), Fail> {
-    let mark = Arc::new(rt.alloc(), Mark::new())?;
-    run_apart(&rt, rt.alloc(), &mark)?;
-    assert!(rt; mark.was_met());
+    let first = Arc::new(rt.alloc(), Read::new())?;
+    assert!(rt; run_apart(&rt, rt.alloc(), &first, true)?, "die 1 reads within a turn of die 0");
+    let second = Arc::new(rt.alloc(), Read::new())?;
+    assert!(rt; run_apart(&rt, rt.alloc(), &second, false)?, "die 0 reads within a turn of die 1");
+    Ok(())
+}
+
+// Five dies without events, run for a slot each by two workers: the order in which their slots were carried out while one
+// die was held until another had carried out its slot.
+fn order_of_five<R: Threads + Wait + Sync + Abort>(
+    rt: &R,
+    alloc: Global,
+    held: u32,
+    until: u32,
+) -> Result<Option<Vec<u32>>, Refusal> {
+    let gate = ListGate::new(held, until, Vec::with_capacity(alloc, 5)?);
+    let (store, mut passes) = five_dies(alloc)?;
+    run(rt, &store, &mut passes, five_empty(alloc)?, 1, 2, &gate)?;
+    Ok(gate.into_dies())
+}
+
+// Five dies by two workers, three and two, each worker one die after the other: while die 0 is held, the other worker
+// carries out dies 3 and 4 and no more; while die 3 is held, dies 0, 1 and 2.
+#[test]
+fn dies_are_dealt_in_runs(rt: HostRuntime) -> Result<(), Fail> {
+    let held_first = order_of_five(&rt, rt.alloc(), 0, 4)?;
+    assert_eq!(rt; held_first.as_deref(), Some([3u32, 4, 0, 1, 2].as_slice()));
+    let held_fourth = order_of_five(&rt, rt.alloc(), 3, 2)?;
+    assert_eq!(rt; held_fourth.as_deref(), Some([0u32, 1, 2, 3, 4].as_slice()));
     Ok(())
 }
 

@@ -17,6 +17,8 @@ pub mod Serving
 pub mod Turning
 pub mod Beginning
 pub mod Slotting
+pub mod Needing
+pub mod Making
 pub mod Noting
 pub mod Performing
 pub mod Running

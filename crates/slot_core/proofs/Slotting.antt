@@ -166,7 +166,7 @@ idle_kept start blocks_of log later present caller ws t v reply s nothing alive 
 -- A job's operation
 
 -- the act of the head's operation is what the log determines
-act_is : (start : Start) (log : Log) (f : FlashState) (j : Job) (op : Op) → f.pages ≡ contents start log → j.collects ≡ false
+pub act_is : (start : Start) (log : Log) (f : FlashState) (j : Job) (op : Op) → f.pages ≡ contents start log → j.collects ≡ false
     → slice_get j.ops (work j.number log) ≡ Some op → act_for start log j ≡ Some (act_by f op)
 act_is start log f j op pages_are plain next = rw plain (rw next (by_op op))
   where

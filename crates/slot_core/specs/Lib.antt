@@ -15,3 +15,6 @@ pub mod Outcomes
 pub mod Summaries
 pub mod Rowed
 pub mod Planned
+pub mod Needs
+pub mod NextSlot
+pub mod NextTurns

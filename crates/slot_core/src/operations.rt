@@ -1,11 +1,13 @@
 //! The operations of jobs, on a volume.
 
-ghost use Rattle.std.specs.Prelude.{◌≡◌, ◌<◌, true, false, length, slice_index, IfOk, OnOk, find, option_map};
+ghost use Rattle.std.specs.Prelude.{◌≡◌, ◌<◌, true, false, length, slice_index, is_ok, IsSome, IfOk, OnOk, OnErr, find, option_map};
 ghost use Rattle.std.specs.Prelude.{nat_le};
 ghost use Rattle.slot_types.specs.Operations.{is_write, writes, page_of};
 ghost use Rattle.slot_core.specs.Device.{flash_of};
 ghost use Rattle.slot_core.specs.Acting.{act_by, operated};
 ghost use Rattle.flash_volume.specs.Faults.{FailsWithDevice};
+ghost use Rattle.slot_core.specs.Needs.{Made};
+ghost use Rattle.slot_core.specs.NextTurns.{op_call};
 
 use flash_die::Nand;
 use flash_volume::Volume;
@@ -54,6 +56,8 @@ pub(crate) fn operate<N: Nand>(volume: &mut Volume<N>, task: TaskNo, op: Op) -> 
     ensures flash { OnOk result (flash_of N.blocks volume.new ≡ operated (flash_of N.blocks volume.old) task op) }
     ensures plan { volume.new.accounts.plan ≡ volume.old.accounts.plan }
     ensures fails { FailsWithDevice N.failures N.never_fails result volume.old volume.new }
+    ensures made { Made N.ends (op_call N.blocks volume.old op) (is_ok result) volume.old.device volume.new.device }
+    ensures needs { OnErr result (IsSome (op_call N.blocks volume.old op)) }
 {
     match op {
         Op::Read(page) => {

@@ -9,6 +9,8 @@ ghost use Rattle.job_table.specs.Table.{work_at};
 ghost use Rattle.die_log.specs.Log.{Log};
 ghost use Rattle.die_log.specs.Start.{Start, over};
 ghost use Rattle.die_log.specs.Answers.{answer};
+ghost use Rattle.die_log.specs.Needed.{needed_call};
+ghost use Rattle.slot_core.specs.Needs.{MakesCall};
 ghost use Rattle.slot_core.specs.Core.{with_entry};
 ghost use Rattle.flash_volume.specs.Faults.{FailsWithDevice};
 ghost use Rattle.slot_core.specs.Calls.{HasCarriedOut, HasRefusedSlot};
@@ -102,6 +104,8 @@ fn carry_out<N: Nand>(
     ensures room { events.old.room ≤ events.new.room + 1 }
     ensures waiver_room { open_collections table.new.jobs ≤ events.new.waiver_room }
     ensures room_stays { OnErr result (events.new.room ≡ events.old.room) }
+    ensures calls { MakesCall N.ends N.failures (needed_call (over volume.old.accounts.plan from.0) from.1) result volume.old.device
+        volume.new.device }
 {
     let Some(number) = choose(volume, table, &mut reply.waived, present) else {
         events.push_idle(caller, reply.waived.as_slice());
@@ -148,6 +152,7 @@ impl<N: Nand> DieCore<N> {
         ensures carried_out { OnOk result (HasCarriedOut caller reply.new self.old self.new) }
         ensures refused { IfErr result (λ refusal. HasRefusedSlot N.never_fails refusal self.old self.new) }
         ensures fault { (result ≡ Err Refusal.DeviceFault) ↔ (N.failures self.new.device ≡ N.failures self.old.device + 1) }
+        ensures calls { MakesCall N.ends N.failures (needed_call self.old.start self.old.log) result self.old.device self.new.device }
         ensures plan { self.new.start ≡ self.old.start }
     {
         if self.volume.failed() {
@@ -187,12 +192,16 @@ impl<N: Nand> DieCore<N> {
     /// 1,048,576; `NoMemory`, never while slots are reserved; these change nothing. `DeviceFault`, exactly where a call of
     /// the device failed: the die is stopped from then on, and its log stays, without this slot's waivers.
     ///
+    /// It makes the one call of the device that its act needs, and no other: none where it is idle, trims a page or reads
+    /// one that lies nowhere.
+    ///
     /// While slots are reserved it takes no memory, and where it is answered one of them is used up.
     pub fn slot(&mut self, alloc: Global, caller: u32) -> Result<SlotReply, Refusal>
         ensures stopped { (result ≡ Err Refusal.DieStopped) ↔ (self.old.stopped ≡ true) }
         ensures carried_out { IfOk result (λ reply. HasCarriedOut caller reply self.old self.new) }
         ensures refused { IfErr result (λ refusal. HasRefusedSlot N.never_fails refusal self.old self.new) }
         ensures fault { (result ≡ Err Refusal.DeviceFault) ↔ (N.failures self.new.device ≡ N.failures self.old.device + 1) }
+        ensures calls { MakesCall N.ends N.failures (needed_call self.old.start self.old.log) result self.old.device self.new.device }
         ensures plan { self.new.start ≡ self.old.start }
     {
         let mut reply = new_reply(alloc);
@@ -208,6 +217,7 @@ impl<N: Nand> DieCore<N> {
         ensures carried_out { IfOk result (λ reply. HasCarriedOut caller reply self.old self.new) }
         ensures refused { IfErr result (λ refusal. HasRefusedSlot N.never_fails refusal self.old self.new) }
         ensures fault { (result ≡ Err Refusal.DeviceFault) ↔ (N.failures self.new.device ≡ N.failures self.old.device + 1) }
+        ensures calls { MakesCall N.ends N.failures (needed_call self.old.start self.old.log) result self.old.device self.new.device }
         ensures plan { self.new.start ≡ self.old.start }
     {
         let mut reply = new_reply(alloc);

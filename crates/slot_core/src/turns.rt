@@ -1,10 +1,12 @@
 //! The turn of a slot's head: a collection begins, and then the head does its act.
 
-ghost use Rattle.std.specs.Prelude.{◌≡◌, ◌+◌, ◌<◌, true, false, None, length, IfOk};
+ghost use Rattle.std.specs.Prelude.{◌≡◌, ◌+◌, ◌<◌, true, false, None, Some, length, is_ok, IfOk};
 ghost use Rattle.flash_die.specs.Flash.{block_at};
 ghost use Rattle.flash_volume.specs.declared.collection.Collection.{Collection};
 ghost use Rattle.flash_volume.specs.Running.{running_of};
 ghost use Rattle.flash_volume.specs.Faults.{FailsWithDevice};
+ghost use Rattle.flash_volume.specs.Steps.{EndsStep};
+ghost use Rattle.slot_core.specs.NextTurns.{TurnMakes};
 ghost use Rattle.slot_core.specs.Turns.{is_fresh, BeginsAs, RunFits, HeadFits, turn_by, DidCollect, DidTurn};
 
 use crate::operations::operate;
@@ -38,6 +40,7 @@ pub(crate) fn take_turn<N: Nand>(volume: &mut Volume<N>, job: &Job) -> Result<Tu
     ensures did { IfOk result (λ turn. DidTurn N.blocks volume.old job.now turn volume.new) }
     ensures plan { volume.new.accounts.plan ≡ volume.old.accounts.plan }
     ensures fails { FailsWithDevice N.failures N.never_fails result volume.old volume.new }
+    ensures makes { TurnMakes N.ends N.blocks volume.old job.now (is_ok result) volume.new }
 {
     if job.collects() {
         collect(volume, job.task())
@@ -54,6 +57,7 @@ fn operate_next<N: Nand>(volume: &mut Volume<N>, job: &Job) -> Result<Turn, Refu
     ensures did { IfOk result (λ turn. DidTurn N.blocks volume.old job.now turn volume.new) }
     ensures plan { volume.new.accounts.plan ≡ volume.old.accounts.plan }
     ensures fails { FailsWithDevice N.failures N.never_fails result volume.old volume.new }
+    ensures makes { TurnMakes N.ends N.blocks volume.old job.now (is_ok result) volume.new }
 {
     let Some(op) = job.next_op() else {
         unreachable!()
@@ -77,6 +81,8 @@ fn collect<N: Nand>(volume: &mut Volume<N>, task: TaskNo) -> Result<Turn, Refusa
     ensures did { IfOk result (λ turn. DidCollect N.blocks volume.old task turn volume.new) }
     ensures plan { volume.new.accounts.plan ≡ volume.old.accounts.plan }
     ensures fails { FailsWithDevice N.failures N.never_fails result volume.old volume.new }
+    ensures makes { (c : Collection) → running_of volume.old.running task ≡ Some c
+        → EndsStep N.ends N.blocks volume.old c (is_ok result) volume.new }
 {
     match volume.collect_slot(task) {
         Err(refusal) => Err(refusal),

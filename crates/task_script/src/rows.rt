@@ -60,7 +60,7 @@ impl DieRows {
         ensures refused { FailsForMemory result }
     {
         self.lines.reserve(1)?;
-        self.feed.push(head.at, head.job, ops)?;
+        self.feed.push_lent(head.at, head.job, ops)?;
         self.lines.push_reserved(head.line);
         self.die = head.die;
         self.latest = self.latest.max(head.at);

@@ -6,16 +6,18 @@ ghost use Rattle.std.specs.Io.KnownBytes.{ReadConsumes};
 ghost use Rattle.text_base.specs.Bounded.{bounded_remaining};
 ghost use Rattle.text_base.specs.Marked.{marked};
 
+use crate::calls::read_again;
 use std::io;
 use std::io::{ErrorKind, Read};
 
 /// The most bytes that a text may have.
 pub const MAX_BYTES: usize = 67_108_864;
 
-/// The most calls that a text is read with.
+/// The most calls that a text is read with, those among them that are interrupted.
 pub const MAX_CALLS: usize = 67_108_865;
 
-/// A reader that fails where a text goes on past `MAX_BYTES`, or at a call past `MAX_CALLS`.
+/// A reader that fails where a text goes on past `MAX_BYTES`, or at a call past `MAX_CALLS`. A call that is interrupted is
+/// made again.
 #[derive(Drop)]
 pub struct Bounded<R> {
     inner: R,
@@ -49,13 +51,12 @@ impl<R: Read> Read for Bounded<R> {
         if self.ended || buf.is_empty() {
             return Ok(0);
         }
-        if self.past.is_some() || self.calls == 0 {
+        if self.past.is_some() {
             return Err(io::Error::from(ErrorKind::Other));
         }
-        self.calls -= 1;
         if self.room == 0 {
             let mut one = [0u8];
-            if self.inner.read(&mut one)? == 0 {
+            if read_again(&mut self.inner, &mut self.calls, &mut one)? == 0 {
                 self.ended = true;
                 return Ok(0);
             }
@@ -63,7 +64,7 @@ impl<R: Read> Read for Bounded<R> {
             return Err(io::Error::from(ErrorKind::Other));
         }
         let most = buf.len().min(self.room);
-        let n = self.inner.read(&mut buf[..most])?;
+        let n = read_again(&mut self.inner, &mut self.calls, &mut buf[..most])?;
         self.room -= n;
         self.ended = n == 0;
         Ok(n)

@@ -3,6 +3,7 @@
 #![tactic(auto)]
 
 mod bounded;
+mod calls;
 mod csv_records;
 mod numbers;
 mod ops;
@@ -11,6 +12,7 @@ mod words;
 mod writing;
 
 pub use bounded::Bounded;
+pub use calls::read_again;
 pub use csv_records::{field_in, is_named, rows_in, take_row};
 pub use numbers::number;
 pub use pages::put_page;

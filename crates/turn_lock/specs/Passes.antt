@@ -4,7 +4,7 @@ use Rattle.slot_types.specs.declared.refusals.Refusal.{Refusal}
 use Rattle.slot_types.specs.declared.refusals.Refusal.TheVariants.{PassesOut}
 use Rattle.turn_lock.specs.declared.entry.Entry.{Entry}
 use Rattle.turn_lock.specs.declared.view.View.{View}
-use Rattle.turn_lock.specs.Log.{times, StartsWith, entry, NoneBy}
+use Rattle.turn_lock.specs.Log.{times, StartsWith, entry, calls_by, NoneBy}
 use Rattle.turn_lock.specs.Views.{numbers_of, left_part, right_part, joined_view}
 
 module _ {E R A : Type 0} where
@@ -49,12 +49,15 @@ module _ {E R A : Type 0} where
   abbrev pub IsFull : (fits : A → List (Entry E R) → Type 0) → View E R A → View E R A → Type 0
   IsFull fits v w = Grown fits v w × (w.made ≡ 65536)
 
-  -- the longer of what both had seen, of which both are beginnings, and the numbers of both, each once
+  -- The longer of what both had seen, of which both are beginnings, and the numbers of both, each once. Of each of these numbers there are
+  -- just the entries that its own pass had seen
   pub record Joined (v other w : View E R A) : Type 0 where
     pub view_is : w ≡ joined_view v other
     pub first : StartsWith w.seen v.seen
     pub second : StartsWith w.seen other.seen
     pub once : (p : ℕ) → times p (w.number ∷ w.joined) ≤ 1
+    pub own : (p : ℕ) → 0 < times p (v.number ∷ v.joined) → calls_by p w.seen ≡ calls_by p v.seen
+    pub others : (p : ℕ) → 0 < times p (other.number ∷ other.joined) → calls_by p w.seen ≡ calls_by p other.seen
 
   -- so many passes are neither this one nor joined into it; where there are none, the pass had seen all entries.
   -- There are none where the pass knew that no other is left

@@ -1,7 +1,7 @@
 -- The rule of the lock's table, which holds between any two steps.
 -- Word 0 is twice the number of entries, and 1 more while a pass has the turn. Slot 0 has the book, and the count of passes made, while no
 -- pass has the turn.
-use Rattle.std.specs.Prelude.{◌≡◌, ℕ, ◌+◌, ◌*◌, ◌<◌, ◌≤◌, true, List, [], ◌∷◌, ◌++◌, length, Option, Some}
+use Rattle.std.specs.Prelude.{◌≡◌, ℕ, ◌+◌, ◌*◌, ◌<◌, ◌≤◌, true, List, [], ◌∷◌, ◌++◌, length, Option, Some, None}
 use mathlib.Core.Option.{some}
 use mathlib.Core.Option as maybe
 use lib.ListN.{get_elem?}
@@ -9,7 +9,7 @@ use Rattle.atomic_table.specs.Table.{State}
 use Rattle.turn_lock.specs.declared.entry.Entry.{Entry}
 use Rattle.turn_lock.specs.declared.view.View.{View}
 use Rattle.turn_lock.specs.declared.view.Kept.{Kept}
-use Rattle.turn_lock.specs.Log.{times, once_below, total, StartsWith, calls_by, NoneBy}
+use Rattle.turn_lock.specs.Log.{times, once_below, total, calls_by, GrowsWithout}
 use Rattle.turn_lock.specs.Views.{numbers_of}
 
 module _ {E R A : Type 0} where
@@ -20,10 +20,15 @@ module _ {E R A : Type 0} where
     pub about_is : v.live ≡ true → v.about ≡ Some about
     pub fit : v.live ≡ true → fits about v.seen
     pub below : v.made ≤ count
-    pub seen : (more : List (Entry E R)) × (log ≡ v.seen ++ more) × NoneBy (numbers_of v) more
-    pub told : StartsWith log v.told
-    pub sole : v.sole ≡ true → (v.made ≡ count) × (length (numbers_of v) ≡ count)
-    pub turn : v.turn ≡ true → (bit ≡ 1) × (holder ≡ id) × (v.seen ≡ log) × (v.made ≡ count)
+    pub seen : GrowsWithout (numbers_of v) v.seen log
+    pub last_join : GrowsWithout v.behind v.shorter_seen v.longer_seen
+    pub sole : v.sole ≡ true → (v.made ≡ count) × (length (numbers_of v) ≡ count) × (v.about ≡ Some about) × (count ≡ 0 → holder ≡ id)
+    pub turn : v.turn ≡ true → (bit ≡ 1) × (holder ≡ id) × (v.seen ≡ log) × (v.made ≡ count) × (0 < count)
+
+module _ {E R B : Type 0} where
+  -- before the first pass is made there is no book, and nobody can take the turn
+  abbrev pub IsVacant : List (Entry E R) → ℕ → List (maybe.Option (Option (Kept B))) → Type 0
+  IsVacant es bit homes = (es ≡ []) × (bit ≡ 1) × (homes ≡ some None ∷ [])
 
 module _ {E R A B : Type 0} (log : B → List (Entry E R)) (about : B → A) where
   -- the slot is at home with a book of these entries
@@ -42,6 +47,7 @@ module _ {E R A B : Type 0} (log : B → List (Entry E R)) (about : B → A) whe
     pub word : s.words ≡ (2 * length entries + bit) ∷ []
     pub width : length s.homes ≡ 1
     pub home : bit ≡ 0 → AtHome entries count topic s.homes
+    pub vacant : count ≡ 0 → IsVacant entries bit s.homes
     pub fitting : fits topic entries
     pub named : (p : ℕ) → count ≤ p → calls_by p entries ≡ []
     pub parted : (p : ℕ) → total (λ v. times p (numbers_of v)) s.views ≡ once_below p count

@@ -1,13 +1,13 @@
 -- What each kind of step tells the pass that makes it.
-use Rattle.std.specs.Prelude.{◌≡◌, ◌≢◌, ℕ, ◌+◌, ◌*◌, ◌<◌, ◌≤◌, true, false, ◌==◌, List, [], ◌∷◌, ◌++◌, length, Option, Some}
+use Rattle.std.specs.Prelude.{◌≡◌, ◌≢◌, ℕ, ◌+◌, ◌*◌, ◌<◌, ◌≤◌, true, false, ◌==◌, List, [], ◌∷◌, ◌++◌, length, Option, Some, None}
 use Rattle.atomic_table.specs.declared.shared.Seat.{Seat}
 use Rattle.atomic_table.specs.Seated.{TableId}
 use Rattle.atomic_table.specs.Table.{Me, Step}
 use Rattle.turn_lock.specs.declared.entry.Entry.{Entry}
 use Rattle.turn_lock.specs.declared.view.View.{View}
 use Rattle.turn_lock.specs.declared.view.Kept.{Kept}
-use Rattle.turn_lock.specs.Log.{times, StartsWith, calls_by, NoneBy, AllBy}
-use Rattle.turn_lock.specs.Views.{numbers_of, SeesFitting}
+use Rattle.turn_lock.specs.Log.{times, calls_by, NoneBy, AllBy, GrowsWithout}
+use Rattle.turn_lock.specs.Views.{numbers_of, SeesFitting, first_view, vacant_view}
 
 abbrev pub IsTurnTable : TableId → Type 0
 IsTurnTable table = (table.words ≡ 1) × (table.slots ≡ 1)
@@ -15,6 +15,10 @@ IsTurnTable table = (table.words ≡ 1) × (table.slots ≡ 1)
 module _ {E R A B : Type 0} where
   abbrev pub IsSameSeat : Seat (Option (Kept B)) (View E R A) → Seat (Option (Kept B)) (View E R A) → Type 0
   IsSameSeat s t = (t.table_id ≡ s.table_id) × (t.id ≡ s.id)
+
+  -- the first pass is made, and has the turn and the empty slot
+  abbrev pub first_made : Step (Option (Kept B)) → Me (Option (Kept B)) (View E R A) → ℕ → Me (Option (Kept B)) (View E R A) → Type 0
+  first_made st m r m' = (a : A) → m.0 ≡ vacant_view a → (m'.1 ≡ (0, None) ∷ m.1) × (m'.0 ≡ record (first_view a) { turn = true })
 
 module _ {E R : Type 0} where
   -- no entry is of another caller
@@ -26,10 +30,11 @@ module _ {E R A : Type 0} where
   abbrev pub AddsOneAtMost : View E R A → List (Entry E R) → Type 0
   AddsOneAtMost v es = (more : List (Entry E R)) × (es ≡ v.seen ++ more) × (length more ≤ 1) × OnlyBy v.number more
 
-  -- a look that shows, after a join, that what either had seen begins the list, and that no number stands twice; the longer of both fits
+  -- a look that shows, after a join, that the longer of what both had seen is the shorter and then nothing by the pass that had seen that,
+  -- and that no number stands twice; what the pass has seen fits
   abbrev pub compared : {S : Type 0} → (A → List (Entry E R) → Type 0) → Step S → Me S (View E R A) → ℕ → Me S (View E R A) → Type 0
   compared fits st m r m' =
-      (m' ≡ m) × (length m.0.told ≤ length m.0.seen → StartsWith m.0.seen m.0.told)
+      (m' ≡ m) × GrowsWithout m.0.behind m.0.shorter_seen m.0.longer_seen
       × ((p : ℕ) → times p (numbers_of m.0) ≤ 1) × (length (numbers_of m.0) ≤ 65536) × SeesFitting fits m.0
 
 module _ {E R A B : Type 0} (log : B → List (Entry E R)) (about : B → A) where
@@ -49,6 +54,7 @@ module _ {E R A B : Type 0} (log : B → List (Entry E R)) (about : B → A) whe
     pub log_is : log k.book ≡ v.seen ++ more
     pub about_is : v.about ≡ Some (about k.book)
     pub fit : fits (about k.book) (log k.book)
+    pub unnamed : (p : ℕ) → k.made ≤ p → calls_by p (log k.book) ≡ []
     pub later : v.made ≤ k.made
     pub few : k.made ≤ 65536
     pub enough : length (numbers_of v) ≤ k.made

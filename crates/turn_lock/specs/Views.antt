@@ -1,5 +1,5 @@
 -- What a pass knows, and what becomes of it where passes are made, split and joined.
-use Rattle.std.specs.Prelude.{◌≡◌, ℕ, ◌+◌, ◌<◌, true, false, if◌then◌else◌, max, List, [], ◌∷◌, ◌++◌, Some, None}
+use Rattle.std.specs.Prelude.{◌≡◌, ℕ, ◌+◌, ◌<◌, true, false, nat_lt, if◌then◌else◌, max, List, [], ◌∷◌, ◌++◌, length, Some, None}
 use Rattle.atomic_table.specs.Seated.{TableId}
 use Rattle.turn_lock.specs.declared.entry.Entry.{Entry}
 use Rattle.turn_lock.specs.declared.view.View.{View}
@@ -31,13 +31,56 @@ module _ {E R A : Type 0} where
   abbrev pub SeesFitting : (A → List (Entry E R) → Type 0) → View E R A → Type 0
   SeesFitting fits v = (a : A) × (v.about ≡ Some a) × fits a v.seen
 
+  -- what a lock knows that has no book yet, and no pass: what its book is to be about
+  abbrev pub vacant_view : A → View E R A
+  vacant_view a = record {
+    number = 0;
+    seen = [];
+    joined = [];
+    made = 0;
+    shorter_seen = [];
+    longer_seen = [];
+    behind = [];
+    about = Some a;
+    live = false;
+    turn = false;
+    sole = true;
+  }
+
+  abbrev pub IsVacantView : View E R A → Type 0
+  IsVacantView v = (a : A) × (v ≡ vacant_view a)
+
   -- the first pass of a lock, which is its only one
   abbrev pub first_view : A → View E R A
-  first_view a = record { number = 0; seen = []; joined = []; made = 1; told = []; about = Some a; live = true; turn = false; sole = true }
+  first_view a = record {
+    number = 0;
+    seen = [];
+    joined = [];
+    made = 1;
+    shorter_seen = [];
+    longer_seen = [];
+    behind = [];
+    about = Some a;
+    live = true;
+    turn = false;
+    sole = true;
+  }
 
   -- a pass that was joined into another
   abbrev pub spent_view : View E R A
-  spent_view = record { number = 0; seen = []; joined = []; made = 0; told = []; about = None; live = false; turn = false; sole = false }
+  spent_view = record {
+    number = 0;
+    seen = [];
+    joined = [];
+    made = 0;
+    shorter_seen = [];
+    longer_seen = [];
+    behind = [];
+    about = None;
+    live = false;
+    turn = false;
+    sole = false;
+  }
 
   -- the pass that is split, where it knows of all passes made
   abbrev pub left_part : View E R A → View E R A
@@ -50,21 +93,27 @@ module _ {E R A : Type 0} where
     seen = v.seen;
     joined = [];
     made = v.made + 1;
-    told = [];
+    shorter_seen = [];
+    longer_seen = [];
+    behind = [];
     about = v.about;
     live = true;
-    turn =
-        false;
+    turn = false;
     sole = false;
   }
+
+  -- of two passes, the numbers of the one that has seen the shorter: of the second where they have seen as much
+  abbrev pub numbers_behind : View E R A → View E R A → List ℕ
+  numbers_behind v w = if nat_lt (length v.seen) (length w.seen) then v.number ∷ v.joined else w.number ∷ w.joined
 
   -- the first of two passes, once the second is joined into it
   abbrev pub joined_view : View E R A → View E R A → View E R A
   joined_view v w = record v {
     seen = longer v.seen w.seen;
-    told = shorter v.seen w.seen;
-    joined = v.joined ++ w.number
-        ∷ w.joined;
+    shorter_seen = shorter v.seen w.seen;
+    longer_seen = longer v.seen w.seen;
+    behind = numbers_behind v w;
+    joined = v.joined ++ w.number ∷ w.joined;
     made = max v.made w.made;
     sole = false;
   }

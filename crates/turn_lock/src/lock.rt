@@ -7,16 +7,16 @@ ghost use Rattle.turn_lock.specs.Views.{first_view, IsLive, IsSamePass};
 ghost use Rattle.turn_lock.specs.Passes.{Grown, Answers, Replies, Parts, IsFull, Joined, IsOut, Closes, StaysOpen};
 
 use crate::book::Book;
+use crate::noting::NotingBook;
 use crate::pass::Pass;
 use crate::plays::{Compare, Cut, Glue, Look};
 use crate::rule::TableOf;
 use crate::steps::{release, take};
+use crate::vacancy::Vacancy;
 use crate::view::Kept;
-use atomic_table::{Refused, Table};
 use slot_types::{MAX_PASSES, Refusal};
 use std::alloc::Global;
 use std::marker::Model;
-use std::snapshot::Snapshot;
 use std::sync::Wait;
 
 /// What a refused `close` hands back: the lock as it was, and the pass, which may have seen more.
@@ -31,7 +31,7 @@ pub struct Closing<B: Book> {
 /// A book that one pass at a time may use.
 #[derive(Drop)]
 pub struct Turned<B: Book> {
-    table: TableOf<B>,
+    pub(crate) table: TableOf<B>,
 }
 
 impl<B: Book> Model for Turned<B> {
@@ -56,22 +56,8 @@ impl<B: Book> Turned<B> {
         ensures live { IfOk result (λ made. IsLive made.1.view) }
         ensures refused { FailsForMemory result }
     {
-        let about = Snapshot::of(&book);
-        let word = 2 * book.len();
-        let mut slots = Vec::new(alloc);
-        slots.reserve(1)?;
-        slots.push_reserved(Some(Kept { book, made: 1 }));
-        let (table, seat) = match Table::new(alloc, &[word], slots, &about) {
-            Ok(made) => made,
-            Err(Refused { slots: _ }) => return Err(Refusal::NoMemory),
-        };
-        let pass = Pass {
-            number: 0,
-            joined: 0,
-            free_word: word,
-            seat,
-        };
-        Ok((Turned { table }, pass))
+        let vacancy = Vacancy::new(alloc, &book)?;
+        Ok(vacancy.fill(book))
     }
 
     /// How many entries there are, also while a pass has the turn: this pass has then seen them all.
@@ -119,30 +105,6 @@ impl<B: Book> Turned<B> {
         reply
     }
 
-    /// As `apply`, of an event whose parts are lent, and hands back no more than the book's note of the reply. May wait for
-    /// the turn.
-    pub fn note<R: Wait>(
-        &self,
-        rt: &R,
-        pass: &mut Pass<B>,
-        head: B::Head,
-        parts: &[B::Part],
-    ) -> B::Note
-        requires { pass.old.lock ≡ self.now }
-        ensures same { IsSamePass pass.old pass.new }
-        ensures reply { Replies B.accepts B.fits B.gives pass.old.view (B.whole head parts.now) (B.noted result) pass.new.view }
-        ensures own { let own = calls_by pass.old.view.number in
-            let call = entry pass.old.view.number (B.whole head parts.now) (B.noted result) in
-            own pass.new.view.seen
-            ≡ own pass.old.view.seen ++ (if B.accepts (B.noted result) then call ∷ [] else []) }
-    {
-        let shared = &self.table.shared;
-        let mut kept = take(rt, shared, &mut pass.seat, pass.free_word);
-        let note = kept.book.note(pass.number, head, parts);
-        pass.free_word = release(shared, &mut pass.seat, kept);
-        note
-    }
-
     /// A pass with a number that no pass had, which has seen what this one then has. May wait for the turn.
     ///
     /// `PassesFull` exactly where 65,536 passes were made already, whether or not they were joined since.
@@ -152,6 +114,8 @@ impl<B: Book> Turned<B> {
         ensures own { IfOk result (λ made. made.lock ≡ pass.old.lock) }
         ensures parts { IfOk result (λ made. Parts B.fits pass.old.view pass.new.view made.view) }
         ensures live { IfOk result (λ made. IsLive pass.new.view × IsLive made.view) }
+        // no entry is by the new number
+        ensures unused { IfOk result (λ made. calls_by made.view.number made.view.seen ≡ []) }
         ensures refused { IfErr result (λ refusal. refusal ≡ PassesFull) }
         ensures full { IfErr result (λ _. IsFull B.fits pass.old.view pass.new.view) }
     {
@@ -174,6 +138,8 @@ impl<B: Book> Turned<B> {
     }
 
     /// Joins another pass into this one, which keeps its number and the longer of what both had seen.
+    ///
+    /// The calls by each number of either pass are then those that it had seen before.
     pub fn join_pass(&self, pass: &mut Pass<B>, other: Pass<B>)
         requires own { pass.old.lock ≡ self.now }
         requires other { other.lock ≡ self.now }
@@ -235,5 +201,31 @@ impl<B: Book> Turned<B> {
         }
         let Kept { book, made: _ } = kept;
         Ok(book)
+    }
+}
+
+impl<B: NotingBook> Turned<B> {
+    /// As `apply`, of an event whose parts are lent, and hands back no more than the book's note of the reply. May wait for
+    /// the turn.
+    pub fn note<R: Wait>(
+        &self,
+        rt: &R,
+        pass: &mut Pass<B>,
+        head: B::Head,
+        parts: &[B::Part],
+    ) -> B::Note
+        requires { pass.old.lock ≡ self.now }
+        ensures same { IsSamePass pass.old pass.new }
+        ensures reply { Replies B.accepts B.fits B.gives pass.old.view (B.whole head parts.now) (B.noted result) pass.new.view }
+        ensures own { let own = calls_by pass.old.view.number in
+            let call = entry pass.old.view.number (B.whole head parts.now) (B.noted result) in
+            own pass.new.view.seen
+            ≡ own pass.old.view.seen ++ (if B.accepts (B.noted result) then call ∷ [] else []) }
+    {
+        let shared = &self.table.shared;
+        let mut kept = take(rt, shared, &mut pass.seat, pass.free_word);
+        let note = kept.book.note(pass.number, head, parts);
+        pass.free_word = release(shared, &mut pass.seat, kept);
+        note
     }
 }

@@ -16,7 +16,7 @@ use std::marker::Model;
 /// The candidates of each count are a list of their own, linked by block numbers, in vectors that `new` makes: no other
 /// call takes memory. `close`, `lower` and `count` take constant time, whatever block they name. `take_least` walks the
 /// counts from the least that it remembers up to the one that it answers, which is one step for each valid page at most,
-/// and then the list of that one count.
+/// and then the list of that one count; so does `least`.
 #[derive(Drop)]
 pub struct Victims {
     /// By count the candidates that have it.
@@ -86,6 +86,16 @@ impl Victims {
         ensures { result ≡ count_of self.now.counts block }
     {
         self.lists.count(block)
+    }
+
+    /// The candidate with the fewest valid pages, of equal ones that with the fewest erases, of these that of the smallest
+    /// number: the one that `take_least` would take away. It walks as far as that.
+    pub fn least(&self) -> Option<u32>
+        ensures none { IsNone result ↔ HasNone self.now.counts }
+        ensures least { IfSome result (IsLeast self.now.counts self.now.erases) }
+    {
+        let (_, block) = self.lists.first_from(self.least, &self.erases)?;
+        Some(block)
     }
 
     /// Takes away the candidate with the fewest valid pages, of equal ones that with the fewest erases, of these that of

@@ -14,7 +14,6 @@ use Rattle.slot_types.specs.declared.events.Event.TheVariants as events
 use Rattle.slot_types.specs.declared.replies.Entry.{Entry}
 use Rattle.slot_types.specs.declared.replies.Reply.TheVariants as replies
 use Rattle.slot_types.specs.declared.replies.Waived.{Waived}
-use Rattle.plan_rules.specs.Bound.{MeetsBound}
 use Rattle.die_log.specs.Log.{Log, Job, jobs, acts, act_of, work, waived}
 use Rattle.die_log.specs.Flash.{Cells, cells, cells_after, programmed_in, ran_by, valid}
 use Rattle.die_log.specs.Work.{is_done, is_copy_program, victim_of, shown_by}

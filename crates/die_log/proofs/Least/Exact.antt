@@ -12,7 +12,6 @@ use Rattle.slot_types.specs.declared.events.Event.{Event}
 use Rattle.slot_types.specs.declared.events.Event.TheVariants as events
 use Rattle.slot_types.specs.declared.replies.Reply.TheVariants as replies
 use Rattle.slot_types.specs.declared.replies.Waived.{Waived}
-use Rattle.plan_rules.specs.Bound.{MeetsBound}
 use Rattle.late_cert.specs.declared.rows.JobRow.{JobRow}
 use Rattle.late_cert.specs.Schedule.{IsLeastLate}
 use Rattle.late_cert.specs.Stretch.{CarriesLeastKeys}

@@ -1,5 +1,5 @@
 -- Exact logs are legal: what stands of cells gives the accounts what they take of them, and the accounts give each program its free page.
-use Rattle.std.proofs.Common.{◌≡◌, ℕ, ◌<◌, Bool, true, false, List, [], ◌∷◌, ◌++◌, length, count_by, Option, Some, MatchOption, refl, ap}
+use Rattle.std.proofs.Common.{◌≡◌, ℕ, ◌<◌, ◌≤◌, Bool, true, false, List, [], ◌∷◌, ◌++◌, length, count_by, Option, Some, MatchOption, refl, ap}
 use Rattle.std.proofs.Common.{sym, ◌∙◌, subst, arith, slice_get, ◌&&◌, not}
 use Rattle.std.specs.List.{AllByRecursion}
 use Rattle.std.proofs.lemmas.Bool.{and_parts, not-true}
@@ -11,16 +11,16 @@ use Rattle.slot_types.specs.declared.events.Event.{Event}
 use Rattle.slot_types.specs.declared.events.Event.TheVariants as events
 use Rattle.plan_rules.specs.Bound.{MeetsBound}
 use Rattle.die_log.specs.Log.{Log, Job, jobs, job_at, acts, work, waived, is_waived}
-use Rattle.die_log.specs.Flash.{cells, block_at, ran_by}
+use Rattle.die_log.specs.Flash.{cells, block_at, ran_by, valid}
 use Rattle.die_log.specs.Work.{is_erase, is_done, is_ready, victim_of}
 use Rattle.die_log.specs.Accounts.{accounts, after_waivers}
-use Rattle.die_log.specs.Answers.{IsExact, accepted, refusals, act_for, is_running, choice, is_waivable}
+use Rattle.die_log.specs.Answers.{IsExact, accepted, refusals, act_for, is_running, choice, is_waivable, victim}
 use Rattle.die_log.specs.Legal.{IsLegal}
 use Rattle.die_log.specs.Sound.{IsClosed}
 use Rattle.die_log.specs.Standing.{Stands}
 use Rattle.die_log.proofs.Standing.Finds.{FindsBy, FindsVictim}
 use Rattle.die_log.proofs.Tokens.Waivers.{Waits, IsChosen}
-use Rattle.die_log.specs.Held.{is_pending, AreTrue}
+use Rattle.die_log.specs.Held.{is_pending, reserve_full, AreTrue}
 use Rattle.die_log.specs.Well.{FewCopies, IsWell}
 use Rattle.die_log.proofs.Legality.{entry, exact_induction}
 use Rattle.die_log.proofs.Standing.Longer.{number_at, contained, no_victim}
@@ -38,7 +38,7 @@ use Rattle.die_log.specs.Opening.{IsOpening}
 
 -- What stands serves the accounts
 
-erases_own : (start : Start) (past : Log) (j : Job) (b : ℕ) → 0 < start.plan.shape.erase_slots → Stands start past → job_at past j.number ≡ Some j
+pub erases_own : (start : Start) (past : Log) (j : Job) (b : ℕ) → 0 < start.plan.shape.erase_slots → Stands start past → job_at past j.number ≡ Some j
     → is_ready start.plan past j ≡ true → act_for start past j ≡ Some (does.Erase b)
     → IsClosed start.plan (cells start past) b × ((block_at (cells start past) b).erasing ≡ count_by is_erase (acts j.number past))
 erases_own start past j b more s known ready e = by_kind j.collects refl
@@ -109,9 +109,11 @@ event_finds start past (events.Submit task release due ops) bound h = tt
 event_finds start past (events.Collect task release due) bound h = tt
 event_finds start past events.Slot bound h = (keeps_slot start past 0 bound h.1.true_accounts (well_served start past bound h)).1
 
--- a head that begins finds its block
-pub finds_victim : (start : Start) (past : Log) → IsOpening start → StandsWell start past → FindsVictim start past
-finds_victim start past bound h j head is fresh =
+-- a head that begins finds its block, in which few pages are placed
+pub finds_few : (start : Start) (past : Log) → IsOpening start → StandsWell start past → (j : Job) → (choice start past).head ≡ Some j
+    → j.collects ≡ true → work j.number past ≡ 0
+    → (b : ℕ) × (victim start past ≡ Some b) × (valid (cells start past) b ≤ reserve_full start.plan)
+finds_few start past bound h j head is fresh =
     let served = well_served start past bound h in
     let c = chosen_is start past served in
     let waits : Waits start.plan past (waived past ++ (choice start past).waived) j = subst
@@ -119,8 +121,10 @@ finds_victim start past bound h j head is fresh =
     let unwaivable : is_waivable start.plan past (after_waivers past (choice start past).waived (accounts start past)) j ≡ false =
     subst (λ (o : Option Job). MatchOption o (Unit {0}) (λ i. is_waivable start.plan past
     (after_waivers past (choice start past).waived (accounts start past)) i ≡ false)) head c.unwaivable in
-    let v = fresh_finds start past (choice start past).waived j bound h.1.true_accounts served c.waivers waits unwaivable is fresh in
-    (v.0, v.1)
+    fresh_finds start past (choice start past).waived j bound h.1.true_accounts served c.waivers waits unwaivable is fresh
+
+pub finds_victim : (start : Start) (past : Log) → IsOpening start → StandsWell start past → FindsVictim start past
+finds_victim start past bound h j head is fresh = let v = finds_few start past bound h j head is fresh in (v.0, v.1)
 
 -- an accepted event keeps both
 keeps_both : (start : Start) (past : Log) (caller : ℕ) (event : Event) → IsOpening start → IsExact start past → StandsWell start past

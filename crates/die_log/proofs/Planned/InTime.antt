@@ -13,7 +13,6 @@ use Rattle.slot_types.specs.declared.plans.DiePlan.{DiePlan}
 use Rattle.slot_types.specs.declared.acts.Act.{Act}
 use Rattle.slot_types.specs.declared.events.Event.{Event}
 use Rattle.slot_types.specs.declared.plans.Times.{Times}
-use Rattle.plan_rules.specs.Bound.{MeetsBound}
 use Rattle.plan_rules.specs.Times.{times_of, collection_work, Passes}
 use Rattle.plan_rules.specs.Keeping.{KeepsPlan}
 use Rattle.late_cert.specs.Schedule.{slot_at, is_named, work_in, completion_in}

@@ -7,13 +7,11 @@ use Rattle.std.proofs.lemmas.List.{length_push}
 use Rattle.std.proofs.lemmas.List.Sums.{sum_by-cons}
 use Rattle.slot_types.specs.Arrivals.{IsArrival}
 use Rattle.slot_types.specs.declared.limits.TheConstants.{MAX_SLOT}
-use Rattle.slot_types.specs.declared.plans.DiePlan.{DiePlan}
 use Rattle.slot_types.specs.declared.events.Event.{Event}
 use Rattle.slot_types.specs.declared.events.Event.TheVariants as events
 use Rattle.slot_types.specs.declared.refusals.Refusal.{Refusal}
 use Rattle.slot_types.specs.declared.refusals.Refusal.TheVariants as because
 use Rattle.slot_types.specs.declared.plans.Times.{Times}
-use Rattle.plan_rules.specs.Bound.{MeetsBound}
 use Rattle.plan_rules.specs.Times.{Passes}
 use Rattle.plan_rules.specs.Keeping.{is_slot, slots, KeepsPlan}
 use Rattle.die_log.specs.Log.{Log, carried, now}

@@ -1,6 +1,5 @@
 -- What the cells of a die want of its accounts, behind a log.
 use Rattle.std.proofs.Common.{◌≡◌, ℕ, true, Some, None}
-use Rattle.slot_types.specs.declared.plans.DiePlan.{DiePlan}
 use Rattle.die_log.specs.Log.{Log, Job, Carried, work}
 use Rattle.die_log.specs.Answers.{choice, victim}
 use Rattle.die_log.specs.Legal.{FindsFree}

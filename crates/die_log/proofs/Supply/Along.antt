@@ -2,11 +2,9 @@
 use Rattle.std.proofs.Common.{◌≡◌, ℕ, ◌*◌, ◌<◌, ◌≤◌, false, List, [], ◌∷◌, ◌++◌, length, sym, subst, inl, inr, arith, slice_index}
 use Rattle.std.specs.List.{AllByRecursion}
 use Rattle.std.proofs.lemmas.Bool.{cases_eq, ltb-false}
-use Rattle.slot_types.specs.declared.plans.DiePlan.{DiePlan}
 use Rattle.slot_types.specs.declared.events.Op.{Op}
 use Rattle.slot_types.specs.declared.events.Event.{Event}
 use Rattle.slot_types.specs.declared.events.Event.TheVariants as events
-use Rattle.plan_rules.specs.Bound.{MeetsBound}
 use Rattle.slot_types.specs.declared.plans.TaskTimes.{TaskTimes}
 use Rattle.slot_types.specs.declared.plans.Times.{Times}
 use Rattle.plan_rules.specs.Times.{times_of, Passes}

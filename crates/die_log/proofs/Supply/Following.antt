@@ -103,7 +103,7 @@ all_mapped : {X Y : Type 0} (P : Y → Type 0) (f : X → Y) (xs : List X) → A
 all_mapped P f [] h = tt
 all_mapped P f (x ∷ xs) h = (h.0, all_mapped P f xs h.1)
 
-count_mapped : {X Y : Type 0} (p : Y → Bool) (f : X → Y) (xs : List X) → count_by p (map f xs) ≡ count_by (λ x. p (f x)) xs
+pub count_mapped : {X Y : Type 0} (p : Y → Bool) (f : X → Y) (xs : List X) → count_by p (map f xs) ≡ count_by (λ x. p (f x)) xs
 count_mapped p f [] = refl
 count_mapped p f (x ∷ xs) = omega (
   arith,

@@ -13,7 +13,6 @@ use Rattle.slot_types.specs.declared.events.Op.{Op}
 use Rattle.slot_types.specs.declared.events.Event.{Event}
 use Rattle.slot_types.specs.declared.events.Event.TheVariants as events
 use Rattle.slot_types.specs.declared.refusals.Refusal.{Refusal}
-use Rattle.plan_rules.specs.Bound.{MeetsBound}
 use Rattle.slot_types.specs.declared.plans.Times.{Times}
 use Rattle.plan_rules.specs.Times.{times_of, Passes}
 use Rattle.plan_rules.specs.Keeping.{arrivals, KeepsPlan}

@@ -3,7 +3,6 @@ use Rattle.std.proofs.Common.{◌≡◌, ℕ, ◌<◌, ◌≤◌, ◌==◌, ◌&
 use Rattle.std.proofs.lemmas.Bool.{true≢false, and_parts, and_from, and_cases, leb-false, eq-eqb}
 use Rattle.slot_types.specs.declared.plans.DiePlan.{DiePlan}
 use Rattle.slot_types.specs.declared.replies.Waived.{Waived}
-use Rattle.plan_rules.specs.Bound.{MeetsBound}
 use Rattle.die_log.specs.Log.{Log, Job, jobs, now, acts, waived, is_waived, work}
 use Rattle.die_log.specs.Flash.{cells, valid, free}
 use Rattle.die_log.specs.Work.{is_done, is_ready, ready, owed}

@@ -12,7 +12,6 @@ use Rattle.slot_types.specs.declared.pages.Place.{Place}
 use Rattle.slot_types.specs.declared.acts.Act.{Act}
 use Rattle.slot_types.specs.declared.acts.Act.TheVariants as does
 use Rattle.slot_types.specs.declared.replies.Waived.{Waived}
-use Rattle.plan_rules.specs.Bound.{MeetsBound}
 use Rattle.die_log.specs.Log.{Log, Job, job_at, acts, act_of, is_waived, work}
 use Rattle.die_log.specs.Flash.{Cells, cells, valid, valid_pages, block_at}
 use Rattle.die_log.specs.Work.{are_all, is_ready, is_copy_program, victim_of, shown_by, block_shown}
@@ -141,6 +140,21 @@ begun_shows : (start : Start) (past : Log) (number b : ℕ) (act : Option Act) (
     → shown_by start past (victim_of start number past) act ≡ Some b' → b ≡ b'
 begun_shows start past number b act b' e h = same_Some b b' (sym (ap (λ o. shown_by start past o act) e) ∙ h)
 
+-- a collection that begins shows its victim
+pub begin_shows : (start : Start) (past : Log) (j : Job) (act : Act) (v : ℕ) → act_for start past j ≡ Some act → j.collects ≡ true
+    → work j.number past ≡ 0 → victim start past ≡ Some v → shown_by start past (victim_of start j.number past) (Some act) ≡ Some v
+begin_shows start past j act v does_it is fresh found =
+    let c : Cells = cells start past in
+    let block : block_for start past j ≡ Some v = fresh_block start past j fresh ∙ found in
+    let does : collect_act start.plan c None (Some v) ≡ Some act =
+    sym (ap (λ o. collect_act start.plan c (buffer_of start.plan past j) o) block
+    ∙ ap (λ o. collect_act start.plan c o (Some v)) (fresh_buffer start.plan past j fresh)) ∙ collect_of start past j act is does_it in
+    let act_is : read_or_erase v (valid_pages start.plan c v) ≡ act = same_Some (read_or_erase v (valid_pages start.plan c v)) act does in
+    let here : shown_by start past (victim_of start j.number past) (Some act)
+    ≡ block_shown c act = ap (λ o. shown_by start past o (Some act))
+    (no_victim start j.number past (empty_if (acts j.number past) fresh)) in
+    here ∙ (sym (ap (block_shown c) act_is) ∙ shown_first start.plan c v (valid_pages start.plan c v) refl)
+
 -- an act that programs nothing: a begun collection keeps its block, and one that begins shows its victim
 pub still_few : (start : Start) (past : Log) (ws : List Waived) (j : Job) (act : Act) (b' : ℕ) → IsTurn start past ws j act
     → MayShow start past ws j → j.collects ≡ true
@@ -158,16 +172,8 @@ still_few start past ws j act b' h m is shows = elim (cases_lt 0 (work j.number 
       let fresh : work j.number past ≡ 0 = omega (arith, none) in
       let c : Cells = cells start past in
       let v = fresh_finds start past ws j m.bound h.true_before h.serve h.waivers h.waits m.unwaivable is fresh in
-      let block : block_for start past j ≡ Some v.0 = fresh_block start past j fresh ∙ v.1 in
-      let does_it : collect_act start.plan c None (Some v.0) ≡ Some act =
-      sym (ap (λ o. collect_act start.plan c (buffer_of start.plan past j) o) block
-      ∙ ap (λ o. collect_act start.plan c o (Some v.0)) (fresh_buffer start.plan past j fresh)) ∙ collect_of start past j act is h.does_it in
-      let act_is : read_or_erase v.0 (valid_pages start.plan c v.0) ≡ act = same_Some (read_or_erase v.0 (valid_pages start.plan c v.0)) act does_it in
-      let here : shown_by start past (victim_of start j.number past) (Some act)
-      ≡ block_shown c act = ap (λ o. shown_by start past o (Some act))
-      (no_victim start j.number past (empty_if (acts j.number past) fresh)) in
-      let shown : block_shown c act ≡ Some v.0 = sym (ap (block_shown c) act_is) ∙ shown_first start.plan c v.0 (valid_pages start.plan c v.0) refl in
-      let same : v.0 ≡ b' = same_Some v.0 b' (sym shown ∙ (sym here ∙ shows)) in
+      let shown = begin_shows start past j act v.0 h.does_it is fresh v.1 in
+      let same : v.0 ≡ b' = same_Some v.0 b' (sym shown ∙ shows) in
       let nothing : copied_of (λ n. acts n past) j ≡ 0 = ap (λ (l : List Act). count_by is_copy_program l)
       (empty_if (acts j.number past) fresh) in
       subst (λ n. copied_of (λ n. acts n past) j + valid (cells start past) n ≤ reserve_full start.plan) same (omega (arith, nothing, v.2))

@@ -9,7 +9,7 @@ use Rattle.std.proofs.lemmas.List.FromFn.{length-map-range_with_len, get_or-map-
 use Rattle.std.proofs.lemmas.List.Quantifiers.{position-Some}
 use Rattle.slot_types.specs.declared.plans.DiePlan.{DiePlan}
 use Rattle.slot_types.specs.declared.acts.Act.{Act}
-use Rattle.plan_rules.specs.Bound.{MeetsBound, fmax_of}
+use Rattle.plan_rules.specs.Bound.{fmax_of}
 use Rattle.plan_rules.specs.Blocks.{is_of}
 use Rattle.plan_rules.proofs.Spread.{choice}
 use Rattle.die_log.specs.Log.{Log, Job, jobs, job_at, acts, is_waived, work}

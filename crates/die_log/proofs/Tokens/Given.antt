@@ -1,6 +1,5 @@
 -- What the accounts take of the cells and the collections, behind a log.
 use Rattle.std.proofs.Common.{◌≡◌, ℕ, ◌<◌, true, Some, count_by}
-use Rattle.slot_types.specs.declared.plans.DiePlan.{DiePlan}
 use Rattle.slot_types.specs.declared.acts.Act.TheVariants as does
 use Rattle.die_log.specs.Log.{Log, Job, job_at, acts, is_waived}
 use Rattle.die_log.specs.Flash.{cells, block_at}

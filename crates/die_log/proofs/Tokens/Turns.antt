@@ -10,7 +10,6 @@ use Rattle.slot_types.specs.declared.acts.Act.TheVariants as does
 use Rattle.slot_types.specs.declared.events.Op.{Op}
 use Rattle.slot_types.specs.declared.events.Op.TheVariants as asks
 use Rattle.slot_types.specs.declared.replies.Waived.{Waived}
-use Rattle.plan_rules.specs.Bound.{MeetsBound}
 use Rattle.die_log.specs.Log.{Log, Job, jobs, acts, is_waived, work}
 use Rattle.die_log.specs.Flash.{cells, free, free_in, block_at, erased_once}
 use Rattle.slot_types.specs.Operations.{is_write}

@@ -12,6 +12,7 @@ use Rattle.die_log.specs.Accounts.{accounts}
 use Rattle.die_log.specs.Work.{completion, victim_of}
 use Rattle.die_log.specs.Answers.{run, answer}
 use Rattle.die_log.specs.Legal.{changed_since}
+use Rattle.die_log.specs.Lives.{erases_in, all_erases_in, collections_taken}
 use Rattle.die_log.proofs.Worked.Plans.{tight, amounts, collect, slot}
 use Rattle.die_log.proofs.Worked.FillingHistory.{full}
 
@@ -62,3 +63,16 @@ unchanged = refl
 erasing : block_at (cells tight (drop 1 collected)) 1 ≡ record { filled = 4; erasing = 2; erases = 0 }
 unfolding answer
 erasing = refl
+
+-- one erase was finished, in six collections, of which five were waived
+erases : erases_in 1 collected ≡ 1
+unfolding answer
+erases = refl
+
+all_erases : all_erases_in collected ≡ 1
+unfolding answer
+all_erases = refl
+
+collections : collections_taken collected ≡ 6
+unfolding answer
+collections = refl

@@ -18,7 +18,7 @@ use Rattle.die_log.proofs.Worked.Plans.{amounts}
 use Rattle.die_log.proofs.Planned.Running.{run_in_time}
 use Rattle.die_log.proofs.Supply.Unrefused.{run_accepted}
 
-abbrev calls : List (ℕ × Event)
+abbrev pub calls : List (ℕ × Event)
 calls = map (λ event. (0, event)) (came.history (Read 0) 10)
 
 abbrev history : Log
@@ -40,7 +40,7 @@ tokens : accounts (fresh (small 6)) history ≡ amounts (small 6) 8 5 0 2
 unfolding answer
 tokens = refl
 
-bound : MeetsBound (small 6)
+pub bound : MeetsBound (small 6)
 bound = record {
   shape = record {
     some_blocks = omega arith;

@@ -11,17 +11,14 @@ loop-op-preserved c =
     let packed = c.pack-packed.ensures in
     let pushed = c.push_reserved.ensures in
     record {
-      ops = unpacked_more (all_unpacked c.args.writes.now.items c.args.far.now.items c.args.list.now.items) c.loop-op.writes.items
-          c.pack-packed.new.writes.items c.loop-op.far.items c.pack-packed.new.far.items c.loop-op.list.items
-          c.push_reserved.new.self.items c.pack-packed.result c.args.ops.now c.loop-op.op-index _ packed.goes_on packed.far_goes_on
-          pushed.items so_far.packed packed.op (slice_get-get_or c.args.ops.now c.loop-op.op-index (Read 0) c.loop-op-test.true) so_far.ops;
-      packed = packed_more c.loop-op.writes.items c.pack-packed.new.writes.items c.loop-op.far.items c.pack-packed.new.far.items
-          c.loop-op.list.items c.push_reserved.new.self.items c.pack-packed.result packed.goes_on packed.far_goes_on pushed.items
-          so_far.packed packed.packed;
+      ops = unpacked_more (all_unpacked c.args.writes.now.items c.args.list.now.items) c.loop-op.writes.items
+          c.pack-packed.new.writes.items c.loop-op.list.items c.push_reserved.new.self.items c.pack-packed.result c.args.ops.now
+          c.loop-op.op-index _ packed.goes_on pushed.items so_far.packed packed.op
+          (slice_get-get_or c.args.ops.now c.loop-op.op-index (Read 0) c.loop-op-test.true) so_far.ops;
+      packed = packed_more c.loop-op.writes.items c.pack-packed.new.writes.items c.loop-op.list.items c.push_reserved.new.self.items
+          c.pack-packed.result packed.goes_on pushed.items so_far.packed packed.packed;
       len = let more = pushed.len in let len = so_far.len in omega arith;
       room = pushed.capacity ∙ so_far.room;
       writes = let more = packed.len in let len = so_far.writes in omega arith;
       writes_room = packed.capacity ∙ so_far.writes_room;
-      far = let more = packed.far_len in let len = so_far.far in omega arith;
-      far_room = packed.far_capacity ∙ so_far.far_room;
     }

@@ -5,13 +5,10 @@ use Rattle.die_service.proofs.packed_ops.push_packed.Given as goal
 
 abbrev pub invariant-loop-op : goal.invariant-loop-op
 invariant-loop-op l = record {
-  ops : all_unpacked l.writes.items l.far.items l.list.items
-      ≡ all_unpacked l.fn.writes.items l.fn.far.items l.fn.list.items ++ take l.op-index l.ops;
-  packed : All (IsPacked (length l.writes.items) (length l.far.items)) l.list.items;
+  ops : all_unpacked l.writes.items l.list.items ≡ all_unpacked l.fn.writes.items l.fn.list.items ++ take l.op-index l.ops;
+  packed : All (IsPacked (length l.writes.items)) l.list.items;
   len : vec_len l.list ≡ vec_len l.fn.list + l.op-index;
   room : vec_capacity l.list ≡ vec_capacity l.fn.list;
   writes : vec_len l.writes ≤ vec_len l.fn.writes + l.op-index;
   writes_room : vec_capacity l.writes ≡ vec_capacity l.fn.writes;
-  far : vec_len l.far ≤ vec_len l.fn.far + l.op-index;
-  far_room : vec_capacity l.far ≡ vec_capacity l.fn.far;
 }

@@ -18,6 +18,7 @@ use Rattle.slot_core.specs.Records.{records}
 use Rattle.slot_core.specs.Reserved.{open_collections}
 use Rattle.slot_core.proofs.Reserving.{turn_opens_nothing}
 use Rattle.slot_core.proofs.Turning.{head_fits, work_fits}
+use Rattle.slot_core.proofs.Needing.{idle_makes, turn_makes, turn_fails}
 use Rattle.slot_core.proofs.slots.carry_out.Goals as goal
 use Rattle.die_log.specs.Start.{Start, over}
 
@@ -246,3 +247,22 @@ returns-in-Err-clause-waiver_room g c =
     let same : c.stop.new.self.jobs ≡ c.args.table.now.jobs = taken_back
     ∙ (ap (λ (p : DiePlan). records (over p g.from.0) g.from.1) c.in-Some.ensures.plan ∙ sym c.requires.1.1.1.1.1.1.1.1.0.jobs_are) in
     omega (arith, c.requires.1.1.1.1.1.1.1.0, ap (λ (js : List JobRecord). open_collections js) same)
+
+-- The call of the device
+
+pub returns-in_default-clause-calls : goal.returns-in_default-clause-calls
+returns-in_default-clause-calls g c = idle_makes g.from.0 g.N.Nand.blocks g.N.Nand.ends g.N.Nand.failures g.from.1 c.args.present
+    c.choose.new.told c.choose.new.table c.args.volume.now c.choose.new.volume _ c.in_default.ensures.plan c.in_default.ensures.device
+    c.in_default.ensures.idle.0 c.in_default.ensures.idle.1
+
+pub returns-in-Ok-clause-calls : goal.returns-in-Ok-clause-calls
+returns-in-Ok-clause-calls g c = turn_makes g.from.0 g.N.Nand.blocks g.N.Nand.ends g.N.Nand.failures g.from.1 c.args.present
+    c.choose.new.told c.choose.new.table c.in-Some.number c.args.volume.now c.choose.new.volume c.take_turn-turn.new.volume c.in-Some-job.job _
+    c.in-Some.ensures.plan c.in-Some.ensures.device c.in-Some.ensures.turn c.in-Some-job.ensures c.in-Ok.ensures.makes
+    c.in-Ok.ensures.fails.by_fault.well
+
+pub returns-in-Err-clause-calls : goal.returns-in-Err-clause-calls
+returns-in-Err-clause-calls g c = turn_fails g.from.0 g.N.Nand.blocks g.N.Nand.ends g.N.Nand.failures g.from.1 c.args.present
+    c.choose.new.told c.choose.new.table c.in-Some.number c.args.volume.now c.choose.new.volume c.take_turn-turn.new.volume c.in-Some-job.job
+    c.in-Err.refusal
+    c.in-Some.ensures.plan c.in-Some.ensures.device c.in-Some.ensures.turn c.in-Some-job.ensures c.in-Err.ensures.makes

@@ -5,6 +5,8 @@ pub returns-in-Outcome : goal.returns-in-Outcome
 returns-in-Outcome g c = rw (c.in-Outcome.is, log_of_calls c.args.self.now.log, ← c.self.view_is, ← c.deref.ensures) (record {
   ok = c.outcome.ensures.ok;
   unknown = c.outcome.ensures.unknown;
+  waiting = c.outcome.ensures.waiting;
+  waived = c.outcome.ensures.waived;
   refused = c.outcome.ensures.refused;
 })
 
@@ -19,6 +21,7 @@ returns-in-Certificate g c = rw (c.in-Certificate.is, log_of_calls c.args.self.n
       worst = c.certificate.ensures.worst;
       holds = c.certificate.ensures.holds;
       binds = c.certificate.ensures.binds;
+      nothing = c.certificate.ensures.nothing;
       refused = c.certificate.ensures.refused;
     })
 

@@ -5,4 +5,4 @@ use Rattle.die_service.proofs.feeds.Feed.most_ops.Goals as goal
 
 pub returns : goal.returns
 returns c = subst (HaveAtMost c.self.inside.most) c.self.view_is
-    (have_at_most c.self.inside.ops c.self.inside.most c.self.inside.rows.items c.self.invariant)
+    (have_at_most c.self.inside.ops c.self.inside.most c.self.inside.rows.items c.self.invariant.0)

@@ -1,26 +1,39 @@
-use Rattle.std.proofs.Common.{◌∷◌, ◌++◌, [], List, ap, ◌∙◌}
-use Rattle.slot_types.specs.Arrivals.{arrival_of}
+use Rattle.std.proofs.Common.{◌≡◌, ◌+◌, ◌-◌, ◌≤◌, subst, ◌∷◌, ◌++◌, [], List, length, length-append, ap, sym, ◌∙◌, arith}
+use Rattle.slot_core.specs.Events.{with_ops}
 use Rattle.slot_types.specs.declared.events.Op.{Op}
 use Rattle.die_service.specs.declared.feeds.Arrival.{Arrival}
 use Rattle.die_service.specs.declared.feeds.FeedRow.{FeedRow}
-use Rattle.die_service.specs.Feeds.{arrival_at, feed_at}
-use Rattle.die_service.proofs.Feeding.{feed_more, new_ops}
+use Rattle.die_service.specs.Feeds.{feed_from, AreRowsOf, last_end}
+use Rattle.die_service.proofs.Feeding.{feed_more, rows_more, end_more}
 use Rattle.die_service.proofs.feeds.Feed.push_row.Goals as goal
 
 pub returns-clause-ok : goal.returns-clause-ok
 returns-clause-ok c =
     let f = c.self.inside in
-    let row : FeedRow = record {
-      at = c.args.at;
-      head = c.args.head;
-      first_op = c.in_ok-first_op.first_op;
-      op_count = c.in_ok-op_count.op_count;
-    } in
-    ap (feed_at c.push_all.new.self) (c.push_reserved.ensures.items
+    let row : FeedRow = record { ops_end = c.len-ops_end.result; at = c.args.at; head = c.args.head } in
+    let pushed = c.in_ok-push_all.ensures.ok in
+    let long : row.ops_end ≡ length f.ops + length c.args.ops.now =
+    c.len-ops_end.ensures ∙ (ap length pushed ∙ length-append f.ops c.args.ops.now) in
+    ap (feed_from c.push_all.new.self 0) (c.push_reserved.ensures.items
     ∙ ap (λ (l : List FeedRow). l ++ row ∷ []) c.in_ok-reserve.ensures.items)
-    ∙ ap (λ (l : List Op). feed_at l (f.rows.items ++ row ∷ [])) c.in_ok-push_all.ensures.ok
-    ∙ feed_more f.ops c.args.ops.now f.most f.rows.items row c.self.invariant
-    ∙ ap (λ (l : List Arrival). l ++ arrival_at (f.ops ++ c.args.ops.now) row ∷ []) c.self.view_is
-    ∙ ap (λ (l : List Op). c.args.self.now ++ record { at = c.args.at; event = arrival_of c.args.head l } ∷ [])
-    (new_ops f.ops c.args.ops.now c.in_ok-first_op.first_op c.in_ok-op_count.op_count (c.in_ok-first_op.ensures.ok ∙ c.len.ensures)
-    c.in_ok-op_count.ensures.ok)
+    ∙ ap (λ (l : List Op). feed_from l 0 (f.rows.items ++ row ∷ [])) pushed
+    ∙ feed_more f.ops c.args.ops.now f.most 0 f.rows.items row c.self.invariant.0 c.self.invariant.1 long
+    ∙ ap (λ (l : List Arrival). l ++ record { at = c.args.at; event = with_ops c.args.head c.args.ops.now } ∷ []) c.self.view_is
+
+pub invariant_of-self-2 : goal.invariant_of-self-2
+invariant_of-self-2 c =
+    let f = c.self.inside in
+    let row : FeedRow = record { ops_end = c.len-ops_end.result; at = c.args.at; head = c.args.head } in
+    let pushed = c.in_ok-push_all.ensures.ok in
+    let long : row.ops_end ≡ length f.ops + length c.args.ops.now =
+    c.len-ops_end.ensures ∙ (ap length pushed ∙ length-append f.ops c.args.ops.now) in
+    let rows_is = c.push_reserved.ensures.items ∙ ap (λ (l : List FeedRow). l ++ row ∷ []) c.in_ok-reserve.ensures.items in
+    let ends = c.self.invariant.1 in
+    let most = c.max-self-inside.ensures in
+    let rise : f.most ≤ c.max-self-inside.result = omega (arith, most) in
+    let enough : length c.args.ops.now ≤ c.max-self-inside.result = omega (arith, most) in
+    subst (λ (rows : List FeedRow). AreRowsOf c.max-self-inside.result 0 rows × (last_end 0 rows ≡ length c.push_all.new.self)) (sym rows_is) (
+      rows_more f.most c.max-self-inside.result 0 f.rows.items row rise c.self.invariant.0 (omega (arith, long, ends))
+          (omega (arith, long, ends, enough)),
+      end_more 0 f.rows.items row ∙ c.len-ops_end.ensures,
+    )

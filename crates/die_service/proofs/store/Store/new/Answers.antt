@@ -5,4 +5,4 @@ use Rattle.die_service.proofs.Making.{first_live}
 use Rattle.die_service.proofs.store.Store.new.Goals as goal
 
 pub returns-clause-live : goal.returns-clause-live
-returns-clause-live g c = All-from_recursion (λ (p : DiePass). IsLive p.view) _ (first_live _ _ c.in_ok-dies.ensures.first)
+returns-clause-live g c = All-from_recursion (λ (p : DiePass). IsLive p.view) _ (first_live _ _ c.in_ok-made.ensures.first)

@@ -1,6 +1,9 @@
 use Rattle.flash_volume.proofs.Opening.{seen}
-use Rattle.flash_volume.proofs.Fresh.{stands_fresh}
+use Rattle.flash_volume.proofs.Fresh.{few_cells, stands_fresh}
 use Rattle.flash_volume.proofs.array.PageArray.new.Goals as goal
+
+pub new-requires : goal.new-requires
+new-requires g c = rw c.shape-shape.ensures (few_cells (g.N.Nand.shape_of c.args.device) c.requires.limits)
 
 pub invariant_of-result : goal.invariant_of-result
 invariant_of-result g c = λ _.

@@ -24,7 +24,7 @@ invariant_of-result c =
       ) (
           tables_blank c.args.shape c.args.logical (omega arith)
           );
-      few_cells = let few = c.if-cells.false in omega (arith, few);
+      few_cells = c.requires;
       some_places = omega (arith, ap length c.in_ok-with_capacity.ensures.items);
       room_places = c.in_ok-with_capacity.ensures.capacity;
       some_owners = omega (arith, ap length c.in_ok-with_capacity-2.ensures.items);

@@ -4,7 +4,7 @@ use Rattle.turn_lock.proofs.lock.Turned.note.Goals as goal
 
 pub release-pass-inside-requires-clause-more : goal.release-pass-inside-requires-clause-more
 release-pass-inside-requires-clause-more g c =
-    adds g.B.Book.log g.B.Book.about g.B.Book.fits (g.B.Book.whole c.args.head c.args.parts.now) (g.B.Book.noted c.note-note.result) _ _
+    adds g.B.Book.log g.B.Book.about g.B.Book.fits (g.B.NotingBook.whole c.args.head c.args.parts.now) (g.B.NotingBook.noted c.note-note.result) _ _
     c.take-kept.result c.note-note.new.self _ _ c.take-kept.ensures.won.1 c.pass.invariant.3 c.note-note.ensures.accepted
     c.note-note.ensures.refused
 

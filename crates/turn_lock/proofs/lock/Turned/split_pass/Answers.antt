@@ -2,7 +2,7 @@ use Rattle.std.proofs.Common.{arith}
 use Rattle.std.proofs.lemmas.Grind.{common_steps}
 use Rattle.std.proofs.Common.{rules, ap, ◌∙◌, refl}
 use Rattle.turn_lock.proofs.Keeps.{splits}
-use Rattle.turn_lock.proofs.Turns.{parts, grown}
+use Rattle.turn_lock.proofs.Turns.{parts, grown, unused}
 use Rattle.turn_lock.proofs.lock.Turned.split_pass.Goals as goal
 
 pub split_seat-seat-requires : goal.split_seat-seat-requires
@@ -14,6 +14,10 @@ returns-clause-parts g c = let cut = c.split_seat-seat.ensures in
     rw (← c.pass.view_is) (parts g.B.Book.log g.B.Book.about g.B.Book.fits _ c.take-kept.new.seat.me.0 c.split_seat-seat.new.seat.me.0 _ _
     c.take-kept.result c.take-kept.result.book c.take-kept.ensures.won.1 c.pass.invariant.2
     c.if-number-ge-MAX_PASSES.false (ap (λ m. m.0) cut.2) (ap (λ m. m.0) cut.4) c.release-pass-inside-2.ensures.view refl)
+
+pub returns-clause-unused : goal.returns-clause-unused
+returns-clause-unused g c = unused g.B.Book.log g.B.Book.about g.B.Book.fits _ c.take-kept.new.seat.me.0 _ c.take-kept.result
+    c.take-kept.ensures.won.1 (ap (λ m. m.0) c.split_seat-seat.ensures.4)
 
 pub returns-then-number-ge-MAX_PASSES-clause-full : goal.returns-then-number-ge-MAX_PASSES-clause-full
 returns-then-number-ge-MAX_PASSES-clause-full g c = rw (← c.pass.view_is) (

@@ -1,0 +1,12 @@
+//! What stands on a die at a quiet moment, as a value that outlives it, and whether such a value fits a plan.
+#![tactic(auto)]
+
+mod accounts;
+mod blocks;
+pub mod checkpoint;
+pub mod fault;
+mod fits;
+mod pages;
+
+pub use checkpoint::{BlockCounts, Checkpoint};
+pub use fault::CheckpointFault;

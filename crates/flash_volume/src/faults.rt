@@ -1,0 +1,26 @@
+//! A volume whose device fails when it is told to.
+
+ghost use Rattle.std.specs.Prelude.{◌≡◌};
+ghost use Rattle.flash_die.specs.Faulty.{armed_of};
+
+use crate::array::PageArray;
+use crate::volume::Volume;
+use flash_die::{FaultNand, Nand};
+
+impl<N: Nand> PageArray<FaultNand<N>> {
+    /// Lets every later call of the device fail.
+    pub(crate) fn fail_next(&mut self)
+        ensures { self.new ≡ record self.old { device = armed_of self.old.device } }
+    {
+        self.device.arm();
+    }
+}
+
+impl<N: Nand> Volume<FaultNand<N>> {
+    /// Lets every later call of the device fail. Nothing else changes.
+    pub fn fail_next(&mut self)
+        ensures { self.new ≡ record self.old { device = armed_of self.old.device } }
+    {
+        self.array.fail_next();
+    }
+}

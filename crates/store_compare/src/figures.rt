@@ -1,0 +1,98 @@
+//! How late jobs were.
+
+use std::alloc::{AllocError, Global};
+
+/// What became of a job by the end of a run.
+#[derive(Clone, Copy, PartialEq, Eq, Debug, Drop)]
+pub(crate) enum End {
+    /// It was refused, for want of tokens.
+    Refused,
+    /// It wasn't done.
+    Unfinished,
+    Done { completion: u32 },
+}
+
+/// The lateness of a job that was refused: above every other.
+pub(crate) const REFUSED: i64 = i64::MAX;
+
+impl End {
+    /// What became of a job of a plain layer, which refuses none.
+    pub(crate) fn of_play(completion: Option<u32>) -> End {
+        match completion {
+            None => End::Unfinished,
+            Some(completion) => End::Done { completion },
+        }
+    }
+
+    /// How late a job was that is due then: completion minus deadline. What isn't done after so many slots counts as completed
+    /// one slot later, which is the least that it can be.
+    pub(crate) fn lateness(self, due: u32, slots: u32) -> i64 {
+        let completion = match self {
+            End::Refused => return REFUSED,
+            End::Unfinished => slots.saturating_add(1),
+            End::Done { completion } => completion,
+        };
+        i64::from(completion).saturating_sub(i64::from(due))
+    }
+}
+
+/// How late some jobs were.
+#[derive(Clone, Copy, PartialEq, Eq, Debug, Drop)]
+pub(crate) struct Figures {
+    pub(crate) jobs: usize,
+    pub(crate) refused: usize,
+    /// Served, with a lateness above 0.
+    pub(crate) late: usize,
+    /// Among the late, those that weren't done.
+    pub(crate) unfinished: usize,
+    /// The greatest lateness of those that were served.
+    pub(crate) worst: Option<i64>,
+    /// Their mean lateness, in hundredths of a slot, rounded down.
+    pub(crate) mean: Option<i64>,
+    /// The least lateness that 99 % of the jobs don't exceed, and that 99.9 % don't.
+    pub(crate) p99: i64,
+    pub(crate) p999: i64,
+}
+
+// Of rising numbers the least one that so many in a thousand don't exceed.
+fn nearest_rank(rising: &[i64], per_mille: usize) -> i64 {
+    let rank = rising.len().saturating_mul(per_mille).div_ceil(1000);
+    match rising.get(rank.saturating_sub(1)) {
+        Some(lateness) => *lateness,
+        None => 0,
+    }
+}
+
+// The mean of numbers, in hundredths, rounded down.
+fn mean_of(numbers: &[i64]) -> Option<i64> {
+    let mut sum: i64 = 0;
+    for number in numbers {
+        sum = sum.saturating_add(*number);
+    }
+    let count = i64::try_from(numbers.len()).unwrap_or(i64::MAX);
+    sum.saturating_mul(100).checked_div_euclid(count)
+}
+
+/// The figures of jobs that were so late, of which so many weren't done.
+pub(crate) fn figures_from(
+    alloc: Global,
+    mut lateness: Vec<i64>,
+    unfinished: usize,
+) -> Result<Figures, AllocError> {
+    lateness.as_mut_slice().sort(alloc)?;
+    let rising = lateness.as_slice();
+    let served = rising.partition_point(|late| *late < REFUSED);
+    let in_time = rising.partition_point(|late| *late <= 0);
+    let served = served.min(rising.len());
+    let (done, _) = rising.split_at(served);
+    Ok(Figures {
+        jobs: rising.len(),
+        refused: rising.len().saturating_sub(served),
+        late: served.saturating_sub(in_time),
+        unfinished,
+        worst: done.last().copied(),
+        mean: mean_of(done),
+        p99: nearest_rank(rising, 990),
+        p999: nearest_rank(rising, 999),
+    })
+}
