@@ -1,5 +1,5 @@
 -- What is known where a search of the blocks or of the places finds nothing.
-use Rattle.std.proofs.Common.{◌≡◌, ℕ, ◌+◌, ◌-◌, ◌<◌, ◌≤◌, Bool, true, false, List, length, drop, take, nat_lt}
+use Rattle.std.proofs.Common.{◌≡◌, ℕ, ◌+◌, ◌-◌, ◌*◌, ◌^◌, ◌<◌, ◌≤◌, Bool, true, false, List, length, drop, take, nat_lt}
 use Rattle.std.proofs.Common.{Option, Some, None, refl, sym, ap, ◌∙◌, arith, inl, inr}
 use Rattle.std.specs.Prelude.{position}
 use Rattle.std.proofs.lemmas.Bool.{cases_lt}
@@ -7,6 +7,9 @@ use Rattle.std.proofs.lemmas.Bool.Decides.{nat_tests}
 use Rattle.std.proofs.lemmas.List.{get_or_past, get_or-drop, length-drop, take_all}
 use Rattle.std.proofs.lemmas.List.Quantifiers.{position-Some}
 use Rattle.slot_types.specs.declared.pages.Place.{Place}
+use Rattle.std.proofs.Math.Nat.{mul-le-mul_right}
+use Rattle.slot_types.specs.declared.plans.Shape.{Shape}
+use Rattle.slot_types.specs.Shapes.{IsShape}
 use Rattle.slot_types.specs.Places.{place_of}
 use Rattle.page_map.proofs.Owners.{fails_where_none, within}
 use Rattle.die_checkpoint.specs.declared.checkpoint.BlockCounts.{BlockCounts}
@@ -113,3 +116,9 @@ pub in_cells : (plan : DiePlan) (c : Checkpoint) → FitsButShared plan c → Ar
 in_cells plan c fits page place lies =
     let inside = in_blocks c.blocks plan.shape.pages place.block place.page fits.blocks.within (fits.placed page place lies) in
     record { block = omega (arith, inside.0, fits.blocks.plan_is.shape.blocks); page = inside.1 }
+
+-- a die within its limits has few cells
+pub few_cells : (shape : Shape) → IsShape shape → shape.blocks * shape.pages < 2 ^ 32
+few_cells shape limits =
+    let most : shape.blocks * shape.pages ≤ 1024 * shape.pages = mul-le-mul_right shape.pages limits.few_blocks in
+    omega (arith, most, limits.few_pages)

@@ -25,12 +25,6 @@ use Rattle.flash_volume.specs.Sound.{IsSound}
 use Rattle.flash_volume.specs.declared.collection.Collection.{Collection}
 use Rattle.flash_volume.proofs.Opening.{seen, opened_none}
 
--- a die within its limits has few cells
-pub few_cells : (shape : Shape) → IsShape shape → shape.blocks * shape.pages < 2 ^ 32
-few_cells shape limits =
-    let most : shape.blocks * shape.pages ≤ 1024 * shape.pages = mul-le-mul_right shape.pages limits.few_blocks in
-    omega (arith, most, limits.few_pages)
-
 abbrev zeros : ℕ → List ℕ
 zeros n = replicate n 0
 
@@ -118,7 +112,7 @@ total_opening plan bound = omega (
       (λ (n : ℕ). n) (length plan.caps) (plan.shape.pages - plan.alpha),
 )
 
-none_running : (n task : ℕ) → running_of (replicate n None) task ≡ None
+pub none_running : (n task : ℕ) → running_of (replicate n None) task ≡ None
 none_running n task =
     elim (cases_lt task n) [
       | inl below ↦ get_or-replicate n task None None below

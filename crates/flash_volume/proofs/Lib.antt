@@ -10,3 +10,5 @@ pub mod Fresh
 pub mod Trimming
 pub mod Worn
 pub mod Stepping
+pub mod Pigeon
+pub mod Resuming

@@ -10,3 +10,4 @@ pub mod Faults
 pub mod Acts
 pub mod Calls
 pub mod Steps
+pub mod Resumed

@@ -30,16 +30,16 @@ use victim_pick::Victims;
 #[derive(Drop)]
 pub(crate) struct PageArray<N: Nand> {
     pub(crate) device: N,
-    map: PageMap,
+    pub(crate) map: PageMap,
     /// By block how many of its cells are programmed.
-    fills: Vec<u32>,
+    pub(crate) fills: Vec<u32>,
     /// The open block. There is one at most.
-    writing: Option<u32>,
+    pub(crate) writing: Option<u32>,
     /// By block its finished erases.
-    erases: Vec<u32>,
+    pub(crate) erases: Vec<u32>,
     /// The closed blocks that may be collected.
-    victims: Victims,
-    failed: bool,
+    pub(crate) victims: Victims,
+    pub(crate) failed: bool,
 }
 
 impl<N: Nand> Model for PageArray<N> {

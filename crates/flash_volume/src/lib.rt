@@ -7,9 +7,11 @@ mod collecting;
 pub mod collection;
 mod faults;
 pub mod next_calls;
+mod resumed;
+mod tables;
 pub mod volume;
 
-pub use collection::{Began, Collected, CollectStep, Collection, Copied};
+pub use collection::{Began, CollectStep, Collected, Collection, Copied};
 pub use volume::Volume;
 
 #[cfg(test)]

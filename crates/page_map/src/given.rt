@@ -1,6 +1,6 @@
 //! A map of places that are given as a whole.
 
-ghost use Rattle.std.specs.Prelude.{◌≡◌, ◌<◌, ◌^◌, length, IfOk, IfErr, OnOk};
+ghost use Rattle.std.specs.Prelude.{◌≡◌, ◌<◌, ◌*◌, ◌^◌, length, IfOk, IfErr, OnOk};
 ghost use Rattle.slot_types.specs.Refusal.{FailsForMemory};
 ghost use Rattle.page_map.specs.Placing.{AreApart};
 ghost use Rattle.page_map.specs.Given.{AreCells, HasFault};
@@ -12,14 +12,15 @@ use std::alloc::Global;
 /// Why there is no map of given places.
 #[derive(Clone, Copy, PartialEq, Eq, Debug, Drop)]
 pub enum PlacesFault {
-    /// Memory was asked for and not had, as for a map of 2^32 cells and more.
+    /// Memory was asked for and not had.
     NoMemory,
     /// A page lies in the cell of a page before it: the first such page.
     SharedCell { page: u32 },
 }
 
 impl PageMap {
-    /// The map in which each page lies where `places` has it. It takes time for each page once, beside the memory of a map.
+    /// The map, of fewer than 2^32 cells, in which each page lies where `places` has it. It takes time for each page once,
+    /// beside the memory of a map.
     ///
     /// `NoMemory` where there is no memory for a map, of which nothing else is known then; else `SharedCell` exactly where
     /// two pages lie in one cell.
@@ -29,6 +30,7 @@ impl PageMap {
         places: &[Option<Place>],
     ) -> Result<Self, PlacesFault>
         requires cells { AreCells shape places.now }
+        requires few_cells { shape.blocks * shape.pages < 2 ^ 32 }
         requires few { length places.now < 2 ^ 32 }
         ensures ok { IfOk result (λ map. map ≡ record { shape = shape; places = places.now }) }
         ensures apart { OnOk result (AreApart places.now) }

@@ -6,7 +6,7 @@
 //!
 //! A test of runs is a table of courses: `feeds` has the jobs of a die, `courses` how its run has to end. `runs`, `dealt` and
 //! `gated` have the tests, with the devices and gates of `held` and `noted`. `scarce` is for where memory is refused. `lives`
-//! has a store that goes on, and `listed` feeds as lists.
+//! has stores that are opened again, and `listed` feeds as lists.
 #![tactic(auto)]
 
 #[cfg(test)]

@@ -183,8 +183,14 @@ fn run_held<R: Threads + Wait + Sync + Abort>(
 
 #[test]
 fn dies_run_at_once(rt: HostRuntime) -> Result<(), Fail> {
-    assert!(rt; run_held(&rt, rt.alloc(), 0)?, "die 1 goes on while die 0 is held");
-    assert!(rt; run_held(&rt, rt.alloc(), 1)?, "die 0 goes on while die 1 is held");
+    assert!(rt;
+        run_held(&rt, rt.alloc(), 0)?,
+        "die 1 goes on while die 0 is held"
+    );
+    assert!(rt;
+        run_held(&rt, rt.alloc(), 1)?,
+        "die 0 goes on while die 1 is held"
+    );
     Ok(())
 }
 
@@ -221,9 +227,15 @@ fn run_apart<R: Threads + Wait + Sync + Abort>(
 #[test]
 fn turns_are_apart(rt: HostRuntime) -> Result<(), Fail> {
     let first = Arc::new(rt.alloc(), Read::new())?;
-    assert!(rt; run_apart(&rt, rt.alloc(), &first, true)?, "die 1 reads within a turn of die 0");
+    assert!(rt;
+        run_apart(&rt, rt.alloc(), &first, true)?,
+        "die 1 reads within a turn of die 0"
+    );
     let second = Arc::new(rt.alloc(), Read::new())?;
-    assert!(rt; run_apart(&rt, rt.alloc(), &second, false)?, "die 0 reads within a turn of die 1");
+    assert!(rt;
+        run_apart(&rt, rt.alloc(), &second, false)?,
+        "die 0 reads within a turn of die 1"
+    );
     Ok(())
 }
 

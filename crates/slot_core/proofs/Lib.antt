@@ -19,6 +19,7 @@ pub mod Beginning
 pub mod Slotting
 pub mod Needing
 pub mod Making
+pub mod Foreseeing
 pub mod Noting
 pub mod Performing
 pub mod Running
@@ -28,3 +29,4 @@ pub mod Rowing
 pub mod Certifying
 pub mod Planning
 pub mod Accepting
+pub mod Fitting

@@ -1,6 +1,6 @@
 -- The victim that a volume takes is the log's.
 use Rattle.std.proofs.Common.{◌≡◌, ◌⊎◌, inl, inr, ℕ, zero, suc, ◌+◌, ◌<◌, ◌≤◌, ◌==◌, ◌&&◌, ◌||◌, not, nat_lt, Bool, true, false, cond, List}
-use Rattle.std.proofs.Common.{[], ◌∷◌, Option, Some, refl, ap, sym, ◌∙◌, subst, length, map, filter, fold, count_by, slice_index_or}
+use Rattle.std.proofs.Common.{[], ◌∷◌, Option, Some, None, refl, ap, sym, ◌∙◌, subst, length, map, filter, fold, count_by, slice_index_or}
 use Rattle.std.proofs.Common.{if◌then◌else◌, arith}
 use Rattle.std.specs.List.{AllByRecursion, range_with_len, reduce}
 use Rattle.std.proofs.lemmas.Bool.{cases_lt, true≢false, and_parts, and_from, not-true, not_from_false, false_from_ne_true, eqb-true}
@@ -18,7 +18,7 @@ use Rattle.flash_volume.specs.Picks.{IsCandidate, IsVictim}
 use Rattle.die_log.specs.Log.{Log, jobs}
 use Rattle.die_log.specs.Flash.{Block, cells, block_at, is_closed, valid, free_block}
 use Rattle.die_log.specs.Work.{victim_of}
-use Rattle.die_log.specs.Answers.{is_running, is_block, is_collected, candidates, victim}
+use Rattle.die_log.specs.Answers.{goes_before, is_running, is_block, is_collected, candidates, victim}
 use Rattle.die_log.specs.Sound.{AreSound}
 use Rattle.die_log.specs.Standing.{Runs}
 use Rattle.die_log.proofs.Cells.Collections.{is_block_says}
@@ -231,3 +231,21 @@ victim_is start past blocks places running b sound are places_are r v =
           least_worn = λ same. omega (arith, v.least_worn o closed (as_few same), worn_is b, worn_is o);
           first = λ same as_worn. v.first o closed (as_few same) (worn_is o ∙ (as_worn ∙ sym (worn_is b)));
         }
+
+none_pass : (t : ℕ → Bool) (a n : ℕ) → ((o : ℕ) → o < a + n → t o ≡ true → ⊥) → filter t (range_with_len a n) ≡ []
+none_pass t a zero h = refl
+none_pass t a (suc n) h = by_test (t a) refl (none_pass t (a + 1) n (λ o lt e. h o (omega (arith, lt)) e))
+  where
+    by_test : (b : Bool) → t a ≡ b → filter t (range_with_len (a + 1) n) ≡ []
+        → cond b (a ∷ filter t (range_with_len (a + 1) n)) (filter t (range_with_len (a + 1) n)) ≡ []
+    by_test true e again = absurd (h a (omega arith) e)
+    by_test false e again = again
+
+-- where no block is a candidate, the log has no victim
+pub no_victim : (start : Start) (past : Log) (blocks : List device.Block) (running : List (Option Collection))
+    → AreSound start.plan (cells start past) → map counts_of blocks ≡ (cells start past).blocks → AreRunning start past running
+    → ((b : ℕ) → ¬ IsCandidate start.plan.shape.pages blocks running b) → victim start past ≡ None
+no_victim start past blocks running sound are r none =
+    ap (reduce (λ best b. if goes_before (cells start past) b best then b else best))
+    (none_pass (is_candidate start past) 0 start.plan.shape.blocks
+    (λ o lt e. none o (closed_is start past blocks running o sound are r (omega (arith, lt)) e)))

@@ -18,3 +18,4 @@ pub mod Planned
 pub mod Needs
 pub mod NextSlot
 pub mod NextTurns
+pub mod Foreseen

@@ -2,7 +2,9 @@
 
 ghost use Rattle.std.specs.Prelude.{◌≡◌, ◌+◌, ◌↔◌, true, IfOk, IfErr};
 ghost use Rattle.slot_types.specs.Arrivals.{arrival_of};
+ghost use Rattle.die_log.specs.Needed.{needed_call};
 ghost use Rattle.slot_core.specs.Events.{with_ops, noted, HasAccepted, HasRefused};
+ghost use Rattle.slot_core.specs.Needs.{MakesCall};
 
 use crate::die_core::DieCore;
 use crate::slot_note::SlotNote;
@@ -62,6 +64,8 @@ impl<N: Nand> DieCore<N> {
         ensures accepted { IfOk result (λ reply. HasAccepted caller event reply self.old self.new) }
         ensures refused { IfErr result (λ refusal. HasRefused N.never_fails event refusal self.old self.new) }
         ensures fault { (result ≡ Err Refusal.DeviceFault) ↔ (N.failures self.new.device ≡ N.failures self.old.device + 1) }
+        ensures calls { event ≡ Event.Slot → MakesCall N.ends N.failures (needed_call self.old.start self.old.log) result self.old.device
+            self.new.device }
         ensures plan { self.new.start ≡ self.old.start }
     {
         let taken = match event {
@@ -113,6 +117,8 @@ impl<N: Nand> DieCore<N> {
         ensures accepted { IfOk result (λ note. HasAccepted caller (with_ops head ops.now) (noted note) self.old self.new) }
         ensures refused { IfErr result (λ refusal. HasRefused N.never_fails (with_ops head ops.now) refusal self.old self.new) }
         ensures fault { (result ≡ Err Refusal.DeviceFault) ↔ (N.failures self.new.device ≡ N.failures self.old.device + 1) }
+        ensures calls { head ≡ EventHead.Slot → MakesCall N.ends N.failures (needed_call self.old.start self.old.log) result self.old.device
+            self.new.device }
         ensures plan { self.new.start ≡ self.old.start }
     {
         match head {

@@ -9,6 +9,7 @@ pub mod events;
 pub mod faults;
 pub mod job_records;
 pub mod laws;
+pub mod next_calls;
 pub mod next_slot;
 mod notes;
 pub mod operations;

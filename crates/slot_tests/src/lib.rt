@@ -1,7 +1,7 @@
 //! Worked rows of one die: jobs, collections, certificates, refusals, and whole histories.
 //!
 //! Read in this order: `steps` has the words of a test, `plans` the dies on which tests are played, and `jobs` the first
-//! tests; `collections`, `refusals`, `ends`, `reserved` and `renewals` have more of them. A test fails as `told` says and `failed` shows.
+//! tests; `collections`, `refusals`, `ends`, `nexts`, `reserved` and `renewals` have more of them. A test fails as `told` says and `failed` shows.
 //! `played` carries a step out, and `dies` a table on a new die.
 //!
 //! What is no table stands behind: `faults` and `histories` play long ones; `planned` and `loaded` keep to a plan with times;
@@ -30,6 +30,10 @@ mod idle;
 mod jobs;
 #[cfg(test)]
 mod loaded;
+#[cfg(test)]
+mod memory;
+#[cfg(test)]
+mod nexts;
 #[cfg(test)]
 mod outcomes;
 #[cfg(test)]

@@ -10,6 +10,8 @@
 //!
 //! Jobs, collections and slots go by their numbers, which begin at 0.
 
+use flash_die::NandCall;
+use slot_core::NextAct;
 use slot_types::{Act, Op, PageData, Refusal};
 
 /// A step of a table. A `want` is the answer: the number of what was accepted, or why it is refused.
@@ -53,6 +55,10 @@ pub(crate) enum Step<'a> {
     Idles {
         slot: u32,
     },
+    /// The present slot has this number, and is idle, when it is asked for the first time.
+    IdlesAtOnce {
+        slot: u32,
+    },
     /// So many slots are asked for in one call, and each is idle.
     Runs {
         slots: u32,
@@ -72,6 +78,11 @@ pub(crate) enum Step<'a> {
     /// The die is renewed.
     Renews {
         want: Result<(), NotRenewed>,
+    },
+    /// The die tells that the next slot carries this act of this job or collection, by this call of the device.
+    Next {
+        ran: Option<(u32, NextAct)>,
+        call: Option<NandCall>,
     },
     /// The present slot is refused.
     NoSlot {

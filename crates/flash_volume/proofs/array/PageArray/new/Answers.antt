@@ -1,5 +1,6 @@
 use Rattle.flash_volume.proofs.Opening.{seen}
-use Rattle.flash_volume.proofs.Fresh.{few_cells, stands_fresh}
+use Rattle.die_checkpoint.proofs.Looking.{few_cells}
+use Rattle.flash_volume.proofs.Fresh.{stands_fresh}
 use Rattle.flash_volume.proofs.array.PageArray.new.Goals as goal
 
 pub new-requires : goal.new-requires

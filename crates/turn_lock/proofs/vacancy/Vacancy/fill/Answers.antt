@@ -46,9 +46,12 @@ invariant_of-pass g c =
       sym (ap (λ v. length v.joined) first),
       subst (λ v. CountsOwn v) (sym first) first_counts,
       c.release-free_word.ensures.free,
-      subst (λ v. SeesFitting g.B.Book.fits v) (sym first)
-          (g.B.Book.about c.args.book, refl, subst (λ l. g.B.Book.fits (g.B.Book.about c.args.book) l) c.requires.empty
-          c.release-free_word.ensures.fits),
+      subst (λ v. SeesFitting g.B.Book.fits v) (sym first) (
+        g.B.Book.about c.args.book,
+        refl,
+        subst (λ l. g.B.Book.fits (g.B.Book.about c.args.book) l) c.requires.empty
+            c.release-free_word.ensures.fits,
+      ),
     )
 
 pub returns-clause-live : goal.returns-clause-live

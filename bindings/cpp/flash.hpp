@@ -1,0 +1,231 @@
+// A die of a proved flash translation layer with deadlines, for C++17: flash.h with types that see to its rules.
+//
+// A `flash::die` moves and isn't copied, and lets its die go. A `flash::slot` is a slot that has begun: it is ended by `end`,
+// or, where it is let go, as a fault, which stops the die if the device was to do something. What is refused is thrown as a `flash::refusal`. flash.h says what each call does.
+#ifndef FLASH_HPP
+#define FLASH_HPP
+#include "flash.h"
+
+#include <algorithm>
+#include <array>
+#include <cstdint>
+#include <exception>
+#include <string>
+#include <utility>
+#include <vector>
+
+inline bool operator==(const flash_name &a, const flash_name &b) { return std::equal(a.bytes, a.bytes + 16, b.bytes); }
+
+namespace flash {
+
+using name = ::flash_name;
+using plan = ::flash_plan;
+using task = ::flash_task;
+using op = ::flash_op;
+using call = ::flash_call;
+using row = ::flash_row;
+using job_head = struct ::flash_job;
+using worst_job = struct ::flash_worst;
+
+// Why a call is refused: its number of flash.h, and the numbers that it has.
+class refusal : public std::exception {
+public:
+    explicit refusal(std::uint32_t code, ::flash_why why = {0, 0}) : code(code), why(why) {
+        std::array<std::uint8_t, 16> text{};
+        ::flash_refusal_name(code, text.data(), text.size());
+        text_ = reinterpret_cast<const char *>(text.data());
+    }
+    const char *what() const noexcept override { return text_.c_str(); }
+
+    const std::uint32_t code;
+    const ::flash_why why;
+
+private:
+    std::string text_;
+};
+
+inline void must(std::uint32_t code, const ::flash_why &why = {0, 0}) {
+    if (code != FLASH_OK) throw refusal(code, why);
+}
+
+inline op read(std::uint32_t page) { return {FLASH_READ, page, {}}; }
+inline op write(std::uint32_t page, const name &what) { return {FLASH_WRITE, page, what}; }
+inline op trim(std::uint32_t page) { return {FLASH_TRIM, page, {}}; }
+
+// A slot's reply, with the collections that it waived.
+struct reply : ::flash_reply {
+    std::vector<::flash_waived> waived_ones;
+};
+
+// What became of a job or a collection, with what its reads gave.
+struct outcome : ::flash_outcome {
+    std::vector<name> read_names;
+};
+
+// A certificate, with the numbers of its jobs.
+struct certificate : ::flash_certificate {
+    std::vector<std::uint32_t> listed;
+};
+
+// Whether flash::die takes the plan, and, of a plan with times, what it asks for.
+inline void bound(const plan &p, const std::vector<task> &tasks) { must(::flash_plan_bound(&p, tasks.data(), tasks.size())); }
+inline ::flash_load plan_test(const plan &p, const std::vector<task> &tasks) {
+    ::flash_load load{};
+    must(::flash_plan_test(&p, tasks.data(), tasks.size(), &load));
+    return load;
+}
+
+// FLASH_OK where the certificate holds for the rows, else its first flaw.
+inline std::uint32_t check(const std::vector<row> &rows, const certificate &c) {
+    static const row none{};
+    static const std::uint32_t nobody = 0; // no pointer may be null
+    return ::flash_check(rows.empty() ? &none : rows.data(), rows.size(), &c, c.listed.empty() ? &nobody : c.listed.data(),
+                         c.listed.size());
+}
+
+class die;
+
+// A slot that has begun. The die may be asked meanwhile, and jobs may arrive.
+class slot {
+public:
+    slot(const slot &) = delete;
+    slot &operator=(const slot &) = delete;
+    slot(slot &&other) noexcept : handle_(std::exchange(other.handle_, nullptr)), call_(other.call_) {}
+    slot &operator=(slot &&) = delete;
+    ~slot() {
+        if (handle_) {
+            ::flash_reply told;
+            ::flash_waived waived;
+            name blank{};
+            ::flash_end(handle_, 0, &blank, &told, &waived, 1);
+        }
+    }
+
+    // What the device is to do.
+    const flash::call &call() const { return call_; }
+
+    // Ends it: whether the device did that, and the name of what a read gave.
+    reply end(bool ok, const name &gave = {}) {
+        reply told{};
+        std::array<::flash_waived, 16> waived{};
+        must(::flash_end(std::exchange(handle_, nullptr), ok ? 1 : 0, &gave, &told, waived.data(), waived.size()));
+        told.waived_ones.assign(waived.begin(), waived.begin() + told.waived);
+        return told;
+    }
+
+private:
+    friend class die;
+    slot(::flash_die *handle, const flash::call &c) : handle_(handle), call_(c) {}
+    ::flash_die *handle_;
+    flash::call call_;
+};
+
+// One die. It is used by one thread at a time, and stays on its thread. A die that was moved from may only be assigned to or
+// let go.
+class die {
+public:
+    die(const plan &p, const std::vector<task> &tasks) {
+        auto made = new ::flash_die{nullptr};
+        static const task none{};
+        std::uint32_t code = ::flash_new(made, &p, tasks.empty() ? &none : tasks.data(), tasks.size());
+        if (code != FLASH_OK) {
+            delete made;
+            throw refusal(code);
+        }
+        handle_ = made;
+    }
+    die(const die &) = delete;
+    die &operator=(const die &) = delete;
+    die(die &&other) noexcept : handle_(std::exchange(other.handle_, nullptr)) {}
+    die &operator=(die &&other) noexcept {
+        std::swap(handle_, other.handle_);
+        return *this;
+    }
+    ~die() {
+        if (handle_) {
+            ::flash_free(handle_);
+            delete handle_;
+        }
+    }
+
+    std::uint32_t submit(std::uint32_t caller, std::uint32_t task, std::uint32_t release, std::uint32_t due, const std::vector<op> &ops) {
+        std::uint32_t number = 0;
+        ::flash_why why{0, 0};
+        static const op none{};
+        must(::flash_submit(handle_, caller, task, release, due, ops.empty() ? &none : ops.data(), ops.size(), &number, &why), why);
+        return number;
+    }
+
+    std::uint32_t collect(std::uint32_t caller, std::uint32_t task, std::uint32_t release, std::uint32_t due) {
+        std::uint32_t number = 0;
+        ::flash_why why{0, 0};
+        must(::flash_collect(handle_, caller, task, release, due, &number, &why), why);
+        return number;
+    }
+
+    // The slot may not outlive the die, but the die may be moved meanwhile.
+    slot begin(std::uint32_t caller) {
+        flash::call told{};
+        must(::flash_begin(handle_, caller, &told));
+        return slot(handle_, told);
+    }
+
+    void reserve(std::uint32_t slots) { must(::flash_reserve(handle_, slots)); }
+
+    void renew() {
+        ::flash_why why{0, 0};
+        must(::flash_renew(handle_, &why), why);
+    }
+
+    std::uint32_t now() const { return ::flash_now(handle_); }
+    std::uint64_t entries() const { return ::flash_len(handle_); }
+    std::uint64_t records() const { return ::flash_records(handle_); }
+
+    job_head job(std::uint32_t number) const {
+        job_head told{};
+        must(::flash_job(handle_, number, &told));
+        return told;
+    }
+
+    flash::outcome outcome(std::uint32_t job) const {
+        flash::outcome told{};
+        std::array<name, 64> reads{};
+        must(::flash_outcome(handle_, job, &told, reads.data(), reads.size()));
+        told.read_names.assign(reads.begin(), reads.begin() + told.reads);
+        return told;
+    }
+
+    worst_job worst() const {
+        worst_job told{};
+        must(::flash_worst(handle_, &told));
+        return told;
+    }
+
+    flash::certificate certificate() const {
+        flash::certificate told{};
+        for (told.listed.resize(64);; told.listed.resize(told.jobs)) {
+            must(::flash_certificate(handle_, &told, told.listed.data(), told.listed.size()));
+            if (told.jobs <= told.listed.size()) break;
+        }
+        told.listed.resize(told.jobs);
+        return told;
+    }
+
+    std::vector<row> rows() const {
+        std::vector<row> told(64);
+        std::uint32_t total = 0;
+        for (;; told.resize(total)) {
+            must(::flash_rows(handle_, told.data(), told.size(), &total));
+            if (total <= told.size()) break;
+        }
+        told.resize(total);
+        return told;
+    }
+
+private:
+    // On the heap, so that a die moves while one of its slots has begun, and so that a handle is never copied.
+    ::flash_die *handle_ = nullptr;
+};
+
+} // namespace flash
+#endif

@@ -1,0 +1,260 @@
+/* Plays random histories through C. Each call goes to the script, what it was answered to the answers, a line each; the
+ * script is then replayed over DieCore::slot (replay.rt.txt), whose answers have to be the same, line for line.
+ *
+ *   play SEED COUNT SCRIPT ANSWERS
+ *
+ * The chip is simulated here, and finds fault with each call that a chip doesn't allow. In half of the histories it fails
+ * after some calls, or gives another name than was programmed. Each certificate is checked, too. */
+#include "flash.h"
+#ifndef FLASH_STAYS
+#define FLASH_STAYS 1 /* a slot that failed stays in the log */
+#endif
+#include <inttypes.h>
+#include <stdio.h>
+#include <stdlib.h>
+#include <string.h>
+
+enum { BLOCKS = 12, PAGES = 6, TASKS = 3, LISTED = 4096 };
+
+static FILE *script, *answers;
+
+static void check(int holds, const char *what) {
+    if (!holds) { fprintf(stderr, "wrong: %s\n", what); exit(1); }
+}
+
+/* ---- Random numbers ---------------------------------------------------------------------------------------------- */
+
+static uint64_t state;
+
+static uint32_t random_below(uint32_t bound) { /* splitmix64 */
+    uint64_t z = (state += 0x9E3779B97F4A7C15u);
+    z = (z ^ (z >> 30)) * 0xBF58476D1CE4E5B9u;
+    z = (z ^ (z >> 27)) * 0x94D049BB133111EBu;
+    return (uint32_t)((z ^ (z >> 31)) % bound);
+}
+
+static uint32_t between(uint32_t least, uint32_t most) { return least + random_below(most - least + 1); }
+
+/* ---- Names: a word, four times ----------------------------------------------------------------------------------- */
+
+static struct flash_name name_of(uint32_t word) {
+    struct flash_name name;
+    for (int i = 0; i < 16; i++) name.bytes[i] = (uint8_t)(word >> (8 * (i % 4)));
+    return name;
+}
+
+static uint32_t word_of(const struct flash_name *name) {
+    uint32_t word = 0;
+    for (int i = 0; i < 4; i++) word |= (uint32_t)name->bytes[i] << (8 * i);
+    struct flash_name again = name_of(word);
+    check(!memcmp(&again, name, sizeof again), "a name that nobody gave");
+    return word;
+}
+
+/* ---- The chip ---------------------------------------------------------------------------------------------------- */
+
+static struct { uint32_t filled, erasing; struct flash_name cells[PAGES]; } chip[BLOCKS];
+static uint32_t pages, erase_slots, calls_left;
+
+/* Whether the call went well; a read that goes wrong may give another name, too. */
+static uint32_t drive(const struct flash_call *call, struct flash_name *gave) {
+    *gave = name_of(0xFFFFFFFFu);
+    if (call->kind == FLASH_CALL_NONE) return random_below(2); /* isn't looked at */
+    if (calls_left-- == 0) {
+        if (call->kind != FLASH_CALL_READ || random_below(2)) return 0;
+        *gave = name_of(word_of(&call->name) + 1);
+        return 1;
+    }
+    if (call->kind == FLASH_CALL_READ) {
+        check(call->page < chip[call->block].filled && !chip[call->block].erasing, "a read of a programmed cell");
+        *gave = chip[call->block].cells[call->page];
+    } else if (call->kind == FLASH_CALL_PROGRAM) {
+        check(call->page == chip[call->block].filled && call->page < pages, "a program of the next free cell");
+        check(!chip[call->block].erasing, "a program of a block in erase");
+        chip[call->block].cells[chip[call->block].filled++] = call->name;
+    } else {
+        check(chip[call->block].filled == pages, "an erase of a full block");
+        chip[call->block].erasing++;
+        check(call->last == (chip[call->block].erasing == erase_slots), "the last slot of an erase");
+        if (call->last) chip[call->block].filled = chip[call->block].erasing = 0;
+    }
+    return 1;
+}
+
+/* ---- Plans ------------------------------------------------------------------------------------------------------- */
+
+static struct flash_plan plan;
+static struct flash_task tasks[TASKS];
+static uint32_t task_count;
+
+static void random_plan(void) {
+    for (;;) {
+        plan.blocks = between(2, BLOCKS);
+        plan.pages = between(2, PAGES);
+        plan.erase_slots = between(1, 4);
+        plan.alpha = between(1, plan.pages);
+        plan.logical = between(1, 24);
+        task_count = between(1, TASKS);
+        for (uint32_t t = 0; t < task_count; t++) tasks[t].cap = between(1, 6);
+        if (flash_plan_bound(&plan, tasks, task_count) == FLASH_OK) return;
+    }
+}
+
+/* ---- Calls ------------------------------------------------------------------------------------------------------- */
+
+static uint32_t jobs; /* that were accepted */
+static uint32_t words;
+
+static void tell(uint32_t code, const struct flash_why *why, uint32_t number) {
+    if (code == FLASH_OK) fprintf(answers, "taken %" PRIu32 "\n", number), jobs++;
+    else fprintf(answers, "refused %" PRIu32 " %" PRIu32 " %" PRIu32 "\n", code, why->first, why->second);
+}
+
+static void submit(flash_die *die, uint32_t least_release) {
+    struct flash_op ops[70];
+    struct flash_why why = {0, 0};
+    uint32_t number = 0;
+    uint32_t count = random_below(20) ? between(1, 5) : random_below(3) ? 0 : 65 + random_below(5);
+    uint32_t task = random_below(30) ? random_below(task_count) : task_count;
+    uint32_t release = least_release + (random_below(3) ? 0 : between(0, 9));
+    if (!random_below(20) && release) release--;
+    uint32_t due = release + (random_below(20) ? between(1, 12) : 0);
+    fprintf(script, "submit 7 %" PRIu32 " %" PRIu32 " %" PRIu32 " %" PRIu32, task, release, due, count);
+    for (uint32_t i = 0; i < count; i++) {
+        uint32_t kind = random_below(3), page = random_below(40) ? random_below(plan.logical) : plan.logical;
+        ops[i] = (struct flash_op){kind, page, name_of(++words)};
+        fprintf(script, " %" PRIu32 " %" PRIu32 " %" PRIu32, kind, page, words);
+    }
+    fputc('\n', script);
+    uint32_t code = flash_submit(die, 7, task, release, due, ops, count, &number, &why);
+    tell(code, &why, number);
+}
+
+static void collect(flash_die *die, uint32_t least_release) {
+    struct flash_why why = {0, 0};
+    uint32_t number = 0;
+    uint32_t task = random_below(30) ? random_below(task_count) : task_count;
+    uint32_t release = least_release + (random_below(3) ? 0 : between(0, 9));
+    uint32_t due = release + (random_below(20) ? between(1, 30) : 0);
+    fprintf(script, "collect 7 %" PRIu32 " %" PRIu32 " %" PRIu32 "\n", task, release, due);
+    uint32_t code = flash_collect(die, 7, task, release, due, &number, &why);
+    tell(code, &why, number);
+}
+
+/* Every question: the moment, the worst and its certificate, the rows, and one job. */
+static void ask(flash_die *die) {
+    static struct flash_row rows[LISTED];
+    static uint32_t listed[LISTED];
+    struct flash_worst worst;
+    struct flash_certificate cert;
+    struct flash_outcome outcome;
+    struct flash_job head;
+    struct flash_name reads[64];
+    uint32_t total, number = random_below(jobs + 2);
+    fprintf(script, "ask %" PRIu32 "\n", number);
+    fprintf(answers, "at %" PRIu32 " %" PRIu64 " %" PRIu64, flash_now(die), flash_len(die), flash_records(die));
+    if (flash_worst(die, &worst) == FLASH_OK) fprintf(answers, " worst %" PRIu32 " %" PRId64, worst.job, worst.lateness);
+    check(flash_rows(die, rows, LISTED, &total) == FLASH_OK && total <= LISTED, "rows");
+    fprintf(answers, " rows %" PRIu32, total);
+    for (uint32_t i = 0; i < total; i++)
+        fprintf(answers, " %" PRIu32 " %" PRIu32 " %" PRIu32 " %" PRIu32 " %" PRIu32 " %" PRIu32, rows[i].number, rows[i].release,
+                rows[i].due, rows[i].work, rows[i].done, rows[i].completion);
+    if (flash_certificate(die, &cert, listed, LISTED) == FLASH_OK) {
+        fprintf(answers, " certificate %" PRIu32 " %" PRIu32 " %" PRIu32 " %" PRIu32, cert.job, cert.start, cert.due, cert.completion);
+        for (uint32_t i = 0; i < cert.jobs; i++) fprintf(answers, " %" PRIu32, listed[i]);
+        check(flash_check(rows, total, &cert, listed, cert.jobs) == FLASH_OK, "the certificate holds");
+        cert.completion++;
+        check(flash_check(rows, total, &cert, listed, cert.jobs) == FLASH_CERT_WRONG_SUM, "a later one doesn't");
+    }
+    uint32_t code = flash_outcome(die, number, &outcome, reads, 64);
+    fprintf(answers, " job %" PRIu32, code);
+    if (code == FLASH_OK) {
+        check(flash_job(die, number, &head) == FLASH_OK, "job");
+        fprintf(answers, " %" PRIu32 " %" PRIu32 " %" PRIu32 " %" PRIu32 " state %" PRIu32 " %" PRIu32 " %" PRId64 " %" PRIu32, head.collects,
+                head.task, head.release, head.due, outcome.state, outcome.completion, outcome.lateness, outcome.given);
+        for (uint32_t i = 0; i < outcome.reads; i++) fprintf(answers, " %" PRIu32, word_of(&reads[i]));
+    }
+    fputc('\n', answers);
+}
+
+/* One slot. Answers whether the die goes on. */
+static int slot(flash_die *die) {
+    struct flash_call call;
+    struct flash_reply reply;
+    struct flash_waived waived[16];
+    struct flash_name gave;
+    check(flash_begin(die, 9, &call) == FLASH_OK, "begin");
+    check(call.slot == flash_now(die) || FLASH_STAYS, "the slot that has begun is the present one");
+#if !FLASH_STAYS
+    for (uint32_t n = random_below(4) ? 0 : between(1, 3); n > 0; n--) { /* arrivals while the device works */
+        uint32_t least = call.slot + 1;
+        if (random_below(2)) submit(die, least); else collect(die, least);
+        if (!random_below(3)) ask(die);
+    }
+#endif
+    fputs("slot\n", script);
+    uint32_t ok = drive(&call, &gave), code = flash_end(die, ok, &gave, &reply, waived, 16);
+    if (code) {
+        fprintf(answers, "refused %" PRIu32 " 0 0\n", code);
+        check(flash_begin(die, 9, &call) == FLASH_DIE_STOPPED, "the die is stopped");
+        return 0;
+    }
+    check(reply.slot == call.slot && reply.act == call.act && reply.job == call.job, "the slot did what was told");
+    fprintf(answers, "slot %" PRIu32 " %" PRIu32 " %" PRIu32 " %" PRIu32 " %" PRIu32 " %" PRIu32, reply.slot, reply.act, reply.job, reply.page,
+            reply.finished, word_of(&reply.name));
+    for (uint32_t i = 0; i < reply.waived; i++) fprintf(answers, " %" PRIu32 " %" PRIu32, waived[i].job, waived[i].given);
+    fputc('\n', answers);
+    return 1;
+}
+
+static void renew(flash_die *die) {
+    struct flash_why why = {0, 0};
+    fputs("renew\n", script);
+    uint32_t code = flash_renew(die, &why);
+    if (code == FLASH_OK) { fputs("renewed\n", answers); jobs = 0; }
+    else fprintf(answers, "refused %" PRIu32 " %" PRIu32 " 0\n", code, why.first);
+}
+
+static void history(void) {
+    flash_die die = {0};
+    random_plan();
+    pages = plan.pages;
+    erase_slots = plan.erase_slots;
+    calls_left = random_below(2) ? 1000000u : random_below(60);
+    jobs = 0;
+    memset(chip, 0, sizeof chip);
+    fprintf(script, "die %" PRIu32 " %" PRIu32 " %" PRIu32 " %" PRIu32 " %" PRIu32 " %" PRIu32 " %" PRIu32, plan.blocks, plan.pages, plan.erase_slots,
+            plan.logical, plan.alpha, calls_left, task_count);
+    for (uint32_t t = 0; t < task_count; t++) fprintf(script, " %" PRIu32, tasks[t].cap);
+    fputc('\n', script);
+    check(flash_new(&die, &plan, tasks, task_count) == FLASH_OK, "new");
+    fputs("new\n", answers);
+    for (uint32_t step = between(20, 160); step > 0; step--) {
+        uint32_t what = random_below(16);
+        if (what < 5) submit(&die, flash_now(&die));
+        else if (what < 7) collect(&die, flash_now(&die));
+        else if (what == 7) ask(&die);
+        else if (what == 8 && !random_below(3)) renew(&die);
+        else if (!slot(&die)) {
+#if !FLASH_STAYS
+            for (int i = 0; i < 3; i++) ask(&die);
+            submit(&die, flash_now(&die));
+            collect(&die, flash_now(&die));
+            renew(&die);
+#endif
+            break;
+        }
+    }
+    flash_free(&die);
+}
+
+int main(int argc, char **argv) {
+    check(argc == 5, "play SEED COUNT SCRIPT ANSWERS");
+    state = strtoull(argv[1], NULL, 10);
+    script = fopen(argv[3], "w");
+    answers = fopen(argv[4], "w");
+    check(script && answers, "the files are opened");
+    for (uint32_t n = (uint32_t)atoi(argv[2]); n > 0; n--) history();
+    check(!fclose(script) && !fclose(answers), "the files are written");
+    return 0;
+}

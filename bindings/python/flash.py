@@ -1,0 +1,223 @@
+"""A die of a proved flash translation layer with deadlines, over libflash.so, which bindings/c/Makefile makes.
+
+Standard library only. bindings/c/flash.h says what each call does, and what refuses it; a refusal is raised as Refusal.
+"""
+import ctypes as c
+import os
+from collections import namedtuple
+
+BLANK = b"\xff" * 16  # the name of a page that was never written, or was trimmed since
+READ, WRITE, TRIM = 0, 1, 2
+NOTHING, READ_CELL, PROGRAM_CELL, ERASE_SLOT = 0, 1, 2, 3
+IDLE, DID_READ, DID_WRITE, DID_TRIM, COPY_READ, COPY_PROGRAM, ERASE = range(7)
+WAITING, DONE, WAIVED = 0, 1, 2
+
+U32, U64, I64 = c.c_uint32, c.c_uint64, c.c_int64
+_Name = c.c_uint8 * 16
+
+
+def _struct(name, words, more=()):
+    return type(name, (c.Structure,), {"_fields_": list(more) + [(word, U32) for word in words.split()]})
+
+
+def _named(name, words):
+    return type(name, (c.Structure,), {"_fields_": [(word, U32) for word in words.split()] + [("name", _Name)]})
+
+
+_Handle = type("_Handle", (c.Structure,), {"_fields_": [("at", c.c_void_p)]})
+_Plan = _struct("_Plan", "blocks pages erase_slots logical alpha common")
+_Task = _struct("_Task", "cap period collect_period work writes")
+_Load = _struct("_Load", "common", [("demand", U64)])
+_Why = _struct("_Why", "first second")
+_Op = _named("_Op", "kind page")
+_Call = _named("_Call", "kind block page last slot act job")
+_Reply = _named("_Reply", "slot act job page finished waived")
+_Waived = _struct("_Waived", "job given")
+_Job = _struct("_Job", "collects task release due")
+_Outcome = _struct("_Outcome", "state completion given reads", [("lateness", I64)])
+_Worst = _struct("_Worst", "job", [("lateness", I64)])
+_Certificate = _struct("_Certificate", "job start due completion jobs")
+_Row = _struct("_Row", "number release due work done completion")
+
+Plan = namedtuple("Plan", "blocks pages erase_slots logical alpha common", defaults=(0,))
+Task = namedtuple("Task", "cap period collect_period work writes", defaults=(0, 0, 0, 0))
+Load = namedtuple("Load", "demand common")
+Call = namedtuple("Call", "kind block page last slot act job name")
+Reply = namedtuple("Reply", "slot act job page finished waived name")
+Waived = namedtuple("Waived", "job given")
+Job = namedtuple("Job", "collects task release due")
+Outcome = namedtuple("Outcome", "state completion lateness given reads")
+Worst = namedtuple("Worst", "job lateness")
+Certificate = namedtuple("Certificate", "job start due completion jobs")
+Row = namedtuple("Row", "number release due work completion")
+
+_lib = c.CDLL(os.environ.get("FLASH_LIB", os.path.join(os.path.dirname(os.path.abspath(__file__)), "../c/out/libflash.so")))
+for _word in ("version refusal_name plan_bound plan_test new submit collect begin end reserve renew now job outcome worst "
+              "certificate rows check").split():
+    getattr(_lib, "flash_" + _word).restype = U32
+_lib.flash_len.restype = _lib.flash_records.restype = U64
+_lib.flash_free.restype = None
+assert _lib.flash_version() == 1, "another version of libflash.so"
+
+
+class Refusal(Exception):
+    """Why a call is refused: its number of flash.h, its name, and the numbers that it has."""
+
+    def __init__(self, code, why=None):
+        text = c.create_string_buffer(16)
+        _lib.flash_refusal_name(U32(code), text, c.c_size_t(16))
+        self.code, self.name = code, text.value.decode()
+        self.first, self.second = (why.first, why.second) if why else (0, 0)
+        super().__init__(f"{self.name} {self.first} {self.second}" if why else self.name)
+
+
+def _must(code, why=None):
+    if code:
+        raise Refusal(code, why)
+
+
+def _list(kind, items):
+    """An array of C, of at least one place, since no pointer may be null; and how many items it has."""
+    items = list(items)
+    return (kind * max(1, len(items)))(*items), c.c_size_t(len(items))
+
+
+def _plan(plan, tasks):
+    tasks, count = _list(_Task, (_Task(*Task(*task)) for task in tasks))
+    return c.byref(_Plan(*Plan(*plan))), tasks, count
+
+
+def bound(plan, tasks):
+    """Raises where Die doesn't take the plan."""
+    _must(_lib.flash_plan_bound(*_plan(plan, tasks)))
+
+
+def plan_test(plan, tasks):
+    """The load of a plan with times; raises where it doesn't pass."""
+    load = _Load()
+    _must(_lib.flash_plan_test(*_plan(plan, tasks), c.byref(load)))
+    return Load(load.demand, load.common)
+
+
+def check(rows, certificate):
+    """Raises what is wrong with a certificate first, or that the rows don't rise."""
+    rows, row_count = _list(_Row, (_Row(r.number, r.release, r.due, r.work, r.completion is not None, r.completion or 0) for r in rows))
+    jobs, count = _list(U32, certificate.jobs)
+    given = _Certificate(certificate.job, certificate.start, certificate.due, certificate.completion, 0)
+    _must(_lib.flash_check(rows, row_count, c.byref(given), jobs, count))
+
+
+class Die:
+    """One die, of one thread; `with` lets it go."""
+
+    def __init__(self, plan, tasks):
+        self._at = None
+        handle = _Handle()
+        _must(_lib.flash_new(c.byref(handle), *_plan(plan, tasks)))
+        self._at = handle
+
+    def __enter__(self):
+        return self
+
+    def __exit__(self, *_):
+        self.close()
+
+    def __del__(self):
+        self.close()
+
+    def close(self):
+        if self._at is not None:
+            _lib.flash_free(c.byref(self._at))
+            self._at = None
+
+    def __copy__(self):
+        raise TypeError("a die isn't copied")
+
+    def __deepcopy__(self, _):
+        raise TypeError("a die isn't copied")
+
+    @property
+    def _die(self):
+        if self._at is None:
+            raise ValueError("the die was let go")
+        return c.byref(self._at)
+
+    def submit(self, task, release, due, ops, caller=0):
+        """Accepts a job of (READ, page), (WRITE, page, name) and (TRIM, page), and answers its number."""
+        ops, count = _list(_Op, (_Op(op[0], op[1], _Name(*(op[2] if len(op) > 2 else BLANK))) for op in ops))
+        number, why = U32(), _Why()
+        _must(_lib.flash_submit(self._die, U32(caller), U32(task), U32(release), U32(due), ops, count, c.byref(number),
+                                c.byref(why)), why)
+        return number.value
+
+    def collect(self, task, release, due, caller=0):
+        number, why = U32(), _Why()
+        _must(_lib.flash_collect(self._die, U32(caller), U32(task), U32(release), U32(due), c.byref(number), c.byref(why)), why)
+        return number.value
+
+    def begin(self, caller=0):
+        """Begins the present slot, and tells what the device is to do."""
+        call = _Call()
+        _must(_lib.flash_begin(self._die, U32(caller), c.byref(call)))
+        return Call(call.kind, call.block, call.page, call.last == 1, call.slot, call.act, call.job, bytes(call.name))
+
+    def end(self, ok, name=BLANK):
+        """Ends the slot that has begun: whether the device did it, and the name of what a read gave."""
+        told, waived = _Reply(), (_Waived * 16)()
+        _must(_lib.flash_end(self._die, U32(1 if ok else 0), c.byref(_Name(*name)), c.byref(told), waived, c.c_size_t(16)))
+        return Reply(told.slot, told.act, told.job, told.page, told.finished == 1,
+                     [Waived(w.job, w.given) for w in waived[:told.waived]], bytes(told.name))
+
+    def slot(self, drive, caller=0):
+        """One slot. drive(call) does what is told on the device, and answers (ok, name). Where it raises, the slot is a fault."""
+        call = self.begin(caller)
+        try:
+            ok, name = drive(call)
+        except BaseException:
+            try:
+                self.end(False)
+            except Refusal:
+                pass
+            raise
+        return self.end(ok, name)
+
+    def reserve(self, slots):
+        _must(_lib.flash_reserve(self._die, U32(slots)))
+
+    def renew(self):
+        why = _Why()
+        _must(_lib.flash_renew(self._die, c.byref(why)), why)
+
+    def now(self):
+        return _lib.flash_now(self._die)
+
+    def __len__(self):
+        return _lib.flash_len(self._die)
+
+    def records(self):
+        return _lib.flash_records(self._die)
+
+    def job(self, number):
+        job = _Job()
+        _must(_lib.flash_job(self._die, U32(number), c.byref(job)))
+        return Job(job.collects == 1, job.task, job.release, job.due)
+
+    def outcome(self, job):
+        told, reads = _Outcome(), (_Name * 64)()
+        _must(_lib.flash_outcome(self._die, U32(job), c.byref(told), reads, c.c_size_t(64)))
+        return Outcome(told.state, told.completion, told.lateness, told.given, [bytes(r) for r in reads[:told.reads]])
+
+    def worst(self):
+        worst = _Worst()
+        _must(_lib.flash_worst(self._die, c.byref(worst)))
+        return Worst(worst.job, worst.lateness)
+
+    def certificate(self):
+        told, jobs = _Certificate(), (U32 * 65536)()
+        _must(_lib.flash_certificate(self._die, c.byref(told), jobs, c.c_size_t(65536)))
+        return Certificate(told.job, told.start, told.due, told.completion, jobs[:told.jobs])
+
+    def rows(self):
+        rows, total = (_Row * 65536)(), U32()
+        _must(_lib.flash_rows(self._die, rows, c.c_size_t(65536), c.byref(total)))
+        return [Row(r.number, r.release, r.due, r.work, r.completion if r.done else None) for r in rows[:total.value]]

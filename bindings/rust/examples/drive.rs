@@ -1,0 +1,161 @@
+//! Drives a chip of 4 KiB pages, which is simulated here: what `../c/example.c` does, in Rust.
+
+use flash::{check, Act, Call, Die, Name, Op, Outcome, Plan, Refusal};
+use std::collections::HashMap;
+
+const PAYLOAD: usize = 4096;
+const LOGICAL: u32 = 16;
+
+type Payload = Vec<u8>;
+
+/// A payload's name. A driver takes a digest that no two of its payloads share.
+fn name_of(payload: &[u8]) -> Name {
+    let (mut a, mut b) = (14695981039346656037u64, 0x9E3779B97F4A7C15u64);
+    for (i, &byte) in payload.iter().enumerate() {
+        a = (a ^ u64::from(byte)).wrapping_mul(1099511628211);
+        b = (b ^ u64::from(byte)).wrapping_mul(1099511628211).wrapping_add(i as u64);
+    }
+    let mut name = [0; 16];
+    name[..8].copy_from_slice(&a.to_le_bytes());
+    name[8..].copy_from_slice(&b.to_le_bytes());
+    Name(name)
+}
+
+/// The chip, and the payloads on their way to it: what jobs write, and what copies have read.
+#[derive(Default)]
+struct Driver {
+    cells: HashMap<(u32, u32), Payload>,
+    staged: HashMap<Name, Payload>,
+    programs_left: Option<u32>,
+}
+
+impl Driver {
+    fn stage(&mut self, payload: &[u8]) -> Name {
+        let name = name_of(payload);
+        self.staged.insert(name, payload.to_vec());
+        name
+    }
+
+    /// Does what the die tells: whether it went well, and the name of what a read gave.
+    fn drive(&mut self, call: Call) -> (bool, Name) {
+        match call {
+            Call::Nothing => (true, Name::BLANK),
+            Call::Read { block, page, copy, .. } => {
+                let payload = self.cells[&(block, page)].clone();
+                if copy {
+                    self.stage(&payload);
+                }
+                (true, name_of(&payload))
+            }
+            Call::Program { block, page, name } => {
+                if self.programs_left == Some(0) {
+                    return (false, Name::BLANK);
+                }
+                self.programs_left = self.programs_left.map(|left| left - 1);
+                let Some(payload) = self.staged.get(&name).cloned() else { return (false, Name::BLANK) };
+                self.cells.insert((block, page), payload);
+                (true, Name::BLANK)
+            }
+            Call::Erase { block, last } => {
+                if last {
+                    self.cells.retain(|cell, _| cell.0 != block);
+                }
+                (true, Name::BLANK)
+            }
+        }
+    }
+}
+
+fn made() -> Result<(Die, Driver), Refusal> {
+    let plan = Plan { blocks: 8, pages: 4, erase_slots: 3, logical: LOGICAL, alpha: 2, caps: vec![4], times: None };
+    Ok((Die::new(&plan)?, Driver::default()))
+}
+
+/// In each round a collection and a job that writes a page and reads it back, and slots until one is idle.
+fn play(die: &mut Die, driver: &mut Driver, rounds: u32) -> Result<[u32; 7], Refusal> {
+    let (mut seed, mut acts) = (1u32, [0; 7]);
+    for round in 0..rounds {
+        seed = seed.wrapping_mul(1664525).wrapping_add(1013904223);
+        let (page, now) = (seed >> 28, die.now());
+        let payload: Payload = (0..PAYLOAD).map(|i| (round as usize + i * 7 + page as usize) as u8).collect();
+        let name = driver.stage(&payload);
+        die.collect(1, 0, now, now + 40)?;
+        let job = die.submit(1, 0, now, now + 8, &[Op::Write(page, name), Op::Read(page)])?;
+        loop {
+            let slot = die.begin(9)?;
+            let (ok, gave) = driver.drive(slot.call());
+            let act = match slot.end(ok, gave)?.act {
+                Act::Idle => break,
+                Act::Read { .. } => 1,
+                Act::Write { .. } => 2,
+                Act::Trim { .. } => 3,
+                Act::CopyRead { .. } => 4,
+                Act::CopyProgram { .. } => 5,
+                Act::Erase { .. } => 6,
+            };
+            acts[act] += 1;
+        }
+        assert!(matches!(die.outcome(job)?, Outcome::Done { reads, .. } if reads == [name]));
+    }
+    Ok(acts)
+}
+
+fn main() -> Result<(), Refusal> {
+    let (mut die, mut driver) = made()?;
+    assert_eq!(die.submit(1, 0, 0, 1, &[]), Err(Refusal::EmptyJob));
+    assert_eq!(die.submit(1, 0, 0, 1, &[Op::Trim(0), Op::Read(LOGICAL)]), Err(Refusal::BadPage { page: LOGICAL }));
+    assert_eq!(die.submit(1, 0, 0, 1, &[Op::Write(0, Name::BLANK); 5]), Err(Refusal::NoTokens { have: 4, need: 5 }));
+    println!("refusals have their numbers");
+
+    let acts = play(&mut die, &mut driver, 200)?;
+    println!("{} writes, {} reads, {} copies, {} erase slots", acts[2], acts[1], acts[5], acts[6]);
+    let (worst, certificate, rows) = (die.worst()?, die.certificate()?, die.rows()?);
+    assert_eq!((certificate.job, check(&rows, &certificate)), (worst.job, Ok(())));
+    println!(
+        "worst: job {}, lateness {}; its certificate: {} jobs fill slots {} to {}",
+        worst.job, worst.lateness, certificate.jobs.len(), certificate.start, certificate.completion
+    );
+
+    // Arrivals while a slot has begun, and a renewal.
+    let now = die.now();
+    let job = die.submit(1, 0, now, now + 1, &[Op::Read(3)])?;
+    let mut slot = die.begin(9)?;
+    assert_eq!(slot.job(), Some(job));
+    assert_eq!(slot.submit(1, 0, now, now + 1, &[Op::Read(3)]), Err(Refusal::Begun));
+    let other = slot.submit(1, 0, now + 1, now + 2, &[Op::Read(3)])?;
+    let (ok, gave) = driver.drive(slot.call());
+    slot.end(ok, gave)?;
+    assert_eq!(die.renew(), Err(Refusal::NotQuiet { job: other }));
+    let slot = die.begin(9)?;
+    let (ok, gave) = driver.drive(slot.call());
+    slot.end(ok, gave)?;
+    die.renew()?;
+    assert_eq!((die.now(), die.entries()), (0, 0));
+    println!("arrivals between begin and end, and a renewal");
+
+    // A corrupted page is never given out: its read is a fault.
+    let job = die.submit(1, 0, 0, 1, &[Op::Read(3)])?;
+    let slot = die.begin(9)?;
+    if let Call::Read { block, page, .. } = slot.call() {
+        driver.cells.get_mut(&(block, page)).expect("it is programmed")[17] ^= 1;
+    }
+    let (ok, gave) = driver.drive(slot.call());
+    assert_eq!(slot.end(ok, gave), Err(Refusal::DeviceFault));
+    assert_eq!(die.outcome(job), Err(Refusal::DeviceFault));
+    assert!(matches!(die.begin(9), Err(Refusal::DieStopped)));
+    println!("a corrupted page is a fault");
+
+    let (mut die, mut driver) = made()?;
+    driver.programs_left = Some(20);
+    assert_eq!(play(&mut die, &mut driver, 200), Err(Refusal::DeviceFault));
+    println!("a program that fails stops the die");
+
+    // So does a slot that is let go.
+    let (mut die, _) = made()?;
+    die.submit(1, 0, 0, 1, &[Op::Write(0, Name::BLANK)])?;
+    drop(die.begin(9)?);
+    assert!(matches!(die.begin(9), Err(Refusal::DieStopped)));
+    println!("a slot that is let go stops the die");
+    println!("all as it should be");
+    Ok(())
+}

@@ -1,0 +1,238 @@
+//! What goes into a die and comes out of it.
+
+use crate::raw;
+
+/// The sixteen bytes of a page: the name of a payload of any size, which the driver moves.
+#[derive(Clone, Copy, PartialEq, Eq, Debug, Hash)]
+#[repr(C)]
+pub struct Name(pub [u8; 16]);
+
+impl Name {
+    /// What a page reads as that was never written, or was trimmed since.
+    pub const BLANK: Name = Name([255; 16]);
+}
+
+impl Default for Name {
+    fn default() -> Name {
+        Name::BLANK
+    }
+}
+
+/// What a die has. [`Plan::bound`] says which plans may be used.
+#[derive(Clone, PartialEq, Eq, Debug)]
+pub struct Plan {
+    /// 2 to 1,024.
+    pub blocks: u32,
+    /// Of a block: 2 to 256.
+    pub pages: u32,
+    /// Slots that the erase of a block takes: 1 to 64.
+    pub erase_slots: u32,
+    /// Logical pages, numbered from 0: at least 1.
+    pub logical: u32,
+    /// The most pages that a collection gives its task: 1 to `pages`.
+    pub alpha: u32,
+    /// By task the most free pages that it may own tokens for, at least 1; 1 to 16 tasks.
+    pub caps: Vec<u32>,
+    /// When the tasks ask, and for how much.
+    pub times: Option<Times>,
+}
+
+/// What the tasks of a die ask for. Times are in slots.
+#[derive(Clone, PartialEq, Eq, Debug)]
+pub struct Times {
+    /// A multiple of all periods, 1 to 1,048,576.
+    pub common: u32,
+    /// One for each cap.
+    pub tasks: Vec<TaskTimes>,
+}
+
+/// What a task asks for.
+#[derive(Clone, Copy, PartialEq, Eq, Debug)]
+pub struct TaskTimes {
+    /// Its jobs come at most once in so many slots, and have as long: 1 to 1,048,576.
+    pub period: u32,
+    /// Its collections come at each multiple of this, and have as long: 1 to 1,048,576.
+    pub collect_period: u32,
+    /// The most operations of a job: 1 to 64.
+    pub work: u32,
+    /// The most writes among these.
+    pub writes: u32,
+}
+
+impl Plan {
+    pub(crate) fn raw(&self) -> (raw::Plan, Vec<raw::Task>) {
+        let Plan { blocks, pages, erase_slots, logical, alpha, ref caps, ref times } = *self;
+        let common = times.as_ref().map_or(0, |times| times.common);
+        let tasks = caps.iter().enumerate().map(|(i, &cap)| {
+            let times = times.as_ref().and_then(|times| times.tasks.get(i)).copied();
+            let none = TaskTimes { period: 0, collect_period: 0, work: 0, writes: 0 };
+            let TaskTimes { period, collect_period, work, writes } = times.unwrap_or(none);
+            raw::Task { cap, period, collect_period, work, writes }
+        });
+        (raw::Plan { blocks, pages, erase_slots, logical, alpha, common }, tasks.collect())
+    }
+}
+
+/// The most slots that the tasks ask for in each `common` ones.
+#[derive(Clone, Copy, PartialEq, Eq, Debug)]
+pub struct Load {
+    pub demand: u64,
+    pub common: u32,
+}
+
+/// An operation of a job, on a logical page.
+#[derive(Clone, Copy, PartialEq, Eq, Debug)]
+pub enum Op {
+    Read(u32),
+    Write(u32, Name),
+    Trim(u32),
+}
+
+impl Op {
+    pub(crate) fn raw(self) -> raw::Op {
+        let (kind, page, name) = match self {
+            Op::Read(page) => (0, page, Name::BLANK),
+            Op::Write(page, name) => (1, page, name),
+            Op::Trim(page) => (2, page, Name::BLANK),
+        };
+        raw::Op { kind, page, name }
+    }
+}
+
+/// What the device is to do.
+#[derive(Clone, Copy, PartialEq, Eq, Debug)]
+pub enum Call {
+    Nothing,
+    /// Read the cell, whose payload has to have this name. What a collection reads is kept until it is programmed
+    /// elsewhere, which is that collection's next call.
+    Read { block: u32, page: u32, name: Name, copy: bool },
+    /// Program the next free cell of the block with the payload of this name.
+    Program { block: u32, page: u32, name: Name },
+    /// Do one slot of the erase of the block; the last one frees its pages.
+    Erase { block: u32, last: bool },
+}
+
+impl Call {
+    pub(crate) fn of(call: &raw::Call) -> Call {
+        let raw::Call { kind, block, page, last, act, name, .. } = *call;
+        match kind {
+            1 => Call::Read { block, page, name, copy: act == 4 },
+            2 => Call::Program { block, page, name },
+            3 => Call::Erase { block, last: last == 1 },
+            _ => Call::Nothing,
+        }
+    }
+}
+
+/// What a slot did, and for which job or collection.
+#[derive(Clone, Copy, PartialEq, Eq, Debug)]
+pub enum Act {
+    Idle,
+    Read { job: u32, page: u32, name: Name },
+    Write { job: u32, page: u32, name: Name },
+    Trim { job: u32, page: u32 },
+    CopyRead { job: u32, page: u32 },
+    CopyProgram { job: u32, page: u32 },
+    Erase { job: u32, block: u32 },
+}
+
+/// A collection that was waived, and the tokens that it gave its task.
+#[derive(Clone, Copy, PartialEq, Eq, Debug)]
+pub struct Waived {
+    pub job: u32,
+    pub given: u32,
+}
+
+/// What was done in a slot.
+#[derive(Clone, PartialEq, Eq, Debug)]
+pub struct Reply {
+    pub slot: u32,
+    pub act: Act,
+    /// Whether it was the last slot of its job or collection.
+    pub finished: bool,
+    pub waived: Vec<Waived>,
+}
+
+impl Reply {
+    pub(crate) fn of(told: &raw::Reply, waived: &[raw::Waived]) -> Reply {
+        let raw::Reply { slot, act, job, page, finished, waived: count, name } = *told;
+        Reply {
+            slot,
+            act: match act {
+                1 => Act::Read { job, page, name },
+                2 => Act::Write { job, page, name },
+                3 => Act::Trim { job, page },
+                4 => Act::CopyRead { job, page },
+                5 => Act::CopyProgram { job, page },
+                6 => Act::Erase { job, block: page },
+                _ => Act::Idle,
+            },
+            finished: finished == 1,
+            waived: waived[..(count as usize).min(waived.len())]
+                .iter()
+                .map(|w| Waived { job: w.job, given: w.given })
+                .collect(),
+        }
+    }
+}
+
+/// What a job or a collection was accepted with.
+#[derive(Clone, Copy, PartialEq, Eq, Debug)]
+pub struct Job {
+    pub collects: bool,
+    pub task: u32,
+    pub release: u32,
+    pub due: u32,
+}
+
+/// What became of a job or a collection.
+#[derive(Clone, PartialEq, Eq, Debug)]
+pub enum Outcome {
+    Waiting,
+    /// `completion` is 1 + its last slot, `lateness` that minus its due, `given` the tokens that a collection gave.
+    Done { completion: u32, lateness: i64, given: u32, reads: Vec<Name> },
+    Waived { given: u32 },
+}
+
+/// The done job or collection with the greatest lateness.
+#[derive(Clone, Copy, PartialEq, Eq, Debug)]
+pub struct Worst {
+    pub job: u32,
+    pub lateness: i64,
+}
+
+/// Jobs that fill the slots from `start` to `completion`, none released before `start` and none due after `due`. So in
+/// every schedule of them one is at least `completion - due` late.
+#[derive(Clone, PartialEq, Eq, Debug)]
+pub struct Certificate {
+    pub job: u32,
+    pub start: u32,
+    pub due: u32,
+    pub completion: u32,
+    pub jobs: Vec<u32>,
+}
+
+/// What is known of a job or of a collection that wasn't waived.
+#[derive(Clone, Copy, PartialEq, Eq, Debug)]
+pub struct Row {
+    pub number: u32,
+    pub release: u32,
+    pub due: u32,
+    /// How many slots carried it so far.
+    pub work: u32,
+    /// 1 + its last slot, once it is done.
+    pub completion: Option<u32>,
+}
+
+impl Row {
+    pub(crate) fn raw(&self) -> raw::Row {
+        let Row { number, release, due, work, completion } = *self;
+        let done = u32::from(completion.is_some());
+        raw::Row { number, release, due, work, done, completion: completion.unwrap_or(0) }
+    }
+
+    pub(crate) fn of(row: &raw::Row) -> Row {
+        let raw::Row { number, release, due, work, done, completion } = *row;
+        Row { number, release, due, work, completion: (done != 0).then_some(completion) }
+    }
+}

@@ -1,0 +1,260 @@
+//! A die, and a slot that has begun.
+
+use crate::data::{Call, Certificate, Job, Load, Name, Op, Outcome, Plan, Reply, Row, Worst};
+use crate::raw;
+use crate::refusals::{answer, Refusal};
+use std::cell::UnsafeCell;
+use std::marker::PhantomData;
+use std::ops::Deref;
+
+const NO_NUMBERS: raw::Why = raw::Why { first: 0, second: 0 };
+
+/// What a call answered that has no numbers.
+fn plain(code: u32) -> Result<(), Refusal> {
+    answer(code, &NO_NUMBERS)
+}
+
+impl Plan {
+    /// Whether [`Die::new`] takes the plan: `BadShape`, `BadPlan` or `NoMemory` where it doesn't.
+    pub fn bound(&self) -> Result<(), Refusal> {
+        let (plan, tasks) = self.raw();
+        // SAFETY: each pointer comes from a reference, and the count is the slice's.
+        plain(unsafe { raw::flash_plan_bound(&plan, tasks.as_ptr(), tasks.len()) })
+    }
+
+    /// Tests a plan with times: where it passes, nothing that it lets its tasks ask is refused or late.
+    pub fn test(&self) -> Result<Load, Refusal> {
+        if self.times.as_ref().is_some_and(|times| times.tasks.len() != self.caps.len()) {
+            return Err(Refusal::BadPlan);
+        }
+        let (plan, tasks) = self.raw();
+        let mut load = raw::Load::default();
+        // SAFETY: as in `bound`.
+        plain(unsafe { raw::flash_plan_test(&plan, tasks.as_ptr(), tasks.len(), &mut load) })?;
+        Ok(Load { demand: load.demand, common: load.common })
+    }
+}
+
+/// Whether a certificate holds for these rows: `Certificate` with its first flaw where it doesn't, `RowsNotRising` where a
+/// row's number isn't above the one before.
+pub fn check(rows: &[Row], certificate: &Certificate) -> Result<(), Refusal> {
+    let rows: Vec<raw::Row> = rows.iter().map(Row::raw).collect();
+    let Certificate { job, start, due, completion, ref jobs } = *certificate;
+    let given = raw::Certificate { job, start, due, completion, jobs: 0 };
+    // SAFETY: each pointer comes from a reference, and each count is its slice's.
+    plain(unsafe { raw::flash_check(rows.as_ptr(), rows.len(), &given, jobs.as_ptr(), jobs.len()) })
+}
+
+/// One die. It belongs to one thread.
+pub struct Die {
+    // It is full from `new` to `drop`. Questions fill and empty it, too.
+    handle: UnsafeCell<raw::Handle>,
+    stays: PhantomData<*mut ()>,
+}
+
+impl Die {
+    /// A die at slot 0, of a chip that is erased. `BadShape`, `BadPlan` or `NoMemory` where it is refused.
+    pub fn new(plan: &Plan) -> Result<Die, Refusal> {
+        // SAFETY: it takes nothing.
+        assert_eq!(unsafe { raw::flash_version() }, 1, "another version of libflash_c");
+        let (plan, tasks) = plan.raw();
+        let mut handle = raw::Handle::EMPTY;
+        // SAFETY: the handle is empty, and stays so where this is refused.
+        plain(unsafe { raw::flash_new(&mut handle, &plan, tasks.as_ptr(), tasks.len()) })?;
+        Ok(Die { handle: UnsafeCell::new(handle), stays: PhantomData })
+    }
+
+    /// The handle. It is full, and no other call uses it: a die isn't `Sync`, and no call of the library calls back.
+    fn at(&self) -> *mut raw::Handle {
+        self.handle.get()
+    }
+
+    /// Accepts a job of 1 to 64 operations, and answers its number. Refused, where nothing changes, with the first that
+    /// stands: `DieStopped`, `UnknownTask`, `EmptyJob`, `TooManyOps`, `BadPage`, `ReleasePast`, `BadDue`, `JobsFull`,
+    /// `NoTokens`, `NoMemory`.
+    pub fn submit(&mut self, caller: u32, task: u32, release: u32, due: u32, ops: &[Op]) -> Result<u32, Refusal> {
+        let ops: Vec<raw::Op> = ops.iter().map(|op| op.raw()).collect();
+        let (mut number, mut why) = (0, NO_NUMBERS);
+        // SAFETY: the handle is full, as in each call below, and the pointers come from references.
+        let code = unsafe {
+            raw::flash_submit(
+                self.at(), caller, task, release, due, ops.as_ptr(), ops.len(), &mut number, &mut why,
+            )
+        };
+        answer(code, &why).map(|()| number)
+    }
+
+    /// Accepts a collection for the task, and answers its number. Refused, where nothing changes, with the first that
+    /// stands: `DieStopped`, `UnknownTask`, `ReleasePast`, `BadDue`, `CollectorBusy`, `JobsFull`, `NoMemory`.
+    pub fn collect(&mut self, caller: u32, task: u32, release: u32, due: u32) -> Result<u32, Refusal> {
+        let (mut number, mut why) = (0, NO_NUMBERS);
+        let code = unsafe { raw::flash_collect(self.at(), caller, task, release, due, &mut number, &mut why) };
+        answer(code, &why).map(|()| number)
+    }
+
+    /// Begins the present slot. Refused, where nothing changes, with the first that stands: `DieStopped`, `ClockEnd`,
+    /// `NoMemory`, which never comes while slots are reserved.
+    pub fn begin(&mut self, caller: u32) -> Result<Slot<'_>, Refusal> {
+        let mut call = raw::Call::default();
+        plain(unsafe { raw::flash_begin(self.at(), caller, &mut call) })?;
+        Ok(Slot { die: self, call, ended: false })
+    }
+
+    /// Takes the memory for so many later slots, which then take none. `NoMemory` where it isn't there.
+    pub fn reserve(&mut self, slots: u32) -> Result<(), Refusal> {
+        plain(unsafe { raw::flash_reserve(self.at(), slots) })
+    }
+
+    /// Starts the log anew: the present slot is 0 again, and jobs are numbered from 0. Pages, tokens, erases and reserved
+    /// slots stay. Refused with the first that stands: `DieStopped`, `NotQuiet`, `WornOut`.
+    pub fn renew(&mut self) -> Result<(), Refusal> {
+        let mut why = NO_NUMBERS;
+        let code = unsafe { raw::flash_renew(self.at(), &mut why) };
+        answer(code, &why)
+    }
+
+    /// The present slot: how many were carried out.
+    pub fn now(&self) -> u32 {
+        unsafe { raw::flash_now(self.at()) }
+    }
+
+    /// How many entries the log has: jobs and collections accepted, and slots.
+    pub fn entries(&self) -> u64 {
+        unsafe { raw::flash_len(self.at()) }
+    }
+
+    /// How many records these take in memory: stretches of alike entries.
+    pub fn records(&self) -> u64 {
+        unsafe { raw::flash_records(self.at()) }
+    }
+
+    /// What a job or a collection was accepted with. `UnknownJob` where there is none of that number.
+    pub fn job(&self, number: u32) -> Result<Job, Refusal> {
+        let mut told = raw::Job::default();
+        plain(unsafe { raw::flash_job(self.at(), number, &mut told) })?;
+        let raw::Job { collects, task, release, due } = told;
+        Ok(Job { collects: collects == 1, task, release, due })
+    }
+
+    /// What became of a job or a collection. `Begun`, `DeviceFault` of the one whose slot has begun, or has failed; else
+    /// `UnknownJob`, `NoMemory`.
+    pub fn outcome(&self, job: u32) -> Result<Outcome, Refusal> {
+        let mut told = raw::Outcome::default();
+        let mut reads = [Name::BLANK; 64]; // a job has 64 operations at most
+        plain(unsafe { raw::flash_outcome(self.at(), job, &mut told, reads.as_mut_ptr(), reads.len()) })?;
+        let raw::Outcome { lateness, state, completion, given, reads: count } = told;
+        Ok(match state {
+            0 => Outcome::Waiting,
+            1 => Outcome::Done { completion, lateness, given, reads: reads[..count as usize].to_vec() },
+            _ => Outcome::Waived { given },
+        })
+    }
+
+    /// The done job or collection with the greatest lateness. `NothingDone`.
+    pub fn worst(&self) -> Result<Worst, Refusal> {
+        let mut told = raw::Worst::default();
+        plain(unsafe { raw::flash_worst(self.at(), &mut told) })?;
+        Ok(Worst { job: told.job, lateness: told.lateness })
+    }
+
+    /// The certificate of the worst. `NothingDone`, `NoMemory`.
+    pub fn certificate(&self) -> Result<Certificate, Refusal> {
+        let mut jobs = vec![0; 64];
+        loop {
+            let mut told = raw::Certificate::default();
+            plain(unsafe { raw::flash_certificate(self.at(), &mut told, jobs.as_mut_ptr(), jobs.len()) })?;
+            let raw::Certificate { job, start, due, completion, jobs: count } = told;
+            if count as usize <= jobs.len() {
+                jobs.truncate(count as usize);
+                return Ok(Certificate { job, start, due, completion, jobs });
+            }
+            jobs.resize(count as usize, 0);
+        }
+    }
+
+    /// The rows of all jobs and collections but the waived ones, by number: what [`check`] reads. `NoMemory`.
+    pub fn rows(&self) -> Result<Vec<Row>, Refusal> {
+        let mut rows = vec![raw::Row::default(); 64];
+        loop {
+            let mut total = 0;
+            plain(unsafe { raw::flash_rows(self.at(), rows.as_mut_ptr(), rows.len(), &mut total) })?;
+            if total as usize <= rows.len() {
+                return Ok(rows[..total as usize].iter().map(Row::of).collect());
+            }
+            rows.resize(total as usize, raw::Row::default());
+        }
+    }
+}
+
+impl Drop for Die {
+    fn drop(&mut self) {
+        // SAFETY: the handle is full, and isn't used again.
+        unsafe { raw::flash_free(self.at()) }
+    }
+}
+
+/// A slot that has begun. It derefs to the die for questions, which count it; of its job or collection `outcome` answers
+/// `Begun`.
+///
+/// One that is let go without an end is ended as a fault, which stops the die if the device was to do something.
+pub struct Slot<'a> {
+    die: &'a mut Die,
+    call: raw::Call,
+    ended: bool,
+}
+
+impl Slot<'_> {
+    /// What the device is to do.
+    pub fn call(&self) -> Call {
+        Call::of(&self.call)
+    }
+
+    /// The job or collection that has the slot, if one has it.
+    pub fn job(&self) -> Option<u32> {
+        (self.call.act != 0).then_some(self.call.job)
+    }
+
+    /// As [`Die::submit`], of a job whose release is above this slot; `Begun` of another one. It comes behind this slot.
+    pub fn submit(&mut self, caller: u32, task: u32, release: u32, due: u32, ops: &[Op]) -> Result<u32, Refusal> {
+        self.die.submit(caller, task, release, due, ops)
+    }
+
+    /// As [`Die::collect`], of a collection whose release is above this slot; `Begun` of another one. It comes behind this
+    /// slot.
+    pub fn collect(&mut self, caller: u32, task: u32, release: u32, due: u32) -> Result<u32, Refusal> {
+        self.die.collect(caller, task, release, due)
+    }
+
+    /// Ends the slot: whether the device did the call, and the name of what it read, if it read. `DeviceFault` where it
+    /// failed, or a read gave another name than its cell was programmed with: the die is stopped then, and what the slot did
+    /// is never told.
+    pub fn end(mut self, ok: bool, name: Name) -> Result<Reply, Refusal> {
+        self.ended = true;
+        self.finish(ok, name)
+    }
+
+    fn finish(&mut self, ok: bool, name: Name) -> Result<Reply, Refusal> {
+        let mut told = raw::Reply::default();
+        let mut waived = [raw::Waived::default(); 16]; // one a task at most
+        plain(unsafe {
+            raw::flash_end(self.die.at(), u32::from(ok), &name, &mut told, waived.as_mut_ptr(), waived.len())
+        })?;
+        Ok(Reply::of(&told, &waived))
+    }
+}
+
+impl Deref for Slot<'_> {
+    type Target = Die;
+
+    fn deref(&self) -> &Die {
+        self.die
+    }
+}
+
+impl Drop for Slot<'_> {
+    fn drop(&mut self) {
+        if !self.ended {
+            let _ = self.finish(false, Name::BLANK);
+        }
+    }
+}

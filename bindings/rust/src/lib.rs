@@ -1,0 +1,58 @@
+//! A die of a proved flash translation layer with deadlines.
+//!
+//! A slot goes in two steps. [`Die::begin`] chooses what the slot carries and tells the one call of the device that it
+//! needs, the driver does it, and [`Slot::end`] takes what the device answered. A device that failed, or that gave another
+//! name than the cell was programmed with, stops the die for good.
+//!
+//! ```
+//! use flash::{Call, Die, Name, Op, Plan};
+//!
+//! # fn main() -> Result<(), flash::Refusal> {
+//! let plan = Plan { blocks: 8, pages: 4, erase_slots: 3, logical: 16, alpha: 2, caps: vec![4], times: None };
+//! let mut die = Die::new(&plan)?;
+//! let mut chip = [[Name::BLANK; 4]; 8];
+//! // a job of task 0, to run from slot 0 on and to be done by slot 2: it writes page 5 and reads it back
+//! let job = die.submit(9, 0, 0, 2, &[Op::Write(5, Name([7; 16])), Op::Read(5)])?;
+//! for _ in 0..2 {
+//!     let slot = die.begin(9)?;
+//!     let gave = match slot.call() {
+//!         Call::Read { block, page, .. } => chip[block as usize][page as usize],
+//!         Call::Program { block, page, name } => { chip[block as usize][page as usize] = name; name }
+//!         Call::Erase { .. } | Call::Nothing => Name::BLANK,
+//!     };
+//!     slot.end(true, gave)?;
+//! }
+//! assert_eq!(die.worst()?.lateness, 0);
+//! assert!(matches!(die.outcome(job)?, flash::Outcome::Done { reads, .. } if reads == [Name([7; 16])]));
+//! # Ok(())
+//! # }
+//! ```
+//!
+//! A die can be neither copied nor used by two threads; the compiler sees to it:
+//!
+//! ```compile_fail
+//! # let plan = flash::Plan { blocks: 8, pages: 4, erase_slots: 3, logical: 16, alpha: 2, caps: vec![4], times: None };
+//! let die = flash::Die::new(&plan).unwrap();
+//! std::thread::spawn(move || die.now());
+//! ```
+//!
+//! While a slot has begun, the die is lent to it: what may arrive then goes through the [`Slot`].
+//!
+//! ```compile_fail
+//! # let plan = flash::Plan { blocks: 8, pages: 4, erase_slots: 3, logical: 16, alpha: 2, caps: vec![4], times: None };
+//! let mut die = flash::Die::new(&plan).unwrap();
+//! let slot = die.begin(9).unwrap();
+//! die.begin(9).unwrap();
+//! slot.end(true, flash::Name::BLANK).unwrap();
+//! ```
+
+mod data;
+mod die;
+mod raw;
+mod refusals;
+
+pub use data::{
+    Act, Call, Certificate, Job, Load, Name, Op, Outcome, Plan, Reply, Row, TaskTimes, Times, Waived, Worst,
+};
+pub use die::{check, Die, Slot};
+pub use refusals::{Flaw, Refusal};

@@ -1,0 +1,70 @@
+//! The structs and functions of flash.h, which says what each means.
+
+use crate::Name;
+use std::ffi::c_void;
+use std::ptr::null_mut;
+
+#[repr(C)]
+pub struct Handle {
+    at: *mut c_void,
+}
+
+impl Handle {
+    pub const EMPTY: Handle = Handle { at: null_mut() };
+}
+
+macro_rules! structs {
+    ($($name:ident { $($field:ident: $type:ty),* })*) => { $(
+        #[derive(Clone, Copy, Default)]
+        #[repr(C)]
+        pub struct $name { $(pub $field: $type),* }
+    )* };
+}
+
+structs! {
+    Plan { blocks: u32, pages: u32, erase_slots: u32, logical: u32, alpha: u32, common: u32 }
+    Task { cap: u32, period: u32, collect_period: u32, work: u32, writes: u32 }
+    Load { demand: u64, common: u32 }
+    Why { first: u32, second: u32 }
+    Op { kind: u32, page: u32, name: Name }
+    Call { kind: u32, block: u32, page: u32, last: u32, slot: u32, act: u32, job: u32, name: Name }
+    Reply { slot: u32, act: u32, job: u32, page: u32, finished: u32, waived: u32, name: Name }
+    Waived { job: u32, given: u32 }
+    Job { collects: u32, task: u32, release: u32, due: u32 }
+    Outcome { lateness: i64, state: u32, completion: u32, given: u32, reads: u32 }
+    Worst { lateness: i64, job: u32 }
+    Certificate { job: u32, start: u32, due: u32, completion: u32, jobs: u32 }
+    Row { number: u32, release: u32, due: u32, work: u32, done: u32, completion: u32 }
+}
+
+extern "C" {
+    pub fn flash_version() -> u32;
+    pub fn flash_plan_bound(plan: *const Plan, tasks: *const Task, count: usize) -> u32;
+    pub fn flash_plan_test(plan: *const Plan, tasks: *const Task, count: usize, load: *mut Load) -> u32;
+    pub fn flash_new(die: *mut Handle, plan: *const Plan, tasks: *const Task, count: usize) -> u32;
+    pub fn flash_free(die: *mut Handle);
+    pub fn flash_submit(
+        die: *mut Handle, caller: u32, task: u32, release: u32, due: u32, ops: *const Op, count: usize,
+        number: *mut u32, why: *mut Why,
+    ) -> u32;
+    pub fn flash_collect(
+        die: *mut Handle, caller: u32, task: u32, release: u32, due: u32, number: *mut u32, why: *mut Why,
+    ) -> u32;
+    pub fn flash_begin(die: *mut Handle, caller: u32, call: *mut Call) -> u32;
+    pub fn flash_end(
+        die: *mut Handle, ok: u32, name: *const Name, reply: *mut Reply, waived: *mut Waived, count: usize,
+    ) -> u32;
+    pub fn flash_reserve(die: *mut Handle, slots: u32) -> u32;
+    pub fn flash_renew(die: *mut Handle, why: *mut Why) -> u32;
+    pub fn flash_now(die: *mut Handle) -> u32;
+    pub fn flash_len(die: *mut Handle) -> u64;
+    pub fn flash_records(die: *mut Handle) -> u64;
+    pub fn flash_job(die: *mut Handle, number: u32, job: *mut Job) -> u32;
+    pub fn flash_outcome(die: *mut Handle, job: u32, outcome: *mut Outcome, reads: *mut Name, count: usize) -> u32;
+    pub fn flash_worst(die: *mut Handle, worst: *mut Worst) -> u32;
+    pub fn flash_certificate(die: *mut Handle, certificate: *mut Certificate, jobs: *mut u32, count: usize) -> u32;
+    pub fn flash_rows(die: *mut Handle, rows: *mut Row, count: usize, total: *mut u32) -> u32;
+    pub fn flash_check(
+        rows: *const Row, row_count: usize, certificate: *const Certificate, jobs: *const u32, count: usize,
+    ) -> u32;
+}

@@ -1,0 +1,119 @@
+//! Why a call is refused.
+
+use crate::raw;
+use std::fmt;
+
+/// Why a call is refused, or what is wrong with a certificate.
+#[derive(Clone, Copy, PartialEq, Eq, Debug)]
+#[non_exhaustive]
+pub enum Refusal {
+    /// Memory was asked for and not had; the call may be made again.
+    NoMemory,
+    /// Blocks, pages or erase slots out of their limits.
+    BadShape,
+    /// Another number of a plan out of its limits, or the plan's bound isn't met.
+    BadPlan,
+    UnknownTask,
+    /// A job without an operation.
+    EmptyJob,
+    /// A job of more than 64 operations.
+    TooManyOps,
+    /// An operation on a page that the die doesn't have: the first such.
+    BadPage { page: u32 },
+    /// A release below the present slot.
+    ReleasePast { now: u32 },
+    /// A due that isn't above its release, or is above 1,048,576.
+    BadDue,
+    /// 65,536 jobs and collections were accepted since the die was new or was renewed.
+    JobsFull,
+    /// A job of more writes than its task has tokens.
+    NoTokens { have: u32, need: u32 },
+    /// The task has a collection that is neither done nor waived.
+    CollectorBusy,
+    /// The present slot is 1,048,576.
+    ClockEnd,
+    /// The device failed in this slot, or gave another name than its cell was programmed with.
+    DeviceFault,
+    /// The device failed before; the die answers questions, and nothing else.
+    DieStopped,
+    /// No job or collection of this number.
+    UnknownJob,
+    /// A slot has begun that isn't below the release.
+    Begun,
+    /// No job or collection is done yet.
+    NothingDone,
+    /// Rows whose numbers don't rise.
+    RowsNotRising,
+    /// A job or collection is neither done nor waived: the one that is carried next.
+    NotQuiet { job: u32 },
+    /// A block was erased too often for a life more: the first such.
+    WornOut { block: u32 },
+    /// What is wrong with a certificate first.
+    Certificate(Flaw),
+    /// A number that flash.h doesn't have.
+    Other(u32),
+}
+
+/// What is wrong with a certificate.
+#[derive(Clone, Copy, PartialEq, Eq, Debug)]
+pub enum Flaw {
+    /// It lists no job.
+    Empty,
+    /// A listed number isn't above the one before.
+    NotRising,
+    /// A listed number has no row.
+    UnknownJob,
+    /// A listed job isn't done, or no slot carried it.
+    Unfinished,
+    /// A listed job was released before the certificate's start.
+    EarlyRelease,
+    /// A listed job is due after the certificate's due.
+    LateDue,
+    /// The work of the listed jobs isn't the number of slots from start to completion.
+    WrongSum,
+}
+
+/// What a call answered, by its number.
+pub(crate) fn answer(code: u32, why: &raw::Why) -> Result<(), Refusal> {
+    use Refusal::*;
+    Err(match code {
+        0 => return Ok(()),
+        1 => NoMemory,
+        2 => BadShape,
+        3 => BadPlan,
+        5 => UnknownTask,
+        6 => EmptyJob,
+        7 => TooManyOps,
+        8 => BadPage { page: why.first },
+        9 => ReleasePast { now: why.first },
+        10 => BadDue,
+        11 => JobsFull,
+        12 => NoTokens { have: why.first, need: why.second },
+        13 => CollectorBusy,
+        14 => ClockEnd,
+        15 => DeviceFault,
+        16 => DieStopped,
+        17 => UnknownJob,
+        100 => Begun,
+        103 => NothingDone,
+        104 => RowsNotRising,
+        105 => NotQuiet { job: why.first },
+        106 => WornOut { block: why.first },
+        201 => Certificate(Flaw::Empty),
+        202 => Certificate(Flaw::NotRising),
+        203 => Certificate(Flaw::UnknownJob),
+        204 => Certificate(Flaw::Unfinished),
+        205 => Certificate(Flaw::EarlyRelease),
+        206 => Certificate(Flaw::LateDue),
+        207 => Certificate(Flaw::WrongSum),
+        other => Other(other),
+    })
+}
+
+impl fmt::Display for Refusal {
+    fn fmt(&self, f: &mut fmt::Formatter<'_>) -> fmt::Result {
+        write!(f, "{self:?}")
+    }
+}
+
+impl std::error::Error for Refusal {}

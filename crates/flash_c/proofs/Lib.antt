@@ -1,0 +1,4 @@
+pub mod LooseValues
+pub mod HandleSteps
+pub mod Filling
+pub mod Verdicts

@@ -1,0 +1,10 @@
+pub mod Handles
+pub mod Codes
+pub mod Counts
+pub mod Names
+pub mod Plans
+pub mod Slots
+pub mod Lists
+pub mod Told
+pub mod Texts
+pub mod Answers

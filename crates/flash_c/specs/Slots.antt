@@ -1,0 +1,84 @@
+-- Calls of the device and replies as C has them.
+use Rattle.std.specs.Prelude.{ℕ, Bool, true, false, List, length, Option, Some, None, is_some}
+use Rattle.slot_types.specs.declared.acts.Act.{Act}
+use Rattle.slot_types.specs.declared.acts.Act.TheVariants as does
+use Rattle.slot_types.specs.declared.replies.SlotReply.{SlotReply}
+use Rattle.slot_types.specs.declared.replies.Waived.{Waived}
+use Rattle.stepped_die.specs.declared.calls.Begun.{Begun}
+use Rattle.stepped_die.specs.declared.calls.Call.{Call}
+use Rattle.stepped_die.specs.declared.calls.Call.TheVariants as calls
+use Rattle.flash_c.specs.declared.slots.Shown.{Shown}
+use Rattle.flash_c.specs.declared.shapes.FlashCall.{FlashCall}
+use Rattle.flash_c.specs.declared.shapes.FlashReply.{FlashReply}
+use Rattle.flash_c.specs.declared.shapes.FlashWaived.{FlashWaived}
+use Rattle.flash_c.specs.Counts.{count_of, flag}
+use Rattle.flash_c.specs.Names.{name_of, no_name}
+
+-- what an act shows: its number, its page or block, and the name that it read or wrote
+abbrev pub act_shown : Act → Shown
+act_shown (does.Read page bytes) = record { act = 1; page = page; name = name_of bytes }
+act_shown (does.Write page bytes) = record { act = 2; page = page; name = name_of bytes }
+act_shown (does.Trim page) = record { act = 3; page = page; name = no_name }
+act_shown (does.CopyRead page) = record { act = 4; page = page; name = no_name }
+act_shown (does.CopyProgram page) = record { act = 5; page = page; name = no_name }
+act_shown (does.Erase block) = record { act = 6; page = block; name = no_name }
+
+-- who had the slot, and what it did; an idle slot is 0, without a job
+abbrev pub job_in : Option (ℕ × Act) → ℕ
+job_in None = 0
+job_in (Some ran) = ran.0
+
+abbrev pub shown_of : Option (ℕ × Act) → Shown
+shown_of None = record { act = 0; page = 0; name = no_name }
+shown_of (Some ran) = act_shown ran.1
+
+abbrev pub reply_of : SlotReply → FlashReply
+reply_of reply = let did = shown_of reply.ran in record {
+  slot = reply.slot;
+  act = did.act;
+  job = job_in reply.ran;
+  page = did.page;
+  finished = flag (is_some reply.finished);
+  waived = count_of (length reply.waived);
+  name = did.name;
+}
+
+abbrev pub waived_of : Waived → FlashWaived
+waived_of waived = record { job = waived.number; given = waived.given }
+
+-- what the device is told: its kind, the cell or block, and the name
+abbrev pub call_by : ℕ → ℕ → ℕ → Option Call → FlashCall
+call_by slot act job None = record { kind = 0; block = 0; page = 0; last = 0; slot = slot; act = act; job = job; name = no_name }
+call_by slot act job (Some (calls.Read place bytes)) = record {
+  kind = 1;
+  block = place.block;
+  page = place.page;
+  last = 0;
+  slot = slot;
+  act = act;
+  job = job;
+  name = name_of bytes;
+}
+call_by slot act job (Some (calls.Program place bytes)) = record {
+  kind = 2;
+  block = place.block;
+  page = place.page;
+  last = 0;
+  slot = slot;
+  act = act;
+  job = job;
+  name = name_of bytes;
+}
+call_by slot act job (Some (calls.Erase block last)) = record {
+  kind = 3;
+  block = block;
+  page = 0;
+  last = flag last;
+  slot = slot;
+  act = act;
+  job = job;
+  name = no_name;
+}
+
+abbrev pub call_of : Begun → FlashCall
+call_of begun = call_by begun.slot (shown_of begun.runs).act (job_in begun.runs) begun.call

@@ -1,0 +1,18 @@
+//! A die of the store for C. Each function answers 0, or the number of a refusal, and writes through none of its other
+//! pointers where it is refused.
+#![tactic(auto)]
+
+pub mod audits;
+pub mod codes;
+mod counts;
+pub mod exports;
+pub mod handles;
+mod lists;
+mod loose;
+mod names;
+mod plans;
+pub mod queries;
+pub mod shapes;
+mod slots;
+mod texts;
+mod told;

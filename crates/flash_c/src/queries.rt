@@ -1,0 +1,206 @@
+//! What a die is asked. A question leaves the die as it is.
+
+ghost use Rattle.std.specs.Prelude.{◌≡◌, ◌≢◌, ◌↔◌, None, Some, length, IsSomeAnd};
+ghost use Rattle.event_log.specs.Alike.{records};
+ghost use Rattle.die_log.specs.Log.{now, job_at};
+ghost use Rattle.die_log.specs.Rows.{rows, certificate};
+ghost use Rattle.slot_core.specs.Outcomes.{outcome_at, head_at, worst_of};
+ghost use Rattle.stepped_die.specs.Stepped.{Stepped};
+ghost use Rattle.flash_c.specs.Counts.{count_of};
+ghost use Rattle.flash_c.specs.Lists.{filled};
+ghost use Rattle.flash_c.specs.Names.{name_of};
+ghost use Rattle.flash_c.specs.Told as tells;
+
+use crate::codes::{NOTHING_DONE, OK, of_refusal, of_step};
+use crate::counts::count_of;
+use crate::handles::{Handle, put, take};
+use crate::lists::{put_jobs, put_names, put_rows};
+use crate::shapes::{FlashCertificate, FlashJob, FlashName, FlashOutcome, FlashRow, FlashWorst};
+use crate::told::{certificate_of, job_of, outcome_of, worst_of};
+use slot_core::Outcome;
+use slot_types::JobNo;
+use std::alloc::Global;
+
+/// The present slot.
+#[unsafe(no_mangle)]
+pub extern "C" fn flash_now(alloc: Global, die: &mut Handle) -> u32
+    ghost held: { Stepped }
+    requires full { die.old.value ≡ Some held }
+    ensures same { die.new.value ≡ Some held }
+    ensures now { result ≡ now held.core.log }
+{
+    let boxed = take(alloc, die);
+    let now = boxed.core().now();
+    put(die, boxed);
+    now
+}
+
+/// How many entries the log has.
+#[unsafe(no_mangle)]
+pub extern "C" fn flash_len(alloc: Global, die: &mut Handle) -> u64
+    ghost held: { Stepped }
+    requires full { die.old.value ≡ Some held }
+    ensures same { die.new.value ≡ Some held }
+    ensures len { result ≡ length held.core.log }
+{
+    let boxed = take(alloc, die);
+    let len = boxed.core().len();
+    put(die, boxed);
+    len
+}
+
+/// How many records the log takes.
+#[unsafe(no_mangle)]
+pub extern "C" fn flash_records(alloc: Global, die: &mut Handle) -> u64
+    ghost held: { Stepped }
+    requires full { die.old.value ≡ Some held }
+    ensures same { die.new.value ≡ Some held }
+    ensures records { result ≡ records held.core.log }
+{
+    let boxed = take(alloc, die);
+    let records = boxed.core().records();
+    put(die, boxed);
+    records
+}
+
+/// What a job or a collection was accepted with.
+#[unsafe(no_mangle)]
+pub extern "C" fn flash_job(alloc: Global, die: &mut Handle, number: u32, job: &mut FlashJob) -> u32
+    ghost held: { Stepped }
+    requires full { die.old.value ≡ Some held }
+    ensures same { die.new.value ≡ Some held }
+    ensures told { result ≡ 0 → IsSomeAnd (head_at held.core.log number) (λ head. job.new ≡ tells.job_of head) }
+    ensures unknown { result ≢ 0 → (result ≡ 17) × (job_at held.core.log number ≡ None) × (job.new ≡ job.old) }
+{
+    let boxed = take(alloc, die);
+    let told = boxed.core().job(JobNo(number));
+    put(die, boxed);
+    match told {
+        Ok(head) => {
+            *job = job_of(head);
+            OK
+        }
+        Err(refusal) => of_refusal(refusal),
+    }
+}
+
+/// What became of a job or a collection; what its reads gave goes into `reads`, as far as there is room.
+#[unsafe(no_mangle)]
+pub extern "C" fn flash_outcome(
+    alloc: Global,
+    die: &mut Handle,
+    job: u32,
+    outcome: &mut FlashOutcome,
+    reads: &mut [FlashName],
+) -> u32
+    ghost held: { Stepped }
+    requires full { die.old.value ≡ Some held }
+    ensures same { die.new.value ≡ Some held }
+    ensures told { result ≡ 0 → IsSomeAnd (outcome_at held.core.start held.core.log job) (λ told. outcome.new ≡ tells.outcome_of told) }
+    ensures reads { result ≡ 0 → IsSomeAnd (outcome_at held.core.start held.core.log job) (λ told.
+        reads.new ≡ filled name_of reads.old (tells.reads_in told)) }
+    ensures silent { result ≢ 0 → (outcome.new ≡ outcome.old) × (reads.new ≡ reads.old) }
+{
+    let boxed = take(alloc, die);
+    let told = boxed.outcome(alloc, JobNo(job));
+    put(die, boxed);
+    match told {
+        Ok(told) => {
+            put_reads(reads, &told);
+            *outcome = outcome_of(&told);
+            OK
+        }
+        Err(refusal) => of_step(refusal),
+    }
+}
+
+/// Puts what reads gave into place, as far as there is room.
+fn put_reads(places: &mut [FlashName], outcome: &Outcome)
+    ensures { places.new ≡ filled name_of places.old (tells.reads_in outcome.now) }
+{
+    match outcome {
+        Outcome::Done { reads, .. } => put_names(places, reads.as_slice()),
+        _ => put_names(places, &[]),
+    }
+}
+
+/// The done job or collection with the greatest lateness.
+#[unsafe(no_mangle)]
+pub extern "C" fn flash_worst(alloc: Global, die: &mut Handle, worst: &mut FlashWorst) -> u32
+    ghost held: { Stepped }
+    requires full { die.old.value ≡ Some held }
+    ensures same { die.new.value ≡ Some held }
+    ensures told { result ≡ 0 → IsSomeAnd (worst_of held.core.start.plan held.core.log) (λ found. worst.new ≡ tells.worst_of found) }
+    ensures nothing { result ≢ 0 → (result ≡ 103) × (worst_of held.core.start.plan held.core.log ≡ None) × (worst.new ≡ worst.old) }
+{
+    let boxed = take(alloc, die);
+    let told = boxed.core().worst();
+    put(die, boxed);
+    match told {
+        None => NOTHING_DONE,
+        Some(found) => {
+            *worst = worst_of(found);
+            OK
+        }
+    }
+}
+
+/// The certificate of the worst job or collection; its jobs go into `jobs`, as far as there is room.
+#[unsafe(no_mangle)]
+pub extern "C" fn flash_certificate(
+    alloc: Global,
+    die: &mut Handle,
+    told: &mut FlashCertificate,
+    jobs: &mut [u32],
+) -> u32
+    ghost held: { Stepped }
+    requires full { die.old.value ≡ Some held }
+    ensures same { die.new.value ≡ Some held }
+    ensures told { result ≡ 0 → IsSomeAnd (certificate held.core.start.plan held.core.log) (λ built.
+        told.new ≡ tells.certificate_of built) }
+    ensures jobs { result ≡ 0 → IsSomeAnd (certificate held.core.start.plan held.core.log) (λ built.
+        jobs.new ≡ filled tells.number_in jobs.old built.jobs) }
+    ensures nothing { result ≡ 103 → certificate held.core.start.plan held.core.log ≡ None }
+    ensures silent { result ≢ 0 → (told.new ≡ told.old) × (jobs.new ≡ jobs.old) }
+{
+    let boxed = take(alloc, die);
+    let made = boxed.core().certificate(alloc);
+    put(die, boxed);
+    match made {
+        Err(refusal) => of_refusal(refusal),
+        Ok(None) => NOTHING_DONE,
+        Ok(Some(built)) => {
+            put_jobs(jobs, built.jobs.as_slice());
+            *told = certificate_of(&built);
+            OK
+        }
+    }
+}
+
+/// The rows of all jobs and collections but the waived ones, by number, as far as there is room, and how many they are.
+#[unsafe(no_mangle)]
+pub extern "C" fn flash_rows(
+    alloc: Global,
+    die: &mut Handle,
+    told: &mut [FlashRow],
+    count: &mut u32,
+) -> u32
+    ghost held: { Stepped }
+    requires full { die.old.value ≡ Some held }
+    ensures same { die.new.value ≡ Some held }
+    ensures rows { result ≡ 0 → told.new ≡ filled tells.row_of told.old (rows held.core.start.plan held.core.log) }
+    ensures count { result ≡ 0 → count.new ≡ count_of (length (rows held.core.start.plan held.core.log)) }
+    ensures silent { result ≢ 0 → (result ≡ 1) × (told.new ≡ told.old) × (count.new ≡ count.old) }
+{
+    let boxed = take(alloc, die);
+    let made = boxed.core().rows(alloc);
+    put(die, boxed);
+    match made {
+        Err(refusal) => of_refusal(refusal),
+        Ok(rows) => {
+            put_rows(told, rows.as_slice());
+            *count = count_of(rows.len());
+            OK
+        }
+    }
+}

@@ -1,0 +1,157 @@
+//! What crosses to C and back. flash.h has the same structs, field by field.
+
+/// The sixteen bytes of a page, which name a payload of any size.
+#[repr(C)]
+#[derive(Clone, Copy, Drop)]
+pub struct FlashName {
+    pub bytes: [u8; 16],
+}
+
+/// What a die has, but for its tasks.
+#[repr(C)]
+#[derive(Clone, Copy, Drop)]
+pub struct FlashPlan {
+    pub blocks: u32,
+    pub pages: u32,
+    pub erase_slots: u32,
+    pub logical: u32,
+    pub alpha: u32,
+    /// A multiple of all periods; 0 where the plan has no times.
+    pub common: u32,
+}
+
+/// A task of a die: the most free pages that it may own tokens for, and its times, which aren't looked at in a plan
+/// without.
+#[repr(C)]
+#[derive(Clone, Copy, Drop)]
+pub struct FlashTask {
+    pub cap: u32,
+    pub period: u32,
+    pub collect_period: u32,
+    pub work: u32,
+    pub writes: u32,
+}
+
+/// What a plan asks of its die: the most slots of each `common` ones.
+#[repr(C)]
+#[derive(Clone, Copy, Drop)]
+pub struct FlashLoad {
+    pub demand: u64,
+    pub common: u32,
+}
+
+/// An operation: 0 reads the page, 1 writes it, 2 trims it.
+#[repr(C)]
+#[derive(Clone, Copy, Drop)]
+pub struct FlashOp {
+    pub kind: u32,
+    pub page: u32,
+    pub name: FlashName,
+}
+
+/// The numbers of a refusal, 0 where it has none.
+#[repr(C)]
+#[derive(Clone, Copy, Drop)]
+pub struct FlashWhy {
+    pub first: u32,
+    pub second: u32,
+}
+
+/// What the device is to do: 0 nothing, 1 read, 2 program, 3 one slot of an erase.
+#[repr(C)]
+#[derive(Clone, Copy, Drop)]
+pub struct FlashCall {
+    pub kind: u32,
+    pub block: u32,
+    pub page: u32,
+    /// 1 where the slot of the erase is its last.
+    pub last: u32,
+    /// The slot that has begun; what it does, as a `FlashReply` tells it; and for which job or collection.
+    pub slot: u32,
+    pub act: u32,
+    pub job: u32,
+    /// What is programmed, or what a read has to give.
+    pub name: FlashName,
+}
+
+/// What a slot did. `act`: 0 idle, 1 read, 2 write, 3 trim, 4 copy read, 5 copy program, 6 erase.
+#[repr(C)]
+#[derive(Clone, Copy, Drop)]
+pub struct FlashReply {
+    pub slot: u32,
+    pub act: u32,
+    /// The job or collection that had the slot.
+    pub job: u32,
+    /// The logical page, or the block that is erased.
+    pub page: u32,
+    /// 1 where the job or collection was done with it.
+    pub finished: u32,
+    /// How many collections were waived.
+    pub waived: u32,
+    pub name: FlashName,
+}
+
+/// A collection that was waived, and the pages that it gave its task.
+#[repr(C)]
+#[derive(Clone, Copy, Drop)]
+pub struct FlashWaived {
+    pub job: u32,
+    pub given: u32,
+}
+
+/// What a job or a collection was accepted with.
+#[repr(C)]
+#[derive(Clone, Copy, Drop)]
+pub struct FlashJob {
+    /// 1 where it is a collection.
+    pub collects: u32,
+    pub task: u32,
+    pub release: u32,
+    pub due: u32,
+}
+
+/// What became of a job or collection: 0 waits, 1 done, 2 waived.
+#[repr(C)]
+#[derive(Clone, Copy, Drop)]
+pub struct FlashOutcome {
+    pub lateness: i64,
+    pub state: u32,
+    pub completion: u32,
+    pub given: u32,
+    /// How many reads it had.
+    pub reads: u32,
+}
+
+/// The done job or collection with the greatest lateness.
+#[repr(C)]
+#[derive(Clone, Copy, Drop)]
+pub struct FlashWorst {
+    pub lateness: i64,
+    pub job: u32,
+}
+
+/// A certificate: `jobs` jobs filled the slots from `start` to `completion`.
+#[repr(C)]
+#[derive(Clone, Copy, Drop)]
+pub struct FlashCertificate {
+    pub job: u32,
+    pub start: u32,
+    pub due: u32,
+    pub completion: u32,
+    pub jobs: u32,
+}
+
+/// What is known of a job or of a collection that wasn't waived.
+#[repr(C)]
+#[derive(Clone, Copy, Drop)]
+pub struct FlashRow {
+    pub number: u32,
+    pub release: u32,
+    pub due: u32,
+    /// How many slots carried it so far.
+    pub work: u32,
+    /// 1 where it is done.
+    pub done: u32,
+    /// One more than the last slot that carried it, where it is done.
+    pub completion: u32,
+}

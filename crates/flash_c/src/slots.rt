@@ -1,0 +1,142 @@
+//! Calls of the device and replies as C has them.
+
+ghost use Rattle.std.specs.Prelude.{◌≡◌};
+ghost use Rattle.flash_c.specs.Slots.{act_shown, job_in, shown_of, reply_of, waived_of, call_of};
+
+use crate::counts::{count_of, flag};
+use crate::names::{NO_NAME, name_of};
+use crate::shapes::{FlashCall, FlashName, FlashReply, FlashWaived};
+use slot_types::{Act, JobNo, SlotReply, Waived};
+use stepped_die::{Begun, Call};
+
+/// An act: its number, its page or block, and the name that it read or wrote.
+#[derive(Clone, Copy, Drop)]
+pub(crate) struct Shown {
+    act: u32,
+    page: u32,
+    name: FlashName,
+}
+
+fn act_shown(act: Act) -> Shown
+    ensures { result ≡ act_shown act }
+{
+    let (act, page, name) = match act {
+        Act::Read { page, bytes } => (1, page, name_of(bytes)),
+        Act::Write { page, bytes } => (2, page, name_of(bytes)),
+        Act::Trim { page } => (3, page, NO_NAME),
+        Act::CopyRead { page } => (4, page, NO_NAME),
+        Act::CopyProgram { page } => (5, page, NO_NAME),
+        Act::Erase { block } => (6, block, NO_NAME),
+    };
+    Shown { act, page, name }
+}
+
+/// What a slot did; nothing where it was idle.
+fn shown_of(ran: Option<(JobNo, Act)>) -> Shown
+    ensures { result ≡ shown_of ran }
+{
+    match ran {
+        Some((_, act)) => act_shown(act),
+        None => Shown {
+            act: 0,
+            page: 0,
+            name: NO_NAME,
+        },
+    }
+}
+
+/// The job or collection that had a slot, or 0.
+fn job_in(ran: Option<(JobNo, Act)>) -> u32
+    ensures { result ≡ job_in ran }
+{
+    match ran {
+        Some((job, _)) => job.0,
+        None => 0,
+    }
+}
+
+pub(crate) fn waived_of(waived: Waived) -> FlashWaived
+    ensures { result ≡ waived_of waived }
+{
+    FlashWaived {
+        job: waived.number.0,
+        given: waived.given,
+    }
+}
+
+pub(crate) fn reply_of(reply: &SlotReply) -> FlashReply
+    ensures { result ≡ reply_of reply.now }
+{
+    let did = shown_of(reply.ran);
+    FlashReply {
+        slot: reply.slot,
+        act: did.act,
+        job: job_in(reply.ran),
+        page: did.page,
+        finished: flag(reply.finished.is_some()),
+        waived: count_of(reply.waived.len()),
+        name: did.name,
+    }
+}
+
+fn made(
+    slot: u32,
+    act: u32,
+    job: u32,
+    kind: u32,
+    block: u32,
+    page: u32,
+    last: u32,
+    name: FlashName,
+) -> FlashCall
+    ensures { result ≡ record { kind = kind; block = block; page = page; last = last; slot = slot; act = act; job = job; name = name } }
+{
+    FlashCall {
+        kind,
+        block,
+        page,
+        last,
+        slot,
+        act,
+        job,
+        name,
+    }
+}
+
+pub(crate) fn call_of(begun: Begun) -> FlashCall
+    ensures { result ≡ call_of begun }
+{
+    let slot = begun.slot;
+    let act = shown_of(begun.runs).act;
+    let job = job_in(begun.runs);
+    match begun.call {
+        None => made(slot, act, job, 0, 0, 0, 0, NO_NAME),
+        Some(Call::Read { place, bytes }) => {
+            made(
+                slot,
+                act,
+                job,
+                1,
+                place.block,
+                place.page,
+                0,
+                name_of(bytes),
+            )
+        }
+        Some(Call::Program { place, bytes }) => {
+            made(
+                slot,
+                act,
+                job,
+                2,
+                place.block,
+                place.page,
+                0,
+                name_of(bytes),
+            )
+        }
+        Some(Call::Erase { block, last }) => {
+            made(slot, act, job, 3, block, 0, flag(last), NO_NAME)
+        }
+    }
+}

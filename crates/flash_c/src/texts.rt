@@ -1,0 +1,67 @@
+//! The names of refusals.
+
+ghost use Rattle.std.specs.Prelude.{◌≡◌, ◌≤◌, ◌++◌, ◌∷◌, [], length};
+ghost use Rattle.flash_c.specs.Lists.{filled};
+ghost use Rattle.flash_c.specs.Texts.{name_at};
+ghost use Rattle.flash_c.specs.Told.{number_in};
+
+/// The name of a refusal's number.
+pub(crate) fn name_of(refusal: u32) -> &'static str
+    ensures name { result.now ≡ name_at refusal }
+    ensures short { length result.now ≤ 13 }
+{
+    match refusal {
+        0 => "Ok",
+        1 => "NoMemory",
+        2 => "BadShape",
+        3 => "BadPlan",
+        4 => "UnknownDie",
+        5 => "UnknownTask",
+        6 => "EmptyJob",
+        7 => "TooManyOps",
+        8 => "BadPage",
+        9 => "ReleasePast",
+        10 => "BadDue",
+        11 => "JobsFull",
+        12 => "NoTokens",
+        13 => "CollectorBusy",
+        14 => "ClockEnd",
+        15 => "DeviceFault",
+        16 => "DieStopped",
+        17 => "UnknownJob",
+        18 => "PlanText",
+        19 => "ScriptRow",
+        20 => "ReportText",
+        21 => "ReadFault",
+        22 => "WriteFault",
+        23 => "PassesFull",
+        24 => "PassesOut",
+        100 => "Begun",
+        101 => "NotBegun",
+        102 => "BadKind",
+        103 => "NothingDone",
+        104 => "RowsNotRising",
+        105 => "NotQuiet",
+        106 => "WornOut",
+        201 => "Empty",
+        202 => "NotRising",
+        203 => "UnknownJob",
+        204 => "Unfinished",
+        205 => "EarlyRelease",
+        206 => "LateDue",
+        207 => "WrongSum",
+        _ => "Unknown",
+    }
+}
+
+/// Puts a text and a 0 behind it into place, as far as there is room.
+pub(crate) fn put_text(places: &mut [u8], text: &[u8])
+    ensures { places.new ≡ filled number_in places.old (text.now ++ 0 ∷ []) }
+{
+    for i in 0..places.len().min(text.len()) {
+        places[i] = text[i];
+    }
+    if text.len() < places.len() {
+        places[text.len()] = 0;
+    }
+}

@@ -1,0 +1,147 @@
+//! A volume that goes on over a device as it was left, and what it takes for that.
+
+ghost use Rattle.std.specs.Prelude.{◌≡◌, ◌<◌, ℕ, slice_index, false, length, map, IfOk, IfErr};
+ghost use Rattle.slot_types.specs.Refusal.{FailsForMemory};
+ghost use Rattle.die_checkpoint.specs.Fits.{Fits};
+ghost use Rattle.die_checkpoint.specs.Counts.{counts_at};
+ghost use Rattle.flash_volume.specs.Array.{Stands};
+ghost use Rattle.flash_volume.specs.Resumed.{IsAsLeft, resumed_volume, checkpoint_of, counts_of};
+
+use crate::array::PageArray;
+use crate::tables::Tables;
+use crate::volume::Volume;
+use die_checkpoint::{BlockCounts, Checkpoint};
+use flash_die::Nand;
+use page_ledger::Ledger;
+use slot_types::{DiePlan, Items, Refusal};
+use std::alloc::Global;
+
+impl<N: Nand> Volume<N> {
+    /// A volume that goes on from a checkpoint, over the device that it was taken of. It calls no device, and looks at each
+    /// block, page and cell once.
+    ///
+    /// The checkpoint fits the plan, and the device is as it says; this is trusted, since a device can't be asked. The
+    /// device is handed back where memory is refused, the only cause; the plan is given up then.
+    pub fn resume(
+        alloc: Global,
+        plan: DiePlan,
+        device: N,
+        checkpoint: &Checkpoint,
+    ) -> Result<Self, N>
+        requires fits { Fits plan checkpoint.now }
+        requires left { IsAsLeft plan checkpoint.now (N.shape_of device) (N.blocks device) (N.failures device) }
+        ensures ok { IfOk result (λ volume. volume ≡ resumed_volume N.blocks plan checkpoint.now device) }
+        ensures err { IfErr result (λ returned. returned ≡ device) }
+    {
+        let tables = match Tables::of(alloc, &plan, checkpoint) {
+            Ok(tables) => tables,
+            Err(_) => return Err(device),
+        };
+        let running = match vec![in alloc; None; plan.caps.len()] {
+            Ok(running) => running,
+            Err(_) => return Err(device),
+        };
+        let ledger = match Ledger::resume(
+            alloc,
+            plan,
+            checkpoint.spare,
+            checkpoint.balances.as_slice(),
+        ) {
+            Ok(ledger) => ledger,
+            Err(_) => return Err(device),
+        };
+        Ok(Volume {
+            ledger,
+            array: PageArray::over(device, tables),
+            running,
+        })
+    }
+
+    /// What stands: where each page lies, of each block its programmed pages and its erases, the spare pages and the
+    /// balances. It doesn't have what jobs hold, nor what collections do. Refused with `NoMemory` alone.
+    pub fn checkpoint(&self, alloc: Global) -> Result<Checkpoint, Refusal>
+        requires alive { self.now.failed ≡ false }
+        ensures ok { IfOk result (λ checkpoint. checkpoint ≡ checkpoint_of N.blocks self.now) }
+        ensures err { FailsForMemory result }
+    {
+        let places = self.array.map.to_places(alloc)?;
+        let blocks = self.array.counts(alloc)?;
+        let balances = Vec::from_slice(alloc, self.ledger.balances())?;
+        Ok(Checkpoint {
+            places: Items::from_vec(places),
+            blocks: Items::from_vec(blocks),
+            spare: self.ledger.spare(),
+            balances: Items::from_vec(balances),
+        })
+    }
+
+    /// The device, given up with all that the volume has of it.
+    pub fn into_device(self) -> N
+        ensures { result ≡ self.device }
+    {
+        self.array.into_device()
+    }
+}
+
+impl<N: Nand> PageArray<N> {
+    /// An array over a device to which these tables belong.
+    fn over(device: N, tables: Tables) -> Self
+        requires { Stands (N.shape_of device) (N.failures device) (N.blocks device) tables.map tables.fills.items tables.erases.items
+            tables.writing tables.victims }
+        ensures { result ≡ record { failed = false; device = device; placing = tables.map; candidates = tables.victims } }
+    {
+        let Tables {
+            map,
+            fills,
+            writing,
+            erases,
+            victims,
+        } = tables;
+        PageArray {
+            device,
+            map,
+            fills,
+            writing,
+            erases,
+            victims,
+            failed: false,
+        }
+    }
+
+    /// What a checkpoint says of the blocks.
+    fn counts(&self, alloc: Global) -> Result<Vec<BlockCounts>, Refusal>
+        requires alive { self.now.failed ≡ false }
+        ensures ok { IfOk result (λ counts. counts.items ≡ map counts_of (N.blocks self.now.device)) }
+        ensures err { FailsForMemory result }
+    {
+        counts_in(alloc, &self.fills, &self.erases)
+    }
+
+    fn into_device(self) -> N
+        ensures { result ≡ self.device }
+    {
+        self.device
+    }
+}
+
+/// What a checkpoint says of blocks, by their counts.
+fn counts_in(alloc: Global, fills: &[u32], erases: &[u32]) -> Result<Vec<BlockCounts>, Refusal>
+    requires { length erases.now ≡ length fills.now }
+    ensures len { IfOk result (λ counts. length counts.items ≡ length fills.now) }
+    ensures each { IfOk result (λ counts. (block : ℕ) → block < length fills.now → counts_at counts.items block
+        ≡ record { filled = slice_index fills.now block; erases = slice_index erases.now block }) }
+    ensures err { FailsForMemory result }
+{
+    let none = BlockCounts {
+        filled: 0,
+        erases: 0,
+    };
+    let mut counts = vec![in alloc; none; fills.len()]?;
+    for block in 0..fills.len() {
+        counts[block] = BlockCounts {
+            filled: fills[block],
+            erases: erases[block],
+        };
+    }
+    Ok(counts)
+}

@@ -1,0 +1,25 @@
+//! What a device is told to do.
+
+use slot_types::{Act, JobNo, PageData, Place};
+
+/// A call of a device.
+#[derive(Clone, Copy, PartialEq, Eq, Debug, Drop)]
+pub enum Call {
+    /// Read the cell, which was programmed with these bytes.
+    Read { place: Place, bytes: PageData },
+    /// Program the cell with these bytes.
+    Program { place: Place, bytes: PageData },
+    /// Do one slot of the erase of the block, which is its last slot or not.
+    Erase { block: u32, last: bool },
+}
+
+/// A slot that has begun.
+#[derive(Clone, Copy, PartialEq, Eq, Debug, Drop)]
+pub struct Begun {
+    /// The slot's number.
+    pub slot: u32,
+    /// What the device is to do, if anything.
+    pub call: Option<Call>,
+    /// The job or collection that has the slot, and what it does; none where the slot is idle.
+    pub runs: Option<(JobNo, Act)>,
+}

@@ -1,0 +1,13 @@
+//! A die whose slots are begun and ended: `begin` tells the one call of the device that the present slot needs, the
+//! driver does it, and `end` takes what the device answered.
+#![tactic(auto)]
+
+pub mod calls;
+pub mod die;
+pub mod mirror;
+pub mod refusals;
+
+pub use calls::{Begun, Call};
+pub use die::SteppedDie;
+pub use mirror::MirrorNand;
+pub use refusals::{StepRefusal, StepRenewalRefusal};

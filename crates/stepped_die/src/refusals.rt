@@ -1,0 +1,24 @@
+//! Why a call of a die with two steps is refused.
+
+use slot_core::RenewalRefusal;
+use slot_types::Refusal;
+
+/// Why a call is refused.
+#[derive(Clone, Copy, PartialEq, Eq, Debug, Drop)]
+pub enum StepRefusal {
+    /// As a die refuses it.
+    Die(Refusal),
+    /// A slot has begun and is to be ended first.
+    Begun,
+    /// No slot has begun.
+    NotBegun,
+}
+
+/// Why a die isn't renewed.
+#[derive(Clone, Copy, PartialEq, Eq, Debug, Drop)]
+pub enum StepRenewalRefusal {
+    /// As a die refuses it.
+    Die(RenewalRefusal),
+    /// A slot has begun and is to be ended first.
+    Begun,
+}
