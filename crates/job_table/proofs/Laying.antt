@@ -13,7 +13,7 @@ use Rattle.job_table.specs.declared.rows.Row.{Row}
 use Rattle.job_table.specs.Jobs.{JobRecord, is_read, is_some_read, accepted, carried, with_read}
 use Rattle.job_table.specs.Table.{changed_at, reads_next_at, reads_next_of}
 use Rattle.job_table.specs.Flat.{ops_at, reads_at, job_at, jobs_at, read_count, place_count, lacking, place_from, IsRowOf, IsRowIn, AreLaid}
-use Rattle.job_table.specs.Flat.{HaveRoom}
+use Rattle.job_table.specs.Flat.{HasFewOps, HaveRoom}
 use Rattle.job_table.proofs.Reading.{read_of, one_more, has_read, lacks_all, lacks_none, done_placed, reads_there, next_of_all}
 
 -- Lists of rows
@@ -498,3 +498,7 @@ jobs_pushed rows ops more reads row begun laid =
         ap (λ (l : List Op). record (job_at (ops ++ more) reads row) { ops = l }) (begun_ops ops more row begun)
         ∙ ap (λ (l : List PageData). record (job_at (ops ++ more) reads row) { ops = more; reads = l }) no_reads
         ∙ ap (λ (n : ℕ). record (accepted row.collects row.task row.release row.due more) { work = n; stage = row.stage }) begun.work_is
+
+-- a job that changes has as many operations as before
+pub few_set : (rows : List Row) (ops : List Op) (n : ℕ) (row : Row) → HasFewOps rows ops → HasFewOps (set rows n row) ops
+few_set rows ops n row few = omega (arith, few, length-set rows n row)

@@ -1,6 +1,6 @@
 -- Jobs as flat rows over two arenas: the operations of all jobs, one behind another, and places for what reads give.
 use Rattle.std.specs.Prelude.{◌≡◌, ◌≢◌, ◌⊎◌, ◌==◌, ℕ, ◌+◌, ◌^◌, ◌<◌, ◌≤◌, List, Some, slice_get, length, take, drop, map, count_by}
-use Rattle.std.specs.Prelude.{sum_by, if◌then◌else◌}
+use Rattle.std.specs.Prelude.{sum_by, if◌then◌else◌, ◌*◌}
 use Rattle.slot_types.specs.declared.events.Op.{Op}
 use Rattle.slot_types.specs.declared.pages.PageData.{PageData}
 use Rattle.job_table.specs.declared.rows.Row.{Row}
@@ -70,3 +70,7 @@ pub record HaveRoom (rows : List Row) (ops : List Op) (reads : List PageData) (a
   pub all_is : all ≡ count_by is_read ops
   pub places : length reads + sum_by (lacking ops) rows ≡ all
   pub room : all ≤ capacity
+
+-- a job has at most 64 operations, so 32 bits count those of all jobs
+abbrev pub HasFewOps : List Row → List Op → Type 0
+HasFewOps rows ops = length ops ≤ 64 * length rows

@@ -1,12 +1,12 @@
 //! The operations of all jobs.
 
-ghost use Rattle.std.specs.Prelude.{◌≡◌, ◌+◌, ◌<◌, ◌≤◌, ◌++◌, Some, [], length, take, count_by, slice_get, OnOk, OnErr};
+ghost use Rattle.std.specs.Prelude.{◌≡◌, ◌+◌, ◌<◌, ◌≤◌, ◌++◌, true, Some, [], length, take, count_by, slice_get, OnOk, OnErr};
 ghost use Rattle.slot_types.specs.Refusal.{FailsForMemory};
+ghost use Rattle.std.specs.List.{list_all};
 ghost use Rattle.job_table.specs.Jobs.{is_read};
+ghost use Rattle.job_table.specs.Words.{has_word};
 
-use crate::words::{
-    count_reads_in, have_words, is_read_in, is_trim_in, page_in, push_bytes, push_words,
-};
+use crate::words::{count_reads_in, is_read_in, is_trim_in, page_in, push_bytes, push_words};
 use slot_types::{Op, PageData, Refusal};
 use std::alloc::Global;
 use std::marker::Model;
@@ -83,17 +83,15 @@ impl OpArena {
         count_reads_in(&self.words[from..to])
     }
 
-    /// Adds operations, of which so many are reads. Refused with `NoMemory`, none is added; that is also the answer
-    /// where a page leaves no room in its word, which is so from 2^30 on.
+    /// Adds operations, of which so many are reads, and whose pages leave room in their words. Refused with `NoMemory`, none
+    /// is added.
     pub(crate) fn push_all(&mut self, ops: &[Op], reads: usize) -> Result<(), Refusal>
-        requires { reads ≡ count_by is_read ops.now }
+        requires reads { reads ≡ count_by is_read ops.now }
+        requires words { list_all has_word ops.now ≡ true }
         ensures ok { OnOk result (self.new ≡ self.old ++ ops.now) }
         ensures refused { FailsForMemory result }
         ensures err { OnErr result (self.new ≡ self.old) }
     {
-        if !have_words(ops) {
-            return Err(Refusal::NoMemory);
-        }
         self.words.reserve(ops.len())?;
         self.bytes.reserve(ops.len() - reads)?;
         push_words(&mut self.words, ops);

@@ -3,10 +3,11 @@
 ghost use Rattle.std.specs.Prelude.{◌≡◌, ◌+◌, ◌<◌, ◌≤◌, ◌^◌, ◌∷◌, ◌++◌, [], true, false, Some, length, slice_get, replicate, vec_len};
 ghost use Rattle.std.specs.Prelude.{vec_capacity, OnOk, IfOk, OnErr};
 ghost use Rattle.slot_types.specs.Refusal.{FailsForMemory};
-ghost use Rattle.slot_types.specs.declared.limits.TheConstants.{MAX_JOBS};
+ghost use Rattle.slot_types.specs.declared.limits.TheConstants.{MAX_JOBS, MAX_OPS};
 ghost use Rattle.job_table.specs.Jobs.{JobRecord, new_job, new_collection, accepted, carried, with_read, with_stage};
 ghost use Rattle.job_table.specs.Table.{changed_at, work_at, reads_next_at};
-ghost use Rattle.job_table.specs.Words.{blank};
+ghost use Rattle.job_table.specs.Words.{blank, has_word};
+ghost use Rattle.std.specs.List.{list_all};
 ghost use Rattle.job_table.specs.Flat.{lacking, place_from};
 
 use crate::arenas::OpArena;
@@ -37,34 +38,13 @@ impl Model for FlatJobs {
     ghost Value = { List JobRecord };
 
     ghost use Rattle.std.specs.Prelude.{vec_capacity};
-    ghost use Rattle.job_table.specs.Flat.{jobs_at, AreLaid, HaveRoom};
+    ghost use Rattle.job_table.specs.Flat.{jobs_at, AreLaid, HaveRoom, HasFewOps};
 
     ghost view = { λ j. jobs_at j.ops j.reads.items j.rows.items };
 
     ghost invariant = { λ j. AreLaid j.rows.items j.ops j.reads.items
-        × HaveRoom j.rows.items j.ops j.reads.items j.all_reads (vec_capacity j.reads) };
-}
-
-/// A length of an arena as a row keeps it. What 32 bits can't count finds no memory.
-fn count_in_row(len: usize) -> Result<u32, Refusal>
-    ensures ok { IfOk result (λ count. count ≡ len) }
-    ensures refused { FailsForMemory result }
-{
-    if len > u32::MAX as usize {
-        return Err(Refusal::NoMemory);
-    }
-    Ok(len as u32)
-}
-
-/// The number of a job's operations as a row keeps it. What 16 bits can't count finds no memory.
-fn ops_in_row(len: usize) -> Result<u16, Refusal>
-    ensures ok { IfOk result (λ count. count ≡ len) }
-    ensures refused { FailsForMemory result }
-{
-    if len > u16::MAX as usize {
-        return Err(Refusal::NoMemory);
-    }
-    Ok(len as u16)
+        × HaveRoom j.rows.items j.ops j.reads.items j.all_reads (vec_capacity j.reads)
+        × HasFewOps j.rows.items j.ops };
 }
 
 /// Adds so many places, in room that was made.
@@ -148,8 +128,8 @@ impl FlatJobs {
         }
     }
 
-    /// Adds a job that has not begun, and answers its number. It takes all memory that the job will ever need. Refused
-    /// with `NoMemory`, all stay as they were.
+    /// Adds a job that has not begun, of at most 64 operations whose pages fit their words, and answers its number. It takes
+    /// all memory that the job will ever need. Refused with `NoMemory`, all stay as they were.
     pub(crate) fn push_job(
         &mut self,
         task: TaskNo,
@@ -157,7 +137,9 @@ impl FlatJobs {
         due: u32,
         ops: &[Op],
     ) -> Result<u32, Refusal>
-        requires { length self.old < MAX_JOBS }
+        requires few { length self.old < MAX_JOBS }
+        requires few_ops { length ops.now ≤ MAX_OPS }
+        requires words { list_all has_word ops.now ≡ true }
         ensures ok { OnOk result (self.new ≡ self.old ++ new_job task release due ops.now ∷ []) }
         ensures number { IfOk result (λ number. number ≡ length self.old) }
         ensures refused { FailsForMemory result }
@@ -190,22 +172,24 @@ impl FlatJobs {
         due: u32,
         ops: &[Op],
     ) -> Result<u32, Refusal>
-        requires { length self.old < MAX_JOBS }
+        requires few { length self.old < MAX_JOBS }
+        requires few_ops { length ops.now ≤ MAX_OPS }
+        requires words { list_all has_word ops.now ≡ true }
         ensures ok { OnOk result (self.new ≡ self.old ++ accepted collects task release due ops.now ∷ []) }
         ensures number { IfOk result (λ number. number ≡ length self.old) }
         ensures refused { FailsForMemory result }
         ensures err { OnErr result (self.new ≡ self.old) }
     {
         let reads = count_reads(ops);
-        let all_reads = count_in_row(self.all_reads as usize + reads)?;
+        let all_reads = self.all_reads as usize + reads;
         let row = Row {
             task,
             release,
             due,
-            first_op: count_in_row(self.ops.len())?,
+            first_op: self.ops.len() as u32,
             first_read: self.all_reads,
             first_place: 0,
-            op_count: ops_in_row(ops.len())?,
+            op_count: ops.len() as u16,
             reads_done: 0,
             work: 0,
             stage: Stage::Pending,
@@ -213,11 +197,11 @@ impl FlatJobs {
         };
         self.rows.reserve(1)?;
         // Room for the reads of all jobs that have no places yet, and of this one.
-        self.reads.reserve(all_reads as usize - self.reads.len())?;
+        self.reads.reserve(all_reads - self.reads.len())?;
         self.ops.push_all(ops, reads)?;
         let number = self.rows.len() as u32;
         self.rows.push_reserved(row);
-        self.all_reads = all_reads;
+        self.all_reads = all_reads as u32;
         Ok(number)
     }
 

@@ -2,7 +2,9 @@
 
 ghost use Rattle.std.specs.Prelude.{◌≡◌, ◌<◌, ◌≤◌, ◌+◌, ◌^◌, ◌==◌, List, true, false, length, slice_get, OnOk, IfOk, OnErr, IfSome};
 ghost use Rattle.std.specs.Prelude.{IfNone};
+ghost use Rattle.std.specs.List.{list_all};
 ghost use Rattle.slot_types.specs.Refusal.{FailsForMemory};
+ghost use Rattle.job_table.specs.Words.{has_word};
 ghost use Rattle.job_table.specs.Jobs.{JobRecord, new_job, new_collection, carried, with_read, with_stage};
 ghost use Rattle.job_table.specs.Table.{empty_table, with_job, with_change, work_at, reads_next_at, is_collecting};
 ghost use Rattle.job_table.specs.Waivers.{AreWaived, WerePending, waived_in, stopped};
@@ -16,7 +18,7 @@ use crate::jobs::Job;
 use crate::queues::Queues;
 use crate::stages::Stage;
 use crate::worst::worse_of;
-use slot_types::{JobNo, MAX_JOBS, Op, PageData, Refusal, TaskNo, Waived};
+use slot_types::{JobNo, MAX_JOBS, MAX_OPS, Op, PageData, Refusal, TaskNo, Waived};
 use std::alloc::Global;
 use std::marker::Model;
 
@@ -149,8 +151,9 @@ impl JobTable {
         }
     }
 
-    /// Accepts a job under the next number, to run from slot `release` on. There are fewer than `MAX_JOBS`. All memory
-    /// that it will ever need is taken here: refused with `NoMemory`, the table stays as it was.
+    /// Accepts a job under the next number, to run from slot `release` on. There are fewer than `MAX_JOBS`; it has at most
+    /// `MAX_OPS` operations, on pages below 2^30. All memory that it will ever need is taken here: refused with
+    /// `NoMemory`, the table stays as it was.
     pub fn add_job(
         &mut self,
         _alloc: Global,
@@ -161,6 +164,8 @@ impl JobTable {
     ) -> Result<JobNo, Refusal>
         requires running { self.old.ended ≡ false }
         requires few { length self.old.jobs < MAX_JOBS }
+        requires few_ops { length ops.now ≤ MAX_OPS }
+        requires words { list_all has_word ops.now ≡ true }
         ensures ok { OnOk result (self.new ≡ with_job self.old (new_job task release due ops.now)) }
         ensures number { IfOk result (λ number. number ≡ length self.old.jobs) }
         ensures refused { FailsForMemory result }

@@ -20,3 +20,4 @@ mod worst;
 pub use job_table::JobTable;
 pub use jobs::Job;
 pub use stages::Stage;
+pub use words::have_words;

@@ -6,7 +6,8 @@ use crate::job_table::JobTable;
 use crate::jobs::Job;
 use crate::rows::Row;
 use crate::stages::Stage;
-use slot_types::{JobNo, MAX_JOBS, Op, PageData, Refusal, TaskNo, Waived};
+use crate::words::have_words;
+use slot_types::{JobNo, MAX_JOBS, MAX_OPS, Op, PageData, Refusal, TaskNo, Waived};
 use std::alloc::Global;
 use std::mem::size_of;
 use std::test::Fail;
@@ -19,7 +20,11 @@ fn add_ops(
     due: u32,
     ops: &[Op],
 ) -> Result<Option<u32>, Refusal> {
-    if table.ended() || table.len() >= MAX_JOBS {
+    if table.ended()
+        || table.len() >= MAX_JOBS
+        || ops.len() > MAX_OPS as usize
+        || !have_words(ops)
+    {
         return Ok(None);
     }
     let number = table.add_job(alloc, TaskNo(0), release, due, ops)?;

@@ -1,8 +1,8 @@
-//! A table beside lists that each job has of its own: both say the same of each job, step by step, also where memory is
-//! refused to one that is accepted.
+//! A table beside lists that each job has of its own: both say the same of each job, step by step.
 
 use crate::job_table::JobTable;
-use slot_types::{JobNo, MAX_JOBS, Op, OpList, PageData, Refusal, TaskNo};
+use crate::words::have_words;
+use slot_types::{JobNo, MAX_JOBS, MAX_OPS, Op, OpList, PageData, Refusal, TaskNo};
 use std::alloc::Global;
 use std::test::Fail;
 
@@ -51,6 +51,9 @@ fn accept(
         return Ok(());
     }
     let ops = some_ops(alloc, seed)?;
+    if ops.len() > MAX_OPS as usize || !have_words(ops.as_slice()) {
+        return Err(Refusal::TooManyOps);
+    }
     let plain = Plain {
         ops: Vec::from_slice(alloc, ops.as_slice())?,
         reads: Vec::with_capacity(alloc, ops.len())?,
@@ -126,7 +129,7 @@ fn play(
     let mut same = true;
     for now in 0..steps {
         if draw(&mut seed) % 3 == 0 {
-            let _refused = accept(alloc, table, jobs, &mut seed);
+            accept(alloc, table, jobs, &mut seed)?;
         }
         if let Some((number, op)) = run_slot(table, now) {
             note(jobs, number, op, now)?;

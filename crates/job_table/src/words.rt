@@ -36,8 +36,8 @@ fn has_word(op: Op) -> bool
     page_of(op) < PAGES
 }
 
-/// Whether each of these operations fits a word.
-pub(crate) fn have_words(ops: &[Op]) -> bool
+/// Whether a table can keep these operations: a page leaves room in its word up to 2^30.
+pub fn have_words(ops: &[Op]) -> bool
     ensures { result ≡ list_all has_word ops.now }
 {
     ops.iter().all(|op| has_word(*op))

@@ -29,3 +29,4 @@ pub mod Rowing
 pub mod Certifying
 pub mod Planning
 pub mod Accepting
+pub mod Fitting

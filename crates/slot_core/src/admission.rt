@@ -2,9 +2,11 @@
 
 ghost use Rattle.std.specs.Prelude.{◌≡◌, ◌∷◌, ◌+◌, ◌^◌, ◌<◌, ◌≤◌, ◌↔◌, true, false, length, IfOk, IfErr, OnOk, OnErr};
 ghost use Rattle.std.specs.Prelude.{[]};
+ghost use Rattle.std.specs.List.{list_all};
 ghost use Rattle.slot_types.specs.Refusal.{FailsForMemory};
 ghost use Rattle.job_table.specs.Jobs.{new_job, new_collection};
 ghost use Rattle.job_table.specs.Table.{with_job, is_collecting};
+ghost use Rattle.job_table.specs.Words.{has_word};
 ghost use Rattle.die_log.specs.Work.{is_collecting as collecting};
 ghost use Rattle.die_log.specs.Answers.{refusal_of};
 ghost use Rattle.slot_core.specs.Calls.{HasTaken, HasRefusedArrival};
@@ -33,6 +35,8 @@ fn enter_job(
     requires few { length table.old.jobs < MAX_JOBS }
     requires few_events { length events.old.notes + 1 < 2 ^ 32 }
     requires reserved { reserved ≤ events.old.room }
+    requires few_ops { length ops.now ≤ MAX_OPS }
+    requires words { list_all has_word ops.now ≡ true }
     ensures table { OnOk result (table.new ≡ with_job table.old (new_job task release due ops.now)) }
     ensures number { IfOk result (λ number. number ≡ length table.old.jobs) }
     ensures logged { IfOk result (λ number. events.new.notes ≡ record { caller = caller; deed = Deed.Submit number; waived = [] }

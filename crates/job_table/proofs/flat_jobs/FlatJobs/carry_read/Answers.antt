@@ -7,7 +7,7 @@ use Rattle.job_table.specs.Table.{changed_at, work_of}
 use Rattle.job_table.specs.Words.{blank}
 use Rattle.job_table.specs.Flat.{lacking, place_from}
 use Rattle.job_table.proofs.Reading.{next_few}
-use Rattle.job_table.proofs.Laying.{job_there, row_reading, made, place_there, laid_read, room_read, jobs_read}
+use Rattle.job_table.proofs.Laying.{few_set, job_there, row_reading, made, place_there, laid_read, room_read, jobs_read}
 use Rattle.job_table.proofs.flat_jobs.FlatJobs.carry_read.Goals as goal
 
 pub make_places-requires-clause-ops : goal.make_places-requires-clause-ops
@@ -67,6 +67,7 @@ invariant_of-self c =
       room_read c.self.inside.rows.items c.self.inside.ops c.self.inside.reads.items more c.self.inside.all_reads
           (vec_capacity c.self.inside.reads) c.number.inside.0 row from c.args.bytes reading.there
           (length-replicate (lacking c.self.inside.ops row) blank) c.self.invariant.1,
+      few_set c.self.inside.rows.items c.self.inside.ops c.number.inside.0 _ c.self.invariant.2,
     )
 
 pub returns : goal.returns

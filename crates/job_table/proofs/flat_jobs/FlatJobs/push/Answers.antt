@@ -1,4 +1,4 @@
-use Rattle.std.proofs.Common.{◌∷◌, ◌++◌, [], List, length, vec_capacity, rules, arith, refl, ap, ◌∙◌}
+use Rattle.std.proofs.Common.{length-append, ◌+◌, ◌∷◌, ◌++◌, [], List, length, vec_capacity, rules, arith, refl, ap, ◌∙◌}
 use Rattle.std.proofs.lemmas.Grind.{common_steps}
 use Rattle.slot_types.specs.declared.events.Op.{Op}
 use Rattle.slot_types.specs.declared.pages.PageData.{PageData}
@@ -15,10 +15,10 @@ invariant_of-self-2 c =
       task = c.args.task;
       release = c.args.release;
       due = c.args.due;
-      first_op = c.in_ok-count_in_row.field-0;
+      first_op = c.len.result;
       first_read = c.self.inside.all_reads;
       first_place = 0;
-      op_count = c.in_ok-ops_in_row.field-0;
+      op_count = length c.args.ops.now;
       reads_done = 0;
       work = 0;
       stage =
@@ -26,15 +26,14 @@ invariant_of-self-2 c =
       collects = c.args.collects;
     } in
     let begun : IsBegun row c.self.inside.ops (length c.args.ops.now) = record {
-      first_op_is = c.in_ok-count_in_row.ensures.ok ∙ c.len.ensures;
-      op_count_is = c.in_ok-ops_in_row.ensures.ok;
-      op_count_few = search rules;
+      first_op_is = c.len.ensures;
+      op_count_is = refl;
+      op_count_few = let few = c.requires.few_ops in omega (arith, few);
       first_read_is = c.self.invariant.1.all_is;
       first_place_is = refl;
       reads_done_is = refl;
       work_is = refl;
     } in
-    let all = c.in_ok-all_reads.ensures.ok in
     let count = c.count_reads-reads.ensures in
     let room = c.in_ok-reserve-2.ensures.ok in
     let len = c.in_ok-reserve-2.ensures.len in
@@ -42,9 +41,18 @@ invariant_of-self-2 c =
     rw (c.push_reserved.ensures.items, c.in_ok-reserve.ensures.items, c.in_ok-push_all.ensures.ok, c.in_ok-reserve-2.ensures.items) (
       laid_push c.self.inside.rows.items c.self.inside.ops c.args.ops.now c.self.inside.reads.items row begun c.self.invariant.0,
       room_push c.self.inside.rows.items c.self.inside.ops c.args.ops.now c.self.inside.reads.items c.self.inside.all_reads
-          c.in_ok-all_reads.all_reads (vec_capacity c.self.inside.reads) (vec_capacity c.reserve-2.new.self) row begun (omega arith)
+          (c.self.inside.all_reads + c.count_reads-reads.result) (vec_capacity c.self.inside.reads) (vec_capacity c.reserve-2.new.self) row begun (omega arith)
           (omega arith)
           c.self.invariant.0 c.self.invariant.1,
+      let few = c.self.invariant.2 in
+          let few_more = c.requires.few_ops in
+          omega (
+            arith,
+            few,
+            few_more,
+            length-append c.self.inside.ops c.args.ops.now,
+            length-append c.self.inside.rows.items (row ∷ []),
+          ),
     )
 
 pub returns-clause-ok : goal.returns-clause-ok
@@ -53,10 +61,10 @@ returns-clause-ok c =
       task = c.args.task;
       release = c.args.release;
       due = c.args.due;
-      first_op = c.in_ok-count_in_row.field-0;
+      first_op = c.len.result;
       first_read = c.self.inside.all_reads;
       first_place = 0;
-      op_count = c.in_ok-ops_in_row.field-0;
+      op_count = length c.args.ops.now;
       reads_done = 0;
       work = 0;
       stage =
@@ -64,9 +72,9 @@ returns-clause-ok c =
       collects = c.args.collects;
     } in
     let begun : IsBegun row c.self.inside.ops (length c.args.ops.now) = record {
-      first_op_is = c.in_ok-count_in_row.ensures.ok ∙ c.len.ensures;
-      op_count_is = c.in_ok-ops_in_row.ensures.ok;
-      op_count_few = search rules;
+      first_op_is = c.len.ensures;
+      op_count_is = refl;
+      op_count_few = let few = c.requires.few_ops in omega (arith, few);
       first_read_is = c.self.invariant.1.all_is;
       first_place_is = refl;
       reads_done_is = refl;
@@ -79,42 +87,6 @@ returns-clause-ok c =
     c.in_ok-reserve-2.ensures.items
     ∙ jobs_pushed c.self.inside.rows.items c.self.inside.ops c.args.ops.now c.self.inside.reads.items row begun c.self.invariant.0
     ∙ ap (λ (l : List JobRecord). l ++ accepted c.args.collects c.args.task c.args.release c.args.due c.args.ops.now ∷ []) c.self.view_is
-
-pub returns-in_err-all_reads-clause-ok : goal.returns-in_err-all_reads-clause-ok
-returns-in_err-all_reads-clause-ok c = grind (arith, common_steps)
-
-pub returns-in_err-all_reads-clause-number : goal.returns-in_err-all_reads-clause-number
-returns-in_err-all_reads-clause-number c = grind (arith, common_steps)
-
-pub returns-in_err-all_reads-clause-refused : goal.returns-in_err-all_reads-clause-refused
-returns-in_err-all_reads-clause-refused c = grind (arith, common_steps)
-
-pub returns-in_err-all_reads-clause-err : goal.returns-in_err-all_reads-clause-err
-returns-in_err-all_reads-clause-err c = grind (arith, common_steps)
-
-pub returns-in_err-count_in_row-clause-ok : goal.returns-in_err-count_in_row-clause-ok
-returns-in_err-count_in_row-clause-ok c = grind (arith, common_steps)
-
-pub returns-in_err-count_in_row-clause-number : goal.returns-in_err-count_in_row-clause-number
-returns-in_err-count_in_row-clause-number c = grind (arith, common_steps)
-
-pub returns-in_err-count_in_row-clause-refused : goal.returns-in_err-count_in_row-clause-refused
-returns-in_err-count_in_row-clause-refused c = grind (arith, common_steps)
-
-pub returns-in_err-count_in_row-clause-err : goal.returns-in_err-count_in_row-clause-err
-returns-in_err-count_in_row-clause-err c = grind (arith, common_steps)
-
-pub returns-in_err-ops_in_row-clause-ok : goal.returns-in_err-ops_in_row-clause-ok
-returns-in_err-ops_in_row-clause-ok c = grind (arith, common_steps)
-
-pub returns-in_err-ops_in_row-clause-number : goal.returns-in_err-ops_in_row-clause-number
-returns-in_err-ops_in_row-clause-number c = grind (arith, common_steps)
-
-pub returns-in_err-ops_in_row-clause-refused : goal.returns-in_err-ops_in_row-clause-refused
-returns-in_err-ops_in_row-clause-refused c = grind (arith, common_steps)
-
-pub returns-in_err-ops_in_row-clause-err : goal.returns-in_err-ops_in_row-clause-err
-returns-in_err-ops_in_row-clause-err c = grind (arith, common_steps)
 
 pub invariant_of-self : goal.invariant_of-self
 invariant_of-self c = grind (arith, common_steps)

@@ -3,7 +3,7 @@ use Rattle.job_table.specs.declared.rows.Row.{Row}
 use Rattle.job_table.specs.Jobs.{JobRecord, with_stage}
 use Rattle.job_table.specs.Table.{changed_at}
 use Rattle.job_table.specs.Flat.{IsRowOf}
-use Rattle.job_table.proofs.Laying.{row_read, laid_kept, room_kept, jobs_set}
+use Rattle.job_table.proofs.Laying.{few_set, row_read, laid_kept, room_kept, jobs_set}
 use Rattle.job_table.proofs.flat_jobs.FlatJobs.set_stage.Goals as goal
 
 pub invariant_of-self : goal.invariant_of-self
@@ -18,6 +18,7 @@ invariant_of-self c =
           c.self.invariant.0,
       room_kept c.self.inside.rows.items c.self.inside.ops c.self.inside.reads.items c.self.inside.all_reads
           (vec_capacity c.self.inside.reads) c.number.inside.0 row _ at_n refl c.self.invariant.1,
+      few_set c.self.inside.rows.items c.self.inside.ops c.number.inside.0 _ c.self.invariant.2,
     )
 
 pub returns : goal.returns

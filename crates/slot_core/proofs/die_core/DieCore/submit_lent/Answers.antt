@@ -10,6 +10,7 @@ use Rattle.job_table.specs.Table.{Table}
 use Rattle.slot_core.specs.Told.{log_of}
 use Rattle.slot_core.specs.Reserved.{open_collections}
 use Rattle.slot_core.proofs.Reserving.{open_job}
+use Rattle.slot_core.proofs.Fitting.{accepted_few, accepted_words}
 use Rattle.slot_core.proofs.Telling.{submit_tells, few_told}
 use Rattle.slot_core.proofs.die_core.DieCore.submit_lent.Goals as goal
 use Rattle.die_log.specs.Start.{Start, over}
@@ -61,6 +62,18 @@ invariant_of-self-in-Ok g c =
         );
       },
     )
+
+pub enter_job-requires-clause-few_ops : goal.enter_job-requires-clause-few_ops
+enter_job-requires-clause-few_ops g c = accepted_few _ _ _ _ _ _ (sym c.submit_refusal.ensures ∙ c.in-None.is)
+
+pub enter_job-requires-clause-words : goal.enter_job-requires-clause-words
+enter_job-requires-clause-words g c =
+    let f = c.self.inside in
+    let none : refusal_of (over f.volume.accounts.plan c.self.inside.start) (log_of f.table f.events.notes)
+    (Submit c.args.task c.args.release c.args.due c.args.ops.now) ≡ None =
+    ap (λ (d : Core g.row.N.Denot). refusal_of d.start d.log (Submit c.args.task c.args.release c.args.due c.args.ops.now)) c.self.view_is
+    ∙ (sym c.submit_refusal.ensures ∙ c.in-None.is) in
+    accepted_words _ _ _ _ _ _ c.self.invariant.0.kept.bound.bound none
 
 pub enter_job-requires-clause-few_events : goal.enter_job-requires-clause-few_events
 enter_job-requires-clause-few_events g c = few_told (over c.self.inside.volume.accounts.plan c.self.inside.start) c.self.inside.table.jobs c.self.inside.events.notes
