@@ -64,7 +64,14 @@ invariant_of-self-in-Ok g c =
     )
 
 pub enter_job-requires-clause-few_ops : goal.enter_job-requires-clause-few_ops
-enter_job-requires-clause-few_ops g c = accepted_few _ _ _ _ _ _ (sym c.submit_refusal.ensures ∙ c.in-None.is)
+enter_job-requires-clause-few_ops g c =
+    let f = c.self.inside in
+    let none : refusal_of (over f.volume.accounts.plan c.self.inside.start) (log_of f.table f.events.notes)
+    (Submit c.args.task c.args.release c.args.due c.args.ops.now) ≡ None =
+    ap (λ (d : Core g.row.N.Denot). refusal_of d.start d.log (Submit c.args.task c.args.release c.args.due c.args.ops.now)) c.self.view_is
+    ∙ (sym c.submit_refusal.ensures ∙ c.in-None.is) in
+    accepted_few (over f.volume.accounts.plan c.self.inside.start) (log_of f.table f.events.notes) c.args.task c.args.release c.args.due
+    c.args.ops.now none
 
 pub enter_job-requires-clause-words : goal.enter_job-requires-clause-words
 enter_job-requires-clause-words g c =
@@ -73,7 +80,8 @@ enter_job-requires-clause-words g c =
     (Submit c.args.task c.args.release c.args.due c.args.ops.now) ≡ None =
     ap (λ (d : Core g.row.N.Denot). refusal_of d.start d.log (Submit c.args.task c.args.release c.args.due c.args.ops.now)) c.self.view_is
     ∙ (sym c.submit_refusal.ensures ∙ c.in-None.is) in
-    accepted_words _ _ _ _ _ _ c.self.invariant.0.kept.bound.bound none
+    accepted_words (over f.volume.accounts.plan c.self.inside.start) (log_of f.table f.events.notes) c.args.task c.args.release c.args.due
+    c.args.ops.now c.self.invariant.0.kept.bound.bound none
 
 pub enter_job-requires-clause-few_events : goal.enter_job-requires-clause-few_events
 enter_job-requires-clause-few_events g c = few_told (over c.self.inside.volume.accounts.plan c.self.inside.start) c.self.inside.table.jobs c.self.inside.events.notes
