@@ -1,9 +1,11 @@
-//! Calls of a die that may need memory. Where memory is refused, each is asked again, and has to be answered then as without the
-//! refusal. So every table may be played with each allocation made to fail in turn.
+//! Calls of a die that may need memory. Where memory is scarce, one that is refused for want of it is made again, and has to be
+//! answered then as without the refusal. So every table may be played with each growth of memory refused in turn. Where it is
+//! ample, no call is made twice.
 
 ghost use Rattle.std.specs.Prelude.{IfOk};
 ghost use Rattle.late_cert.specs.Rows.{RowsRise};
 
+use crate::memory::Memory;
 use flash_die::Nand;
 use late_cert::{Certificate, JobRows};
 use slot_core::{DieCore, Outcome};
@@ -24,6 +26,7 @@ fn submit_once<N: Nand>(
 
 /// What becomes of a job of the task: its number, or why it is refused.
 pub(crate) fn submit<N: Nand>(
+    memory: Memory,
     die: &mut DieCore<N>,
     alloc: Global,
     task: u32,
@@ -32,66 +35,89 @@ pub(crate) fn submit<N: Nand>(
     ops: &[Op],
 ) -> Result<JobNo, Refusal> {
     match submit_once(die, alloc, task, release, due, ops) {
-        Err(Refusal::NoMemory) => submit_once(die, alloc, task, release, due, ops),
+        Err(Refusal::NoMemory) if memory.asks_again() => submit_once(
+            die, alloc, task, release, due, ops,
+        ),
         answer => answer,
     }
 }
 
 /// What becomes of a collection for task 0.
 pub(crate) fn collect<N: Nand>(
+    memory: Memory,
     die: &mut DieCore<N>,
     alloc: Global,
     release: u32,
     due: u32,
 ) -> Result<JobNo, Refusal> {
     match die.collect(alloc, 0, TaskNo(0), release, due) {
-        Err(Refusal::NoMemory) => die.collect(alloc, 0, TaskNo(0), release, due),
+        Err(Refusal::NoMemory) if memory.asks_again() => die.collect(
+            alloc,
+            0,
+            TaskNo(0),
+            release,
+            due,
+        ),
         answer => answer,
     }
 }
 
 /// Carries out the present slot.
-pub(crate) fn carry<N: Nand>(die: &mut DieCore<N>, alloc: Global) -> Result<SlotReply, Refusal> {
+pub(crate) fn carry<N: Nand>(
+    memory: Memory,
+    die: &mut DieCore<N>,
+    alloc: Global,
+) -> Result<SlotReply, Refusal> {
     match die.slot(alloc, 0) {
-        Err(Refusal::NoMemory) => die.slot(alloc, 0),
+        Err(Refusal::NoMemory) if memory.asks_again() => die.slot(alloc, 0),
         answer => answer,
     }
 }
 
 /// Reserves so many slots.
-pub(crate) fn reserve<N: Nand>(die: &mut DieCore<N>, slots: u32) -> Result<(), Refusal> {
+pub(crate) fn reserve<N: Nand>(
+    memory: Memory,
+    die: &mut DieCore<N>,
+    slots: u32,
+) -> Result<(), Refusal> {
     match die.reserve(slots) {
-        Err(Refusal::NoMemory) => die.reserve(slots),
+        Err(Refusal::NoMemory) if memory.asks_again() => die.reserve(slots),
         answer => answer,
     }
 }
 
 pub(crate) fn outcome_of<N: Nand>(
+    memory: Memory,
     die: &DieCore<N>,
     alloc: Global,
     number: u32,
 ) -> Result<Outcome, Refusal> {
     match die.outcome(alloc, JobNo(number)) {
-        Err(Refusal::NoMemory) => die.outcome(alloc, JobNo(number)),
+        Err(Refusal::NoMemory) if memory.asks_again() => die.outcome(alloc, JobNo(number)),
         answer => answer,
     }
 }
 
 pub(crate) fn certificate_of<N: Nand>(
+    memory: Memory,
     die: &DieCore<N>,
     alloc: Global,
 ) -> Result<Option<Certificate>, Refusal> {
     match die.certificate(alloc) {
-        Err(Refusal::NoMemory) => die.certificate(alloc),
+        Err(Refusal::NoMemory) if memory.asks_again() => die.certificate(alloc),
         answer => answer,
     }
 }
 
-pub(crate) fn rows_of<N: Nand>(die: &DieCore<N>, alloc: Global) -> Result<JobRows, Refusal>
+pub(crate) fn rows_of<N: Nand>(
+    memory: Memory,
+    die: &DieCore<N>,
+    alloc: Global,
+) -> Result<JobRows, Refusal>
     ensures { IfOk result (λ rows. RowsRise rows) }
 {
     match die.rows(alloc) {
-        Err(Refusal::NoMemory) => die.rows(alloc),
+        Err(Refusal::NoMemory) if memory.asks_again() => die.rows(alloc),
         answer => answer,
     }
 }

@@ -1,6 +1,7 @@
 //! The certificate of a die, and whether it is what it is to be.
 
 use crate::again::{certificate_of, rows_of};
+use crate::memory::Memory;
 use crate::steps::Bounds;
 use crate::told::Told;
 use flash_die::Nand;
@@ -48,17 +49,18 @@ pub(crate) fn is_certified<N: Nand, R: Abort>(
     alloc: Global,
     want: &Bounds,
 ) {
-    is_certificate(told, &certificate_of(die, alloc), want)
+    is_certificate(told, &certificate_of(told.memory, die, alloc), want)
 }
 
 /// What the check says of the die's certificate over its rows, if it has one.
 pub(crate) fn verdict_of<N: Nand>(
+    memory: Memory,
     die: &DieCore<N>,
     alloc: Global,
 ) -> Result<Option<Verdict>, Refusal> {
-    match certificate_of(die, alloc)? {
+    match certificate_of(memory, die, alloc)? {
         Some(certificate) => {
-            let rows = rows_of(die, alloc)?;
+            let rows = rows_of(memory, die, alloc)?;
             Ok(Some(check(&rows, &certificate)))
         }
         None => Ok(None),
@@ -66,14 +68,18 @@ pub(crate) fn verdict_of<N: Nand>(
 }
 
 /// Whether the die's certificate holds over its rows.
-pub(crate) fn holds<N: Nand>(die: &DieCore<N>, alloc: Global) -> bool {
-    verdict_of(die, alloc) == Ok(Some(Verdict::Holds))
+pub(crate) fn holds<N: Nand>(memory: Memory, die: &DieCore<N>, alloc: Global) -> bool {
+    verdict_of(memory, die, alloc) == Ok(Some(Verdict::Holds))
 }
 
 /// How many slots the jobs take together.
-pub(crate) fn work_of<N: Nand>(die: &DieCore<N>, alloc: Global) -> Result<u32, Refusal> {
+pub(crate) fn work_of<N: Nand>(
+    memory: Memory,
+    die: &DieCore<N>,
+    alloc: Global,
+) -> Result<u32, Refusal> {
     let mut work: u32 = 0;
-    for row in rows_of(die, alloc)?.as_slice() {
+    for row in rows_of(memory, die, alloc)?.as_slice() {
         work = work.wrapping_add(row.work);
     }
     Ok(work)
@@ -88,13 +94,14 @@ fn carried_of(alloc: Global, numbers: &[u32]) -> Result<Carried, Refusal> {
 }
 
 fn built<N: Nand>(
+    memory: Memory,
     die: &DieCore<N>,
     alloc: Global,
     job: u32,
     slots: &[u32],
 ) -> Result<Option<Certificate>, Refusal> {
     let carried = carried_of(alloc, slots)?;
-    let rows = rows_of(die, alloc)?;
+    let rows = rows_of(memory, die, alloc)?;
     build(alloc, &rows, &carried, JobNo(job))
 }
 
@@ -106,8 +113,10 @@ pub(crate) fn is_built<N: Nand, R: Abort>(
     slots: &[u32],
     want: &Bounds,
 ) {
-    let got = match built(die, alloc, want.job, slots) {
-        Err(Refusal::NoMemory) => built(die, alloc, want.job, slots),
+    let got = match built(told.memory, die, alloc, want.job, slots) {
+        Err(Refusal::NoMemory) if told.memory.asks_again() => {
+            built(told.memory, die, alloc, want.job, slots)
+        }
         answer => answer,
     };
     is_certificate(told, &got, want)

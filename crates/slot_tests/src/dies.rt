@@ -2,6 +2,7 @@
 
 ghost use Rattle.flash_die.specs.Flash.{IsFresh};
 
+use crate::memory::Memory;
 use crate::plans::Plan;
 use crate::played::play;
 use crate::steps::Step;
@@ -9,11 +10,12 @@ use flash_die::{FuseNand, MemoryNand, Nand};
 use slot_core::DieCore;
 use slot_types::Refusal;
 use std::alloc::Global;
+use std::env::Env;
 use std::process::Abort;
 
 /// Plays a table behind a history, on a new die with this device.
 fn plays_on<N: Nand>(
-    rt: &impl Abort,
+    rt: &(impl Abort + Env),
     alloc: Global,
     plan: &Plan,
     device: N,
@@ -23,13 +25,14 @@ fn plays_on<N: Nand>(
     requires fresh { IsFresh (N.shape_of device) (N.blocks device) (N.failures device) }
 {
     let mut die = DieCore::boxed(alloc, plan.of_die(alloc)?, device)?;
-    play(rt, &mut die, alloc, "history", history);
-    play(rt, &mut die, alloc, "table", steps);
+    let memory = Memory::of(rt);
+    play(rt, memory, &mut die, alloc, "history", history);
+    play(rt, memory, &mut die, alloc, "table", steps);
     Ok(())
 }
 
 fn plays_once(
-    rt: &impl Abort,
+    rt: &(impl Abort + Env),
     alloc: Global,
     plan: &Plan,
     history: &[Step],
@@ -39,23 +42,25 @@ fn plays_once(
     plays_on(rt, alloc, plan, device, history, steps)
 }
 
-/// Plays a table behind a history, on a new die. Where memory is refused for the die, another one is made.
+/// Plays a table behind a history, on a new die. Where memory is scarce and is refused for the die, another one is made.
 pub(crate) fn plays_behind(
-    rt: &impl Abort,
+    rt: &(impl Abort + Env),
     alloc: Global,
     plan: &Plan,
     history: &[Step],
     steps: &[Step],
 ) -> Result<(), Refusal> {
     match plays_once(rt, alloc, plan, history, steps) {
-        Err(Refusal::NoMemory) => plays_once(rt, alloc, plan, history, steps),
+        Err(Refusal::NoMemory) if Memory::of(rt).asks_again() => plays_once(
+            rt, alloc, plan, history, steps,
+        ),
         answer => answer,
     }
 }
 
 /// Plays a table on a new die.
 pub(crate) fn plays(
-    rt: &impl Abort,
+    rt: &(impl Abort + Env),
     alloc: Global,
     plan: &Plan,
     steps: &[Step],
@@ -64,7 +69,7 @@ pub(crate) fn plays(
 }
 
 fn plays_fused_once(
-    rt: &impl Abort,
+    rt: &(impl Abort + Env),
     alloc: Global,
     plan: &Plan,
     calls: u64,
@@ -74,17 +79,19 @@ fn plays_fused_once(
     plays_on(rt, alloc, plan, device, &[], steps)
 }
 
-/// Plays a table on a new die whose device fails behind so many calls. Where memory is refused for the die, another one is
-/// made.
+/// Plays a table on a new die whose device fails behind so many calls. Where memory is scarce and is refused for the
+/// die, another one is made.
 pub(crate) fn plays_fused(
-    rt: &impl Abort,
+    rt: &(impl Abort + Env),
     alloc: Global,
     plan: &Plan,
     calls: u64,
     steps: &[Step],
 ) -> Result<(), Refusal> {
     match plays_fused_once(rt, alloc, plan, calls, steps) {
-        Err(Refusal::NoMemory) => plays_fused_once(rt, alloc, plan, calls, steps),
+        Err(Refusal::NoMemory) if Memory::of(rt).asks_again() => plays_fused_once(
+            rt, alloc, plan, calls, steps,
+        ),
         answer => answer,
     }
 }

@@ -3,6 +3,8 @@
 use crate::again::{certificate_of, submit};
 use crate::certified::holds;
 use crate::collections::{COPIES_AND_ERASES, HISTORY};
+use crate::memory::Memory;
+use crate::pages::READ;
 use crate::plans::TIGHT;
 use crate::steps::Step;
 use flash_die::{FuseNand, MemoryNand, Nand};
@@ -44,9 +46,23 @@ fn carry<N: Nand>(die: &mut DieCore<N>, alloc: Global) -> Result<Told, Refusal> 
 /// Whether what stands of a stopped die is read off its log: its worst job is the one from before the fault.
 fn still_answers<N: Nand>(die: &DieCore<N>, alloc: Global, worst: Option<Worst>) -> bool {
     match worst {
-        None => die.worst().is_none() & matches!(certificate_of(die, alloc), Ok(None)),
-        Some(_) => (die.worst() == worst) & holds(die, alloc),
+        None => die.worst().is_none()
+            & matches!(certificate_of(Memory::Ample, die, alloc), Ok(None)),
+        Some(_) => (die.worst() == worst) & holds(Memory::Ample, die, alloc),
     }
+}
+
+/// Whether a stopped die refuses a job, a collection and a slot as such, and its log stays.
+fn refuses_all<N: Nand>(die: &mut DieCore<N>, alloc: Global) -> bool {
+    let (now, entries) = (die.now(), die.len());
+    let due = now.wrapping_add(9);
+    let job = submit(Memory::Ample, die, alloc, 0, now, due, &[READ]);
+    let collection = die.collect(alloc, 0, TaskNo(0), now, due);
+    let slot = carry(die, alloc);
+    (job == Err(Refusal::DieStopped))
+        & (collection == Err(Refusal::DieStopped))
+        & (slot == Err(Refusal::DieStopped))
+        & (die.len() == entries)
 }
 
 impl Beside {
@@ -114,8 +130,8 @@ impl Beside {
                 ops,
                 ..
             } => self.takes(
-                submit(fused, alloc, *task, *release, *due, *ops),
-                submit(whole, alloc, *task, *release, *due, *ops),
+                submit(Memory::Ample, fused, alloc, *task, *release, *due, *ops),
+                submit(Memory::Ample, whole, alloc, *task, *release, *due, *ops),
             ),
             Step::Collect { release, due, .. } => self.takes(
                 fused.collect(alloc, 0, TaskNo(0), *release, *due),
@@ -158,7 +174,8 @@ fn play<N: Nand, M: Nand>(
     };
     let begins = beside.goes_all(fused, whole, alloc, HISTORY);
     let ends = beside.goes_all(fused, whole, alloc, COPIES_AND_ERASES);
-    if begins & ends & (fused.len() == beside.accepted) {
+    let refuses = !beside.stopped || refuses_all(fused, alloc);
+    if begins & ends & refuses & (fused.len() == beside.accepted) {
         Some(beside.stopped)
     } else {
         None
@@ -180,7 +197,8 @@ fn play_fused(alloc: Global, calls: u64) -> Result<Option<bool>, Refusal> {
 }
 
 /// The history makes nineteen calls of the device. At whichever it fails, one slot tells the fault and all later calls find
-/// the die stopped; up to there each call is answered as without a fault, and the log keeps just those.
+/// the die stopped, a job, a collection and a slot behind the history, too; up to there each call is answered as without a
+/// fault, and the log keeps just those.
 #[test]
 fn each_call_of_the_device_fails_in_turn(rt: HostRuntime) -> Result<(), Fail> {
     for calls in 0..19u64 {

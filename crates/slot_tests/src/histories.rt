@@ -3,6 +3,7 @@
 
 use crate::again::submit;
 use crate::dies::plays;
+use crate::memory::Memory;
 use crate::pages::BLANK;
 use crate::plans::DENSE;
 use crate::steps::Fact::Holds;
@@ -51,6 +52,7 @@ fn arrive<N: Nand>(die: &mut DieCore<N>, alloc: Global, dice: u32, now: u32) -> 
     let bytes = CONTENTS[(dice / 2097152 % 4) as usize];
     match dice / 16777216 % 8 {
         0..=3 => submit(
+            Memory::Ample,
             die,
             alloc,
             0,
@@ -59,15 +61,26 @@ fn arrive<N: Nand>(die: &mut DieCore<N>, alloc: Global, dice: u32, now: u32) -> 
             &[Op::Write(page, bytes)],
         )
         .is_ok(),
-        4 => submit(die, alloc, 0, now, now.wrapping_add(8), &[Op::Read(page)]).is_ok(),
+        4 => submit(
+            Memory::Ample,
+            die,
+            alloc,
+            0,
+            now,
+            now.wrapping_add(8),
+            &[Op::Read(page)],
+        )
+        .is_ok(),
         5 if dice / 8388608 % 2 == 0 => submit(
+            Memory::Ample,
             die,
             alloc,
             0,
             now,
             now.wrapping_add(8),
             &[Op::Trim(page)],
-        ).is_ok(),
+        )
+        .is_ok(),
         _ => die
             .collect(alloc, 0, TaskNo(0), now, now.wrapping_add(16))
             .is_ok(),

@@ -25,7 +25,17 @@ pub(crate) fn idles<N: Nand, R: Abort>(
     alloc: Global,
     slot: u32,
 ) {
-    told.same(&carry(die, alloc), &Ok(idle(alloc, slot)))
+    told.same(&carry(told.memory, die, alloc), &Ok(idle(alloc, slot)))
+}
+
+/// The present slot has this number and is idle, when it is asked for the first time.
+pub(crate) fn idles_at_once<N: Nand, R: Abort>(
+    told: &Told<R>,
+    die: &mut DieCore<N>,
+    alloc: Global,
+    slot: u32,
+) {
+    told.same(&die.slot(alloc, 0), &Ok(idle(alloc, slot)))
 }
 
 /// What the die answers to a run of so many slots.
@@ -59,7 +69,7 @@ pub(crate) fn runs<N: Nand, R: Abort>(
 ) {
     let first = die.now();
     let answer = match run_of(die, alloc, slots) {
-        Err(Refusal::NoMemory) => run_of(die, alloc, slots),
+        Err(Refusal::NoMemory) if told.memory.asks_again() => run_of(die, alloc, slots),
         answer => answer,
     };
     match answer {

@@ -31,6 +31,8 @@ mod jobs;
 #[cfg(test)]
 mod loaded;
 #[cfg(test)]
+mod memory;
+#[cfg(test)]
 mod nexts;
 #[cfg(test)]
 mod outcomes;

@@ -2,6 +2,7 @@
 //! due, and none behind it.
 
 use crate::certified::holds;
+use crate::memory::Memory;
 use crate::pages::ONES;
 use flash_die::{MemoryNand, Nand};
 use plan_rules::{Load, bound, keeps_plan, plan_test};
@@ -182,7 +183,7 @@ type End = (Option<usize>, Option<Worst>, bool);
 
 fn end_of<N: Nand>(die: &mut DieCore<N>, alloc: Global, events: Items<Event>) -> End {
     let wrong = first_wrong(die, alloc, events);
-    (wrong, die.worst(), holds(die, alloc))
+    (wrong, die.worst(), holds(Memory::Ample, die, alloc))
 }
 
 /// What a recorder comes to in so many slots, on a new die.

@@ -44,6 +44,6 @@ pub(crate) fn ended<N: Nand, R: Abort>(
     number: u32,
     want: &End,
 ) {
-    let got = outcome_of(die, alloc, number);
+    let got = outcome_of(told.memory, die, alloc, number);
     told.fits(is_end(&got, want), &got, want)
 }

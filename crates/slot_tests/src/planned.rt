@@ -1,42 +1,17 @@
-//! A recorder of 400 slots that keeps to its plan: none of its events is refused, and no job is late.
-//!
-//! A job of a read and a write comes each 10 slots, a collection each 20, on a die of 4 blocks and 2 logical pages.
+//! Dies whose events keep to their plan: none of these is refused, and no job is late.
 
-use crate::pages::ONES;
+use crate::dies::plays;
+use crate::pages::{BLANK, ONES};
+use crate::plans::PLANNED;
+use crate::steps::Fact::{Certified, Done, Holds, Now, Waived, Worst};
+use crate::steps::Step::{Carries, Collect, Is, Runs, Submit, Waives};
+use crate::steps::{Bounds, Step};
 use flash_die::MemoryNand;
 use plan_rules::{Load, bound, keeps_plan, plan_test};
 use slot_core::DieCore;
-use slot_types::{
-    Caps, DiePlan, Event, Items, Op, Refusal, Reply, Shape, TaskNo, TaskTimes, Times, TimesList,
-};
+use slot_types::{DiePlan, Event, Items, Op, Refusal, Reply, TaskNo};
 use std::alloc::Global;
 use std::test::Fail;
-
-const SHAPE: Shape = Shape {
-    blocks: 4,
-    pages: 4,
-    erase_slots: 3,
-};
-
-/// One task of 6 tokens, with its times.
-fn die_plan(alloc: Global) -> Result<DiePlan, Refusal> {
-    let mut caps = Caps::new(alloc);
-    caps.push(6)?;
-    let mut tasks = TimesList::new(alloc);
-    tasks.push(TaskTimes {
-        period: 10,
-        collect_period: 20,
-        work: 2,
-        writes: 1,
-    })?;
-    Ok(DiePlan {
-        shape: SHAPE,
-        logical: 2,
-        alpha: 2,
-        caps,
-        times: Some(Times { common: 20, tasks }),
-    })
-}
 
 /// What the test says of a plan that meets its bound.
 fn load_of(plan: &DiePlan) -> Result<Load, Refusal> {
@@ -88,7 +63,7 @@ fn counts(replies: &[Reply]) -> (u32, u32) {
 #[test]
 fn no_planned_event_is_refused(rt: HostRuntime) -> Result<(), Fail> {
     let alloc = rt.alloc();
-    let plan = die_plan(alloc)?;
+    let plan = PLANNED.of_die(alloc)?;
     // two jobs of 2 operations, and a collection of at most 7 slots
     assert_eq!(&rt;
         load_of(&plan),
@@ -99,7 +74,7 @@ fn no_planned_event_is_refused(rt: HostRuntime) -> Result<(), Fail> {
     );
     let events = events_of(alloc, 400)?;
     assert!(&rt; keeps_plan(&plan, &events));
-    let mut die = DieCore::boxed(alloc, plan, MemoryNand::new(alloc, SHAPE)?)?;
+    let mut die = DieCore::boxed(alloc, plan, MemoryNand::new(alloc, PLANNED.shape)?)?;
     let replies = die.run(alloc, events)?;
     assert_eq!(&rt; counts(replies.as_slice()), (60, 0));
     let in_time = match die.worst() {
@@ -108,4 +83,31 @@ fn no_planned_event_is_refused(rt: HostRuntime) -> Result<(), Fail> {
     };
     assert!(&rt; in_time);
     Ok(())
+}
+
+/// A read, and ten slots later a write. The collection that came first is waived in slot 1, in which 8 pages are spare and its
+/// task owns its cap, so it gives nothing.
+#[rattlefmt::skip]
+const A_READ_AND_A_WRITE: &[Step] = &[
+    Collect { release: 0, due: 20, want: Ok(0) },
+    Submit { task: 0, release: 0, due: 10, ops: &[Op::Read(0)], want: Ok(1) },
+    Carries { jobs: &[1] },
+    Is(Done { job: 1, completion: 1, lateness: -9, reads: &[BLANK] }),
+    Is(Now { slot: 1 }),
+    Waives { collection: 0, given: 0 },
+    Is(Waived { collection: 0, given: 0 }),
+    Runs { slots: 8 },
+    Submit { task: 0, release: 10, due: 20, ops: &[Op::Write(1, ONES)], want: Ok(2) },
+    Carries { jobs: &[2] },
+    Is(Done { job: 2, completion: 11, lateness: -9, reads: &[] }),
+    Runs { slots: 9 },
+    Is(Now { slot: 20 }),
+    Is(Worst { job: 1, lateness: -9 }),
+    Is(Certified(Bounds { job: 1, start: 0, due: 10, completion: 1, jobs: &[1] })),
+    Is(Holds),
+];
+
+#[test]
+fn a_planned_read_and_write_are_in_time(rt: HostRuntime) -> Result<(), Fail> {
+    Ok(plays(&rt, rt.alloc(), &PLANNED, A_READ_AND_A_WRITE)?)
 }

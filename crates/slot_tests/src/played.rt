@@ -3,7 +3,8 @@
 use crate::again::{carry, certificate_of, collect, outcome_of, reserve, submit};
 use crate::certified::{is_built, is_certified, verdict_of, work_of};
 use crate::histories::agrees;
-use crate::idle::{idles, runs};
+use crate::idle::{idles, idles_at_once, runs};
+use crate::memory::Memory;
 use crate::nexts::is_next;
 use crate::outcomes::{End, ended};
 use crate::slotted::{acts, at_once, carries, passes, waives};
@@ -44,7 +45,10 @@ fn submits<N: Nand, R: Abort>(
     ops: &[Op],
 ) {
     for _ in 0..jobs {
-        told.same(&submit(die, alloc, 0, release, due, ops).err(), &None);
+        told.same(
+            &submit(told.memory, die, alloc, 0, release, due, ops).err(),
+            &None,
+        );
     }
 }
 
@@ -81,13 +85,19 @@ fn stands<N: Nand, R: Abort>(told: &Told<R>, die: &DieCore<N>, alloc: Global, fa
         }
         Fact::Waived { collection, given } => {
             told.same(
-                &outcome_of(die, alloc, *collection),
+                &outcome_of(told.memory, die, alloc, *collection),
                 &Ok(Outcome::Waived { given: *given }),
             )
         }
-        Fact::Waiting { job } => told.same(&outcome_of(die, alloc, *job), &Ok(Outcome::Waiting)),
+        Fact::Waiting { job } => told.same(
+            &outcome_of(told.memory, die, alloc, *job),
+            &Ok(Outcome::Waiting),
+        ),
         Fact::Unknown { job } => {
-            told.same(&outcome_of(die, alloc, *job), &Err(Refusal::UnknownJob))
+            told.same(
+                &outcome_of(told.memory, die, alloc, *job),
+                &Err(Refusal::UnknownJob),
+            )
         }
         Fact::Worst { job, lateness } => {
             let want = Worst {
@@ -98,12 +108,15 @@ fn stands<N: Nand, R: Abort>(told: &Told<R>, die: &DieCore<N>, alloc: Global, fa
         }
         Fact::NothingDone => {
             told.same(&die.worst(), &None);
-            told.same(&certificate_of(die, alloc), &Ok(None))
+            told.same(&certificate_of(told.memory, die, alloc), &Ok(None))
         }
         Fact::Certified(bounds) => is_certified(told, die, alloc, bounds),
         Fact::Built { slots, certificate } => is_built(told, die, alloc, *slots, certificate),
-        Fact::Holds => told.same(&verdict_of(die, alloc), &Ok(Some(Verdict::Holds))),
-        Fact::Work { slots } => told.same(&work_of(die, alloc), &Ok(*slots)),
+        Fact::Holds => told.same(
+            &verdict_of(told.memory, die, alloc),
+            &Ok(Some(Verdict::Holds)),
+        ),
+        Fact::Work { slots } => told.same(&work_of(told.memory, die, alloc), &Ok(*slots)),
         Fact::Entries { count } => told.same(&die.len(), count),
         Fact::Records { count } => told.same(&die.records(), count),
         Fact::Now { slot } => told.same(&die.now(), slot),
@@ -122,7 +135,7 @@ fn goes<N: Nand, R: Abort>(told: &Told<R>, die: &mut DieCore<N>, alloc: Global, 
             want,
         } => {
             told.same(
-                &numbered(submit(die, alloc, *task, *release, *due, *ops)),
+                &numbered(submit(told.memory, die, alloc, *task, *release, *due, *ops)),
                 want,
             )
         }
@@ -133,19 +146,23 @@ fn goes<N: Nand, R: Abort>(told: &Told<R>, die: &mut DieCore<N>, alloc: Global, 
             ops,
         } => { submits(told, die, alloc, *jobs, *release, *due, *ops) }
         Step::Collect { release, due, want } => {
-            told.same(&numbered(collect(die, alloc, *release, *due)), want)
+            told.same(
+                &numbered(collect(told.memory, die, alloc, *release, *due)),
+                want,
+            )
         }
         Step::Carries { jobs } => carries(told, die, alloc, *jobs),
         Step::Acts { job, acts: wanted } => acts(told, die, alloc, *job, *wanted),
         Step::Waives { collection, given } => waives(told, die, alloc, *collection, *given),
         Step::Idles { slot } => idles(told, die, alloc, *slot),
+        Step::IdlesAtOnce { slot } => idles_at_once(told, die, alloc, *slot),
         Step::Runs { slots } => runs(told, die, alloc, *slots),
         Step::Passes { slots } => passes(told, die, alloc, *slots),
-        Step::Reserves { slots } => told.same(&reserve(die, *slots), &Ok(())),
+        Step::Reserves { slots } => told.same(&reserve(told.memory, die, *slots), &Ok(())),
         Step::AtOnce { slots } => at_once(told, die, alloc, *slots),
         Step::Renews { want } => told.same(&renewed(die.renew()), want),
         Step::Next { ran, call } => is_next(told, die, alloc, *ran, *call),
-        Step::NoSlot { want } => told.same(&carry(die, alloc), &Err(*want)),
+        Step::NoSlot { want } => told.same(&carry(told.memory, die, alloc), &Err(*want)),
         Step::History { seed } => agrees(told, die, alloc, *seed),
         Step::Is(fact) => stands(told, die, alloc, fact),
     }
@@ -154,6 +171,7 @@ fn goes<N: Nand, R: Abort>(told: &Told<R>, die: &mut DieCore<N>, alloc: Global, 
 /// Plays a table on a die. The test fails at the first step that goes otherwise than it says.
 pub(crate) fn play<N: Nand, R: Abort>(
     rt: &R,
+    memory: Memory,
     die: &mut DieCore<N>,
     alloc: Global,
     table: &str,
@@ -162,6 +180,7 @@ pub(crate) fn play<N: Nand, R: Abort>(
     for (place, step) in steps.iter().enumerate() {
         let told = Told {
             rt,
+            memory,
             table,
             step: place.saturating_add(1),
         };

@@ -3,9 +3,9 @@
 use crate::dies::plays;
 use crate::pages::READ;
 use crate::plans::ROOMY;
-use crate::steps::Fact::{Entries, NothingDone, Now, Reserved, Waived};
+use crate::steps::Fact::{Entries, NothingDone, Now, Records, Reserved, Waived};
 use crate::steps::Step;
-use crate::steps::Step::{AtOnce, Collect, Is, Reserves, Submit};
+use crate::steps::Step::{AtOnce, Collect, IdlesAtOnce, Is, Reserves, Submit};
 use std::test::Fail;
 
 /// A job and a collection come in between. The first slot carries the job, which is due first; the second waives the collection.
@@ -43,4 +43,23 @@ const IDLE_SLOTS: &[Step] = &[
 #[test]
 fn a_smaller_reserve_takes_nothing_away(rt: HostRuntime) -> Result<(), Fail> {
     Ok(plays(&rt, rt.alloc(), &ROOMY, IDLE_SLOTS)?)
+}
+
+/// A die without a job, whose slots are reserved. Each reply is that of an idle slot.
+#[rattlefmt::skip]
+const RESERVED_IDLE_SLOTS: &[Step] = &[
+    Reserves { slots: 3 },
+    IdlesAtOnce { slot: 0 },
+    IdlesAtOnce { slot: 1 },
+    IdlesAtOnce { slot: 2 },
+    Is(NothingDone),
+    Is(Reserved { slots: 0 }),
+    Is(Entries { count: 3 }),
+    Is(Records { count: 1 }),
+    Is(Now { slot: 3 }),
+];
+
+#[test]
+fn reserved_slots_without_a_job_are_idle(rt: HostRuntime) -> Result<(), Fail> {
+    Ok(plays(&rt, rt.alloc(), &ROOMY, RESERVED_IDLE_SLOTS)?)
 }

@@ -27,7 +27,7 @@ pub(crate) fn carries<N: Nand, R: Abort>(
     jobs: &[u32],
 ) {
     for job in jobs {
-        let got = carry(die, alloc);
+        let got = carry(told.memory, die, alloc);
         told.fits(is_of(&got, JobNo(*job)), &got, &JobNo(*job));
     }
 }
@@ -49,7 +49,7 @@ pub(crate) fn acts<N: Nand, R: Abort>(
     acts: &[Act],
 ) {
     for act in acts {
-        let got = carry(die, alloc);
+        let got = carry(told.memory, die, alloc);
         let want = (JobNo(job), *act);
         told.fits(is_act(&got, want), &got, &want);
     }
@@ -71,7 +71,7 @@ pub(crate) fn waives<N: Nand, R: Abort>(
     collection: u32,
     given: u32,
 ) {
-    let got = carry(die, alloc);
+    let got = carry(told.memory, die, alloc);
     let want = Waived {
         number: JobNo(collection),
         given,
@@ -87,7 +87,7 @@ pub(crate) fn passes<N: Nand, R: Abort>(
     slots: u32,
 ) {
     for _ in 0..slots {
-        told.same(&carry(die, alloc).err(), &None);
+        told.same(&carry(told.memory, die, alloc).err(), &None);
     }
 }
 

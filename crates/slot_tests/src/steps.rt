@@ -55,6 +55,10 @@ pub(crate) enum Step<'a> {
     Idles {
         slot: u32,
     },
+    /// The present slot has this number, and is idle, when it is asked for the first time.
+    IdlesAtOnce {
+        slot: u32,
+    },
     /// So many slots are asked for in one call, and each is idle.
     Runs {
         slots: u32,

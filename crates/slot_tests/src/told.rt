@@ -1,5 +1,6 @@
 //! How a table fails: it tells which step went otherwise than it says, what that step wants, and what the die answered.
 
+use crate::memory::Memory;
 use std::fmt::Debug;
 use std::process::Abort;
 
@@ -7,6 +8,7 @@ use std::process::Abort;
 #[derive(Drop)]
 pub(crate) struct Told<'a, R: Abort> {
     pub(crate) rt: &'a R,
+    pub(crate) memory: Memory,
     pub(crate) table: &'a str,
     pub(crate) step: usize,
 }
