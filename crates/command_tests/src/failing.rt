@@ -1,7 +1,5 @@
 //! Readers that fail, an error writer that does, and texts without an end.
 
-ghost use Rattle.flash_commands.specs.Commands.{FitsRun};
-
 use crate::printed::{AUDIT, PLAN_COMMAND};
 use crate::writers::{End, Slow};
 use example_texts::{PLAN, TWO_REPORT};
@@ -50,9 +48,7 @@ fn fails_at<R: Threads + Wait + Sync>(
     command: Command<'_>,
     text: &str,
     calls: usize,
-) -> Option<bool>
-    requires { FitsRun command }
-{
+) -> Option<bool> {
     let (mut out, mut err) = (Vec::new(alloc), Vec::new(alloc));
     let first = FailingReader {
         text: text.as_bytes(),

@@ -3,7 +3,7 @@
 use crate::printed::Printed;
 use crate::words::words_in;
 use example_texts::{PLAN, REPORT, SCRIPT, TWO_REPORT};
-use flash_commands::{Folder, act_on, read_words};
+use flash_commands::{Fault, Folder, act, end, open, read_words};
 use slot_types::Refusal;
 use std::alloc::Global;
 use std::cell::Cell;
@@ -42,7 +42,10 @@ fn played<R: Threads + Wait + Sync, D: Folder>(
     let words = words_in(alloc, line)?;
     let (mut out, mut err) = (Vec::new(alloc), Vec::new(alloc));
     let status = match read_words(alloc, words.as_slice()) {
-        Ok(command) => act_on(rt, alloc, folder, command, &mut out, &mut err),
+        Ok(command) => match open(folder, command) {
+            Ok((first, second)) => act(rt, alloc, command, first, second, &mut out, &mut err),
+            Err(refusal) => end(&mut err, Err(Fault::Refused(refusal))),
+        },
         Err(_) => 2,
     };
     Ok(Printed { out, err, status })

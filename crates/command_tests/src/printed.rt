@@ -1,8 +1,6 @@
 //! What a command printed of the tests' texts.
 
-ghost use Rattle.flash_commands.specs.Commands.{FitsRun};
-
-use flash_commands::{Command, act};
+use flash_commands::{Command, Slots, Workers, act};
 use std::alloc::Global;
 use std::io;
 use std::sync::Wait;
@@ -30,9 +28,7 @@ pub(crate) fn acted<R: Threads + Wait + Sync>(
     alloc: Global,
     command: Command<'_>,
     text: &[u8],
-) -> Printed
-    requires { FitsRun command }
-{
+) -> Printed {
     let (mut out, mut err) = (Vec::new(alloc), Vec::new(alloc));
     let status = act(rt, alloc, command, text, io::empty(), &mut out, &mut err);
     Printed { out, err, status }
@@ -43,3 +39,13 @@ pub(crate) const PLAN_COMMAND: Command<'static> = Command::Plan { plan: "plan.to
 pub(crate) const AUDIT: Command<'static> = Command::Audit {
     report: "report.csv",
 };
+
+/// The run of a script for so many slots by so many workers, if a run can have them.
+pub(crate) fn run_command(slots: u32, workers: u32) -> Option<Command<'static>> {
+    Some(Command::Run {
+        plan: "p.toml",
+        script: "s.csv",
+        slots: Slots::new(slots)?,
+        workers: Workers::new(workers)?,
+    })
+}

@@ -1,5 +1,6 @@
 //! The words of the command line, and what clap shows of them.
 
+use crate::printed::run_command;
 use flash_commands::{Command, Fault, read_words};
 use std::alloc::{AllocError, Global};
 use std::test::Fail;
@@ -17,42 +18,39 @@ pub(crate) fn words_in(alloc: Global, line: &str) -> Result<Vec<String>, AllocEr
 fn words_name_a_command(rt: HostRuntime) -> Result<(), Fail> {
     let alloc = rt.alloc();
     for (line, command) in [
-        ("flashrec", Command::Alone),
-        ("flashrec audit r.csv", Command::Audit { report: "r.csv" }),
-        ("flashrec plan p.toml", Command::Plan { plan: "p.toml" }),
+        ("flashrec", Some(Command::Alone)),
         (
-            "flashrec run p.toml s.csv --slots 0",
-            Command::Run {
-                plan: "p.toml",
-                script: "s.csv",
-                slots: 0,
-                workers: 1,
-            },
+            "flashrec audit r.csv",
+            Some(Command::Audit { report: "r.csv" }),
         ),
         (
+            "flashrec plan p.toml",
+            Some(Command::Plan { plan: "p.toml" }),
+        ),
+        ("flashrec run p.toml s.csv --slots 0", run_command(0, 1)),
+        (
             "flashrec run p.toml --slots=1048576 s.csv",
-            Command::Run {
-                plan: "p.toml",
-                script: "s.csv",
-                slots: 1_048_576,
-                workers: 1,
-            },
+            run_command(1_048_576, 1),
         ),
         (
             "flashrec run p.toml s.csv --workers 16 --slots 5",
-            Command::Run {
-                plan: "p.toml",
-                script: "s.csv",
-                slots: 5,
-                workers: 16,
-            },
+            run_command(5, 16),
         ),
     ] {
         let words = words_in(alloc, line)?;
         let read = read_words(alloc, words.as_slice());
-        assert!(rt; read.is_ok_and(|read| read == command), "{line}");
+        assert!(rt; command.is_some() && read.ok() == command, "{line}");
     }
     Ok(())
+}
+
+/// The numbers of a run are in their ranges, and no other number makes one.
+#[test]
+fn a_run_has_its_numbers_in_their_ranges(rt: HostRuntime) {
+    assert!(rt; run_command(1_048_577, 1).is_none());
+    assert!(rt; run_command(u32::MAX, 1).is_none());
+    assert!(rt; run_command(5, 0).is_none());
+    assert!(rt; run_command(5, 17).is_none());
 }
 
 #[test]

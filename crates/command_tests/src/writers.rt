@@ -1,7 +1,5 @@
 //! Writers that take a few bytes a call, and fail: what they took by then, and what is told.
 
-ghost use Rattle.flash_commands.specs.Commands.{FitsRun};
-
 use crate::printed::{AUDIT, PLAN_COMMAND, Printed, acted};
 use example_texts::{PLAN, TWO_REPORT};
 use flash_commands::{Command, act};
@@ -79,9 +77,7 @@ fn slowly<R: Threads + Wait + Sync>(
     most: usize,
     calls: usize,
     end: End,
-) -> Printed
-    requires { FitsRun command }
-{
+) -> Printed {
     let mut out = Slow {
         text: Vec::new(alloc),
         most,
@@ -114,9 +110,7 @@ fn cuts<R: Threads + Wait + Sync>(
     text: &[u8],
     most: usize,
     end: End,
-) -> Option<usize>
-    requires { FitsRun command }
-{
+) -> Option<usize> {
     let whole = acted(rt, alloc, command, text);
     for calls in 0..1000 {
         let printed = slowly(rt, alloc, command, text, most, calls, end);
@@ -137,9 +131,7 @@ fn calls_for<R: Threads + Wait + Sync>(
     command: Command<'_>,
     text: &[u8],
     most: usize,
-) -> Option<usize>
-    requires { FitsRun command }
-{
+) -> Option<usize> {
     let bytes = acted(rt, alloc, command, text).out.len();
     bytes.checked_add(most)?.checked_sub(1)?.checked_div(most)
 }

@@ -2,7 +2,7 @@
 //! its status with the one that it is to end with.
 #![tactic(auto)]
 
-use flash_commands::{Disk, Fault, act_on, read_words};
+use flash_commands::{Disk, Fault, act, end, open, read_words};
 use std::alloc::{AllocError, Global};
 use std::io;
 use std::io::Write;
@@ -69,7 +69,10 @@ fn status_of<R: Files + Threads + Wait + Sync, W: Write, E: Write>(
 ) -> Result<u8, AllocError> {
     let words = words_in(alloc, line)?;
     match read_words(alloc, words.as_slice()) {
-        Ok(command) => Ok(act_on(rt, alloc, &Disk::new(rt), command, out, err)),
+        Ok(command) => match open(&Disk::new(rt), command) {
+            Ok((first, second)) => Ok(act(rt, alloc, command, first, second, out, err)),
+            Err(refusal) => Ok(end(err, Err(Fault::Refused(refusal)))),
+        },
         Err(error) => Ok(Fault::Words(error).status()),
     }
 }

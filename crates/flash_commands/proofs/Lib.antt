@@ -1,5 +1,4 @@
 mod KindLemmas
 mod Endings
-mod Unopened
 mod Told
 mod Judging

@@ -69,14 +69,14 @@ RefusesRun plan script slots refusal = RefusesFigures plan refusal ⊎ ((dies : 
 abbrev pub Prints : Command → Option (List ℕ) → Option (List ℕ) → Option (List ℕ) → Option (List ℕ) → ℕ → Type 0
 Prints (command.Audit report) first second old new status = PrintsAudit first old new status
 Prints (command.Plan plan) first second old new status = PrintsFigures first old new × (status ≡ 0)
-Prints (command.Run plan script slots workers) first second old new status = PrintsRun first second slots old new × (status ≡ 0)
+Prints (command.Run plan script slots workers) first second old new status = PrintsRun first second slots.count old new × (status ≡ 0)
 Prints command.Alone first second old new status = PrintsRun (Some PLAN.now) (Some SCRIPT.now) SLOTS old new × (status ≡ 0)
 
 -- why a command is refused
 abbrev pub Refuses : Command → Option (List ℕ) → Option (List ℕ) → Refusal → Type 0
 Refuses (command.Audit report) first second refusal = RefusesAudit first refusal
 Refuses (command.Plan plan) first second refusal = RefusesFigures first refusal
-Refuses (command.Run plan script slots workers) first second refusal = RefusesRun first second slots refusal
+Refuses (command.Run plan script slots workers) first second refusal = RefusesRun first second slots.count refusal
 Refuses command.Alone first second refusal = RefusesRun (Some PLAN.now) (Some SCRIPT.now) SLOTS refusal
 
 -- a refusal other than the writer's own leaves the writer as it was

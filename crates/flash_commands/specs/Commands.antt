@@ -1,11 +1,12 @@
 -- What the words of a command line ask for.
-use Rattle.std.specs.Prelude.{ℕ, ◌≤◌, ⊤, nat_le, ◌&&◌, List, [], ◌∷◌, codes, Option, Some, None, option_and_then, if◌then◌else◌}
+use Rattle.std.specs.Prelude.{ℕ, List, [], ◌∷◌, codes, Option, Some, None, option_and_then, if◌then◌else◌}
 use Rattle.std.specs.Str.{bytes_eq}
 use Rattle.clap.specs.Words.{Row, Text, first_of, subcommand_of}
 use Rattle.clap.specs.Kinds.{Kinds, or_else}
 use Rattle.clap.specs.Faults.{fault_of}
 use Rattle.clap.specs.declared.error.kind.ErrorKind.TheVariants.{ValueValidation}
 use Rattle.text_base.specs.Number.{number_of}
+use Rattle.flash_commands.specs.Ranges.{number_within}
 use Rattle.flash_commands.specs.Syntax.{flashrec_app}
 use Rattle.flash_commands.specs.declared.commands.Command.{Command}
 use Rattle.flash_commands.specs.declared.commands.Command.TheVariants as command
@@ -19,23 +20,18 @@ pub data Task : Type 0 where
 
 abbrev pub task_of : Command → Task
 task_of command.Alone = Alone
-task_of (command.Run plan script slots workers) = Run plan.now script.now slots workers
+task_of (command.Run plan script slots workers) = Run plan.now script.now slots.count workers.count
 task_of (command.Audit report) = Audit report.now
 task_of (command.Plan plan) = Plan plan.now
-
--- a run has at most 1,048,576 slots, and 1 to 16 workers
-abbrev pub FitsRun : Command → Type 0
-FitsRun (command.Run plan script slots workers) = (slots ≤ 1048576) × (1 ≤ workers) × (workers ≤ 16)
-FitsRun _ = ⊤
 
 -- the next step, where there is a value
 infixl 10 ◌>>=◌
 abbrev pub ◌>>=◌ : {A B : Type 0} → Option A → (A → Option B) → Option B
 o >>= f = option_and_then f o
 
--- the number that a text writes, if it lies from the first of these to the second
+-- the number that a text writes, if it does
 abbrev pub number_between : ℕ → ℕ → Text → Option ℕ
-number_between least most text = number_of text >>= (λ n. if nat_le least n && nat_le n most then Some n else None)
+number_between least most text = number_of text >>= number_within least most
 
 abbrev pub run_of : List Row → Option Task
 run_of rows = do

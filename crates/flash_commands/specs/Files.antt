@@ -22,7 +22,3 @@ first_held held command.Alone = None
 abbrev pub second_held : Held → Command → Option (List ℕ)
 second_held held (command.Run plan script slots workers) = held script.now
 second_held held _ = None
-
--- so it is of the texts that the files of a command gave
-abbrev pub OfFiles : Held → Command → (Option (List ℕ) → Option (List ℕ) → Type 0) → Type 0
-OfFiles held c is = (first second : Option (List ℕ)) × Gives (first_held held c) first × Gives (second_held held c) second × is first second

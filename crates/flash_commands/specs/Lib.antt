@@ -1,3 +1,4 @@
+pub mod Ranges
 pub mod Syntax
 pub mod Commands
 pub mod Figures
@@ -5,3 +6,4 @@ pub mod Audit
 pub mod Acts
 pub mod Faults
 pub mod Files
+pub mod Sources

@@ -3,7 +3,6 @@
 ghost use Rattle.std.specs.Prelude.{◌≡◌, ◌≤◌, ◌⊎◌, IfOk, IfErr, OnErr, OnOk, if◌then◌else◌};
 ghost use Rattle.flash_commands.specs.Acts.{AuditsSome, HasThree, IsFaultOf, IsRefused, IsRefusedFor, IsUnwritten, Prints, PrintsAudit};
 ghost use Rattle.flash_commands.specs.Acts.{PrintsFigures, PrintsRun, RefusesAudit, RefusesFigures, RefusesRun};
-ghost use Rattle.flash_commands.specs.Commands.{FitsRun};
 ghost use Rattle.flash_commands.specs.Faults.{outcome_status};
 ghost use Rattle.text_base.specs.Writing.{IsNotWhole};
 
@@ -151,7 +150,6 @@ pub fn carry_out<R: Threads + Wait + Sync, F: Read + Drop, S: Read + Drop, W: Wr
     out: &mut W,
     err: &mut E,
 ) -> Result<(), Fault>
-    requires { FitsRun command }
     ensures printed { (outcome_status result ≡ 1) ⊎ Prints command.entry (F.remaining first) (S.remaining second) (W.contents out.old)
         (W.contents out.new) (outcome_status result) }
     ensures refused { IfErr result (IsFaultOf (IsRefusedFor W.contents command.entry (F.remaining first) (S.remaining second) out.old
@@ -163,6 +161,7 @@ pub fn carry_out<R: Threads + Wait + Sync, F: Read + Drop, S: Read + Drop, W: Wr
             run(rt, alloc, plan, script, built_in::SLOTS, 1, out, err)
         }
         Command::Run { slots, workers, .. } => {
+            let (slots, workers) = (slots.count, workers.count);
             run(rt, alloc, first, second, slots, workers, out, err)
         }
         Command::Audit { .. } => audit(alloc, first, out),
@@ -196,7 +195,6 @@ pub fn act<R: Threads + Wait + Sync, F: Read + Drop, S: Read + Drop, W: Write, E
     out: &mut W,
     err: &mut E,
 ) -> u8
-    requires { FitsRun command }
     ensures printed { (result ≡ 1) ⊎ Prints command.entry (F.remaining first) (S.remaining second) (W.contents out.old) (W.contents out.new)
         result }
     ensures three { HasThree command.entry (F.remaining first) (W.contents out.old) (W.contents out.new) result }

@@ -1,16 +1,16 @@
 //! What the words of a command line ask for.
 
-ghost use Rattle.std.specs.Prelude.{◌≡◌, IfOk, IfSome, Some, None, map, option_map, string_bytes};
+ghost use Rattle.std.specs.Prelude.{◌≡◌, IfOk, Some, None, map, option_map, string_bytes};
 ghost use Rattle.clap.specs.Words.{app_of, first_of, found_of, rows_of, subcommand_rows_of};
 ghost use Rattle.clap.specs.Kinds.{FailsBy, HasKind};
 ghost use Rattle.clap.specs.Faults.{fault_of};
-ghost use Rattle.flash_commands.specs.Commands.{FitsRun, asked, asked_by, named, number_between, range_fault, run_of, task_of, words_fault};
+ghost use Rattle.flash_commands.specs.Commands.{asked, asked_by, named, number_between, range_fault, run_of, task_of, words_fault};
 ghost use Rattle.flash_commands.specs.Syntax.{flashrec_app};
 
+use crate::run_numbers::{Slots, Workers};
 use crate::syntax::program_words;
 use clap::error::ErrorKind;
 use clap::{ArgMatches, Error};
-use slot_types::{MAX_SLOT, MAX_WORKERS};
 use std::alloc::Global;
 use task_script::number;
 
@@ -23,10 +23,10 @@ pub enum Command<'a> {
     Run {
         plan: &'a str,
         script: &'a str,
-        /// How many slots each die runs, from 0 to 1,048,576.
-        slots: u32,
-        /// How many workers run the dies, from 1 to 16.
-        workers: u32,
+        /// How many slots each die runs.
+        slots: Slots,
+        /// How many workers run the dies.
+        workers: Workers,
     },
     /// Check the certificates of a report.
     Audit {
@@ -45,27 +45,28 @@ fn value<'a>(met: &ArgMatches<'a>, id: &str) -> Option<&'a str>
     met.get_str(id)
 }
 
-/// The number that a text writes, if it lies from `least` to `most`.
-fn number_in(text: &str, least: u32, most: u32) -> Option<u32>
-    ensures { result ≡ number_between least most text.now }
+/// So many slots as a text writes, if a run can have them.
+fn slots_in(text: &str) -> Option<Slots>
+    ensures { option_map (λ slots. slots.count) result ≡ number_between 0 1048576 text.now }
 {
-    let n = number(text.as_bytes())?;
-    if least <= n && n <= most {
-        Some(n)
-    } else {
-        None
-    }
+    Slots::new(number(text.as_bytes())?)
+}
+
+/// So many workers as a text writes, if a run can have them.
+fn workers_in(text: &str) -> Option<Workers>
+    ensures { option_map (λ workers. workers.count) result ≡ number_between 1 16 text.now }
+{
+    Workers::new(number(text.as_bytes())?)
 }
 
 /// The run that was met.
 fn run<'a>(met: &ArgMatches<'a>) -> Option<Command<'a>>
     ensures run { option_map task_of result ≡ run_of (rows_of (found_of met.now)) }
-    ensures fits { IfSome result FitsRun }
 {
     let plan = value(met, "PLAN")?;
     let script = value(met, "SCRIPT")?;
-    let slots = number_in(value(met, "slots")?, 0, MAX_SLOT)?;
-    let workers = number_in(value(met, "workers")?, 1, MAX_WORKERS)?;
+    let slots = slots_in(value(met, "slots")?)?;
+    let workers = workers_in(value(met, "workers")?)?;
     Some(Command::Run {
         plan,
         script,
@@ -77,7 +78,6 @@ fn run<'a>(met: &ArgMatches<'a>) -> Option<Command<'a>>
 /// The command that was met, by its name.
 fn command_named<'a>(name: &str, met: &ArgMatches<'a>) -> Option<Command<'a>>
     ensures named { option_map task_of result ≡ named name.now (rows_of (found_of met.now)) }
-    ensures fits { IfSome result FitsRun }
 {
     if name == "run" {
         run(met)
@@ -95,7 +95,6 @@ fn command_named<'a>(name: &str, met: &ArgMatches<'a>) -> Option<Command<'a>>
 /// The command that clap met.
 fn command_met<'a>(matches: &ArgMatches<'a>) -> Option<Command<'a>>
     ensures asked { option_map task_of result ≡ asked_by (subcommand_rows_of matches.now) }
-    ensures fits { IfSome result FitsRun }
 {
     match matches.subcommand() {
         None => Some(Command::Alone),
@@ -110,7 +109,6 @@ fn parsed<'a>(
 ) -> Result<Option<Command<'a>>, Error>
     requires { app_of program.old ≡ flashrec_app }
     ensures ok { IfOk result (λ c. option_map task_of c ≡ asked (map string_bytes words.entry.now)) }
-    ensures fits { IfOk result (λ c. IfSome c FitsRun) }
     ensures fault { FailsBy (fault_of flashrec_app (map string_bytes words.entry.now)) result }
 {
     let matches = program.try_get_matches_from_mut(words)?;
@@ -140,7 +138,6 @@ fn range_error(mut program: clap::Command<'_>) -> Error
 #[tactic(auto, using(crate::proofs::KindLemmas::has_kind_in_first))]
 pub fn read_words<'a>(alloc: Global, words: &'a [String]) -> Result<Command<'a>, Error>
     ensures ok { IfOk result (λ c. asked (map string_bytes words.entry.now) ≡ Some (task_of c)) }
-    ensures fits { IfOk result FitsRun }
     ensures fault { FailsBy (words_fault (map string_bytes words.entry.now)) result }
 {
     let mut program = program_words(alloc)?;

@@ -1,20 +1,15 @@
-//! Commands that are carried out on files.
+//! The files of a command, opened.
 
-ghost use Rattle.std.specs.Prelude.{◌≡◌, ◌⊎◌, IfErr, IfOk};
-ghost use Rattle.flash_commands.specs.Acts.{IsFaultOf, IsRefused, IsRefusedFor, Prints};
-ghost use Rattle.flash_commands.specs.Commands.{FitsRun};
-ghost use Rattle.flash_commands.specs.Faults.{outcome_status};
-ghost use Rattle.flash_commands.specs.Files.{Gives, OfFiles};
+ghost use Rattle.std.specs.Prelude.{◌≡◌, IfErr, IfOk};
+ghost use Rattle.std.specs.Io.{ReadsAtMost};
+ghost use Rattle.std.specs.Io.KnownBytes.{ReadConsumes};
+ghost use Rattle.flash_commands.specs.Files.{Gives};
+ghost use Rattle.flash_commands.specs.Sources.{AreOpen, source_remaining};
 
-use crate::acts::carry_out;
 use crate::commands::Command;
-use crate::faults::{Fault, end};
 use slot_types::Refusal;
-use std::alloc::Global;
-use std::io::{Read, Write};
+use std::io::Read;
 use std::rt::Files;
-use std::sync::Wait;
-use std::thread::Threads;
 use std::{fs, io};
 
 /// Files by their names. Contracts see what each holds, where that is known.
@@ -56,55 +51,46 @@ impl<R: Files> Folder for Disk<'_, R> {
     }
 }
 
-/// Carries a command out on the files that it names, or says why not.
-fn carry_out_on<R: Threads + Wait + Sync, D: Folder, W: Write, E: Write>(
-    rt: &R,
-    alloc: Global,
-    folder: &D,
-    command: Command<'_>,
-    out: &mut W,
-    err: &mut E,
-) -> Result<(), Fault>
-    requires { FitsRun command }
-    ensures printed { (outcome_status result ≡ 1) ⊎ OfFiles (D.held folder.now) command.entry
-        (λ first second. Prints command.entry first second (W.contents out.old) (W.contents out.new) (outcome_status result)) }
-    ensures refused { IfErr result (IsFaultOf (λ refusal. OfFiles (D.held folder.now) command.entry
-        (λ first second. IsRefusedFor W.contents command.entry first second out.old out.new refusal))) }
-{
-    match command {
-        Command::Alone => carry_out(rt, alloc, command, io::empty(), io::empty(), out, err),
-        Command::Audit { report: name } | Command::Plan { plan: name } => {
-            let first = folder.open(name)?;
-            carry_out(rt, alloc, command, first, io::empty(), out, err)
-        }
-        Command::Run { plan, script, .. } => {
-            let first = folder.open(plan)?;
-            let second = folder.open(script)?;
-            carry_out(rt, alloc, command, first, second, out, err)
+/// What a command reads in place of a text of its own: a file, or nothing where the command has no such text.
+#[derive(Drop)]
+pub enum Source<R> {
+    File(R),
+    Nothing,
+}
+
+impl<R: Read> Read for Source<R> {
+    ghost remaining = { source_remaining R.remaining };
+
+    fn read(&mut self, buf: &mut [u8]) -> io::Result<usize>
+        ensures bound { ReadsAtMost result buf.new }
+        ensures bytes { ReadConsumes (source_remaining R.remaining self.old) (source_remaining R.remaining self.new) result buf.new }
+    {
+        match self {
+            Source::File(file) => file.read(buf),
+            Source::Nothing => Ok(0),
         }
     }
 }
 
-/// Carries a command out on the files that it names, as [`act`](crate::act) does on their texts, and answers the
-/// status.
-///
-/// The plan, or the report, is opened and then the script, before any of them is read. A file that can't be opened is
-/// told in a line to `err` as `error 21 ReadFault`, and the status is 1: nothing was written to `out`. A run may wait
-/// for its workers.
-pub fn act_on<R: Threads + Wait + Sync, D: Folder, W: Write, E: Write>(
-    rt: &R,
-    alloc: Global,
+/// Opens the files of a command, all before any of them is read: that of the plan, or of the report, and then that of the
+/// script. They are what [`act`](crate::act) takes. The only refusal is `ReadFault`, for a file that can't be opened.
+pub fn open<D: Folder>(
     folder: &D,
     command: Command<'_>,
-    out: &mut W,
-    err: &mut E,
-) -> u8
-    requires { FitsRun command }
-    ensures printed { (result ≡ 1) ⊎ OfFiles (D.held folder.now) command.entry
-        (λ first second. Prints command.entry first second (W.contents out.old) (W.contents out.new) result) }
-    ensures refused { result ≡ 1 → OfFiles (D.held folder.now) command.entry
-        (λ first second. IsRefused W.contents command.entry first second out.old out.new) }
+) -> Result<(Source<D::Reader>, Source<D::Reader>), Refusal>
+    ensures opened { IfOk result (λ files. AreOpen D.Reader.remaining (D.held folder.now) command.entry files.0 files.1) }
+    ensures refused { IfErr result (λ refusal. refusal ≡ Refusal.ReadFault) }
 {
-    let done = carry_out_on(rt, alloc, folder, command, out, err);
-    end(err, done)
+    match command {
+        Command::Alone => Ok((Source::Nothing, Source::Nothing)),
+        Command::Audit { report: name } | Command::Plan { plan: name } => {
+            let first = folder.open(name)?;
+            Ok((Source::File(first), Source::Nothing))
+        }
+        Command::Run { plan, script, .. } => {
+            let first = folder.open(plan)?;
+            let second = folder.open(script)?;
+            Ok((Source::File(first), Source::File(second)))
+        }
+    }
 }

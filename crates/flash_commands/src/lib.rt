@@ -8,10 +8,12 @@ pub mod commands;
 pub mod faults;
 pub mod figures;
 pub mod files;
+pub mod run_numbers;
 pub mod syntax;
 
 pub use acts::{act, carry_out};
 pub use command_line::{show, words_of};
 pub use commands::{Command, read_words};
 pub use faults::{Fault, end};
-pub use files::{Disk, Folder, act_on};
+pub use files::{Disk, Folder, Source, open};
+pub use run_numbers::{Slots, Workers};
