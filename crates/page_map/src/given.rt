@@ -36,10 +36,6 @@ impl PageMap {
         ensures apart { OnOk result (AreApart places.now) }
         ensures fault { IfErr result (HasFault places.now) }
     {
-        // Their owners alone would take 16 gigabytes, and more.
-        if shape.blocks as usize * shape.pages as usize > u32::MAX as usize {
-            return Err(PlacesFault::NoMemory);
-        }
         let mut map = match PageMap::new(alloc, shape, places.len() as u32) {
             Ok(map) => map,
             Err(_) => return Err(PlacesFault::NoMemory),
