@@ -135,8 +135,7 @@ fn run_fed<N: Nand + Send, R: Threads + Wait + Sync>(
 
 const UNTOUCHED: &[Step] = &[Step::Is(Fact::Entries { count: 0 })];
 
-// Runs a store, and says whether it ended right. Where it found no memory, and memory is scarce, it asked its dies nothing,
-// and the same run ends right when it is made again.
+// Runs a store, and says whether it ended right. Where it found no memory, and memory is scarce, it asked its dies nothing.
 fn runs_or_asks_nothing<N: Nand + Send, R: Threads + Wait + Sync + Abort + Env>(
     rt: &R,
     alloc: Global,
@@ -153,8 +152,7 @@ fn runs_or_asks_nothing<N: Nand + Send, R: Threads + Wait + Sync + Abort + Env>(
         Err(Refusal::NoMemory) if scarce => {
             let both = passes.as_mut_slice();
             play_both(rt, alloc, store, both, UNTOUCHED, UNTOUCHED)?;
-            let ends = run_fed(rt, alloc, store, passes, workers)?;
-            Ok(are_right(ends.as_slice(), false))
+            Err(Refusal::NoMemory)
         }
         Err(refusal) => Err(refusal),
     }

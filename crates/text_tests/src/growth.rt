@@ -76,7 +76,7 @@ struct Compared {
     taken: usize,
 }
 
-fn compared() -> Compared {
+fn uncompared() -> Compared {
     let mut rests = [None; 6];
     for (rest, report) in rests.iter_mut().zip(REPORTS) {
         *rest = Some(report.as_bytes());
@@ -158,7 +158,7 @@ fn a_script_is_read_again(rt: HostRuntime) {
 /// Whether a report is read and written again as it was. A writing that is refused for memory writes nothing, and is made
 /// again where memory is scarce.
 fn is_copied<R: Env>(rt: &R, alloc: Global) -> Result<bool, Refusal> {
-    let mut writer = compared();
+    let mut writer = uncompared();
     let report = read_report(alloc, TWO_REPORT.as_bytes())?;
     match write_report(alloc, &mut writer, &report) {
         Err(Refusal::NoMemory) if is_scarce(rt) && writer.taken == 0 => {
@@ -193,7 +193,7 @@ fn is_counted(count: RunCount, writer: &Compared, scarce: bool) -> bool {
 /// Whether a script is run and its report written. A run that is refused for memory writes nothing, and is made again where
 /// memory is scarce.
 fn is_run<R: Threads + Wait + Env + Sync>(rt: &R, alloc: Global) -> Result<bool, Refusal> {
-    let mut writer = compared();
+    let mut writer = uncompared();
     let scarce = is_scarce(rt);
     let plan = read_plan(alloc, TWO_DIES.as_bytes())?;
     let script = TWO_SCRIPT.as_bytes();

@@ -21,7 +21,7 @@ struct Interrupted<'a> {
     left: usize,
 }
 
-fn interrupted(text: &str, a_call: usize, times: usize) -> Interrupted<'_> {
+fn reader_of(text: &str, a_call: usize, times: usize) -> Interrupted<'_> {
     Interrupted {
         text: text.as_bytes(),
         a_call,
@@ -69,7 +69,7 @@ impl Write for Halting {
 fn an_interrupted_plan_is_read(rt: HostRuntime) -> Result<(), Fail> {
     let alloc = rt.alloc();
     for (a_call, times) in [(1, 1), (7, 3), (4096, 1)] {
-        let plan = read_plan_from(alloc, interrupted(TWO_DIES, a_call, times))?;
+        let plan = read_plan_from(alloc, reader_of(TWO_DIES, a_call, times))?;
         assert!(rt; plan == two_dies(alloc)?, "{a_call} bytes a call");
     }
     Ok(())
@@ -80,7 +80,7 @@ fn an_interrupted_script_is_read(rt: HostRuntime) -> Result<(), Fail> {
     let alloc = rt.alloc();
     let want = format!(in alloc; "{:?}", items(alloc, TWO_SCRIPT.as_bytes())?)?;
     for (a_call, times) in [(1, 1), (7, 3), (4096, 1)] {
-        let read = items(alloc, interrupted(TWO_SCRIPT, a_call, times))?;
+        let read = items(alloc, reader_of(TWO_SCRIPT, a_call, times))?;
         assert_eq!(rt; format!(in alloc; "{read:?}")?.as_str(), want.as_str());
     }
     Ok(())
@@ -90,7 +90,7 @@ fn an_interrupted_script_is_read(rt: HostRuntime) -> Result<(), Fail> {
 fn an_interrupted_report_is_read_and_written(rt: HostRuntime) -> Result<(), Fail> {
     let alloc = rt.alloc();
     for (a_call, times) in [(1, 1), (7, 3), (4096, 1)] {
-        let report = read_report(alloc, interrupted(TWO_REPORT, a_call, times))?;
+        let report = read_report(alloc, reader_of(TWO_REPORT, a_call, times))?;
         let mut writer = Halting {
             text: Vec::new(alloc),
             halted: false,
@@ -109,7 +109,7 @@ fn run<R: Threads + Wait + Sync>(rt: &R, alloc: Global) -> (Result<RunCount, Ref
     };
     let ended = match two_dies(alloc) {
         Ok(plan) => {
-            let script = interrupted(TWO_SCRIPT, 7, 2);
+            let script = reader_of(TWO_SCRIPT, 7, 2);
             run_text(rt, alloc, &plan, script, &mut writer, 5, 2)
         }
         Err(refusal) => Err(refusal),
