@@ -17,6 +17,8 @@ mod logs;
 #[cfg(test)]
 mod maps;
 #[cfg(test)]
+mod memory;
+#[cfg(test)]
 mod plain_certificates;
 #[cfg(test)]
 mod plain_victims;

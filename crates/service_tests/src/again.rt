@@ -1,14 +1,17 @@
-//! Calls on a die of a store that may need memory. Where memory is refused, each is asked again, and has to be answered then
-//! as without the refusal. So the tables may be played with each allocation made to fail in turn.
+//! Calls on a die of a store that may need memory. Where memory is scarce, one that is refused for want of it is made again, and
+//! has to be answered then as without the refusal. So the tables may be played with each growth of memory refused in turn. Where
+//! it is ample, no call is made twice.
 
 ghost use Rattle.std.specs.Prelude.{◌≡◌};
 
+use crate::memory::is_scarce;
 use die_service::{Die, DiePass, RefusedAt};
 use flash_die::Nand;
 use late_cert::Certificate;
 use slot_core::Outcome;
 use slot_types::{JobNo, Op, OpList, Refusal, TaskNo};
 use std::alloc::Global;
+use std::env::Env;
 use std::sync::Wait;
 
 /// The number of a job of one operation of task 0, which is asked for once.
@@ -47,7 +50,7 @@ pub(crate) fn carry_once<N: Nand, R: Wait>(
 }
 
 /// The number of a job of one operation of task 0.
-pub(crate) fn submit<N: Nand, R: Wait>(
+pub(crate) fn submit<N: Nand, R: Wait + Env>(
     rt: &R,
     alloc: Global,
     die: &Die<N>,
@@ -60,13 +63,15 @@ pub(crate) fn submit<N: Nand, R: Wait>(
     ensures { pass.new.lock ≡ pass.old.lock }
 {
     match submit_once(rt, alloc, die, pass, release, due, op) {
-        Err(Refusal::NoMemory) => submit_once(rt, alloc, die, pass, release, due, op),
+        Err(Refusal::NoMemory) if is_scarce(rt) => submit_once(
+            rt, alloc, die, pass, release, due, op,
+        ),
         answer => answer,
     }
 }
 
 /// The number that is done with the present slot.
-pub(crate) fn carry<N: Nand, R: Wait>(
+pub(crate) fn carry<N: Nand, R: Wait + Env>(
     rt: &R,
     die: &Die<N>,
     pass: &mut DiePass<N>,
@@ -76,7 +81,7 @@ pub(crate) fn carry<N: Nand, R: Wait>(
 {
     let first = carry_once(rt, die, pass);
     if let Err(refused) = first {
-        if refused.refusal == Refusal::NoMemory {
+        if refused.refusal == Refusal::NoMemory && is_scarce(rt) {
             return carry_once(rt, die, pass);
         }
     }
@@ -84,7 +89,7 @@ pub(crate) fn carry<N: Nand, R: Wait>(
 }
 
 /// What became of a job.
-pub(crate) fn outcome_of<N: Nand, R: Wait>(
+pub(crate) fn outcome_of<N: Nand, R: Wait + Env>(
     rt: &R,
     die: &Die<N>,
     pass: &mut DiePass<N>,
@@ -94,13 +99,13 @@ pub(crate) fn outcome_of<N: Nand, R: Wait>(
     ensures { pass.new.lock ≡ pass.old.lock }
 {
     match die.outcome(rt, pass, JobNo(job)) {
-        Err(Refusal::NoMemory) => die.outcome(rt, pass, JobNo(job)),
+        Err(Refusal::NoMemory) if is_scarce(rt) => die.outcome(rt, pass, JobNo(job)),
         answer => answer,
     }
 }
 
 /// The certificate of the die's worst job.
-pub(crate) fn certificate_of<N: Nand, R: Wait>(
+pub(crate) fn certificate_of<N: Nand, R: Wait + Env>(
     rt: &R,
     die: &Die<N>,
     pass: &mut DiePass<N>,
@@ -109,7 +114,7 @@ pub(crate) fn certificate_of<N: Nand, R: Wait>(
     ensures { pass.new.lock ≡ pass.old.lock }
 {
     match die.certificate(rt, pass) {
-        Err(Refusal::NoMemory) => die.certificate(rt, pass),
+        Err(Refusal::NoMemory) if is_scarce(rt) => die.certificate(rt, pass),
         answer => answer,
     }
 }

@@ -4,12 +4,14 @@ ghost use Rattle.std.specs.Prelude.{◌≡◌, map};
 
 use crate::dies::play_only;
 use crate::made::one_die;
+use crate::memory::is_scarce;
 use crate::steps::Step;
 use die_service::{DiePass, StillOpen, Store, close};
 use flash_die::Nand;
 use slot_core::DieCore;
 use slot_types::Refusal;
 use std::alloc::Global;
+use std::env::Env;
 use std::process::Abort;
 use std::sync::Wait;
 
@@ -52,14 +54,18 @@ fn kept<N: Nand>(kept: &StillOpen<N>) -> Option<End> {
     })
 }
 
-// Closes a store, a second time where memory is refused at the first.
-fn close_store<N: Nand, R: Wait>(rt: &R, store: Store<N>, passes: Vec<DiePass<N>>) -> Option<End>
+// Closes a store, a second time where memory is scarce and refused at the first.
+fn close_store<N: Nand, R: Wait + Env>(
+    rt: &R,
+    store: Store<N>,
+    passes: Vec<DiePass<N>>,
+) -> Option<End>
     requires { map (λ pass. pass.lock) passes.items ≡ store }
 {
     match close(rt, store, passes) {
         Ok(dies) => closed(dies.as_slice()),
         Err(still) => {
-            if still.refusal == Refusal::NoMemory {
+            if still.refusal == Refusal::NoMemory && is_scarce(rt) {
                 close_again(rt, still)
             } else {
                 kept(&still)
@@ -79,7 +85,7 @@ fn close_again<N: Nand, R: Wait>(rt: &R, still: StillOpen<N>) -> Option<End>
 }
 
 // Plays a table on a new store of one die.
-fn play_once<R: Wait + Abort>(
+fn play_once<R: Wait + Abort + Env>(
     rt: &R,
     alloc: Global,
     steps: &[Step],
@@ -91,15 +97,15 @@ fn play_once<R: Wait + Abort>(
     Ok(end)
 }
 
-/// Plays a table on a new store of one die, and tells what becomes of the store that is closed then. Where memory is refused
-/// for the store, another one is made.
-pub(crate) fn play_one<R: Wait + Abort>(
+/// Plays a table on a new store of one die, and tells what becomes of the store that is closed then. Where memory is scarce
+/// and refused for the store, another one is made.
+pub(crate) fn play_one<R: Wait + Abort + Env>(
     rt: &R,
     alloc: Global,
     steps: &[Step],
 ) -> Result<Option<End>, Refusal> {
     match play_once(rt, alloc, steps) {
-        Err(Refusal::NoMemory) => play_once(rt, alloc, steps),
+        Err(Refusal::NoMemory) if is_scarce(rt) => play_once(rt, alloc, steps),
         answer => answer,
     }
 }

@@ -8,11 +8,12 @@ use die_service::{DiePass, Store};
 use flash_die::Nand;
 use slot_types::Refusal;
 use std::alloc::Global;
+use std::env::Env;
 use std::process::Abort;
 use std::sync::Wait;
 
 // Plays a table on the die of this number. `UnknownDie` where the store doesn't have it.
-fn play_nth<N: Nand, R: Wait + Abort>(
+fn play_nth<N: Nand, R: Wait + Abort + Env>(
     rt: &R,
     alloc: Global,
     store: &Store<N>,
@@ -35,7 +36,7 @@ fn play_nth<N: Nand, R: Wait + Abort>(
 
 /// Plays two tables, one on each of a store's two dies, one after the other. `UnknownDie` where there are other than two
 /// passes.
-pub(crate) fn play_both<N: Nand, R: Wait + Abort>(
+pub(crate) fn play_both<N: Nand, R: Wait + Abort + Env>(
     rt: &R,
     alloc: Global,
     store: &Store<N>,
@@ -55,7 +56,7 @@ pub(crate) fn play_both<N: Nand, R: Wait + Abort>(
 }
 
 /// Plays a table on a store's only die. `UnknownDie` where there is another number of passes.
-pub(crate) fn play_only<N: Nand, R: Wait + Abort>(
+pub(crate) fn play_only<N: Nand, R: Wait + Abort + Env>(
     rt: &R,
     alloc: Global,
     store: &Store<N>,

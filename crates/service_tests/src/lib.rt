@@ -32,6 +32,8 @@ mod lives;
 #[cfg(test)]
 mod made;
 #[cfg(test)]
+mod memory;
+#[cfg(test)]
 mod noted;
 #[cfg(test)]
 mod passes;

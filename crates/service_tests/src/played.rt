@@ -3,7 +3,7 @@
 ghost use Rattle.std.specs.Prelude.{◌≡◌};
 
 use crate::again::{carry, certificate_of, outcome_of, submit};
-use crate::passes::{hands_over, lets_go};
+use crate::passes::{hands_over, lets_go, passes_on};
 use crate::scarce::grows_or_stays;
 use crate::steps::{Bounds, Fact, Step};
 use crate::told::Told;
@@ -13,6 +13,7 @@ use late_cert::Certificate;
 use slot_core::{Outcome, Worst};
 use slot_types::{JobNo, PageData, Refusal};
 use std::alloc::Global;
+use std::env::Env;
 use std::process::Abort;
 use std::sync::Wait;
 
@@ -64,7 +65,7 @@ fn certified<R: Abort>(told: &Told<R>, got: &Result<Option<Certificate>, Refusal
 }
 
 // Plays what stands of a die.
-fn stands<N: Nand, R: Wait + Abort>(
+fn stands<N: Nand, R: Wait + Abort + Env>(
     told: &Told<R>,
     die: &Die<N>,
     pass: &mut DiePass<N>,
@@ -105,7 +106,7 @@ fn stands<N: Nand, R: Wait + Abort>(
 }
 
 // Plays a step.
-fn goes<N: Nand, R: Wait + Abort>(
+fn goes<N: Nand, R: Wait + Abort + Env>(
     told: &Told<R>,
     alloc: Global,
     die: &Die<N>,
@@ -134,6 +135,12 @@ fn goes<N: Nand, R: Wait + Abort>(
             op,
             job,
         } => { hands_over(told, alloc, die, pass, *release, *due, *op, *job) }
+        Step::PassOn {
+            release,
+            due,
+            op,
+            job,
+        } => { passes_on(told, alloc, die, pass, *release, *due, *op, *job) }
         Step::LetGo => lets_go(told, die, pass),
         Step::Grows => {
             let right = grows_or_stays(told.rt, alloc, die, pass);
@@ -148,7 +155,7 @@ fn goes<N: Nand, R: Wait + Abort>(
 }
 
 /// Plays a table with a pass on its die. The test fails at the first step that the die answers otherwise than it says.
-pub(crate) fn play<N: Nand, R: Wait + Abort>(
+pub(crate) fn play<N: Nand, R: Wait + Abort + Env>(
     rt: &R,
     alloc: Global,
     die: &Die<N>,

@@ -34,6 +34,14 @@ pub(crate) enum Step {
         op: Op,
         job: u32,
     },
+    /// A second pass is split off. This one submits a job, which gets this number, and carries it out. The second one takes its
+    /// place then, and this one is let go.
+    PassOn {
+        release: u32,
+        due: u32,
+        op: Op,
+        job: u32,
+    },
     /// A second pass is split off and takes the place of this one, which is let go.
     LetGo,
     /// Reads are submitted and slots carried out, and where memory is refused, that is told and makes no entry.

@@ -14,8 +14,8 @@ const SCRIPT_HEADER: &str = "at,die,task,kind,release,due,ops\n";
 
 const REPORT_HEADER: &str = "row,die,job,task,release,due,work,completion,lateness,given,items\n";
 
-/// The kinds of an error of a reader, `OutOfMemory` and `Interrupted` among them.
-pub const KINDS: [ErrorKind; 42] = [
+/// The kinds of an error of a reader that failed, `OutOfMemory` among them. `Interrupted` is none.
+pub const KINDS: [ErrorKind; 41] = [
     ErrorKind::NotFound,
     ErrorKind::PermissionDenied,
     ErrorKind::ConnectionRefused,
@@ -51,7 +51,6 @@ pub const KINDS: [ErrorKind; 42] = [
     ErrorKind::TooManyLinks,
     ErrorKind::InvalidFilename,
     ErrorKind::ArgumentListTooLong,
-    ErrorKind::Interrupted,
     ErrorKind::Unsupported,
     ErrorKind::UnexpectedEof,
     ErrorKind::OutOfMemory,
@@ -184,9 +183,20 @@ fn a_reader_is_given_up_at_one_byte_more(rt: HostRuntime) {
     check(&rt, rt.alloc(), (usize::MAX, 1, None), want);
 }
 
-/// A reader that is interrupted for ever is asked once.
+/// A reader that is interrupted for ever is asked as often as there are calls, and no more.
 #[test]
-fn an_error_of_any_kind_is_a_read_fault(rt: HostRuntime) {
+fn a_reader_that_is_interrupted_for_ever_is_given_up(rt: HostRuntime) {
+    let want = Ended {
+        refusal: Some(Refusal::ReadFault),
+        given: 40,
+        calls: MAX_BYTES + 1,
+    };
+    let interrupted = Some(ErrorKind::Interrupted);
+    check(&rt, rt.alloc(), (40, 1, interrupted), want);
+}
+
+#[test]
+fn an_error_of_any_other_kind_is_a_read_fault(rt: HostRuntime) {
     for kind in KINDS {
         for bytes in [0, 1, 40, 8192, 100_000] {
             let ended = read(rt.alloc(), Kind::Script, bytes, usize::MAX, Some(kind));

@@ -1,6 +1,6 @@
 use crate::answers::{report_refusal, script_refusal, work_refusal};
 use example_texts::{TWO_REPORT, TWO_SCRIPT};
-use slot_types::Refusal;
+use slot_types::{Cause, Refusal};
 use std::io;
 use std::io::{ErrorKind, Read, Write};
 use std::test::Fail;
@@ -92,8 +92,11 @@ fn a_failing_reader_is_a_read_fault(rt: HostRuntime) {
 #[test]
 fn records_before_a_failing_read_are_judged_first(rt: HostRuntime) {
     let text = "at,die,task,kind,release,due,ops\n0,0,0,jab,0,2,R3\n0,0,0,job,0,2,R3\n";
-    let refusal = script_refusal(rt.alloc(), failing_at(text, 9));
-    assert!(rt; refusal.is_some_and(|refusal| refusal != Refusal::ReadFault));
+    let kind = Refusal::ScriptRow {
+        line: 2,
+        cause: Cause::Kind,
+    };
+    assert_eq!(rt; script_refusal(rt.alloc(), failing_at(text, 9)), Some(kind));
 }
 
 #[test]

@@ -17,9 +17,13 @@ mod growth;
 #[cfg(test)]
 mod hostile;
 #[cfg(test)]
+mod interrupted;
+#[cfg(test)]
 mod long_scripts;
 #[cfg(test)]
 mod made_rows;
+#[cfg(test)]
+mod memory;
 #[cfg(test)]
 mod plan_bounds;
 #[cfg(test)]

@@ -74,7 +74,19 @@ fn a_plan_of_no_bytes_is_asked_for_once(rt: HostRuntime) {
     check(&rt, rt.alloc(), (0, 1, None), want);
 }
 
-/// A reader that is interrupted for ever is asked once, and one that says that memory ran out failed like any other.
+/// A reader that is interrupted for ever is asked as often as there are calls, and no more.
+#[test]
+fn a_plans_reader_that_is_interrupted_for_ever_is_given_up(rt: HostRuntime) {
+    let want = Ended {
+        refusal: Some(Refusal::ReadFault),
+        given: 8192,
+        calls: MAX_BYTES + 1,
+    };
+    let interrupted = Some(ErrorKind::Interrupted);
+    check(&rt, rt.alloc(), (8192, 1, interrupted), want);
+}
+
+/// A reader that says that memory ran out failed like any other.
 #[test]
 fn an_error_of_a_plans_reader_is_a_read_fault(rt: HostRuntime) {
     for kind in KINDS {

@@ -1,0 +1,130 @@
+//! Readers and writers that are interrupted between calls: each call is made again, and nothing is lost.
+
+use crate::answers::{items, two_dies};
+use example_texts::{TWO_DIES, TWO_REPORT, TWO_SCRIPT};
+use plan_texts::read_plan_from;
+use slot_types::Refusal;
+use std::alloc::Global;
+use std::io;
+use std::io::{ErrorKind, Read, Write};
+use std::sync::Wait;
+use std::test::Fail;
+use std::thread::Threads;
+use task_script::{RunCount, read_report, run_text, write_report};
+
+/// Gives a text so many bytes a call, and is interrupted as often ahead of each.
+#[derive(Drop)]
+struct Interrupted<'a> {
+    text: &'a [u8],
+    a_call: usize,
+    times: usize,
+    left: usize,
+}
+
+fn reader_of(text: &str, a_call: usize, times: usize) -> Interrupted<'_> {
+    Interrupted {
+        text: text.as_bytes(),
+        a_call,
+        times,
+        left: times,
+    }
+}
+
+impl<'a> Read for Interrupted<'a> {
+    fn read(&mut self, buf: &mut [u8]) -> io::Result<usize> {
+        if self.left > 0 {
+            self.left -= 1;
+            return Err(io::Error::from(ErrorKind::Interrupted));
+        }
+        self.left = self.times;
+        let most = buf.len().min(self.a_call);
+        self.text.read(&mut buf[..most])
+    }
+}
+
+/// Takes seven bytes a call, and is interrupted ahead of each.
+#[derive(Drop)]
+struct Halting {
+    text: Vec<u8>,
+    halted: bool,
+}
+
+impl Write for Halting {
+    fn write(&mut self, buf: &[u8]) -> io::Result<usize> {
+        self.halted = !self.halted;
+        if self.halted {
+            return Err(io::Error::from(ErrorKind::Interrupted));
+        }
+        let most = buf.len().min(7);
+        self.text.extend_from_slice(&buf[..most])?;
+        Ok(most)
+    }
+
+    fn flush(&mut self) -> io::Result<()> {
+        Ok(())
+    }
+}
+
+#[test]
+fn an_interrupted_plan_is_read(rt: HostRuntime) -> Result<(), Fail> {
+    let alloc = rt.alloc();
+    for (a_call, times) in [(1, 1), (7, 3), (4096, 1)] {
+        let plan = read_plan_from(alloc, reader_of(TWO_DIES, a_call, times))?;
+        assert!(rt; plan == two_dies(alloc)?, "{a_call} bytes a call");
+    }
+    Ok(())
+}
+
+#[test]
+fn an_interrupted_script_is_read(rt: HostRuntime) -> Result<(), Fail> {
+    let alloc = rt.alloc();
+    let want = format!(in alloc; "{:?}", items(alloc, TWO_SCRIPT.as_bytes())?)?;
+    for (a_call, times) in [(1, 1), (7, 3), (4096, 1)] {
+        let read = items(alloc, reader_of(TWO_SCRIPT, a_call, times))?;
+        assert_eq!(rt; format!(in alloc; "{read:?}")?.as_str(), want.as_str());
+    }
+    Ok(())
+}
+
+#[test]
+fn an_interrupted_report_is_read_and_written(rt: HostRuntime) -> Result<(), Fail> {
+    let alloc = rt.alloc();
+    for (a_call, times) in [(1, 1), (7, 3), (4096, 1)] {
+        let report = read_report(alloc, reader_of(TWO_REPORT, a_call, times))?;
+        let mut writer = Halting {
+            text: Vec::new(alloc),
+            halted: false,
+        };
+        write_report(alloc, &mut writer, &report)?;
+        assert_eq!(rt; writer.text.as_slice(), TWO_REPORT.as_bytes());
+    }
+    Ok(())
+}
+
+/// What a run of an interrupted script writes to a writer that is interrupted, too.
+fn run<R: Threads + Wait + Sync>(rt: &R, alloc: Global) -> (Result<RunCount, Refusal>, Vec<u8>) {
+    let mut writer = Halting {
+        text: Vec::new(alloc),
+        halted: false,
+    };
+    let ended = match two_dies(alloc) {
+        Ok(plan) => {
+            let script = reader_of(TWO_SCRIPT, 7, 2);
+            run_text(rt, alloc, &plan, script, &mut writer, 5, 2)
+        }
+        Err(refusal) => Err(refusal),
+    };
+    (ended, writer.text)
+}
+
+#[test]
+fn an_interrupted_run_writes_its_report(rt: HostRuntime) {
+    let (ended, text) = run(&rt, rt.alloc());
+    let count = RunCount {
+        accepted: 5,
+        refused: 0,
+        first: None,
+    };
+    assert_eq!(rt; ended, Ok(count));
+    assert_eq!(rt; text.as_slice(), TWO_REPORT.as_bytes());
+}
