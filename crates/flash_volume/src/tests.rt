@@ -10,7 +10,6 @@ use flash_die::{FuseNand, MemoryNand, Nand};
 use plan_rules::bound;
 use slot_types::{Caps, DiePlan, PageData, Refusal, Shape, TaskNo};
 use std::alloc::Global;
-use std::env::Env;
 use std::test::Fail;
 
 const TASK: TaskNo = TaskNo(0);
@@ -68,13 +67,6 @@ fn seen<N: Nand>(volume: &mut Volume<N>) -> Result<Seen, Refusal>
     Ok((pages, began, counts, volume.failed()))
 }
 
-/// Whether memory is scarce, so that a volume for which it is refused is made again: where `.ci/refused-growths` plays the
-/// test, which it says by the variable `REFUSE`.
-fn is_scarce<R: Env>(rt: &R) -> bool {
-    let mut number = [0u8; 20];
-    rt.var("REFUSE", &mut number).is_ok()
-}
-
 fn seen_of_new(alloc: Global) -> Result<Seen, Refusal> {
     let mut volume = roomy(alloc, MemoryNand::new(alloc, SHAPE)?)?;
     seen(&mut volume)
@@ -84,10 +76,7 @@ fn seen_of_new(alloc: Global) -> Result<Seen, Refusal> {
 fn a_write_is_read_back_and_a_collection_with_spare_pages_is_waived(
     rt: HostRuntime,
 ) -> Result<(), Fail> {
-    let (pages, began, counts, failed) = match seen_of_new(rt.alloc()) {
-        Err(Refusal::NoMemory) if is_scarce(&rt) => seen_of_new(rt.alloc())?,
-        answer => answer?,
-    };
+    let (pages, began, counts, failed) = seen_of_new(rt.alloc())?;
     assert_eq!(rt; pages, [ONES, PageData::BLANK]);
     assert_eq!(rt; began, Began::Waived { given: 1 });
     assert_eq!(rt; counts, [31, 31, 4, 12, 8]);
