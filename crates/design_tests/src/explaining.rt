@@ -118,7 +118,7 @@ die 0: it has 0 tasks, and has to have from 1 to 16.
     ),
 ];
 
-/// Loads that fit, and not.
+/// Loads that fit, and not. What each number could be is worked out by a script that tries all of them by the rules.
 const LOADS: [Said; 6] = [
     (
         "cap = 6",
@@ -136,6 +136,9 @@ die 0: with its other numbers as they are, the greatest logical that would do is
 [[task]] 1 (die 0 task 0): of each 20 slots its jobs take at most 4, its collections 7.
 die 0: of each 20 slots all tasks take at most 11: 9 to spare.
 die 0: its 65536 numbers for jobs and collections last for 436900 slots; `renew` begins the next life.
+die 0: with its other numbers as they are, the least common that would do is 20.
+[[task]] 1 (die 0 task 0): one at a time, these would do: least period 10, greatest collect_period 20, least cap 6, greatest work 6, greatest writes 1.
+die 0: with its other numbers as they are, alpha 2 would do: of each 20 slots 11 are taken.
 ",
     ),
     (
@@ -154,6 +157,8 @@ die 0: with its other numbers as they are, the greatest logical that would do is
 [[task]] 1 (die 0 task 0): of each 20 slots its jobs take at most 4, its collections 7.
 die 0: of each 20 slots all tasks take at most 11: 9 to spare.
 die 0: its 65536 numbers for jobs and collections last for 436900 slots; `renew` begins the next life.
+die 0: with its other numbers as they are, no common would do.
+[[task]] 1 (die 0 task 0): one at a time, these would do: no period, no collect_period, least cap 6, no work, greatest writes 0.
 ",
     ),
     (
@@ -172,6 +177,8 @@ die 0: with its other numbers as they are, the greatest logical that would do is
 [[task]] 1 (die 0 task 0): cap is 6, and 2 * writes + 2 * alpha is 6: 0 to spare.
 [[task]] 1 (die 0 task 0): of each 20 slots its jobs take at most 14, its collections 7.
 die 0: its 65536 numbers for jobs and collections last for 436900 slots; `renew` begins the next life.
+die 0: with its other numbers as they are, no common would do.
+[[task]] 1 (die 0 task 0): one at a time, these would do: least period 20, no collect_period, no cap, greatest work 6, no writes.
 ",
     ),
     (
@@ -190,6 +197,8 @@ die 0: with its other numbers as they are, the greatest logical that would do is
 [[task]] 1 (die 0 task 0): alpha * period is 20, and writes * collect_period is 20: 0 to spare.
 [[task]] 1 (die 0 task 0): cap is 6, and 2 * writes + 2 * alpha is 6: 0 to spare.
 die 0: its 65536 numbers for jobs and collections last for 436900 slots; `renew` begins the next life.
+die 0: with its other numbers as they are, the least common that would do is 20.
+[[task]] 1 (die 0 task 0): one at a time, these would do: no period, greatest collect_period 10, no cap, no work, no writes.
 ",
     ),
     (
@@ -209,6 +218,8 @@ die 0: with its other numbers as they are, the greatest logical that would do is
 [[task]] 1 (die 0 task 0): alpha * period is 2097150, and writes * collect_period is 1048574: 1048576 to spare.
 [[task]] 1 (die 0 task 0): cap is 6, and 2 * writes + 2 * alpha is 6: 0 to spare.
 die 0: its 1048576 slots end before its 65536 numbers do; `renew` begins the next life.
+die 0: with its other numbers as they are, no common would do.
+[[task]] 1 (die 0 task 0): one at a time, these would do: no period, no collect_period, no cap, no work, no writes.
 ",
     ),
     (
@@ -227,6 +238,8 @@ die 0: with its other numbers as they are, the greatest logical that would do is
 [[task]] 1 (die 0 task 0): of each 20 slots its jobs take at most 4, its collections 7.
 die 0: of each 20 slots all tasks take at most 11: 9 to spare.
 die 0: its 65536 numbers for jobs and collections last for 436900 slots; `renew` begins the next life.
+die 0: with its other numbers as they are, no common would do.
+[[task]] 1 (die 0 task 0): one at a time, these would do: no period, no collect_period, no cap, no work, greatest writes 1.
 ",
     ),
 ];

@@ -6,7 +6,7 @@ use std::io;
 use std::io::Write;
 
 /// The styles and the marks. The colours differ in brightness too, for prints without colour and for eyes that see less of
-/// it. On paper a picture is as wide as the page.
+/// it. On paper a picture is as wide as the page; on a screen that is dark, the picture is too.
 const STYLES: &str = "<style>
 @media print{svg{width:100%;height:auto}}
 svg{background:#fff;print-color-adjust:exact;-webkit-print-color-adjust:exact}
@@ -14,7 +14,7 @@ text{font:11px sans-serif;fill:#222}
 .h{font-size:16px;font-weight:bold}
 .l{text-anchor:end}
 .n{text-anchor:middle;font-size:9px;fill:#666}
-.p{text-anchor:middle;font-size:9px;pointer-events:none}
+.p{text-anchor:middle;font-size:9px;fill:#222;pointer-events:none}
 .late{fill:#b00020;font-weight:bold}
 .lane{fill:#f5f5f5}
 .tick{stroke:#ddd}
@@ -29,6 +29,21 @@ text{font:11px sans-serif;fill:#222}
 .erase{fill:#8a4f9e}
 .end{fill:#000}
 .w{fill:#fff}
+@media screen and (prefers-color-scheme:dark){
+svg{background:#16181d}
+text{fill:#ddd}
+.n{fill:#aaa}
+.p{fill:#222}
+.w{fill:#fff}
+.late{fill:#ff8a96}
+.lane{fill:#20242b}
+.tick{stroke:#3a3f48}
+.stretch{fill:#a35a00}
+.write{fill:#2f8fd8}
+.end{fill:#fff}
+#release{stroke:#6bd08a}
+#due{stroke:#ff8a96}
+}
 </style>
 <defs>
 <path id=\"release\" d=\"M0,17V2M-3,6L0,1L3,6\" fill=\"none\" stroke=\"#1b7837\" stroke-width=\"1.5\"/>
@@ -74,7 +89,7 @@ fn put_counts(text: &mut Vec<u8>, scene: &Scene<'_>) -> io::Result<()> {
     writeln!(
         text,
         "<text x=\"10\" y=\"44\">In all {slots} {in_slots}: {written} {pages} written by jobs, \
-         {copied} copied by collections, {erased} {blocks} erased.</text>"
+         {copied} copied by collections, {erased} {blocks} erased. A number in a cell is its page, in an erase its block.</text>"
     )
 }
 

@@ -58,8 +58,9 @@ fn put_front(
 ) -> io::Result<()> {
     put_gaps(alloc, text, scene, layout)?;
     put_cells(text, scene, layout)?;
-    put_times(text, scene, layout)?;
     put_waivers(text, scene, layout)?;
+    // Behind the waivers, so that the due of one that is late isn't hidden by its mark.
+    put_times(text, scene, layout)?;
     put_labels(text, scene, layout)
 }
 

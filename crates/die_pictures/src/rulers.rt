@@ -2,7 +2,7 @@
 
 ghost use Rattle.std.specs.Prelude.{◌<◌};
 
-use crate::layouts::{Band, LANE, Layout, RULER};
+use crate::layouts::{Band, LANE, LEFT, Layout, RULER};
 use crate::pictures::{Scene, Worst};
 use std::io;
 use std::io::Write;
@@ -46,9 +46,16 @@ fn put_ticks(text: &mut Vec<u8>, band: &Band, cell: u32) -> io::Result<()> {
     Ok(())
 }
 
-/// Draws the stripes and the ticks of all bands.
+/// Names the axis of a band.
+fn put_axis(text: &mut Vec<u8>, band: &Band) -> io::Result<()> {
+    let (x, y) = (LEFT.saturating_sub(8), band.top.saturating_add(11));
+    writeln!(text, "<text class=\"l\" x=\"{x}\" y=\"{y}\">slot</text>")
+}
+
+/// Draws the axes and the ticks of all bands.
 pub fn put_rulers(text: &mut Vec<u8>, layout: &Layout) -> io::Result<()> {
     for band in &layout.bands {
+        put_axis(text, band)?;
         put_ticks(text, band, layout.cell)?;
     }
     Ok(())

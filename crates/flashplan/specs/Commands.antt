@@ -1,5 +1,5 @@
 -- What the words of a command line ask for.
-use Rattle.std.specs.Prelude.{ℕ, ◌≤◌, ⊤, nat_le, List, [], ◌∷◌, codes, Option, Some, None, option_and_then, if◌then◌else◌}
+use Rattle.std.specs.Prelude.{ℕ, ◌≤◌, ⊤, Bool, nat_le, List, [], ◌∷◌, codes, Option, Some, None, option_and_then, if◌then◌else◌}
 use Rattle.std.specs.Str.{bytes_eq}
 use Rattle.clap.specs.Words.{Row, Text, first_of, subcommand_of}
 use Rattle.clap.specs.Kinds.{Kinds, or_else}
@@ -13,21 +13,24 @@ use Rattle.flashplan.specs.declared.commands.Command.TheVariants as command
 -- a command, with the names of its files as texts
 pub data Task : Type 0 where
   Explain : (plan : Text) → Task
-  Arrivals : (plan : Text) (slots seed : ℕ) → Task
+  Arrivals : (plan : Text) (slots seed : ℕ) (fills : Bool) → Task
+  Keeps : (plan script : Text) (slots : ℕ) → Task
   Wear : (plan script : Text) (slots : ℕ) → Task
   Draw : (plan script : Text) (slots die first end : ℕ) → Task
   Compare : (plan script : Text) (slots first pool : ℕ) → Task
 
 abbrev pub task_of : Command → Task
 task_of (command.Explain plan) = Explain plan.now
-task_of (command.Arrivals plan slots seed) = Arrivals plan.now slots seed
+task_of (command.Arrivals plan slots seed fills) = Arrivals plan.now slots seed fills
+task_of (command.Keeps plan script slots) = Keeps plan.now script.now slots
 task_of (command.Wear plan script slots) = Wear plan.now script.now slots
 task_of (command.Draw plan script slots die first end) = Draw plan.now script.now slots die first end
 task_of (command.Compare plan script slots first pool) = Compare plan.now script.now slots first pool
 
 -- a run has at most 1,048,576 slots
 abbrev pub FitsRun : Command → Type 0
-FitsRun (command.Arrivals plan slots seed) = slots ≤ 1048576
+FitsRun (command.Arrivals plan slots seed fills) = slots ≤ 1048576
+FitsRun (command.Keeps plan script slots) = slots ≤ 1048576
 FitsRun (command.Wear plan script slots) = slots ≤ 1048576
 FitsRun (command.Draw plan script slots die first end) = slots ≤ 1048576
 FitsRun (command.Compare plan script slots first pool) = slots ≤ 1048576
@@ -52,7 +55,15 @@ arrivals_of rows = do
   plan ← first_of (codes "PLAN") rows
   slots ← first_of (codes "slots") rows >>= number_upto
   seed ← first_of (codes "seed") rows >>= number_upto
-  Some (Arrivals plan slots seed)
+  fills ← first_of (codes "fill") rows
+  Some (Arrivals plan slots seed (bytes_eq fills (codes "true")))
+
+abbrev pub keeps_of : List Row → Option Task
+keeps_of rows = do
+  plan ← first_of (codes "PLAN") rows
+  script ← first_of (codes "SCRIPT") rows
+  slots ← first_of (codes "slots") rows >>= number_upto
+  Some (Keeps plan script slots)
 
 abbrev pub wear_of : List Row → Option Task
 wear_of rows = do
@@ -84,6 +95,7 @@ abbrev pub named : Text → List Row → Option Task
 named name rows =
     if bytes_eq name (codes "explain") then explain_of rows
     else if bytes_eq name (codes "arrivals") then arrivals_of rows
+    else if bytes_eq name (codes "keeps") then keeps_of rows
     else if bytes_eq name (codes "wear") then wear_of rows
     else if bytes_eq name (codes "draw") then draw_of rows
     else if bytes_eq name (codes "compare") then compare_of rows

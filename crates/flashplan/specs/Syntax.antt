@@ -1,5 +1,6 @@
 -- The words that the program takes, as clap reads them.
 use Rattle.std.specs.Prelude.{codes, Bool, true, Some, [], ◌∷◌}
+use Rattle.clap.specs.declared.builder.action.ArgAction.TheVariants.{SetTrue}
 use Rattle.clap.specs.Words.{App, Rule, Text, new_app, new_rule, with_rule, with_subcommand}
 use Rattle.clap.specs.declared.builder.command.Command.{Command}
 use Rattle.clap.specs.declared.builder.command.Command.TheViews.{out-Command}
@@ -28,6 +29,14 @@ to_rule = record (new_rule (codes "to")) { long = Some (codes "to"); value_names
 abbrev pub seed_rule : Rule
 seed_rule = record (new_rule (codes "seed")) { long = Some (codes "seed"); value_names = 1; defaults = codes "0" ∷ [] }
 
+-- a flag, which is true where it is there
+abbrev pub flag : Text → Rule
+flag id = record (new_rule id) { long = Some id; action = Some SetTrue }
+
+-- `--fill`
+abbrev pub fill_rule : Rule
+fill_rule = flag (codes "fill")
+
 -- `--pool A`, which is 4 where it isn't there
 abbrev pub pool_rule : Rule
 pool_rule = record (new_rule (codes "pool")) { long = Some (codes "pool"); value_names = 1; defaults = codes "4" ∷ [] }
@@ -39,13 +48,19 @@ abbrev pub arrivals_run_app : App
 arrivals_run_app = with_rule (with_rule (new_app (codes "arrivals")) (needed (codes "PLAN"))) slots_rule
 
 abbrev pub arrivals_app : App
-arrivals_app = with_rule arrivals_run_app seed_rule
+arrivals_app = with_rule (with_rule arrivals_run_app seed_rule) fill_rule
 
 abbrev pub wear_files_app : App
 wear_files_app = with_rule (with_rule (new_app (codes "wear")) (needed (codes "PLAN"))) (needed (codes "SCRIPT"))
 
 abbrev pub wear_app : App
 wear_app = with_rule wear_files_app slots_rule
+
+abbrev pub keeps_files_app : App
+keeps_files_app = with_rule (with_rule (new_app (codes "keeps")) (needed (codes "PLAN"))) (needed (codes "SCRIPT"))
+
+abbrev pub keeps_app : App
+keeps_app = with_rule keeps_files_app slots_rule
 
 abbrev pub draw_files_app : App
 draw_files_app = with_rule (with_rule (new_app (codes "draw")) (needed (codes "PLAN"))) (needed (codes "SCRIPT"))
@@ -68,8 +83,8 @@ named_app = let app = new_app (codes "flashplan") in record app { top = record a
 
 -- the program's command line
 abbrev pub flashplan_app : App
-flashplan_app = with_subcommand (with_subcommand (with_subcommand (with_subcommand (with_subcommand named_app explain_app.top)
-    arrivals_app.top) wear_app.top) draw_app.top) compare_app.top
+flashplan_app = with_subcommand (with_subcommand (with_subcommand (with_subcommand (with_subcommand (with_subcommand named_app
+    explain_app.top) arrivals_app.top) keeps_app.top) wear_app.top) draw_app.top) compare_app.top
 
 -- whether a command has an argument that is global
 abbrev pub has_globals : Command → Bool

@@ -1,21 +1,33 @@
 //! Commands that are carried out.
 
-ghost use Rattle.std.specs.Prelude.{◌≡◌, ◌≤◌, IfErr, IfOk, OnOk};
-ghost use Rattle.flashplan.specs.Acts.{IsDone, IsHostFault, IsUnwritten, PrintsArrivals, SaysOf};
+ghost use Rattle.std.specs.Prelude.{◌≡◌, ◌≢◌, ◌≤◌, IfErr, IfOk, IfSome, OnOk, is_ok, if◌then◌else◌};
+ghost use Rattle.flashplan.specs.Acts.{IsBroken, IsDone, IsHostFault, IsUnwritten, PrintsArrivals, SaysOf, TellsKept, kept_status};
 ghost use Rattle.flashplan.specs.Commands.{FitsRun};
 
 use crate::commands::Command;
 use flash_commands::{Fault, end};
 use plain_layers::Marks;
-use plan_arrivals::{Fault as Unplanned, arrivals};
+use plan_arrivals::{Fault as Unplanned, Manner, arrivals, full_from};
 use plan_design::explain;
+use plan_keeping::{Verdict, keep, script_text, sentence};
 use plan_texts::{plan_text, read_plan_from};
-use slot_types::{MAX_SLOT, Refusal};
+use slot_types::{MAX_SLOT, Refusal, StorePlan};
 use std::alloc::Global;
 use std::io::{Read, Write};
 use store_compare::{CompareFault, Measure, compare};
 use text_base::write_whole;
-use watched_runs::{RefusedRows, draw, wear};
+use watched_runs::{RefusedRows, Sights, draw, wear};
+
+/// Tells a refusal, and answers the status. Where standard output takes no more, nothing is told. A writer that fails is
+/// passed over.
+fn end_refused<E: Write>(err: &mut E, refusal: Refusal) -> u8
+    ensures { result ≡ 1 }
+{
+    if refusal != Refusal::WriteFault {
+        let _ = end(err, Err(Fault::Refused(refusal)));
+    }
+    1
+}
 
 /// Prints what is said of a plan, and says whether it is accepted.
 fn print_explained<R: Read + Drop, W: Write>(
@@ -36,22 +48,64 @@ fn print_explained<R: Read + Drop, W: Write>(
 const WANTED: &str =
     "arrivals wants a plan with times (version 2) that is accepted: flashplan explain says more";
 
+/// What is told where a script doesn't keep a plan, and it isn't found why.
+const UNFOUND: &str =
+    "error: the script doesn't keep the plan, and no reason was found, which is a fault of flashplan";
+
+/// What is told beside a plan that no script keeps.
+const TIMES_WANTED: &str =
+    "keeps wants a plan with times (version 2) that is accepted: flashplan explain says more";
+
+/// What is printed of a script that keeps the plans of its dies.
+const KEPT: &[u8] = b"the script keeps the plan of each die\n";
+
 /// Prints the script of a plan's arrivals, which is made whole before its first byte.
 fn print_arrivals<R: Read + Drop, W: Write>(
     alloc: Global,
     plan: R,
     slots: u32,
-    seed: u32,
+    manner: Manner,
     out: &mut W,
-) -> Result<(), Unplanned>
+) -> Result<StorePlan, Unplanned>
     requires slots { slots ≤ MAX_SLOT }
     ensures printed { OnOk result (PrintsArrivals (R.remaining plan) slots (W.contents out.old) (W.contents out.new)) }
     ensures unwritten { IfErr result (IsUnwritten out.old out.new) }
 {
     let store = read_plan_from(alloc, plan)?;
-    let script = arrivals(alloc, &store, slots, seed)?;
+    let script = arrivals(alloc, &store, slots, manner)?;
     write_whole(out, &script)?;
-    Ok(())
+    Ok(store)
+}
+
+/// Tells from which slots on the dies are full. A writer that fails is passed over, and so is want of memory.
+fn tell_full<E: Write>(alloc: Global, err: &mut E, store: &StorePlan) {
+    let Ok(full) = full_from(alloc, store) else {
+        return;
+    };
+    for die in 0..full.len() {
+        let slot = full[die];
+        let _ = writeln!(err, "die {die} is full from slot {slot} on");
+    }
+}
+
+/// Tells what was made of a plan's arrivals, and answers the status.
+fn end_arrivals<E: Write>(
+    alloc: Global,
+    err: &mut E,
+    manner: Manner,
+    made: Result<StorePlan, Unplanned>,
+) -> u8
+    ensures { result ≡ (if is_ok made then 0 else 1) }
+{
+    match made {
+        Ok(store) => {
+            if manner.fills {
+                tell_full(alloc, err, &store);
+            }
+            0
+        }
+        Err(fault) => end_unplanned(err, fault),
+    }
 }
 
 /// Tells why no script was made, and answers the status. A writer that fails is passed over.
@@ -60,7 +114,7 @@ fn end_unplanned<E: Write>(err: &mut E, fault: Unplanned) -> u8
 {
     match fault {
         Unplanned::Refused(refusal) => {
-            let _ = end(err, Err(Fault::Refused(refusal)));
+            let _ = end_refused(err, refusal);
             if refusal == Refusal::BadPlan {
                 let _ = writeln!(err, "{WANTED}");
             }
@@ -70,6 +124,55 @@ fn end_unplanned<E: Write>(err: &mut E, fault: Unplanned) -> u8
         }
     }
     1
+}
+
+/// Prints whether a script keeps the plans of its dies, and says whether it does; none where it doesn't, and no condition
+/// was found that doesn't hold, which is a fault of this program.
+fn print_kept<P: Read + Drop, S: Read + Drop, W: Write>(
+    alloc: Global,
+    plan: P,
+    script: S,
+    slots: u32,
+    out: &mut W,
+) -> Result<Option<bool>, Refusal>
+    requires slots { slots ≤ MAX_SLOT }
+    ensures told { IfOk result (λ kept. IfSome kept (TellsKept (P.remaining plan) (S.remaining script) slots)) }
+{
+    let store = read_plan_from(alloc, plan)?;
+    let text = script_text(alloc, script)?;
+    match keep(alloc, &text, &store, slots)? {
+        Verdict::Kept => {
+            write_whole(out, KEPT)?;
+            Ok(Some(true))
+        }
+        Verdict::Broken(broken) => {
+            let said = sentence(alloc, &text, &store, slots, broken)?;
+            write_whole(out, &said)?;
+            Ok(Some(false))
+        }
+        Verdict::Astray => Ok(None),
+    }
+}
+
+/// Tells why it isn't known whether a script keeps its plans, or answers whether it does.
+fn end_kept<E: Write>(err: &mut E, kept: Result<Option<bool>, Refusal>) -> u8
+    ensures { result ≡ kept_status kept }
+{
+    match kept {
+        Ok(Some(true)) => 0,
+        Ok(Some(false)) => 3,
+        Ok(None) => {
+            let _ = writeln!(err, "{UNFOUND}");
+            1
+        }
+        Err(refusal) => {
+            let _ = end_refused(err, refusal);
+            if refusal == Refusal::BadPlan {
+                let _ = writeln!(err, "{TIMES_WANTED}");
+            }
+            1
+        }
+    }
 }
 
 /// Prints what a run wore.
@@ -98,13 +201,47 @@ fn print_drawn<P: Read + Drop, S: Read + Drop, W: Write>(
     from: u32,
     to: u32,
     out: &mut W,
-) -> Result<RefusedRows, Refusal>
+) -> Result<(RefusedRows, Sights), Refusal>
     requires slots { slots ≤ MAX_SLOT }
 {
     let store = read_plan_from(alloc, plan)?;
     let drawn = draw(alloc, store, script, slots, die, from, to)?;
     write_whole(out, &drawn.text)?;
-    Ok(drawn.refused)
+    Ok((drawn.refused, drawn.sights))
+}
+
+/// The most slots of a picture that is drawn without a warning.
+const MANY_SLOTS: u32 = 5_000;
+
+/// Warns of a picture of many slots, and names those that are worth looking at. A writer that fails is passed over.
+fn warn_many<E: Write>(err: &mut E, slots: u32, sights: Sights) {
+    if slots <= MANY_SLOTS {
+        return;
+    }
+    let _ = writeln!(
+        err,
+        "warning: a picture of {slots} slots is large: --from A --to B draws fewer"
+    );
+    if let Some((from, to)) = sights.worst {
+        let _ = writeln!(err, "the worst: --from {from} --to {to}");
+    }
+    if let Some(slot) = sights.collection {
+        let to = slot.saturating_add(100);
+        let _ = writeln!(err, "the first collection: --from {slot} --to {to}");
+    }
+}
+
+/// Tells what was drawn, and answers the status.
+fn end_drawn<E: Write>(err: &mut E, slots: u32, drawn: Result<(RefusedRows, Sights), Refusal>) -> u8
+    ensures { result ≢ 3 }
+{
+    match drawn {
+        Ok((refused, sights)) => {
+            warn_many(err, slots, sights);
+            end_run(err, Ok(refused))
+        }
+        Err(refusal) => end_refused(err, refusal),
+    }
 }
 
 /// With fewer wholly free blocks than these a plain layer has to collect.
@@ -127,10 +264,12 @@ fn print_compared<P: Read + Drop, S: Read + Drop, W: Write>(
 }
 
 /// Answers the status of a comparison, and tells why there is none. A writer that fails is passed over.
-fn end_compared<E: Write>(err: &mut E, compared: Result<(), CompareFault>) -> u8 {
+fn end_compared<E: Write>(err: &mut E, compared: Result<(), CompareFault>) -> u8
+    ensures { result ≢ 3 }
+{
     match compared {
         Ok(()) => 0,
-        Err(CompareFault::Refused(refusal)) => end(err, Err(Fault::Refused(refusal))),
+        Err(CompareFault::Refused(refusal)) => end_refused(err, refusal),
         Err(CompareFault::WrongLayer { policy, fault }) => {
             let _ = writeln!(
                 err,
@@ -143,10 +282,12 @@ fn end_compared<E: Write>(err: &mut E, compared: Result<(), CompareFault>) -> u8
 }
 
 /// Tells the rows that were refused, if there are any, and answers the status. A writer that fails is passed over.
-fn end_run<E: Write>(err: &mut E, ran: Result<RefusedRows, Refusal>) -> u8 {
+fn end_run<E: Write>(err: &mut E, ran: Result<RefusedRows, Refusal>) -> u8
+    ensures { result ≢ 3 }
+{
     let refused = match ran {
         Ok(refused) => refused,
-        Err(refusal) => return end(err, Err(Fault::Refused(refusal))),
+        Err(refusal) => return end_refused(err, refusal),
     };
     if let Some((line, number)) = refused.first {
         let count = refused.count;
@@ -161,13 +302,15 @@ fn end_run<E: Write>(err: &mut E, ran: Result<RefusedRows, Refusal>) -> u8 {
 /// and 1 where it isn't. `arrivals` prints the script of what the plan's tasks ask for, as
 /// [`arrivals`](plan_arrivals::arrivals) makes it: its rows keep the plan of each die, so that a run of it refuses none and
 /// is never late. A plan without times that pass their test is told as `error 3 BadPlan`; then, and where more slots are
-/// asked for than a script may have, nothing is printed, and the status is 1. `wear` prints what
+/// asked for than a script may have, nothing is printed, and the status is 1. `keeps` prints whether the script keeps the
+/// plan of each die (status 0), or a condition that doesn't hold, and of which record (status 3). `wear` prints what
 /// [`wear`](watched_runs::wear) tells of the run of the script, and `draw` what [`draw`](watched_runs::draw) draws of it,
 /// each whole; the status is 0, and where rows were refused, `err` gets a line, as `refused 1 first line 6 with 6`. `compare`
 /// prints the table of [`compare`](store_compare::compare), whole.
 ///
 /// No more of the plan is read than 1,048,577 bytes. Where a text is refused, memory runs out, or a reader or `out`
-/// fails, that is told in a line to `err`, as `error 21 ReadFault`, and the status is 1. Where `err` fails, that is passed over.
+/// fails, that is told in a line to `err`, as `error 21 ReadFault`, and the status is 1; where `out` fails nothing is told.
+/// Where `err` fails, that is passed over.
 pub fn act<P: Read + Drop, S: Read + Drop, W: Write, E: Write>(
     alloc: Global,
     command: Command<'_>,
@@ -177,19 +320,28 @@ pub fn act<P: Read + Drop, S: Read + Drop, W: Write, E: Write>(
     err: &mut E,
 ) -> u8
     requires { FitsRun command }
-    ensures { result ≡ 0 → IsDone command.entry (P.remaining plan) (W.contents out.old) (W.contents out.new) }
+    ensures done { result ≡ 0 → IsDone command.entry (P.remaining plan) (S.remaining script) (W.contents out.old) (W.contents out.new) }
+    ensures broken { result ≡ 3 → IsBroken command.entry (P.remaining plan) (S.remaining script) }
 {
     match command {
         Command::Explain { .. } => match print_explained(alloc, plan, out) {
             Ok(true) => 0,
             Ok(false) => 1,
-            Err(refusal) => end(err, Err(Fault::Refused(refusal))),
+            Err(refusal) => end_refused(err, refusal),
         },
-        Command::Arrivals { slots, seed, .. } => {
-            match print_arrivals(alloc, plan, slots, seed, out) {
-                Ok(()) => 0,
-                Err(fault) => end_unplanned(err, fault),
-            }
+        Command::Arrivals {
+            slots,
+            seed,
+            fills,
+            ..
+        } => {
+            let manner = Manner { seed, fills };
+            let made = print_arrivals(alloc, plan, slots, manner, out);
+            end_arrivals(alloc, err, manner, made)
+        }
+        Command::Keeps { slots, .. } => {
+            let kept = print_kept(alloc, plan, script, slots, out);
+            end_kept(err, kept)
         }
         Command::Wear { slots, .. } => {
             let ran = print_wear(alloc, plan, script, slots, out);
@@ -202,8 +354,8 @@ pub fn act<P: Read + Drop, S: Read + Drop, W: Write, E: Write>(
             to,
             ..
         } => {
-            let ran = print_drawn(alloc, plan, script, slots, die, from, to, out);
-            end_run(err, ran)
+            let drawn = print_drawn(alloc, plan, script, slots, die, from, to, out);
+            end_drawn(err, to.min(slots).saturating_sub(from), drawn)
         }
         Command::Compare {
             slots,

@@ -4,8 +4,8 @@ ghost use Rattle.std.specs.Prelude.{◌≡◌, ◌≤◌, IfOk, IfSome, Some, No
 ghost use Rattle.clap.specs.Words.{app_of, first_of, found_of, rows_of, subcommand_rows_of};
 ghost use Rattle.clap.specs.Kinds.{FailsBy, HasKind};
 ghost use Rattle.clap.specs.Faults.{fault_of};
-ghost use Rattle.flashplan.specs.Commands.{FitsRun, arrivals_of, asked, asked_by, draw_of, named, number_upto, range_fault, task_of};
-ghost use Rattle.flashplan.specs.Commands.{compare_of, wear_of, words_fault};
+ghost use Rattle.flashplan.specs.Commands.{FitsRun, arrivals_of, asked, asked_by, draw_of, keeps_of, named, number_upto};
+ghost use Rattle.flashplan.specs.Commands.{compare_of, range_fault, task_of, wear_of, words_fault};
 ghost use Rattle.flashplan.specs.Syntax.{flashplan_app};
 
 use crate::syntax::program_words;
@@ -29,6 +29,15 @@ pub enum Command<'a> {
         slots: u32,
         /// What draws the operations and their pages.
         seed: u32,
+        /// Whether the die is filled first.
+        fills: bool,
+    },
+    /// Tell whether a script keeps the plans of its dies.
+    Keeps {
+        plan: &'a str,
+        script: &'a str,
+        /// How many slots each die runs, from 0 to 1,048,576.
+        slots: u32,
     },
     /// Run a script, and tell what it wore.
     Wear {
@@ -87,7 +96,28 @@ fn arrivals<'a>(met: &ArgMatches<'a>) -> Option<Command<'a>>
     let plan = value(met, "PLAN")?;
     let slots = number_in(value(met, "slots")?)?;
     let seed = number_in(value(met, "seed")?)?;
-    Some(Command::Arrivals { plan, slots, seed })
+    let fills = value(met, "fill")? == "true";
+    Some(Command::Arrivals {
+        plan,
+        slots,
+        seed,
+        fills,
+    })
+}
+
+/// The command `keeps` that was met.
+fn keeps<'a>(met: &ArgMatches<'a>) -> Option<Command<'a>>
+    ensures keeps { option_map task_of result ≡ keeps_of (rows_of (found_of met.now)) }
+    ensures fits { IfSome result FitsRun }
+{
+    let plan = value(met, "PLAN")?;
+    let script = value(met, "SCRIPT")?;
+    let slots = number_in(value(met, "slots")?)?;
+    Some(Command::Keeps {
+        plan,
+        script,
+        slots,
+    })
 }
 
 /// The command `wear` that was met.
@@ -155,6 +185,8 @@ fn command_named<'a>(name: &str, met: &ArgMatches<'a>) -> Option<Command<'a>>
         Some(Command::Explain { plan })
     } else if name == "arrivals" {
         arrivals(met)
+    } else if name == "keeps" {
+        keeps(met)
     } else if name == "wear" {
         wear(met)
     } else if name == "draw" {
@@ -197,7 +229,7 @@ fn command_error(mut program: clap::Command<'_>) -> Error
 {
     match program.error(
         ErrorKind::ValueValidation,
-        "a command is wanted: explain, arrivals, wear, draw or compare; each of its numbers is a whole one from 0 to 1048576",
+        "a command is wanted: explain, arrivals, keeps, wear, draw or compare; each of its numbers is a whole one from 0 to 1048576",
     ) {
         Ok(error) => error,
         Err(error) => Error::from(error),
@@ -206,10 +238,12 @@ fn command_error(mut program: clap::Command<'_>) -> Error
 
 /// What the words ask for, the first of them being the program's name.
 ///
-/// The words are `explain PLAN`, `arrivals PLAN --slots N --seed S`, where S may be left out and is then 0,
-/// `wear PLAN SCRIPT --slots N`, `draw PLAN SCRIPT --slots N --die D --from A --to B`,
-/// where A and B may be left out: the picture then begins with slot 0, or ends with the run; or
-/// `compare PLAN SCRIPT --slots N --from F --pool A`, where F is 0 and A is 4 if left out. A number is 1 to 10 decimal digits, and at most 1,048,576. The error is that of clap, which prints itself: a call for help, a fault of the words,
+/// The words are `explain PLAN`, `arrivals PLAN --slots N --seed S --fill`, where S may be left out and is then 0, and
+/// `--fill` too, `keeps PLAN SCRIPT --slots N`, `wear PLAN SCRIPT --slots N`,
+/// `draw PLAN SCRIPT --slots N --die D --from A --to B`, where A and B may be left out: the picture then begins with slot 0,
+/// or ends with the run; or `compare PLAN SCRIPT --slots N --from F --pool A`, where F is 0 and A is 4 if left out. A number
+/// is 1 to 10 decimal digits, and at most 1,048,576. The error is that of clap, which prints itself: a call for help, a
+/// fault of the words,
 /// or want of memory; and ValueValidation where there is no command, or a number that is none or too great.
 #[tactic(auto, using(crate::proofs::KindLemmas::has_kind_in_first))]
 pub fn read_words<'a>(alloc: Global, words: &'a [String]) -> Result<Command<'a>, Error>

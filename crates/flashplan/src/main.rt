@@ -31,7 +31,8 @@ fn act_on<D: Folder, W: Write, E: Write>(
             let plan = folder.open(plan)?;
             Ok(act(alloc, command, plan, io::empty(), out, err))
         }
-        Command::Wear { plan, script, .. }
+        Command::Keeps { plan, script, .. }
+        | Command::Wear { plan, script, .. }
         | Command::Draw { plan, script, .. }
         | Command::Compare { plan, script, .. } => {
             let plan = folder.open(plan)?;

@@ -2,11 +2,11 @@
 
 ghost use Rattle.std.specs.Prelude.{◌≡◌, false, codes, IfOk};
 ghost use Rattle.clap.specs.Words.{app_of, rule_of, with_subcommand};
-ghost use Rattle.flashplan.specs.Syntax.{arrivals_app, arrivals_run_app, die_rule, draw_app, draw_files_app, draw_run_app, explain_app};
-ghost use Rattle.flashplan.specs.Syntax.{from_rule, flashplan_app, has_globals, named_app, needed, seed_rule, slots_rule, to_rule};
-ghost use Rattle.flashplan.specs.Syntax.{wear_app, wear_files_app, compare_app, compare_files_app, pool_rule};
+ghost use Rattle.flashplan.specs.Syntax.{arrivals_app, arrivals_run_app, die_rule, draw_app, draw_files_app, draw_run_app, explain_app, fill_rule};
+ghost use Rattle.flashplan.specs.Syntax.{from_rule, flashplan_app, has_globals, keeps_app, keeps_files_app, named_app, needed, seed_rule, slots_rule};
+ghost use Rattle.flashplan.specs.Syntax.{compare_app, compare_files_app, pool_rule, to_rule, wear_app, wear_files_app};
 
-use clap::{Arg, Command};
+use clap::{Arg, ArgAction, Command};
 use std::alloc::{AllocError, Global};
 
 /// What the script of arrivals has in it.
@@ -15,6 +15,7 @@ A collection of each task comes at each multiple of its collect_period, a job at
 A job has `work` operations, of which `writes` are writes; the seed draws which, and their pages.
 Of a task that writes one in eight of the others is a trim, the rest are reads.
 The pages of task t of n tasks are t, t + n, t + 2n and so on; a task beyond the last page has page t modulo `logical`.
+With --fill the writing tasks share all pages, and each first writes its own once, in order; nothing is trimmed.
 What is written tells where it comes from: slot, task, page and place in the job, each in 8 digits.
 
 Example: flashplan arrivals plan.toml --slots 1000 > script.csv";
@@ -134,6 +135,19 @@ fn seed<'a>(alloc: Global) -> Arg<'a>
         .help("Another one draws other pages and operations, from 0 to 1048576")
 }
 
+/// Whether the die is filled first.
+fn fill<'a>(alloc: Global) -> Arg<'a>
+    ensures rule { rule_of result ≡ fill_rule }
+    ensures local { result.global ≡ false }
+{
+    Arg::new(alloc, "fill")
+        .long("fill")
+        .action(ArgAction::SetTrue)
+        .help(
+            "Write each page once before any is drawn, and trim none; tells from which slot on the die is full",
+        )
+}
+
 /// The command `explain`.
 fn explain_words<'a>(alloc: Global) -> Result<Command<'a>, AllocError>
     ensures app { IfOk result (λ c. app_of c ≡ explain_app) }
@@ -164,7 +178,32 @@ fn arrivals_words<'a>(alloc: Global) -> Result<Command<'a>, AllocError>
     ensures app { IfOk result (λ c. app_of c ≡ arrivals_app) }
     ensures local { IfOk result (λ c. has_globals c ≡ false) }
 {
-    arrivals_run(alloc)?.arg(seed(alloc))
+    arrivals_run(alloc)?.arg(seed(alloc))?.arg(fill(alloc))
+}
+
+/// The command `keeps`, with its files.
+fn keeps_files<'a>(alloc: Global) -> Result<Command<'a>, AllocError>
+    ensures app { IfOk result (λ c. app_of c ≡ keeps_files_app) }
+    ensures local { IfOk result (λ c. has_globals c ≡ false) }
+{
+    Command::new(alloc, "keeps")
+        .about(
+            "Tell whether a script keeps the plans of its dies, and if not, what breaks them first",
+        )
+        .after_help(
+            "Ends with 0 where it keeps them, and with 3 where it doesn't.\n\n\
+             Example: flashplan keeps plan.toml script.csv --slots 1000",
+        )
+        .arg(plan_file(alloc))?
+        .arg(script_file(alloc))
+}
+
+/// The command `keeps`.
+fn keeps_words<'a>(alloc: Global) -> Result<Command<'a>, AllocError>
+    ensures app { IfOk result (λ c. app_of c ≡ keeps_app) }
+    ensures local { IfOk result (λ c. has_globals c ≡ false) }
+{
+    keeps_files(alloc)?.arg(slots(alloc))
 }
 
 /// The command `wear`, with its files.
@@ -270,8 +309,10 @@ pub fn program_words<'a>(alloc: Global) -> Result<Command<'a>, AllocError>
     let with_explain = with_command(name(alloc), explain)?;
     let arrivals = arrivals_words(alloc)?;
     let with_arrivals = with_command(with_explain, arrivals)?;
+    let keeps = keeps_words(alloc)?;
+    let with_keeps = with_command(with_arrivals, keeps)?;
     let draw = draw_words(alloc)?;
-    let with_wear = with_command(with_arrivals, wear)?;
+    let with_wear = with_command(with_keeps, wear)?;
     let compare = compare_words(alloc)?;
     let with_draw = with_command(with_wear, draw)?;
     with_command(with_draw, compare)

@@ -1,3 +1,4 @@
 pub mod Trials
 pub mod Explained
 pub mod Commons
+pub mod Numbers

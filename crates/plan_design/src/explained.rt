@@ -10,6 +10,7 @@ use crate::lifetimes::tell_life;
 use crate::limits::{tell_die_limits, tell_shape, tell_strays};
 use crate::loads::tell_load;
 use crate::sayings::Sayings;
+use crate::solves::tell_solves;
 use crate::subjects::TaskName;
 use plan_texts::{PlanNumbers, TaskNumbers, die_plan, plan_numbers, read_plan};
 use slot_types::{DiePlan, MAX_DIES, Refusal};
@@ -62,7 +63,7 @@ fn names_of(alloc: Global, tasks: &[TaskNumbers], die: u32) -> Result<Vec<TaskNa
     Ok(names)
 }
 
-/// Tells the load of a die with times, how long it lives, and what each of its numbers could be.
+/// Tells the load of a die with times, and how long it lives.
 fn tell_timed(said: &mut Sayings, die: u32, names: &[TaskName], plan: &DiePlan) -> io::Result<()> {
     let Some(times) = &plan.times else {
         return Ok(());
@@ -71,20 +72,21 @@ fn tell_timed(said: &mut Sayings, die: u32, names: &[TaskName], plan: &DiePlan) 
     tell_life(&mut said.figures, die, times)
 }
 
-/// Tells the bound and the load of a die whose numbers are within their limits, or which are not.
+/// Tells the bound and the load of a die whose numbers are within their limits, or which are not; and says whether all are.
 fn tell_die(
     said: &mut Sayings,
     die: u32,
     names: &[TaskName],
     plan: &mut DiePlan,
-) -> io::Result<()> {
+) -> io::Result<bool> {
     let before = said.faults.len();
     tell_die_limits(&mut said.faults, die, names, plan)?;
     if before < said.faults.len() {
-        return Ok(());
+        return Ok(false);
     }
     tell_bound(said, die, plan)?;
-    tell_timed(said, die, names, plan)
+    tell_timed(said, die, names, plan)?;
+    Ok(true)
 }
 
 /// Tells the shape of the dies and the tasks that are of none, and says whether the dies can be told.
@@ -105,7 +107,8 @@ fn tell_one(alloc: Global, said: &mut Sayings, plan: &PlanNumbers, die: u32) -> 
     let names = names_of(alloc, plan.tasks.as_slice(), die)?;
     let mut made = die_plan(alloc, plan, die)?;
     match tell_die(said, die, &names, &mut made) {
-        Ok(()) => Ok(()),
+        Ok(true) => tell_solves(alloc, &mut said.figures, plan, die, &names),
+        Ok(false) => Ok(()),
         Err(_) => Err(Refusal::NoMemory),
     }
 }
@@ -155,7 +158,8 @@ fn put_said(text: &mut Vec<u8>, said: &Sayings) -> Result<(), Refusal>
 /// [`read_plan`](plan_texts::read_plan) judges it. If it isn't, its faults follow: the first of the text, or each number that
 /// is out of its limits or doesn't go with the others, and what would mend them. Behind these stand by die the figures of
 /// its bound, the least number of blocks and the greatest number of logical pages that would do; and for a plan with times
-/// the margins and the load, by task and in sum, and how long the die lives. The only refusal is NoMemory.
+/// the margins and the load, by task and in sum, how long the die lives, and what each of its numbers could be. The only
+/// refusal is NoMemory.
 pub fn explain(alloc: Global, plan: &[u8]) -> Result<Explained, Refusal>
     ensures said { IfOk result (λ explained. IsTrue explained.is_accepted ↔ IsAccepted plan.now) }
     ensures refused { FailsForMemory result }

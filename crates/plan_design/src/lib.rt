@@ -10,11 +10,16 @@ mod first_faults;
 mod lifetimes;
 mod limits;
 mod loads;
+mod numbers;
 mod ranges;
 mod sayings;
+mod solves;
+mod solving;
 mod subjects;
 mod trials;
 
 pub use commons::{divides_all, least_common};
 pub use explained::{Explained, explain};
+pub use numbers::Number;
+pub use solving::{greatest, least};
 pub use trials::{greatest_logical, least_blocks};

@@ -102,7 +102,9 @@ fn stock_of(alpha: u32, cap: u32, task: &TaskTimes) -> Margin {
         has: "cap",
         have: u64::from(cap),
         needs: "2 * writes + 2 * alpha",
-        need: 2 * u64::from(task.writes) + 2 * u64::from(alpha),
+        need: u64::from(task.writes)
+            .saturating_add(u64::from(alpha))
+            .saturating_mul(2),
     }
 }
 

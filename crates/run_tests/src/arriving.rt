@@ -185,7 +185,7 @@ fn a_plan_without_times_and_too_many_slots_have_no_script(rt: HostRuntime) -> Re
 /// Two tasks that write, and one that doesn't, on ten pages.
 const WRITERS: &str = "version = 2
 dies = 1
-blocks = 12
+blocks = 24
 pages = 4
 erase_slots = 3
 logical = 10

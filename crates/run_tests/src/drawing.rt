@@ -9,7 +9,7 @@ use watched_runs::draw;
 /// The picture of the slots 19 to 25.
 const PICTURE: &str = "<title>Die 0, slots 19 to 25 of 25</title>
 <text class=\"h\" x=\"10\" y=\"24\">Die 0, slots 19 to 25 of 25</text>
-<text x=\"10\" y=\"44\">In all 25 slots: 14 pages written by jobs, 1 copied by collections, 1 block erased.</text>
+<text x=\"10\" y=\"44\">In all 25 slots: 14 pages written by jobs, 1 copied by collections, 1 block erased. A number in a cell is its page, in an erase its block.</text>
 <text x=\"10\" y=\"62\">Worst: job 2 of task 0, due 7, completed 7, lateness 0; from slot 5 on each slot carried work due by 7.</text>
 <rect class=\"read\" x=\"10\" y=\"77\" width=\"13\" height=\"12\"/><text x=\"28\" y=\"87\">read</text>
 <rect class=\"write\" x=\"70\" y=\"77\" width=\"13\" height=\"12\"/><text x=\"88\" y=\"87\">write</text>
@@ -25,6 +25,7 @@ const PICTURE: &str = "<title>Die 0, slots 19 to 25 of 25</title>
 <path class=\"wait\" d=\"M1018,83h14\"/><text x=\"1038\" y=\"87\">waits</text>
 <rect class=\"end\" x=\"1088\" y=\"77\" width=\"13\" height=\"12\"/><text x=\"1106\" y=\"87\">done</text>
 <rect class=\"lane\" x=\"0\" y=\"122\" width=\"390\" height=\"18\"/>
+<text class=\"l\" x=\"142\" y=\"115\">slot</text>
 <path class=\"tick\" d=\"M150,122V158\"/><text class=\"n\" x=\"150\" y=\"115\">19</text>
 <path class=\"tick\" d=\"M190,122V158\"/><text class=\"n\" x=\"190\" y=\"115\">20</text>
 <path class=\"tick\" d=\"M390,122V158\"/><text class=\"n\" x=\"390\" y=\"115\">25</text>

@@ -6,6 +6,8 @@ mod arriving;
 #[cfg(test)]
 mod drawing;
 #[cfg(test)]
+mod keeping;
+#[cfg(test)]
 mod texts;
 #[cfg(test)]
 mod wearing;

@@ -5,8 +5,9 @@ ghost use Rattle.slot_types.specs.Refusal.{FailsForMemory};
 ghost use Rattle.plan_rules.specs.Bound.{MeetsBound};
 
 use crate::die_runs::{DieRun, whose};
-use crate::script_runs::{Told, run_rows};
+use crate::script_runs::{Sights, Told, run_rows};
 use die_pictures::{End, Row, Scene, Window, Worst, picture};
+use die_wear::Kind;
 use flash_die::MemoryNand;
 use script_texts::ScriptReader;
 use slot_core::{DieCore, Outcome};
@@ -69,6 +70,30 @@ fn worst_of(alloc: Global, core: &DieCore<MemoryNand>) -> Result<Option<Worst>, 
     }
 }
 
+/// The first slot of the window in which a collection reads or erases.
+fn first_collection(window: &Window) -> Option<u32> {
+    for carried in &window.carried {
+        if let Kind::CopyRead | Kind::Erase = carried.deed.kind {
+            return Some(carried.slot);
+        }
+    }
+    None
+}
+
+/// What of a run is worth a picture. The only refusal is NoMemory.
+fn sights_of(alloc: Global, run: &DieRun) -> Result<Sights, Refusal>
+    ensures { FailsForMemory result }
+{
+    let worst = match worst_of(alloc, &run.core)? {
+        Some(worst) => Some((worst.start, worst.completion)),
+        None => None,
+    };
+    Ok(Sights {
+        worst,
+        collection: first_collection(&run.window),
+    })
+}
+
 /// The picture of a run. The only refusal is NoMemory.
 fn picture_of(alloc: Global, run: &DieRun) -> Result<Vec<u8>, Refusal>
     ensures { FailsForMemory result }
@@ -113,9 +138,16 @@ pub fn draw<R: Read + Drop>(
         Err(_) => return Err(Refusal::NoMemory),
     }
     let refused = run_rows(alloc, script, &mut dies, slots)?;
-    let text = match dies.first() {
-        Some(run) => picture_of(alloc, run)?,
-        None => Vec::new(alloc),
-    };
-    Ok(Told { text, refused })
+    match dies.first() {
+        Some(run) => Ok(Told {
+            text: picture_of(alloc, run)?,
+            refused,
+            sights: sights_of(alloc, run)?,
+        }),
+        None => Ok(Told {
+            text: Vec::new(alloc),
+            refused,
+            sights: Sights::NONE,
+        }),
+    }
 }

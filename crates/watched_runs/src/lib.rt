@@ -8,4 +8,4 @@ mod script_runs;
 
 pub use draws::draw;
 pub use refused::RefusedRows;
-pub use script_runs::{Told, wear};
+pub use script_runs::{Sights, Told, wear};

@@ -12,11 +12,29 @@ use slot_types::{MAX_SLOT, Refusal, StorePlan};
 use std::alloc::Global;
 use std::io::Read;
 
+/// What of a run is worth a picture.
+#[derive(Clone, Copy, PartialEq, Eq, Debug, Drop)]
+pub struct Sights {
+    /// From which slot on, and before which one, the worst was carried, or what was due no later.
+    pub worst: Option<(u32, u32)>,
+    /// The slot in which the first collection reads or erases.
+    pub collection: Option<u32>,
+}
+
 /// What is told of a run, as a text, and which rows were refused.
 #[derive(Drop)]
 pub struct Told {
     pub text: Vec<u8>,
     pub refused: RefusedRows,
+    pub sights: Sights,
+}
+
+impl Sights {
+    /// Nothing was seen.
+    pub const NONE: Sights = Sights {
+        worst: None,
+        collection: None,
+    };
 }
 
 /// A fresh die for each plan.
@@ -96,5 +114,9 @@ pub fn wear<R: Read + Drop>(
     let refused = run_rows(alloc, script, &mut dies, slots)?;
     let tallies = tallies_of(alloc, dies)?;
     let text = wear_text(alloc, &tallies)?;
-    Ok(Told { text, refused })
+    Ok(Told {
+        text,
+        refused,
+        sights: Sights::NONE,
+    })
 }

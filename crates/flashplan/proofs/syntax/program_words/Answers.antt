@@ -10,6 +10,8 @@ pub returns : goal.returns
 returns c =
     let explained = c.in_ok-with_explain.ensures ∙ with_both _ _ _ _ c.name.ensures c.in_ok-explain.ensures.app in
     let arriving = c.in_ok-with_arrivals.ensures ∙ with_both _ _ _ _ explained c.in_ok-arrivals.ensures.app in
-    let wearing = c.in_ok-with_wear.ensures ∙ with_both _ _ _ _ arriving c.in_ok-wear.ensures.app in
-    subst (λ (a : App). IfOk c.with_command-4.result (λ c'. app_of c' ≡ a)) (with_both _ _ _ _ wearing c.in_ok-draw.ensures.app)
-    c.with_command-4.ensures
+    let keeping = c.in_ok-with_keeps.ensures ∙ with_both _ _ _ _ arriving c.in_ok-keeps.ensures.app in
+    let wearing = c.in_ok-with_wear.ensures ∙ with_both _ _ _ _ keeping c.in_ok-wear.ensures.app in
+    let drawing = c.in_ok-with_draw.ensures ∙ with_both _ _ _ _ wearing c.in_ok-draw.ensures.app in
+    subst (λ (a : App). IfOk c.with_command-6.result (λ c'. app_of c' ≡ a)) (with_both _ _ _ _ drawing c.in_ok-compare.ensures.app)
+    c.with_command-6.ensures
