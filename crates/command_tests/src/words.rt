@@ -156,7 +156,7 @@ fn the_version_is_told(rt: HostRuntime) -> Result<(), Fail> {
             panic!(rt; "{line} is a command")
         };
         assert!(rt; !version.use_stderr());
-        assert_eq!(rt; version.to_string(alloc)?.as_str(), "flashrec 0.1.0\n");
+        assert_eq!(rt; version.to_string(alloc)?.as_str(), "flashrec 0.2.0\n");
     }
     Ok(())
 }

@@ -90,8 +90,8 @@ fn plan_words<'a>(alloc: Global) -> Result<Command<'a>, AllocError>
         .arg(plan_file(alloc))
 }
 
-/// The program's version.
-pub const VERSION: &str = "0.1.0";
+/// The version of the programs.
+pub const VERSION: &str = "0.2.0";
 
 /// The program's name, its version and what it is about.
 fn name<'a>(alloc: Global) -> Command<'a>

@@ -7,6 +7,7 @@ ghost use Rattle.flashplan.specs.Syntax.{from_rule, flashplan_app, has_globals, 
 ghost use Rattle.flashplan.specs.Syntax.{compare_app, compare_files_app, pool_rule, to_rule, wear_app, wear_files_app};
 
 use clap::{Arg, ArgAction, Command};
+use flash_commands::syntax::VERSION;
 use std::alloc::{AllocError, Global};
 
 /// What the script of arrivals has in it.
@@ -284,7 +285,7 @@ fn name<'a>(alloc: Global) -> Command<'a>
     ensures { app_of result ≡ named_app }
 {
     Command::new(alloc, "flashplan")
-        .version("0.1.0")
+        .version(VERSION)
         .about("Helps to design the plan of a real-time flash store")
         .after_help(
             "Example: flashplan explain plan.toml\n\
