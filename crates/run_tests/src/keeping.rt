@@ -1,5 +1,8 @@
 //! Scripts that keep a plan, and scripts that don't: the sentences are worked out by hand.
 
+ghost use Rattle.std.specs.Prelude.{◌≤◌, All, length};
+ghost use Rattle.plan_rules.specs.Bound.{MeetsBound};
+
 use example_texts::TIMED;
 use plan_arrivals::{Manner, arrivals};
 use plan_keeping::{Verdict, keep, sentence};
@@ -104,7 +107,11 @@ const COLLECTIONS: [Said; 6] = [
 ];
 
 /// What is said of a script; nothing where it keeps the plan.
-fn said_of(alloc: Global, plan: &StorePlan, script: &[u8], slots: u32) -> Result<Vec<u8>, Fail> {
+fn said_of(alloc: Global, plan: &StorePlan, script: &[u8], slots: u32) -> Result<Vec<u8>, Fail>
+    requires some { 1 ≤ length plan.now }
+    requires few { length plan.now ≤ 8 }
+    requires bound { All MeetsBound plan.now }
+{
     match keep(alloc, script, plan, slots)? {
         Verdict::Kept => Ok(Vec::new(alloc)),
         Verdict::Broken(broken) => Ok(sentence(alloc, script, plan, slots, broken)?),
@@ -113,12 +120,11 @@ fn said_of(alloc: Global, plan: &StorePlan, script: &[u8], slots: u32) -> Result
 }
 
 /// That each of these is said of the script with its change.
-fn assert_each(
-    rt: &impl Abort,
-    alloc: Global,
-    plan: &StorePlan,
-    each: &[Said],
-) -> Result<(), Fail> {
+fn assert_each(rt: &impl Abort, alloc: Global, plan: &StorePlan, each: &[Said]) -> Result<(), Fail>
+    requires some { 1 ≤ length plan.now }
+    requires few { length plan.now ≤ 8 }
+    requires bound { All MeetsBound plan.now }
+{
     for (old, new, want) in each {
         let script = KEPT.replace(alloc, *old, *new)?;
         let said = said_of(alloc, plan, script.as_bytes(), SLOTS)?;
@@ -153,7 +159,11 @@ fn with_a_digit(alloc: Global, words: &mut Pcg32, script: &[u8]) -> Result<Vec<u
 }
 
 /// How many of the changed scripts keep the plan, and how many are told with what breaks it.
-fn count_told(alloc: Global, plan: &StorePlan, script: &[u8]) -> Result<(u32, u32), Fail> {
+fn count_told(alloc: Global, plan: &StorePlan, script: &[u8]) -> Result<(u32, u32), Fail>
+    requires some { 1 ≤ length plan.now }
+    requires few { length plan.now ≤ 8 }
+    requires bound { All MeetsBound plan.now }
+{
     let mut words = Pcg32::new(5, 3);
     let (mut kept, mut told) = (0u32, 0u32);
     for _ in 0..200 {

@@ -62,9 +62,11 @@ pub(crate) fn five_empty(alloc: Global) -> Result<Vec<Feed>, Refusal>
     ensures { IfOk result (λ feeds. All AllArrive feeds.items) }
 {
     let mut feeds = Vec::with_capacity(alloc, 5)?;
-    for _ in 0..5u32 {
-        feeds.push_reserved(Feed::new(alloc));
-    }
+    feeds.push_reserved(Feed::new(alloc));
+    feeds.push_reserved(Feed::new(alloc));
+    feeds.push_reserved(Feed::new(alloc));
+    feeds.push_reserved(Feed::new(alloc));
+    feeds.push_reserved(Feed::new(alloc));
     Ok(feeds)
 }
 

@@ -239,28 +239,36 @@ fn turns_are_apart(rt: HostRuntime) -> Result<(), Fail> {
     Ok(())
 }
 
-// Five dies without events, run for a slot each by two workers: the order in which their slots were carried out while one
-// die was held until another had carried out its slot.
-fn order_of_five<R: Threads + Wait + Sync + Abort>(
+// Five dies without events, run for a slot each by two workers, one die held until another has carried out its slot. Tells
+// whether their slots were carried out in this order.
+fn five_go_as<R: Threads + Wait + Sync + Abort>(
     rt: &R,
     alloc: Global,
     held: u32,
     until: u32,
-) -> Result<Option<Vec<u32>>, Refusal> {
+    order: &[u32],
+) -> Result<bool, Refusal> {
     let gate = ListGate::new(held, until, Vec::with_capacity(alloc, 5)?);
     let (store, mut passes) = five_dies(alloc)?;
     run(rt, &store, &mut passes, five_empty(alloc)?, 1, 2, &gate)?;
-    Ok(gate.into_dies())
+    match gate.into_dies() {
+        Some(dies) => Ok(dies.as_slice() == order),
+        None => Ok(false),
+    }
 }
 
 // Five dies by two workers, three and two, each worker one die after the other: while die 0 is held, the other worker
 // carries out dies 3 and 4 and no more; while die 3 is held, dies 0, 1 and 2.
 #[test]
 fn dies_are_dealt_in_runs(rt: HostRuntime) -> Result<(), Fail> {
-    let held_first = order_of_five(&rt, rt.alloc(), 0, 4)?;
-    assert_eq!(rt; held_first.as_deref(), Some([3u32, 4, 0, 1, 2].as_slice()));
-    let held_fourth = order_of_five(&rt, rt.alloc(), 3, 2)?;
-    assert_eq!(rt; held_fourth.as_deref(), Some([0u32, 1, 2, 3, 4].as_slice()));
+    assert!(rt;
+        five_go_as(&rt, rt.alloc(), 0, 4, &[3, 4, 0, 1, 2])?,
+        "die 0 is held"
+    );
+    assert!(rt;
+        five_go_as(&rt, rt.alloc(), 3, 2, &[0, 1, 2, 3, 4])?,
+        "die 3 is held"
+    );
     Ok(())
 }
 

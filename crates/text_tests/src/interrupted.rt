@@ -10,7 +10,7 @@ use std::io::{ErrorKind, Read, Write};
 use std::sync::Wait;
 use std::test::Fail;
 use std::thread::Threads;
-use task_script::{RunCount, read_report, run_text, write_report};
+use task_script::{RunCount, read_plan, read_report, run_text, write_report};
 
 /// Gives a text so many bytes a call, and is interrupted as often ahead of each.
 #[derive(Drop)]
@@ -107,7 +107,7 @@ fn run<R: Threads + Wait + Sync>(rt: &R, alloc: Global) -> (Result<RunCount, Ref
         text: Vec::new(alloc),
         halted: false,
     };
-    let ended = match two_dies(alloc) {
+    let ended = match read_plan(alloc, TWO_DIES.as_bytes()) {
         Ok(plan) => {
             let script = reader_of(TWO_SCRIPT, 7, 2);
             run_text(rt, alloc, &plan, script, &mut writer, 5, 2)
