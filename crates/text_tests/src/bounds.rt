@@ -183,18 +183,6 @@ fn a_reader_is_given_up_at_one_byte_more(rt: HostRuntime) {
     check(&rt, rt.alloc(), (usize::MAX, 1, None), want);
 }
 
-/// A reader that is interrupted for ever is asked as often as there are calls, and no more.
-#[test]
-fn a_reader_that_is_interrupted_for_ever_is_given_up(rt: HostRuntime) {
-    let want = Ended {
-        refusal: Some(Refusal::ReadFault),
-        given: 40,
-        calls: MAX_BYTES + 1,
-    };
-    let interrupted = Some(ErrorKind::Interrupted);
-    check(&rt, rt.alloc(), (40, 1, interrupted), want);
-}
-
 #[test]
 fn an_error_of_any_other_kind_is_a_read_fault(rt: HostRuntime) {
     for kind in KINDS {
