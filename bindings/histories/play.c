@@ -6,9 +6,6 @@
  * The chip is simulated here, and finds fault with each call that a chip doesn't allow. In half of the histories it fails
  * after some calls, or gives another name than was programmed. Each certificate is checked, too. */
 #include "flash.h"
-#ifndef FLASH_STAYS
-#define FLASH_STAYS 1 /* a slot that failed stays in the log */
-#endif
 #include <inttypes.h>
 #include <stdio.h>
 #include <stdlib.h>
@@ -184,14 +181,12 @@ static int slot(flash_die *die) {
     struct flash_waived waived[16];
     struct flash_name gave;
     check(flash_begin(die, 9, &call) == FLASH_OK, "begin");
-    check(call.slot == flash_now(die) || FLASH_STAYS, "the slot that has begun is the present one");
-#if !FLASH_STAYS
+    check(call.slot == flash_now(die), "the slot that has begun is the present one");
     for (uint32_t n = random_below(4) ? 0 : between(1, 3); n > 0; n--) { /* arrivals while the device works */
         uint32_t least = call.slot + 1;
         if (random_below(2)) submit(die, least); else collect(die, least);
         if (!random_below(3)) ask(die);
     }
-#endif
     fputs("slot\n", script);
     uint32_t ok = drive(&call, &gave), code = flash_end(die, ok, &gave, &reply, waived, 16);
     if (code) {
@@ -236,12 +231,10 @@ static void history(void) {
         else if (what == 7) ask(&die);
         else if (what == 8 && !random_below(3)) renew(&die);
         else if (!slot(&die)) {
-#if !FLASH_STAYS
             for (int i = 0; i < 3; i++) ask(&die);
             submit(&die, flash_now(&die));
             collect(&die, flash_now(&die));
             renew(&die);
-#endif
             break;
         }
     }
