@@ -116,7 +116,7 @@ static int held_back(flash_die *die, uint32_t code, uint32_t release) {
 }
 
 static void submit(flash_die *die, uint32_t least_release) {
-    struct flash_op ops[70];
+    struct flash_op ops[70] = {{0, 0, {{0}}}};
     struct flash_why why = {0, 0};
     uint32_t number = 0;
     uint32_t count = random_below(20) ? between(1, 5) : random_below(3) ? 0 : 65 + random_below(5);
