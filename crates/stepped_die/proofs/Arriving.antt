@@ -2,7 +2,7 @@
 use Rattle.std.proofs.Common.{◌≡◌, ℕ, ◌+◌, ◌-◌, ◌<◌, ◌≤◌, ◌&&◌, ◌||◌, ◌==◌, not, min, Bool, true, false, List, [], ◌∷◌, ◌++◌, length, get_or}
 use Rattle.std.proofs.Common.{slice_index, slice_get, Option, Some, None, refl, sym, ap, subst, cond, ◌∙◌, inl, inr, arith}
 use Rattle.std.specs.Prelude.{suc, zero, nat_le, nat_lt, filter, slice_set}
-use Rattle.std.specs.List.{AllByRecursion, list_any, last_or, range_with_len, reduce}
+use Rattle.std.specs.List.{list_any, last_or, range_with_len, reduce}
 use Rattle.std.proofs.lemmas.Bool.{cases_eq, cases_lt}
 use Rattle.std.proofs.lemmas.Bool.Decides.{nat_tests}
 use Rattle.std.proofs.lemmas.List.{append-nil, length-set, get_or-set_same, get_or_past}
@@ -16,14 +16,12 @@ use Rattle.slot_types.specs.declared.refusals.Refusal.{Refusal}
 use Rattle.slot_types.specs.declared.replies.Reply.{Reply}
 use Rattle.slot_types.specs.declared.replies.Reply.TheVariants as replies
 use Rattle.slot_types.specs.declared.replies.Reply.TheVariants.{Taken}
-use Rattle.slot_types.specs.declared.acts.Act.{Act}
-use Rattle.flash_die.specs.declared.nand.NandCall.{NandCall}
 use Rattle.slot_types.specs.declared.replies.Waived.{Waived}
 use Rattle.slot_types.specs.Operations.{writes}
 use Rattle.plan_rules.specs.Accounts.{Accounts, owned_of, given_of, admitted, waived}
 use Rattle.plan_rules.proofs.Owned.{admitted_owned, waived_others}
 use Rattle.die_log.specs.Start.{Start}
-use Rattle.die_log.specs.Log.{Log, Job, Carried, jobs, now, acts, work}
+use Rattle.die_log.specs.Log.{Log, Job, jobs, now, acts, work}
 use Rattle.die_log.specs.Flash.{cells, block_at, is_closed, ran_by}
 use Rattle.die_log.specs.Work.{ready, is_ready, least, victim_of}
 use Rattle.die_log.specs.Accounts.{accounts}

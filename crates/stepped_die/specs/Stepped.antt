@@ -1,12 +1,11 @@
 -- A die whose slots are begun and ended, as its callers see it.
-use Rattle.std.specs.Prelude.{◌≡◌, ◌<◌, true, false, ℕ, Option, Some, None, IfSome}
+use Rattle.std.specs.Prelude.{◌≡◌, ◌<◌, true, false, Option, None, IfSome}
 use Rattle.slot_types.specs.declared.limits.TheConstants.{MAX_SLOT}
 use Rattle.flash_die.specs.Faulty.{Faulty}
 use Rattle.flash_die.specs.Memory.{Memory}
 use Rattle.die_log.specs.Log.{now}
 use Rattle.die_log.specs.Needed.{needed_call}
 use Rattle.slot_core.specs.Core.{Core}
-use Rattle.slot_core.specs.NextSlot.{next_slot}
 use Rattle.stepped_die.specs.declared.calls.Begun.{Begun}
 use Rattle.stepped_die.specs.declared.mirror.MirrorNand.{MirrorNand}
 use Rattle.stepped_die.specs.Told.{told_by}

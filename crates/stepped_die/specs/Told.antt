@@ -1,5 +1,5 @@
 -- What a device is told to do, and what that does to its blocks.
-use Rattle.std.specs.Prelude.{◌≡◌, ◌+◌, ◌==◌, Bool, true, List, Option, Some, None, ⊤}
+use Rattle.std.specs.Prelude.{◌≡◌, ◌+◌, ◌==◌, Bool, true, Option, Some, None, ⊤}
 use Rattle.slot_types.specs.declared.pages.PageData.{PageData}
 use Rattle.flash_die.specs.Flash.{block_at, cell_at, programmed, erased}
 use Rattle.flash_die.specs.Memory.{Memory}

@@ -1,4 +1,3 @@
-use Rattle.stepped_die.proofs.Ending.{arrival_keeps}
 use Rattle.stepped_die.proofs.Arriving.{arrival_leaves}
 use Rattle.stepped_die.proofs.laws.arrivals_leave_the_slot.Goals as goal
 

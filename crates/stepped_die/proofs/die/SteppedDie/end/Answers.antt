@@ -1,4 +1,4 @@
-use Rattle.std.proofs.Common.{rules, arith, sym, ◌∙◌}
+use Rattle.std.proofs.Common.{sym, ◌∙◌}
 use Rattle.stepped_die.proofs.Ending.{not_refused_here, present_of}
 use Rattle.stepped_die.proofs.die.SteppedDie.end.Goals as goal
 
