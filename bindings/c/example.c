@@ -175,6 +175,33 @@ static void show_arrivals(flash_die *die) {
     puts("arrivals between begin and end, and a renewal");
 }
 
+/* What a slot waives is not waived before its end: until then its tokens aren't there, and its task has a collection. */
+static void show_waiver(void) {
+    struct flash_op writes[3] = {{FLASH_WRITE, 0, {{1}}}, {FLASH_WRITE, 1, {{2}}}, {FLASH_WRITE, 2, {{3}}}};
+    struct flash_call call;
+    struct flash_reply reply;
+    struct flash_waived waived[16];
+    struct flash_name gave = {{0}};
+    struct flash_why why;
+    uint32_t job, collection;
+    flash_die die = made();
+    check(flash_submit(&die, 1, 0, 0, 2, writes, 2, &job, &why) == FLASH_OK, "2 of 4 tokens are taken");
+    for (int i = 0; i < 2; i++) {
+        check(flash_begin(&die, 9, &call) == FLASH_OK && call.act == FLASH_DID_WRITE, "a write has begun");
+        check(flash_end(&die, 1, &gave, &reply, waived, 16) == FLASH_OK, "and is done");
+    }
+    check(flash_collect(&die, 1, 0, 2, 9, &collection, &why) == FLASH_OK, "a collection, while many pages are spare");
+    check(flash_begin(&die, 9, &call) == FLASH_OK && call.kind == FLASH_CALL_NONE, "a slot that waives it has begun");
+    check(flash_submit(&die, 1, 0, 3, 9, writes, 3, &job, &why) == FLASH_NO_TOKENS && why.first == 2 && why.second == 3, "2 are there");
+    check(flash_collect(&die, 1, 0, 3, 9, &job, &why) == FLASH_COLLECTOR_BUSY, "it isn't waived yet");
+    check(flash_end(&die, 1, &gave, &reply, waived, 16) == FLASH_OK && reply.waived == 1, "it is waived");
+    check(waived[0].job == collection && waived[0].given == 2, "which gives 2 tokens");
+    check(flash_submit(&die, 1, 0, 3, 9, writes, 3, &job, &why) == FLASH_OK, "4 are there");
+    check(flash_collect(&die, 1, 0, 3, 9, &job, &why) == FLASH_OK, "and the task has no collection");
+    flash_free(&die);
+    puts("what a slot waives is not waived before its end");
+}
+
 /* A page that the chip corrupts is never given out: its read is a fault. */
 static void show_corruption(flash_die *die) {
     struct flash_op read = {FLASH_READ, 3, {{0}}};
@@ -189,7 +216,8 @@ static void show_corruption(flash_die *die) {
     check(flash_begin(die, 9, &call) == FLASH_OK && call.kind == FLASH_CALL_READ, "the read has begun");
     cells[call.block][call.page][17] ^= 1;
     check(drive(&call, &gave) && flash_end(die, 1, &gave, &reply, waived, 16) == FLASH_DEVICE_FAULT, "it is corrupted");
-    check(flash_outcome(die, job, &outcome, &gave, 1) == FLASH_DEVICE_FAULT, "nothing is told of the read");
+    check(flash_outcome(die, job, &outcome, &gave, 1) == FLASH_OK && outcome.state == FLASH_WAITING, "the read wasn't done");
+    check(flash_now(die) == now, "nor is its slot in the log");
     check(flash_begin(die, 9, &call) == FLASH_DIE_STOPPED, "the die is stopped");
     puts("a corrupted page is a fault");
 }
@@ -223,6 +251,7 @@ int main(void) {
     check(acts[FLASH_COPY_PROGRAM] > 0 && acts[FLASH_ERASE] > 0, "collections copied and erased");
     show_worst(&die);
     show_arrivals(&die);
+    show_waiver();
     show_corruption(&die);
     flash_free(&die);
 

@@ -134,8 +134,8 @@ struct flash_op {
  * The first that stands: BAD_KIND, among the first 65 operations; DIE_STOPPED; BEGUN, where a slot has begun and `release`
  * isn't above it; UNKNOWN_TASK; EMPTY_JOB; TOO_MANY_OPS; BAD_PAGE; RELEASE_PAST; BAD_DUE; JOBS_FULL; NO_TOKENS; NO_MEMORY.
  *
- * While a slot has begun, a job or collection whose release is above it is accepted, or refused, as the log with that slot
- * answers: it comes behind the slot, whose tokens are there. */
+ * While a slot has begun, a job or collection whose release is above it is answered at once, by the log without that slot,
+ * and stands before it: as if what the slot waives were not waived yet. */
 uint32_t flash_submit(flash_die *die, uint32_t caller, uint32_t task, uint32_t release, uint32_t due,
                       const struct flash_op *ops, size_t count, uint32_t *number, struct flash_why *why);
 
@@ -170,7 +170,7 @@ struct flash_call {
 };
 
 /* Begins the present slot, and tells the one call of the device that it needs. The first that stands: DIE_STOPPED; BEGUN;
- * CLOCK_END; NO_MEMORY, never while slots are reserved. Every slot that has begun is to be ended. */
+ * CLOCK_END; NO_MEMORY, never while slots are reserved: nothing has begun then. Every slot that has begun is to be ended. */
 uint32_t flash_begin(flash_die *die, uint32_t caller, struct flash_call *call);
 
 struct flash_reply {
@@ -192,9 +192,8 @@ struct flash_waived { uint32_t job, given; };
  * The first that stands: DIE_STOPPED; NOT_BEGUN; DEVICE_FAULT, where `ok` isn't 1, or a read gave another name than the
  * cell was programmed with. It never answers NO_MEMORY.
  *
- * After a DEVICE_FAULT the die is stopped for good. What the slot did is never told: it has no reply, and flash_outcome of
- * its job or collection answers DEVICE_FAULT. As yet the slot stays the last entry of the log, so that flash_now, flash_len,
- * flash_records, flash_worst, flash_certificate and flash_rows count it. */
+ * After a DEVICE_FAULT the die is stopped for good. The slot that failed isn't in the log, nor is what it would have waived:
+ * every question is answered by the log before it. */
 uint32_t flash_end(flash_die *die, uint32_t ok, const struct flash_name *name, struct flash_reply *reply,
                    struct flash_waived *waived, size_t count);
 
@@ -211,7 +210,7 @@ uint32_t flash_renew(flash_die *die, struct flash_why *why);
 
 /* ---- Questions ----------------------------------------------------------------------------------------------------
  *
- * They may be asked while a slot has begun, too, and count it then; flash_outcome of its job or collection answers BEGUN. */
+ * They may be asked while a slot has begun, too: that slot is not in the log before it has ended. */
 
 uint32_t flash_now(flash_die *die);     /* the present slot: how many were carried out */
 uint64_t flash_len(flash_die *die);     /* the entries of the log: jobs and collections accepted, and slots */
@@ -229,8 +228,7 @@ struct flash_outcome {
     uint32_t given;      /* tokens that a collection gave its task, done or waived */
     uint32_t reads;      /* how many reads a job that is done had */
 };
-/* What became of a job or collection, and the names that its reads gave, in order. BEGUN, DEVICE_FAULT of the one whose
- * slot has begun, or has failed; else UNKNOWN_JOB; NO_MEMORY. */
+/* What became of a job or collection, and the names that its reads gave, in order. UNKNOWN_JOB; NO_MEMORY. */
 uint32_t flash_outcome(flash_die *die, uint32_t job, struct flash_outcome *outcome, struct flash_name *reads, size_t count);
 
 struct flash_worst { int64_t lateness; uint32_t job; };

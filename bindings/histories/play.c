@@ -6,9 +6,6 @@
  * The chip is simulated here, and finds fault with each call that a chip doesn't allow. In half of the histories it fails
  * after some calls, or gives another name than was programmed. Each certificate is checked, too. */
 #include "flash.h"
-#ifndef FLASH_STAYS
-#define FLASH_STAYS 1 /* a slot that failed stays in the log */
-#endif
 #include <inttypes.h>
 #include <stdio.h>
 #include <stdlib.h>
@@ -104,14 +101,22 @@ static void random_plan(void) {
 
 static uint32_t jobs; /* that were accepted */
 static uint32_t words;
+static int begun; /* a slot has begun */
 
 static void tell(uint32_t code, const struct flash_why *why, uint32_t number) {
     if (code == FLASH_OK) fprintf(answers, "taken %" PRIu32 "\n", number), jobs++;
     else fprintf(answers, "refused %" PRIu32 " %" PRIu32 " %" PRIu32 "\n", code, why->first, why->second);
 }
 
+/* A slot has begun that isn't below the release: the call is none of the history. */
+static int held_back(flash_die *die, uint32_t code, uint32_t release) {
+    if (code != FLASH_BEGUN) return 0;
+    check(begun && release <= flash_now(die), "only what could change the choice has to wait");
+    return 1;
+}
+
 static void submit(flash_die *die, uint32_t least_release) {
-    struct flash_op ops[70];
+    struct flash_op ops[70] = {{0, 0, {{0}}}};
     struct flash_why why = {0, 0};
     uint32_t number = 0;
     uint32_t count = random_below(20) ? between(1, 5) : random_below(3) ? 0 : 65 + random_below(5);
@@ -119,14 +124,16 @@ static void submit(flash_die *die, uint32_t least_release) {
     uint32_t release = least_release + (random_below(3) ? 0 : between(0, 9));
     if (!random_below(20) && release) release--;
     uint32_t due = release + (random_below(20) ? between(1, 12) : 0);
-    fprintf(script, "submit 7 %" PRIu32 " %" PRIu32 " %" PRIu32 " %" PRIu32, task, release, due, count);
     for (uint32_t i = 0; i < count; i++) {
         uint32_t kind = random_below(3), page = random_below(40) ? random_below(plan.logical) : plan.logical;
         ops[i] = (struct flash_op){kind, page, name_of(++words)};
-        fprintf(script, " %" PRIu32 " %" PRIu32 " %" PRIu32, kind, page, words);
     }
-    fputc('\n', script);
     uint32_t code = flash_submit(die, 7, task, release, due, ops, count, &number, &why);
+    if (held_back(die, code, release)) return;
+    fprintf(script, "submit 7 %" PRIu32 " %" PRIu32 " %" PRIu32 " %" PRIu32, task, release, due, count);
+    for (uint32_t i = 0; i < count; i++)
+        fprintf(script, " %" PRIu32 " %" PRIu32 " %" PRIu32, ops[i].kind, ops[i].page, word_of(&ops[i].name));
+    fputc('\n', script);
     tell(code, &why, number);
 }
 
@@ -136,8 +143,9 @@ static void collect(flash_die *die, uint32_t least_release) {
     uint32_t task = random_below(30) ? random_below(task_count) : task_count;
     uint32_t release = least_release + (random_below(3) ? 0 : between(0, 9));
     uint32_t due = release + (random_below(20) ? between(1, 30) : 0);
-    fprintf(script, "collect 7 %" PRIu32 " %" PRIu32 " %" PRIu32 "\n", task, release, due);
     uint32_t code = flash_collect(die, 7, task, release, due, &number, &why);
+    if (held_back(die, code, release)) return;
+    fprintf(script, "collect 7 %" PRIu32 " %" PRIu32 " %" PRIu32 "\n", task, release, due);
     tell(code, &why, number);
 }
 
@@ -184,16 +192,16 @@ static int slot(flash_die *die) {
     struct flash_waived waived[16];
     struct flash_name gave;
     check(flash_begin(die, 9, &call) == FLASH_OK, "begin");
-    check(call.slot == flash_now(die) || FLASH_STAYS, "the slot that has begun is the present one");
-#if !FLASH_STAYS
+    check(call.slot == flash_now(die), "the slot that has begun is the present one");
+    begun = 1;
     for (uint32_t n = random_below(4) ? 0 : between(1, 3); n > 0; n--) { /* arrivals while the device works */
         uint32_t least = call.slot + 1;
         if (random_below(2)) submit(die, least); else collect(die, least);
         if (!random_below(3)) ask(die);
     }
-#endif
     fputs("slot\n", script);
     uint32_t ok = drive(&call, &gave), code = flash_end(die, ok, &gave, &reply, waived, 16);
+    begun = 0;
     if (code) {
         fprintf(answers, "refused %" PRIu32 " 0 0\n", code);
         check(flash_begin(die, 9, &call) == FLASH_DIE_STOPPED, "the die is stopped");
@@ -236,12 +244,10 @@ static void history(void) {
         else if (what == 7) ask(&die);
         else if (what == 8 && !random_below(3)) renew(&die);
         else if (!slot(&die)) {
-#if !FLASH_STAYS
             for (int i = 0; i < 3; i++) ask(&die);
             submit(&die, flash_now(&die));
             collect(&die, flash_now(&die));
             renew(&die);
-#endif
             break;
         }
     }

@@ -141,7 +141,7 @@ fn main() -> Result<(), Refusal> {
     }
     let (ok, gave) = driver.drive(slot.call());
     assert_eq!(slot.end(ok, gave), Err(Refusal::DeviceFault));
-    assert_eq!(die.outcome(job), Err(Refusal::DeviceFault));
+    assert_eq!(die.outcome(job), Ok(Outcome::Waiting));
     assert!(matches!(die.begin(9), Err(Refusal::DieStopped)));
     println!("a corrupted page is a fault");
 

@@ -136,8 +136,7 @@ impl Die {
         Ok(Job { collects: collects == 1, task, release, due })
     }
 
-    /// What became of a job or a collection. `Begun`, `DeviceFault` of the one whose slot has begun, or has failed; else
-    /// `UnknownJob`, `NoMemory`.
+    /// What became of a job or a collection. `UnknownJob`; `NoMemory`.
     pub fn outcome(&self, job: u32) -> Result<Outcome, Refusal> {
         let mut told = raw::Outcome::default();
         let mut reads = [Name::BLANK; 64]; // a job has 64 operations at most
@@ -193,8 +192,7 @@ impl Drop for Die {
     }
 }
 
-/// A slot that has begun. It derefs to the die for questions, which count it; of its job or collection `outcome` answers
-/// `Begun`.
+/// A slot that has begun. It derefs to the die for questions, which are answered by the log without it.
 ///
 /// One that is let go without an end is ended as a fault, which stops the die if the device was to do something.
 pub struct Slot<'a> {
@@ -214,20 +212,21 @@ impl Slot<'_> {
         (self.call.act != 0).then_some(self.call.job)
     }
 
-    /// As [`Die::submit`], of a job whose release is above this slot; `Begun` of another one. It comes behind this slot.
+    /// As [`Die::submit`], of a job whose release is above this slot; `Begun` of another one. It is answered by the log
+    /// without this slot.
     pub fn submit(&mut self, caller: u32, task: u32, release: u32, due: u32, ops: &[Op]) -> Result<u32, Refusal> {
         self.die.submit(caller, task, release, due, ops)
     }
 
-    /// As [`Die::collect`], of a collection whose release is above this slot; `Begun` of another one. It comes behind this
-    /// slot.
+    /// As [`Die::collect`], of a collection whose release is above this slot; `Begun` of another one. It is answered by the
+    /// log without this slot.
     pub fn collect(&mut self, caller: u32, task: u32, release: u32, due: u32) -> Result<u32, Refusal> {
         self.die.collect(caller, task, release, due)
     }
 
     /// Ends the slot: whether the device did the call, and the name of what it read, if it read. `DeviceFault` where it
-    /// failed, or a read gave another name than its cell was programmed with: the die is stopped then, and what the slot did
-    /// is never told.
+    /// failed, or a read gave another name than its cell was programmed with: the die is stopped then, and the slot isn't in
+    /// its log.
     pub fn end(mut self, ok: bool, name: Name) -> Result<Reply, Refusal> {
         self.ended = true;
         self.finish(ok, name)

@@ -1,6 +1,5 @@
 -- What an export answers of a die.
-use Rattle.std.specs.Prelude.{◌≡◌, ℕ, Bool, List, Option, Some, IfSome, IsSomeAnd}
-use Rattle.slot_types.specs.declared.events.Event.{Event}
+use Rattle.std.specs.Prelude.{◌≡◌, ℕ, Bool, List}
 use Rattle.slot_types.specs.declared.pages.PageData.{PageData}
 use Rattle.slot_types.specs.declared.replies.SlotReply.{SlotReply}
 use Rattle.stepped_die.specs.declared.refusals.StepRefusal.{StepRefusal}

@@ -1,5 +1,5 @@
 -- The numbers of refusals as C has them.
-use Rattle.std.specs.Prelude.{ℕ, ◌+◌, Option, Some, None, unwrap_or}
+use Rattle.std.specs.Prelude.{ℕ, ◌+◌, Option, Some, None}
 use Rattle.slot_types.specs.Refusal.{number_of}
 use Rattle.slot_types.specs.declared.refusals.Refusal.TheVariants.{BadPage, ReleasePast, NoTokens}
 use Rattle.slot_core.specs.declared.renewals.RenewalRefusal.TheVariants.{DieStopped, NotQuiet, WornOut}

@@ -1,5 +1,5 @@
 -- Names and operations as C has them.
-use Rattle.std.specs.Prelude.{ℕ, Bool, nat_le, List, map, take, replicate, ◌==◌, if◌then◌else◌}
+use Rattle.std.specs.Prelude.{Bool, nat_le, List, map, take, replicate, ◌==◌, if◌then◌else◌}
 use Rattle.slot_types.specs.declared.pages.PageData.{PageData}
 use Rattle.slot_types.specs.declared.events.Op.{Op}
 use Rattle.slot_types.specs.declared.events.Op.TheVariants as asks

@@ -1,9 +1,11 @@
 -- Calls of the device and replies as C has them.
-use Rattle.std.specs.Prelude.{ℕ, Bool, true, false, List, length, Option, Some, None, is_some}
+use Rattle.std.specs.Prelude.{ℕ, length, Option, Some, None, is_some}
 use Rattle.slot_types.specs.declared.acts.Act.{Act}
 use Rattle.slot_types.specs.declared.acts.Act.TheVariants as does
 use Rattle.slot_types.specs.declared.replies.SlotReply.{SlotReply}
 use Rattle.slot_types.specs.declared.replies.Waived.{Waived}
+use Rattle.slot_core.specs.declared.next_slot.NextAct.{NextAct}
+use Rattle.slot_core.specs.declared.next_slot.NextAct.TheVariants as next
 use Rattle.stepped_die.specs.declared.calls.Begun.{Begun}
 use Rattle.stepped_die.specs.declared.calls.Call.{Call}
 use Rattle.stepped_die.specs.declared.calls.Call.TheVariants as calls
@@ -46,6 +48,23 @@ reply_of reply = let did = shown_of reply.ran in record {
 abbrev pub waived_of : Waived → FlashWaived
 waived_of waived = record { job = waived.number; given = waived.given }
 
+-- the number of the act that a slot will do, and for whom
+abbrev pub act_number : NextAct → ℕ
+act_number (next.Read page) = 1
+act_number (next.Write page) = 2
+act_number (next.Trim page) = 3
+act_number (next.CopyRead page) = 4
+act_number (next.CopyProgram page) = 5
+act_number (next.Erase block) = 6
+
+abbrev pub next_act : Option (ℕ × NextAct) → ℕ
+next_act None = 0
+next_act (Some runs) = act_number runs.1
+
+abbrev pub next_job : Option (ℕ × NextAct) → ℕ
+next_job None = 0
+next_job (Some runs) = runs.0
+
 -- what the device is told: its kind, the cell or block, and the name
 abbrev pub call_by : ℕ → ℕ → ℕ → Option Call → FlashCall
 call_by slot act job None = record { kind = 0; block = 0; page = 0; last = 0; slot = slot; act = act; job = job; name = no_name }
@@ -81,4 +100,4 @@ call_by slot act job (Some (calls.Erase block last)) = record {
 }
 
 abbrev pub call_of : Begun → FlashCall
-call_of begun = call_by begun.slot (shown_of begun.runs).act (job_in begun.runs) begun.call
+call_of begun = call_by begun.slot (next_act begun.runs) (next_job begun.runs) begun.call

@@ -1,5 +1,5 @@
 -- What a die is asked, as C has it.
-use Rattle.std.specs.Prelude.{ℕ, ℤ, pos, Bool, true, false, List, [], length, map, Option, Some, None, ◌==◌, if◌then◌else◌}
+use Rattle.std.specs.Prelude.{ℕ, pos, List, [], length, Option, Some, None, ◌==◌, if◌then◌else◌}
 use Rattle.slot_types.specs.declared.events.JobHead.{JobHead}
 use Rattle.slot_types.specs.declared.pages.PageData.{PageData}
 use Rattle.plan_rules.specs.declared.counts.Load.{Load}

@@ -1,16 +1,16 @@
 //! What C does with a die.
 
-ghost use Rattle.std.specs.Prelude.{◌≡◌, ◌≢◌, ◌==◌, None, Some, IsSome, IfSome, IfOk, OnErr, false, max};
+ghost use Rattle.std.specs.Prelude.{◌≡◌, ◌≢◌, ◌⊎◌, ◌==◌, None, Some, IsSome, IfSome, IfOk, IfErr, OnErr, true, false, max};
 ghost use Rattle.std.specs.List.{list_all};
 ghost use Rattle.slot_types.specs.declared.events.Event.TheVariants as events;
 ghost use Rattle.slot_core.specs.Calls.{HasTaken};
 ghost use Rattle.slot_core.specs.Renewals.{MayBeRenewed, renewed_core};
 ghost use Rattle.stepped_die.specs.Stepped.{Stepped};
-ghost use Rattle.stepped_die.specs.Steps.{IsNew, HasBegun};
+ghost use Rattle.stepped_die.specs.Steps.{IsNew, HasBegun, HasFailed, RefusesArrival};
 ghost use Rattle.flash_c.specs.Names.{page_in, is_of_a_kind, seen, ops_in};
 ghost use Rattle.flash_c.specs.Plans.{plan_in};
 ghost use Rattle.flash_c.specs.Slots.{call_of};
-ghost use Rattle.flash_c.specs.Answers.{TellsReply};
+ghost use Rattle.flash_c.specs.Answers.{TellsRefusal, TellsReply};
 
 use crate::codes::{BAD_KIND, NO_MEMORY, OK, of_refusal, of_renewal, of_step, renewal_why, why_of};
 use crate::handles::{Handle, put, take};
@@ -76,6 +76,7 @@ fn submit_ops(
 ) -> Result<JobNo, StepRefusal>
     ensures taken { IfOk result (λ number. HasTaken caller (events.Submit task release due (ops_in ops.now)) number die.old.core
         die.new.core) }
+    ensures cause { IfErr result (RefusesArrival release (events.Submit task release due (ops_in ops.now)) die.old die.new) }
     ensures refused { OnErr result (die.new ≡ die.old) }
 {
     let looked_at = seen(ops);
@@ -106,6 +107,8 @@ pub extern "C" fn flash_submit(
     ensures refused { result ≢ 0 → die.new.value ≡ Some held }
     ensures silent { result ≢ 0 → number.new ≡ number.old }
     ensures kind { list_all is_of_a_kind (seen ops.now) ≡ false → result ≡ 102 }
+    ensures cause { list_all is_of_a_kind (seen ops.now) ≡ true → result ≢ 0 →
+        TellsRefusal (RefusesArrival release (events.Submit task release due (ops_in ops.now)) held held) result why.new }
 {
     if !are_of_a_kind(seen(ops)) {
         return BAD_KIND;
@@ -144,6 +147,7 @@ pub extern "C" fn flash_collect(
         HasTaken caller (events.Collect task release due) number.new held.core after.core) }
     ensures refused { result ≢ 0 → die.new.value ≡ Some held }
     ensures silent { result ≢ 0 → number.new ≡ number.old }
+    ensures cause { result ≢ 0 → TellsRefusal (RefusesArrival release (events.Collect task release due) held held) result why.new }
 {
     let mut boxed = take(alloc, die);
     let taken = boxed.collect(alloc, caller, TaskNo(task), release, due);
@@ -204,12 +208,13 @@ pub extern "C" fn flash_end(
     ensures full { IsSome die.new.value }
     ensures ended { result ≡ 0 → IfSome die.new.value (λ after.
         TellsReply (ok == 1) (page_in name.now) held after reply.new waived.old waived.new) }
-    ensures refused { result ≢ 0 → result ≢ 15 → die.new.value ≡ Some held }
-    ensures silent { result ≢ 0 → reply.new ≡ reply.old }
+    ensures failed { result ≡ 15 → IfSome die.new.value (HasFailed (ok == 1) (page_in name.now) held) }
+    ensures refused { result ≢ 0 → result ≢ 15 → ((result ≡ 16) ⊎ (result ≡ 101)) × (die.new.value ≡ Some held) }
+    ensures silent { result ≢ 0 → (reply.new ≡ reply.old) × (waived.new ≡ waived.old) }
 {
     let bytes = page_in(name);
     let mut boxed = take(alloc, die);
-    let ended = boxed.end(ok == 1, bytes);
+    let ended = boxed.end(alloc, ok == 1, bytes);
     put(die, boxed);
     match ended {
         Ok(told) => {

@@ -1,6 +1,6 @@
 //! What a die is asked. A question leaves the die as it is.
 
-ghost use Rattle.std.specs.Prelude.{◌≡◌, ◌≢◌, ◌↔◌, None, Some, length, IsSomeAnd};
+ghost use Rattle.std.specs.Prelude.{◌≡◌, ◌≢◌, ◌⊎◌, ◌↔◌, None, Some, length, IsSomeAnd};
 ghost use Rattle.event_log.specs.Alike.{records};
 ghost use Rattle.die_log.specs.Log.{now, job_at};
 ghost use Rattle.die_log.specs.Rows.{rows, certificate};
@@ -11,7 +11,7 @@ ghost use Rattle.flash_c.specs.Lists.{filled};
 ghost use Rattle.flash_c.specs.Names.{name_of};
 ghost use Rattle.flash_c.specs.Told as tells;
 
-use crate::codes::{NOTHING_DONE, OK, of_refusal, of_step};
+use crate::codes::{NOTHING_DONE, OK, of_refusal};
 use crate::counts::count_of;
 use crate::handles::{Handle, put, take};
 use crate::lists::{put_jobs, put_names, put_rows};
@@ -99,10 +99,11 @@ pub extern "C" fn flash_outcome(
     ensures told { result ≡ 0 → IsSomeAnd (outcome_at held.core.start held.core.log job) (λ told. outcome.new ≡ tells.outcome_of told) }
     ensures reads { result ≡ 0 → IsSomeAnd (outcome_at held.core.start held.core.log job) (λ told.
         reads.new ≡ filled name_of reads.old (tells.reads_in told)) }
+    ensures unknown { result ≢ 0 → (result ≡ 17) ⊎ (result ≡ 1) }
     ensures silent { result ≢ 0 → (outcome.new ≡ outcome.old) × (reads.new ≡ reads.old) }
 {
     let boxed = take(alloc, die);
-    let told = boxed.outcome(alloc, JobNo(job));
+    let told = boxed.core().outcome(alloc, JobNo(job));
     put(die, boxed);
     match told {
         Ok(told) => {
@@ -110,7 +111,7 @@ pub extern "C" fn flash_outcome(
             *outcome = outcome_of(&told);
             OK
         }
-        Err(refusal) => of_step(refusal),
+        Err(refusal) => of_refusal(refusal),
     }
 }
 

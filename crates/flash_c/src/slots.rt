@@ -1,11 +1,12 @@
 //! Calls of the device and replies as C has them.
 
 ghost use Rattle.std.specs.Prelude.{◌≡◌};
-ghost use Rattle.flash_c.specs.Slots.{act_shown, job_in, shown_of, reply_of, waived_of, call_of};
+ghost use Rattle.flash_c.specs.Slots.{act_shown, job_in, shown_of, reply_of, waived_of, next_act, next_job, call_of};
 
 use crate::counts::{count_of, flag};
 use crate::names::{NO_NAME, name_of};
 use crate::shapes::{FlashCall, FlashName, FlashReply, FlashWaived};
+use slot_core::NextAct;
 use slot_types::{Act, JobNo, SlotReply, Waived};
 use stepped_die::{Begun, Call};
 
@@ -79,6 +80,31 @@ pub(crate) fn reply_of(reply: &SlotReply) -> FlashReply
     }
 }
 
+/// The number of the act that a slot will do; 0 where it is idle.
+fn next_act(runs: Option<(JobNo, NextAct)>) -> u32
+    ensures { result ≡ next_act runs }
+{
+    match runs {
+        None => 0,
+        Some((_, NextAct::Read { .. })) => 1,
+        Some((_, NextAct::Write { .. })) => 2,
+        Some((_, NextAct::Trim { .. })) => 3,
+        Some((_, NextAct::CopyRead { .. })) => 4,
+        Some((_, NextAct::CopyProgram { .. })) => 5,
+        Some((_, NextAct::Erase { .. })) => 6,
+    }
+}
+
+/// The job or collection that will have a slot, or 0.
+fn next_job(runs: Option<(JobNo, NextAct)>) -> u32
+    ensures { result ≡ next_job runs }
+{
+    match runs {
+        Some((job, _)) => job.0,
+        None => 0,
+    }
+}
+
 fn made(
     slot: u32,
     act: u32,
@@ -107,8 +133,8 @@ pub(crate) fn call_of(begun: Begun) -> FlashCall
     ensures { result ≡ call_of begun }
 {
     let slot = begun.slot;
-    let act = shown_of(begun.runs).act;
-    let job = job_in(begun.runs);
+    let act = next_act(begun.runs);
+    let job = next_job(begun.runs);
     match begun.call {
         None => made(slot, act, job, 0, 0, 0, 0, NO_NAME),
         Some(Call::Read { place, bytes }) => {

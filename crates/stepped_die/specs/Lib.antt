@@ -1,3 +1,4 @@
+pub mod Arrivals
 pub mod Told
 pub mod Stepped
 pub mod Steps

@@ -1,13 +1,19 @@
--- What beginning and ending a slot does.
-use Rattle.std.specs.Prelude.{◌≡◌, ℕ, Bool, true, false, Some, None, [], IfSome}
+-- What beginning and ending a slot does, and why a call is refused.
+use Rattle.std.specs.Prelude.{◌≡◌, ◌≤◌, ℕ, Bool, true, false, Option, Some, None, [], IfSome, IsSome, max}
 use Rattle.slot_types.specs.declared.plans.DiePlan.{DiePlan}
 use Rattle.slot_types.specs.declared.pages.PageData.{PageData}
+use Rattle.slot_types.specs.declared.events.Event.{Event}
 use Rattle.slot_types.specs.declared.replies.SlotReply.{SlotReply}
-use Rattle.slot_core.specs.Calls.{HasCarriedOut}
+use Rattle.die_log.specs.Log.{now}
+use Rattle.die_log.specs.Needed.{needed_call}
 use Rattle.die_log.specs.Start.{fresh}
+use Rattle.slot_core.specs.Calls.{HasCarriedOut, HasRefusedArrival}
+use Rattle.slot_core.specs.NextSlot.{next_slot}
 use Rattle.stepped_die.specs.declared.calls.Begun.{Begun}
-use Rattle.stepped_die.specs.Stepped.{Stepped}
-use Rattle.stepped_die.specs.Told.{IsDone}
+use Rattle.stepped_die.specs.declared.refusals.StepRefusal.{StepRefusal}
+use Rattle.stepped_die.specs.declared.refusals.StepRefusal.TheVariants as refuses
+use Rattle.stepped_die.specs.Stepped.{Stepped, mirror_of}
+use Rattle.stepped_die.specs.Told.{IsDone, Changes, told_by}
 
 -- a die on which nothing was done
 pub record IsNew (plan : DiePlan) (die : Stepped) : Type 0 where
@@ -17,17 +23,51 @@ pub record IsNew (plan : DiePlan) (die : Stepped) : Type 0 where
   pub log : die.core.log ≡ []
   pub idle : die.begun ≡ None
 
--- a slot has begun: the die has carried it out, and its reply is held back
+-- A slot has begun: it is the log's present one, and what is told is the one call that it needs, and for whom. Memory is reserved for
+-- it, and nothing else has changed: it isn't in the log.
 pub record HasBegun (caller : ℕ) (begun : Begun) (before after : Stepped) : Type 0 where
+  pub runs : before.core.stopped ≡ false
   pub first : before.begun ≡ None
-  pub runs : before.failed ≡ false
-  pub told : after.begun ≡ Some begun
-  pub carried : IfSome after.reply (λ reply. HasCarriedOut caller reply before.core after.core)
+  pub caller_is : begun.caller ≡ caller
+  pub slot_is : begun.slot ≡ now before.core.log
+  pub runs_next : begun.runs ≡ (next_slot before.core.start before.core.log).ran
+  pub told : begun.call ≡ told_by (mirror_of before.core) (needed_call before.core.start before.core.log)
+  pub begins : after ≡ record {
+    core = record before.core {
+      reserved = max before.core.reserved 1;
+    };
+    begun = Some begun;
+  }
 
--- a slot has ended: the device did what it was told, and the reply is the one that was held back
+-- A slot has ended: the device did what it was told, and the slot is the log's next entry. The mirror has had the call that was told, and
+-- no other.
 pub record HasEnded (ok : Bool) (bytes : PageData) (reply : SlotReply) (before after : Stepped) : Type 0 where
-  pub runs : before.failed ≡ false
-  pub same : after.core ≡ before.core
-  pub held : before.reply ≡ Some reply
-  pub done : IfSome before.begun (λ begun. IsDone begun.call ok bytes)
+  pub begun : Begun
+  pub held : before.begun ≡ Some begun
+  pub done : IsDone begun.call ok bytes
+  pub carried : HasCarriedOut begun.caller reply before.core after.core
+  pub called : Changes (mirror_of before.core) begun.call (mirror_of after.core)
+  pub start_stays : after.core.start ≡ before.core.start
   pub idle : after.begun ≡ None
+
+-- A slot has failed: the device didn't do what it was told, or a read gave other bytes than its cell was programmed with. The die is
+-- stopped, and its log is that before the slot.
+pub record HasFailed (ok : Bool) (bytes : PageData) (before after : Stepped) : Type 0 where
+  pub begun : Begun
+  pub held : before.begun ≡ Some begun
+  pub undone : ¬ IsDone begun.call ok bytes
+  pub stops : after.core.stopped ≡ true
+  pub log_stays : after.core.log ≡ before.core.log
+  pub start_stays : after.core.start ≡ before.core.start
+  pub reserve_stays : after.core.reserved ≡ before.core.reserved
+  pub idle : after.begun ≡ None
+
+-- a slot has begun that isn't below the release
+abbrev pub HoldsBack : ℕ → Option Begun → Type 0
+HoldsBack release begun = IsSome begun × IfSome begun (λ b. release ≤ b.slot)
+
+-- Why an arrival is refused: as a slot has begun that isn't below its release; or as the die refuses it, by the log without that slot.
+abbrev pub RefusesArrival : ℕ → Event → Stepped → Stepped → StepRefusal → Type 0
+RefusesArrival release event before after (refuses.Die refusal) = HasRefusedArrival event refusal before.core after.core
+RefusesArrival release event before after refuses.Begun = (before.core.stopped ≡ false) × HoldsBack release before.begun
+RefusesArrival release event before after refuses.NotBegun = ⊥

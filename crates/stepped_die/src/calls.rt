@@ -1,6 +1,7 @@
 //! What a device is told to do.
 
-use slot_types::{Act, JobNo, PageData, Place};
+use slot_core::NextAct;
+use slot_types::{JobNo, PageData, Place};
 
 /// A call of a device.
 #[derive(Clone, Copy, PartialEq, Eq, Debug, Drop)]
@@ -16,10 +17,12 @@ pub enum Call {
 /// A slot that has begun.
 #[derive(Clone, Copy, PartialEq, Eq, Debug, Drop)]
 pub struct Begun {
+    /// Who began it.
+    pub caller: u32,
     /// The slot's number.
     pub slot: u32,
     /// What the device is to do, if anything.
     pub call: Option<Call>,
-    /// The job or collection that has the slot, and what it does; none where the slot is idle.
-    pub runs: Option<(JobNo, Act)>,
+    /// The job or collection that has the slot, and what it will do; none where the slot is idle.
+    pub runs: Option<(JobNo, NextAct)>,
 }

@@ -1,44 +1,47 @@
 //! A die whose slots are begun and ended.
 
-ghost use Rattle.std.specs.Prelude.{◌≡◌, ◌⊎◌, true, Some, max, IfOk, IfErr, OnOk, OnErr, IsErr};
+ghost use Rattle.std.specs.Prelude.{◌≡◌, ◌≢◌, ◌⊎◌, ◌↔◌, ◌≤◌, true, false, None, Some, max, IsSome, IfOk, IfErr, OnOk, OnErr};
+ghost use Rattle.slot_types.specs.declared.limits.TheConstants.{MAX_SLOT};
 ghost use Rattle.slot_types.specs.declared.refusals.Refusal.{Refusal};
 ghost use Rattle.slot_types.specs.declared.events.Event.TheVariants as events;
-ghost use Rattle.slot_core.specs.Calls.{HasTaken, HasRefusedArrival};
 ghost use Rattle.slot_types.specs.Refusal.{FailsForMemory};
-ghost use Rattle.slot_core.specs.Outcomes.{outcome_at};
+ghost use Rattle.die_log.specs.Log.{now};
+ghost use Rattle.slot_core.specs.Calls.{HasTaken};
 ghost use Rattle.slot_core.specs.Renewals.{MayBeRenewed, renewed_core};
-ghost use Rattle.stepped_die.specs.Told.{IsDone, IsHeld};
+ghost use Rattle.stepped_die.specs.Steps.{HoldsBack};
+ghost use Rattle.stepped_die.specs.Told.{IsDone, told_by};
 
 use crate::calls::{Begun, Call};
 use crate::mirror::MirrorNand;
 use crate::refusals::{StepRefusal, StepRenewalRefusal};
-use slot_core::{DieCore, Outcome, RenewalRefusal};
+use flash_die::{FaultNand, NandCall};
+use slot_core::{DieCore, NextAct, RenewalRefusal};
 use slot_types::{DiePlan, JobNo, Op, PageData, Refusal, SlotReply, TaskNo};
 use std::alloc::Global;
 use std::marker::Model;
 
 /// A die whose slots are begun and ended. It keeps a mirror of the names of its pages, which says what a cell was
-/// programmed with.
+/// programmed with. A slot that has begun isn't in the log before it has ended, nor is one that failed.
 ///
-/// Contracts see the die, the slot that has begun with the reply that is held back, and whether the driver told a fault.
+/// Contracts see the die, and the slot that has begun.
 #[derive(Drop)]
 pub struct SteppedDie {
-    core: DieCore<MirrorNand>,
+    core: DieCore<FaultNand<MirrorNand>>,
     begun: Option<Begun>,
-    reply: Option<SlotReply>,
-    failed: bool,
 }
 
 impl Model for SteppedDie {
-    ghost use Rattle.stepped_die.specs.Stepped.{Stepped};
+    ghost use Rattle.stepped_die.specs.Stepped.{Stepped, IsStepped};
 
     ghost Value = { Stepped };
 
-    ghost view = { λ d. record { core = d.core; begun = d.begun; reply = d.reply; failed = d.failed } };
+    ghost view = { λ d. record { core = d.core; begun = d.begun } };
+
+    ghost invariant = { λ d. IsStepped (record { core = d.core; begun = d.begun }) };
 }
 
 impl SteppedDie {
-    ghost use Rattle.stepped_die.specs.Steps.{IsNew, HasBegun, HasEnded};
+    ghost use Rattle.stepped_die.specs.Steps.{IsNew, HasBegun, HasEnded, HasFailed, RefusesArrival};
 
     /// A die on which nothing was done, over a device that is erased.
     ///
@@ -49,29 +52,26 @@ impl SteppedDie {
     {
         let mirror = MirrorNand::new(alloc, plan.shape)?;
         Ok(SteppedDie {
-            core: DieCore::new(alloc, plan, mirror)?,
+            core: DieCore::new(alloc, plan, FaultNand::new(mirror))?,
             begun: None,
-            reply: None,
-            failed: false,
         })
     }
 
-    /// Why a job or collection of this release doesn't arrive now, if it doesn't.
-    fn arrival_refusal(&self, release: u32) -> Option<StepRefusal>
-        ensures { self.now.failed ≡ true → result ≡ Some (StepRefusal.Die Refusal.DieStopped) }
+    /// Whether a slot has begun that isn't below the release.
+    fn holds_back(&self, release: u32) -> bool
+        ensures { (result ≡ true) ↔ HoldsBack release self.now.begun }
     {
-        if self.failed {
-            return Some(StepRefusal::Die(Refusal::DieStopped));
-        }
         match self.begun {
-            Some(begun) if release <= begun.slot => Some(StepRefusal::Begun),
-            _ => None,
+            Some(begun) => release <= begun.slot,
+            None => false,
         }
     }
 
-    /// Accepts a job, as [`DieCore::submit_lent`]; also while a slot has begun, where its release is above that slot.
+    /// Accepts a job, as [`DieCore::submit_lent`]; also while a slot has begun, where its release is above that slot: it is
+    /// answered by the log without that slot, and stands before it.
     ///
-    /// `Begun` where a slot has begun that isn't below the release. Every refusal changes nothing.
+    /// Refused with `DieStopped` where a fault has stopped the die; else `Begun` where a slot has begun that isn't below the
+    /// release; else as the die refuses it. Every refusal changes nothing.
     pub fn submit(
         &mut self,
         alloc: Global,
@@ -81,14 +81,20 @@ impl SteppedDie {
         due: u32,
         ops: &[Op],
     ) -> Result<JobNo, StepRefusal>
+        ensures stopped { (result ≡ Err (StepRefusal.Die Refusal.DieStopped)) ↔ (self.old.core.stopped ≡ true) }
         ensures taken { IfOk result (λ number. HasTaken caller (events.Submit task release due ops.now) number self.old.core
             self.new.core) }
+        ensures begun { self.new.begun ≡ self.old.begun }
+        ensures cause { IfErr result (RefusesArrival release (events.Submit task release due ops.now) self.old self.new) }
         ensures refused { OnErr result (self.new ≡ self.old) }
-        ensures failed { self.old.failed ≡ true → result ≡ Err (StepRefusal.Die Refusal.DieStopped) }
     {
-        if let Some(refusal) = self.arrival_refusal(release) {
-            return Err(refusal);
+        if self.core.is_stopped() {
+            return Err(StepRefusal::Die(Refusal::DieStopped));
         }
+        if self.holds_back(release) {
+            return Err(StepRefusal::Begun);
+        }
+        self.core.promises();
         match self
             .core
             .submit_lent(alloc, caller, task, release, due, ops)
@@ -98,9 +104,11 @@ impl SteppedDie {
         }
     }
 
-    /// Accepts a collection, as [`DieCore::collect`]; also while a slot has begun, where its release is above that slot.
+    /// Accepts a collection, as [`DieCore::collect`]; also while a slot has begun, where its release is above that slot: it
+    /// is answered by the log without that slot, and stands before it.
     ///
-    /// `Begun` where a slot has begun that isn't below the release. Every refusal changes nothing.
+    /// Refused with `DieStopped` where a fault has stopped the die; else `Begun` where a slot has begun that isn't below the
+    /// release; else as the die refuses it. Every refusal changes nothing.
     pub fn collect(
         &mut self,
         alloc: Global,
@@ -109,84 +117,105 @@ impl SteppedDie {
         release: u32,
         due: u32,
     ) -> Result<JobNo, StepRefusal>
+        ensures stopped { (result ≡ Err (StepRefusal.Die Refusal.DieStopped)) ↔ (self.old.core.stopped ≡ true) }
         ensures taken { IfOk result (λ number. HasTaken caller (events.Collect task release due) number self.old.core
             self.new.core) }
+        ensures begun { self.new.begun ≡ self.old.begun }
+        ensures cause { IfErr result (RefusesArrival release (events.Collect task release due) self.old self.new) }
         ensures refused { OnErr result (self.new ≡ self.old) }
-        ensures failed { self.old.failed ≡ true → result ≡ Err (StepRefusal.Die Refusal.DieStopped) }
     {
-        if let Some(refusal) = self.arrival_refusal(release) {
-            return Err(refusal);
+        if self.core.is_stopped() {
+            return Err(StepRefusal::Die(Refusal::DieStopped));
         }
+        if self.holds_back(release) {
+            return Err(StepRefusal::Begun);
+        }
+        self.core.promises();
         match self.core.collect(alloc, caller, task, release, due) {
             Ok(number) => Ok(number),
             Err(refusal) => Err(StepRefusal::Die(refusal)),
         }
     }
 
-    /// Begins the present slot, and tells the one call of the device that it needs, and for whom.
+    /// Begins the present slot, and tells the one call of the device that it needs, and for whom. Nothing is entered into
+    /// the log; memory is reserved for the slot, so that its end needs none.
     ///
     /// Refused, where nothing changes, with `DieStopped` where a fault has stopped the die; `Begun` where a slot has
     /// begun; `ClockEnd` where the present slot is 1,048,576; `NoMemory`, never while slots are reserved.
     pub fn begin(&mut self, alloc: Global, caller: u32) -> Result<Begun, StepRefusal>
+        ensures stopped { (result ≡ Err (StepRefusal.Die Refusal.DieStopped)) ↔ (self.old.core.stopped ≡ true) }
+        ensures twice { self.old.core.stopped ≡ false → ((result ≡ Err StepRefusal.Begun) ↔ IsSome self.old.begun) }
         ensures begun { IfOk result (λ begun. HasBegun caller begun self.old self.new) }
         ensures refused { OnErr result (self.new ≡ self.old) }
+        ensures clock { result ≡ Err (StepRefusal.Die Refusal.ClockEnd) → MAX_SLOT ≤ now self.old.core.log }
     {
-        if self.failed {
+        if self.core.is_stopped() {
             return Err(StepRefusal::Die(Refusal::DieStopped));
         }
         if self.begun.is_some() {
             return Err(StepRefusal::Begun);
         }
-        let before = self.core.device().calls();
-        match self.core.slot(alloc, caller) {
-            Err(refusal) => Err(StepRefusal::Die(refusal)),
-            Ok(reply) => Ok(self.hold(reply, before)),
+        let slot = self.core.now();
+        let next = match self.core.next_call(alloc) {
+            Ok(next) => next,
+            Err(refusal) => return Err(StepRefusal::Die(refusal)),
+        };
+        match self.core.reserve(1) {
+            Ok(()) => {}
+            Err(refusal) => return Err(StepRefusal::Die(refusal)),
         }
-    }
-
-    /// Holds a reply back.
-    fn hold(&mut self, reply: SlotReply, before: u32) -> Begun
-        ensures { self.new ≡ record self.old { begun = Some result; reply = Some reply } }
-    {
-        let call = told(self.core.device(), before);
-        self.begun = Some(begun_by(&reply, call));
-        let begun = begun_by(&reply, call);
-        self.reply = Some(reply);
-        begun
+        let call = told_by(self.core.device(), next.call);
+        self.begun = Some(begun_by(caller, slot, call, next.ran));
+        Ok(begun_by(caller, slot, call, next.ran))
     }
 
     /// Ends the slot that has begun: whether the device did what it was told, and the bytes that it read, if it read a
     /// cell. A read that gave other bytes than its cell was programmed with is a fault.
     ///
-    /// Refused with `DieStopped` where a fault was told before, and `NotBegun` where no slot has begun; these change
-    /// nothing. `DeviceFault` where the device failed, or a read gave other bytes: from then on the die is stopped.
-    pub fn end(&mut self, ok: bool, bytes: PageData) -> Result<SlotReply, StepRefusal>
+    /// Refused with `DieStopped` where a fault has stopped the die, and `NotBegun` where no slot has begun; these change
+    /// nothing. `DeviceFault` where the device failed, or a read gave other bytes: the die is stopped from then on, and its
+    /// log stays, without this slot and its waivers. There is no other refusal, for want of memory neither.
+    pub fn end(
+        &mut self,
+        alloc: Global,
+        ok: bool,
+        bytes: PageData,
+    ) -> Result<SlotReply, StepRefusal>
+        ensures stopped { (result ≡ Err (StepRefusal.Die Refusal.DieStopped)) ↔ (self.old.core.stopped ≡ true) }
+        ensures idle { self.old.core.stopped ≡ false → ((result ≡ Err StepRefusal.NotBegun) ↔ (self.old.begun ≡ None)) }
         ensures ended { IfOk result (λ reply. HasEnded ok bytes reply self.old self.new) }
-        ensures core { self.new.core ≡ self.old.core }
-        ensures stops { result ≡ Err (StepRefusal.Die Refusal.DeviceFault) → self.new.failed ≡ true }
-        ensures refused { IfErr result (λ refusal. refusal ≡ StepRefusal.Die Refusal.DeviceFault ⊎ (self.new ≡ self.old)) }
+        ensures failed { result ≡ Err (StepRefusal.Die Refusal.DeviceFault) → HasFailed ok bytes self.old self.new }
+        ensures refused { IfErr result (λ refusal. (refusal ≡ StepRefusal.Die Refusal.DeviceFault)
+            ⊎ (((refusal ≡ StepRefusal.Die Refusal.DieStopped) ⊎ (refusal ≡ StepRefusal.NotBegun)) × (self.new ≡ self.old))) }
     {
-        if self.failed {
+        if self.core.is_stopped() {
             return Err(StepRefusal::Die(Refusal::DieStopped));
         }
-        let call = match self.begun {
-            Some(begun) => begun.call,
+        let begun = match self.begun {
+            Some(begun) => begun,
             None => return Err(StepRefusal::NotBegun),
         };
-        match self.reply.take() {
-            None => Err(StepRefusal::NotBegun),
-            Some(reply) => {
-                if !is_done(call, ok, bytes) {
-                    self.failed = true;
-                    return Err(StepRefusal::Die(Refusal::DeviceFault));
+        if is_done(begun.call, ok, bytes) {
+            match self.core.slot(alloc, begun.caller) {
+                Ok(reply) => {
+                    self.begun = None;
+                    Ok(reply)
                 }
-                self.begun = None;
-                Ok(reply)
+                Err(_) => unreachable!(),
+            }
+        } else {
+            self.core.fail_next();
+            match self.core.slot(alloc, begun.caller) {
+                Ok(_) => unreachable!(),
+                Err(_) => {
+                    self.begun = None;
+                    Err(StepRefusal::Die(Refusal::DeviceFault))
+                }
             }
         }
     }
 
-    /// Takes the memory for this many later slots, as [`DieCore::reserve`].
+    /// Takes the memory for this many later slots, as [`DieCore::reserve`]. A slot that has begun is the first of them.
     pub fn reserve(&mut self, slots: u32) -> Result<(), Refusal>
         ensures ok { OnOk result (self.new ≡ record self.old {
           core = record self.old.core {
@@ -199,13 +228,13 @@ impl SteppedDie {
         self.core.reserve(slots)
     }
 
-    /// Starts the log anew at a quiet moment, as [`DieCore::renew`]. `Begun` where a slot has begun. Every refusal changes
-    /// nothing.
+    /// Starts the log anew at a quiet moment, as [`DieCore::renew`]. `DieStopped` where a fault has stopped the die; else
+    /// `Begun` where a slot has begun. Every refusal changes nothing.
     pub fn renew(&mut self) -> Result<(), StepRenewalRefusal>
         ensures ok { OnOk result ((self.new ≡ record self.old { core = renewed_core self.old.core }) × MayBeRenewed self.old.core) }
         ensures unchanged { OnErr result (self.new ≡ self.old) }
     {
-        if self.failed {
+        if self.core.is_stopped() {
             return Err(StepRenewalRefusal::Die(RenewalRefusal::DieStopped));
         }
         if self.begun.is_some() {
@@ -217,69 +246,47 @@ impl SteppedDie {
         }
     }
 
-    /// What became of a job or a collection, as [`DieCore::outcome`]. Of the one whose slot has begun it isn't told, nor of the
-    /// one whose slot failed: `Begun`, and `DeviceFault`.
-    pub fn outcome(&self, alloc: Global, job: JobNo) -> Result<Outcome, StepRefusal>
-        ensures told { IfOk result (λ outcome. outcome_at self.now.core.start self.now.core.log job ≡ Some outcome) }
-        ensures held { IsHeld job self.now.begun → IsErr result }
-    {
-        if is_held(job, &self.begun) {
-            return Err(if self.failed {
-                StepRefusal::Die(Refusal::DeviceFault)
-            } else {
-                StepRefusal::Begun
-            });
-        }
-        match self.core.outcome(alloc, job) {
-            Ok(outcome) => Ok(outcome),
-            Err(refusal) => Err(StepRefusal::Die(refusal)),
-        }
-    }
-
-    /// The die, for questions.
-    pub fn core(&self) -> &DieCore<MirrorNand>
+    /// The die, for questions. They are answered by the log, in which a slot that has begun, or has failed, isn't.
+    pub fn core(&self) -> &DieCore<FaultNand<MirrorNand>>
         ensures { result.now ≡ self.now.core }
     {
         &self.core
     }
 }
 
-/// Whether the slot that has begun is that of the job.
-fn is_held(job: JobNo, begun: &Option<Begun>) -> bool
-    ensures { IsHeld job begun.now → result ≡ true }
+/// What a driver is told of the call that a slot needs.
+fn told_by(device: &FaultNand<MirrorNand>, call: Option<NandCall>) -> Option<Call>
+    ensures { result ≡ told_by device.now.inner.memory call }
 {
-    match begun {
-        Some(begun) => match begun.runs {
-            Some((number, _)) => number == job,
-            None => false,
-        },
-        None => false,
+    match call {
+        None => None,
+        Some(NandCall::Read(place)) => {
+            let bytes = device.inner().cell(place);
+            Some(Call::Read { place, bytes })
+        }
+        Some(NandCall::Program(place, bytes)) => Some(Call::Program { place, bytes }),
+        Some(NandCall::EraseSlot(block)) => {
+            let last = device.inner().ends_erase(block);
+            Some(Call::Erase { block, last })
+        }
     }
 }
 
-/// A slot that has begun, by its reply.
-fn begun_by(reply: &SlotReply, call: Option<Call>) -> Begun
-    ensures { result ≡ record { slot = reply.now.slot; call = call; runs = reply.now.ran } }
+/// A slot that has begun.
+fn begun_by(caller: u32, slot: u32, call: Option<Call>, runs: Option<(JobNo, NextAct)>) -> Begun
+    ensures { result ≡ record { caller = caller; slot = slot; call = call; runs = runs } }
 {
     Begun {
-        slot: reply.slot,
+        caller,
+        slot,
         call,
-        runs: reply.ran,
-    }
-}
-
-/// What the device was asked since it had been asked so often.
-fn told(device: &MirrorNand, before: u32) -> Option<Call> {
-    if device.calls() == before {
-        None
-    } else {
-        device.last()
+        runs,
     }
 }
 
 /// Whether the device did what it was told, and a read gave the bytes that the cell was programmed with.
 fn is_done(call: Option<Call>, ok: bool, bytes: PageData) -> bool
-    ensures { result ≡ true → IsDone call ok bytes }
+    ensures { (result ≡ true) ↔ IsDone call ok bytes }
 {
     match call {
         None => true,

@@ -1,13 +1,15 @@
 //! A die whose slots are begun and ended: `begin` tells the one call of the device that the present slot needs, the
-//! driver does it, and `end` takes what the device answered.
+//! driver does it, and `end` takes what the device answered. A slot whose call failed is not in the log.
 #![tactic(auto)]
 
 pub mod calls;
 pub mod die;
+pub mod laws;
 pub mod mirror;
 pub mod refusals;
 
 pub use calls::{Begun, Call};
 pub use die::SteppedDie;
+pub use laws::arrivals_leave_the_slot;
 pub use mirror::MirrorNand;
 pub use refusals::{StepRefusal, StepRenewalRefusal};

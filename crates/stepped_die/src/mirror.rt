@@ -1,52 +1,47 @@
-//! A device in memory that remembers what it was asked last.
+//! A device in memory that says what its calls do.
 
-ghost use Rattle.std.specs.Prelude.{◌≡◌, None, IfOk};
+ghost use Rattle.std.specs.Prelude.{◌≡◌, ◌==◌, ◌+◌, IfOk};
+ghost use Rattle.flash_die.specs.Flash.{cell_at, block_at};
 ghost use Rattle.flash_die.specs.Memory.{fresh_memory};
 
-use crate::calls::Call;
 use flash_die::{MemoryNand, Nand};
 use slot_types::{PageData, Place, Refusal, Shape};
 use std::alloc::Global;
 
-/// A device in memory, which never fails and remembers what it was asked last. A driver does the same on a real one.
+/// A device in memory, which never fails. Its contract says of each call that is made what it does to the cells.
 #[derive(Drop)]
 pub struct MirrorNand {
     memory: MemoryNand,
-    last: Option<Call>,
-    calls: u32,
 }
 
 impl MirrorNand {
     /// A fresh device, as [`MemoryNand::new`] makes it.
     pub fn new(alloc: Global, shape: Shape) -> Result<MirrorNand, Refusal>
-        ensures fresh { IfOk result (λ device. device.memory ≡ fresh_memory shape) }
-        ensures unasked { IfOk result (λ device. device.last ≡ None) }
+        ensures { IfOk result (λ device. device.memory ≡ fresh_memory shape) }
     {
         Ok(MirrorNand {
             memory: MemoryNand::new(alloc, shape)?,
-            last: None,
-            calls: 0,
         })
     }
 
-    /// What it was asked last.
-    pub fn last(&self) -> Option<Call>
-        ensures { result ≡ self.now.last }
+    /// What a cell was programmed with; one that is free is blank.
+    pub fn cell(&self, place: Place) -> PageData
+        ensures { result ≡ cell_at self.now.memory.blocks place }
     {
-        self.last
+        self.memory.cell(place)
     }
 
-    /// How often it was asked, modulo 2 to the 32.
-    pub fn calls(&self) -> u32
-        ensures { result ≡ self.now.calls }
+    /// Whether the next slot of the block's erase is its last.
+    pub fn ends_erase(&self, block: u32) -> bool
+        ensures { result ≡ ((block_at self.now.memory.blocks block).erasing + 1 == self.now.memory.shape.erase_slots) }
     {
-        self.calls
+        self.memory.ends_erase(block)
     }
 }
 
 impl Nand for MirrorNand {
     ghost use Rattle.std.specs.Prelude.{true};
-    ghost use Rattle.stepped_die.specs.Told.{ChangesAsTold};
+    ghost use Rattle.stepped_die.specs.Told.{DoesWell};
 
     ghost shape_of = { λ d. d.memory.shape };
 
@@ -54,7 +49,7 @@ impl Nand for MirrorNand {
 
     ghost failures = { λ _. 0 };
 
-    ghost ends = { λ d _ well e. ChangesAsTold d.memory well e.last e.memory };
+    ghost ends = { λ d call well e. DoesWell d.memory call well e.memory };
 
     ghost never_fails = { true };
 
@@ -63,23 +58,14 @@ impl Nand for MirrorNand {
     }
 
     fn read(&mut self, place: Place) -> Result<PageData, Refusal> {
-        let bytes = self.memory.read(place)?;
-        self.last = Some(Call::Read { place, bytes });
-        self.calls = self.calls.wrapping_add(1);
-        Ok(bytes)
+        self.memory.read(place)
     }
 
     fn program(&mut self, place: Place, bytes: PageData) -> Result<(), Refusal> {
-        self.memory.program(place, bytes)?;
-        self.last = Some(Call::Program { place, bytes });
-        self.calls = self.calls.wrapping_add(1);
-        Ok(())
+        self.memory.program(place, bytes)
     }
 
     fn erase_slot(&mut self, block: u32) -> Result<bool, Refusal> {
-        let last = self.memory.erase_slot(block)?;
-        self.last = Some(Call::Erase { block, last });
-        self.calls = self.calls.wrapping_add(1);
-        Ok(last)
+        self.memory.erase_slot(block)
     }
 }

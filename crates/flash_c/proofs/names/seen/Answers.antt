@@ -1,4 +1,3 @@
-use Rattle.std.proofs.Common.{sym, ◌∙◌, arith}
 use Rattle.flash_c.proofs.Filling.{take_min}
 use Rattle.flash_c.proofs.names.seen.Goals as goal
 
