@@ -118,7 +118,7 @@ fn take_store<R: Read>(
 }
 
 /// Reads a checkpoint, csv with the defaults of the crate `csv` and without trimming, of at most 134,217,728 bytes, in at
-/// most one call of the reader more.
+/// most 134,217,729 calls of the reader.
 ///
 /// Record 1 is `checkpoint,1`. Then come, die by die, a record for each logical page, `page` and its cell's block and page
 /// and the bytes there in 32 hexadecimal digits, with these fields empty where it lies nowhere, or the last alone where
@@ -126,10 +126,12 @@ fn take_store<R: Read>(
 /// one for each task, `task` and its balance; and `die`, its number from 0 to 7 and its spare pages. Numbers have 1 to 10
 /// digits and are at most 4,294,967,295.
 ///
-/// Broken has the first record and field at fault. In a record the kind is judged first, then how many fields there are,
-/// then they from left to right, then the order of records, and at last the number of a die. ReadFault comes where the
-/// reader fails or goes on beyond its bound; the records before it are judged first. NoMemory comes where memory is
-/// refused. What was read fits no plan as yet: [`check`](die_checkpoint::Checkpoint::check) says whether it does.
+/// Broken has the first record and field at fault. A record above 2,105,481 is one too many; else the kind is judged first,
+/// then how many fields there are, then they from left to right, then the order of records, and at last the number of a
+/// die. ReadFault comes where the reader fails or goes on beyond its bound; the records before it are judged first.
+/// NoMemory comes where memory is refused.
+///
+/// What was read fits no plan as yet: [`check`](die_checkpoint::Checkpoint::check) says whether it does.
 pub fn read_checkpoint<R: Read + Drop>(alloc: Global, reader: R) -> Result<SavedStore, TextFault>
     ensures store { Tells (option_map checkpoint_of (R.remaining reader)) result }
     ensures bound { OnOk result (IfSome (R.remaining reader) (λ text. length text ≤ 134217728)) }
