@@ -134,7 +134,6 @@ const TOO_MANY: Plan = Plan {
     },
     logical: 16,
     cap: 4,
-    asks: None,
 };
 
 const NOWHERE: Stood = Stood {
