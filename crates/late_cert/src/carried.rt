@@ -72,9 +72,7 @@ impl Carried {
         if length as usize > usize::MAX - self.len {
             return Err(Refusal::NoMemory);
         }
-        if self.runs.reserve(1).is_err() {
-            return Err(Refusal::NoMemory);
-        }
+        self.runs.reserve(1)?;
         add_run(&mut self.runs, number, length);
         self.len += length as usize;
         Ok(())

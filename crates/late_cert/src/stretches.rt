@@ -52,9 +52,10 @@ fn stretch(
     rows: &[JobRow],
     carried: &Carried,
     job: JobNo,
-) -> Result<Option<Certificate>, AllocError>
+) -> Result<Option<Certificate>, Refusal>
     requires { RowsRise rows.now }
-    ensures { IfOk result (λ stretch. stretch ≡ stretch_if_done rows.now carried.now job) }
+    ensures ok { IfOk result (λ stretch. stretch ≡ stretch_if_done rows.now carried.now job) }
+    ensures refused { FailsForMemory result }
 {
     let Some(row) = find(rows, job) else {
         return Ok(None);
@@ -155,9 +156,10 @@ fn marked(
     carried: &Carried,
     start: u32,
     completion: u32,
-) -> Result<JobList, AllocError>
+) -> Result<JobList, Refusal>
     requires { AreMarks rows.now carried.now start completion marks.now }
-    ensures { IfOk result (λ jobs. jobs ≡ jobs_of rows.now carried.now start completion) }
+    ensures ok { IfOk result (λ jobs. jobs ≡ jobs_of rows.now carried.now start completion) }
+    ensures refused { FailsForMemory result }
 {
     let mut jobs = JobList::new(alloc);
     for i in 0..rows.len() {

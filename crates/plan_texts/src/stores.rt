@@ -1,6 +1,7 @@
 //! The plan of a store, from the numbers of its text.
 
 ghost use Rattle.std.specs.Prelude.{◌≡◌, ◌↔◌, ◌<◌, ◌≤◌, ◌⊎◌, ℕ, All, IsTrue, IfOk, IfErr, Ok, length};
+ghost use Rattle.slot_types.specs.Refusal.{FailsForMemory};
 ghost use Rattle.plan_rules.specs.Bound.{MeetsBound};
 ghost use Rattle.plan_rules.specs.Times.{PassesItsTimes};
 ghost use Rattle.plan_texts.specs.PlanText.{plan_of};
@@ -11,7 +12,7 @@ ghost use Rattle.plan_texts.specs.declared.numbers.PlanNumbers.{PlanNumbers};
 use crate::numbers::{PlanNumbers, TaskNumbers, TopNumbers, plan_numbers};
 use plan_rules::{bound, plan_test};
 use slot_types::{Caps, DiePlan, MAX_DIES, Refusal, Shape, StorePlan, Times, TimesList};
-use std::alloc::{AllocError, Global};
+use std::alloc::Global;
 
 /// The shape of the dies.
 fn shape(top: &TopNumbers) -> Shape
@@ -39,8 +40,9 @@ fn are_named(tasks: &[TaskNumbers], dies: u32) -> bool
 }
 
 /// The caps of a die's tasks, in the order of the text.
-fn caps(alloc: Global, tasks: &[TaskNumbers], die: u32) -> Result<Caps, AllocError>
-    ensures { IfOk result (λ caps. caps ≡ caps_of tasks.now die) }
+fn caps(alloc: Global, tasks: &[TaskNumbers], die: u32) -> Result<Caps, Refusal>
+    ensures ok { IfOk result (λ caps. caps ≡ caps_of tasks.now die) }
+    ensures refused { FailsForMemory result }
 {
     let mut caps = Caps::new(alloc);
     for task in tasks {
@@ -52,8 +54,9 @@ fn caps(alloc: Global, tasks: &[TaskNumbers], die: u32) -> Result<Caps, AllocErr
 }
 
 /// The times of a die's tasks, in the order of the text.
-fn task_times(alloc: Global, tasks: &[TaskNumbers], die: u32) -> Result<TimesList, AllocError>
-    ensures { IfOk result (λ times. times ≡ task_times_of tasks.now die) }
+fn task_times(alloc: Global, tasks: &[TaskNumbers], die: u32) -> Result<TimesList, Refusal>
+    ensures ok { IfOk result (λ times. times ≡ task_times_of tasks.now die) }
+    ensures refused { FailsForMemory result }
 {
     let mut times = TimesList::new(alloc);
     for task in tasks {
@@ -67,8 +70,9 @@ fn task_times(alloc: Global, tasks: &[TaskNumbers], die: u32) -> Result<TimesLis
 }
 
 /// The times of a die, in a plan with times.
-fn times(alloc: Global, plan: &PlanNumbers, die: u32) -> Result<Option<Times>, AllocError>
-    ensures { IfOk result (λ times. times ≡ times_of plan.now die) }
+fn times(alloc: Global, plan: &PlanNumbers, die: u32) -> Result<Option<Times>, Refusal>
+    ensures ok { IfOk result (λ times. times ≡ times_of plan.now die) }
+    ensures refused { FailsForMemory result }
 {
     match plan.top.common {
         Some(common) => {
@@ -80,8 +84,9 @@ fn times(alloc: Global, plan: &PlanNumbers, die: u32) -> Result<Option<Times>, A
 }
 
 /// The plan of a die, by the numbers of a text. It isn't judged.
-pub fn die_plan(alloc: Global, plan: &PlanNumbers, die: u32) -> Result<DiePlan, AllocError>
-    ensures { IfOk result (λ made. made ≡ die_of plan.now die) }
+pub fn die_plan(alloc: Global, plan: &PlanNumbers, die: u32) -> Result<DiePlan, Refusal>
+    ensures ok { IfOk result (λ made. made ≡ die_of plan.now die) }
+    ensures refused { FailsForMemory result }
 {
     let caps = caps(alloc, plan.tasks.as_slice(), die)?;
     let times = times(alloc, plan, die)?;

@@ -2,6 +2,7 @@
 
 ghost use Rattle.std.specs.Prelude.{◌≡◌, IfOk};
 ghost use Rattle.csv.specs.Records.{fields_of};
+ghost use Rattle.slot_types.specs.Refusal.{FailsForMemory};
 ghost use Rattle.text_base.specs.Fields.{field_or};
 ghost use Rattle.text_base.specs.Number.{number_of};
 ghost use Rattle.report_texts.specs.ReportRows.{is_late, lateness_in};
@@ -12,8 +13,8 @@ use crate::reports::ReportRow;
 use crate::row_numbers::{number_in, read_lateness};
 use csv::ByteRecord;
 use late_cert::{Certificate, JobList, lateness};
-use slot_types::JobNo;
-use std::alloc::{AllocError, Global};
+use slot_types::{JobNo, Refusal};
+use std::alloc::Global;
 use text_base::{field_in, is_named, list};
 
 /// How a job or a collection ended.
@@ -130,8 +131,9 @@ fn says_lateness(fields: &ByteRecord, worst: &Finish) -> bool
 }
 
 /// The jobs that a certificate lists.
-fn jobs(alloc: Global, fields: &ByteRecord) -> Result<Option<JobList>, AllocError>
-    ensures { IfOk result (λ jobs. jobs ≡ list_of number_of (field_or (fields_of fields.now) 10)) }
+fn jobs(alloc: Global, fields: &ByteRecord) -> Result<Option<JobList>, Refusal>
+    ensures ok { IfOk result (λ jobs. jobs ≡ list_of number_of (field_or (fields_of fields.now) 10)) }
+    ensures refused { FailsForMemory result }
 {
     list(alloc, field_in(fields, 10))
 }
@@ -143,8 +145,9 @@ pub fn cert(
     fields: &ByteRecord,
     die: u32,
     worst: &Finish,
-) -> Result<Option<Certificate>, AllocError>
-    ensures { IfOk result (λ found. found ≡ cert_of die worst.now (fields_of fields.now)) }
+) -> Result<Option<Certificate>, Refusal>
+    ensures ok { IfOk result (λ found. found ≡ cert_of die worst.now (fields_of fields.now)) }
+    ensures refused { FailsForMemory result }
 {
     if fields.len() != 11 || !certifies(fields, die, worst) {
         return Ok(None);

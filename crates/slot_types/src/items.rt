@@ -88,8 +88,7 @@ impl<T: Drop> Items<T> {
         ensures refused { FailsForMemory result }
         ensures err { OnErr result (self.new ≡ self.old) }
     {
-        self.items.reserve(1)?;
-        self.items.push_reserved(item);
+        self.items.push(item)?;
         Ok(())
     }
 

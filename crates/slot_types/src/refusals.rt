@@ -4,7 +4,7 @@ ghost use Rattle.std.specs.Prelude.{◌≡◌, Some};
 ghost use Rattle.slot_types.specs.Refusal.{number_of};
 ghost use Rattle.slot_types.specs.Texts.{cause_text, refusal_text};
 
-use std::alloc::AllocError;
+use std::alloc::{AllocError, AllocFailed};
 use std::fmt;
 use std::fmt::{Display, Formatter, Write};
 
@@ -188,5 +188,16 @@ impl Display for Refusal {
             Refusal::PassesFull => f.write_str("PassesFull"),
             Refusal::PassesOut { out } => write!(f, "PassesOut {out}"),
         }
+    }
+}
+
+impl<T: Drop> From<AllocFailed<T>> for Refusal {
+    ghost use Rattle.std.specs.Prelude.{◌≡◌};
+    ghost use Rattle.slot_types.specs.declared.refusals.Refusal.TheVariants.{NoMemory};
+
+    ghost from_gives = { λ _ refusal. refusal ≡ NoMemory };
+
+    fn from(_: AllocFailed<T>) -> Self {
+        Refusal::NoMemory
     }
 }

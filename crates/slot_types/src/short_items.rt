@@ -89,8 +89,7 @@ impl<T: MadeWith<Global> + Drop> ShortItems<T> {
         ensures err { OnErr result (self.new ≡ self.old) }
         ensures within { length self.old < 16 → IsOk result }
     {
-        self.items.reserve(1)?;
-        self.items.push_reserved(item);
+        self.items.push(item)?;
         Ok(())
     }
 

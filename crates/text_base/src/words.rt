@@ -2,6 +2,7 @@
 
 ghost use Rattle.std.specs.Prelude.{◌≡◌, ◌∷◌, [], ◌==◌, ◌<◌, List, ℕ, Option, IfOk, IfSome, MatchOption, None, length, option_map};
 ghost use Rattle.std.specs.List.{position, slice_split};
+ghost use Rattle.slot_types.specs.Refusal.{FailsForMemory};
 ghost use Rattle.text_base.specs.Number.{number_of};
 ghost use Rattle.text_base.specs.Ops.{op_of};
 ghost use Rattle.text_base.specs.Words.{IsFirst, StartsWith, all_of, behind, if_whole, list_of, words_of};
@@ -11,8 +12,8 @@ ghost use Rattle.text_base.specs.PageStarts.{BeginsWithPage, FirstIsPage};
 use crate::numbers::{leading_number, number};
 use crate::ops::{leading_op, op};
 use crate::pages::{behind_page, leading_page, page};
-use slot_types::{Items, JobNo, Op, PageData};
-use std::alloc::{AllocError, Global};
+use slot_types::{Items, JobNo, Op, PageData, Refusal};
+use std::alloc::Global;
 
 /// What a word may say.
 pub trait Word: Sized {
@@ -135,9 +136,10 @@ fn first_word<T: Word + Drop>(text: &[u8]) -> Option<(T, Option<&[u8]>)>
 }
 
 /// Adds what the words of a text say, up to one that says nothing, and answers whether there is none.
-fn put_all<T: Word + Drop>(items: &mut Items<T>, text: &[u8]) -> Result<bool, AllocError>
+fn put_all<T: Word + Drop>(items: &mut Items<T>, text: &[u8]) -> Result<bool, Refusal>
     requires { items.old ≡ [] }
-    ensures { IfOk result (λ whole. if_whole whole items.new ≡ all_of T.word_of (slice_split (λ b. b == 32) text.now)) }
+    ensures ok { IfOk result (λ whole. if_whole whole items.new ≡ all_of T.word_of (slice_split (λ b. b == 32) text.now)) }
+    ensures refused { FailsForMemory result }
 {
     let mut left = Some(text);
     while let Some(text) = left {
@@ -154,8 +156,9 @@ fn put_all<T: Word + Drop>(items: &mut Items<T>, text: &[u8]) -> Result<bool, Al
 
 /// Puts what the words of a field say in place of other items, in their memory, and answers whether all of them say
 /// something. An empty field has none.
-pub fn put_list<T: Word + Drop>(items: &mut Items<T>, field: &[u8]) -> Result<bool, AllocError>
-    ensures { IfOk result (λ whole. if_whole whole items.new ≡ list_of T.word_of field.now) }
+pub fn put_list<T: Word + Drop>(items: &mut Items<T>, field: &[u8]) -> Result<bool, Refusal>
+    ensures ok { IfOk result (λ whole. if_whole whole items.new ≡ list_of T.word_of field.now) }
+    ensures refused { FailsForMemory result }
 {
     items.clear();
     if field.is_empty() {
@@ -165,8 +168,9 @@ pub fn put_list<T: Word + Drop>(items: &mut Items<T>, field: &[u8]) -> Result<bo
 }
 
 /// What the words of a field say, if all of them say something. An empty field has none.
-pub fn list<T: Word + Drop>(alloc: Global, field: &[u8]) -> Result<Option<Items<T>>, AllocError>
-    ensures { IfOk result (λ found. found ≡ list_of T.word_of field.now) }
+pub fn list<T: Word + Drop>(alloc: Global, field: &[u8]) -> Result<Option<Items<T>>, Refusal>
+    ensures ok { IfOk result (λ found. found ≡ list_of T.word_of field.now) }
+    ensures refused { FailsForMemory result }
 {
     let mut items = Items::new(alloc);
     let whole = put_list(&mut items, field)?;

@@ -45,8 +45,8 @@ returns-clause-read g c =
     let rows = c.loop-fields.gathered in
     reads-on _ (rows_from rows (record_line records)) _ _ _ _ (Ok c.in_ok-dies.dies) c.loop-fields.invariant.read
     (rows-end rows c.in_ok-dies.dies (record_line records) records.found (fields_of records.fields) _ (sym c.in_default.ensures)
-    c.in_ok-dies.ensures)
+    c.in_ok-dies.ensures.ok)
 
 pub returns-clause-numbered : goal.returns-clause-numbered
-returns-clause-numbered g c = subst AreNumbered (sym c.in_ok-dies.ensures)
+returns-clause-numbered g c = subst AreNumbered (sym c.in_ok-dies.ensures.ok)
     (numbered-dies c.loop-fields.gathered c.loop-fields.invariant.numbered)
