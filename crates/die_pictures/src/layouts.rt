@@ -99,10 +99,7 @@ impl Band {
         if self.lane_of(key).is_some() {
             return Ok(false);
         }
-        match self.keys.push(key) {
-            Ok(()) => {}
-            Err(_) => return Err(Refusal::NoMemory),
-        }
+        self.keys.push(key)?;
         Ok(self.keys.len() > MOST_LANES)
     }
 }
@@ -124,10 +121,7 @@ impl Layout {
                 top: 0,
                 keys: Vec::new(alloc),
             };
-            match bands.push(band) {
-                Ok(()) => {}
-                Err(_) => return Err(Refusal::NoMemory),
-            }
+            bands.push(band)?;
         }
         Ok(Layout {
             cell,

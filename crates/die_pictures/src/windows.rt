@@ -82,10 +82,8 @@ impl Window {
             deed: deed_of(act),
             last: reply.finished.is_some(),
         };
-        match self.carried.push(carried) {
-            Ok(()) => Ok(()),
-            Err(_) => Err(Refusal::NoMemory),
-        }
+        self.carried.push(carried)?;
+        Ok(())
     }
 
     /// Notes a collection that was waived in a slot. The only refusal is NoMemory.
@@ -95,9 +93,7 @@ impl Window {
         if !self.has(waiver.slot) {
             return Ok(());
         }
-        match self.waived.push(waiver) {
-            Ok(()) => Ok(()),
-            Err(_) => Err(Refusal::NoMemory),
-        }
+        self.waived.push(waiver)?;
+        Ok(())
     }
 }

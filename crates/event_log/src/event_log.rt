@@ -141,9 +141,7 @@ impl EventLog {
     {
         self.deeds.reserve(events)?;
         self.callers.reserve(events)?;
-        if self.waivers.reserve(waivers).is_err() {
-            return Err(Refusal::NoMemory);
-        }
+        self.waivers.reserve(waivers)?;
         // All that was had, so that the next events seldom ask.
         self.room = self.deeds.room().min(self.callers.room());
         self.waiver_room = self.waivers.capacity() - self.waivers.len();

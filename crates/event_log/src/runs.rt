@@ -52,10 +52,8 @@ impl<T> Runs<T> {
         ensures succeeds { count ≤ self.old.room → IsOk result }
         ensures err { OnErr result (self.new ≡ self.old) }
     {
-        match self.runs.reserve(count) {
-            Ok(()) => Ok(()),
-            Err(_) => Err(Refusal::NoMemory),
-        }
+        self.runs.reserve(count)?;
+        Ok(())
     }
 }
 

@@ -93,10 +93,7 @@ fn run_slot(table: &mut JobTable, now: u32) -> Option<(JobNo, Option<Op>)> {
 fn note(jobs: &mut Vec<Plain>, number: JobNo, op: Option<Op>, now: u32) -> Result<(), Refusal> {
     if let Some(Op::Read(_)) = op {
         if let Some(job) = jobs.get_mut(number.0 as usize) {
-            match job.reads.push(page(now)) {
-                Ok(()) => {}
-                Err(_) => return Err(Refusal::NoMemory),
-            }
+            job.reads.push(page(now))?;
         }
     }
     Ok(())

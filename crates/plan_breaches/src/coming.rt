@@ -35,10 +35,8 @@ fn add<'a>(all: &mut Vec<Arrived<'a>>, one: Arrived<'a>) -> Result<(), Refusal>
     ensures added { OnOk result (all.new.items ≡ all.old.items ++ one.entry ∷ []) }
     ensures refused { FailsForMemory result }
 {
-    match all.push(one) {
-        Ok(()) => Ok(()),
-        Err(_) => Err(Refusal::NoMemory),
-    }
+    all.push(one)?;
+    Ok(())
 }
 
 /// The jobs and collections of events, in their order. The only refusal is NoMemory.

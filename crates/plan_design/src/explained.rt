@@ -54,10 +54,7 @@ fn names_of(alloc: Global, tasks: &[TaskNumbers], die: u32) -> Result<Vec<TaskNa
                 die,
                 task: u32::try_from(names.len()).unwrap_or(u32::MAX),
             };
-            match names.push(name) {
-                Ok(()) => {}
-                Err(_) => return Err(Refusal::NoMemory),
-            }
+            names.push(name)?;
         }
     }
     Ok(names)

@@ -80,10 +80,8 @@ impl ReportText {
         ensures refused { FailsForMemory result }
     {
         let mut text = self.rows;
-        match text.extend_from_slice(self.certs.as_slice()) {
-            Ok(()) => Ok(text),
-            Err(_) => Err(Refusal::NoMemory),
-        }
+        text.extend_from_slice(self.certs.as_slice())?;
+        Ok(text)
     }
 
     /// Writes the text as csv: a header, the rows, and after all of them the certificates. Numbers have no leading zeros,

@@ -3,7 +3,7 @@
 use crate::plan_lines::judged;
 use plan_texts::{PlanNumbers, TaskNumbers, TopNumbers, plan_numbers, read_plan};
 use slot_types::{Caps, DiePlan, Items, Refusal, Shape, StorePlan, TaskTimes, Times, TimesList};
-use std::alloc::{AllocError, Global};
+use std::alloc::Global;
 use std::io::Write;
 
 fn is_within(number: u32, least: u32, most: u32) -> bool {
@@ -11,7 +11,7 @@ fn is_within(number: u32, least: u32, most: u32) -> bool {
 }
 
 /// The plan of a die.
-fn die_plan(alloc: Global, numbers: &PlanNumbers, die: u32) -> Result<DiePlan, AllocError> {
+fn die_plan(alloc: Global, numbers: &PlanNumbers, die: u32) -> Result<DiePlan, Refusal> {
     let top = numbers.top;
     let mut caps = Caps::new(alloc);
     let mut tasks = TimesList::new(alloc);
@@ -105,7 +105,7 @@ fn passes(plan: &DiePlan, times: &Times) -> bool {
 }
 
 /// The store of a plan's numbers, or why they make none.
-fn store(alloc: Global, numbers: &PlanNumbers) -> Result<Result<StorePlan, Refusal>, AllocError> {
+fn store(alloc: Global, numbers: &PlanNumbers) -> Result<Result<StorePlan, Refusal>, Refusal> {
     let top = numbers.top;
     let is_shaped = is_within(top.dies, 1, 8)
         && is_within(top.blocks, 2, 1_024)

@@ -160,7 +160,7 @@ fn add_row(
     dies: &mut Vec<DieReport>,
     die: u32,
     row: ReportRow,
-) -> Result<bool, AllocError> {
+) -> Result<bool, Refusal> {
     let number = row.job.0 as usize;
     if let Some(last) = dies.last_mut() {
         if last.die == die {
@@ -192,7 +192,7 @@ fn add_row(
 fn rows(
     alloc: Global,
     records: &[Fields],
-) -> Result<Result<(Vec<DieReport>, usize), u32>, AllocError> {
+) -> Result<Result<(Vec<DieReport>, usize), u32>, Refusal> {
     let mut dies: Vec<DieReport> = Vec::new(alloc);
     let mut read = 0usize;
     let mut line = 0u32;
@@ -222,7 +222,7 @@ fn rows(
 }
 
 /// What the rules of a report say of a text.
-pub fn judged(alloc: Global, text: &[u8]) -> Result<ReportAnswer, AllocError> {
+pub fn judged(alloc: Global, text: &[u8]) -> Result<ReportAnswer, Refusal> {
     let records = records(alloc, text)?;
     let (mut dies, read) = match rows(alloc, &records)? {
         Ok(rows) => rows,

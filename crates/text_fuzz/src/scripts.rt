@@ -120,7 +120,7 @@ pub fn judged(
     text: &[u8],
     dies: usize,
     slots: u32,
-) -> Result<ScriptAnswer, AllocError> {
+) -> Result<ScriptAnswer, Refusal> {
     let records = records(alloc, text)?;
     let mut items = Items::new(alloc);
     let mut lasts = Vec::new(alloc);
