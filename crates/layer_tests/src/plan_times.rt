@@ -5,11 +5,11 @@ use slot_types::{
     Caps, DiePlan, Event, Items, MAX_SLOT, Op, OpList, PageData, Refusal, Shape, TaskNo, TaskTimes,
     Times, TimesList,
 };
-use std::alloc::{AllocError, Global};
+use std::alloc::Global;
 use std::test::Fail;
 
 /// A die with four blocks for two pages, and one task with this cap and these times.
-fn small(alloc: Global, cap: u32, times: Times) -> Result<DiePlan, AllocError> {
+fn small(alloc: Global, cap: u32, times: Times) -> Result<DiePlan, Refusal> {
     let mut caps = Caps::new(alloc);
     caps.push(cap)?;
     Ok(DiePlan {
@@ -26,7 +26,7 @@ fn small(alloc: Global, cap: u32, times: Times) -> Result<DiePlan, AllocError> {
 }
 
 /// The times of one task.
-fn times_of(alloc: Global, common: u32, task: TaskTimes) -> Result<Times, AllocError> {
+fn times_of(alloc: Global, common: u32, task: TaskTimes) -> Result<Times, Refusal> {
     let mut tasks = TimesList::new(alloc);
     tasks.push(task)?;
     Ok(Times { common, tasks })
@@ -136,7 +136,7 @@ fn each_task_has_its_times(rt: HostRuntime) -> Result<(), Fail> {
 }
 
 /// A job of task 0 with one operation.
-fn job(alloc: Global, release: u32, due: u32, op: Op) -> Result<Event, AllocError> {
+fn job(alloc: Global, release: u32, due: u32, op: Op) -> Result<Event, Refusal> {
     let mut ops = OpList::new(alloc);
     ops.push(op)?;
     Ok(Event::Submit {
@@ -156,7 +156,7 @@ fn collection(release: u32, due: u32) -> Event {
 }
 
 /// A collection and a job, and after so many slots a second job; twenty slots in all.
-fn history(alloc: Global, first: u32, wait: u32) -> Result<Items<Event>, AllocError> {
+fn history(alloc: Global, first: u32, wait: u32) -> Result<Items<Event>, Refusal> {
     let mut events = Items::new(alloc);
     events.push(collection(0, 20))?;
     events.push(job(alloc, 0, 10, Op::Read(first))?)?;

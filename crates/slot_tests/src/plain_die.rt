@@ -7,7 +7,7 @@ use slot_types::{
     Act, DiePlan, Event, Items, JobNo, Op, OpList, PageData, Place, Reads, Refusal, Reply,
     SlotReply, Waived, WaivedList,
 };
-use std::alloc::{AllocError, Global};
+use std::alloc::Global;
 
 /// A collection that took its victim: the page in its buffer, with the cell that it was read in, and how many it copied.
 #[derive(Drop)]
@@ -54,7 +54,7 @@ impl Accepted {
         }
     }
 
-    fn outcome(&self, alloc: Global) -> Result<Outcome, AllocError> {
+    fn outcome(&self, alloc: Global) -> Result<Outcome, Refusal> {
         Ok(match self.end {
             End::Pending => Outcome::Waiting,
             End::Waived { given } => Outcome::Waived { given },
@@ -67,7 +67,7 @@ impl Accepted {
         })
     }
 
-    fn reads(&self, alloc: Global) -> Result<Reads, AllocError> {
+    fn reads(&self, alloc: Global) -> Result<Reads, Refusal> {
         let mut copy = Reads::new(alloc);
         if let Work::Job(_, _, reads) = &self.work {
             for bytes in reads.as_slice() {
@@ -160,7 +160,7 @@ fn collect(
 }
 
 impl PlainDie {
-    pub(crate) fn new(alloc: Global, plan: &DiePlan) -> Result<PlainDie, AllocError> {
+    pub(crate) fn new(alloc: Global, plan: &DiePlan) -> Result<PlainDie, Refusal> {
         Ok(PlainDie {
             logical: plan.logical,
             flash: PlainFlash::new(alloc, plan.shape, plan.logical)?,
@@ -252,7 +252,7 @@ impl PlainDie {
         None
     }
 
-    fn take(&mut self, task: u32, release: u32, due: u32, work: Work) -> Result<Reply, AllocError> {
+    fn take(&mut self, task: u32, release: u32, due: u32, work: Work) -> Result<Reply, Refusal> {
         let number = narrow(self.accepted.len());
         self.accepted.push(Accepted {
             task,
@@ -271,7 +271,7 @@ impl PlainDie {
         release: u32,
         due: u32,
         ops: OpList,
-    ) -> Result<Reply, AllocError> {
+    ) -> Result<Reply, Refusal> {
         if let Some(refusal) = self.job_refusal(task, release, due, ops.as_slice()) {
             return Ok(Reply::Refused(refusal));
         }
@@ -279,7 +279,7 @@ impl PlainDie {
         self.take(task, release, due, Work::Job(ops, 0, Vec::new(alloc)))
     }
 
-    fn ask_collection(&mut self, task: u32, release: u32, due: u32) -> Result<Reply, AllocError> {
+    fn ask_collection(&mut self, task: u32, release: u32, due: u32) -> Result<Reply, Refusal> {
         if let Some(refusal) = self.collection_refusal(task, release, due) {
             return Ok(Reply::Refused(refusal));
         }
@@ -316,7 +316,7 @@ impl PlainDie {
     }
 
     /// The blocks that are being collected.
-    fn taken(&self, alloc: Global) -> Result<Vec<u32>, AllocError> {
+    fn taken(&self, alloc: Global) -> Result<Vec<u32>, Refusal> {
         let mut taken = Vec::new(alloc);
         for job in self.accepted.as_slice() {
             if let Some(victim) = job.victim() {
@@ -327,7 +327,7 @@ impl PlainDie {
     }
 
     /// Takes the victim of a collection that hasn't begun.
-    fn begin(&mut self, alloc: Global, number: usize) -> Result<(), AllocError> {
+    fn begin(&mut self, alloc: Global, number: usize) -> Result<(), Refusal> {
         let taken = self.taken(alloc)?;
         let victim = self.flash.victim(taken.as_slice());
         if let (Some(job), Some(victim)) = (self.accepted.get_mut(number), victim) {
@@ -360,7 +360,7 @@ impl PlainDie {
         }
     }
 
-    fn note_read(&mut self, number: usize, act: Act) -> Result<(), AllocError> {
+    fn note_read(&mut self, number: usize, act: Act) -> Result<(), Refusal> {
         if let (Some(job), Act::Read { bytes, .. }) = (self.accepted.get_mut(number), act) {
             if let Work::Job(_, _, reads) = &mut job.work {
                 reads.push(bytes)?;
@@ -389,7 +389,7 @@ impl PlainDie {
         alloc: Global,
         number: usize,
         reply: &mut SlotReply,
-    ) -> Result<(), AllocError> {
+    ) -> Result<(), Refusal> {
         self.begin(alloc, number)?;
         if let Some((act, last)) = self.act(number) {
             let told = JobNo(narrow(number));
@@ -403,7 +403,7 @@ impl PlainDie {
         Ok(())
     }
 
-    fn slot(&mut self, alloc: Global) -> Result<Reply, AllocError> {
+    fn slot(&mut self, alloc: Global) -> Result<Reply, Refusal> {
         let mut reply = SlotReply {
             slot: self.now,
             waived: WaivedList::new(alloc),
@@ -424,7 +424,7 @@ impl PlainDie {
     }
 
     /// What the die has to answer to an event. Nothing, where memory is refused.
-    pub(crate) fn answer(&mut self, alloc: Global, event: Event) -> Result<Reply, AllocError> {
+    pub(crate) fn answer(&mut self, alloc: Global, event: Event) -> Result<Reply, Refusal> {
         match event {
             Event::Submit {
                 task,
@@ -438,7 +438,7 @@ impl PlainDie {
     }
 
     /// What became of each that was accepted.
-    pub(crate) fn outcomes(&self, alloc: Global) -> Result<Items<Outcome>, AllocError> {
+    pub(crate) fn outcomes(&self, alloc: Global) -> Result<Items<Outcome>, Refusal> {
         let mut outcomes = Items::new(alloc);
         for job in self.accepted.as_slice() {
             outcomes.push(job.outcome(alloc)?)?;
