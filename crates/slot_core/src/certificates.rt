@@ -42,7 +42,10 @@ fn rows_in(alloc: Global, table: &JobTable) -> Result<JobRows, Refusal>
     for number in 0..table.len() {
         if let Some(job) = table.job(JobNo(number)) {
             if let Some(row) = row_in(number, &job) {
-                rows.push(row)?;
+                match rows.push(row) {
+                    Ok(()) => {}
+                    Err(_) => return Err(Refusal::NoMemory),
+                }
             }
         }
     }
