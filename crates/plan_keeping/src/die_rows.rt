@@ -89,10 +89,7 @@ pub fn die_lines(
             continue;
         }
         if let Some(line) = line_of(&item) {
-            match lines.push(line) {
-                Ok(()) => {}
-                Err(_) => return Err(Refusal::NoMemory),
-            }
+            lines.push(line)?;
         }
     }
     Ok(lines)

@@ -42,10 +42,7 @@ fn rows_in(alloc: Global, table: &JobTable) -> Result<JobRows, Refusal>
     for number in 0..table.len() {
         if let Some(job) = table.job(JobNo(number)) {
             if let Some(row) = row_in(number, &job) {
-                match rows.push(row) {
-                    Ok(()) => {}
-                    Err(_) => return Err(Refusal::NoMemory),
-                }
+                rows.push(row)?;
             }
         }
     }

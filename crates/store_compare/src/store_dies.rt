@@ -75,10 +75,7 @@ impl StoreDie {
             load: Load::new(alloc),
             numbers: Vec::new(alloc),
         };
-        match Box::new(alloc, die) {
-            Ok(boxed) => Ok(boxed),
-            Err(_) => Err(Refusal::NoMemory),
-        }
+        Ok(Box::new(alloc, die)?)
     }
 
     fn step(&mut self, alloc: Global) -> Result<(), Refusal> {

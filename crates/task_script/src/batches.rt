@@ -45,10 +45,7 @@ pub fn no_progress(alloc: Global, dies: usize) -> Result<Vec<Progress>, Refusal>
     };
     let mut progress = Vec::new(alloc);
     for _ in 0..dies {
-        match progress.push(fresh) {
-            Ok(()) => {}
-            Err(_) => return Err(Refusal::NoMemory),
-        }
+        progress.push(fresh)?;
     }
     Ok(progress)
 }
@@ -147,10 +144,7 @@ fn go_on(
         let refused = ends[die].refused.as_slice();
         add_rows(kept[die].lines.as_slice(), refused, &mut count)?;
         let clock = kept[die].end;
-        match made.push(Progress { clock, count }) {
-            Ok(()) => {}
-            Err(_) => return Err(Refusal::NoMemory),
-        }
+        made.push(Progress { clock, count })?;
     }
     Ok(made)
 }

@@ -32,10 +32,7 @@ fn no_rows(alloc: Global, dies: usize) -> Result<Vec<DieRows>, Refusal>
 {
     let mut rows = Vec::new(alloc);
     for _ in 0..dies {
-        match rows.push(DieRows::new(alloc)) {
-            Ok(()) => {}
-            Err(_) => return Err(Refusal::NoMemory),
-        }
+        rows.push(DieRows::new(alloc))?;
     }
     Ok(rows)
 }

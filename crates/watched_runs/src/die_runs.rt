@@ -99,10 +99,7 @@ impl DieRun {
         ensures refused { FailsForMemory result }
     {
         let run = DieRun::new(alloc, die, plan, window)?;
-        match Box::new(alloc, run) {
-            Ok(boxed) => Ok(boxed),
-            Err(_) => Err(Refusal::NoMemory),
-        }
+        Ok(Box::new(alloc, run)?)
     }
 
     /// Carries out the present slot.

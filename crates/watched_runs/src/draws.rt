@@ -45,10 +45,7 @@ fn rows_in(alloc: Global, run: &DieRun) -> Result<Vec<Row>, Refusal>
             end: end_of(alloc, &run.core, job)?,
         };
         if row.is_seen(&run.window, slots) {
-            match rows.push(row) {
-                Ok(()) => {}
-                Err(_) => return Err(Refusal::NoMemory),
-            }
+            rows.push(row)?;
         }
     }
     Ok(rows)
@@ -133,10 +130,7 @@ pub fn draw<R: Read + Drop>(
     let mut plans = plan.into_vec();
     let run = DieRun::boxed(alloc, die, plans.swap_remove(die as usize), window)?;
     let mut dies = Vec::new(alloc);
-    match dies.push(run) {
-        Ok(()) => {}
-        Err(_) => return Err(Refusal::NoMemory),
-    }
+    dies.push(run)?;
     let refused = run_rows(alloc, script, &mut dies, slots)?;
     match dies.first() {
         Some(run) => Ok(Told {

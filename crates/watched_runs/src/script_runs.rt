@@ -45,10 +45,7 @@ fn fresh_dies(alloc: Global, plan: StorePlan) -> Result<Vec<Box<DieRun>>, Refusa
     let mut die: u32 = 0;
     for plan in plan.into_vec() {
         let run = DieRun::boxed(alloc, die, plan, Window::new(alloc, 0, 0))?;
-        match dies.push(run) {
-            Ok(()) => {}
-            Err(_) => return Err(Refusal::NoMemory),
-        }
+        dies.push(run)?;
         die = die.saturating_add(1);
     }
     Ok(dies)
@@ -91,10 +88,7 @@ fn tally_of(run: Box<DieRun>) -> Tally {
 fn tallies_of(alloc: Global, dies: Vec<Box<DieRun>>) -> Result<Vec<Tally>, Refusal> {
     let mut tallies = Vec::new(alloc);
     for run in dies {
-        match tallies.push(tally_of(run)) {
-            Ok(()) => {}
-            Err(_) => return Err(Refusal::NoMemory),
-        }
+        tallies.push(tally_of(run))?;
     }
     Ok(tallies)
 }
