@@ -10,6 +10,9 @@ use Rattle.plan_arrivals.specs.Planned.{IsPlannedScript}
 use Rattle.plan_arrivals.specs.declared.faults.Fault.{Fault as Unplanned}
 use Rattle.plan_arrivals.specs.declared.faults.Fault.TheVariants.{Refused}
 use Rattle.plan_design.specs.Explained.{IsAccepted}
+use Rattle.plan_fit.specs.Fits.{IsPassingPlan}
+use Rattle.plan_fit.specs.declared.faults.FitFault.{FitFault}
+use Rattle.plan_fit.specs.declared.faults.FitFault.TheVariants.{NotFound}
 use Rattle.plan_breaches.specs.declared.breaches.Breach.{Breach}
 use Rattle.plan_keeping.specs.Verdicts.{IsBrokenScript, IsFrontOf}
 use Rattle.flashplan.specs.declared.commands.Command.{Command}
@@ -31,6 +34,18 @@ pub record PrintsArrivals (plan : Option (List ℕ)) (slots : ℕ) (old new : Op
   pub script : List ℕ
   pub planned : IsPlannedScript store slots script
   pub written : Appends old new script
+
+-- the plan that was found for a datasheet is printed: it passes its test
+pub record PrintsPassingPlan (old new : Option (List ℕ)) : Type 0 where
+  pub plan : List ℕ
+  pub passing : IsPassingPlan plan
+  pub written : Appends old new plan
+
+-- the status of a search for a plan
+abbrev pub fit_status : Result (Unit {0}) FitFault → ℕ
+fit_status (Ok found) = 0
+fit_status (Err (NotFound reason)) = 3
+fit_status (Err _) = 1
 
 -- a fault other than the writer's own leaves the writer as it was
 abbrev pub IsUnwritten : {W : Type 0} → W → W → Unplanned → Type 0
@@ -66,14 +81,16 @@ kept_status (Ok (Some false)) = 3
 kept_status (Ok None) = 1
 kept_status (Err refusal) = 1
 
--- what was found where a command ends with 3: the plans aren't kept; no other command does
+-- what is so where a command ends with 3: the plans aren't kept, or no plan was found for a datasheet; no other command does
 abbrev pub IsBroken : Command → Option (List ℕ) → Option (List ℕ) → Type 0
 IsBroken (command.Keeps plan script slots) text rows = BreaksPlans text rows slots
+IsBroken (command.Fit sheet) text rows = ⊤
 IsBroken _ text rows = ⊥
 
--- what was done where a command ends with 0: an explained plan is accepted; arrivals are printed; the plans are kept
+-- what was done where a command ends with 0: an explained plan is accepted; a plan that passes is printed; arrivals are printed; the plans are kept
 abbrev pub IsDone : Command → Option (List ℕ) → Option (List ℕ) → Option (List ℕ) → Option (List ℕ) → Type 0
 IsDone (command.Explain plan) text rows old new = SaysOf text true
+IsDone (command.Fit sheet) text rows old new = PrintsPassingPlan old new
 IsDone (command.Arrivals plan slots seed fills) text rows old new = PrintsArrivals text slots old new
 IsDone (command.Keeps plan script slots) text rows old new = KeepsPlans text rows slots
 IsDone _ text rows old new = ⊤

@@ -13,18 +13,22 @@ use Rattle.flashplan.specs.declared.commands.Command.TheVariants as command
 -- a command, with the names of its files as texts
 pub data Task : Type 0 where
   Explain : (plan : Text) → Task
+  Fit : (sheet : Text) → Task
   Arrivals : (plan : Text) (slots seed : ℕ) (fills : Bool) → Task
   Keeps : (plan script : Text) (slots : ℕ) → Task
   Wear : (plan script : Text) (slots : ℕ) → Task
-  Draw : (plan script : Text) (slots die first end : ℕ) → Task
+  Report : (plan script : Text) (slots endurance slot_us : ℕ) (as_csv : Bool) → Task
+  Draw : (plan script : Text) (slots die first end : ℕ) (worst : Bool) → Task
   Compare : (plan script : Text) (slots first pool : ℕ) → Task
 
 abbrev pub task_of : Command → Task
 task_of (command.Explain plan) = Explain plan.now
+task_of (command.Fit sheet) = Fit sheet.now
 task_of (command.Arrivals plan slots seed fills) = Arrivals plan.now slots seed fills
 task_of (command.Keeps plan script slots) = Keeps plan.now script.now slots
 task_of (command.Wear plan script slots) = Wear plan.now script.now slots
-task_of (command.Draw plan script slots die first end) = Draw plan.now script.now slots die first end
+task_of (command.Report plan script slots endurance slot_us as_csv) = Report plan.now script.now slots endurance slot_us as_csv
+task_of (command.Draw plan script slots die first end worst) = Draw plan.now script.now slots die first end worst
 task_of (command.Compare plan script slots first pool) = Compare plan.now script.now slots first pool
 
 -- a run has at most 1,048,576 slots
@@ -32,7 +36,8 @@ abbrev pub FitsRun : Command → Type 0
 FitsRun (command.Arrivals plan slots seed fills) = slots ≤ 1048576
 FitsRun (command.Keeps plan script slots) = slots ≤ 1048576
 FitsRun (command.Wear plan script slots) = slots ≤ 1048576
-FitsRun (command.Draw plan script slots die first end) = slots ≤ 1048576
+FitsRun (command.Report plan script slots endurance slot_us as_csv) = slots ≤ 1048576
+FitsRun (command.Draw plan script slots die first end worst) = slots ≤ 1048576
 FitsRun (command.Compare plan script slots first pool) = slots ≤ 1048576
 FitsRun _ = ⊤
 
@@ -49,6 +54,11 @@ abbrev pub explain_of : List Row → Option Task
 explain_of rows = do
   plan ← first_of (codes "PLAN") rows
   Some (Explain plan)
+
+abbrev pub fit_of : List Row → Option Task
+fit_of rows = do
+  sheet ← first_of (codes "DATASHEET") rows
+  Some (Fit sheet)
 
 abbrev pub arrivals_of : List Row → Option Task
 arrivals_of rows = do
@@ -72,6 +82,16 @@ wear_of rows = do
   slots ← first_of (codes "slots") rows >>= number_upto
   Some (Wear plan script slots)
 
+abbrev pub report_of : List Row → Option Task
+report_of rows = do
+  plan ← first_of (codes "PLAN") rows
+  script ← first_of (codes "SCRIPT") rows
+  slots ← first_of (codes "slots") rows >>= number_upto
+  endurance ← first_of (codes "endurance") rows >>= number_upto
+  slot_us ← first_of (codes "slot-us") rows >>= number_upto
+  as_csv ← first_of (codes "csv") rows
+  Some (Report plan script slots endurance slot_us (bytes_eq as_csv (codes "true")))
+
 abbrev pub draw_of : List Row → Option Task
 draw_of rows = do
   plan ← first_of (codes "PLAN") rows
@@ -80,7 +100,8 @@ draw_of rows = do
   die ← first_of (codes "die") rows >>= number_upto
   first ← first_of (codes "from") rows >>= number_upto
   end ← first_of (codes "to") rows >>= number_upto
-  Some (Draw plan script slots die first end)
+  worst ← first_of (codes "worst") rows
+  Some (Draw plan script slots die first end (bytes_eq worst (codes "true")))
 
 abbrev pub compare_of : List Row → Option Task
 compare_of rows = do
@@ -94,9 +115,11 @@ compare_of rows = do
 abbrev pub named : Text → List Row → Option Task
 named name rows =
     if bytes_eq name (codes "explain") then explain_of rows
+    else if bytes_eq name (codes "fit") then fit_of rows
     else if bytes_eq name (codes "arrivals") then arrivals_of rows
     else if bytes_eq name (codes "keeps") then keeps_of rows
     else if bytes_eq name (codes "wear") then wear_of rows
+    else if bytes_eq name (codes "report") then report_of rows
     else if bytes_eq name (codes "draw") then draw_of rows
     else if bytes_eq name (codes "compare") then compare_of rows
     else None

@@ -13,9 +13,9 @@ needed id = record (new_rule id) { required = true }
 abbrev pub slots_rule : Rule
 slots_rule = record (needed (codes "slots")) { long = Some (codes "slots"); value_names = 1 }
 
--- `--die D`, which has to be there
+-- `--die D`, which is 0 where it isn't there
 abbrev pub die_rule : Rule
-die_rule = record (needed (codes "die")) { long = Some (codes "die"); value_names = 1 }
+die_rule = record (new_rule (codes "die")) { long = Some (codes "die"); value_names = 1; defaults = codes "0" ∷ [] }
 
 -- `--from A`, which is 0 where it isn't there
 abbrev pub from_rule : Rule
@@ -37,12 +37,19 @@ flag id = record (new_rule id) { long = Some id; action = Some SetTrue }
 abbrev pub fill_rule : Rule
 fill_rule = flag (codes "fill")
 
+-- a number, which is 0 where it isn't there
+abbrev pub count_rule : Text → Rule
+count_rule id = record (new_rule id) { long = Some id; value_names = 1; defaults = codes "0" ∷ [] }
+
 -- `--pool A`, which is 4 where it isn't there
 abbrev pub pool_rule : Rule
 pool_rule = record (new_rule (codes "pool")) { long = Some (codes "pool"); value_names = 1; defaults = codes "4" ∷ [] }
 
 abbrev pub explain_app : App
 explain_app = with_rule (new_app (codes "explain")) (needed (codes "PLAN"))
+
+abbrev pub fit_app : App
+fit_app = with_rule (new_app (codes "fit")) (needed (codes "DATASHEET"))
 
 abbrev pub arrivals_run_app : App
 arrivals_run_app = with_rule (with_rule (new_app (codes "arrivals")) (needed (codes "PLAN"))) slots_rule
@@ -62,6 +69,15 @@ keeps_files_app = with_rule (with_rule (new_app (codes "keeps")) (needed (codes 
 abbrev pub keeps_app : App
 keeps_app = with_rule keeps_files_app slots_rule
 
+abbrev pub report_files_app : App
+report_files_app = with_rule (with_rule (new_app (codes "report")) (needed (codes "PLAN"))) (needed (codes "SCRIPT"))
+
+abbrev pub report_run_app : App
+report_run_app = with_rule (with_rule report_files_app slots_rule) (flag (codes "csv"))
+
+abbrev pub report_app : App
+report_app = with_rule (with_rule report_run_app (count_rule (codes "endurance"))) (count_rule (codes "slot-us"))
+
 abbrev pub draw_files_app : App
 draw_files_app = with_rule (with_rule (new_app (codes "draw")) (needed (codes "PLAN"))) (needed (codes "SCRIPT"))
 
@@ -69,7 +85,7 @@ abbrev pub draw_run_app : App
 draw_run_app = with_rule (with_rule draw_files_app slots_rule) die_rule
 
 abbrev pub draw_app : App
-draw_app = with_rule (with_rule draw_run_app from_rule) to_rule
+draw_app = with_rule (with_rule (with_rule draw_run_app from_rule) to_rule) (flag (codes "worst"))
 
 abbrev pub compare_files_app : App
 compare_files_app = with_rule (with_rule (new_app (codes "compare")) (needed (codes "PLAN"))) (needed (codes "SCRIPT"))
@@ -83,8 +99,8 @@ named_app = let app = new_app (codes "flashplan") in record app { top = record a
 
 -- the program's command line
 abbrev pub flashplan_app : App
-flashplan_app = with_subcommand (with_subcommand (with_subcommand (with_subcommand (with_subcommand (with_subcommand named_app
-    explain_app.top) arrivals_app.top) keeps_app.top) wear_app.top) draw_app.top) compare_app.top
+flashplan_app = with_subcommand (with_subcommand (with_subcommand (with_subcommand (with_subcommand (with_subcommand (with_subcommand (with_subcommand
+    named_app explain_app.top) fit_app.top) arrivals_app.top) keeps_app.top) wear_app.top) report_app.top) draw_app.top) compare_app.top
 
 -- whether a command has an argument that is global
 abbrev pub has_globals : Command → Bool

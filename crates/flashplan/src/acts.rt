@@ -2,6 +2,7 @@
 
 ghost use Rattle.std.specs.Prelude.{◌≡◌, ◌≢◌, ◌≤◌, IfErr, IfOk, IfSome, OnOk, is_ok, if◌then◌else◌};
 ghost use Rattle.flashplan.specs.Acts.{IsBroken, IsDone, IsHostFault, IsUnwritten, PrintsArrivals, SaysOf, TellsKept, kept_status};
+ghost use Rattle.flashplan.specs.Acts.{PrintsPassingPlan, fit_status};
 ghost use Rattle.flashplan.specs.Commands.{FitsRun};
 
 use crate::commands::Command;
@@ -9,14 +10,16 @@ use flash_commands::{Fault, end};
 use plain_layers::Marks;
 use plan_arrivals::{Fault as Unplanned, Manner, arrivals, full_from};
 use plan_design::explain;
+use plan_fit::{FitFault, fit};
 use plan_keeping::{Verdict, keep, script_text, sentence};
 use plan_texts::{plan_text, read_plan_from};
+use run_figures::Life;
 use slot_types::{MAX_SLOT, Refusal, StorePlan};
 use std::alloc::Global;
 use std::io::{Read, Write};
 use store_compare::{CompareFault, Measure, compare};
 use text_base::write_whole;
-use watched_runs::{RefusedRows, Sights, draw, wear};
+use watched_runs::{RefusedRows, Shown, Sights, draw, report, wear};
 
 /// Tells a refusal, and answers the status. Where standard output takes no more, nothing is told. A writer that fails is
 /// passed over.
@@ -42,6 +45,34 @@ fn print_explained<R: Read + Drop, W: Write>(
     let explained = explain(alloc, &text)?;
     write_whole(out, &explained.text)?;
     Ok(explained.is_accepted)
+}
+
+/// Prints the plan that was found for a datasheet.
+fn print_fit<R: Read + Drop, W: Write>(alloc: Global, sheet: R, out: &mut W) -> Result<(), FitFault>
+    ensures printed { OnOk result (PrintsPassingPlan (W.contents out.old) (W.contents out.new)) }
+{
+    let sheet = plan_text(alloc, sheet)?;
+    let plan = fit(alloc, &sheet)?;
+    write_whole(out, &plan)?;
+    Ok(())
+}
+
+/// Tells why no plan was found, and answers the status. A writer that fails is passed over.
+fn end_fit<E: Write>(err: &mut E, fitted: Result<(), FitFault>) -> u8
+    ensures { result ≡ fit_status fitted }
+{
+    match fitted {
+        Ok(()) => 0,
+        Err(FitFault::Refused(refusal)) => end_refused(err, refusal),
+        Err(FitFault::Sheet(fault)) => {
+            let _ = writeln!(err, "error: {fault}");
+            1
+        }
+        Err(FitFault::NotFound(reason)) => {
+            let _ = writeln!(err, "no plan was found: {reason}");
+            3
+        }
+    }
 }
 
 /// What is told beside a plan that has no arrivals.
@@ -191,6 +222,24 @@ fn print_wear<P: Read + Drop, S: Read + Drop, W: Write>(
     Ok(worn.refused)
 }
 
+/// Prints what a run came to.
+fn print_report<P: Read + Drop, S: Read + Drop, W: Write>(
+    alloc: Global,
+    plan: P,
+    script: S,
+    slots: u32,
+    life: Life,
+    as_csv: bool,
+    out: &mut W,
+) -> Result<RefusedRows, Refusal>
+    requires slots { slots ≤ MAX_SLOT }
+{
+    let store = read_plan_from(alloc, plan)?;
+    let told = report(alloc, store, script, slots, life, as_csv)?;
+    write_whole(out, &told.text)?;
+    Ok(told.refused)
+}
+
 /// Prints the picture of what the slots of a die carried.
 fn print_drawn<P: Read + Drop, S: Read + Drop, W: Write>(
     alloc: Global,
@@ -198,14 +247,13 @@ fn print_drawn<P: Read + Drop, S: Read + Drop, W: Write>(
     script: S,
     slots: u32,
     die: u32,
-    from: u32,
-    to: u32,
+    shown: Shown,
     out: &mut W,
 ) -> Result<(RefusedRows, Sights), Refusal>
     requires slots { slots ≤ MAX_SLOT }
 {
     let store = read_plan_from(alloc, plan)?;
-    let drawn = draw(alloc, store, script, slots, die, from, to)?;
+    let drawn = draw(alloc, store, script, slots, die, shown)?;
     write_whole(out, &drawn.text)?;
     Ok((drawn.refused, drawn.sights))
 }
@@ -299,12 +347,13 @@ fn end_run<E: Write>(err: &mut E, ran: Result<RefusedRows, Refusal>) -> u8
 /// Carries a command out, with `plan` and `script` in place of its files. Answers the status.
 ///
 /// `explain` prints what [`explain`](plan_design::explain) says of the plan, whole; the status is 0 where the plan is accepted,
-/// and 1 where it isn't. `arrivals` prints the script of what the plan's tasks ask for, as
+/// and 1 where it isn't. `fit` prints the plan that [`fit`](plan_fit::fit) finds for a datasheet, or tells why it found none
+/// (status 3). `arrivals` prints the script of what the plan's tasks ask for, as
 /// [`arrivals`](plan_arrivals::arrivals) makes it: its rows keep the plan of each die, so that a run of it refuses none and
 /// is never late. A plan without times that pass their test is told as `error 3 BadPlan`; then, and where more slots are
 /// asked for than a script may have, nothing is printed, and the status is 1. `keeps` prints whether the script keeps the
 /// plan of each die (status 0), or a condition that doesn't hold, and of which record (status 3). `wear` prints what
-/// [`wear`](watched_runs::wear) tells of the run of the script, and `draw` what [`draw`](watched_runs::draw) draws of it,
+/// [`wear`](watched_runs::wear) tells of the run of the script, `report` what [`report`](watched_runs::report) does, and `draw` what [`draw`](watched_runs::draw) draws of it,
 /// each whole; the status is 0, and where rows were refused, `err` gets a line, as `refused 1 first line 6 with 6`. `compare`
 /// prints the table of [`compare`](store_compare::compare), whole.
 ///
@@ -329,6 +378,10 @@ pub fn act<P: Read + Drop, S: Read + Drop, W: Write, E: Write>(
             Ok(false) => 1,
             Err(refusal) => end_refused(err, refusal),
         },
+        Command::Fit { .. } => {
+            let fitted = print_fit(alloc, plan, out);
+            end_fit(err, fitted)
+        }
         Command::Arrivals {
             slots,
             seed,
@@ -347,15 +400,33 @@ pub fn act<P: Read + Drop, S: Read + Drop, W: Write, E: Write>(
             let ran = print_wear(alloc, plan, script, slots, out);
             end_run(err, ran)
         }
+        Command::Report {
+            slots,
+            endurance,
+            slot_us,
+            as_csv,
+            ..
+        } => {
+            let life = Life { endurance, slot_us };
+            let ran = print_report(alloc, plan, script, slots, life, as_csv, out);
+            end_run(err, ran)
+        }
         Command::Draw {
             slots,
             die,
             from,
             to,
+            worst,
             ..
         } => {
-            let drawn = print_drawn(alloc, plan, script, slots, die, from, to, out);
-            end_drawn(err, to.min(slots).saturating_sub(from), drawn)
+            let shown = Shown { from, to, worst };
+            let drawn = print_drawn(alloc, plan, script, slots, die, shown, out);
+            let many = if worst {
+                0
+            } else {
+                to.min(slots).saturating_sub(from)
+            };
+            end_drawn(err, many, drawn)
         }
         Command::Compare {
             slots,

@@ -4,15 +4,16 @@ ghost use Rattle.std.specs.Prelude.{◌≡◌, ◌≤◌, IfOk, IfSome, Some, No
 ghost use Rattle.clap.specs.Words.{app_of, first_of, found_of, rows_of, subcommand_rows_of};
 ghost use Rattle.clap.specs.Kinds.{FailsBy, HasKind};
 ghost use Rattle.clap.specs.Faults.{fault_of};
-ghost use Rattle.flashplan.specs.Commands.{FitsRun, arrivals_of, asked, asked_by, draw_of, keeps_of, named, number_upto};
+ghost use Rattle.flashplan.specs.Commands.{FitsRun, arrivals_of, asked, asked_by, draw_of, keeps_of, fit_of, named, number_upto, report_of};
 ghost use Rattle.flashplan.specs.Commands.{compare_of, range_fault, task_of, wear_of, words_fault};
 ghost use Rattle.flashplan.specs.Syntax.{flashplan_app};
 
+use crate::number_faults::bad_number;
 use crate::syntax::program_words;
 use clap::error::ErrorKind;
 use clap::{ArgMatches, Error};
 use slot_types::MAX_SLOT;
-use std::alloc::Global;
+use std::alloc::{AllocError, Global};
 use text_base::number;
 
 /// What the words of a command line ask for. Files stand by their names.
@@ -21,6 +22,10 @@ pub enum Command<'a> {
     /// Explain a plan.
     Explain {
         plan: &'a str,
+    },
+    /// Find a plan for a datasheet.
+    Fit {
+        sheet: &'a str,
     },
     /// Write the script of a plan's arrivals.
     Arrivals {
@@ -46,6 +51,18 @@ pub enum Command<'a> {
         /// How many slots each die runs, from 0 to 1,048,576.
         slots: u32,
     },
+    /// Run a script, and tell what it came to.
+    Report {
+        plan: &'a str,
+        script: &'a str,
+        /// How many slots each die runs, from 0 to 1,048,576.
+        slots: u32,
+        /// How often a block may be erased, and how many microseconds a slot takes; 0 where it isn't said.
+        endurance: u32,
+        slot_us: u32,
+        /// Whether it is told as CSV.
+        as_csv: bool,
+    },
     /// Run a script, and draw what a die did.
     Draw {
         plan: &'a str,
@@ -58,6 +75,8 @@ pub enum Command<'a> {
         from: u32,
         /// The slot before which the picture ends.
         to: u32,
+        /// Whether the stretch of the worst is drawn.
+        worst: bool,
     },
     /// Run a script on a store and by plain layers.
     Compare {
@@ -80,12 +99,21 @@ fn value<'a>(met: &ArgMatches<'a>, id: &str) -> Option<&'a str>
 }
 
 /// The number that a text writes, if it is at most 1,048,576.
-fn number_in(text: &str) -> Option<u32>
+pub fn number_in(text: &str) -> Option<u32>
     ensures number { result ≡ number_upto text.now }
     ensures few { IfSome result (λ n. n ≤ MAX_SLOT) }
 {
     let n = number(text.as_bytes())?;
     if n <= MAX_SLOT { Some(n) } else { None }
+}
+
+/// The command `fit` that was met.
+fn fit<'a>(met: &ArgMatches<'a>) -> Option<Command<'a>>
+    ensures fit { option_map task_of result ≡ fit_of (rows_of (found_of met.now)) }
+    ensures fits { IfSome result FitsRun }
+{
+    let sheet = value(met, "DATASHEET")?;
+    Some(Command::Fit { sheet })
 }
 
 /// The command `arrivals` that was met.
@@ -135,6 +163,27 @@ fn wear<'a>(met: &ArgMatches<'a>) -> Option<Command<'a>>
     })
 }
 
+/// The command `report` that was met.
+fn report<'a>(met: &ArgMatches<'a>) -> Option<Command<'a>>
+    ensures report { option_map task_of result ≡ report_of (rows_of (found_of met.now)) }
+    ensures fits { IfSome result FitsRun }
+{
+    let plan = value(met, "PLAN")?;
+    let script = value(met, "SCRIPT")?;
+    let slots = number_in(value(met, "slots")?)?;
+    let endurance = number_in(value(met, "endurance")?)?;
+    let slot_us = number_in(value(met, "slot-us")?)?;
+    let as_csv = value(met, "csv")? == "true";
+    Some(Command::Report {
+        plan,
+        script,
+        slots,
+        endurance,
+        slot_us,
+        as_csv,
+    })
+}
+
 /// The command `draw` that was met.
 fn draw<'a>(met: &ArgMatches<'a>) -> Option<Command<'a>>
     ensures draw { option_map task_of result ≡ draw_of (rows_of (found_of met.now)) }
@@ -146,6 +195,7 @@ fn draw<'a>(met: &ArgMatches<'a>) -> Option<Command<'a>>
     let die = number_in(value(met, "die")?)?;
     let from = number_in(value(met, "from")?)?;
     let to = number_in(value(met, "to")?)?;
+    let worst = value(met, "worst")? == "true";
     Some(Command::Draw {
         plan,
         script,
@@ -153,6 +203,7 @@ fn draw<'a>(met: &ArgMatches<'a>) -> Option<Command<'a>>
         die,
         from,
         to,
+        worst,
     })
 }
 
@@ -183,12 +234,16 @@ fn command_named<'a>(name: &str, met: &ArgMatches<'a>) -> Option<Command<'a>>
     if name == "explain" {
         let plan = value(met, "PLAN")?;
         Some(Command::Explain { plan })
+    } else if name == "fit" {
+        fit(met)
     } else if name == "arrivals" {
         arrivals(met)
     } else if name == "keeps" {
         keeps(met)
     } else if name == "wear" {
         wear(met)
+    } else if name == "report" {
+        report(met)
     } else if name == "draw" {
         draw(met)
     } else if name == "compare" {
@@ -223,14 +278,27 @@ fn parsed<'a>(
     Ok(command_met(&matches))
 }
 
+/// What is told of words that name no command, or of a number that is none or too great.
+fn told_of(alloc: Global, words: &[String]) -> Result<String, AllocError> {
+    match bad_number(words) {
+        Some((option, value)) => format!(in alloc;
+            "{option} is {value:?}, and has to be a whole number from 0 to {MAX_SLOT}"
+        ),
+        None => format!(in alloc;
+            "a command is wanted: explain, fit, arrivals, keeps, wear, report, draw or compare"
+        ),
+    }
+}
+
 /// The error for words that name no command, or a number that is none or too great.
-fn command_error(mut program: clap::Command<'_>) -> Error
+fn command_error(alloc: Global, mut program: clap::Command<'_>, words: &[String]) -> Error
     ensures { HasKind (range_fault None) result }
 {
-    match program.error(
-        ErrorKind::ValueValidation,
-        "a command is wanted: explain, arrivals, keeps, wear, draw or compare; each of its numbers is a whole one from 0 to 1048576",
-    ) {
+    let told = match told_of(alloc, words) {
+        Ok(told) => told,
+        Err(error) => return Error::from(error),
+    };
+    match program.error(ErrorKind::ValueValidation, told.as_str()) {
         Ok(error) => error,
         Err(error) => Error::from(error),
     }
@@ -238,10 +306,11 @@ fn command_error(mut program: clap::Command<'_>) -> Error
 
 /// What the words ask for, the first of them being the program's name.
 ///
-/// The words are `explain PLAN`, `arrivals PLAN --slots N --seed S --fill`, where S may be left out and is then 0, and
+/// The words are `explain PLAN`, `fit DATASHEET`, `arrivals PLAN --slots N --seed S --fill`, where S may be left out and is then 0, and
 /// `--fill` too, `keeps PLAN SCRIPT --slots N`, `wear PLAN SCRIPT --slots N`,
-/// `draw PLAN SCRIPT --slots N --die D --from A --to B`, where A and B may be left out: the picture then begins with slot 0,
-/// or ends with the run; or `compare PLAN SCRIPT --slots N --from F --pool A`, where F is 0 and A is 4 if left out. A number
+/// `report PLAN SCRIPT --slots N --endurance E --slot-us U --csv`, where E and U are 0 if left out,
+/// `draw PLAN SCRIPT --slots N --die D --from A --to B --worst`, where D, A and B may be left out: the picture is then of die 0,
+/// begins with slot 0, or ends with the run; or `compare PLAN SCRIPT --slots N --from F --pool A`, where F is 0 and A is 4 if left out. A number
 /// is 1 to 10 decimal digits, and at most 1,048,576. The error is that of clap, which prints itself: a call for help, a
 /// fault of the words,
 /// or want of memory; and ValueValidation where there is no command, or a number that is none or too great.
@@ -254,7 +323,7 @@ pub fn read_words<'a>(alloc: Global, words: &'a [String]) -> Result<Command<'a>,
     let mut program = program_words(alloc)?;
     match parsed(&mut program, words) {
         Ok(Some(command)) => Ok(command),
-        Ok(None) => Err(command_error(program)),
+        Ok(None) => Err(command_error(alloc, program, words)),
         Err(error) => Err(error),
     }
 }

@@ -3,6 +3,7 @@
 
 mod acts;
 mod commands;
+mod number_faults;
 mod syntax;
 
 ghost use Rattle.flashplan.specs.Commands.{FitsRun};
@@ -16,6 +17,16 @@ use std::io;
 use std::io::Write;
 use std::process::ExitCode;
 
+/// The file of a name: `-` is standard input.
+fn file_of(name: &str) -> &str {
+    if name == "-" { "/dev/stdin" } else { name }
+}
+
+/// Whether both files of a command are standard input, which is read once.
+fn are_both_input(plan: &str, script: &str) -> bool {
+    plan == "-" && script == "-"
+}
+
 /// Carries out a command on the files that it names, which are opened before any of them is read.
 fn act_on<D: Folder, W: Write, E: Write>(
     alloc: Global,
@@ -27,16 +38,21 @@ fn act_on<D: Folder, W: Write, E: Write>(
     requires { FitsRun command }
 {
     match command {
-        Command::Explain { plan } | Command::Arrivals { plan, .. } => {
-            let plan = folder.open(plan)?;
-            Ok(act(alloc, command, plan, io::empty(), out, err))
-        }
+        Command::Explain { plan } | Command::Fit { sheet: plan } | Command::Arrivals { plan, .. } =>
+            {
+                let plan = folder.open(file_of(plan))?;
+                Ok(act(alloc, command, plan, io::empty(), out, err))
+            }
         Command::Keeps { plan, script, .. }
         | Command::Wear { plan, script, .. }
+        | Command::Report { plan, script, .. }
         | Command::Draw { plan, script, .. }
         | Command::Compare { plan, script, .. } => {
-            let plan = folder.open(plan)?;
-            let script = folder.open(script)?;
+            if are_both_input(plan, script) {
+                return Err(Refusal::ReadFault);
+            }
+            let plan = folder.open(file_of(plan))?;
+            let script = folder.open(file_of(script))?;
             Ok(act(alloc, command, plan, script, out, err))
         }
     }

@@ -4,6 +4,7 @@ ghost use Rattle.std.specs.Prelude.{◌≡◌, false, codes, IfOk};
 ghost use Rattle.clap.specs.Words.{app_of, rule_of, with_subcommand};
 ghost use Rattle.flashplan.specs.Syntax.{arrivals_app, arrivals_run_app, die_rule, draw_app, draw_files_app, draw_run_app, explain_app, fill_rule};
 ghost use Rattle.flashplan.specs.Syntax.{from_rule, flashplan_app, has_globals, keeps_app, keeps_files_app, named_app, needed, seed_rule, slots_rule};
+ghost use Rattle.flashplan.specs.Syntax.{count_rule, fit_app, flag, report_app, report_files_app, report_run_app};
 ghost use Rattle.flashplan.specs.Syntax.{compare_app, compare_files_app, pool_rule, to_rule, wear_app, wear_files_app};
 
 use clap::{Arg, ArgAction, Command};
@@ -20,6 +21,14 @@ With --fill the writing tasks share all pages, and each first writes its own onc
 What is written tells where it comes from: slot, task, page and place in the job, each in 8 digits.
 
 Example: flashplan arrivals plan.toml --slots 1000 > script.csv";
+
+/// What is found for a datasheet.
+const FIT_HELP: &str =
+    "A datasheet has read_us, program_us, erase_us, suspend_us, resume_us, blocks, pages and logical, and by
+[[task]] period_ms, reads and writes; docs/TEXTS.md says more. The plan says how long a slot is, and what is to spare.
+Ends with 3 where no plan was found, and says what stands against it.
+
+Example: flashplan fit part.toml > plan.toml";
 
 /// What a comparison prints.
 const COMPARE_HELP: &str =
@@ -39,7 +48,17 @@ fn plan_file<'a>(alloc: Global) -> Arg<'a>
 {
     Arg::new(alloc, "PLAN")
         .required(true)
-        .help("The plan of the store, a TOML file")
+        .help("The plan of the store, a TOML file; - is standard input")
+}
+
+/// The file that has the datasheet.
+fn sheet_file<'a>(alloc: Global) -> Arg<'a>
+    ensures rule { rule_of result ≡ needed (codes "DATASHEET") }
+    ensures local { result.global ≡ false }
+{
+    Arg::new(alloc, "DATASHEET").required(true).help(
+        "What a part's datasheet says, and what the tasks need, a TOML file; - is standard input",
+    )
 }
 
 /// The file that has the script.
@@ -47,9 +66,9 @@ fn script_file<'a>(alloc: Global) -> Arg<'a>
     ensures rule { rule_of result ≡ needed (codes "SCRIPT") }
     ensures local { result.global ≡ false }
 {
-    Arg::new(alloc, "SCRIPT")
-        .required(true)
-        .help("The jobs and collections that the dies get, a CSV file")
+    Arg::new(alloc, "SCRIPT").required(true).help(
+        "The jobs and collections that the dies get, a CSV file; - is standard input",
+    )
 }
 
 /// How many slots each die runs.
@@ -72,8 +91,8 @@ fn die<'a>(alloc: Global) -> Arg<'a>
     Arg::new(alloc, "die")
         .long("die")
         .value_name("D")
-        .required(true)
-        .help("Which die is drawn, from 0 (required)")
+        .default_value("0")
+        .help("Which die is drawn, from 0")
 }
 
 /// Where the picture begins.
@@ -85,7 +104,7 @@ fn first<'a>(alloc: Global) -> Arg<'a>
         .long("from")
         .value_name("A")
         .default_value("0")
-        .help("The first slot that is drawn")
+        .help("The first slot that is drawn, from 0 to 1048576")
 }
 
 /// Where the picture ends.
@@ -97,7 +116,20 @@ fn end<'a>(alloc: Global) -> Arg<'a>
         .long("to")
         .value_name("B")
         .default_value("1048576")
-        .help("The slot before which the picture ends, at most that of the run")
+        .help("The slot before which the picture ends, from 0 to 1048576")
+}
+
+/// Whether the worst is drawn.
+fn worst<'a>(alloc: Global) -> Arg<'a>
+    ensures rule { rule_of result ≡ flag (codes "worst") }
+    ensures local { result.global ≡ false }
+{
+    Arg::new(alloc, "worst")
+        .long("worst")
+        .action(ArgAction::SetTrue)
+        .help(
+            "Draw the stretch of the worst job, and ten slots before and behind it, in place of A to B",
+        )
 }
 
 /// The first slot that counts.
@@ -109,7 +141,7 @@ fn counted<'a>(alloc: Global) -> Arg<'a>
         .long("from")
         .value_name("F")
         .default_value("0")
-        .help("The first slot that counts")
+        .help("The first slot that counts, from 0 to 1048576")
 }
 
 /// How many wholly free blocks a plain layer wants.
@@ -121,7 +153,9 @@ fn pool<'a>(alloc: Global) -> Arg<'a>
         .long("pool")
         .value_name("A")
         .default_value("4")
-        .help("With fewer wholly free blocks a plain layer collects in idle slots")
+        .help(
+            "With fewer wholly free blocks a plain layer collects in idle slots, from 0 to 1048576",
+        )
 }
 
 /// What is left to chance.
@@ -158,6 +192,17 @@ fn explain_words<'a>(alloc: Global) -> Result<Command<'a>, AllocError>
         .about("Tell in sentences whether a store's plan is accepted, and what would mend it")
         .after_help("Example: flashplan explain plan.toml")
         .arg(plan_file(alloc))
+}
+
+/// The command `fit`.
+fn fit_words<'a>(alloc: Global) -> Result<Command<'a>, AllocError>
+    ensures app { IfOk result (λ c. app_of c ≡ fit_app) }
+    ensures local { IfOk result (λ c. has_globals c ≡ false) }
+{
+    Command::new(alloc, "fit")
+        .about("Find a plan for a part and its tasks, which passes its test")
+        .after_help(FIT_HELP)
+        .arg(sheet_file(alloc))
 }
 
 /// The command `arrivals`, with what it makes.
@@ -227,6 +272,75 @@ fn wear_words<'a>(alloc: Global) -> Result<Command<'a>, AllocError>
     wear_files(alloc)?.arg(slots(alloc))
 }
 
+/// Whether it is told as CSV.
+fn csv<'a>(alloc: Global) -> Arg<'a>
+    ensures rule { rule_of result ≡ flag (codes "csv") }
+    ensures local { result.global ≡ false }
+{
+    Arg::new(alloc, "csv")
+        .long("csv")
+        .action(ArgAction::SetTrue)
+        .help("Print records, and no table for eyes")
+}
+
+/// How often a block may be erased.
+fn endurance<'a>(alloc: Global) -> Arg<'a>
+    ensures rule { rule_of result ≡ count_rule (codes "endurance") }
+    ensures local { result.global ≡ false }
+{
+    Arg::new(alloc, "endurance")
+        .long("endurance")
+        .value_name("E")
+        .default_value("0")
+        .help(
+            "How often a block may be erased, from 0 to 1048576; with --slot-us, tells in how many years one wears out",
+        )
+}
+
+/// How long a slot takes.
+fn slot_us<'a>(alloc: Global) -> Arg<'a>
+    ensures rule { rule_of result ≡ count_rule (codes "slot-us") }
+    ensures local { result.global ≡ false }
+{
+    Arg::new(alloc, "slot-us")
+        .long("slot-us")
+        .value_name("U")
+        .default_value("0")
+        .help("How many microseconds a slot takes, from 0 to 1048576; 0 is unknown")
+}
+
+/// The command `report`, with its files.
+fn report_files<'a>(alloc: Global) -> Result<Command<'a>, AllocError>
+    ensures app { IfOk result (λ c. app_of c ≡ report_files_app) }
+    ensures local { IfOk result (λ c. has_globals c ≡ false) }
+{
+    Command::new(alloc, "report")
+        .about("Run a script on a store, and tell what it came to, by die and task")
+        .after_help(
+            "Example: flashplan report plan.toml script.csv --slots 1000 --endurance 3000 --slot-us 1000",
+        )
+        .arg(plan_file(alloc))?
+        .arg(script_file(alloc))
+}
+
+/// The command `report`, with what it runs.
+fn report_run<'a>(alloc: Global) -> Result<Command<'a>, AllocError>
+    ensures app { IfOk result (λ c. app_of c ≡ report_run_app) }
+    ensures local { IfOk result (λ c. has_globals c ≡ false) }
+{
+    report_files(alloc)?.arg(slots(alloc))?.arg(csv(alloc))
+}
+
+/// The command `report`.
+fn report_words<'a>(alloc: Global) -> Result<Command<'a>, AllocError>
+    ensures app { IfOk result (λ c. app_of c ≡ report_app) }
+    ensures local { IfOk result (λ c. has_globals c ≡ false) }
+{
+    report_run(alloc)?
+        .arg(endurance(alloc))?
+        .arg(slot_us(alloc))
+}
+
 /// The command `draw`, with its files.
 fn draw_files<'a>(alloc: Global) -> Result<Command<'a>, AllocError>
     ensures app { IfOk result (λ c. app_of c ≡ draw_files_app) }
@@ -254,7 +368,10 @@ fn draw_words<'a>(alloc: Global) -> Result<Command<'a>, AllocError>
     ensures app { IfOk result (λ c. app_of c ≡ draw_app) }
     ensures local { IfOk result (λ c. has_globals c ≡ false) }
 {
-    draw_run(alloc)?.arg(first(alloc))?.arg(end(alloc))
+    draw_run(alloc)?
+        .arg(first(alloc))?
+        .arg(end(alloc))?
+        .arg(worst(alloc))
 }
 
 /// The command `compare`, with its files.
@@ -288,7 +405,9 @@ fn name<'a>(alloc: Global) -> Command<'a>
         .version(VERSION)
         .about("Helps to design the plan of a real-time flash store")
         .after_help(
-            "Example: flashplan explain plan.toml\n\
+            "Ends with 0 where all went well; with 1 where a plan isn't accepted, or something was refused or failed; with 2\n\
+             for a fault of the words; with 3 where a script breaks its plan, or no plan was found.\n\n\
+             Example: flashplan explain plan.toml\n\
              docs/DESIGNING.md walks through a recorder's plan, docs/TEXTS.md has the texts",
         )
 }
@@ -306,15 +425,19 @@ pub fn program_words<'a>(alloc: Global) -> Result<Command<'a>, AllocError>
     ensures { IfOk result (λ c. app_of c ≡ flashplan_app) }
 {
     let explain = explain_words(alloc)?;
-    let wear = wear_words(alloc)?;
+    let fit = fit_words(alloc)?;
     let with_explain = with_command(name(alloc), explain)?;
     let arrivals = arrivals_words(alloc)?;
-    let with_arrivals = with_command(with_explain, arrivals)?;
+    let with_fit = with_command(with_explain, fit)?;
+    let with_arrivals = with_command(with_fit, arrivals)?;
     let keeps = keeps_words(alloc)?;
     let with_keeps = with_command(with_arrivals, keeps)?;
-    let draw = draw_words(alloc)?;
+    let wear = wear_words(alloc)?;
+    let report = report_words(alloc)?;
     let with_wear = with_command(with_keeps, wear)?;
+    let draw = draw_words(alloc)?;
+    let with_report = with_command(with_wear, report)?;
     let compare = compare_words(alloc)?;
-    let with_draw = with_command(with_wear, draw)?;
+    let with_draw = with_command(with_report, draw)?;
     with_command(with_draw, compare)
 }

@@ -4,7 +4,7 @@ use crate::texts::{PLAN, SCRIPT};
 use plan_texts::read_plan;
 use std::alloc::Global;
 use std::test::Fail;
-use watched_runs::draw;
+use watched_runs::{Shown, draw};
 
 /// The picture of the slots 19 to 25.
 const PICTURE: &str = "<title>Die 0, slots 19 to 25 of 25</title>
@@ -53,15 +53,38 @@ const PICTURE: &str = "<title>Die 0, slots 19 to 25 of 25</title>
 </svg>
 ";
 
-/// Whether this is what is drawn of the slots of a run.
-fn is_drawn(alloc: Global, from: u32, to: u32, picture: &str) -> Result<bool, Fail> {
+/// Whether this is the end of what is drawn of the slots of a run.
+fn is_drawn(alloc: Global, shown: Shown, picture: &str) -> Result<bool, Fail> {
     let plan = read_plan(alloc, PLAN.as_bytes())?;
-    let told = draw(alloc, plan, SCRIPT.as_bytes(), 25, 0, from, to)?;
+    let told = draw(alloc, plan, SCRIPT.as_bytes(), 25, 0, shown)?;
     Ok(told.text.as_slice().ends_with(picture.as_bytes()))
 }
 
 #[test]
 fn what_each_slot_carried_is_drawn(rt: HostRuntime) -> Result<(), Fail> {
-    assert!(rt; is_drawn(rt.alloc(), 19, 25, PICTURE)?);
+    let shown = Shown {
+        from: 19,
+        to: 25,
+        worst: false,
+    };
+    assert!(rt; is_drawn(rt.alloc(), shown, PICTURE)?);
+    Ok(())
+}
+
+/// The worst is the job that was carried in slots 5 and 6. Slot 0 is less than ten before them.
+#[test]
+fn the_worst_is_drawn(rt: HostRuntime) -> Result<(), Fail> {
+    let plan = read_plan(rt.alloc(), PLAN.as_bytes())?;
+    let shown = Shown {
+        from: 19,
+        to: 25,
+        worst: true,
+    };
+    let told = draw(rt.alloc(), plan, SCRIPT.as_bytes(), 25, 0, shown)?;
+    let text = String::from_utf8(told.text)?;
+    assert!(rt;
+        text.as_str()
+            .contains("<title>Die 0, slots 0 to 17 of 25</title>")
+    );
     Ok(())
 }

@@ -8,6 +8,8 @@ mod drawing;
 #[cfg(test)]
 mod keeping;
 #[cfg(test)]
+mod reporting;
+#[cfg(test)]
 mod texts;
 #[cfg(test)]
 mod wearing;

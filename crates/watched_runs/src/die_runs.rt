@@ -11,8 +11,9 @@ ghost use Rattle.die_wear.specs.Wear.{IsWearOf};
 use die_pictures::{Waiver, Whose, Window};
 use die_wear::Tally;
 use flash_die::MemoryNand;
-use slot_core::DieCore;
-use slot_types::{DiePlan, Event, JobNo, Refusal, SlotReply};
+use run_figures::DieCounts;
+use slot_core::{DieCore, Stage};
+use slot_types::{DiePlan, Event, JobNo, Op, Refusal, SlotReply};
 use std::alloc::Global;
 
 /// A die in memory, what its slots wore, and what was done in a window of them.
@@ -23,6 +24,7 @@ pub struct DieRun {
     /// In a box, since a die is large to move.
     pub core: Box<DieCore<MemoryNand>>,
     pub tally: Tally,
+    pub counts: DieCounts,
     pub window: Window,
     ghost worn: { IsWearOf (box_value core).start.plan.shape.blocks (box_value core).log tally },
 }
@@ -63,6 +65,49 @@ fn note(window: &mut Window, core: &DieCore<MemoryNand>, reply: &SlotReply) -> R
     }
 }
 
+/// Counts what was done in a slot.
+fn count(counts: &mut DieCounts, core: &DieCore<MemoryNand>, reply: &SlotReply) {
+    for waived in reply.waived.as_slice() {
+        let task = whose(core, waived.number).task;
+        counts.note_waived(task, waived.given, reply.slot);
+    }
+    let Some((job, act)) = &reply.ran else {
+        counts.note_idle();
+        return;
+    };
+    let task = whose(core, *job).task;
+    counts.note_act(task, act);
+    if let Some(given) = given_by(core, reply.finished) {
+        counts.note_collected(task, given);
+    }
+}
+
+/// The pages that a done collection gave its task; none of a job.
+fn given_by(core: &DieCore<MemoryNand>, finished: Option<JobNo>) -> Option<u32> {
+    let record = core.job_record(finished?)?;
+    match record.stage() {
+        Stage::Done { given, .. } if record.collects() => Some(given),
+        _ => None,
+    }
+}
+
+/// The task that a row asks for, how many pages it writes, and whether it collects.
+fn asked_of(event: &Event) -> (u32, u32, bool) {
+    match event {
+        Event::Submit { task, ops, .. } => {
+            let mut writes: u32 = 0;
+            for op in ops.as_slice() {
+                if let Op::Write(..) = op {
+                    writes = writes.saturating_add(1);
+                }
+            }
+            (task.0, writes, false)
+        }
+        Event::Collect { task, .. } => (task.0, 0, true),
+        Event::Slot => (0, 0, false),
+    }
+}
+
 impl DieRun {
     /// A fresh die of a plan, of which a window is looked at. The only refusal is NoMemory.
     pub fn new(alloc: Global, die: u32, plan: DiePlan, window: Window) -> Result<DieRun, Refusal>
@@ -73,6 +118,7 @@ impl DieRun {
         ensures refused { FailsForMemory result }
     {
         let tally = Tally::new(alloc, plan.shape.blocks)?;
+        let counts = DieCounts::new(alloc, &plan)?;
         let nand = match MemoryNand::new(alloc, plan.shape) {
             Ok(nand) => nand,
             Err(_) => return Err(Refusal::NoMemory),
@@ -82,6 +128,7 @@ impl DieRun {
                 die,
                 core,
                 tally,
+                counts,
                 window,
             }),
             Err(_) => Err(Refusal::NoMemory),
@@ -115,6 +162,7 @@ impl DieRun {
         // So many slots fit a number.
         let _ = self.core.now();
         self.tally.note(&reply);
+        count(&mut self.counts, &self.core, &reply);
         note(&mut self.window, &self.core, &reply)
     }
 
@@ -136,6 +184,7 @@ impl DieRun {
         ensures die { self.new.die ≡ self.old.die }
         ensures slot { now (box_value self.new.core).log ≡ now (box_value self.old.core).log }
     {
+        let (asked, writes, collects) = asked_of(&event);
         let taken = match event {
             Event::Submit {
                 task,
@@ -149,6 +198,15 @@ impl DieRun {
             // No row asks for a slot.
             Event::Slot => return None,
         };
-        taken.err()
+        match taken {
+            Ok(_) => {
+                self.counts.note_job(asked, writes, self.core.now());
+                None
+            }
+            Err(refusal) => {
+                self.counts.note_refused(asked, collects);
+                Some(refusal)
+            }
+        }
     }
 }

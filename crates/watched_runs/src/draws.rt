@@ -111,15 +111,64 @@ fn picture_of(alloc: Global, run: &DieRun) -> Result<Vec<u8>, Refusal>
     picture(alloc, &scene)
 }
 
-/// Runs a script on a die of a store, and draws what its slots carried.
+/// Which slots are drawn.
+#[derive(Clone, Copy, Drop)]
+pub struct Shown {
+    /// The first one, and the one before which the picture ends.
+    pub from: u32,
+    pub to: u32,
+    /// Whether the stretch of the worst is drawn in their place, where something in the run is done.
+    pub worst: bool,
+}
+
+/// So many slots are drawn before the stretch of the worst, and behind it.
+const MARGIN: u32 = 10;
+
+/// A part of a window. The only refusal is NoMemory.
+fn part_of(alloc: Global, window: &Window, from: u32, to: u32) -> Result<Window, Refusal>
+    ensures { FailsForMemory result }
+{
+    let mut part = Window::new(alloc, from, to);
+    for carried in &window.carried {
+        if part.has(carried.slot) {
+            match part.carried.push(*carried) {
+                Ok(()) => {}
+                Err(_) => return Err(Refusal::NoMemory),
+            }
+        }
+    }
+    for waiver in &window.waived {
+        if part.has(waiver.slot) {
+            match part.waived.push(*waiver) {
+                Ok(()) => {}
+                Err(_) => return Err(Refusal::NoMemory),
+            }
+        }
+    }
+    Ok(part)
+}
+
+/// Leaves of a window the stretch of the worst, with a margin. The only refusal is NoMemory.
+fn keep_worst(alloc: Global, run: &mut DieRun) -> Result<(), Refusal>
+    ensures { FailsForMemory result }
+{
+    let Some(worst) = worst_of(alloc, &run.core)? else {
+        return Ok(());
+    };
+    let from = worst.start.saturating_sub(MARGIN);
+    let to = worst.completion.saturating_add(MARGIN).min(run.core.now());
+    run.window = part_of(alloc, &run.window, from.min(to), to)?;
+    Ok(())
+}
+
+/// Runs a script on a die of a store, and draws what its slots carried: those that are asked for, or the stretch of the worst.
 pub fn draw<R: Read + Drop>(
     alloc: Global,
     plan: StorePlan,
     script: R,
     slots: u32,
     die: u32,
-    from: u32,
-    to: u32,
+    shown: Shown,
 ) -> Result<Told, Refusal>
     requires few { slots ≤ MAX_SLOT }
     requires bound { All MeetsBound plan }
@@ -128,7 +177,11 @@ pub fn draw<R: Read + Drop>(
     if die as usize >= plan.len() {
         return Err(Refusal::UnknownDie);
     }
-    let to = to.min(slots);
+    let (from, to) = if shown.worst {
+        (0, slots)
+    } else {
+        (shown.from.min(slots), shown.to.min(slots))
+    };
     let window = Window::new(alloc, from.min(to), to);
     let mut plans = plan.into_vec();
     let run = DieRun::boxed(alloc, die, plans.swap_remove(die as usize), window)?;
@@ -138,12 +191,18 @@ pub fn draw<R: Read + Drop>(
         Err(_) => return Err(Refusal::NoMemory),
     }
     let refused = run_rows(alloc, script, &mut dies, slots)?;
-    match dies.first() {
-        Some(run) => Ok(Told {
-            text: picture_of(alloc, run)?,
-            refused,
-            sights: sights_of(alloc, run)?,
-        }),
+    match dies.first_mut() {
+        Some(run) => {
+            let sights = sights_of(alloc, run)?;
+            if shown.worst {
+                keep_worst(alloc, run)?;
+            }
+            Ok(Told {
+                text: picture_of(alloc, run)?,
+                refused,
+                sights,
+            })
+        }
         None => Ok(Told {
             text: Vec::new(alloc),
             refused,

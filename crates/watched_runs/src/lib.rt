@@ -4,8 +4,10 @@
 mod die_runs;
 mod draws;
 mod refused;
+mod reports;
 mod script_runs;
 
-pub use draws::draw;
+pub use draws::{Shown, draw};
 pub use refused::RefusedRows;
+pub use reports::report;
 pub use script_runs::{Sights, Told, wear};

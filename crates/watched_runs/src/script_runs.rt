@@ -38,7 +38,7 @@ impl Sights {
 }
 
 /// A fresh die for each plan.
-fn fresh_dies(alloc: Global, plan: StorePlan) -> Result<Vec<Box<DieRun>>, Refusal>
+pub fn fresh_dies(alloc: Global, plan: StorePlan) -> Result<Vec<Box<DieRun>>, Refusal>
     requires { All MeetsBound plan }
 {
     let mut dies = Vec::new(alloc);
