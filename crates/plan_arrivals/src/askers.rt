@@ -64,6 +64,7 @@ fn asker_of(
         share,
         to_fill: if fills && writes { share.count() } else { 0 },
         trims: writes && !fills,
+        next: 0,
     }
 }
 

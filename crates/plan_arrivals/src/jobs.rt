@@ -20,6 +20,8 @@ pub struct Asker {
     pub to_fill: u32,
     /// Whether it trims pages.
     pub trims: bool,
+    /// The slot of its next job.
+    pub next: u32,
 }
 
 impl Asker {

@@ -116,8 +116,14 @@ fn goes_as_planned<R: Threads + Wait + Sync>(
         Err(Refusal::BadPlan) => return Ok(None),
         Err(refusal) => return Err(Fail::from(refusal)),
     };
-    let fills = seed % 2 == 1;
-    let script = arrivals(alloc, &plan, SLOTS, Manner { seed, fills })?;
+    let manner = Manner {
+        seed,
+        fills: seed % 2 == 1,
+        phases: seed % 3 == 1,
+        jitter: seed % 5,
+        load: if seed % 4 == 0 { 60 } else { 100 },
+    };
+    let script = arrivals(alloc, &plan, SLOTS, manner)?;
     let mut text = Vec::new(alloc);
     let count = run_text(rt, alloc, &plan, script.as_slice(), &mut text, SLOTS, 2)?;
     let report = read_report(alloc, text.as_slice())?;
@@ -152,6 +158,9 @@ fn arrivals_of_ten_plans_are_taken_and_never_late(rt: HostRuntime) -> Result<(),
 const PLAIN: Manner = Manner {
     seed: 0,
     fills: false,
+    phases: false,
+    jitter: 0,
+    load: 100,
 };
 
 /// What comes of a plan with a change, for so many slots.
@@ -179,6 +188,40 @@ fn a_plan_without_times_and_too_many_slots_have_no_script(rt: HostRuntime) -> Re
     });
     assert_eq!(rt; made(alloc, "", "", 436_901)?, too_many);
     assert!(rt; made(alloc, "", "", 436_900)?.is_ok());
+    Ok(())
+}
+
+/// The slots in which the jobs of the first task come.
+fn slots_of(alloc: Global, manner: Manner) -> Result<Vec<u32>, Fail> {
+    let plan = read_plan(alloc, WRITERS.as_bytes())?;
+    let script = arrivals(alloc, &plan, 400, manner)?;
+    let mut slots = Vec::new(alloc);
+    for line in std::str::from_utf8(&script).unwrap_or("").lines() {
+        let mut fields = line.split(',');
+        let at = fields.next().unwrap_or("");
+        if fields.next() == Some("0") && fields.next() == Some("0") && fields.next() == Some("job") {
+            slots.push(at.parse::<u32>().unwrap_or(u32::MAX))?;
+        }
+    }
+    Ok(slots)
+}
+
+/// Its period is 20: of jobs that may come up to seven slots later each comes at least 20 after the one before, and at most 27.
+/// With half of the load some are left out.
+#[test]
+fn jobs_come_late_or_are_left_out(rt: HostRuntime) -> Result<(), Fail> {
+    let late = slots_of(rt.alloc(), Manner { jitter: 7, phases: true, ..PLAIN })?;
+    assert!(rt; late.len() >= 13);
+    for pair in late.as_slice().windows(2) {
+        let [first, second] = pair else { continue };
+        let apart = second.saturating_sub(*first);
+        assert!(rt; 20 <= apart && apart <= 27);
+    }
+    let part = slots_of(rt.alloc(), Manner { load: 50, ..PLAIN })?;
+    assert!(rt; 2 <= part.len() && part.len() <= 18);
+    for slot in part.as_slice() {
+        assert_eq!(rt; *slot % 20, 0);
+    }
     Ok(())
 }
 
@@ -227,8 +270,8 @@ fn a_die_is_filled_in_order_and_never_trimmed(rt: HostRuntime) -> Result<(), Fai
     let alloc = rt.alloc();
     let plan = read_plan(alloc, WRITERS.as_bytes())?;
     let fills = Manner {
-        seed: 0,
         fills: true,
+        ..PLAIN
     };
     let script = arrivals(alloc, &plan, 400, fills)?;
     let text = std::str::from_utf8(&script).unwrap_or("");

@@ -183,11 +183,7 @@ fn count_told(alloc: Global, plan: &StorePlan, script: &[u8]) -> Result<(u32, u3
 fn a_reason_is_found_for_each_script_that_breaks_its_plan(rt: HostRuntime) -> Result<(), Fail> {
     let alloc = rt.alloc();
     let plan = read_plan(alloc, TIMED.as_bytes())?;
-    let manner = Manner {
-        seed: 0,
-        fills: false,
-    };
-    let script = arrivals(alloc, &plan, 200, manner)?;
+    let script = arrivals(alloc, &plan, 200, Manner::all(0))?;
     let (kept, told) = count_told(alloc, &plan, &script)?;
     assert!(rt; kept > 20);
     assert!(rt; told > 20);
