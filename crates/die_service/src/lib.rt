@@ -43,6 +43,6 @@ pub use feeds::{Arrival, Feed, FeedItem};
 pub use gate::{FreeGate, Gate};
 pub use promised::{planned_feeds_go_as_planned, promises, seen_keeps_promises};
 pub use refused::RefusedAt;
-pub use renewing::renew_each;
+pub use renewing::{NotRenewed, renew_each};
 pub use runs::{run_batches, run_slots};
 pub use store::{StillClosed, Store};

@@ -45,6 +45,7 @@ pub(crate) fn play_both<N: Nand, R: Wait + Abort + Env>(
     second: &[Step],
 ) -> Result<(), Refusal>
     requires { map (λ pass. pass.lock) passes.old ≡ store.now }
+    ensures { map (λ pass. pass.lock) passes.new ≡ store.now }
 {
     match passes {
         [zero, one] => {

@@ -57,6 +57,8 @@ mod renewals;
 #[cfg(test)]
 mod reserved;
 #[cfg(test)]
+mod resumed;
+#[cfg(test)]
 mod slotted;
 #[cfg(test)]
 mod steps;

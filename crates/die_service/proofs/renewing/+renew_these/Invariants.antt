@@ -1,5 +1,5 @@
 use Rattle.std.proofs.Common.{length}
-use Rattle.die_service.proofs.renewing.+renew_each.Given as goal
+use Rattle.die_service.proofs.renewing.+renew_these.Given as goal
 
-abbrev pub decreases-renew_each : goal.decreases-renew_each
-decreases-renew_each g l = length l.dies.now
+abbrev pub decreases-renew_these : goal.decreases-renew_these
+decreases-renew_these g l = length l.dies.now
