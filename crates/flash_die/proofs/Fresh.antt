@@ -23,7 +23,7 @@ blocks_fresh shape cells =
     let F : ℕ → Block = λ n. block_with shape.pages cells k n n n in
     get_or-replicate shape.blocks k free_block free_block below ∙ ap F (sym (get_or-replicate shape.blocks k 0 0 below))))
 
-zero_at : (counts : List ℕ) (n i : ℕ) → counts ≡ replicate n 0 → get_or counts i 0 ≡ 0
+pub zero_at : (counts : List ℕ) (n i : ℕ) → counts ≡ replicate n 0 → get_or counts i 0 ≡ 0
 zero_at counts n i are =
     ap (λ (l : List ℕ). get_or l i 0) are ∙ elim (cases_lt i n) [
       | inl below ↦ get_or-replicate n i 0 0 below

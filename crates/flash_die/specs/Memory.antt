@@ -14,6 +14,21 @@ pub record Memory : Type 0 where
 abbrev pub fresh_memory : Shape → Memory
 fresh_memory shape = record { shape = shape; blocks = fresh_blocks shape }
 
+-- a block of which so many pages are programmed and blank, that was erased so often
+abbrev pub left_block : List ℕ → List ℕ → ℕ → Block
+left_block filled erases block = record {
+  pages = replicate (slice_index filled block) blank;
+  erasing = 0;
+  erases = slice_index erases block;
+}
+
+-- a device that was left so, by block
+abbrev pub left_memory : Shape → List ℕ → List ℕ → Memory
+left_memory shape filled erases = record {
+  shape = shape;
+  blocks = map (left_block filled erases) (range_with_len 0 (length filled));
+}
+
 -- a block, cut out of the list of cells
 abbrev pub block_of : ℕ → List PageData → List ℕ → List ℕ → List ℕ → ℕ → Block
 block_of pages cells filled erasing erases block = record {

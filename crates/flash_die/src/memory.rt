@@ -1,10 +1,10 @@
 //! A device in memory.
 
-ghost use Rattle.std.specs.Prelude.{◌≡◌, ◌≤◌, ◌+◌, ◌==◌, ◌↔◌, IfOk, slice_index_or, vec_capacity};
+ghost use Rattle.std.specs.Prelude.{◌≡◌, ◌≤◌, ◌+◌, ◌==◌, ◌↔◌, ℕ, IfOk, length, slice_index, slice_index_or, vec_capacity};
 ghost use Rattle.slot_types.specs.Refusal.{FailsForMemory};
 ghost use Rattle.slot_types.specs.Shapes.{IsShape};
 ghost use Rattle.flash_die.specs.Flash.{blank, block_at, cell_at};
-ghost use Rattle.flash_die.specs.Memory.{fresh_memory, laid};
+ghost use Rattle.flash_die.specs.Memory.{fresh_memory, laid, left_memory};
 
 use crate::nand::Nand;
 use slot_types::{PageData, Place, Refusal, Shape};
@@ -60,6 +60,35 @@ impl MemoryNand {
             filled: vec![in alloc; 0; blocks]?,
             erasing: vec![in alloc; 0; blocks]?,
             erases: vec![in alloc; 0; blocks]?,
+        })
+    }
+
+    /// A device on which so many pages of each block are programmed, all of them blank, each block was erased so often, and
+    /// none is in erase. Refused as [`new`](MemoryNand::new) refuses the shape.
+    pub fn left(
+        alloc: Global,
+        shape: Shape,
+        filled: &[u32],
+        erases: &[u32],
+    ) -> Result<Self, Refusal>
+        requires filled_blocks { length filled.now ≡ shape.blocks }
+        requires erased_blocks { length erases.now ≡ shape.blocks }
+        requires within { (block : ℕ) → slice_index filled.now block ≤ shape.pages }
+        ensures left { IfOk result (λ device. device ≡ left_memory shape filled.now erases.now) }
+        ensures bad_shape { (result ≡ Err Refusal.BadShape) ↔ ¬ IsShape shape }
+        ensures no_memory { IsShape shape → FailsForMemory result }
+    {
+        if !shape.is_within_limits() {
+            return Err(Refusal::BadShape);
+        }
+        let blocks = shape.blocks as usize;
+        let pages = shape.pages as usize;
+        Ok(MemoryNand {
+            shape,
+            cells: Vec::with_capacity(alloc, blocks * pages)?,
+            filled: Vec::from_slice(alloc, filled)?,
+            erasing: vec![in alloc; 0; blocks]?,
+            erases: Vec::from_slice(alloc, erases)?,
         })
     }
 
