@@ -6,6 +6,7 @@ mod blocks;
 pub mod checkpoint;
 pub mod fault;
 mod fits;
+pub mod laws;
 mod pages;
 
 pub use checkpoint::{BlockCounts, Checkpoint};

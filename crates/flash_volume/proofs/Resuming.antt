@@ -70,23 +70,23 @@ few_valid plan c b fits = few_in c.places b (counts_at c.blocks b).filled fits.a
     (λ page place lies here. subst (λ (k : ℕ). place.page < (counts_at c.blocks k).filled) here (fits.all_else.placed page place lies))
 
 pub stands_resumed : (plan : DiePlan) (c : Checkpoint) (shape : Shape) (blocks : List Block) (failures : ℕ) (fills erases : List ℕ)
-    (writing : Option ℕ) (candidates : Candidates) → Fits plan c → IsAsLeft plan c shape blocks failures
+    (writing : Option ℕ) (candidates : Candidates) → Fits plan c → shape ≡ plan.shape → IsAsLeft c blocks failures
     → fills ≡ map (λ (b : BlockCounts). b.filled) c.blocks → erases ≡ map (λ (b : BlockCounts). b.erases) c.blocks
     → writing ≡ position (is_open_with plan.shape.pages) fills
     → AreClosedBelow plan.shape.pages c.blocks c.places candidates plan.shape.blocks
     → Stands shape failures blocks (record { shape = plan.shape; places = c.places }) fills erases writing candidates
-stands_resumed plan c shape blocks failures fills erases writing candidates fits left fills_are erases_are writing_is closed =
+stands_resumed plan c shape blocks failures fills erases writing candidates fits same left fills_are erases_are writing_is closed =
     let all = fits.all_else.blocks in
     let said : (b : ℕ) → counts_at c.blocks b ≡ counts_of (block_at blocks b) = λ b. counts_are blocks c.blocks b left.counts in
     let filled_said : (b : ℕ) → (counts_at c.blocks b).filled ≡ filled_of (block_at blocks b) = λ b.
     ap (λ (x : BlockCounts). x.filled) (said b) in
     let fill : (b : ℕ) → get_or fills b 0 ≡ (counts_at c.blocks b).filled = λ b. ap (λ (l : List ℕ). get_or l b 0) fills_are
     ∙ fill_at c.blocks b in
-    let pages_are : shape.pages ≡ plan.shape.pages = ap (λ (s : Shape). s.pages) left.shape_is in
-    let blocks_are : shape.blocks ≡ plan.shape.blocks = ap (λ (s : Shape). s.blocks) left.shape_is in
+    let pages_are : shape.pages ≡ plan.shape.pages = ap (λ (s : Shape). s.pages) same in
+    let blocks_are : shape.blocks ≡ plan.shape.blocks = ap (λ (s : Shape). s.blocks) same in
     record {
-      limits = subst IsShape (sym left.shape_is) all.plan_is.bound.shape;
-      map_shape = sym left.shape_is;
+      limits = subst IsShape (sym same) all.plan_is.bound.shape;
+      map_shape = sym same;
       well = left.well;
       count = sym (length-map blocks counts_of) ∙ ap length left.counts ∙ all.plan_is.shape.blocks ∙ sym blocks_are;
       fills_are = fills_are ∙ ap (map (λ (b : BlockCounts). b.filled)) (sym left.counts) ∙ fills_said blocks;
@@ -126,21 +126,21 @@ total_said plan c = omega (
 )
 
 pub sound_resumed : (plan : DiePlan) (c : Checkpoint) (shape : Shape) (blocks : List Block) (failures : ℕ) (placing : Placing) (fills erases : List ℕ)
-    (writing : Option ℕ) (candidates : Candidates) → Fits plan c → IsAsLeft plan c shape blocks failures
+    (writing : Option ℕ) (candidates : Candidates) → Fits plan c → shape ≡ plan.shape → IsAsLeft c blocks failures
     → placing ≡ record { shape = plan.shape; places = c.places }
     → Stands shape failures blocks placing fills erases writing candidates
     → AreClosedBelow plan.shape.pages c.blocks c.places candidates plan.shape.blocks
     → IsSound (quiet_accounts plan c.spare c.balances) shape failures blocks placing candidates (replicate (length plan.caps) None)
-sound_resumed plan c shape blocks failures placing fills erases writing candidates fits left placing_is stands closed =
+sound_resumed plan c shape blocks failures placing fills erases writing candidates fits same left placing_is stands closed =
     let all = fits.all_else.blocks in
-    let pages_are : shape.pages ≡ plan.shape.pages = ap (λ (s : Shape). s.pages) left.shape_is in
+    let pages_are : shape.pages ≡ plan.shape.pages = ap (λ (s : Shape). s.pages) same in
     let none : (task : ℕ) → running_of (replicate (length plan.caps) None) task ≡ None = none_running (length plan.caps) in
     let nobody : (task : ℕ) (d : Collection) → running_of (replicate (length plan.caps) None) task ≡ Some d
     → ⊥ = λ task d is. let nothing : running_of (replicate (length plan.caps) None) task ≡ None = none task in cc in
     record {
       stands = seen stands;
       bound = all.plan_is.bound;
-      shape_is = left.shape_is;
+      shape_is = same;
       map_len = ap (λ (p : Placing). length p.places) placing_is ∙ all.plan_is.shape.pages;
       total = ap (λ (n : ℕ). free_cells n blocks) pages_are ∙ sym (free_said plan.shape.pages blocks)
           ∙ ap (sum_by (free_in plan.shape.pages)) left.counts ∙ sym fits.all_else.sums ∙ sym (total_said plan c);

@@ -18,12 +18,15 @@ use Rattle.flash_volume.specs.State.{State}
 abbrev pub counts_of : Block → BlockCounts
 counts_of block = record { filled = filled_of block; erases = block.erases }
 
--- A device is as a checkpoint says: it is of the plan's shape, so many pages of each block are programmed and it was erased so often, no
--- block is in erase, and no call has failed. What its pages hold may be anything.
-pub record IsAsLeft (plan : DiePlan) (c : Checkpoint) (shape : Shape) (blocks : List Block) (failures : ℕ) : Type 0 where
-  pub shape_is : shape ≡ plan.shape
+-- no block is in erase
+abbrev pub IsIdle : List Block → Type 0
+IsIdle blocks = (block : ℕ) → (block_at blocks block).erasing ≡ 0
+
+-- A device is as a checkpoint says: so many pages of each block are programmed and it was erased so often, no block is in erase, and no
+-- call has failed. What its pages hold may be anything.
+pub record IsAsLeft (c : Checkpoint) (blocks : List Block) (failures : ℕ) : Type 0 where
   pub counts : map counts_of blocks ≡ c.blocks
-  pub idle : (block : ℕ) → (block_at blocks block).erasing ≡ 0
+  pub idle : IsIdle blocks
   pub well : failures ≡ 0
 
 -- Each page lies where the checkpoint has it and holds what its cell holds; one that lies nowhere is blank. The accounts are those of a

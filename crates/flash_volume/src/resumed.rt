@@ -5,7 +5,8 @@ ghost use Rattle.slot_types.specs.Refusal.{FailsForMemory};
 ghost use Rattle.die_checkpoint.specs.Fits.{Fits};
 ghost use Rattle.die_checkpoint.specs.Counts.{counts_at};
 ghost use Rattle.flash_volume.specs.Array.{Stands};
-ghost use Rattle.flash_volume.specs.Resumed.{IsAsLeft, resumed_volume, checkpoint_of, counts_of};
+ghost use Rattle.flash_volume.specs.Cells.{contents};
+ghost use Rattle.flash_volume.specs.Resumed.{IsIdle, IsAsLeft, resumed_volume, checkpoint_of, counts_of};
 
 use crate::array::PageArray;
 use crate::tables::Tables;
@@ -20,8 +21,8 @@ impl<N: Nand> Volume<N> {
     /// A volume that goes on from a checkpoint, over the device that it was taken of. It calls no device, and looks at each
     /// block, page and cell once.
     ///
-    /// The checkpoint fits the plan, and the device is as it says; this is trusted, since a device can't be asked. The
-    /// device is handed back where memory is refused, the only cause; the plan is given up then.
+    /// The checkpoint fits the plan, and the device is of the plan's shape and as the checkpoint says; the last is trusted,
+    /// since a device can't be asked. The device is handed back where memory is refused, the only cause; the plan is given up then.
     pub fn resume(
         alloc: Global,
         plan: DiePlan,
@@ -29,7 +30,8 @@ impl<N: Nand> Volume<N> {
         checkpoint: &Checkpoint,
     ) -> Result<Self, N>
         requires fits { Fits plan checkpoint.now }
-        requires left { IsAsLeft plan checkpoint.now (N.shape_of device) (N.blocks device) (N.failures device) }
+        requires shape { N.shape_of device ≡ plan.shape }
+        requires left { IsAsLeft checkpoint.now (N.blocks device) (N.failures device) }
         ensures ok { IfOk result (λ volume. volume ≡ resumed_volume N.blocks plan checkpoint.now device) }
         ensures err { IfErr result (λ returned. returned ≡ device) }
     {
@@ -58,10 +60,14 @@ impl<N: Nand> Volume<N> {
     }
 
     /// What stands: where each page lies, of each block its programmed pages and its erases, the spare pages and the
-    /// balances. It doesn't have what jobs hold, nor what collections do. Refused with `NoMemory` alone.
+    /// balances. It doesn't have what jobs hold, nor what collections do. Where no block is in erase, the device is as it
+    /// says. Refused with `NoMemory` alone.
     pub fn checkpoint(&self, alloc: Global) -> Result<Checkpoint, Refusal>
         requires alive { self.now.failed ≡ false }
         ensures ok { IfOk result (λ checkpoint. checkpoint ≡ checkpoint_of N.blocks self.now) }
+        ensures left { IfOk result (λ checkpoint. IsIdle (N.blocks self.now.device) →
+            IsAsLeft checkpoint (N.blocks self.now.device) (N.failures self.now.device)) }
+        ensures pages { self.now.pages ≡ contents (N.blocks self.now.device) self.now.places }
         ensures err { FailsForMemory result }
     {
         let places = self.array.map.to_places(alloc)?;

@@ -11,6 +11,8 @@ pub mod Waiving
 pub mod Reserving
 pub mod Nexts
 pub mod Renewing
+pub mod Resuming
+pub mod Refusing
 pub mod Keeping
 pub mod Telling
 pub mod Serving

@@ -5,6 +5,7 @@ pub mod Kept
 pub mod Told
 pub mod Reserved
 pub mod Renewals
+pub mod Resumed
 pub mod Slotted
 pub mod Acting
 pub mod Calls

@@ -3,7 +3,7 @@
 ghost use Rattle.std.specs.Prelude.{◌≡◌, ◌≤◌, ◌⊎◌, false, OnOk, OnErr, IfErr, IfSome, IfNone};
 ghost use Rattle.job_table.specs.Order.{IsHead, IsNextReleased, NothingReady, NothingWaiting};
 ghost use Rattle.die_log.specs.Start.{Start};
-ghost use Rattle.die_log.specs.Opening.{IsQuiet, CanBeErased, renewed};
+ghost use Rattle.die_log.specs.Opening.{IsQuiet};
 ghost use Rattle.slot_core.specs.Renewals.{IsNext, MayBeRenewed, RefusesRenewal, renewed_core};
 
 use crate::die_core::DieCore;
@@ -69,6 +69,17 @@ impl<N: Nand> DieCore<N> {
         ensures refused { IfErr result (RefusesRenewal self.old) }
         ensures unchanged { OnErr result (self.new ≡ self.old) }
     {
+        self.may_renew()?;
+        self.start_anew();
+        Ok(())
+    }
+
+    /// Why the die isn't renewed, if it isn't.
+    pub(crate) fn may_renew(&mut self) -> Result<(), RenewalRefusal>
+        ensures may { OnOk result (MayBeRenewed self.old) }
+        ensures refused { IfErr result (RefusesRenewal self.old) }
+        ensures unchanged { self.new ≡ self.old }
+    {
         if self.is_stopped() {
             return Err(RenewalRefusal::DieStopped);
         }
@@ -78,7 +89,6 @@ impl<N: Nand> DieCore<N> {
         if let Some(block) = self.volume.first_worn(MOST_ERASES) {
             return Err(RenewalRefusal::WornOut { block });
         }
-        self.start_anew();
         Ok(())
     }
 
@@ -94,9 +104,7 @@ impl<N: Nand> DieCore<N> {
 
     /// Clears the table and the log.
     fn start_anew(&mut self)
-        requires runs { self.old.stopped ≡ false }
-        requires quiet { IsQuiet self.old.start self.old.log }
-        requires unworn { CanBeErased (renewed self.old.start self.old.log) }
+        requires may { MayBeRenewed self.old }
         ensures { self.new ≡ renewed_core self.old }
     {
         let start = start_of(&self.volume, &self.table, &self.events, &self.start);

@@ -11,7 +11,7 @@ over-requires g c =
     rw t.map_is (
     stands_resumed c.args.plan c.args.checkpoint.now (g.N.Nand.shape_of c.args.device) (g.N.Nand.blocks c.args.device)
     (g.N.Nand.failures c.args.device) c.in-Ok.tables.fills.items c.in-Ok.tables.erases.items c.in-Ok.tables.writing c.in-Ok.tables.victims
-    c.requires.fits c.requires.left t.fills_are t.erases_are t.writing_is t.victims_are
+    c.requires.fits c.requires.shape c.requires.left t.fills_are t.erases_are t.writing_is t.victims_are
     )
 
 pub invariant_of-result : goal.invariant_of-result
@@ -27,10 +27,10 @@ invariant_of-result g c = λ _.
     ) (
     sound_resumed c.args.plan c.args.checkpoint.now (g.N.Nand.shape_of c.args.device) (g.N.Nand.blocks c.args.device)
     (g.N.Nand.failures c.args.device) _ c.in-Ok.tables.fills.items c.in-Ok.tables.erases.items c.in-Ok.tables.writing
-    c.in-Ok.tables.victims c.requires.fits c.requires.left refl
+    c.in-Ok.tables.victims c.requires.fits c.requires.shape c.requires.left refl
     (stands_resumed c.args.plan c.args.checkpoint.now (g.N.Nand.shape_of c.args.device) (g.N.Nand.blocks c.args.device)
     (g.N.Nand.failures c.args.device) c.in-Ok.tables.fills.items c.in-Ok.tables.erases.items c.in-Ok.tables.writing
-    c.in-Ok.tables.victims c.requires.fits c.requires.left t.fills_are t.erases_are t.writing_is t.victims_are) t.victims_are
+    c.in-Ok.tables.victims c.requires.fits c.requires.shape c.requires.left t.fills_are t.erases_are t.writing_is t.victims_are) t.victims_are
     )
 
 pub returns-clause-ok : goal.returns-clause-ok

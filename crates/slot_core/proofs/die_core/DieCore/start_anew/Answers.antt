@@ -15,9 +15,9 @@ invariant_of-self g c =
         kept = renewed_kept g.N.Nand.blocks f.start c.start_of-start.result (log_of f.table f.events.notes)
             (log_of c.clear.new.self c.clear-2.new.self.notes) _ f.table c.clear.new.self f.volume
             c.self.invariant.0.kept
-            (subst (λ (d : Core g.row.N.Denot). d.stopped ≡ false) (sym c.self.view_is) c.requires.runs)
-            (subst (λ (d : Core g.row.N.Denot). IsQuiet d.start d.log) (sym c.self.view_is) c.requires.quiet)
-            (subst (λ (d : Core g.row.N.Denot). CanBeErased (renewed d.start d.log)) (sym c.self.view_is) c.requires.unworn)
+            (subst (λ (d : Core g.row.N.Denot). d.stopped ≡ false) (sym c.self.view_is) c.requires.may.runs)
+            (subst (λ (d : Core g.row.N.Denot). IsQuiet d.start d.log) (sym c.self.view_is) c.requires.may.quiet)
+            (subst (λ (d : Core g.row.N.Denot). CanBeErased (renewed d.start d.log)) (sym c.self.view_is) c.requires.may.unworn)
             c.start_of-start.ensures (c.clear.ensures ∙ ap empty_table c.self.invariant.0.kept.tasks_are)
             (rw c.clear-2.ensures.events refl);
         fits = rw c.clear-2.ensures.events tt;

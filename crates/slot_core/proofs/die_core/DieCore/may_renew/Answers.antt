@@ -6,7 +6,7 @@ use Rattle.slot_core.specs.Device.{flash_of}
 use Rattle.slot_core.specs.Renewals.{IsFirstWorn}
 use Rattle.slot_core.specs.Told.{log_of}
 use Rattle.slot_core.proofs.Renewing.{unworn_told, worn_told}
-use Rattle.slot_core.proofs.die_core.DieCore.renew.Goals as goal
+use Rattle.slot_core.proofs.die_core.DieCore.may_renew.Goals as goal
 
 pub returns-in-Some-first_worn-clause-refused : goal.returns-in-Some-first_worn-clause-refused
 returns-in-Some-first_worn-clause-refused g c =
@@ -21,16 +21,6 @@ returns-in-Some-first_worn-clause-refused g c =
           (worn_told (over f.volume.accounts.plan f.start) (log_of f.table f.events.notes) (flash_of g.N.Nand.blocks f.volume)
           c.in-Some-first_worn.block (c.self.invariant.0.kept.flash alive) (sym c.first_worn.ensures ∙ c.in-Some-first_worn.is)),
     )
-
-pub start_anew-requires-clause-unworn : goal.start_anew-requires-clause-unworn
-start_anew-requires-clause-unworn g c =
-    let f = c.self.inside in
-    let runs : c.args.self.now.stopped ≡ false = sym c.is_stopped.ensures ∙ c.if-is_stopped.false in
-    let alive : f.volume.failed ≡ false = ap (λ (d : Core g.row.N.Denot). d.stopped) c.self.view_is
-    ∙ (ap (λ (d : Core g.row.N.Denot). d.stopped) c.next_job.ensures.same ∙ runs) in
-    subst (λ (d : Core g.row.N.Denot). CanBeErased (renewed d.start d.log)) c.self.view_is
-    (unworn_told (over f.volume.accounts.plan f.start) (log_of f.table f.events.notes) (flash_of g.N.Nand.blocks f.volume)
-    (c.self.invariant.0.kept.flash alive) (sym c.first_worn.ensures ∙ c.in_default-first_worn.is))
 
 pub returns-clause-may : goal.returns-clause-may
 returns-clause-may g c =
