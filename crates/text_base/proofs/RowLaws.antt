@@ -139,13 +139,14 @@ rows-read rem a b found f plain read bytes = elim (cases_Bool (is_between (reade
 ]
 
 -- the records of a text, and whether it fits its bound, where nothing was read yet
-pub begins : {R : Type 0} (rem : R → Option (List ℕ)) (r : Reader (Bounded R)) (text : Option (List ℕ)) → reader_state r ≡ st.StartRecord
-    → source_of (bounded_remaining rem) r ≡ option_map strip_bom (option_map (marked 67108864) text)
-    → (rows_left rem r ≡ option_map rows_of text) × (fits_left rem r ≡ option_map (is_within 67108864) text)
+pub begins : (most : ℕ) {R : Type 0} (rem : R → Option (List ℕ)) (r : Reader (Bounded R)) (text : Option (List ℕ))
+    → reader_state r ≡ st.StartRecord
+    → source_of (bounded_remaining rem) r ≡ option_map strip_bom (option_map (marked most) text)
+    → (rows_left rem r ≡ option_map rows_of text) × (fits_left rem r ≡ option_map (is_within most) text)
 unfolding rows_left fits_left
-begins rem r None start source = rw (start, source) (refl, refl)
-begins rem r (Some text) start source =
-    let (rows, fits) = begun 67108864 text in
+begins most rem r None start source = rw (start, source) (refl, refl)
+begins most rem r (Some text) start source =
+    let (rows, fits) = begun most text in
     rw (start, source, rows, fits) (refl, refl)
 
 -- the cases of the test for a reader whose next read is of one record

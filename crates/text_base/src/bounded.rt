@@ -1,6 +1,6 @@
 //! A reader that is given up at a bound.
 
-ghost use Rattle.std.specs.Prelude.{◌≡◌, option_map};
+ghost use Rattle.std.specs.Prelude.{◌≡◌, ◌<◌, ◌^◌, option_map};
 ghost use Rattle.std.specs.Io.{ReadsAtMost};
 ghost use Rattle.std.specs.Io.KnownBytes.{ReadConsumes};
 ghost use Rattle.text_base.specs.Bounded.{bounded_remaining};
@@ -35,6 +35,20 @@ impl<R: Read> Bounded<R> {
             inner,
             room: MAX_BYTES,
             calls: MAX_CALLS,
+            past: None,
+            ended: false,
+        }
+    }
+
+    /// A reader that fails where a text goes on past so many bytes, or at a call past one more than that.
+    pub fn up_to(inner: R, most: usize) -> Bounded<R>
+        requires { most < 2 ^ 32 }
+        ensures { bounded_remaining R.remaining result ≡ option_map (marked most) (R.remaining inner) }
+    {
+        Bounded {
+            inner,
+            room: most,
+            calls: most + 1,
             past: None,
             ended: false,
         }

@@ -1,6 +1,6 @@
 //! The records of a text, by csv's defaults.
 
-ghost use Rattle.std.specs.Prelude.{◌≡◌, ◌<◌, true, All, IfOk, IfErr, option_map};
+ghost use Rattle.std.specs.Prelude.{◌≡◌, ◌<◌, ◌^◌, true, All, IfOk, IfErr, option_map};
 ghost use Rattle.csv.specs.Reading.{error_kind, is_io};
 ghost use Rattle.csv.specs.Records.{fields_of, field_at};
 ghost use Rattle.text_base.specs.Fields.{has_text};
@@ -27,6 +27,19 @@ pub fn rows_in<R: Read>(alloc: Global, reader: R) -> Reader<Bounded<R>>
         .has_headers(false)
         .flexible(true)
         .from_reader(alloc, Bounded::new(reader))
+}
+
+/// So it is, within a bound of so many bytes.
+pub fn rows_up_to<R: Read>(alloc: Global, reader: R, most: usize) -> Reader<Bounded<R>>
+    requires { most < 2 ^ 32 }
+    ensures plain { IsPlain result }
+    ensures rows { rows_left R.remaining result ≡ option_map rows_of (R.remaining reader) }
+    ensures fits { fits_left R.remaining result ≡ option_map (is_within most) (R.remaining reader) }
+{
+    ReaderBuilder::new()
+        .has_headers(false)
+        .flexible(true)
+        .from_reader(alloc, Bounded::up_to(reader, most))
 }
 
 /// What a failing read is told as. An error of the reader's own is ReadFault, whatever it says of itself; NoMemory is

@@ -13,8 +13,8 @@ mod writing;
 
 pub use bounded::Bounded;
 pub use calls::read_again;
-pub use csv_records::{field_in, is_named, rows_in, take_row};
+pub use csv_records::{field_in, is_named, rows_in, rows_up_to, take_row};
 pub use numbers::number;
-pub use pages::put_page;
+pub use pages::{page, put_page};
 pub use words::{count_pages, list, put_list};
 pub use writing::write_whole;

@@ -6,10 +6,10 @@ use Rattle.text_base.proofs.csv_records.rows_in.Goals as goal
 
 pub returns-clause-rows : goal.returns-clause-rows
 returns-clause-rows g c =
-    (begins g.R.Read.remaining c.from_reader.result (g.R.Read.remaining c.args.reader) c.from_reader.ensures.state
+    (begins 67108864 g.R.Read.remaining c.from_reader.result (g.R.Read.remaining c.args.reader) c.from_reader.ensures.state
     (c.from_reader.ensures.source ∙ ap (option_map strip_bom) c.new-2.ensures)).0
 
 pub returns-clause-fits : goal.returns-clause-fits
 returns-clause-fits g c =
-    (begins g.R.Read.remaining c.from_reader.result (g.R.Read.remaining c.args.reader) c.from_reader.ensures.state
+    (begins 67108864 g.R.Read.remaining c.from_reader.result (g.R.Read.remaining c.args.reader) c.from_reader.ensures.state
     (c.from_reader.ensures.source ∙ ap (option_map strip_bom) c.new-2.ensures)).1

@@ -1,0 +1,3 @@
+pub mod ReadingLaws
+pub mod LineLaws
+pub mod Back

@@ -1,0 +1,13 @@
+//! What holds of the texts themselves.
+
+ghost use Rattle.std.specs.Prelude.{◌≡◌, List, Ok};
+ghost use Rattle.checkpoint_texts.specs.CheckpointOf.{checkpoint_of};
+ghost use Rattle.checkpoint_texts.specs.CheckpointText.{checkpoint_text};
+ghost use Rattle.checkpoint_texts.specs.WellFormed.{IsStore};
+ghost use Rattle.checkpoint_texts.specs.declared.saved.SavedDie.{SavedDie};
+
+/// The text of a checkpoint reads as the checkpoint: whatever is written of one to eight dies within the limits is read
+/// back the same.
+pub fn checkpoints_come_back()
+    ensures { (store : List SavedDie) → IsStore store → checkpoint_of (checkpoint_text store) ≡ Ok store }
+{}

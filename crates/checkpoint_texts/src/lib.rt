@@ -1,0 +1,18 @@
+//! What stands on the dies of a store, as a text: its reader and its writer.
+#![tactic(auto)]
+
+mod fault;
+mod gathered;
+mod item_reading;
+mod items;
+mod laws;
+mod lines;
+mod reading;
+mod saved;
+mod writing;
+
+pub use fault::{RecordFault, TextFault};
+pub use laws::checkpoints_come_back;
+pub use reading::read_checkpoint;
+pub use saved::{SavedDie, SavedPage, SavedStore};
+pub use writing::write_checkpoint;

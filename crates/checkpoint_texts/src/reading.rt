@@ -1,0 +1,140 @@
+//! Checkpoints read from texts.
+
+ghost use Rattle.std.specs.Prelude.{◌≡◌, ◌≤◌, true, IfErr, IfOk, IfSome, OnOk, [], length, option_map};
+ghost use Rattle.csv.specs.Records.{fields_of};
+ghost use Rattle.report_texts.specs.RecordsLeft.{Stays};
+ghost use Rattle.text_base.specs.CsvRecords.{TakesRow};
+ghost use Rattle.text_base.specs.CsvRecordsLeft.{KeepsFit, fits_left, rows_left};
+ghost use Rattle.text_base.specs.Plain.{IsPlain};
+ghost use Rattle.checkpoint_texts.specs.CheckpointOf.{checkpoint_from, checkpoint_of, dies_from, header_of};
+ghost use Rattle.checkpoint_texts.specs.Gathering.{between};
+ghost use Rattle.checkpoint_texts.specs.Readings.{IsOutside, Tells};
+
+use crate::fault::{RecordFault, TextFault};
+use crate::gathered::{gather, no_dies, whole};
+use crate::item_reading::check_count;
+use crate::saved::SavedStore;
+use csv::{ByteRecord, Reader};
+use std::alloc::Global;
+use std::io::Read;
+use text_base::{Bounded, is_named, rows_up_to, take_row};
+
+/// The most bytes that a checkpoint's text has.
+const MAX_BYTES: usize = 134_217_728;
+
+/// The most records that it has: the header, and for each of eight dies 262,144 pages, 1,024 blocks, 16 tasks and one more.
+const MAX_RECORDS: u32 = 2_105_481;
+
+/// Takes the next record, if there is one.
+fn next<R: Read>(rows: &mut Reader<Bounded<R>>, row: &mut ByteRecord) -> Result<bool, TextFault>
+    requires { IsPlain rows.old }
+    ensures takes { IfOk result (λ found. TakesRow (rows_left R.remaining rows.old) (rows_left R.remaining rows.new) found
+        (fields_of row.new)) }
+    ensures fits { IfOk result (λ found. KeepsFit (fits_left R.remaining rows.old) (fits_left R.remaining rows.new) found) }
+    ensures plain { IfOk result (λ found. IsPlain rows.new) }
+    ensures outside { IfErr result (λ e. IsOutside e) }
+{
+    match take_row(rows, row) {
+        Ok(found) => Ok(found),
+        Err(refusal) => Err(TextFault::outside(refusal)),
+    }
+}
+
+/// Whether a record is the header of a checkpoint, with a version that is read.
+fn check_header(row: &ByteRecord) -> Result<(), TextFault>
+    ensures { result ≡ header_of (fields_of row.now) }
+{
+    if !is_named(row, 0, "checkpoint") {
+        return Err(TextFault::Broken {
+            line: 1,
+            field: 1,
+            fault: RecordFault::Header,
+        });
+    }
+    if !is_named(row, 1, "1") {
+        return Err(TextFault::Broken {
+            line: 1,
+            field: 2,
+            fault: RecordFault::Version,
+        });
+    }
+    check_count(1, row, 2)
+}
+
+/// Takes the dies, behind the header.
+fn take_dies<R: Read>(
+    alloc: Global,
+    rows: &mut Reader<Bounded<R>>,
+    row: &mut ByteRecord,
+) -> Result<SavedStore, TextFault>
+    requires { IsPlain rows.old }
+    ensures store { Tells (option_map (dies_from (between []) 2) (rows_left R.remaining rows.old)) result }
+    ensures fits { OnOk result (IfSome (fits_left R.remaining rows.old) (λ fits. fits ≡ true)) }
+{
+    let mut gathered = no_dies(alloc);
+    let mut line = 2;
+    while line <= MAX_RECORDS {
+        if !next(rows, row)? {
+            return whole(gathered, line);
+        }
+        match gather(alloc, &mut gathered, row, line) {
+            Ok(()) => {}
+            Err(fault) => return Err(fault),
+        }
+        line += 1;
+    }
+    if next(rows, row)? {
+        return Err(TextFault::Broken {
+            line,
+            field: 1,
+            fault: RecordFault::TooMany,
+        });
+    }
+    whole(gathered, line)
+}
+
+/// Takes the header and the dies.
+fn take_store<R: Read>(
+    alloc: Global,
+    rows: &mut Reader<Bounded<R>>,
+    row: &mut ByteRecord,
+) -> Result<SavedStore, TextFault>
+    requires { IsPlain rows.old }
+    ensures store { Tells (option_map checkpoint_from (rows_left R.remaining rows.old)) result }
+    ensures fits { OnOk result (IfSome (fits_left R.remaining rows.old) (λ fits. fits ≡ true)) }
+{
+    if !next(rows, row)? {
+        return Err(TextFault::Broken {
+            line: 1,
+            field: 1,
+            fault: RecordFault::Header,
+        });
+    }
+    match check_header(row) {
+        Ok(()) => {}
+        Err(fault) => return Err(fault),
+    }
+    take_dies(alloc, rows, row)
+}
+
+/// Reads a checkpoint, csv with the defaults of the crate `csv` and without trimming, of at most 134,217,728 bytes, in at
+/// most one call of the reader more.
+///
+/// Record 1 is `checkpoint,1`. Then come, die by die, a record for each logical page, `page` and its cell's block and page
+/// and the bytes there in 32 hexadecimal digits, with these fields empty where it lies nowhere, or the last alone where
+/// its bytes aren't kept; one for each block, `block`, how many of its pages are programmed and how often it was erased;
+/// one for each task, `task` and its balance; and `die`, its number from 0 to 7 and its spare pages. Numbers have 1 to 10
+/// digits and are at most 4,294,967,295.
+///
+/// Broken has the first record and field at fault. In a record the kind is judged first, then how many fields there are,
+/// then they from left to right, then the order of records, and at last the number of a die. ReadFault comes where the
+/// reader fails or goes on beyond its bound; the records before it are judged first. NoMemory comes where memory is
+/// refused. What was read fits no plan as yet: [`check`](die_checkpoint::Checkpoint::check) says whether it does.
+pub fn read_checkpoint<R: Read + Drop>(alloc: Global, reader: R) -> Result<SavedStore, TextFault>
+    ensures store { Tells (option_map checkpoint_of (R.remaining reader)) result }
+    ensures bound { OnOk result (IfSome (R.remaining reader) (λ text. length text ≤ 134217728)) }
+{
+    let mut rows = rows_up_to(alloc, reader, MAX_BYTES);
+    let mut row = ByteRecord::new(alloc);
+    take_store(alloc, &mut rows, &mut row)
+}
