@@ -78,7 +78,10 @@ fn add_askers(askers: &mut Vec<Asker>, die: u32, plan: &DiePlan, fills: bool) ->
     let (mut task, mut writer) = (0u32, 0u32);
     for own in tasks {
         let asker = asker_of(die, task, writer, plan, tasks, fills, own);
-        askers.push(asker)?;
+        match askers.push(asker) {
+            Ok(()) => {}
+            Err(_) => return Err(Refusal::NoMemory),
+        }
         task = task.saturating_add(1);
         writer = writer.saturating_add(u32::from(own.writes > 0));
     }

@@ -89,7 +89,10 @@ pub fn die_lines(
             continue;
         }
         if let Some(line) = line_of(&item) {
-            lines.push(line)?;
+            match lines.push(line) {
+                Ok(()) => {}
+                Err(_) => return Err(Refusal::NoMemory),
+            }
         }
     }
     Ok(lines)

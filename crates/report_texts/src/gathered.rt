@@ -95,11 +95,7 @@ fn add(alloc: Global, gathered: &mut Gathered, next: DieRow) -> Result<(), Refus
 }
 
 /// Gathers one more record, if it is a row that may come next; says whether it is.
-pub fn gather(
-    alloc: Global,
-    gathered: &mut Gathered,
-    fields: &ByteRecord,
-) -> Result<bool, Refusal>
+pub fn gather(alloc: Global, gathered: &mut Gathered, fields: &ByteRecord) -> Result<bool, Refusal>
     requires { length gathered.old.rows ≤ 65536 }
     ensures row { IfOk result (λ is_row. (if is_row then Some gathered.new else None) ≡ gathered_with gathered.old (fields_of fields.now)) }
     ensures few { IfOk result (λ is_row. is_row ≡ true → length gathered.new.rows ≤ 65536) }

@@ -384,12 +384,7 @@ impl PlainDie {
     }
 
     /// The head does its act.
-    fn run(
-        &mut self,
-        alloc: Global,
-        number: usize,
-        reply: &mut SlotReply,
-    ) -> Result<(), Refusal> {
+    fn run(&mut self, alloc: Global, number: usize, reply: &mut SlotReply) -> Result<(), Refusal> {
         self.begin(alloc, number)?;
         if let Some((act, last)) = self.act(number) {
             let told = JobNo(narrow(number));

@@ -44,7 +44,10 @@ fn fresh_dies(alloc: Global, plan: &StorePlan, from: u32) -> Result<Vec<Box<Stor
     let mut dies = Vec::new(alloc);
     for plan in plan.as_slice() {
         let die = StoreDie::new(alloc, plan.clone()?, from)?;
-        dies.push(die)?;
+        match dies.push(die) {
+            Ok(()) => {}
+            Err(_) => return Err(Refusal::NoMemory),
+        }
     }
     Ok(dies)
 }

@@ -75,7 +75,10 @@ impl StoreDie {
             load: Load::new(alloc),
             numbers: Vec::new(alloc),
         };
-        Ok(Box::new(alloc, die)?)
+        match Box::new(alloc, die) {
+            Ok(boxed) => Ok(boxed),
+            Err(_) => Err(Refusal::NoMemory),
+        }
     }
 
     fn step(&mut self, alloc: Global) -> Result<(), Refusal> {

@@ -45,7 +45,10 @@ pub fn no_progress(alloc: Global, dies: usize) -> Result<Vec<Progress>, Refusal>
     };
     let mut progress = Vec::new(alloc);
     for _ in 0..dies {
-        progress.push(fresh)?;
+        match progress.push(fresh) {
+            Ok(()) => {}
+            Err(_) => return Err(Refusal::NoMemory),
+        }
     }
     Ok(progress)
 }
@@ -144,7 +147,10 @@ fn go_on(
         let refused = ends[die].refused.as_slice();
         add_rows(kept[die].lines.as_slice(), refused, &mut count)?;
         let clock = kept[die].end;
-        made.push(Progress { clock, count })?;
+        match made.push(Progress { clock, count }) {
+            Ok(()) => {}
+            Err(_) => return Err(Refusal::NoMemory),
+        }
     }
     Ok(made)
 }

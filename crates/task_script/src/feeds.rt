@@ -32,7 +32,10 @@ fn no_rows(alloc: Global, dies: usize) -> Result<Vec<DieRows>, Refusal>
 {
     let mut rows = Vec::new(alloc);
     for _ in 0..dies {
-        rows.push(DieRows::new(alloc))?;
+        match rows.push(DieRows::new(alloc)) {
+            Ok(()) => {}
+            Err(_) => return Err(Refusal::NoMemory),
+        }
     }
     Ok(rows)
 }

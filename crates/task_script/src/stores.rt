@@ -17,11 +17,13 @@ fn times_copy(alloc: Global, times: &Times) -> Result<Times, Refusal>
     ensures ok { IfOk result (λ copy. copy ≡ times.now) }
     ensures refused { FailsForMemory result }
 {
-    let tasks = Vec::from_slice(alloc, times.tasks.as_slice())?;
-    Ok(Times {
-        common: times.common,
-        tasks: TimesList::from_vec(tasks),
-    })
+    match Vec::from_slice(alloc, times.tasks.as_slice()) {
+        Ok(tasks) => Ok(Times {
+            common: times.common,
+            tasks: TimesList::from_vec(tasks),
+        }),
+        Err(_) => Err(Refusal::NoMemory),
+    }
 }
 
 /// A copy of a plan, with its times if it has any.
@@ -33,14 +35,16 @@ fn plan_copy(alloc: Global, plan: &DiePlan) -> Result<DiePlan, Refusal>
         Some(times) => Some(times_copy(alloc, times)?),
         None => None,
     };
-    let caps = Vec::from_slice(alloc, plan.caps.as_slice())?;
-    Ok(DiePlan {
-        shape: plan.shape,
-        logical: plan.logical,
-        alpha: plan.alpha,
-        caps: Caps::from_vec(caps),
-        times,
-    })
+    match Vec::from_slice(alloc, plan.caps.as_slice()) {
+        Ok(caps) => Ok(DiePlan {
+            shape: plan.shape,
+            logical: plan.logical,
+            alpha: plan.alpha,
+            caps: Caps::from_vec(caps),
+            times,
+        }),
+        Err(_) => Err(Refusal::NoMemory),
+    }
 }
 
 /// A copy of plans.
@@ -68,7 +72,10 @@ fn devices(alloc: Global, plans: &[DiePlan]) -> Result<Vec<MemoryNand>, Refusal>
             Ok(nand) => nand,
             Err(_) => return Err(Refusal::NoMemory),
         };
-        nands.push(nand)?;
+        match nands.push(nand) {
+            Ok(()) => {}
+            Err(_) => return Err(Refusal::NoMemory),
+        }
     }
     Ok(nands)
 }

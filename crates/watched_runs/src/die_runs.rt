@@ -99,7 +99,10 @@ impl DieRun {
         ensures refused { FailsForMemory result }
     {
         let run = DieRun::new(alloc, die, plan, window)?;
-        Ok(Box::new(alloc, run)?)
+        match Box::new(alloc, run) {
+            Ok(boxed) => Ok(boxed),
+            Err(_) => Err(Refusal::NoMemory),
+        }
     }
 
     /// Carries out the present slot.

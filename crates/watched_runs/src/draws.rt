@@ -45,7 +45,10 @@ fn rows_in(alloc: Global, run: &DieRun) -> Result<Vec<Row>, Refusal>
             end: end_of(alloc, &run.core, job)?,
         };
         if row.is_seen(&run.window, slots) {
-            rows.push(row)?;
+            match rows.push(row) {
+                Ok(()) => {}
+                Err(_) => return Err(Refusal::NoMemory),
+            }
         }
     }
     Ok(rows)
@@ -130,7 +133,10 @@ pub fn draw<R: Read + Drop>(
     let mut plans = plan.into_vec();
     let run = DieRun::boxed(alloc, die, plans.swap_remove(die as usize), window)?;
     let mut dies = Vec::new(alloc);
-    dies.push(run)?;
+    match dies.push(run) {
+        Ok(()) => {}
+        Err(_) => return Err(Refusal::NoMemory),
+    }
     let refused = run_rows(alloc, script, &mut dies, slots)?;
     match dies.first() {
         Some(run) => Ok(Told {

@@ -45,7 +45,10 @@ fn fresh_dies(alloc: Global, plan: StorePlan) -> Result<Vec<Box<DieRun>>, Refusa
     let mut die: u32 = 0;
     for plan in plan.into_vec() {
         let run = DieRun::boxed(alloc, die, plan, Window::new(alloc, 0, 0))?;
-        dies.push(run)?;
+        match dies.push(run) {
+            Ok(()) => {}
+            Err(_) => return Err(Refusal::NoMemory),
+        }
         die = die.saturating_add(1);
     }
     Ok(dies)
@@ -88,7 +91,10 @@ fn tally_of(run: Box<DieRun>) -> Tally {
 fn tallies_of(alloc: Global, dies: Vec<Box<DieRun>>) -> Result<Vec<Tally>, Refusal> {
     let mut tallies = Vec::new(alloc);
     for run in dies {
-        tallies.push(tally_of(run))?;
+        match tallies.push(tally_of(run)) {
+            Ok(()) => {}
+            Err(_) => return Err(Refusal::NoMemory),
+        }
     }
     Ok(tallies)
 }
