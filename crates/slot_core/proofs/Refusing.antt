@@ -1,5 +1,5 @@
 -- A renewal and a checkpoint are refused for one cause.
-use Rattle.std.proofs.Common.{◌≡◌, ℕ, suc, ◌<◌, ◌≤◌, ◌⊎◌, ◌==◌, ◌&&◌, ◌||◌, not, nat_lt, nat_le, Bool, true, false, List, [], ◌∷◌, Some, None, refl, ap, sym, ◌∙◌}
+use Rattle.std.proofs.Common.{◌≡◌, ◌≢◌, ℕ, suc, ◌<◌, ◌≤◌, ◌⊎◌, ◌==◌, ◌&&◌, ◌||◌, not, nat_lt, nat_le, Bool, true, false, List, [], ◌∷◌, Some, None, refl, ap, sym, ◌∙◌}
 use Rattle.std.proofs.Common.{subst, length, get_or, map, arith, inl, inr}
 use Rattle.std.specs.Prelude.{Contains, IsTrue, Option, position}
 use Rattle.std.specs.List.{AllByRecursion}
@@ -22,8 +22,15 @@ use Rattle.slot_core.specs.declared.renewals.RenewalRefusal.{RenewalRefusal}
 use Rattle.slot_core.specs.declared.renewals.RenewalRefusal.TheVariants.{DieStopped, NotQuiet, WornOut}
 use Rattle.slot_core.specs.declared.resumptions.CheckpointRefusal.{CheckpointRefusal}
 use Rattle.slot_core.specs.declared.resumptions.CheckpointRefusal.TheVariants as untaken
+use Rattle.slot_core.specs.declared.resumptions.ResumeRefusal.{ResumeRefusal}
+use Rattle.slot_core.specs.declared.resumptions.ResumeRefusal.TheVariants as unresumed
+use Rattle.slot_types.specs.declared.plans.Shape.{Shape}
+use Rattle.die_checkpoint.specs.declared.checkpoint.Checkpoint.{Checkpoint}
+use Rattle.die_checkpoint.specs.Fits.{Fits}
+use Rattle.die_checkpoint.proofs.Excluding.{fault_breaks}
+use Rattle.die_checkpoint.proofs.OneFault.{one_fault}
 use Rattle.slot_core.specs.Renewals.{is_coming, is_released_before, IsReleasedNext, IsNext, IsFirstWorn, most_erases, MayBeRenewed, RefusesRenewal}
-use Rattle.slot_core.specs.Resumed.{RefusesCheckpoint}
+use Rattle.slot_core.specs.Resumed.{RefusesCheckpoint, RefusesResume, no_memory}
 
 -- Work that is left
 
@@ -133,3 +140,17 @@ one_checkpoint_refusal core (untaken.NotRenewable why) (untaken.NotRenewable cau
 one_checkpoint_refusal core (untaken.NotRenewable why) untaken.NoMemory a b = absurd (refusal_or_renewal core why a b)
 one_checkpoint_refusal core untaken.NoMemory (untaken.NotRenewable why) a b = absurd (refusal_or_renewal core why b a)
 one_checkpoint_refusal core untaken.NoMemory untaken.NoMemory a b = refl
+
+pub one_resume_refusal : (plan : DiePlan) (c : Checkpoint) (shape : Shape) (one other : ResumeRefusal) → RefusesResume plan c shape one
+    → RefusesResume plan c shape other → one ≢ no_memory → other ≢ no_memory → one ≡ other
+one_resume_refusal plan c shape unresumed.OtherDevice unresumed.OtherDevice a b some also = refl
+one_resume_refusal plan c shape unresumed.OtherDevice (unresumed.Unfit g) a b some also = absurd (a b.0)
+one_resume_refusal plan c shape (unresumed.Unfit f) unresumed.OtherDevice a b some also = absurd (b a.0)
+one_resume_refusal plan c shape (unresumed.Unfit f) (unresumed.Unfit g) a b some also =
+    ap unresumed.Unfit (one_fault plan c f g a.1 b.1 (λ e. some (ap unresumed.Unfit e)) (λ e. also (ap unresumed.Unfit e)))
+
+pub refusal_or_resumption : (plan : DiePlan) (c : Checkpoint) (shape : Shape) (refusal : ResumeRefusal) → RefusesResume plan c shape refusal
+    → refusal ≢ no_memory → (shape ≡ plan.shape) × Fits plan c → ⊥
+refusal_or_resumption plan c shape unresumed.OtherDevice a some both = a both.0
+refusal_or_resumption plan c shape (unresumed.Unfit fault) a some both =
+    fault_breaks plan c fault a.1 (λ e. some (ap unresumed.Unfit e)) both.1

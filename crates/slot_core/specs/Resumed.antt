@@ -6,6 +6,7 @@ use Rattle.slot_types.specs.declared.plans.Shape.{Shape}
 use Rattle.page_ledger.specs.Quiet.{quiet_accounts}
 use Rattle.die_checkpoint.specs.declared.checkpoint.BlockCounts.{BlockCounts}
 use Rattle.die_checkpoint.specs.declared.checkpoint.Checkpoint.{Checkpoint}
+use Rattle.die_checkpoint.specs.declared.fault.CheckpointFault.TheVariants.{NoMemory}
 use Rattle.die_checkpoint.specs.Faults.{HasFault}
 use Rattle.flash_die.specs.Flash as device
 use Rattle.flash_volume.specs.Cells as volume
@@ -56,3 +57,7 @@ RefusesCheckpoint core untaken.NoMemory = MayBeRenewed core
 abbrev pub RefusesResume : DiePlan → Checkpoint → Shape → ResumeRefusal → Type 0
 RefusesResume plan c shape unresumed.OtherDevice = shape ≢ plan.shape
 RefusesResume plan c shape (unresumed.Unfit fault) = (shape ≡ plan.shape) × HasFault plan c fault
+
+-- for want of memory
+abbrev pub no_memory : ResumeRefusal
+no_memory = unresumed.Unfit NoMemory

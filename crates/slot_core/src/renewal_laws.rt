@@ -1,8 +1,9 @@
 //! What is said of a die's renewal, of its checkpoint and of its resumption leaves no choice, and what fits a plan is exactly
 //! an opening. Each law is a function that does nothing.
 
-ghost use Rattle.std.specs.Prelude.{◌≡◌, ◌↔◌, List};
+ghost use Rattle.std.specs.Prelude.{◌≡◌, ◌≢◌, ◌↔◌, List};
 ghost use Rattle.slot_types.specs.declared.plans.DiePlan.{DiePlan};
+ghost use Rattle.slot_types.specs.declared.plans.Shape.{Shape};
 ghost use Rattle.die_checkpoint.specs.declared.checkpoint.Checkpoint.{Checkpoint};
 ghost use Rattle.die_checkpoint.specs.Fits.{Fits};
 ghost use Rattle.flash_die.specs.Flash.{Block};
@@ -10,9 +11,11 @@ ghost use Rattle.die_log.specs.Start.{Start};
 ghost use Rattle.die_log.specs.Opening.{IsOpening, CanBeErased};
 ghost use Rattle.slot_core.specs.Core.{Core};
 ghost use Rattle.slot_core.specs.Renewals.{MayBeRenewed, RefusesRenewal};
-ghost use Rattle.slot_core.specs.Resumed.{checkpoint_of, start_with, resumed_start, RefusesCheckpoint};
+ghost use Rattle.slot_core.specs.Resumed.{checkpoint_of, start_with, resumed_start, RefusesCheckpoint, RefusesResume};
+ghost use Rattle.slot_core.specs.Resumed.{no_memory};
 ghost use Rattle.slot_core.specs.declared.renewals.RenewalRefusal.{RenewalRefusal};
 ghost use Rattle.slot_core.specs.declared.resumptions.CheckpointRefusal.{CheckpointRefusal};
+ghost use Rattle.slot_core.specs.declared.resumptions.ResumeRefusal.{ResumeRefusal};
 
 use flash_die::Nand;
 
@@ -39,4 +42,14 @@ pub fn a_renewal_has_one_answer<N: Nand>()
 pub fn a_checkpoint_has_one_answer<N: Nand>()
     ensures { (one other : CheckpointRefusal) (before : Core N) →
         RefusesCheckpoint before one → RefusesCheckpoint before other → one ≡ other }
+{}
+
+/// A resumption is refused for one cause, and only where the device is of another shape or the checkpoint doesn't fit; but
+/// for want of memory.
+pub fn a_resumption_has_one_answer()
+    ensures refused { (plan : DiePlan) (c : Checkpoint) (shape : Shape) (one other : ResumeRefusal) →
+        RefusesResume plan c shape one → RefusesResume plan c shape other →
+        one ≢ no_memory → other ≢ no_memory → one ≡ other }
+    ensures either { (plan : DiePlan) (c : Checkpoint) (shape : Shape) (refusal : ResumeRefusal) →
+        RefusesResume plan c shape refusal → refusal ≢ no_memory → ¬ ((shape ≡ plan.shape) × Fits plan c) }
 {}
