@@ -1,3 +1,4 @@
 pub mod ReadingLaws
 pub mod LineLaws
 pub mod Back
+pub mod Short

@@ -1,8 +1,7 @@
 -- How a checkpoint is read, record by record.
-use Rattle.std.proofs.Common.{◌≡◌, ℕ, ◌+◌, ◌<◌, ◌≤◌, List, [], ◌∷◌, Bool, true, false, Option, Some, None, Result, Ok, Err, refl, sym, ap, ◌∙◌}
+use Rattle.std.proofs.Common.{◌≡◌, ℕ, ◌+◌, ◌<◌, ◌≤◌, List, [], ◌∷◌, Bool, true, false, Option, Some, None, Ok, Err, refl, sym, ap, ◌∙◌}
 use Rattle.std.proofs.Common.{◌⊎◌, inl, inr, length, arith}
 use Rattle.std.specs.Prelude.{option_map, OnOk, IfSome, nat_lt}
-use Rattle.csv.specs.Reading.{strip_bom}
 use Rattle.report_texts.specs.RecordsLeft.{Stays}
 use Rattle.text_base.specs.CsvRecords.{Fields, TakesRow, rows_of}
 use Rattle.text_base.specs.CsvRecordsLeft.{KeepsFit}

@@ -1,5 +1,5 @@
 -- The checkpoint of a text, or its first fault.
-use Rattle.std.specs.Prelude.{ℕ, ◌+◌, ◌==◌, nat_lt, ⊤, List, [], ◌∷◌, codes, length, Result, Ok, Err, if◌then◌else◌}
+use Rattle.std.specs.Prelude.{ℕ, ◌+◌, nat_lt, ⊤, List, [], ◌∷◌, codes, Result, Ok, if◌then◌else◌}
 use Rattle.csv.specs.Records.{field_at}
 use Rattle.text_base.specs.CsvRecords.{Fields, rows_of}
 use Rattle.text_base.specs.Fields.{has_text}

@@ -1,6 +1,5 @@
 -- How the dies of a checkpoint are gathered, record by record.
-use Rattle.std.specs.Prelude.{ℕ, ◌==◌, ◌&&◌, Bool, nat_lt, not, List, [], ◌∷◌, ◌++◌, length, Result, Ok, Err, if◌then◌else◌}
-use Rattle.die_checkpoint.specs.declared.checkpoint.BlockCounts.{BlockCounts}
+use Rattle.std.specs.Prelude.{ℕ, ◌==◌, ◌&&◌, Bool, nat_lt, not, List, [], ◌∷◌, ◌++◌, length, Ok, if◌then◌else◌}
 use Rattle.text_base.specs.CsvRecords.{Fields}
 use Rattle.checkpoint_texts.specs.Readings.{◌>>=◌, broken}
 use Rattle.checkpoint_texts.specs.Records.{Says, item_of}
@@ -9,7 +8,6 @@ use Rattle.checkpoint_texts.specs.declared.gathered.Gathered.{Gathered}
 use Rattle.checkpoint_texts.specs.declared.items.Item.{Item}
 use Rattle.checkpoint_texts.specs.declared.items.Item.TheVariants.{Page, Block, Task, Die}
 use Rattle.checkpoint_texts.specs.declared.saved.SavedDie.{SavedDie}
-use Rattle.checkpoint_texts.specs.declared.saved.SavedPage.{SavedPage}
 
 -- these dies, and nothing yet of the next
 abbrev pub between : List SavedDie → Gathered

@@ -1,5 +1,5 @@
 -- What a record of a checkpoint says, or its first fault.
-use Rattle.std.specs.Prelude.{ℕ, ◌+◌, ◌==◌, ◌&&◌, Bool, ⊤, min, List, codes, Option, Some, None, Result, Ok, Err, length, option_and_then}
+use Rattle.std.specs.Prelude.{ℕ, ◌+◌, ◌==◌, ◌&&◌, Bool, ⊤, min, List, codes, Option, Some, None, Result, Ok, length, option_and_then}
 use Rattle.std.specs.Prelude.{if◌then◌else◌}
 use Rattle.csv.specs.Records.{field_at}
 use Rattle.slot_types.specs.declared.pages.PageData.{PageData}

@@ -1,5 +1,5 @@
 -- The checkpoints that are read back from their text.
-use Rattle.std.specs.Prelude.{◌≡◌, ℕ, ◌+◌, ◌<◌, ◌≤◌, ◌^◌, ⊤, List, length, Option, Some, None, IfSome, All}
+use Rattle.std.specs.Prelude.{◌<◌, ◌≤◌, ◌^◌, ⊤, List, length, Option, Some, None, IfSome, All}
 use Rattle.die_checkpoint.specs.declared.checkpoint.BlockCounts.{BlockCounts}
 use Rattle.slot_types.specs.declared.pages.PageData.{PageData}
 use Rattle.slot_types.specs.declared.pages.Place.{Place}

@@ -1,6 +1,6 @@
 //! What holds of the texts themselves.
 
-ghost use Rattle.std.specs.Prelude.{◌≡◌, List, Ok};
+ghost use Rattle.std.specs.Prelude.{◌≡◌, ◌≤◌, List, Ok, length};
 ghost use Rattle.checkpoint_texts.specs.CheckpointOf.{checkpoint_of};
 ghost use Rattle.checkpoint_texts.specs.CheckpointText.{checkpoint_text};
 ghost use Rattle.checkpoint_texts.specs.WellFormed.{IsStore};
@@ -10,4 +10,9 @@ ghost use Rattle.checkpoint_texts.specs.declared.saved.SavedDie.{SavedDie};
 /// back the same.
 pub fn checkpoints_come_back()
     ensures { (store : List SavedDie) → IsStore store → checkpoint_of (checkpoint_text store) ≡ Ok store }
+{}
+
+/// A reader's bound admits each checkpoint that is written of one to eight dies within the limits: it is at most as long.
+pub fn checkpoints_fit()
+    ensures { (store : List SavedDie) → IsStore store → length (checkpoint_text store) ≤ 134217728 }
 {}

@@ -12,7 +12,7 @@ mod saved;
 mod writing;
 
 pub use fault::{RecordFault, TextFault};
-pub use laws::checkpoints_come_back;
+pub use laws::{checkpoints_come_back, checkpoints_fit};
 pub use reading::read_checkpoint;
 pub use saved::{SavedDie, SavedPage, SavedStore};
 pub use writing::write_checkpoint;
