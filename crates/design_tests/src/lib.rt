@@ -2,6 +2,10 @@
 #![tactic(auto)]
 
 #[cfg(test)]
+mod datasheets;
+#[cfg(test)]
 mod explaining;
+#[cfg(test)]
+mod fitting;
 #[cfg(test)]
 mod text_faults;
