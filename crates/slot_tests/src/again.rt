@@ -74,18 +74,6 @@ pub(crate) fn carry<N: Nand>(
     }
 }
 
-/// Reserves so many slots.
-pub(crate) fn reserve<N: Nand>(
-    memory: Memory,
-    die: &mut DieCore<N>,
-    slots: u32,
-) -> Result<(), Refusal> {
-    match die.reserve(slots) {
-        Err(Refusal::NoMemory) if memory.asks_again() => die.reserve(slots),
-        answer => answer,
-    }
-}
-
 pub(crate) fn outcome_of<N: Nand>(
     memory: Memory,
     die: &DieCore<N>,

@@ -1,17 +1,15 @@
-//! Worked rows of collections, on a die of 4 blocks that a history has filled, and on one with pages to spare.
+//! A worked row of a collection, on a die of 4 blocks that a history has filled.
 
-use crate::dies::{plays, plays_behind};
-use crate::pages::{BLANK, TWOS};
-use crate::plans::{ROOMY, TIGHT};
-use crate::steps::Fact::{Certified, Collected, Done, Entries, Holds, Records, Waived, Worst};
+use crate::dies::plays_behind;
+use crate::pages::TWOS;
+use crate::plans::TIGHT;
+use crate::steps::Fact::{Collected, Done, Holds};
+use crate::steps::Step;
 use crate::steps::Step::{Acts, Carries, Collect, Is, Submit, Waives};
-use crate::steps::{Bounds, Step};
-use slot_types::{Act, Op, PageData, Refusal};
+use slot_types::{Act, Op, PageData};
 use std::test::Fail;
 
 const FOURS: PageData = PageData([4; 16]);
-
-const OTHERS: PageData = PageData([0xaa; 16]);
 
 const W0: Op = Op::Write(0, PageData([0; 16]));
 
@@ -28,9 +26,6 @@ pub(crate) const COPY_READ: Act = Act::CopyRead { page: 2 };
 pub(crate) const COPY_PROGRAM: Act = Act::CopyProgram { page: 2 };
 
 pub(crate) const ERASE: Act = Act::Erase { block: 1 };
-
-/// Five writes are more than the task's two tokens.
-const TWO_TOKENS: Refusal = Refusal::NoTokens { have: 2, need: 5 };
 
 /// Up to slot 17, in which no page is spare any longer.
 #[rattlefmt::skip]
@@ -57,30 +52,6 @@ pub(crate) const HISTORY: &[Step] = &[
     Waives { collection: 9, given: 2 },
 ];
 
-/// Page 2 is copied out of block 1, and the block is erased. Its first two erase slots are one record.
-#[rattlefmt::skip]
-pub(crate) const COPIES_AND_ERASES: &[Step] = &[
-    Submit { task: 0, release: 17, due: 19, ops: &[W4, W4], want: Ok(10) },
-    Carries { jobs: &[10, 10] },
-    Is(Worst { job: 2, lateness: 0 }),
-    Is(Certified(Bounds { job: 2, start: 5, due: 7, completion: 7, jobs: &[2] })),
-    Is(Holds),
-    Is(Entries { count: 30 }),
-    Is(Records { count: 30 }),
-    Collect { release: 19, due: 40, want: Ok(11) },
-    Acts { job: 11, acts: &[COPY_READ, COPY_PROGRAM, ERASE, ERASE, ERASE] },
-    Is(Collected { collection: 11, completion: 24, lateness: -16, given: 2 }),
-    Is(Entries { count: 36 }),
-    Is(Records { count: 35 }),
-    Submit { task: 0, release: 24, due: 25, ops: &[W4; 5], want: Err(TWO_TOKENS) },
-    Is(Holds),
-];
-
-#[test]
-fn a_collection_copies_and_erases(rt: HostRuntime) -> Result<(), Fail> {
-    Ok(plays_behind(&rt, rt.alloc(), &TIGHT, HISTORY, COPIES_AND_ERASES)?)
-}
-
 const READ_TWOS: Act = Act::Read {
     page: 2,
     bytes: TWOS,
@@ -104,88 +75,4 @@ const A_READ_BETWEEN_ERASES: &[Step] = &[
 #[test]
 fn an_erase_is_suspended_by_a_read(rt: HostRuntime) -> Result<(), Fail> {
     Ok(plays_behind(&rt, rt.alloc(), &TIGHT, HISTORY, A_READ_BETWEEN_ERASES)?)
-}
-
-const WRITE_FOURS: Act = Act::Write {
-    page: 4,
-    bytes: FOURS,
-};
-
-const WRITE_OTHERS: Act = Act::Write {
-    page: 2,
-    bytes: OTHERS,
-};
-
-const READ_OTHERS: Act = Act::Read {
-    page: 2,
-    bytes: OTHERS,
-};
-
-/// Page 2 is written between its copy read and its copy program.
-#[rattlefmt::skip]
-const A_WRITE_BEFORE_THE_COPY: &[Step] = &[
-    Submit { task: 0, release: 17, due: 19, ops: &[W4], want: Ok(10) },
-    Acts { job: 10, acts: &[WRITE_FOURS] },
-    Collect { release: 18, due: 40, want: Ok(11) },
-    Acts { job: 11, acts: &[COPY_READ] },
-    Submit { task: 0, release: 19, due: 25, ops: &[Op::Write(2, OTHERS)], want: Ok(12) },
-    Acts { job: 12, acts: &[WRITE_OTHERS] },
-    Acts { job: 11, acts: &[ERASE, ERASE, ERASE] },
-    Is(Collected { collection: 11, completion: 23, lateness: -17, given: 2 }),
-    Submit { task: 0, release: 23, due: 24, ops: &[W4; 5], want: Err(TWO_TOKENS) },
-    Submit { task: 0, release: 23, due: 24, ops: &[Op::Read(2)], want: Ok(13) },
-    Acts { job: 13, acts: &[READ_OTHERS] },
-    Is(Holds),
-];
-
-#[test]
-fn a_rewritten_page_is_not_copied(rt: HostRuntime) -> Result<(), Fail> {
-    Ok(plays_behind(&rt, rt.alloc(), &TIGHT, HISTORY, A_WRITE_BEFORE_THE_COPY)?)
-}
-
-const TRIM: Act = Act::Trim { page: 2 };
-
-const READ_BLANK: Act = Act::Read {
-    page: 2,
-    bytes: BLANK,
-};
-
-/// Five writes are more than the task's three tokens.
-const THREE_TOKENS: Refusal = Refusal::NoTokens { have: 3, need: 5 };
-
-/// Page 2 is trimmed between its copy read and its copy program.
-#[rattlefmt::skip]
-const A_TRIM_BEFORE_THE_COPY: &[Step] = &[
-    Submit { task: 0, release: 17, due: 19, ops: &[W4], want: Ok(10) },
-    Acts { job: 10, acts: &[WRITE_FOURS] },
-    Collect { release: 18, due: 40, want: Ok(11) },
-    Acts { job: 11, acts: &[COPY_READ] },
-    Submit { task: 0, release: 19, due: 25, ops: &[Op::Trim(2)], want: Ok(12) },
-    Acts { job: 12, acts: &[TRIM] },
-    Acts { job: 11, acts: &[ERASE, ERASE, ERASE] },
-    Is(Collected { collection: 11, completion: 23, lateness: -17, given: 2 }),
-    Submit { task: 0, release: 23, due: 24, ops: &[W4; 5], want: Err(THREE_TOKENS) },
-    Submit { task: 0, release: 23, due: 24, ops: &[Op::Read(2)], want: Ok(13) },
-    Acts { job: 13, acts: &[READ_BLANK] },
-    Is(Holds),
-];
-
-#[test]
-fn a_trimmed_page_is_not_copied(rt: HostRuntime) -> Result<(), Fail> {
-    Ok(plays_behind(&rt, rt.alloc(), &TIGHT, HISTORY, A_TRIM_BEFORE_THE_COPY)?)
-}
-
-/// A new die has pages to spare.
-#[rattlefmt::skip]
-const PAGES_TO_SPARE: &[Step] = &[
-    Collect { release: 0, due: 5, want: Ok(0) },
-    Collect { release: 0, due: 5, want: Err(Refusal::CollectorBusy) },
-    Waives { collection: 0, given: 0 },
-    Is(Waived { collection: 0, given: 0 }),
-    Collect { release: 1, due: 5, want: Ok(1) },
-];
-
-#[test]
-fn a_collection_with_pages_to_spare_is_waived(rt: HostRuntime) -> Result<(), Fail> {
-    Ok(plays(&rt, rt.alloc(), &ROOMY, PAGES_TO_SPARE)?)
 }

@@ -6,7 +6,7 @@ use crate::memory::Memory;
 use crate::plans::Plan;
 use crate::played::play;
 use crate::steps::Step;
-use flash_die::{FuseNand, MemoryNand, Nand};
+use flash_die::{MemoryNand, Nand};
 use slot_core::DieCore;
 use slot_types::Refusal;
 use std::alloc::Global;
@@ -66,32 +66,4 @@ pub(crate) fn plays(
     steps: &[Step],
 ) -> Result<(), Refusal> {
     plays_behind(rt, alloc, plan, &[], steps)
-}
-
-fn plays_fused_once(
-    rt: &(impl Abort + Env),
-    alloc: Global,
-    plan: &Plan,
-    calls: u64,
-    steps: &[Step],
-) -> Result<(), Refusal> {
-    let device = FuseNand::new(MemoryNand::new(alloc, plan.shape)?, calls);
-    plays_on(rt, alloc, plan, device, &[], steps)
-}
-
-/// Plays a table on a new die whose device fails behind so many calls. Where memory is scarce and is refused for the
-/// die, another one is made.
-pub(crate) fn plays_fused(
-    rt: &(impl Abort + Env),
-    alloc: Global,
-    plan: &Plan,
-    calls: u64,
-    steps: &[Step],
-) -> Result<(), Refusal> {
-    match plays_fused_once(rt, alloc, plan, calls, steps) {
-        Err(Refusal::NoMemory) if Memory::of(rt).asks_again() => plays_fused_once(
-            rt, alloc, plan, calls, steps,
-        ),
-        answer => answer,
-    }
 }

@@ -1,19 +1,16 @@
 //! Plays a table on a die: what each step asks, and the answer beside what the step wants.
 
-use crate::again::{carry, certificate_of, collect, outcome_of, reserve, submit};
-use crate::certified::{is_built, is_certified, verdict_of, work_of};
-use crate::histories::agrees;
-use crate::idle::{idles, idles_at_once, runs};
+use crate::again::{carry, certificate_of, collect, outcome_of, submit};
+use crate::certified::verdict_of;
 use crate::memory::Memory;
-use crate::nexts::is_next;
 use crate::outcomes::{End, ended};
-use crate::slotted::{acts, at_once, carries, passes, waives};
-use crate::steps::{Fact, NotRenewed, Step};
+use crate::slotted::{acts, carries, waives};
+use crate::steps::{Fact, Step};
 use crate::told::Told;
 use flash_die::Nand;
 use late_cert::Verdict;
-use slot_core::{DieCore, Outcome, RenewalRefusal, Worst};
-use slot_types::{JobNo, Op, Refusal};
+use slot_core::DieCore;
+use slot_types::{JobNo, Refusal};
 use std::alloc::Global;
 use std::process::Abort;
 
@@ -22,33 +19,6 @@ fn numbered(answer: Result<JobNo, Refusal>) -> Result<u32, Refusal> {
     match answer {
         Ok(number) => Ok(number.0),
         Err(refusal) => Err(refusal),
-    }
-}
-
-/// What a renewal answers as tables have it.
-fn renewed(answer: Result<(), RenewalRefusal>) -> Result<(), NotRenewed> {
-    match answer {
-        Ok(()) => Ok(()),
-        Err(RenewalRefusal::DieStopped) => Err(NotRenewed::Stopped),
-        Err(RenewalRefusal::NotQuiet { job }) => Err(NotRenewed::Waits(job)),
-        Err(RenewalRefusal::WornOut { block }) => Err(NotRenewed::Worn(block)),
-    }
-}
-
-fn submits<N: Nand, R: Abort>(
-    told: &Told<R>,
-    die: &mut DieCore<N>,
-    alloc: Global,
-    jobs: u32,
-    release: u32,
-    due: u32,
-    ops: &[Op],
-) {
-    for _ in 0..jobs {
-        told.same(
-            &submit(told.memory, die, alloc, 0, release, due, ops).err(),
-            &None,
-        );
     }
 }
 
@@ -83,44 +53,22 @@ fn stands<N: Nand, R: Abort>(told: &Told<R>, die: &DieCore<N>, alloc: Global, fa
             };
             ended(told, die, alloc, *collection, &want)
         }
-        Fact::Waived { collection, given } => {
-            told.same(
-                &outcome_of(told.memory, die, alloc, *collection),
-                &Ok(Outcome::Waived { given: *given }),
-            )
-        }
-        Fact::Waiting { job } => told.same(
-            &outcome_of(told.memory, die, alloc, *job),
-            &Ok(Outcome::Waiting),
-        ),
         Fact::Unknown { job } => {
             told.same(
                 &outcome_of(told.memory, die, alloc, *job),
                 &Err(Refusal::UnknownJob),
             )
         }
-        Fact::Worst { job, lateness } => {
-            let want = Worst {
-                job: JobNo(*job),
-                lateness: *lateness,
-            };
-            told.same(&die.worst(), &Some(want))
-        }
         Fact::NothingDone => {
             told.same(&die.worst(), &None);
             told.same(&certificate_of(told.memory, die, alloc), &Ok(None))
         }
-        Fact::Certified(bounds) => is_certified(told, die, alloc, bounds),
-        Fact::Built { slots, certificate } => is_built(told, die, alloc, *slots, certificate),
         Fact::Holds => told.same(
             &verdict_of(told.memory, die, alloc),
             &Ok(Some(Verdict::Holds)),
         ),
-        Fact::Work { slots } => told.same(&work_of(told.memory, die, alloc), &Ok(*slots)),
         Fact::Entries { count } => told.same(&die.len(), count),
-        Fact::Records { count } => told.same(&die.records(), count),
         Fact::Now { slot } => told.same(&die.now(), slot),
-        Fact::Reserved { slots } => told.same(&die.reserved(), slots),
     }
 }
 
@@ -139,12 +87,6 @@ fn goes<N: Nand, R: Abort>(told: &Told<R>, die: &mut DieCore<N>, alloc: Global, 
                 want,
             )
         }
-        Step::Submits {
-            jobs,
-            release,
-            due,
-            ops,
-        } => { submits(told, die, alloc, *jobs, *release, *due, *ops) }
         Step::Collect { release, due, want } => {
             told.same(
                 &numbered(collect(told.memory, die, alloc, *release, *due)),
@@ -154,16 +96,7 @@ fn goes<N: Nand, R: Abort>(told: &Told<R>, die: &mut DieCore<N>, alloc: Global, 
         Step::Carries { jobs } => carries(told, die, alloc, *jobs),
         Step::Acts { job, acts: wanted } => acts(told, die, alloc, *job, *wanted),
         Step::Waives { collection, given } => waives(told, die, alloc, *collection, *given),
-        Step::Idles { slot } => idles(told, die, alloc, *slot),
-        Step::IdlesAtOnce { slot } => idles_at_once(told, die, alloc, *slot),
-        Step::Runs { slots } => runs(told, die, alloc, *slots),
-        Step::Passes { slots } => passes(told, die, alloc, *slots),
-        Step::Reserves { slots } => told.same(&reserve(told.memory, die, *slots), &Ok(())),
-        Step::AtOnce { slots } => at_once(told, die, alloc, *slots),
-        Step::Renews { want } => told.same(&renewed(die.renew()), want),
-        Step::Next { ran, call } => is_next(told, die, alloc, *ran, *call),
         Step::NoSlot { want } => told.same(&carry(told.memory, die, alloc), &Err(*want)),
-        Step::History { seed } => agrees(told, die, alloc, *seed),
         Step::Is(fact) => stands(told, die, alloc, fact),
     }
 }

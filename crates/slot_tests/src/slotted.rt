@@ -78,27 +78,3 @@ pub(crate) fn waives<N: Nand, R: Abort>(
     };
     told.fits(is_waiver(&got, want), &got, &want)
 }
-
-/// So many slots are carried out, whatever they do.
-pub(crate) fn passes<N: Nand, R: Abort>(
-    told: &Told<R>,
-    die: &mut DieCore<N>,
-    alloc: Global,
-    slots: u32,
-) {
-    for _ in 0..slots {
-        told.same(&carry(told.memory, die, alloc).err(), &None);
-    }
-}
-
-/// So many slots are carried out, each when it is asked for the first time.
-pub(crate) fn at_once<N: Nand, R: Abort>(
-    told: &Told<R>,
-    die: &mut DieCore<N>,
-    alloc: Global,
-    slots: u32,
-) {
-    for _ in 0..slots {
-        told.same(&die.slot(alloc, 0).err(), &None);
-    }
-}
