@@ -1,6 +1,6 @@
 """The pages of wrong bodies: reads them, and applies one to a copy of the repository.
 
-A section is a heading, maybe a line `fails: CRATE TEST..`, and the lines of an edit between two fences: `file:` names a
+A section is a heading, maybe a line `fails: CRATE TEST..` or `fails: examples TABLE..`, and the lines of an edit between two fences: `file:` names a
 file of the crate, and each `old:` text, which stands there once, becomes the `new:` text below it."""
 
 import pathlib

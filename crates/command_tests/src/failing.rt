@@ -1,4 +1,4 @@
-//! Readers that fail, an error writer that does, and texts without an end.
+//! Readers that fail, and an error writer that does.
 
 use crate::printed::{AUDIT, PLAN_COMMAND};
 use crate::writers::{End, Slow};
@@ -26,17 +26,6 @@ impl Read for FailingReader<'_> {
         self.calls_left -= 1;
         let most = buf.len().min(16);
         self.text.read(&mut buf[..most])
-    }
-}
-
-/// Gives spaces for ever.
-#[derive(Drop)]
-struct Endless;
-
-impl Read for Endless {
-    fn read(&mut self, buf: &mut [u8]) -> io::Result<usize> {
-        buf.fill(b' ');
-        Ok(buf.len())
     }
 }
 
@@ -100,23 +89,4 @@ fn a_fault_of_the_error_writer_is_passed_over(rt: HostRuntime) {
         &mut err,
     );
     assert!(rt; status == 1 && out.is_empty());
-}
-
-#[test]
-fn a_plan_without_an_end_is_too_long(rt: HostRuntime) -> Result<(), Fail> {
-    let alloc = rt.alloc();
-    let (mut out, mut err) = (Vec::new(alloc), Vec::new(alloc));
-    let first = PLAN.as_bytes().chain(Endless);
-    let status = act(
-        &rt,
-        alloc,
-        PLAN_COMMAND,
-        first,
-        io::empty(),
-        &mut out,
-        &mut err,
-    );
-    assert!(rt; status == 1 && out.is_empty());
-    assert!(rt; err.as_slice() == b"error 18 PlanText TooLong\n".as_slice());
-    Ok(())
 }

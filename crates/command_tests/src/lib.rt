@@ -1,9 +1,7 @@
-//! What no clause says of the program's commands: the texts that are printed, the order of files, and faults of readers,
-//! writers and words.
+//! What no clause says of the program's commands, and needs types of its own: the order of files, readers and writers that
+//! fail at a call, and words that are no text. What commands print is in the plays of `crates/examples`.
 #![tactic(auto)]
 
-#[cfg(test)]
-mod acting;
 #[cfg(test)]
 mod command_line;
 #[cfg(test)]
@@ -12,9 +10,5 @@ mod failing;
 mod files;
 #[cfg(test)]
 mod printed;
-#[cfg(test)]
-mod running;
-#[cfg(test)]
-mod words;
 #[cfg(test)]
 mod writers;

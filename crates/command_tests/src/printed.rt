@@ -1,6 +1,6 @@
 //! What a command printed of the tests' texts.
 
-use flash_commands::{Command, Slots, Workers, act};
+use flash_commands::{Command, act};
 use std::alloc::Global;
 use std::io;
 use std::sync::Wait;
@@ -39,13 +39,3 @@ pub(crate) const PLAN_COMMAND: Command<'static> = Command::Plan { plan: "plan.to
 pub(crate) const AUDIT: Command<'static> = Command::Audit {
     report: "report.csv",
 };
-
-/// The run of a script for so many slots by so many workers, if a run can have them.
-pub(crate) fn run_command(slots: u32, workers: u32) -> Option<Command<'static>> {
-    Some(Command::Run {
-        plan: "p.toml",
-        script: "s.csv",
-        slots: Slots::new(slots)?,
-        workers: Workers::new(workers)?,
-    })
-}

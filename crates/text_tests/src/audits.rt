@@ -46,17 +46,3 @@ JobRow { number: JobNo(2), release: 1, due: 9, work: 1, completion: Some(2) }], 
     assert_eq!(rt; found.as_str(), want);
     Ok(())
 }
-
-#[test]
-fn an_audit_refuses_a_start_behind_a_release(rt: HostRuntime) -> Result<(), Fail> {
-    let alloc = rt.alloc();
-    // Job 1 of die 0 was released at slot 0.
-    let text = TWO_REPORT.replace(alloc, "cert,0,1,,0,", "cert,0,1,,1,")?;
-    let report = read_report(alloc, text.as_bytes())?;
-    let found = audit(alloc, report.as_slice())?;
-    let first = found.get(0).ok_or("no die")?;
-    let second = found.get(1).ok_or("no second die")?;
-    assert!(rt; first.verdict == Some(Verdict::EarlyRelease));
-    assert!(rt; second.verdict == Some(Verdict::Holds));
-    Ok(())
-}

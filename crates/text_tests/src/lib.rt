@@ -1,5 +1,6 @@
-//! Texts and what reading them answers: the worked rows of the store, faulty texts, failing readers and writers.
-//! Expected answers are worked out by hand, and compared as `Debug` prints them.
+//! What no clause says of reading, running and writing texts, and needs types of its own: readers and writers that fail,
+//! are interrupted or have no end, refused memory, and values that no command prints. What texts mean is in the plays of
+//! `crates/examples`. Expected answers are worked out by hand.
 #![tactic(auto)]
 
 #[cfg(test)]
@@ -7,34 +8,18 @@ mod answers;
 #[cfg(test)]
 mod audits;
 #[cfg(test)]
-mod batches;
-#[cfg(test)]
 mod bounds;
 #[cfg(test)]
 mod faults;
 #[cfg(test)]
 mod growth;
 #[cfg(test)]
-mod hostile;
-#[cfg(test)]
 mod interrupted;
-#[cfg(test)]
-mod long_scripts;
-#[cfg(test)]
-mod made_rows;
 #[cfg(test)]
 mod memory;
 #[cfg(test)]
 mod plan_bounds;
 #[cfg(test)]
-mod planned;
-#[cfg(test)]
-mod plans;
-#[cfg(test)]
-mod prefixes;
-#[cfg(test)]
 mod reports;
 #[cfg(test)]
 mod runs;
-#[cfg(test)]
-mod scripts;

@@ -1,4 +1,3 @@
-use crate::answers::{Text, check_cases};
 use example_texts::{REPORT, TWO_REPORT};
 use report_texts::{DieWork, read_work};
 use std::alloc::Global;
@@ -94,73 +93,4 @@ worst: Some(Finish { job: JobNo(0), due: 2, completion: 1 }), \
 cert: Some(Certificate { job: JobNo(0), start: 0, due: 2, completion: 1, jobs: [JobNo(0)] }) }";
     assert_eq!(rt; die.as_str(), want);
     Ok(())
-}
-
-#[test]
-fn reports_are_refused_at_the_first_record_that_breaks_them(rt: HostRuntime) -> Result<(), Fail> {
-    let cases = "row,die|raw,die|Some(ReportText { line: 1 })
-cert,1,0,,0,2,,1,-1,,0~||Some(ReportText { line: 8 })
-cert,0,1,,0,5,,5,0,,0 1~||Some(ReportText { line: 7 })
-cert,1,0,,0,2,,1,-1,,0~|cert,1,0,,0,2,,1,-1,,0~cert,1,0,,0,2,,1,-1,,0~|Some(ReportText { line: 9 })
-cert,1,0,,0,2,,1,-1,,0~|cert,1,0,,0,2,,1,-1,,0~job,1,3,0,1,2,0,,,,~|Some(ReportText { line: 9 })
-cert,0,1,,0,5,,5,0,,0 1~|cert,0,0,,0,5,,4,-1,,0 1~|Some(ReportText { line: 7 })
-cert,0,1,,0,5,,5,0,,0 1~|cert,0,1,,0,5,,5,-0,,0 1~|Some(ReportText { line: 7 })
-cert,0,1,,0,5,,5,0,,0 1~|cert,0,1,0,0,5,,5,0,,0 1~|Some(ReportText { line: 7 })
-cert,0,1,,0,5,,5,0,,0 1~|cert,0,1,,0,5,,5,0,,0  1~|Some(ReportText { line: 7 })
-cert,0,1,,0,5,,5,0,,0 1~|cert,0,1,,,5,,5,0,,0 1~|Some(ReportText { line: 7 })
-job,0,1,0|job,0,2,0|Some(ReportText { line: 3 })
-job,1,0,0|job,0,0,0|Some(ReportText { line: 4 })
-job,1,0,0|job,8,0,0|Some(ReportText { line: 4 })
-job,1,0,0|job,1,1,0|Some(ReportText { line: 4 })
-job,1,2,0|job,0,2,0|Some(ReportText { line: 6 })
-waived,1,1,0|waived,1,1,16|Some(ReportText { line: 5 })
-waived,1,1,0|collect,1,1,0|Some(ReportText { line: 5 })
-waived,1,1,0,1,4,0,,,1|waived,1,1,0,1,4,1,,,1|Some(ReportText { line: 5 })
-waived,1,1,0,1,4,0,,,1|waived,1,1,0,1,4,0,,,|Some(ReportText { line: 5 })
-waived,1,1,0,1,4,0,,,1,|waived,1,1,0,1,4,0,,,1|Some(ReportText { line: 5 })
-waived,1,1,0,1,4|waived,1,1,0,4,4|Some(ReportText { line: 5 })
-waived,1,1,0,1,4|waived,1,1,0,1,1048577|Some(ReportText { line: 5 })
-job,0,1,0,0,5,3,5,0,|job,0,1,0,0,5,3,5,1,|Some(ReportText { line: 3 })
-job,0,1,0,0,5,3,5,0,|job,0,1,0,0,5,3,5,,|Some(ReportText { line: 3 })
-job,0,1,0,0,5,3,5,0,|job,0,1,0,0,5,0,5,0,|Some(ReportText { line: 3 })
-job,0,1,0,0,5,3,5,0,|job,0,1,0,0,5,3,5,0,0|Some(ReportText { line: 3 })
-job,0,1,0,0,5,3,5,0,|job,0,1,0,0,5,3,,,|Some(ReportText { line: 3 })
-job,0,1,0,0,5,3,5,0,|job,0,1,0,0,5,3,1048577,1048572,|Some(ReportText { line: 3 })
-0e0f10|0e0f1|Some(ReportText { line: 6 })
-0e0f10|0e0f1x|Some(ReportText { line: 6 })";
-    check_cases(&rt, rt.alloc(), Text::Report, TWO_REPORT, cases)?;
-    check_cases(
-        &rt,
-        rt.alloc(),
-        Text::Report,
-        "x",
-        "x||Some(ReportText { line: 1 })",
-    )
-}
-
-#[test]
-fn what_a_certificate_lists_is_judged_by_its_check(rt: HostRuntime) -> Result<(), Fail> {
-    let cases = "5,0,,0 1~|5,0,,~|None
-5,0,,0 1~|5,0,,0 0 1~|None
-5,0,,0 1~|5,0,,0 1 9~|None
-5,0,,0 1~|5,0,,1~|None
-cert,0,1,,0,5|cert,0,1,,1,5|None
-0102030405060708090a0b0c0d0e0f10|0102030405060708090A0B0C0D0E0F10|None
-2,-7,,|2,-07,,|None
-2,,1,-1,,0~|2,,1,-1,,0|None
-~|\r~|None";
-    check_cases(&rt, rt.alloc(), Text::Report, TWO_REPORT, cases)
-}
-
-#[test]
-fn of_equally_late_jobs_the_one_completed_first_is_the_worst(rt: HostRuntime) -> Result<(), Fail> {
-    let base = "row,die,job,task,release,due,work,completion,lateness,given,items
-job,0,0,0,0,3,1,2,-1,,
-job,0,1,0,0,2,1,1,-1,,
-job,0,2,0,0,9,1,3,-6,,
-";
-    let cases = "-6,,~|-6,,~cert,0,1,,0,2,,1,-1,,1|None
--6,,~|-6,,~cert,0,0,,0,3,,2,-1,,0|Some(ReportText { line: 5 })
--6,,~|-6,,~cert,0,2,,0,9,,3,-6,,2|Some(ReportText { line: 5 })";
-    check_cases(&rt, rt.alloc(), Text::Report, base, cases)
 }
