@@ -25,8 +25,6 @@ mod plans;
 #[cfg(test)]
 mod played;
 #[cfg(test)]
-mod resumed;
-#[cfg(test)]
 mod slotted;
 #[cfg(test)]
 mod steps;
