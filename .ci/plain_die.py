@@ -1,5 +1,5 @@
 #!/usr/bin/env python3
-"""The rules of one die (docs/RULES.md), read a second time: plays the histories of crates/die_plays/data by them, and
+"""The rules of one die (docs/RULES.md), read a second time: plays the histories of crates/test_die_plays/data by them, and
 writes those that are made by seeds. It reads nothing of the program, and is in no hurry: what can be counted is counted
 anew.
 
@@ -7,15 +7,16 @@ anew.
     .ci/plain_die.py write             writes the files that are made
     .ci/plain_die.py written           names each of them that isn't what it would write
 
-Ends with 1 where it names one. crates/die_plays/README.md has the words of a text."""
+Ends with 1 where it names one. crates/test_die_plays/README.md has the words of a text."""
 import copy
 import sys
 from pathlib import Path
 
-DATA = Path(__file__).resolve().parent.parent / "crates/die_plays/data"
+DATA = Path(__file__).resolve().parent.parent / "crates/test_die_plays/data"
 LAST_SLOT = 1_048_576
 MOST_JOBS = 65_536
 MOST_OPS = 64
+MOST_ERASES = 4_293_918_718
 BLANK = "ff" * 16
 
 
@@ -234,6 +235,41 @@ class Item:
 WAIVED = "waived"
 
 
+# Checkpoints
+
+class Stood:
+    def __init__(self, places, blocks, spare, balances):
+        self.places, self.blocks, self.spare, self.balances = places, blocks, spare, balances
+
+    def told(self):
+        places = " ".join("-" if at is None else f"{at[0]}/{at[1]}" for at in self.places)
+        blocks = " ".join(f"{used}/{erases}" for used, erases in self.blocks)
+        return f"pages {places} blocks {blocks} spare {self.spare} balances {' '.join(map(str, self.balances))}"
+
+    def fault(self, plan):
+        """The first cause for which it doesn't fit a plan, if there is one."""
+        sizes = (len(self.blocks), len(self.places), len(self.balances))
+        if sizes != (plan.blocks, plan.logical, len(plan.caps)):
+            return "other shape"
+        if plan.refusal():
+            return "bad plan"
+        used = [block[0] for block in self.blocks]
+        opened = [number for number, pages in enumerate(used) if 0 < pages < plan.pages]
+        accounts = self.spare + sum(self.balances) + len(plan.caps) * (plan.pages - plan.alpha)
+        free = sum(plan.pages - pages for pages in used)
+        causes = (
+            ("overfull", [number for number, pages in enumerate(used) if pages > plan.pages]),
+            ("second open", opened[1:]),
+            ("worn", [number for number, block in enumerate(self.blocks) if block[1] > MOST_ERASES]),
+            ("unprogrammed", [page for page, at in enumerate(self.places)
+                              if at and not (at[0] < plan.blocks and at[1] < used[at[0]])]),
+            ("above cap", [task for task, cap in enumerate(plan.caps) if self.balances[task] > cap]),
+            ("accounts", [f"{accounts} free {free}"] if accounts != free else []),
+            ("shared", [page for page, at in enumerate(self.places) if at and at in self.places[:page]]),
+        )
+        return next((f"{name} {where[0]}" for name, where in causes if where), None)
+
+
 class Die:
     def __init__(self, plan, calls):
         self.plan = plan
@@ -414,7 +450,8 @@ class Die:
             rows.append(f"row {item.number} {item.release} {item.due} {work} {end}")
         return " ".join(rows)
 
-    def renew(self):
+    def not_quiet(self):
+        """Why no life ends here, if none does."""
         if self.stopped:
             return "stopped"
         head = self.head()
@@ -423,10 +460,55 @@ class Die:
         if head is not None:
             return f"waits {head.number}"
         for number, block in enumerate(self.flash.blocks):
-            if block.erases > 4_293_918_718:
+            if block.erases > MOST_ERASES:
                 return f"worn {number}"
+        return None
+
+    def renew(self):
+        why = self.not_quiet()
+        if why is None:
+            self.start()
+        return why or "ok"
+
+    def stood(self):
+        """What stands where a life ends: places, by block its programmed pages and erases, the spare pages, the balances."""
+        accounts = self.accounts
+        assert not any(accounts.hold) and all(own == self.plan.pages - self.plan.alpha for own in accounts.reserve)
+        return Stood(list(self.flash.at), [(block.used(), block.erases) for block in self.flash.blocks], accounts.spare,
+                     list(accounts.balance))
+
+    def checkpoint(self):
+        return self.not_quiet() or self.stood().told()
+
+    def resume(self, plan, stood):
+        """Another die goes on with the device, by this plan. Why it doesn't, if it doesn't."""
+        why = stood.fault(plan)
+        if (plan.blocks, plan.pages, plan.erase_slots) != (self.plan.blocks, self.plan.pages, self.plan.erase_slots):
+            why = "other device"
+        if why is None:
+            self.plan, self.accounts = plan, Accounts(plan)
+            self.accounts.spare, self.accounts.balance = stood.spare, list(stood.balances)
+            self.flash.at = list(stood.places)
+            self.flash.bytes = [BLANK if at is None else content for at, content in zip(stood.places, self.flash.bytes)]
+        self.reserved = 0
         self.start()
-        return "ok"
+        return why or "ok"
+
+    def settle(self):
+        """Carries out slots until all is done or was waived. How many these were."""
+        first = self.now
+        while self.pending and self.now < LAST_SLOT:
+            self.slot()
+        return self.now - first
+
+    def checkpoint(self):
+        """What stands at a quiet moment, as the records of a checkpoint's text without the one that ends a die."""
+        assert not self.pending
+        records = []
+        for at, content in zip(self.flash.at, self.flash.bytes):
+            records.append(f"page,{at[0]},{at[1]},{content}" if at else "page,,,")
+        records += [f"block,{block.used()},{block.erases}" for block in self.flash.blocks]
+        return records + [f"task,{balance}" for balance in self.accounts.balance]
 
     def next(self):
         """What the next slot will do, and by which call of the device."""
@@ -461,6 +543,18 @@ def ops_in(field):
 
 def numbers_in(field):
     return [int(word) for word in field.split(" ")] if field else []
+
+
+def pairs_in(field):
+    return [None if word == "-" else tuple(map(int, word.split("/"))) for word in field.split(" ")]
+
+
+def stood_in(fields):
+    return Stood(pairs_in(fields[0]), pairs_in(fields[1]), int(fields[2]), numbers_in(fields[3]))
+
+
+def plan_in(fields, common=None, tasks=None):
+    return Plan([int(field) for field in fields[:5]], numbers_in(fields[5]), common, tasks)
 
 
 def event_in(fields):
@@ -505,8 +599,7 @@ class Player:
         if name == "timed":
             numbers, common, first = numbers_in(fields[2]), int(fields[1]), 3
             tasks = [tuple(numbers[place:place + 4]) for place in range(0, len(numbers), 4)]
-        numbers = [int(field) for field in fields[first:first + 5]]
-        plan = Plan(numbers, numbers_in(fields[first + 5]), common, tasks)
+        plan = plan_in(fields[first:], common, tasks)
         if plan.refusal():
             raise Refused(plan.refusal())
         self.die, self.asked, self.put = Die(plan, calls), [], []
@@ -538,6 +631,13 @@ class Player:
         reply = self.die.slot()
         assert self.die.is_balanced(), "the parts of the accounts don't sum to the free pages"
         return reply
+
+    def resume(self, name, fields):
+        die, own = self.die, self.die.stood()
+        if name == "resume-from":
+            given = stood_in(fields)
+            return die.resume(die.plan, given) if given.fault(die.plan) else "fits"
+        return die.resume(plan_in(fields) if name == "resume-as" else die.plan, own)
 
     def ask(self, name, fields):
         die = self.die
@@ -573,7 +673,9 @@ class Player:
             return die.plan.load()
         if name == "keeps":
             return "yes" if die.plan.is_kept(self.asked) else "no"
-        if name in ("rows", "renew", "next"):
+        if name in ("resume", "resume-as", "resume-from"):
+            return die.not_quiet() or self.resume(name, fields[1:])
+        if name in ("rows", "renew", "next", "checkpoint"):
             return getattr(die, name)()
         return getattr(die, name)
 
@@ -914,12 +1016,38 @@ def by_chance(plan, copies, comment):
     return out.whole()
 
 
+def lives():
+    """Arrivals in two of three slots, and then none until all is done: a life ends, and what stands is told."""
+    out = Writer(MADE, "Lives by chance, on plans at their bound. When one ends the die is renewed, or given up and resumed.")
+    for seed, plan in ((7, Plan((3, 4, 3, 3, 1), [2])), (1974, Plan((8, 4, 3, 17, 2), [4])), (11, Plan((8, 4, 2, 15, 1), [2, 2]))):
+        out.paragraph(f"Seed {seed}.")
+        first, dice = len(out.text), Dice(seed)
+        out.ask(plan.line())
+        for _ in range(20):
+            for now in range(40 + dice.roll(40)):
+                for line in arrivals(dice, plan, now):
+                    out.ask(line)
+                out.ask("slot")
+            while out.player.die.pending:
+                assert out.ask("checkpoint").startswith("waits")
+                out.ask("slot")
+            for line in ("verdict", "checkpoint"):
+                out.ask(line)
+            assert out.ask("renew" if dice.roll(3) == 0 else "resume") == "ok"
+        out.ask("checkpoint")
+        resumed = sum(line == "resume,ok" for line in out.text[first:])
+        assert 8 <= resumed <= 18, resumed
+        end_of_history(out, first, {"writes": 100, "trims": 20, "erases": 50, "copies": 5})
+    return out.whole()
+
+
 def made():
     """The files that are made, by their names."""
     return {
         "faults.txt": faults,
         "recorders.txt": planned,
         "dense.txt": dense,
+        "lives.txt": lives,
         "fewest_blocks.txt": lambda: by_chance(
             Plan((3, 4, 3, 3, 1), [2]), 5, "Three blocks: with two there would be none to collect."),
         "eight_blocks.txt": lambda: by_chance(Plan((8, 4, 3, 17, 2), [4]), 50, "Eight blocks."),

@@ -222,6 +222,64 @@ static void show_corruption(flash_die *die) {
     puts("a corrupted page is a fault");
 }
 
+/* What a driver writes down when it shuts down, and reads back when it goes on. */
+static struct {
+    struct flash_place places[LOGICAL];
+    struct flash_name names[LOGICAL];
+    struct flash_block blocks[BLOCKS];
+    uint32_t balance, spare;
+} kept;
+
+static uint32_t shut_down(flash_die *die, struct flash_why *why) {
+    return flash_checkpoint(die, kept.places, LOGICAL, kept.names, LOGICAL, kept.blocks, BLOCKS, &kept.balance, 1, &kept.spare, why);
+}
+
+static uint32_t go_on(flash_die *die, struct flash_why *why) {
+    struct flash_plan plan = {BLOCKS, PAGES, ERASE_SLOTS, LOGICAL, 2, 0};
+    struct flash_task task = {4, 0, 0, 0, 0};
+    return flash_resume(die, &plan, &task, 1, kept.places, LOGICAL, kept.names, LOGICAL, kept.blocks, BLOCKS, &kept.balance, 1,
+                        kept.spare, why);
+}
+
+/* A die is let go and made again, while the chip keeps its pages. */
+static void show_shutdown(void) {
+    static uint8_t payload[PAYLOAD];
+    uint32_t job, acts[7] = {0};
+    struct flash_why why;
+    struct flash_reply reply;
+    struct flash_call call;
+    struct flash_waived waived[16];
+    struct flash_name gave;
+    flash_die die = made();
+    check(play(&die, 30, acts) == FLASH_OK, "30 rounds");
+    memset(payload, 5, PAYLOAD);
+    struct flash_op write = {FLASH_WRITE, 3, name_of(payload)}, read = {FLASH_READ, 3, {{0}}};
+    check(flash_submit(&die, 1, 0, flash_now(&die), flash_now(&die) + 9, &write, 1, &job, &why) == FLASH_OK, "page 3 is to be written");
+    check(shut_down(&die, &why) == FLASH_NOT_QUIET && why.first == job, "not while a job waits");
+    stage(payload);
+    check(slot(&die, &reply) == FLASH_OK && reply.finished, "it is done");
+    check(shut_down(&die, &why) == FLASH_OK, "what stands is told");
+    check(!memcmp(&kept.names[3], &write.name, sizeof write.name), "a page's name is what was written last");
+    flash_free(&die);
+
+    kept.spare++;
+    check(go_on(&die, &why) == FLASH_OTHER_SUM && why.first == why.second + 1, "a page more than are free");
+    kept.spare--;
+    check(go_on(&die, &why) == FLASH_OK && flash_now(&die) == 0 && flash_len(&die) == 0, "it goes on with an empty log");
+    check(flash_submit(&die, 1, 0, 0, 9, &read, 1, &job, &why) == FLASH_OK && slot(&die, &reply) == FLASH_OK
+          && !memcmp(&reply.name, &write.name, sizeof write.name), "page 3 is there");
+    check(play(&die, 30, acts) == FLASH_OK, "30 rounds more");
+    check(shut_down(&die, &why) == FLASH_OK, "a second time");
+    flash_free(&die);
+
+    cells[kept.places[3].block][kept.places[3].page][17] ^= 1;
+    check(go_on(&die, &why) == FLASH_OK, "the chip has changed page 3 meanwhile");
+    check(flash_submit(&die, 1, 0, 0, 9, &read, 1, &job, &why) == FLASH_OK && flash_begin(&die, 9, &call) == FLASH_OK, "its read begins");
+    check(drive(&call, &gave) && flash_end(&die, 1, &gave, &reply, waived, 16) == FLASH_DEVICE_FAULT, "and is a fault");
+    flash_free(&die);
+    puts("a shutdown, and a die that goes on");
+}
+
 static void show_refusals(flash_die *die) {
     struct flash_op ops[65] = {{FLASH_WRITE, 0, {{0}}}};
     struct flash_why why = {0, 0};
@@ -261,6 +319,7 @@ int main(void) {
     check(play(&die, 0, acts) == FLASH_OK && flash_reserve(&die, 1) == FLASH_OK, "questions and room are to be had");
     flash_free(&die);
     puts("a program that fails stops the die");
+    show_shutdown();
     puts("all as it should be");
     return 0;
 }

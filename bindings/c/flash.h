@@ -61,7 +61,15 @@ enum {
     FLASH_CERT_UNFINISHED = 204,    /* a listed job isn't done, or no slot carried it */
     FLASH_CERT_EARLY_RELEASE = 205, /* a listed job was released before the certificate's start */
     FLASH_CERT_LATE_DUE = 206,      /* a listed job is due after the certificate's due */
-    FLASH_CERT_WRONG_SUM = 207      /* the work of the listed jobs isn't the number of slots from start to completion */
+    FLASH_CERT_WRONG_SUM = 207,     /* the work of the listed jobs isn't the number of slots from start to completion */
+    /* what is wrong with a checkpoint first */
+    FLASH_OTHER_SHAPE = 301,        /* it has another number of logical pages, blocks or tasks than the plan */
+    FLASH_OVERFULL = 302,           /* more pages are programmed in a block than it has [first: the first such block] */
+    FLASH_SECOND_OPEN = 303,        /* two blocks have programmed and free pages [first: the second of them] */
+    FLASH_UNPROGRAMMED = 304,       /* a page lies in a cell that isn't programmed, or isn't there [first: the first such page] */
+    FLASH_ABOVE_CAP = 305,          /* a balance is above its task's cap [first: the first such task] */
+    FLASH_OTHER_SUM = 306,          /* the accounts share out another number of pages than are free [first: they; second: free] */
+    FLASH_SHARED_CELL = 307         /* a page lies in the cell of a page before it [first: the first such page] */
 };
 
 /* What a refusal has beside its number. */
@@ -207,6 +215,38 @@ uint32_t flash_reserve(flash_die *die, uint32_t slots);
  *
  * The first that stands: DIE_STOPPED; BEGUN; NOT_QUIET; WORN_OUT. */
 uint32_t flash_renew(flash_die *die, struct flash_why *why);
+
+/* ---- Shutting down and going on ----------------------------------------------------------------------------------- */
+
+/* Where a logical page lies: in this cell, or nowhere if `block` is FLASH_NOWHERE. */
+#define FLASH_NOWHERE UINT32_MAX
+struct flash_place { uint32_t block, page; };
+
+/* How many pages of a block are programmed since its last erase, the first so many, and how often it was erased. */
+struct flash_block { uint32_t filled, erases; };
+
+/* Tells what stands at a moment at which all that was accepted is done or was waived, and leaves the die as it is: by logical
+ * page its cell, and its name, which is what was written to it last (sixteen bytes 0xFF where it lies nowhere); by block its
+ * counts; by task how many tokens it has; and the pages that are spare. Give places and names as many items as the plan
+ * has logical pages, blocks as it has blocks, balances as it has tasks: what is told is whole then, and flash_resume takes it.
+ *
+ * The first that stands: DIE_STOPPED; BEGUN; NOT_QUIET; WORN_OUT; NO_MEMORY. */
+uint32_t flash_checkpoint(flash_die *die, struct flash_place *places, size_t place_count, struct flash_name *names,
+                          size_t name_count, struct flash_block *blocks, size_t block_count, uint32_t *balances,
+                          size_t balance_count, uint32_t *spare, struct flash_why *why);
+
+/* Makes a die in an empty handle that goes on from a checkpoint, at slot 0 with an empty log, as flash_renew would have. The
+ * plan may be another one than before, if the checkpoint fits it: the same blocks, pages, logical pages and number of tasks.
+ * A page that lies nowhere, or that has no name here, is blank. What the chip has changed meanwhile is found: a read that gives
+ * another name than the one of its page here is a fault.
+ *
+ * The chip has to be as the checkpoint says: so many pages of each block are programmed, and no block is in erase. All that
+ * the arrays alone can show is tested. The first that stands: NO_MEMORY, which may come at any time; OTHER_SHAPE; BAD_PLAN;
+ * OVERFULL; SECOND_OPEN; WORN_OUT; UNPROGRAMMED; ABOVE_CAP; OTHER_SUM; SHARED_CELL. The handle stays empty then. */
+uint32_t flash_resume(flash_die *die, const struct flash_plan *plan, const struct flash_task *tasks, size_t count,
+                      const struct flash_place *places, size_t place_count, const struct flash_name *names, size_t name_count,
+                      const struct flash_block *blocks, size_t block_count, const uint32_t *balances, size_t balance_count,
+                      uint32_t spare, struct flash_why *why);
 
 /* ---- Questions ----------------------------------------------------------------------------------------------------
  *

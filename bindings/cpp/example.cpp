@@ -64,6 +64,10 @@ int main() {
     check(refused([&] { die.submit(1, 0, die.now(), die.now() + 1, {flash::trim(0), flash::read(16)}); }) == FLASH_BAD_PAGE, "page 16");
     die.renew();
     check(die.now() == 0, "a new log");
+    flash::checkpoint left = die.checkpoint();
+    die = flash::die(plan, {{4, 0, 0, 0, 0}}, left); // the chip keeps its pages
+    left.places.pop_back();
+    check(refused([&] { flash::die(plan, {{4, 0, 0, 0, 0}}, left); }) == FLASH_OTHER_SHAPE, "a page less than the plan has");
     die.submit(1, 0, 0, 2, {flash::read(5)});
     { flash::slot let_go = die.begin(9); }
     check(refused([&] { die.begin(9); }) == FLASH_DIE_STOPPED, "a slot that is let go stops the die");

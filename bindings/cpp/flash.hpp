@@ -67,6 +67,16 @@ struct certificate : ::flash_certificate {
     std::vector<std::uint32_t> listed;
 };
 
+// What stands on a die at a moment at which all is done or was waived: by logical page its cell and its name, by block its
+// counts, by task how many tokens it has, and the pages that are spare.
+struct checkpoint {
+    std::vector<::flash_place> places;
+    std::vector<name> names;
+    std::vector<::flash_block> blocks;
+    std::vector<std::uint32_t> balances;
+    std::uint32_t spare = 0;
+};
+
 // Whether flash::die takes the plan, and, of a plan with times, what it asks for.
 inline void bound(const plan &p, const std::vector<task> &tasks) { must(::flash_plan_bound(&p, tasks.data(), tasks.size())); }
 inline ::flash_load plan_test(const plan &p, const std::vector<task> &tasks) {
@@ -133,12 +143,39 @@ public:
             throw refusal(code);
         }
         handle_ = made;
+        size_ = p;
+        tasks_ = tasks.size();
+    }
+
+    // A die that goes on from a checkpoint. The chip has to be as that says.
+    die(const plan &p, const std::vector<task> &tasks, const checkpoint &c) {
+        auto made = new ::flash_die{nullptr};
+        static const task none{};
+        static const ::flash_place nowhere{FLASH_NOWHERE, 0};
+        static const name blank{};
+        static const ::flash_block free_block{};
+        static const std::uint32_t nothing = 0;
+        ::flash_why why{0, 0};
+        std::uint32_t code = ::flash_resume(
+            made, &p, tasks.empty() ? &none : tasks.data(), tasks.size(), c.places.empty() ? &nowhere : c.places.data(),
+            c.places.size(), c.names.empty() ? &blank : c.names.data(), c.names.size(),
+            c.blocks.empty() ? &free_block : c.blocks.data(), c.blocks.size(),
+            c.balances.empty() ? &nothing : c.balances.data(), c.balances.size(), c.spare, &why);
+        if (code != FLASH_OK) {
+            delete made;
+            throw refusal(code, why);
+        }
+        handle_ = made;
+        size_ = p;
+        tasks_ = tasks.size();
     }
     die(const die &) = delete;
     die &operator=(const die &) = delete;
-    die(die &&other) noexcept : handle_(std::exchange(other.handle_, nullptr)) {}
+    die(die &&other) noexcept : handle_(std::exchange(other.handle_, nullptr)), size_(other.size_), tasks_(other.tasks_) {}
     die &operator=(die &&other) noexcept {
         std::swap(handle_, other.handle_);
+        std::swap(size_, other.size_);
+        std::swap(tasks_, other.tasks_);
         return *this;
     }
     ~die() {
@@ -175,6 +212,21 @@ public:
     void renew() {
         ::flash_why why{0, 0};
         must(::flash_renew(handle_, &why), why);
+    }
+
+    // What stands, with the names of the pages. The die stays as it is.
+    flash::checkpoint checkpoint() {
+        flash::checkpoint told;
+        told.places.resize(size_.logical);
+        told.names.resize(size_.logical);
+        told.blocks.resize(size_.blocks);
+        told.balances.resize(tasks_);
+        ::flash_why why{0, 0};
+        must(::flash_checkpoint(handle_, told.places.data(), told.places.size(), told.names.data(), told.names.size(),
+                                told.blocks.data(), told.blocks.size(), told.balances.data(), told.balances.size(),
+                                &told.spare, &why),
+             why);
+        return told;
     }
 
     std::uint32_t now() const { return ::flash_now(handle_); }
@@ -225,6 +277,8 @@ public:
 private:
     // On the heap, so that a die moves while one of its slots has begun, and so that a handle is never copied.
     ::flash_die *handle_ = nullptr;
+    plan size_{};
+    std::size_t tasks_ = 0;
 };
 
 } // namespace flash

@@ -1,5 +1,6 @@
 /* Plays random histories through C. Each call goes to the script, what it was answered to the answers, a line each; the
- * script is then replayed over DieCore::slot (replay.rt.txt), whose answers have to be the same, line for line.
+ * script is then replayed over DieCore::slot (replay.rt.txt), whose answers have to be the same, line for line. Half of the
+ * renewals are a checkpoint and a die that goes on from it.
  *
  *   play SEED COUNT SCRIPT ANSWERS
  *
@@ -215,10 +216,31 @@ static int slot(flash_die *die) {
     return 1;
 }
 
+/* A renewal; or the die is let go and made again from its checkpoint, which has to come to the same. */
+static uint32_t start_anew(flash_die *die, struct flash_why *why) {
+    static struct flash_place places[64];
+    static struct flash_name names[64];
+    struct flash_block blocks[BLOCKS];
+    uint32_t balances[TASKS], spare;
+    if (random_below(2)) return flash_renew(die, why);
+    uint32_t code = flash_checkpoint(die, places, plan.logical, names, plan.logical, blocks, plan.blocks, balances, task_count, &spare, why);
+    if (code) return code;
+    for (uint32_t p = 0; p < plan.logical; p++) {
+        if (places[p].block == FLASH_NOWHERE) check(word_of(&names[p]) == 0xFFFFFFFFu, "a page that lies nowhere is blank");
+        else check(!memcmp(&names[p], &chip[places[p].block].cells[places[p].page], sizeof names[p]), "a page's name is that of its cell");
+    }
+    for (uint32_t b = 0; b < plan.blocks; b++) check(blocks[b].filled == chip[b].filled && !chip[b].erasing, "the chip is as it says");
+    flash_free(die);
+    check(flash_resume(die, &plan, tasks, task_count, places, plan.logical, names, plan.logical, blocks, plan.blocks, balances,
+                       task_count, spare + 1, why) == FLASH_OTHER_SUM, "a page more than are free");
+    return flash_resume(die, &plan, tasks, task_count, places, plan.logical, names, plan.logical, blocks, plan.blocks, balances,
+                        task_count, spare, why);
+}
+
 static void renew(flash_die *die) {
     struct flash_why why = {0, 0};
     fputs("renew\n", script);
-    uint32_t code = flash_renew(die, &why);
+    uint32_t code = start_anew(die, &why);
     if (code == FLASH_OK) { fputs("renewed\n", answers); jobs = 0; }
     else fprintf(answers, "refused %" PRIu32 " %" PRIu32 " 0\n", code, why.first);
 }

@@ -43,6 +43,11 @@ with flash.Die(flash.Plan(8, 4, 3, 16, 2), [flash.Task(4)]) as die:
     print(refused(lambda: die.submit(0, die.now(), die.now() + 1, [(flash.READ, 16)])))
     print(refused(lambda: die.submit(0, die.now(), die.now() + 1, [(flash.WRITE, 0, b"x" * 16)] * 5)))
     die.renew()
+    checkpoint = die.checkpoint()
+
+with flash.Die(flash.Plan(8, 4, 3, 16, 2), [flash.Task(4)], checkpoint) as die:  # the chip keeps its pages
+    assert die.checkpoint() == checkpoint
+    print(refused(lambda: flash.Die(flash.Plan(8, 4, 3, 16, 2), [flash.Task(4)], checkpoint._replace(balances=[5]))))
     die.submit(0, 0, 1, [(flash.READ, 3)])
     print(refused(lambda: die.slot(lambda call: (True, b"?" * 16))))
     print(refused(lambda: die.begin()))

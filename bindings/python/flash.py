@@ -38,6 +38,9 @@ _Outcome = _struct("_Outcome", "state completion given reads", [("lateness", I64
 _Worst = _struct("_Worst", "job", [("lateness", I64)])
 _Certificate = _struct("_Certificate", "job start due completion jobs")
 _Row = _struct("_Row", "number release due work done completion")
+_Place = _struct("_Place", "block page")
+_Block = _struct("_Block", "filled erases")
+_NOWHERE = 0xFFFFFFFF
 
 Plan = namedtuple("Plan", "blocks pages erase_slots logical alpha common", defaults=(0,))
 Task = namedtuple("Task", "cap period collect_period work writes", defaults=(0, 0, 0, 0))
@@ -50,10 +53,13 @@ Outcome = namedtuple("Outcome", "state completion lateness given reads")
 Worst = namedtuple("Worst", "job lateness")
 Certificate = namedtuple("Certificate", "job start due completion jobs")
 Row = namedtuple("Row", "number release due work completion")
+Block = namedtuple("Block", "filled erases")
+# by logical page its cell, (block, page) or None, and its name; by block its counts; by task its tokens; the spare pages
+Checkpoint = namedtuple("Checkpoint", "places names blocks balances spare")
 
 _lib = c.CDLL(os.environ.get("FLASH_LIB", os.path.join(os.path.dirname(os.path.abspath(__file__)), "../c/out/libflash.so")))
 for _word in ("version refusal_name plan_bound plan_test new submit collect begin end reserve renew now job outcome worst "
-              "certificate rows check").split():
+              "certificate rows check checkpoint resume").split():
     getattr(_lib, "flash_" + _word).restype = U32
 _lib.flash_len.restype = _lib.flash_records.restype = U64
 _lib.flash_free.restype = None
@@ -110,10 +116,20 @@ def check(rows, certificate):
 class Die:
     """One die, of one thread; `with` lets it go."""
 
-    def __init__(self, plan, tasks):
+    def __init__(self, plan, tasks, checkpoint=None):
+        """A die over a chip that is erased; with a checkpoint one that goes on from there, over a chip that is as that says."""
         self._at = None
+        tasks = list(tasks)
+        self._shape = Plan(*plan), len(tasks)
         handle = _Handle()
-        _must(_lib.flash_new(c.byref(handle), *_plan(plan, tasks)))
+        if checkpoint is None:
+            _must(_lib.flash_new(c.byref(handle), *_plan(plan, tasks)))
+        else:
+            why = _Why()
+            _must(_lib.flash_resume(
+                c.byref(handle), *_plan(plan, tasks), *_list(_Place, (_Place(*(at or (_NOWHERE, 0))) for at in checkpoint.places)),
+                *_list(_Name, (_Name(*name) for name in checkpoint.names)), *_list(_Block, (_Block(*b) for b in checkpoint.blocks)),
+                *_list(U32, checkpoint.balances), U32(checkpoint.spare), c.byref(why)), why)
         self._at = handle
 
     def __enter__(self):
@@ -187,6 +203,16 @@ class Die:
     def renew(self):
         why = _Why()
         _must(_lib.flash_renew(self._die, c.byref(why)), why)
+
+    def checkpoint(self):
+        """What stands at a moment at which all is done or was waived, with the names of the pages."""
+        plan, count = self._shape
+        places, names, blocks = (_Place * plan.logical)(), (_Name * plan.logical)(), (_Block * plan.blocks)()
+        balances, spare, why = (U32 * count)(), U32(), _Why()
+        _must(_lib.flash_checkpoint(self._die, places, c.c_size_t(plan.logical), names, c.c_size_t(plan.logical), blocks,
+                                    c.c_size_t(plan.blocks), balances, c.c_size_t(count), c.byref(spare), c.byref(why)), why)
+        return Checkpoint([None if p.block == _NOWHERE else (p.block, p.page) for p in places], [bytes(n) for n in names],
+                          [Block(b.filled, b.erases) for b in blocks], list(balances), spare.value)
 
     def now(self):
         return _lib.flash_now(self._die)

@@ -1,6 +1,6 @@
 //! Drives a chip of 4 KiB pages, which is simulated here: what `../c/example.c` does, in Rust.
 
-use flash::{check, Act, Call, Die, Name, Op, Outcome, Plan, Refusal};
+use flash::{check, Act, Call, Die, Misfit, Name, Op, Outcome, Plan, Refusal};
 use std::collections::HashMap;
 
 const PAYLOAD: usize = 4096;
@@ -150,7 +150,21 @@ fn main() -> Result<(), Refusal> {
     assert_eq!(play(&mut die, &mut driver, 200), Err(Refusal::DeviceFault));
     println!("a program that fails stops the die");
 
-    // So does a slot that is let go.
+    // The die is let go and made again from its checkpoint; the chip keeps its pages.
+    let (mut die, mut driver) = made()?;
+    play(&mut die, &mut driver, 30)?;
+    let mut checkpoint = die.checkpoint()?;
+    drop(die);
+    let plan = Plan { blocks: 8, pages: 4, erase_slots: 3, logical: LOGICAL, alpha: 2, caps: vec![4], times: None };
+    checkpoint.spare += 1;
+    assert!(matches!(Die::resume(&plan, &checkpoint), Err(Refusal::Checkpoint(Misfit::OtherSum { .. }))));
+    checkpoint.spare -= 1;
+    let mut die = Die::resume(&plan, &checkpoint)?;
+    assert_eq!(die.checkpoint()?, checkpoint);
+    play(&mut die, &mut driver, 30)?;
+    println!("a shutdown, and a die that goes on");
+
+    // A slot that is let go stops a die, too.
     let (mut die, _) = made()?;
     die.submit(1, 0, 0, 1, &[Op::Write(0, Name::BLANK)])?;
     drop(die.begin(9)?);

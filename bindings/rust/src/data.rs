@@ -236,3 +236,29 @@ impl Row {
         Row { number, release, due, work, completion: (done != 0).then_some(completion) }
     }
 }
+
+/// A cell of the chip.
+#[derive(Clone, Copy, PartialEq, Eq, Debug)]
+pub struct Place {
+    pub block: u32,
+    pub page: u32,
+}
+
+/// Of a block how many pages are programmed since its last erase, the first so many, and how often it was erased.
+#[derive(Clone, Copy, PartialEq, Eq, Debug)]
+pub struct BlockCounts {
+    pub filled: u32,
+    pub erases: u32,
+}
+
+/// What stands on a die at a moment at which all that was accepted is done or was waived.
+#[derive(Clone, PartialEq, Eq, Debug)]
+pub struct Checkpoint {
+    /// By logical page the cell in which it lies, if it lies in one, and its name.
+    pub pages: Vec<(Option<Place>, Name)>,
+    pub blocks: Vec<BlockCounts>,
+    /// By task how many tokens it has.
+    pub balances: Vec<u32>,
+    /// How many free pages nobody has a claim on.
+    pub spare: u32,
+}

@@ -1,6 +1,8 @@
 //! A die, and a slot that has begun.
 
-use crate::data::{Call, Certificate, Job, Load, Name, Op, Outcome, Plan, Reply, Row, Worst};
+use crate::data::{
+    BlockCounts, Call, Certificate, Checkpoint, Job, Load, Name, Op, Outcome, Place, Plan, Reply, Row, Worst,
+};
 use crate::raw;
 use crate::refusals::{answer, Refusal};
 use std::cell::UnsafeCell;
@@ -49,19 +51,80 @@ pub fn check(rows: &[Row], certificate: &Certificate) -> Result<(), Refusal> {
 pub struct Die {
     // It is full from `new` to `drop`. Questions fill and empty it, too.
     handle: UnsafeCell<raw::Handle>,
+    // What a checkpoint has: logical pages, blocks, tasks.
+    counts: [usize; 3],
     stays: PhantomData<*mut ()>,
 }
+
+/// The block of a page that lies nowhere.
+const NOWHERE: u32 = u32::MAX;
 
 impl Die {
     /// A die at slot 0, of a chip that is erased. `BadShape`, `BadPlan` or `NoMemory` where it is refused.
     pub fn new(plan: &Plan) -> Result<Die, Refusal> {
         // SAFETY: it takes nothing.
         assert_eq!(unsafe { raw::flash_version() }, 1, "another version of libflash_c");
+        let counts = [plan.logical as usize, plan.blocks as usize, plan.caps.len()];
         let (plan, tasks) = plan.raw();
         let mut handle = raw::Handle::EMPTY;
         // SAFETY: the handle is empty, and stays so where this is refused.
         plain(unsafe { raw::flash_new(&mut handle, &plan, tasks.as_ptr(), tasks.len()) })?;
-        Ok(Die { handle: UnsafeCell::new(handle), stays: PhantomData })
+        Ok(Die { handle: UnsafeCell::new(handle), counts, stays: PhantomData })
+    }
+
+    /// A die that goes on from a checkpoint, at slot 0 with an empty log. The chip has to be as that says: so many pages of each
+    /// block are programmed, and no block is in erase. What it has changed meanwhile is found: a read that gives another name
+    /// than the page has here is a fault.
+    ///
+    /// Refused with the first that stands: `NoMemory`, which may come at any time; `Checkpoint` with what is wrong first with
+    /// it, `BadPlan` coming behind [`Misfit::OtherShape`], and `WornOut` behind [`Misfit::SecondOpen`].
+    pub fn resume(plan: &Plan, checkpoint: &Checkpoint) -> Result<Die, Refusal> {
+        // SAFETY: it takes nothing.
+        assert_eq!(unsafe { raw::flash_version() }, 1, "another version of libflash_c");
+        let counts = [plan.logical as usize, plan.blocks as usize, plan.caps.len()];
+        let (plan, tasks) = plan.raw();
+        let Checkpoint { ref pages, ref blocks, ref balances, spare } = *checkpoint;
+        let nowhere = raw::Place { block: NOWHERE, page: 0 };
+        let places: Vec<raw::Place> =
+            pages.iter().map(|(at, _)| at.map_or(nowhere, |Place { block, page }| raw::Place { block, page })).collect();
+        let names: Vec<Name> = pages.iter().map(|(_, name)| *name).collect();
+        let blocks: Vec<raw::Block> =
+            blocks.iter().map(|&BlockCounts { filled, erases }| raw::Block { filled, erases }).collect();
+        let (mut handle, mut why) = (raw::Handle::EMPTY, NO_NUMBERS);
+        // SAFETY: the handle is empty, and stays so where this is refused; each count is its slice's.
+        let code = unsafe {
+            raw::flash_resume(
+                &mut handle, &plan, tasks.as_ptr(), tasks.len(), places.as_ptr(), places.len(), names.as_ptr(), names.len(),
+                blocks.as_ptr(), blocks.len(), balances.as_ptr(), balances.len(), spare, &mut why,
+            )
+        };
+        answer(code, &why)?;
+        Ok(Die { handle: UnsafeCell::new(handle), counts, stays: PhantomData })
+    }
+
+    /// What stands, with the names of the pages. The die stays as it is. Refused with the first that stands: `DieStopped`,
+    /// `NotQuiet`, `WornOut`, `NoMemory`.
+    pub fn checkpoint(&mut self) -> Result<Checkpoint, Refusal> {
+        let [logical, blocks, tasks] = self.counts;
+        let mut places = vec![raw::Place::default(); logical];
+        let mut names = vec![Name::BLANK; logical];
+        let mut counts = vec![raw::Block::default(); blocks];
+        let mut balances = vec![0; tasks];
+        let (mut spare, mut why) = (0, NO_NUMBERS);
+        let code = unsafe {
+            raw::flash_checkpoint(
+                self.at(), places.as_mut_ptr(), places.len(), names.as_mut_ptr(), names.len(), counts.as_mut_ptr(), counts.len(),
+                balances.as_mut_ptr(), balances.len(), &mut spare, &mut why,
+            )
+        };
+        answer(code, &why)?;
+        let place = |raw::Place { block, page }| (block != NOWHERE).then_some(Place { block, page });
+        Ok(Checkpoint {
+            pages: places.into_iter().map(place).zip(names).collect(),
+            blocks: counts.into_iter().map(|raw::Block { filled, erases }| BlockCounts { filled, erases }).collect(),
+            balances,
+            spare,
+        })
     }
 
     /// The handle. It is full, and no other call uses it: a die isn't `Sync`, and no call of the library calls back.

@@ -52,7 +52,8 @@ mod raw;
 mod refusals;
 
 pub use data::{
-    Act, Call, Certificate, Job, Load, Name, Op, Outcome, Plan, Reply, Row, TaskTimes, Times, Waived, Worst,
+    Act, BlockCounts, Call, Certificate, Checkpoint, Job, Load, Name, Op, Outcome, Place, Plan, Reply, Row, TaskTimes, Times,
+    Waived, Worst,
 };
 pub use die::{check, Die, Slot};
-pub use refusals::{Flaw, Refusal};
+pub use refusals::{Flaw, Misfit, Refusal};

@@ -35,6 +35,8 @@ structs! {
     Worst { lateness: i64, job: u32 }
     Certificate { job: u32, start: u32, due: u32, completion: u32, jobs: u32 }
     Row { number: u32, release: u32, due: u32, work: u32, done: u32, completion: u32 }
+    Place { block: u32, page: u32 }
+    Block { filled: u32, erases: u32 }
 }
 
 extern "C" {
@@ -56,6 +58,15 @@ extern "C" {
     ) -> u32;
     pub fn flash_reserve(die: *mut Handle, slots: u32) -> u32;
     pub fn flash_renew(die: *mut Handle, why: *mut Why) -> u32;
+    pub fn flash_checkpoint(
+        die: *mut Handle, places: *mut Place, place_count: usize, names: *mut Name, name_count: usize, blocks: *mut Block,
+        block_count: usize, balances: *mut u32, balance_count: usize, spare: *mut u32, why: *mut Why,
+    ) -> u32;
+    pub fn flash_resume(
+        die: *mut Handle, plan: *const Plan, tasks: *const Task, count: usize, places: *const Place, place_count: usize,
+        names: *const Name, name_count: usize, blocks: *const Block, block_count: usize, balances: *const u32,
+        balance_count: usize, spare: u32, why: *mut Why,
+    ) -> u32;
     pub fn flash_now(die: *mut Handle) -> u32;
     pub fn flash_len(die: *mut Handle) -> u64;
     pub fn flash_records(die: *mut Handle) -> u64;

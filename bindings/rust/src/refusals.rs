@@ -50,6 +50,8 @@ pub enum Refusal {
     WornOut { block: u32 },
     /// What is wrong with a certificate first.
     Certificate(Flaw),
+    /// A checkpoint doesn't fit the plan.
+    Checkpoint(Misfit),
     /// A number that flash.h doesn't have.
     Other(u32),
 }
@@ -71,6 +73,26 @@ pub enum Flaw {
     LateDue,
     /// The work of the listed jobs isn't the number of slots from start to completion.
     WrongSum,
+}
+
+/// What is wrong with a checkpoint first.
+#[derive(Clone, Copy, PartialEq, Eq, Debug)]
+#[non_exhaustive]
+pub enum Misfit {
+    /// It has another number of pages, blocks or tasks than the plan.
+    OtherShape,
+    /// More pages are programmed in a block than it has: the first such block.
+    Overfull { block: u32 },
+    /// Two blocks have programmed and free pages: the second of them.
+    SecondOpen { block: u32 },
+    /// A page lies in a cell that isn't programmed, or isn't there: the first such page.
+    Unprogrammed { page: u32 },
+    /// A balance is above its task's cap: the first such task.
+    AboveCap { task: u32 },
+    /// The accounts share out another number of pages than are free.
+    OtherSum { accounts: u32, free: u32 },
+    /// A page lies in the cell of a page before it: the first such page.
+    SharedCell { page: u32 },
 }
 
 /// What a call answered, by its number.
@@ -106,6 +128,13 @@ pub(crate) fn answer(code: u32, why: &raw::Why) -> Result<(), Refusal> {
         205 => Certificate(Flaw::EarlyRelease),
         206 => Certificate(Flaw::LateDue),
         207 => Certificate(Flaw::WrongSum),
+        301 => Checkpoint(Misfit::OtherShape),
+        302 => Checkpoint(Misfit::Overfull { block: why.first }),
+        303 => Checkpoint(Misfit::SecondOpen { block: why.first }),
+        304 => Checkpoint(Misfit::Unprogrammed { page: why.first }),
+        305 => Checkpoint(Misfit::AboveCap { task: why.first }),
+        306 => Checkpoint(Misfit::OtherSum { accounts: why.first, free: why.second }),
+        307 => Checkpoint(Misfit::SharedCell { page: why.first }),
         other => Other(other),
     })
 }

@@ -5,7 +5,7 @@ use Rattle.std.specs.Prelude.{option_map, OnOk, IfSome, nat_lt}
 use Rattle.report_texts.specs.RecordsLeft.{Stays}
 use Rattle.text_base.specs.CsvRecords.{Fields, TakesRow, rows_of}
 use Rattle.text_base.specs.CsvRecordsLeft.{KeepsFit}
-use Rattle.text_base.specs.Marked.{is_within}
+use Rattle.text_base.specs.Marks.{is_within}
 use Rattle.text_base.proofs.MarkLaws.{within-short}
 use Rattle.checkpoint_texts.specs.CheckpointOf.{Reading, checkpoint_from, checkpoint_of, dies_from, header_of, most_records, whole_at}
 use Rattle.checkpoint_texts.specs.Gathering.{between, with_record}

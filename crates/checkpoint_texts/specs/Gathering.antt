@@ -20,8 +20,8 @@ die_at_hand g spare = record { pages = g.pages; blocks = g.blocks; balances = g.
 abbrev pub has_none : {A : Type 0} → List A → Bool
 has_none xs = length xs == 0
 
--- what is gathered with one more item, which the record of this number says: a die's pages come first, then its blocks, then
--- its tasks, and then its number and its spare pages
+-- what is gathered with one more item, which the record of this number says: a die's pages come first, then its blocks,
+-- then its tasks, and then its number and its spare pages
 abbrev pub with_item : ℕ → Gathered → Item → Says Gathered
 with_item n g (Page page) =
     if has_none g.blocks && has_none g.balances then Ok (record g { pages = g.pages ++ page ∷ [] }) else broken n 1 fault.Order

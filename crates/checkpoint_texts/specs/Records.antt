@@ -22,7 +22,7 @@ Says A = Result A TextFault
 abbrev pub counted : ℕ → Fields → ℕ → Says ⊤
 counted n fields count = if length fields == count then Ok tt else broken n (min (length fields) count + 1) fault.Fields
 
--- the number in the field behind so many
+-- the number in the field after so many
 abbrev pub number_at : ℕ → Fields → ℕ → Says ℕ
 number_at n fields i = or_broken n (i + 1) fault.Number (option_and_then number_of (field_at fields i))
 

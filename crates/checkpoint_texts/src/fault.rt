@@ -1,6 +1,9 @@
 //! Why a text is no checkpoint.
 
+ghost use Rattle.std.specs.Prelude.{◌≡◌};
+ghost use Rattle.slot_types.specs.declared.refusals.Refusal.TheVariants as refusals;
 ghost use Rattle.checkpoint_texts.specs.Readings.{IsOutside};
+ghost use Rattle.checkpoint_texts.specs.declared.fault.TextFault.TheVariants as faults;
 
 use slot_types::Refusal;
 use std::alloc::AllocError;
@@ -55,10 +58,23 @@ impl From<AllocError> for TextFault {
     }
 }
 
+impl From<Refusal> for TextFault {
+    ghost use Rattle.std.specs.Prelude.{◌≡◌};
+    ghost use Rattle.slot_types.specs.declared.refusals.Refusal.TheVariants as refusals;
+    ghost use Rattle.checkpoint_texts.specs.declared.fault.TextFault.TheVariants as faults;
+
+    ghost from_gives = { λ refusal fault. refusal ≡ refusals.NoMemory → fault ≡ faults.NoMemory };
+
+    fn from(refusal: Refusal) -> Self {
+        TextFault::outside(refusal)
+    }
+}
+
 impl TextFault {
-    /// What a failing reader is told as.
+    /// What a failing reader is reported as.
     pub(crate) fn outside(refusal: Refusal) -> TextFault
-        ensures { IsOutside result }
+        ensures outside { IsOutside result }
+        ensures memory { refusal ≡ refusals.NoMemory → result ≡ faults.NoMemory }
     {
         match refusal {
             Refusal::NoMemory => TextFault::NoMemory,

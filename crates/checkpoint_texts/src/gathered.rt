@@ -5,6 +5,7 @@ ghost use Rattle.csv.specs.Records.{fields_of};
 ghost use Rattle.checkpoint_texts.specs.CheckpointOf.{whole_at};
 ghost use Rattle.checkpoint_texts.specs.Gathering.{between, die_at_hand, may_end, with_item, with_record};
 ghost use Rattle.checkpoint_texts.specs.Readings.{Shows};
+ghost use Rattle.slot_types.specs.Refusal.{FailsForMemory};
 
 use crate::fault::{RecordFault, TextFault};
 use crate::item_reading::item_in;
@@ -12,8 +13,8 @@ use crate::items::Item;
 use crate::saved::{SavedDie, SavedPage, SavedStore};
 use csv::ByteRecord;
 use die_checkpoint::BlockCounts;
-use slot_types::{Items, MAX_DIES};
-use std::alloc::{AllocError, Global};
+use slot_types::{Items, MAX_DIES, Refusal};
+use std::alloc::Global;
 use std::mem;
 
 /// The dies so far: those that are done with, and what came of the next.
@@ -63,8 +64,9 @@ pub fn whole(gathered: Gathered, line: u32) -> Result<SavedStore, TextFault>
 }
 
 /// Ends the die at hand.
-fn end_die(alloc: Global, gathered: &mut Gathered, spare: u32) -> Result<(), AllocError>
-    ensures { OnOk result (gathered.new ≡ between (gathered.old.done ++ die_at_hand gathered.old spare ∷ [])) }
+fn end_die(alloc: Global, gathered: &mut Gathered, spare: u32) -> Result<(), Refusal>
+    ensures ok { OnOk result (gathered.new ≡ between (gathered.old.done ++ die_at_hand gathered.old spare ∷ [])) }
+    ensures refused { FailsForMemory result }
 {
     let die = SavedDie {
         pages: mem::replace(&mut gathered.pages, Items::new(alloc)),

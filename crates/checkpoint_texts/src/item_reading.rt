@@ -13,7 +13,7 @@ use die_checkpoint::BlockCounts;
 use slot_types::{PageData, Place};
 use text_base::{field_in, is_named, number, page};
 
-/// The number in the field behind so many.
+/// The number in the field after so many.
 fn number_in(line: u32, fields: &ByteRecord, place: usize) -> Result<u32, TextFault>
     requires { place ≤ 3 }
     ensures { result ≡ number_at line (fields_of fields.now) place }

@@ -12,7 +12,8 @@ pub fn checkpoints_come_back()
     ensures { (store : List SavedDie) → IsStore store → checkpoint_of (checkpoint_text store) ≡ Ok store }
 {}
 
-/// A reader's bound admits each checkpoint that is written of one to eight dies within the limits: it is at most as long.
+/// A reader's bound admits each checkpoint that is written of one to eight dies within the limits: it is at most as
+/// long.
 pub fn checkpoints_fit()
     ensures { (store : List SavedDie) → IsStore store → length (checkpoint_text store) ≤ 134217728 }
 {}

@@ -22,7 +22,8 @@ use text_base::{Bounded, is_named, rows_up_to, take_row};
 /// The most bytes that a checkpoint's text has.
 const MAX_BYTES: usize = 134_217_728;
 
-/// The most records that it has: the header, and for each of eight dies 262,144 pages, 1,024 blocks, 16 tasks and one more.
+/// The most records that it has: the header, and for each of eight dies 262,144 pages, 1,024 blocks, 16 tasks and one
+/// more.
 const MAX_RECORDS: u32 = 2_105_481;
 
 /// Takes the next record, if there is one.
@@ -61,7 +62,7 @@ fn check_header(row: &ByteRecord) -> Result<(), TextFault>
     check_count(1, row, 2)
 }
 
-/// Takes the dies, behind the header.
+/// Takes the dies, after the header.
 fn take_dies<R: Read>(
     alloc: Global,
     rows: &mut Reader<Bounded<R>>,
@@ -117,19 +118,19 @@ fn take_store<R: Read>(
     take_dies(alloc, rows, row)
 }
 
-/// Reads a checkpoint, csv with the defaults of the crate `csv` and without trimming, of at most 134,217,728 bytes, in at
-/// most 134,217,729 calls of the reader.
+/// Reads a checkpoint, csv with the defaults of the crate `csv` and without trimming, of at most 134,217,728 bytes, in
+/// at most 134,217,729 calls of the reader.
 ///
-/// Record 1 is `checkpoint,1`. Then come, die by die, a record for each logical page, `page` and its cell's block and page
-/// and the bytes there in 32 hexadecimal digits, with these fields empty where it lies nowhere, or the last alone where
-/// its bytes aren't kept; one for each block, `block`, how many of its pages are programmed and how often it was erased;
-/// one for each task, `task` and its balance; and `die`, its number from 0 to 7 and its spare pages. Numbers have 1 to 10
-/// digits and are at most 4,294,967,295.
+/// Record 1 is `checkpoint,1`. Then come, die by die, a record for each logical page, `page` and its cell's block and
+/// page and the bytes there in 32 hexadecimal digits, with these fields empty where it lies nowhere, or the last alone
+/// where its bytes aren't kept; one for each block, `block`, how many of its pages are programmed and how often it was
+/// erased; one for each task, `task` and its balance; and `die`, its number from 0 to 7 and its spare pages. Numbers
+/// have 1 to 10 digits and are at most 4,294,967,295.
 ///
-/// Broken has the first record and field at fault. A record above 2,105,481 is one too many; else the kind is judged first,
-/// then how many fields there are, then they from left to right, then the order of records, and at last the number of a
-/// die. ReadFault comes where the reader fails or goes on beyond its bound; the records before it are judged first.
-/// NoMemory comes where memory is refused.
+/// Broken has the first record and field at fault. A record above 2,105,481 is one too many; else the kind is judged
+/// first, then how many fields there are, then they from left to right, then the order of records, and at last the
+/// number of a die. ReadFault comes where the reader fails or goes on beyond its bound; the records before it are
+/// judged first. NoMemory comes where memory is refused.
 ///
 /// What was read fits no plan as yet: [`check`](die_checkpoint::Checkpoint::check) says whether it does.
 pub fn read_checkpoint<R: Read + Drop>(alloc: Global, reader: R) -> Result<SavedStore, TextFault>

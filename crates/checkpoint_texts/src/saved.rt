@@ -1,11 +1,12 @@
 //! What stands on the dies of a store, with the bytes of pages where they are kept.
 
 ghost use Rattle.std.specs.Prelude.{◌≡◌, IfOk};
+ghost use Rattle.slot_types.specs.Refusal.{FailsForMemory};
 ghost use Rattle.checkpoint_texts.specs.Saved.{places_of};
 
 use die_checkpoint::{BlockCounts, Checkpoint};
-use slot_types::{Items, PageData, Place};
-use std::alloc::{AllocError, Global};
+use slot_types::{Items, PageData, Place, Refusal};
+use std::alloc::Global;
 
 /// A logical page: the cell in which it lies, if it lies in one, and the bytes there, if they are kept.
 #[derive(Clone, Copy, PartialEq, Eq, Debug, Drop)]
@@ -34,9 +35,10 @@ pub type SavedStore = Items<SavedDie>;
 impl SavedDie {
     ghost use Rattle.checkpoint_texts.specs.Saved.{checkpoint_of};
 
-    /// What stands on the die but for the bytes of its pages. Refused for want of memory alone.
-    pub fn checkpoint(&self, alloc: Global) -> Result<Checkpoint, AllocError>
-        ensures { IfOk result (λ made. made ≡ checkpoint_of self.now) }
+    /// What stands on the die but for the bytes of its pages. Refused out of memory alone.
+    pub fn checkpoint(&self, alloc: Global) -> Result<Checkpoint, Refusal>
+        ensures refused { FailsForMemory result }
+        ensures ok { IfOk result (λ made. made ≡ checkpoint_of self.now) }
     {
         Ok(Checkpoint {
             places: places_in(alloc, self.pages.as_slice())?,
@@ -47,8 +49,9 @@ impl SavedDie {
     }
 }
 
-fn places_in(alloc: Global, pages: &[SavedPage]) -> Result<Items<Option<Place>>, AllocError>
-    ensures { IfOk result (λ made. made ≡ places_of pages.now) }
+fn places_in(alloc: Global, pages: &[SavedPage]) -> Result<Items<Option<Place>>, Refusal>
+    ensures refused { FailsForMemory result }
+    ensures ok { IfOk result (λ made. made ≡ places_of pages.now) }
 {
     let mut places = Items::new(alloc);
     for page in pages {
@@ -57,17 +60,16 @@ fn places_in(alloc: Global, pages: &[SavedPage]) -> Result<Items<Option<Place>>,
     Ok(places)
 }
 
-fn copied_blocks(
-    alloc: Global,
-    blocks: &Items<BlockCounts>,
-) -> Result<Items<BlockCounts>, AllocError>
-    ensures { IfOk result (λ made. made ≡ blocks.now) }
+fn copied_blocks(alloc: Global, blocks: &Items<BlockCounts>) -> Result<Items<BlockCounts>, Refusal>
+    ensures refused { FailsForMemory result }
+    ensures ok { IfOk result (λ made. made ≡ blocks.now) }
 {
     Ok(Items::from_vec(Vec::from_slice(alloc, blocks.as_slice())?))
 }
 
-fn copied_balances(alloc: Global, balances: &Items<u32>) -> Result<Items<u32>, AllocError>
-    ensures { IfOk result (λ made. made ≡ balances.now) }
+fn copied_balances(alloc: Global, balances: &Items<u32>) -> Result<Items<u32>, Refusal>
+    ensures refused { FailsForMemory result }
+    ensures ok { IfOk result (λ made. made ≡ balances.now) }
 {
     Ok(Items::from_vec(Vec::from_slice(alloc, balances.as_slice())?))
 }

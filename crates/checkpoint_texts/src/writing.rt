@@ -78,8 +78,9 @@ fn text_of(alloc: Global, store: &SavedStore) -> Result<Vec<u8>, Refusal>
     }
 }
 
-/// Writes the checkpoint of at most eight dies as csv, as [`read_checkpoint`](crate::read_checkpoint) reads it. Numbers have
-/// no leading zeros, pages are 32 lower-case hexadecimal digits, each record ends with one line feed, no field is quoted.
+/// Writes the checkpoint of at most eight dies as csv, as [`read_checkpoint`](crate::read_checkpoint) reads it. Numbers
+/// have no leading zeros, pages are 32 lower-case hexadecimal digits, each record ends with one line feed, no field is
+/// quoted.
 ///
 /// NoMemory comes before the first byte, and the writer is as it was. WriteFault comes where the writer fails, as
 /// [`write_whole`] says: a front of the text was then written that isn't the whole.

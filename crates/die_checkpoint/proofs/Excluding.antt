@@ -15,7 +15,7 @@ use Rattle.die_checkpoint.specs.declared.fault.CheckpointFault.{CheckpointFault}
 use Rattle.die_checkpoint.specs.declared.fault.CheckpointFault.TheVariants as faults
 use Rattle.die_checkpoint.specs.Counts.{no_counts, counts_at, is_overfull, is_open, open_from, is_worn, is_astray, most_erases}
 use Rattle.die_checkpoint.specs.Fits.{IsOpen, AreWithin, HasOneOpen, AreUnworn, ArePlaced, Fits}
-use Rattle.die_checkpoint.specs.Faults.{IsSecondOpen, HasFault}
+use Rattle.die_checkpoint.specs.Faults.{IsSecondOpen, HasCheckpointFault}
 
 above : (n m : ℕ) → nat_lt n m ≡ true → n < m
 above n m h = grind (arith, nat_tests)
@@ -34,7 +34,7 @@ worn_breaks blocks b is unworn =
 opened : (pages : ℕ) (block : BlockCounts) → is_open pages block ≡ true → (0 < block.filled) × (block.filled < pages)
 opened pages block h = (grind (arith, nat_tests), grind (arith, nat_tests))
 
--- the block that is found behind a number
+-- the block that is found after a number
 found_behind : (o : Option ℕ) (from block : ℕ) → option_map (λ behind. from + behind) o ≡ Some block
     → (behind : ℕ) × (o ≡ Some behind) × (from + behind ≡ block)
 found_behind None from block is = absurd cc
@@ -67,8 +67,8 @@ astray_breaks c page is placed =
     let f = nowhere_near c.blocks (place_of c.places page) (position-Some (is_astray c.blocks) c.places page None is).1 in
     no_less f.0.page (counts_at c.blocks f.0.block).filled f.2 (placed page f.0 f.1)
 
--- all causes but the want of memory
-pub fault_breaks : (plan : DiePlan) (c : Checkpoint) (fault : CheckpointFault) → HasFault plan c fault → fault ≢ faults.NoMemory
+-- all causes but the lack of memory
+pub fault_breaks : (plan : DiePlan) (c : Checkpoint) (fault : CheckpointFault) → HasCheckpointFault plan c fault → fault ≢ faults.NoMemory
     → Fits plan c → ⊥
 fault_breaks plan c faults.OtherShape h other fits = h fits.all_else.blocks.plan_is.shape
 fault_breaks plan c faults.BadPlan h other fits = h.1 fits.all_else.blocks.plan_is.bound

@@ -15,7 +15,7 @@ use Rattle.page_map.proofs.Owners.{fails_where_none, within}
 use Rattle.die_checkpoint.specs.declared.checkpoint.BlockCounts.{BlockCounts}
 use Rattle.die_checkpoint.specs.Counts.{no_counts, counts_at, is_overfull, is_open, is_worn, is_astray, most_erases}
 use Rattle.slot_types.specs.declared.plans.DiePlan.{DiePlan}
-use Rattle.page_map.specs.Given.{AreCells}
+use Rattle.page_map.specs.PlacesFaults.{AreCells}
 use Rattle.die_checkpoint.specs.declared.checkpoint.Checkpoint.{Checkpoint}
 use Rattle.die_checkpoint.specs.Fits.{AreWithin, HasOneOpen, AreUnworn, IsOpen, FitsButShared}
 
@@ -44,7 +44,7 @@ none_worn blocks none b = few most_erases (counts_at blocks b).erases (fails_at 
 open_passes : (pages : ℕ) (block : BlockCounts) → 0 < block.filled → block.filled < pages → is_open pages block ≡ true
 open_passes pages block some room = grind (arith, nat_tests)
 
--- an open block is the first that is found, or behind it
+-- an open block is the first that is found, or after it
 not_before : (pages : ℕ) (blocks : List BlockCounts) (first b : ℕ) → Some first ≡ position (is_open pages) blocks → IsOpen pages blocks b
     → first ≤ b
 not_before pages blocks first b is opened =

@@ -1,4 +1,4 @@
--- A checkpoint has one first fault, but for the want of memory.
+-- A checkpoint has one first fault, but for the lack of memory.
 use Rattle.std.proofs.Common.{◌≡◌, ◌≢◌, ℕ, zero, suc, ◌+◌, ◌<◌, ◌≤◌, Some, refl, sym, ap, ◌∙◌, subst, arith, inl, inr}
 use Rattle.std.specs.Prelude.{position}
 use borrow.Author.Count.{below_more}
@@ -6,15 +6,15 @@ use Rattle.std.proofs.lemmas.Bool.{cases_lt, cases_eq}
 use Rattle.std.proofs.lemmas.Option.{same_Some}
 use Rattle.slot_types.specs.declared.plans.DiePlan.{DiePlan}
 use Rattle.plan_rules.specs.Bound.{MeetsBound}
-use Rattle.page_map.specs.Placing.{AreApart}
-use Rattle.page_map.specs.Given.{IsFirstShared}
+use Rattle.page_map.specs.Placing.{HaveOwnCells}
+use Rattle.page_map.specs.PlacesFaults.{IsFirstShared}
 use Rattle.die_checkpoint.specs.declared.checkpoint.Checkpoint.{Checkpoint}
 use Rattle.die_checkpoint.specs.declared.fault.CheckpointFault.{CheckpointFault}
 use Rattle.die_checkpoint.specs.declared.fault.CheckpointFault.TheVariants as faults
 use Rattle.die_checkpoint.specs.Counts.{is_overfull, is_open, open_from, is_worn, is_astray}
 use Rattle.die_checkpoint.specs.Fits.{IsOfShape, IsOfPlan, AreWithin, HasOneOpen, AreUnworn, HasBlocks, ArePlaced, AreCapped, FitsButShared}
 use Rattle.die_checkpoint.specs.Fits.{in_accounts, free_pages}
-use Rattle.die_checkpoint.specs.Faults.{IsSecondOpen, IsFirstAbove, HasFault}
+use Rattle.die_checkpoint.specs.Faults.{IsSecondOpen, IsFirstAbove, HasCheckpointFault}
 use Rattle.die_checkpoint.proofs.Excluding.{overfull_breaks, second_breaks, worn_breaks, astray_breaks}
 
 -- Which cause it is, and what it names
@@ -81,7 +81,7 @@ Stage plan c (suc (suc (suc (suc zero)))) = AreUnworn c.blocks
 Stage plan c (suc (suc (suc (suc (suc zero))))) = ArePlaced c
 Stage plan c (suc (suc (suc (suc (suc (suc zero)))))) = AreCapped plan c
 Stage plan c (suc (suc (suc (suc (suc (suc (suc zero))))))) = in_accounts plan c ≡ free_pages plan c
-Stage plan c (suc (suc (suc (suc (suc (suc (suc (suc k)))))))) = AreApart c.places
+Stage plan c (suc (suc (suc (suc (suc (suc (suc (suc k)))))))) = HaveOwnCells c.places
 
 module _ (plan : DiePlan) (c : Checkpoint) where
   abbrev Upto : ℕ → Type 0
@@ -112,7 +112,7 @@ module _ (plan : DiePlan) (c : Checkpoint) where
   all_had : FitsButShared plan c → Upto 8
   all_had h = below_more (Stage plan c) 7 (capped_had h.blocks h.placed h.capped) h.sums
 
-  had : (f : CheckpointFault) → HasFault plan c f → f ≢ faults.NoMemory → Upto (rank f)
+  had : (f : CheckpointFault) → HasCheckpointFault plan c f → f ≢ faults.NoMemory → Upto (rank f)
   unfolding rank
   had faults.OtherShape h other = λ k lt. absurd (omega arith)
   had faults.BadPlan h other = shape_had h.0
@@ -125,7 +125,7 @@ module _ (plan : DiePlan) (c : Checkpoint) where
   had (faults.SharedCell p) h other = all_had h.0
   had faults.NoMemory h other = absurd (other refl)
 
-  breaks : (f : CheckpointFault) → HasFault plan c f → f ≢ faults.NoMemory → Stage plan c (rank f) → ⊥
+  breaks : (f : CheckpointFault) → HasCheckpointFault plan c f → f ≢ faults.NoMemory → Stage plan c (rank f) → ⊥
   unfolding rank
   breaks faults.OtherShape h other s = h s
   breaks faults.BadPlan h other s = h.1 s
@@ -163,7 +163,7 @@ module _ (plan : DiePlan) (c : Checkpoint) where
     ]
   ]
 
-  one_of_kind : (k a b d e : ℕ) → HasFault plan c (cause k a b) → HasFault plan c (cause k d e) → cause k a b ≡ cause k d e
+  one_of_kind : (k a b d e : ℕ) → HasCheckpointFault plan c (cause k a b) → HasCheckpointFault plan c (cause k d e) → cause k a b ≡ cause k d e
   unfolding cause
   one_of_kind zero a b d e h g = refl
   one_of_kind (suc zero) a b d e h g = refl
@@ -179,7 +179,7 @@ module _ (plan : DiePlan) (c : Checkpoint) where
   one_of_kind (suc (suc (suc (suc (suc (suc (suc (suc zero)))))))) a b d e h g = ap faults.SharedCell (one_shared a d h.1 g.1)
   one_of_kind (suc (suc (suc (suc (suc (suc (suc (suc (suc k))))))))) a b d e h g = refl
 
-  pub one_fault : (f g : CheckpointFault) → HasFault plan c f → HasFault plan c g → f ≢ faults.NoMemory → g ≢ faults.NoMemory → f ≡ g
+  pub one_fault : (f g : CheckpointFault) → HasCheckpointFault plan c f → HasCheckpointFault plan c g → f ≢ faults.NoMemory → g ≢ faults.NoMemory → f ≡ g
   one_fault f g h k some also = elim (cases_lt (rank f) (rank g)) [
     | inl less ↦ absurd (breaks f h some (had g k also (rank f) less))
     | inr not_less ↦ elim (cases_lt (rank g) (rank f)) [
@@ -190,6 +190,6 @@ module _ (plan : DiePlan) (c : Checkpoint) where
     where
       of_same : rank f ≡ rank g → f ≡ g
       of_same e = sym (cause_is f)
-          ∙ one_of_kind (rank f) (names f) (also_names f) (names g) (also_names g) (subst (HasFault plan c) (sym (cause_is f)) h)
-          (subst (λ (n : ℕ). HasFault plan c (cause n (names g) (also_names g))) (sym e) (subst (HasFault plan c) (sym (cause_is g)) k))
+          ∙ one_of_kind (rank f) (names f) (also_names f) (names g) (also_names g) (subst (HasCheckpointFault plan c) (sym (cause_is f)) h)
+          (subst (λ (n : ℕ). HasCheckpointFault plan c (cause n (names g) (also_names g))) (sym e) (subst (HasCheckpointFault plan c) (sym (cause_is g)) k))
           ∙ ap (λ (n : ℕ). cause n (names g) (also_names g)) e ∙ cause_is g

@@ -2,7 +2,7 @@
 use Rattle.std.specs.Prelude.{◌≡◌, ◌≢◌, ℕ, ◌+◌, ◌<◌, ◌≤◌, List, position, slice_index, Some}
 use Rattle.slot_types.specs.declared.plans.DiePlan.{DiePlan}
 use Rattle.plan_rules.specs.Bound.{MeetsBound}
-use Rattle.page_map.specs.Given.{IsFirstShared}
+use Rattle.page_map.specs.PlacesFaults.{IsFirstShared}
 use Rattle.die_checkpoint.specs.declared.checkpoint.BlockCounts.{BlockCounts}
 use Rattle.die_checkpoint.specs.declared.checkpoint.Checkpoint.{Checkpoint}
 use Rattle.die_checkpoint.specs.declared.fault.CheckpointFault.{CheckpointFault}
@@ -23,17 +23,17 @@ pub record IsFirstAbove (caps balances : List ℕ) (task : ℕ) : Type 0 where
   pub first : (earlier : ℕ) → earlier < task → slice_index balances earlier ≤ slice_index caps earlier
 
 -- a cause stands, and none before it does
-abbrev pub HasFault : DiePlan → Checkpoint → CheckpointFault → Type 0
-HasFault plan c faults.OtherShape = ¬ IsOfShape plan c
-HasFault plan c faults.BadPlan = IsOfShape plan c × ¬ MeetsBound plan
-HasFault plan c (faults.Overfull block) = IsOfPlan plan c × (position (is_overfull plan.shape.pages) c.blocks ≡ Some block)
-HasFault plan c (faults.SecondOpen block) = IsOfPlan plan c × AreWithin plan.shape.pages c.blocks
+abbrev pub HasCheckpointFault : DiePlan → Checkpoint → CheckpointFault → Type 0
+HasCheckpointFault plan c faults.OtherShape = ¬ IsOfShape plan c
+HasCheckpointFault plan c faults.BadPlan = IsOfShape plan c × ¬ MeetsBound plan
+HasCheckpointFault plan c (faults.Overfull block) = IsOfPlan plan c × (position (is_overfull plan.shape.pages) c.blocks ≡ Some block)
+HasCheckpointFault plan c (faults.SecondOpen block) = IsOfPlan plan c × AreWithin plan.shape.pages c.blocks
     × IsSecondOpen plan.shape.pages c.blocks block
-HasFault plan c (faults.WornOut block) = IsOfPlan plan c × AreWithin plan.shape.pages c.blocks × HasOneOpen plan.shape.pages c.blocks
+HasCheckpointFault plan c (faults.WornOut block) = IsOfPlan plan c × AreWithin plan.shape.pages c.blocks × HasOneOpen plan.shape.pages c.blocks
     × (position is_worn c.blocks ≡ Some block)
-HasFault plan c (faults.Unprogrammed page) = HasBlocks plan c × (position (is_astray c.blocks) c.places ≡ Some page)
-HasFault plan c (faults.AboveCap task) = HasBlocks plan c × ArePlaced c × IsFirstAbove plan.caps c.balances task
-HasFault plan c (faults.OtherSum accounts free) = HasBlocks plan c × ArePlaced c × AreCapped plan c × (accounts ≡ in_accounts plan c)
+HasCheckpointFault plan c (faults.Unprogrammed page) = HasBlocks plan c × (position (is_astray c.blocks) c.places ≡ Some page)
+HasCheckpointFault plan c (faults.AboveCap task) = HasBlocks plan c × ArePlaced c × IsFirstAbove plan.caps c.balances task
+HasCheckpointFault plan c (faults.OtherSum accounts free) = HasBlocks plan c × ArePlaced c × AreCapped plan c × (accounts ≡ in_accounts plan c)
     × (free ≡ free_pages plan c) × (accounts ≢ free)
-HasFault plan c faults.NoMemory = FitsButShared plan c
-HasFault plan c (faults.SharedCell page) = FitsButShared plan c × IsFirstShared c.places page
+HasCheckpointFault plan c faults.NoMemory = FitsButShared plan c
+HasCheckpointFault plan c (faults.SharedCell page) = FitsButShared plan c × IsFirstShared c.places page

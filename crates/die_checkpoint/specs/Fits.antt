@@ -4,7 +4,7 @@ use Rattle.slot_types.specs.declared.pages.Place.{Place}
 use Rattle.slot_types.specs.declared.plans.DiePlan.{DiePlan}
 use Rattle.slot_types.specs.Places.{place_of}
 use Rattle.plan_rules.specs.Bound.{MeetsBound}
-use Rattle.page_map.specs.Placing.{AreApart}
+use Rattle.page_map.specs.Placing.{HaveOwnCells}
 use Rattle.die_checkpoint.specs.declared.checkpoint.BlockCounts.{BlockCounts}
 use Rattle.die_checkpoint.specs.declared.checkpoint.Checkpoint.{Checkpoint}
 use Rattle.die_checkpoint.specs.Counts.{counts_at, free_in, most_erases}
@@ -69,4 +69,4 @@ pub record FitsButShared (plan : DiePlan) (c : Checkpoint) : Type 0 where
 -- programmed cell or nowhere, the accounts share out exactly the free pages, and no two pages lie in one cell.
 pub record Fits (plan : DiePlan) (c : Checkpoint) : Type 0 where
   pub all_else : FitsButShared plan c
-  pub apart : AreApart c.places
+  pub apart : HaveOwnCells c.places

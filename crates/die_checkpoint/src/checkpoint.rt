@@ -12,8 +12,8 @@ pub struct BlockCounts {
 }
 
 /// What stands on a die at a quiet moment, one at which all that it accepted is done or was waived: then no block is in
-/// erase, no task holds a page for a job, and each reserve is whole. It doesn't have the bytes of pages: they are on the
-/// device.
+/// erase, no task holds a page for a job, and each reserve is whole. It doesn't have the bytes of pages: they are on
+/// the device.
 ///
 /// Anybody may make one. [`check`](Checkpoint::check) says whether it fits a plan.
 #[derive(Clone, PartialEq, Eq, Debug, Drop)]

@@ -11,7 +11,8 @@ pub enum CheckpointFault {
     Overfull { block: u32 },
     /// Two blocks are open, with some pages programmed and some free: the second of them.
     SecondOpen { block: u32 },
-    /// A block was erased more than 4,293,918,718 times, so its count might not suffice for a life more: the first such.
+    /// A block was erased more than 4,293,918,718 times, so its count might not suffice for a life more: the first
+    /// such.
     WornOut { block: u32 },
     /// A logical page lies in a cell that isn't programmed, or isn't there: the first such page.
     Unprogrammed { page: u32 },

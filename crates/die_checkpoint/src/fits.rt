@@ -1,9 +1,9 @@
 //! Whether a checkpoint fits a plan.
 
 ghost use Rattle.std.specs.Prelude.{◌≡◌, ◌↔◌, IsTrue, IfErr, OnOk};
-ghost use Rattle.page_map.specs.Placing.{AreApart};
+ghost use Rattle.page_map.specs.Placing.{HaveOwnCells};
 ghost use Rattle.die_checkpoint.specs.Fits.{IsOfShape, IsOfPlan, HasBlocks, FitsButShared, Fits};
-ghost use Rattle.die_checkpoint.specs.Faults.{HasFault};
+ghost use Rattle.die_checkpoint.specs.Faults.{HasCheckpointFault};
 
 use crate::accounts::{first_above, free_of, sum_of};
 use crate::blocks::{first_overfull, first_worn, second_open};
@@ -21,7 +21,7 @@ impl Checkpoint {
     /// Refused with the first cause that stands, as [`CheckpointFault`] lists them.
     pub fn check(&self, alloc: Global, plan: &DiePlan) -> Result<(), CheckpointFault>
         ensures fits { OnOk result (Fits plan.now self.now) }
-        ensures fault { IfErr result (HasFault plan.now self.now) }
+        ensures fault { IfErr result (HasCheckpointFault plan.now self.now) }
     {
         self.check_plan(plan)?;
         self.check_blocks(plan)?;
@@ -32,7 +32,7 @@ impl Checkpoint {
     /// Whether it has as many blocks, pages and tasks as the plan, which may be used.
     fn check_plan(&self, plan: &DiePlan) -> Result<(), CheckpointFault>
         ensures ok { OnOk result (IsOfPlan plan.now self.now) }
-        ensures fault { IfErr result (HasFault plan.now self.now) }
+        ensures fault { IfErr result (HasCheckpointFault plan.now self.now) }
     {
         if !self.is_of_shape(plan) {
             return Err(CheckpointFault::OtherShape);
@@ -55,7 +55,7 @@ impl Checkpoint {
     fn check_blocks(&self, plan: &DiePlan) -> Result<(), CheckpointFault>
         requires plan { IsOfPlan plan.now self.now }
         ensures ok { OnOk result (HasBlocks plan.now self.now) }
-        ensures fault { IfErr result (HasFault plan.now self.now) }
+        ensures fault { IfErr result (HasCheckpointFault plan.now self.now) }
     {
         let blocks = self.blocks.as_slice();
         if let Some(block) = first_overfull(blocks, plan.shape.pages) {
@@ -74,7 +74,7 @@ impl Checkpoint {
     fn check_accounts(&self, plan: &DiePlan) -> Result<(), CheckpointFault>
         requires blocks { HasBlocks plan.now self.now }
         ensures ok { OnOk result (FitsButShared plan.now self.now) }
-        ensures fault { IfErr result (HasFault plan.now self.now) }
+        ensures fault { IfErr result (HasCheckpointFault plan.now self.now) }
     {
         let blocks = self.blocks.as_slice();
         if let Some(page) = first_astray(self.places.as_slice(), blocks) {
@@ -96,7 +96,7 @@ impl Checkpoint {
     fn check_cells(&self, alloc: Global, plan: &DiePlan) -> Result<(), CheckpointFault>
         requires others { FitsButShared plan.now self.now }
         ensures ok { OnOk result (Fits plan.now self.now) }
-        ensures fault { IfErr result (HasFault plan.now self.now) }
+        ensures fault { IfErr result (HasCheckpointFault plan.now self.now) }
     {
         match PageMap::of_places(alloc, plan.shape, self.places.as_slice()) {
             Ok(_) => Ok(()),

@@ -5,18 +5,18 @@ ghost use Rattle.slot_types.specs.declared.plans.DiePlan.{DiePlan};
 ghost use Rattle.die_checkpoint.specs.declared.checkpoint.Checkpoint.{Checkpoint as Stood};
 ghost use Rattle.die_checkpoint.specs.declared.fault.CheckpointFault.{CheckpointFault as Cause};
 ghost use Rattle.die_checkpoint.specs.Fits.{Fits};
-ghost use Rattle.die_checkpoint.specs.Faults.{HasFault};
+ghost use Rattle.die_checkpoint.specs.Faults.{HasCheckpointFault};
 
 use crate::fault::CheckpointFault;
 
-/// A checkpoint that has a fault doesn't fit. The want of memory is none.
+/// A checkpoint that has a fault doesn't fit. The lack of memory is none.
 pub fn a_fault_excludes_fitting()
     ensures { (plan : DiePlan) (c : Stood) (fault : Cause) →
-        HasFault plan c fault → fault ≢ CheckpointFault.NoMemory → ¬ Fits plan c }
+        HasCheckpointFault plan c fault → fault ≢ CheckpointFault.NoMemory → ¬ Fits plan c }
 {}
 
-/// A checkpoint has one first fault. The want of memory is none.
+/// A checkpoint has one first fault. The lack of memory is none.
 pub fn a_check_has_one_answer()
-    ensures { (plan : DiePlan) (c : Stood) (one other : Cause) → HasFault plan c one → HasFault plan c other →
+    ensures { (plan : DiePlan) (c : Stood) (one other : Cause) → HasCheckpointFault plan c one → HasCheckpointFault plan c other →
         one ≢ CheckpointFault.NoMemory → other ≢ CheckpointFault.NoMemory → one ≡ other }
 {}

@@ -9,10 +9,10 @@ use Rattle.slot_types.specs.declared.replies.Reply.{Reply}
 use Rattle.slot_types.specs.declared.replies.Reply.TheVariants as replies
 use Rattle.slot_types.specs.declared.replies.Waived.{Waived}
 use Rattle.plan_rules.specs.Accounts.{Accounts}
-use Rattle.die_log.specs.Log.{Log, Job, Carried, job_at, acts}
-use Rattle.die_log.specs.Work.{are_all}
-use Rattle.die_log.specs.Accounts.{after_act, after_carried, after_waiver, after_waivers, after_entry, accounts}
-use Rattle.die_log.specs.Start.{Start}
+use Rattle.die_log.specs.Model.Log.{Log, Job, Carried, job_at, acts}
+use Rattle.die_log.specs.Model.Work.{are_all}
+use Rattle.die_log.specs.Model.Accounts.{after_act, after_carried, after_waiver, after_waivers, after_entry, accounts}
+use Rattle.die_log.specs.Model.Start.{Start}
 
 settled_plan : (a b : Accounts) (test : Bool) → a.plan ≡ b.plan → (cond test a b).plan ≡ b.plan
 settled_plan a b true e = e

@@ -3,10 +3,10 @@ use Rattle.std.proofs.Common.{◌≡◌, ℕ, zero, suc, Bool, true, false, cond
 use Rattle.std.specs.List.{AllByRecursion}
 use Rattle.slot_types.specs.declared.plans.DiePlan.{DiePlan}
 use Rattle.slot_types.specs.declared.replies.Waived.{Waived}
-use Rattle.die_log.specs.Log.{Log, Job}
-use Rattle.die_log.specs.Work.{goes_first, least}
+use Rattle.die_log.specs.Model.Log.{Log, Job}
+use Rattle.die_log.specs.Model.Work.{goes_first, least}
 use Rattle.plan_rules.specs.Accounts.{Accounts}
-use Rattle.die_log.specs.Answers.{Choice, weighed, chosen, choice_among, is_waivable, without}
+use Rattle.die_log.specs.Model.Answers.{Choice, head_or_waiver, choice_by_head, choice_among, is_waivable, without}
 
 -- what holds of all holds of those that pass a test
 kept_if : {X : Type 0} (P : X → Type 0) (t : X → Bool) (x : X) (xs : List X) (b : Bool) → P x → AllByRecursion P (filter t xs)
@@ -49,7 +49,7 @@ pub record Names (P : Job → Type 0) (c : Choice) : Type 0 where
 
 names_weighed : (P : Job → Type 0) (a : Accounts) (waiting : List Job) (again : Accounts → List Job → Choice) (j : Job) (b : Bool)
     → P j → AllByRecursion P waiting → ((a' : Accounts) (rest : List Job) → AllByRecursion P rest → Names P (again a' rest))
-    → Names P (weighed a waiting again j b)
+    → Names P (head_or_waiver a waiting again j b)
 names_weighed P a waiting again j true p h ih =
     let rest = ih _ (without j waiting) (all_kept P _ waiting h) in record { waived = ((j, p, refl), rest.waived); head = rest.head }
 names_weighed P a waiting again j false p h ih = record { waived = tt; head = p }
@@ -57,14 +57,14 @@ names_weighed P a waiting again j false p h ih = record { waived = tt; head = p 
 names_chosen : (P : Job → Type 0) (plan : DiePlan) (past : Log) (a : Accounts) (waiting : List Job) (again : Accounts → List Job → Choice)
     (o : Option Job)
     → OfSome P o → AllByRecursion P waiting → ((a' : Accounts) (rest : List Job) → AllByRecursion P rest → Names P (again a' rest))
-    → Names P (chosen plan past a waiting again o)
+    → Names P (choice_by_head plan past a waiting again o)
 names_chosen P plan past a waiting again None p h ih = record { waived = tt; head = tt }
 names_chosen P plan past a waiting again (Some j) p h ih = names_weighed P a waiting again j (is_waivable plan past a j) p h ih
 
 -- a choice names those alone that it is made among
-pub names_waiting : (P : Job → Type 0) (plan : DiePlan) (past : Log) (turns : ℕ) (a : Accounts) (waiting : List Job)
-    → AllByRecursion P waiting → Names P (choice_among plan past turns a waiting)
+pub names_waiting : (P : Job → Type 0) (plan : DiePlan) (past : Log) (rounds : ℕ) (a : Accounts) (waiting : List Job)
+    → AllByRecursion P waiting → Names P (choice_among plan past rounds a waiting)
 names_waiting P plan past zero a waiting h = record { waived = tt; head = tt }
-names_waiting P plan past (suc turns) a waiting h =
-    names_chosen P plan past a waiting (choice_among plan past turns) (least waiting) (least_all P waiting h) h
-    (names_waiting P plan past turns)
+names_waiting P plan past (suc rounds) a waiting h =
+    names_chosen P plan past a waiting (choice_among plan past rounds) (least waiting) (least_all P waiting h) h
+    (names_waiting P plan past rounds)

@@ -7,12 +7,12 @@ use Rattle.std.proofs.lemmas.Bool.Decides.{nat_tests}
 use Rattle.slot_types.specs.declared.replies.Waived.{Waived}
 use Rattle.slot_types.specs.declared.events.Event.TheVariants as events
 use Rattle.slot_types.specs.declared.replies.Reply.TheVariants as replies
-use Rattle.die_log.specs.Log.{Log, Job, Carried, jobs, carried, waived, is_waived, act_of, acts}
-use Rattle.die_log.specs.Work.{is_done, is_collecting}
-use Rattle.die_log.specs.Answers.{IsExact}
+use Rattle.die_log.specs.Model.Log.{Log, Job, Carried, jobs, carried_slots, waived_collections, is_waived, act_of, acts}
+use Rattle.die_log.specs.Model.Work.{is_done, is_collecting}
+use Rattle.die_log.specs.Model.Answers.{IsExact}
 use Rattle.die_log.proofs.Legality.{entry}
 use Rattle.die_log.proofs.Known.{CarriedBelow, WaivedBelow, known}
-use Rattle.die_log.specs.Start.{Start}
+use Rattle.die_log.specs.Model.Start.{Start}
 
 pub other_number : (m n : ℕ) → m < n → (m == n) ≡ false
 other_number m n h = grind (arith, nat_tests)
@@ -31,10 +31,10 @@ not_waived_in n (w ∷ ws) h = rw (other_number w.number n h.0) (not_waived_in n
 
 -- what isn't taken yet has no acts
 pub no_acts : (start : Start) (log : Log) → IsExact start log → acts (length (jobs log)) log ≡ []
-no_acts start log h = no_acts_in (length (jobs log)) (carried log) (known start log h).of_carried
+no_acts start log h = no_acts_in (length (jobs log)) (carried_slots log) (known start log h).of_carried
 
 pub not_waived : (start : Start) (log : Log) → IsExact start log → is_waived log (length (jobs log)) ≡ false
-not_waived start log h = not_waived_in (length (jobs log)) (waived log) (known start log h).of_waived
+not_waived start log h = not_waived_in (length (jobs log)) (waived_collections log) (known start log h).of_waived
 
 abbrev collection : ℕ → ℕ → ℕ → ℕ → Job
 collection number task release due = record { number = number; collects = true; task = task; release = release; due = due; ops = [] }

@@ -3,9 +3,9 @@ use Rattle.std.proofs.Common.{◌≡◌, ℕ, [], ◌∷◌, ◌++◌, refl, ap}
 use Rattle.slot_types.specs.declared.events.Event.{Event}
 use Rattle.slot_types.specs.declared.replies.Reply.{Reply}
 use Rattle.slot_types.specs.declared.replies.Entry.{Entry}
-use Rattle.die_log.specs.Log.{Log, calls}
-use Rattle.die_log.specs.Answers.{IsExact}
-use Rattle.die_log.specs.Start.{Start}
+use Rattle.die_log.specs.Model.Log.{Log, calls}
+use Rattle.die_log.specs.Model.Answers.{IsExact}
+use Rattle.die_log.specs.Model.Start.{Start}
 
 abbrev entry : ℕ → Event → Reply → Entry
 entry caller event reply = record { caller = caller; event = event; reply = reply }
@@ -30,7 +30,7 @@ same_calls_lem start (c ∷ ps) (d ∷ qs) x y e =
     let heads : c ≡ d = same_entry c.caller d.caller c.event d.event c.reply d.reply callers events (cc) in
     cc
 
--- a moment of an exact log: what stands behind its last entries
+-- a moment of an exact log: what stands after its last entries
 pub moment_exact : (start : Start) (later moment : Log) → IsExact start (later ++ moment) → IsExact start moment
 moment_exact start [] moment h = h
 moment_exact start (e ∷ later) moment h = moment_exact start later moment h.0

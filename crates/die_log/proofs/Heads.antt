@@ -5,11 +5,11 @@ use Rattle.std.specs.List.{AllByRecursion, list_any}
 use Rattle.std.proofs.lemmas.Bool.Decides.{nat_tests}
 use Rattle.slot_types.specs.declared.plans.DiePlan.{DiePlan}
 use Rattle.slot_types.specs.declared.replies.Waived.{Waived}
-use Rattle.die_log.specs.Log.{Log, Job}
-use Rattle.die_log.specs.Work.{goes_first, least}
-use Rattle.plan_rules.specs.Accounts.{Accounts, given_of, waived}
-use Rattle.die_log.specs.Answers.{Choice, weighed, chosen, choice_among, is_waivable, without, with_waiver}
-use Rattle.die_log.specs.Legal.{is_among}
+use Rattle.die_log.specs.Model.Log.{Log, Job}
+use Rattle.die_log.specs.Model.Work.{goes_first, least}
+use Rattle.plan_rules.specs.Accounts.{Accounts, given_of, accounts_after_waiver}
+use Rattle.die_log.specs.Model.Answers.{Choice, head_or_waiver, choice_by_head, choice_among, is_waivable, without, with_waiver}
+use Rattle.die_log.specs.Results.Legal.{is_among}
 use Rattle.die_log.proofs.Choices.{OfSome}
 
 -- Keys
@@ -146,26 +146,26 @@ waiver number given = record { number = number; given = given }
 passed_weighed : (a : Accounts) (xs : List Job) (again : Accounts → List Job → Choice) (j : Job) (b : Bool)
     → AllByRecursion (λ i. goes_first i j ≡ false) xs
     → ((a' : Accounts) → AllByRecursion (IsPassed (again a' (without j xs))) (without j xs))
-    → AllByRecursion (IsPassed (weighed a xs again j b)) xs
-passed_weighed a xs again j true least ih = passed_with (waiver j.number (given_of a j.task)) (again (waived a j.task) (without j xs)) j xs
-    refl (ih (waived a j.task))
-passed_weighed a xs again j false least ih = passed_all (weighed a xs again j false) j xs refl least
+    → AllByRecursion (IsPassed (head_or_waiver a xs again j b)) xs
+passed_weighed a xs again j true least ih = passed_with (waiver j.number (given_of a j.task)) (again (accounts_after_waiver a j.task) (without j xs)) j xs
+    refl (ih (accounts_after_waiver a j.task))
+passed_weighed a xs again j false least ih = passed_all (head_or_waiver a xs again j false) j xs refl least
 
-passed_chosen : (plan : DiePlan) (past : Log) (turns : ℕ) (a : Accounts) (xs : List Job) (again : Accounts → List Job → Choice)
-    (o : Option Job) → least xs ≡ o → length xs ≤ turns + 1
+passed_chosen : (plan : DiePlan) (past : Log) (rounds : ℕ) (a : Accounts) (xs : List Job) (again : Accounts → List Job → Choice)
+    (o : Option Job) → least xs ≡ o → length xs ≤ rounds + 1
     → OfSome (λ j. AllByRecursion (λ i. goes_first i j ≡ false) xs) o → OfSome (λ j. length (without j xs) < length xs) o
-    → ((a' : Accounts) (ys : List Job) → length ys ≤ turns → AllByRecursion (IsPassed (again a' ys)) ys)
-    → AllByRecursion (IsPassed (chosen plan past a xs again o)) xs
-passed_chosen plan past turns a [] again None e le h k ih = tt
-passed_chosen plan past turns a (x ∷ xs) again None e le h k ih = absurd cc
-passed_chosen plan past turns a xs again (Some j) e le h k ih =
+    → ((a' : Accounts) (ys : List Job) → length ys ≤ rounds → AllByRecursion (IsPassed (again a' ys)) ys)
+    → AllByRecursion (IsPassed (choice_by_head plan past a xs again o)) xs
+passed_chosen plan past rounds a [] again None e le h k ih = tt
+passed_chosen plan past rounds a (x ∷ xs) again None e le h k ih = absurd cc
+passed_chosen plan past rounds a xs again (Some j) e le h k ih =
     passed_weighed a xs again j (is_waivable plan past a j) h (λ a'. ih a' (without j xs) (omega arith))
 
 -- all that wait are waived, or not before the head
-pub all_passed : (plan : DiePlan) (past : Log) (turns : ℕ) (a : Accounts) (xs : List Job) → length xs ≤ turns
-    → AllByRecursion (IsPassed (choice_among plan past turns a xs)) xs
+pub all_passed : (plan : DiePlan) (past : Log) (rounds : ℕ) (a : Accounts) (xs : List Job) → length xs ≤ rounds
+    → AllByRecursion (IsPassed (choice_among plan past rounds a xs)) xs
 all_passed plan past zero a [] le = tt
 all_passed plan past zero a (x ∷ xs) le = absurd (omega arith)
-all_passed plan past (suc turns) a xs le =
-    passed_chosen plan past turns a xs (choice_among plan past turns) (least xs) refl (omega arith) (none_before xs) (least_less xs)
-    (all_passed plan past turns)
+all_passed plan past (suc rounds) a xs le =
+    passed_chosen plan past rounds a xs (choice_among plan past rounds) (least xs) refl (omega arith) (none_before xs) (least_less xs)
+    (all_passed plan past rounds)

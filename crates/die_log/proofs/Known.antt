@@ -6,13 +6,13 @@ use Rattle.slot_types.specs.declared.acts.Act.{Act}
 use Rattle.slot_types.specs.declared.replies.Waived.{Waived}
 use Rattle.slot_types.specs.declared.events.Event.{Event}
 use Rattle.slot_types.specs.declared.events.Event.TheVariants as events
-use Rattle.die_log.specs.Log.{Log, Job, Carried, jobs, carried, waived}
-use Rattle.die_log.specs.Work.{is_ready, ready}
-use Rattle.die_log.specs.Accounts.{accounts}
-use Rattle.die_log.specs.Answers.{IsExact, choice, act_for, reply_with, slot_reply, accepted, refusals}
+use Rattle.die_log.specs.Model.Log.{Log, Job, Carried, jobs, carried_slots, waived_collections}
+use Rattle.die_log.specs.Model.Work.{is_ready, ready}
+use Rattle.die_log.specs.Model.Accounts.{accounts}
+use Rattle.die_log.specs.Model.Answers.{IsExact, choice, act_for, reply_with, slot_reply, reply_if_accepted, refusals}
 use Rattle.die_log.proofs.Choices.{all_kept, names_waiting, Names, OfSome, OfWaived}
 use Rattle.die_log.proofs.Legality.{exact_induction, entry}
-use Rattle.die_log.specs.Start.{Start}
+use Rattle.die_log.specs.Model.Start.{Start}
 
 pub all_append : {X : Type 0} (P : X → Type 0) (xs ys : List X) → AllByRecursion P xs → AllByRecursion P ys → AllByRecursion P (xs ++ ys)
 all_append P [] ys h k = k
@@ -35,8 +35,8 @@ CarriedBelow n (Some (number, act)) = number < n
 -- every number is of a job that stands
 pub record AreKnown (log : Log) : Type 0 where
   pub of_jobs : AllByRecursion (IsBelow (length (jobs log))) (jobs log)
-  pub of_waived : AllByRecursion (WaivedBelow (length (jobs log))) (waived log)
-  pub of_carried : AllByRecursion (CarriedBelow (length (jobs log))) (carried log)
+  pub of_waived : AllByRecursion (WaivedBelow (length (jobs log))) (waived_collections log)
+  pub of_carried : AllByRecursion (CarriedBelow (length (jobs log))) (carried_slots log)
 
 job_more : (n m : ℕ) → n ≤ m → (xs : List Job) → AllByRecursion (IsBelow n) xs → AllByRecursion (IsBelow m) xs
 job_more n m le xs h = all_map (IsBelow n) (IsBelow m) (λ j p. omega arith) xs h
@@ -54,15 +54,15 @@ carried_more n m le xs h = all_map (CarriedBelow n) (CarriedBelow m) (carried_on
 -- one more job, of the next number
 taken_known : (past : Log) (j : Job) → j.number ≡ length (jobs past) → AreKnown past
     → AllByRecursion (IsBelow (length (jobs past ++ j ∷ []))) (jobs past ++ j ∷ [])
-    × AllByRecursion (WaivedBelow (length (jobs past ++ j ∷ []))) (waived past)
-    × AllByRecursion (CarriedBelow (length (jobs past ++ j ∷ []))) (carried past)
+    × AllByRecursion (WaivedBelow (length (jobs past ++ j ∷ []))) (waived_collections past)
+    × AllByRecursion (CarriedBelow (length (jobs past ++ j ∷ []))) (carried_slots past)
 taken_known past j is k =
     let n = length (jobs past) in
     let more : length (jobs past ++ j ∷ []) ≡ n + 1 = length-append (jobs past) (j ∷ []) in
     let le : n ≤ length (jobs past ++ j ∷ []) = omega arith in (
       all_append _ (jobs past) (j ∷ []) (job_more n _ le (jobs past) k.of_jobs) (omega arith, tt),
-      waived_more n _ le (waived past) k.of_waived,
-      carried_more n _ le (carried past) k.of_carried,
+      waived_more n _ le (waived_collections past) k.of_waived,
+      carried_more n _ le (carried_slots past) k.of_carried,
     )
 
 waiver_known : (n : ℕ) (w : Waived) → OfWaived (IsBelow n) w → WaivedBelow n w
@@ -91,7 +91,7 @@ pub known : (start : Start) (log : Log) → IsExact start log → AreKnown log
 known start = exact_induction start AreKnown (record { of_jobs = tt; of_waived = tt; of_carried = tt }) step
   where
     step : (past : Log) (caller : ℕ) (event : Event) → IsExact start past → AreKnown past
-        → AllByRecursion (λ c. c.0 ≡ false) (refusals start past event) → AreKnown (entry caller event (accepted start past event) ∷ past)
+        → AllByRecursion (λ c. c.0 ≡ false) (refusals start past event) → AreKnown (entry caller event (reply_if_accepted start past event) ∷ past)
     step past caller (events.Submit task release due ops) x k h = let t = taken_known past _ refl k in record
         { of_jobs = t.0; of_waived = t.1; of_carried = t.2 }
     step past caller (events.Collect task release due) x k h = let t = taken_known past _ refl k in record
@@ -103,8 +103,8 @@ known start = exact_induction start AreKnown (record { of_jobs = tt; of_waived =
         (ready start.plan past) (all_kept (IsBelow n) (is_ready start.plan past) (jobs past) k.of_jobs) in
         record {
           of_jobs = k.of_jobs;
-          of_waived = all_append (WaivedBelow n) (waived past) (slot_reply start past c.waived c.head).waived k.of_waived
+          of_waived = all_append (WaivedBelow n) (waived_collections past) (slot_reply start past c.waived c.head).waived k.of_waived
               (rw (waived_is start past c.waived c.head) (all_map (OfWaived (IsBelow n)) (WaivedBelow n) (waiver_known n) c.waived
               names.waived));
-          of_carried = all_append (CarriedBelow n) (carried past) _ k.of_carried (ran_known start past c.waived c.head n names.head, tt);
+          of_carried = all_append (CarriedBelow n) (carried_slots past) _ k.of_carried (ran_known start past c.waived c.head n names.head, tt);
         }

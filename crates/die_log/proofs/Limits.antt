@@ -13,14 +13,14 @@ use Rattle.slot_types.specs.declared.events.Event.{Event}
 use Rattle.slot_types.specs.declared.events.Event.TheVariants as events
 use Rattle.slot_types.specs.declared.replies.Reply.{Reply}
 use Rattle.slot_types.specs.declared.replies.Reply.TheVariants as replies
-use Rattle.die_log.specs.Log.{Log, Job, Carried, jobs, now, carried, with_slot, act_of, work}
-use Rattle.die_log.specs.Flash.{Block, Cells, cells, cells_after, block_at, free_block, open_block, programmed_in, erased_once, ran_by}
+use Rattle.die_log.specs.Model.Log.{Log, Job, Carried, jobs, now, carried_slots, with_slot, act_of, work}
+use Rattle.die_log.specs.Model.Flash.{Block, Cells, cells, cells_after, block_at, free_block, open_block, cells_after_program_in, block_after_erase_slot, ran_by}
 use Rattle.slot_types.specs.Operations.{page_of}
-use Rattle.die_log.specs.Answers.{IsExact, accepted, refusals, bad_page, choice, slot_reply}
-use Rattle.die_log.specs.Limits.{IsWithinLimits, KeepsLimits}
+use Rattle.die_log.specs.Model.Answers.{IsExact, reply_if_accepted, refusals, bad_page, choice, slot_reply}
+use Rattle.die_log.specs.Results.Limits.{IsWithinLimits, KeepsLimits}
 use Rattle.die_log.proofs.Legality.{entry, in_time, exact_induction}
 use Rattle.die_log.proofs.Known.{all_append}
-use Rattle.die_log.specs.Start.{Start}
+use Rattle.die_log.specs.Model.Start.{Start}
 
 -- Work
 
@@ -34,7 +34,7 @@ few_found {Y = Y} f (x ∷ xs) = by_head (f x) (few_found f xs)
 
 -- what took slots took no more than there were
 pub few_work : (n : ℕ) (log : Log) → work n log ≤ now log
-few_work n log = few_found (λ c. act_of n c) (carried log)
+few_work n log = few_found (λ c. act_of n c) (carried_slots log)
 
 -- Jobs
 
@@ -61,7 +61,7 @@ all_within start = exact_induction start (AreWithin start.plan) tt step
   where
     step : (past : Log) (caller : ℕ) (event : Event) → IsExact start past → AreWithin start.plan past
         → AllByRecursion (λ c. c.0 ≡ false) (refusals start past event)
-        → AreWithin start.plan (entry caller event (accepted start past event) ∷ past)
+        → AreWithin start.plan (entry caller event (reply_if_accepted start past event) ∷ past)
     step past caller (events.Submit task release due ops) exact h none =
         let time = in_time start past (events.Submit task release due ops) none in
         let pages = All-from_recursion (λ op. page_of op < start.plan.logical) ops (no_bad_page start.plan ops none.1.1.1.0) in
@@ -97,14 +97,14 @@ few_slots : (start : Start) (log : Log) → IsExact start log → now log ≤ MA
 few_slots start = exact_induction start (λ log. now log ≤ MAX_SLOT) (omega arith) step
   where
     step : (past : Log) (caller : ℕ) (event : Event) → IsExact start past → now past ≤ MAX_SLOT
-        → AllByRecursion (λ c. c.0 ≡ false) (refusals start past event) → now (entry caller event (accepted start past event) ∷ past)
+        → AllByRecursion (λ c. c.0 ≡ false) (refusals start past event) → now (entry caller event (reply_if_accepted start past event) ∷ past)
         ≤ MAX_SLOT
     step past caller (events.Submit task release due ops) exact h none = h
     step past caller (events.Collect task release due) exact h none = h
     step past caller events.Slot exact h none =
         omega (
           arith,
-          length_push (carried past) (slot_reply start past (choice start past).waived (choice start past).head).ran,
+          length_push (carried_slots past) (slot_reply start past (choice start past).waived (choice start past).head).ran,
           leb-false
               MAX_SLOT (now past) none.0,
         )
@@ -117,7 +117,7 @@ few_jobs start = exact_induction start (λ log. length (jobs log) ≤ MAX_JOBS) 
   where
     step : (past : Log) (caller : ℕ) (event : Event) → IsExact start past → length (jobs past) ≤ MAX_JOBS
         → AllByRecursion (λ c. c.0 ≡ false) (refusals start past event)
-        → length (jobs (entry caller event (accepted start past event) ∷ past)) ≤ MAX_JOBS
+        → length (jobs (entry caller event (reply_if_accepted start past event) ∷ past)) ≤ MAX_JOBS
     step past caller (events.Submit task release due ops) exact h none = one_more (jobs past) _ none.1.1.1.1.1.1.0
     step past caller (events.Collect task release due) exact h none = one_more (jobs past) _ none.1.1.1.1.0
     step past caller events.Slot exact h none = h
@@ -134,7 +134,7 @@ set_erases blocks b a s le = elim (cases_lt b (length blocks)) [
   | inr past ↦ omega (arith, ap (λ (bs : List Block). (get_or bs a free_block).erases) (set_past blocks b s past))
 ]
 
-program_erases : (plan : DiePlan) (page : ℕ) (c : Cells) (o : Option ℕ) (a : ℕ) → (block_at (programmed_in page o c) a).erases
+program_erases : (plan : DiePlan) (page : ℕ) (c : Cells) (o : Option ℕ) (a : ℕ) → (block_at (cells_after_program_in page o c) a).erases
     ≤ (block_at c a).erases + 1
 program_erases plan page c None a = omega arith
 program_erases plan page c (Some b) a = set_erases c.blocks b a (record (block_at c b) { filled = (block_at c b).filled + 1 }) (omega arith)
@@ -152,14 +152,14 @@ step_erases plan (Some (n, does.Write page bytes)) c a = program_erases plan pag
 step_erases plan (Some (n, does.Trim page)) c a = omega arith
 step_erases plan (Some (n, does.CopyRead page)) c a = omega arith
 step_erases plan (Some (n, does.CopyProgram page)) c a = program_erases plan page c (open_block plan c) a
-step_erases plan (Some (n, does.Erase b)) c a = set_erases c.blocks b a (erased_once plan (block_at c b))
+step_erases plan (Some (n, does.Erase b)) c a = set_erases c.blocks b a (block_after_erase_slot plan (block_at c b))
     (once_erases (block_at c b) ((block_at c b).erasing + 1 == plan.shape.erase_slots))
 
 entry_erases : (start : Start) (past : Log) (r : Reply) (a : ℕ) → (block_at (cells start past) a).erases ≤ (block_at start.cells a).erases + now past
-    → (block_at (cells_after start.plan (ran_by r) (cells start past)) a).erases ≤ (block_at start.cells a).erases + length (with_slot r (carried past))
+    → (block_at (cells_after start.plan (ran_by r) (cells start past)) a).erases ≤ (block_at start.cells a).erases + length (with_slot r (carried_slots past))
 entry_erases start past (replies.Taken number) a h = h
 entry_erases start past (replies.Refused refusal) a h = h
-entry_erases start past (replies.Slot s) a h = omega (arith, h, step_erases start.plan s.ran (cells start past) a, length_push (carried past) s.ran)
+entry_erases start past (replies.Slot s) a h = omega (arith, h, step_erases start.plan s.ran (cells start past) a, length_push (carried_slots past) s.ran)
 
 few_erases : (start : Start) (log : Log) (a : ℕ) → (block_at (cells start log) a).erases ≤ (block_at start.cells a).erases + now log
 few_erases start [] a = omega arith

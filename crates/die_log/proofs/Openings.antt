@@ -6,10 +6,10 @@ use Rattle.slot_types.specs.declared.plans.DiePlan.{DiePlan}
 use Rattle.slot_types.specs.declared.pages.PageData.{PageData}
 use Rattle.slot_types.specs.declared.plans.Times.{Times}
 use Rattle.plan_rules.specs.Bound.{MeetsBound}
-use Rattle.die_log.specs.Start.{Block, fresh, fresh_cells, free_block, blank_page}
-use Rattle.die_log.specs.Flash.{block_at}
-use Rattle.die_log.specs.Opening.{IsOpening}
-use Rattle.die_log.specs.Supply.{AreStocked}
+use Rattle.die_log.specs.Model.Start.{Block, fresh, fresh_cells, free_block, blank_page}
+use Rattle.die_log.specs.Model.Flash.{block_at}
+use Rattle.die_log.specs.Model.Opening.{IsOpening}
+use Rattle.die_log.specs.Results.Supply.{AreStocked}
 use Rattle.die_log.proofs.Cells.Steps.{fresh_sound, fresh_idle}
 use Rattle.die_log.proofs.Tokens.Opening.{agree_opening}
 

@@ -9,21 +9,21 @@ use Rattle.slot_types.specs.declared.replies.SlotReply.{SlotReply}
 use Rattle.late_cert.specs.declared.certificates.Certificate.{Certificate}
 use Rattle.late_cert.proofs.Binds.{binds}
 use Rattle.late_cert.proofs.Faults.{certificate-verdict}
-use Rattle.die_log.specs.Log.{Log, Job, waived}
-use Rattle.die_log.specs.Flash.{free}
-use Rattle.die_log.specs.Work.{worst, owed}
-use Rattle.die_log.specs.Answers.{IsExact}
-use Rattle.die_log.specs.Legal.{IsLegal, IsLegalEntry, IsLegalReply, IsLegalRun, IsLegalAct}
-use Rattle.die_log.specs.Rows.{rows, certificate, certificate_for, IsCertified}
-use Rattle.die_log.specs.Certified.{IsOfWorst, HoldsOver, BindsAll}
-use Rattle.die_log.specs.Promised.{HasEntry, HasSlot, HasMoment, KeepsPromises}
+use Rattle.die_log.specs.Model.Log.{Log, Job, waived_collections}
+use Rattle.die_log.specs.Model.Flash.{free}
+use Rattle.die_log.specs.Model.Work.{worst, owed}
+use Rattle.die_log.specs.Model.Answers.{IsExact}
+use Rattle.die_log.specs.Results.Legal.{IsLegal, IsLegalEntry, IsLegalReply, IsLegalRun, IsLegalAct}
+use Rattle.die_log.specs.Model.Rows.{rows, certificate, certificate_for, IsCertified}
+use Rattle.die_log.specs.Results.Certificates.{IsOfWorst, HoldsOver, BindsAll}
+use Rattle.die_log.specs.Results.Promises.{HasEntry, HasSlot, HasMoment, KeepsPromises}
 use Rattle.die_log.proofs.Exact.{moment_exact}
 use Rattle.die_log.proofs.Legal.Exact.{exact_legal}
 use Rattle.die_log.proofs.Least.Exact.{least_keys, exact_least}
 use Rattle.die_log.proofs.Least.Certificates.{worst_certified, none_is}
 use Rattle.die_log.proofs.Bounds.Exact.{few_copies, bounded_work}
-use Rattle.die_log.specs.Start.{Start}
-use Rattle.die_log.specs.Opening.{IsOpening}
+use Rattle.die_log.specs.Model.Start.{Start}
+use Rattle.die_log.specs.Model.Opening.{IsOpening}
 
 -- Parts of a legal log
 
@@ -40,7 +40,7 @@ legal_slot start log s past h has = subst (IsLegalReply start past) has.1 (legal
 
 pub legal_act : (start : Start) (log : Log) (s : SlotReply) (past : Log) (number : ℕ) (act : Act) → IsLegal start log → HasSlot log s past
     → s.ran ≡ Some (number, act)
-    → (j : Job) × IsLegalAct start past (waived past ++ s.waived) j number act
+    → (j : Job) × IsLegalAct start past (waived_collections past ++ s.waived) j number act
 legal_act start log s past number act h has ran = subst (IsLegalRun start past s.waived) ran (legal_slot start log s past h has).1
 
 owed_fits : (start : Start) (moment : Log) → IsLegal start moment → owed moment ≤ free start moment

@@ -12,14 +12,14 @@ use Rattle.slot_types.specs.declared.acts.Act.TheVariants as does
 use Rattle.slot_types.specs.declared.events.Op.{Op}
 use Rattle.slot_types.specs.declared.events.Event.{Event}
 use Rattle.slot_types.specs.Operations.{writes}
-use Rattle.die_log.specs.Log.{Log, Job, Carried, jobs, job_at, acts, work, is_waived}
-use Rattle.die_log.specs.Flash.{Cells, cells, cells_after, block_at, contents, written, programmed_in, open_block, ran_by}
-use Rattle.die_log.specs.Start.{Start, blank_page}
-use Rattle.die_log.specs.Work.{is_done, owed}
-use Rattle.die_log.specs.Answers.{IsExact, accepted, refusals}
-use Rattle.die_log.specs.Held.{at_task, left_of, lent_of, held_of, lent_to, is_pending, copied_of, IsTaken}
-use Rattle.die_log.specs.Standing.{Runs}
-use Rattle.die_log.specs.Opening.{IsOpening, IsQuiet, renewed}
+use Rattle.die_log.specs.Model.Log.{Log, Job, Carried, jobs, job_at, acts, work, is_waived}
+use Rattle.die_log.specs.Model.Flash.{Cells, cells, cells_after, block_at, contents, contents_after, cells_after_program_in, open_block, ran_by}
+use Rattle.die_log.specs.Model.Start.{Start, blank_page}
+use Rattle.die_log.specs.Model.Work.{is_done, owed}
+use Rattle.die_log.specs.Model.Answers.{IsExact, reply_if_accepted, refusals}
+use Rattle.die_log.specs.Invariants.TrueAccounts.{at_task, left_of, lent_of, held_of, lent_to, is_pending, copied_of, HasTaskAndOps}
+use Rattle.die_log.specs.Invariants.RunningCollections.{RunsOnBlock}
+use Rattle.die_log.specs.Model.Opening.{IsOpening, IsQuiet, renewed_start}
 use Rattle.die_log.proofs.Legality.{exact_induction}
 use Rattle.die_log.proofs.Cells.Steps.{opens}
 use Rattle.die_log.proofs.Standing.Finds.{FindsBy}
@@ -85,20 +85,20 @@ trimmed_blank places pages page h p none = elim (cases_eq p page) [
 ]
 
 programmed_blank : (page : ℕ) (o : Option ℕ) (c : Cells) (pages : List PageData) → AreBlank c.places pages
-    → AreBlank (programmed_in page o c).places pages
+    → AreBlank (cells_after_program_in page o c).places pages
 programmed_blank page None c pages h = h
 programmed_blank page (Some b) c pages h = placed_blank c.places pages page _ h
 
 -- a write goes to a block that is open
 act_blank : (start : Start) (past : Log) (ran : Carried) → FindsBy start past ran
     → length (cells start past).places ≡ length (contents start past) → AreBlank (cells start past).places (contents start past)
-    → AreBlank (cells_after start.plan ran (cells start past)).places (written ran (contents start past))
+    → AreBlank (cells_after start.plan ran (cells start past)).places (contents_after ran (contents start past))
 act_blank start past None finds len h = h
 act_blank start past (Some (n, does.Read page bytes)) finds len h = h
 act_blank start past (Some (n, does.Write page bytes)) finds len h =
     let c : Cells = cells start past in
     let o = opens start.plan c finds in
-    subst (λ x. AreBlank (programmed_in page x c).places (set (contents start past) page bytes)) (sym o.1)
+    subst (λ x. AreBlank (cells_after_program_in page x c).places (set (contents start past) page bytes)) (sym o.1)
     (written_blank c.places (contents start past) page _ bytes len h)
 act_blank start past (Some (n, does.Trim page)) finds len h = trimmed_blank (cells start past).places (contents start past) page h
 act_blank start past (Some (n, does.CopyRead page)) finds len h = h
@@ -106,7 +106,7 @@ act_blank start past (Some (n, does.CopyProgram page)) finds len h = programmed_
     (cells start past) (contents start past) h
 act_blank start past (Some (n, does.Erase block)) finds len h = h
 
-written_len : (ran : Carried) (pages : List PageData) → length (written ran pages) ≡ length pages
+written_len : (ran : Carried) (pages : List PageData) → length (contents_after ran pages) ≡ length pages
 written_len None pages = refl
 written_len (Some (n, does.Read page bytes)) pages = refl
 written_len (Some (n, does.Write page bytes)) pages = length-set pages page bytes
@@ -124,11 +124,11 @@ stay_blank start bound = exact_induction start (λ log. AreBlank (cells start lo
   where
     step : (past : Log) (caller : ℕ) (event : Event) → IsExact start past → AreBlank (cells start past).places (contents start past)
         → AllByRecursion (λ c. c.0 ≡ false) (refusals start past event)
-        → AreBlank (cells_after start.plan (ran_by (accepted start past event)) (cells start past)).places
-        (written (ran_by (accepted start past event)) (contents start past))
+        → AreBlank (cells_after start.plan (ran_by (reply_if_accepted start past event)) (cells start past)).places
+        (contents_after (ran_by (reply_if_accepted start past event)) (contents start past))
     step past caller event exact h none =
         let both = stands_well start bound past exact in
-        act_blank start past (ran_by (accepted start past event)) (event_finds start past event bound both)
+        act_blank start past (ran_by (reply_if_accepted start past event)) (event_finds start past event bound both)
         (both.0.collects.sound.places ∙ sym (contents_len start past ∙ bound.pages)) h
 
 -- Nothing is left to do
@@ -149,7 +149,7 @@ module _ (start : Start) (log : Log) (bound : IsOpening start) (exact : IsExact 
       ]
 
   -- no collection runs
-  pub none_runs : (j : Job) (b : ℕ) → Runs start log j b → ⊥
+  pub none_runs : (j : Job) (b : ℕ) → RunsOnBlock start log j b → ⊥
   none_runs j b r =
       let s = runs_says start.plan j (acts j.number log) r.running in
       elim (quiet j r.stands) [
@@ -169,7 +169,7 @@ module _ (start : Start) (log : Log) (bound : IsOpening start) (exact : IsExact 
   -- no job has a write left
   left : (k : ℕ) (j : Job) (b : Bool) → slice_get (jobs log) k ≡ Some j → j.collects ≡ b → left_of (λ n. acts n log) j ≡ 0
   left k j true e kind =
-      let ops : j.ops ≡ [] = (all_at (IsTaken start.plan) (jobs log) k j both.1.true_accounts.taken e).none kind in
+      let ops : j.ops ≡ [] = (all_at (HasTaskAndOps start.plan) (jobs log) k j both.1.true_accounts.taken e).none kind in
       ap (λ (l : List Op). writes (drop (length (acts j.number log)) l)) ops ∙ none_left (length (acts j.number log)) [] (omega arith)
   left k j false e kind = none_left (length (acts j.number log)) j.ops
       (omega (arith, all_done start.plan j (acts j.number log) kind (job_done k j e kind)))
@@ -200,7 +200,7 @@ module _ (start : Start) (log : Log) (bound : IsOpening start) (exact : IsExact 
   none_owed : owed log ≡ 0
   none_owed = sum_zero (λ j. writes (drop (work j.number log) j.ops)) (jobs log) (λ k j e. left k j j.collects e refl)
 
-  pub quiet_opens : IsOpening (renewed start log)
+  pub quiet_opens : IsOpening (renewed_start start log)
   quiet_opens =
       let a = both.1.true_accounts.agree in
       record {
@@ -222,5 +222,5 @@ module _ (start : Start) (log : Log) (bound : IsOpening start) (exact : IsExact 
         blank = stay_blank start bound log exact;
       }
 
-pub renewed_opens : (start : Start) (log : Log) → IsOpening start → IsExact start log → IsQuiet start log → IsOpening (renewed start log)
+pub renewed_opens : (start : Start) (log : Log) → IsOpening start → IsExact start log → IsQuiet start log → IsOpening (renewed_start start log)
 renewed_opens = quiet_opens

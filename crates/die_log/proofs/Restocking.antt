@@ -8,12 +8,12 @@ use Rattle.plan_rules.specs.Times.{times_of, Passes}
 use Rattle.plan_rules.specs.Keeping.{KeepsPlan}
 use Rattle.plan_rules.proofs.Moments.{slots_append}
 use Rattle.slot_types.specs.declared.limits.TheConstants.{MAX_SLOT}
-use Rattle.die_log.specs.Start.{Start}
-use Rattle.die_log.specs.Opening.{IsOpening, IsQuiet, renewed}
-use Rattle.die_log.specs.Log.{Log, jobs, now}
-use Rattle.die_log.specs.Answers.{IsExact}
-use Rattle.die_log.specs.Planned.{told, IsInTime, IsAtPeriodEnd}
-use Rattle.die_log.specs.Supply.{balance_of, collections_of, pending_at, AreStocked}
+use Rattle.die_log.specs.Model.Start.{Start}
+use Rattle.die_log.specs.Model.Opening.{IsOpening, IsQuiet, renewed_start}
+use Rattle.die_log.specs.Model.Log.{Log, jobs, now}
+use Rattle.die_log.specs.Model.Answers.{IsExact}
+use Rattle.die_log.specs.Results.InTime.{events_of_log, IsInTime, IsAtPeriodEnd}
+use Rattle.die_log.specs.Results.Supply.{balance_of, collections_of, pending_at, AreStocked}
 use Rattle.die_log.proofs.Supply.Held.{pending_none}
 use Rattle.die_log.proofs.Supply.Following.{follows}
 use Rattle.die_log.proofs.Supply.Multiples.{collections_fill}
@@ -28,12 +28,12 @@ again p q w cap bal count n pend h none is =
     omega (arith, h, grouped, ap (λ x. w * x) is, ap (λ x. w * q * x) none, nothing)
 
 pub goes_on : (start : Start) (times : Times) → IsOpening start → Passes start.plan times → AreStocked start times
-    → (log : Log) (rest : List Event) → IsExact start log → KeepsPlan start.plan times (told log ++ rest)
-    → IsAtPeriodEnd start.plan times log → IsQuiet start log × AreStocked (renewed start log) times
+    → (log : Log) (rest : List Event) → IsExact start log → KeepsPlan start.plan times (events_of_log log ++ rest)
+    → IsAtPeriodEnd start.plan times log → IsQuiet start log × AreStocked (renewed_start start log) times
 goes_on start times bound passes stocked log rest exact keeps ends =
     let in_time : IsInTime start.plan log = never_late start times bound passes log exact rest keeps in
     let f = follows start times log exact rest keeps in
-    let within : now log ≤ MAX_SLOT = omega (arith, keeps.few_slots, slots_append (told log) rest, f.clock) in (
+    let within : now log ≤ MAX_SLOT = omega (arith, keeps.few_slots, slots_append (events_of_log log) rest, f.clock) in (
       λ j stands. in_time.due_by_now j stands (ends.due_by_now j stands),
       λ task lt.
           let t : TaskTimes = times_of times task in

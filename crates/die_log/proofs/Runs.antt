@@ -3,9 +3,9 @@ use Rattle.std.proofs.Common.{◌≡◌, ℕ, List, [], ◌∷◌, refl, sym}
 use Rattle.slot_types.specs.declared.events.Event.{Event}
 use Rattle.slot_types.specs.declared.replies.Reply.{Reply}
 use Rattle.slot_types.specs.declared.replies.Reply.TheVariants as replies
-use Rattle.die_log.specs.Log.{Log}
-use Rattle.die_log.specs.Answers.{IsExact, answer, with_answer, after_call, run}
-use Rattle.die_log.specs.Start.{Start}
+use Rattle.die_log.specs.Model.Log.{Log}
+use Rattle.die_log.specs.Model.Answers.{IsExact, answer, with_answer, after_call, run}
+use Rattle.die_log.specs.Model.Start.{Start}
 
 with_exact : (start : Start) (past : Log) (caller : ℕ) (event : Event) (r : Reply) → answer start past event ≡ r → IsExact start past
     → IsExact start (with_answer caller event r past)

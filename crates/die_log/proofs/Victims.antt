@@ -8,13 +8,13 @@ use Rattle.slot_types.specs.declared.replies.Entry.{Entry}
 use Rattle.slot_types.specs.declared.replies.Reply.TheVariants as replies
 use Rattle.slot_types.specs.declared.replies.SlotReply.{SlotReply}
 use Rattle.slot_types.specs.declared.replies.Waived.{Waived}
-use Rattle.die_log.specs.Log.{Log, Job, job_at, act_of, waived}
-use Rattle.die_log.specs.Flash.{ran_by}
-use Rattle.die_log.specs.Work.{victim_of, shown_by}
-use Rattle.die_log.specs.Answers.{IsExact, IsAccepted, accepted, choice, slot_reply, reply_with, act_for}
-use Rattle.die_log.specs.Opening.{IsOpening}
-use Rattle.die_log.specs.Start.{Start}
-use Rattle.die_log.specs.Victims.{IsFirstTurn, IsSmallVictim, HasFirstAct}
+use Rattle.die_log.specs.Model.Log.{Log, Job, job_at, act_of, waived_collections}
+use Rattle.die_log.specs.Model.Flash.{ran_by}
+use Rattle.die_log.specs.Model.Work.{victim_of, shown_by}
+use Rattle.die_log.specs.Model.Answers.{IsExact, IsAccepted, reply_if_accepted, choice, slot_reply, reply_with, act_for}
+use Rattle.die_log.specs.Model.Opening.{IsOpening}
+use Rattle.die_log.specs.Model.Start.{Start}
+use Rattle.die_log.specs.Results.Victims.{BeginsNext, IsSmallVictim, HasFirstAct}
 use Rattle.die_log.proofs.Exact.{moment_exact}
 use Rattle.die_log.proofs.Legality.{taken_answer}
 use Rattle.die_log.proofs.Legal.Exact.{StandsWell, stands_well, finds_few, well_served, chosen_is}
@@ -23,7 +23,7 @@ use Rattle.die_log.proofs.Tokens.Few.{begin_shows}
 use Rattle.std.proofs.Common.{MatchOption}
 use Rattle.die_log.proofs.Tokens.Waivers.{Waits}
 
-pub head_finds : (start : Start) → IsOpening start → (log : Log) → IsExact start log → (j : Job) → IsFirstTurn start log j
+pub head_finds : (start : Start) → IsOpening start → (log : Log) → IsExact start log → (j : Job) → BeginsNext start log j
     → (b : ℕ) × IsSmallVictim start log b
 head_finds start bound log exact j first =
     let v = finds_few start log bound (stands_well start bound log exact) j first.head first.collects first.unbegun in
@@ -38,7 +38,7 @@ pub record IsHeadOf (start : Start) (past : Log) (number : ℕ) (act : Act) : Ty
   pub number_is : j.number ≡ number
   pub does_it : act_for start past j ≡ Some act
 
-slot_is : (start : Start) (past : Log) (event : Event) (s : SlotReply) → replies.Slot s ≡ accepted start past event
+slot_is : (start : Start) (past : Log) (event : Event) (s : SlotReply) → replies.Slot s ≡ reply_if_accepted start past event
     → s ≡ slot_reply start past (choice start past).waived (choice start past).head
 slot_is start past (events.Submit task release due ops) s e = absurd cc
 slot_is start past (events.Collect task release due) s e = absurd cc
@@ -84,8 +84,8 @@ first_act_finds start bound log exact past j first =
     let h = carried_head start past e first.reply j.number first.act here first.slot.1 first.ran in
     let well : StandsWell start past = stands_well start bound past here.0 in
     let c = chosen_is start past (well_served start past bound well) in
-    let waits : Waits start.plan past (waived past ++ (choice start past).waived) h.j = subst
-    (λ (o : Option Job). MatchOption o (Unit {0}) (λ i. Waits start.plan past (waived past ++ (choice start past).waived) i)) h.head c.head in
+    let waits : Waits start.plan past (waived_collections past ++ (choice start past).waived) h.j = subst
+    (λ (o : Option Job). MatchOption o (Unit {0}) (λ i. Waits start.plan past (waived_collections past ++ (choice start past).waived) i)) h.head c.head in
     let same : h.j ≡ j = same_Some h.j j (sym waits.known ∙ (ap (job_at past) h.number_is ∙ first.known)) in
     let head : (choice start past).head ≡ Some j = h.head ∙ ap (λ (i : Job). Some i) same in
     let does_it : act_for start past j ≡ Some first.act = ap (act_for start past) (sym same) ∙ h.does_it in

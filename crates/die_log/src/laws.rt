@@ -6,28 +6,28 @@ ghost use Rattle.slot_types.specs.declared.plans.DiePlan.{DiePlan};
 ghost use Rattle.slot_types.specs.declared.events.Event.{Event};
 ghost use Rattle.slot_types.specs.declared.plans.Times.{Times};
 ghost use Rattle.plan_rules.specs.Bound.{MeetsBound};
-ghost use Rattle.die_log.specs.Start.{Start, fresh};
-ghost use Rattle.die_log.specs.Opening.{IsOpening, IsQuiet, renewed};
-ghost use Rattle.die_log.specs.Laws.{ForEveryExactLog};
-ghost use Rattle.die_log.specs.Certified.{NothingDone};
+ghost use Rattle.die_log.specs.Model.Start.{Start, fresh};
+ghost use Rattle.die_log.specs.Model.Opening.{IsOpening, IsQuiet, renewed_start};
+ghost use Rattle.die_log.specs.Results.Laws.{ForEveryExactLog};
+ghost use Rattle.die_log.specs.Results.Certificates.{NothingDone};
 ghost use Rattle.plan_rules.specs.Times.{Passes};
 ghost use Rattle.plan_rules.specs.Keeping.{KeepsPlan};
 ghost use Rattle.late_cert.specs.declared.certificates.Certificate.{Certificate};
 ghost use Rattle.late_cert.specs.Schedule.{IsLeastLate};
-ghost use Rattle.late_cert.specs.Stretch.{CarriesLeastKeys};
-ghost use Rattle.die_log.specs.Log.{Log, Job, calls, jobs, now, acts, work};
-ghost use Rattle.die_log.specs.Work.{is_done, is_copy_program, victim_of, worst, IsWorst};
-ghost use Rattle.die_log.specs.Answers.{refusal_of, run, IsExact};
-ghost use Rattle.die_log.specs.Legal.{IsLegal};
-ghost use Rattle.die_log.specs.Limits.{KeepsLimits};
-ghost use Rattle.die_log.specs.Standing.{Stands};
-ghost use Rattle.die_log.specs.Well.{IsWell};
-ghost use Rattle.die_log.specs.Held.{held_of};
-ghost use Rattle.die_log.specs.Planned.{told, AreEntered, IsInTime, AreAccepted, IsAtPeriodEnd};
-ghost use Rattle.die_log.specs.Supply.{hold_of, AreStocked};
-ghost use Rattle.die_log.specs.Rows.{rows, carried_numbers, certificate, IsCertified};
-ghost use Rattle.die_log.specs.Promised.{KeepsPromises};
-ghost use Rattle.die_log.specs.Victims.{IsFirstTurn, IsSmallVictim, HasFirstAct};
+ghost use Rattle.late_cert.specs.BusyInterval.{CarriesLeastKeys};
+ghost use Rattle.die_log.specs.Model.Log.{Log, Job, calls, jobs, now, acts, work};
+ghost use Rattle.die_log.specs.Model.Work.{is_done, is_copy_program, victim_of, worst, IsWorst};
+ghost use Rattle.die_log.specs.Model.Answers.{refusal_of, run, IsExact};
+ghost use Rattle.die_log.specs.Results.Legal.{IsLegal};
+ghost use Rattle.die_log.specs.Results.Limits.{KeepsLimits};
+ghost use Rattle.die_log.specs.Invariants.RunningCollections.{KeepsJobsAndCells};
+ghost use Rattle.die_log.specs.Invariants.TrueAndLegal.{IsTrueAndLegal};
+ghost use Rattle.die_log.specs.Invariants.TrueAccounts.{held_of};
+ghost use Rattle.die_log.specs.Results.InTime.{events_of_log, AreEntered, IsInTime, AreAccepted, IsAtPeriodEnd};
+ghost use Rattle.die_log.specs.Results.Supply.{hold_of, AreStocked};
+ghost use Rattle.die_log.specs.Model.Rows.{rows, carried_numbers, certificate, IsCertified};
+ghost use Rattle.die_log.specs.Results.Promises.{KeepsPromises};
+ghost use Rattle.die_log.specs.Results.Victims.{BeginsNext, IsSmallVictim, HasFirstAct};
 
 /// Two exact logs of one start with the same calls are one log: each call has one answer.
 pub fn equal_calls_have_one_answer()
@@ -54,8 +54,8 @@ pub fn exact_is_legal()
 /// After each exact log that starts at an opening the jobs, the cells and the collections stand,
 /// and the accounts come to what the log says.
 pub fn exact_stands()
-    ensures stands { ForEveryExactLog Stands }
-    ensures well { ForEveryExactLog IsWell }
+    ensures stands { ForEveryExactLog KeepsJobsAndCells }
+    ensures well { ForEveryExactLog IsTrueAndLegal }
 {}
 
 /// What is read off any log as its worst job is the done one with the greatest lateness, of equal
@@ -67,7 +67,7 @@ pub fn worst_is_worst()
     ensures some { (plan : DiePlan) (log : Log) (j : Job) → worst plan log ≡ Some j → IsWorst plan log j }
 {}
 
-/// Each slot of an exact log that starts at an opening carried the least key, of due and number, of
+/// Each slot of an exact log that starts at an opening carried the least key, of deadline and number, of
 /// those that waited in it: all that were released, not done and not waived.
 pub fn exact_carries_least_keys()
     ensures { ForEveryExactLog (λ start log. CarriesLeastKeys (rows start.plan log) (carried_numbers log)) }
@@ -98,11 +98,11 @@ pub fn collections_are_bounded()
         → work j.number log ≤ 2 * (start.plan.shape.pages - start.plan.alpha) + start.plan.shape.erase_slots) }
 {}
 
-/// The pigeonhole, told of logs. A collection that begins in an exact log that starts at an opening finds a victim, and
+/// The pigeonhole, of logs. A collection that begins in an exact log that starts at an opening finds a victim, and
 /// that block has at most `pages - alpha` valid pages: so at each moment at which such a collection has the next slot,
 /// and so in each slot that carried the first act of one, whose block is then the victim of that moment.
 pub fn collections_find_victims()
-    ensures next { ForEveryExactLog (λ start log. (j : Job) → IsFirstTurn start log j
+    ensures next { ForEveryExactLog (λ start log. (j : Job) → BeginsNext start log j
         → (b : ℕ) × IsSmallVictim start log b) }
     ensures carried { ForEveryExactLog (λ start log. (past : Log) (j : Job) → HasFirstAct log past j
         → (b : ℕ) × IsSmallVictim start past b × (victim_of start j.number log ≡ Some b)) }
@@ -133,12 +133,12 @@ pub fn planned_work_is_in_time()
         (calls : List (ℕ × Event)) → KeepsPlan start.plan times (map (λ call. call.1) calls) → IsInTime start.plan (run start [] calls) }
 {}
 
-/// Of events that keep a passing plan none is refused: no job for want of tokens, and no collection because
-/// the task's collector is busy. So it is of each event behind those before it, and of a run of them all.
+/// Of events that keep a passing plan none is refused: no job for lack of tokens, and no collection because
+/// the task's collector is busy. So it is of each event after those before it, and of a run of them all.
 pub fn planned_work_is_accepted()
     ensures next { (start : Start) (times : Times) → IsOpening start → Passes start.plan times → AreStocked start times →
         (past : Log) (event : Event) (rest : List Event) → IsExact start past →
-        KeepsPlan start.plan times (told past ++ event ∷ rest) → refusal_of start past event ≡ None }
+        KeepsPlan start.plan times (events_of_log past ++ event ∷ rest) → refusal_of start past event ≡ None }
     ensures run { (start : Start) (times : Times) → IsOpening start → Passes start.plan times → AreStocked start times →
         (calls : List (ℕ × Event)) → KeepsPlan start.plan times (map (λ call. call.1) calls) → AreAccepted start [] calls }
 {}
@@ -149,10 +149,10 @@ pub fn fresh_is_opening()
     ensures stocked { (plan : DiePlan) (times : Times) → AreStocked (fresh plan) times }
 {}
 
-/// A moment of an exact log at which each job and each collection is done or was waived is one from which another log may
-/// start.
+/// A moment of an exact log at which each job and each collection is done or was waived is one from which another log
+/// may start.
 pub fn quiet_moments_are_openings()
-    ensures { (start : Start) (log : Log) → IsOpening start → IsExact start log → IsQuiet start log → IsOpening (renewed start log) }
+    ensures { (start : Start) (log : Log) → IsOpening start → IsExact start log → IsQuiet start log → IsOpening (renewed_start start log) }
 {}
 
 /// Planned work goes on over renewals. Let the log start stocked, and let the events keep a passing plan; let all that
@@ -160,6 +160,6 @@ pub fn quiet_moments_are_openings()
 /// log that starts there is stocked again: so nothing of the next such events is refused or late.
 pub fn planned_work_goes_on()
     ensures { (start : Start) (times : Times) → IsOpening start → Passes start.plan times → AreStocked start times →
-        (log : Log) (rest : List Event) → IsExact start log → KeepsPlan start.plan times (told log ++ rest) →
-        IsAtPeriodEnd start.plan times log → IsQuiet start log × AreStocked (renewed start log) times }
+        (log : Log) (rest : List Event) → IsExact start log → KeepsPlan start.plan times (events_of_log log ++ rest) →
+        IsAtPeriodEnd start.plan times log → IsQuiet start log × AreStocked (renewed_start start log) times }
 {}

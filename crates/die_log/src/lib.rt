@@ -1,7 +1,7 @@
 //! What the log of a die says: definitions, and laws about them, apart from any body.
 //!
-//! A log is the list of the accepted calls of a die with their answers, the newest first: behind an entry lies
-//! the log as it was before it, so an earlier moment is what is left behind the last entries. The definitions
+//! A log is the list of the accepted calls of a die with their answers, the newest first: after an entry lies
+//! the log as it was before it, so an earlier moment is what is left without the last entries. The definitions
 //! stand in `specs/`, to be read in this order:
 //!
 //! - `Start`: where a log starts: the plan, and what its pages, cells and accounts are then; a fresh die's start;
@@ -14,20 +14,20 @@
 //!   a slot, waivers, victims and acts. A log is *exact* where each entry has this answer and none is a refusal;
 //! - `Legal`: what an outsider may ask of a log, said without any rule that chooses;
 //! - `Rows`: a log as the rows and slots that certificates of lateness are about;
-//! - `Certified`: what is said of a certificate of a log;
-//! - `Promised`: all that is promised of a log, in one record;
-//! - `Planned`: the logs that events leave, and what a plan with times promises of them;
+//! - `Certificates`: what is said of a certificate of a log;
+//! - `Promises`: all that is promised of a log, in one record;
+//! - `InTime`: the logs that events leave, and what a plan with times promises of them;
 //! - `Opening`: from which starts a log may begin; when all is done, and what stands then, as a start;
 //! - `Supply`: what the balance of a task lacks at most, where the events keep such a plan;
 //! - `Victims`: when a collection begins, and what it finds;
 //! - `Lives`: all logs of a die, each of which starts at what the one before it left: what was last written, the rows
 //!   and slots of them all, the erases;
 //! - `PlannedLives`: planned work over all of them;
-//! - `Laws`: what a law is told of: every exact log, each life, all lives.
+//! - `Laws`: what a law speaks of: every exact log, each life, all lives.
 //!
-//! `Limits`, `Sound`, `Standing`, `Held` and `Well` say what else stands behind every exact log. The definitions
-//! run: `proofs/Worked` has small logs whose answers, cells, accounts and lateness are computed, `proofs/Wrong`
-//! logs that break one rule each and are refused.
+//! `Limits`, `SoundCells`, `RunningCollections`, `TrueAccounts` and `TrueAndLegal` say what else holds of every exact
+//! log. The definitions run: `proofs/Worked` has small logs whose answers, cells, accounts and lateness are computed,
+//! `proofs/Wrong` logs that break one rule each and are refused.
 //!
 //! Each law is a function that does nothing, whose contract is the law.
 #![tactic(auto)]

@@ -9,25 +9,25 @@ ghost use Rattle.slot_types.specs.declared.replies.SlotReply.{SlotReply};
 ghost use Rattle.slot_types.specs.declared.plans.Times.{Times};
 ghost use Rattle.plan_rules.specs.Times.{Passes};
 ghost use Rattle.plan_rules.specs.Keeping.{KeepsPlan};
-ghost use Rattle.die_log.specs.Log.{Log};
-ghost use Rattle.die_log.specs.Supply.{AreStocked};
-ghost use Rattle.die_log.specs.PlannedLives.{Calls, events_of, lives_of, KeepPlans, IsServedInTime, AreServedInTime};
-ghost use Rattle.die_log.specs.Start.{Start};
-ghost use Rattle.die_log.specs.Legal.{FindsFree};
-ghost use Rattle.die_log.specs.Opening.{IsOpening};
-ghost use Rattle.die_log.specs.Laws.{ForEveryExactLog, ForAllLives, ForEachLife, ForPlannedLives};
-ghost use Rattle.die_log.specs.Promised.{HasSlot, KeepsPromises};
-ghost use Rattle.die_log.specs.Lives.{Lives, start_after, HaveEnded, AreLives, HasLife, last_content, all_slots, all_jobs};
-ghost use Rattle.die_log.specs.Lives.{rows_of_all, numbers_of_all, erases_in, all_erases_in, collections_taken};
+ghost use Rattle.die_log.specs.Model.Log.{Log};
+ghost use Rattle.die_log.specs.Results.Supply.{AreStocked};
+ghost use Rattle.die_log.specs.Results.PlannedLives.{Calls, events_of_calls, lives_of, KeepPlans, IsServedInTime, AreServedInTime};
+ghost use Rattle.die_log.specs.Model.Start.{Start};
+ghost use Rattle.die_log.specs.Results.Legal.{FindsFree};
+ghost use Rattle.die_log.specs.Model.Opening.{IsOpening};
+ghost use Rattle.die_log.specs.Results.Laws.{ForEveryExactLog, ForAllLives, ForEachLife, ForPlannedLives};
+ghost use Rattle.die_log.specs.Results.Promises.{HasSlot, KeepsPromises};
+ghost use Rattle.die_log.specs.Model.Lives.{Lives, start_after, HaveEnded, AreLives, HasLife, last_content, all_slots, all_jobs};
+ghost use Rattle.die_log.specs.Model.Lives.{rows_of_all, numbers_of_all, erases_in, all_erases_in, collections_taken};
 ghost use Rattle.slot_types.specs.declared.limits.TheConstants.{MAX_JOBS};
-ghost use Rattle.die_log.specs.Flash.{cells, block_at};
-ghost use Rattle.die_log.specs.Answers.{IsExact};
+ghost use Rattle.die_log.specs.Model.Flash.{cells, block_at};
+ghost use Rattle.die_log.specs.Model.Answers.{IsExact};
 ghost use Rattle.late_cert.specs.Build.{certificate_of};
-ghost use Rattle.late_cert.specs.Joined.{row_after};
+ghost use Rattle.late_cert.specs.JoinedRows.{row_after};
 ghost use Rattle.late_cert.specs.Rows.{row_of, is_known, is_done};
-ghost use Rattle.die_log.specs.Rows.{rows};
+ghost use Rattle.die_log.specs.Model.Rows.{rows};
 ghost use Rattle.late_cert.specs.Schedule.{IsLeastLate};
-ghost use Rattle.late_cert.specs.Stretch.{CarriesLeastKeys};
+ghost use Rattle.late_cert.specs.BusyInterval.{CarriesLeastKeys};
 
 /// Each of a die's lives starts at an opening and keeps all that is promised of a log: so it is exact, legal and
 /// least late, and has its certificates. Another life may start where all have ended. No write that was accepted finds
@@ -40,7 +40,7 @@ pub fn lives_keep_promises()
         HasSlot log s past → s.ran ≡ Some (number, act) → FindsFree (start_after first earlier) past act) }
 {}
 
-/// Each read tells what the last finished write or trim of its page left on it, in whichever life that was, or else
+/// Each read gives what the last finished write or trim of its page left on it, in whichever life that was, or else
 /// what stood on it where the die's first life started.
 pub fn lives_tell_the_last_write()
     ensures { ForEachLife (λ first log earlier. (s : SlotReply) (past : Log) (number page : ℕ) (bytes : PageData) →
@@ -92,7 +92,7 @@ pub fn few_erases()
 /// keep the plan, wherever they end.
 pub fn planned_lives_go_on()
     ensures served { ForPlannedLives (λ first times all. AreServedInTime first all) }
-    ensures next { ForPlannedLives (λ first times all. (calls : Calls) → KeepsPlan first.plan times (events_of calls) →
+    ensures next { ForPlannedLives (λ first times all. (calls : Calls) → KeepsPlan first.plan times (events_of_calls calls) →
         IsServedInTime (start_after first (lives_of first all)) calls) }
     ensures ended { ForPlannedLives (λ first times all. HaveEnded first (lives_of first all)) }
     ensures stocked { ForPlannedLives (λ first times all. AreStocked (start_after first (lives_of first all)) times) }

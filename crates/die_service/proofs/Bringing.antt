@@ -12,21 +12,21 @@ use Rattle.slot_types.specs.declared.replies.Reply.TheVariants as replies
 use Rattle.slot_types.specs.declared.replies.SlotReply.{SlotReply}
 use Rattle.turn_lock.specs.Views.{IsSamePass}
 use Rattle.slot_types.specs.declared.refusals.Refusal.TheVariants.{ClockEnd}
-use Rattle.die_log.specs.Log.{Log, now}
-use Rattle.die_log.specs.Answers.{answer, answer_by, choice}
+use Rattle.die_log.specs.Model.Log.{Log, now}
+use Rattle.die_log.specs.Model.Answers.{answer, answer_by, choice}
 use Rattle.die_log.proofs.Numbered.{slot_is}
 use Rattle.die_service.specs.declared.feeds.Arrival.{Arrival}
 use Rattle.die_service.specs.declared.refused.RefusedAt.{RefusedAt}
 use Rattle.die_service.specs.Passes.{AddsEntry, AddsNone}
 use Rattle.slot_types.specs.Arrivals.{IsArrival}
-use Rattle.slot_types.specs.Arriving.{arrived, coming}
+use Rattle.slot_types.specs.Arriving.{arrivals_by, arrivals_after}
 use Rattle.slot_types.proofs.Arriving.{arrived_one, later_one}
-use Rattle.die_service.specs.Runs.{Said, said, comes_at, AreAsked, place_behind, noted, slots_in, slot_counted, stop_of}
+use Rattle.die_service.specs.Runs.{AskedEvent, asked_event, comes_at, AreAsked, place_behind, with_refused, slots_in, slot_counted, stop_of}
 use Rattle.die_service.specs.Runs.{stop_or}
 use Rattle.die_service.specs.Stores.{DiePass}
-use Rattle.die_service.specs.Drives.{Course, Standing, Asks, IsFit, Comes, NoneDue, BringsOne, Brings, TakesSlot, IsStopped}
+use Rattle.die_service.specs.Drives.{Course, WorkerState, Asks, IsFit, Comes, NoneDue, BringsOne, Brings, TakesSlot, IsStopped}
 use Rattle.die_service.proofs.Driving.{far_accepts, far_refuses, asks_joins, asks_none, slots_more, stop_more}
-use Rattle.die_log.specs.Start.{Start}
+use Rattle.die_log.specs.Model.Start.{Start}
 
 -- One event
 
@@ -35,18 +35,18 @@ behind_arrival events.Slot n arrives = absurd arrives
 behind_arrival (events.Submit task release due ops) n arrives = omega arith
 behind_arrival (events.Collect task release due) n arrives = omega arith
 
-none_noted : (e : Event) (n : ℕ) (reply : Reply) → noted n e (Ok reply) [] ≡ []
+none_noted : (e : Event) (n : ℕ) (reply : Reply) → with_refused n e (Ok reply) [] ≡ []
 none_noted events.Slot n reply = refl
 none_noted (events.Submit task release due ops) n reply = refl
 none_noted (events.Collect task release due) n reply = refl
 
-one_noted : (e : Event) (n : ℕ) (refused : RefusedAt) → IsArrival e → noted n e (Err refused) [] ≡ record { place = n; refused = refused }
+one_noted : (e : Event) (n : ℕ) (refused : RefusedAt) → IsArrival e → with_refused n e (Err refused) [] ≡ record { place = n; refused = refused }
     ∷ []
 one_noted events.Slot n refused arrives = absurd arrives
 one_noted (events.Submit task release due ops) n refused arrives = refl
 one_noted (events.Collect task release due) n refused arrives = refl
 
-abbrev at : DiePass → Course → ℕ → Option RefusedAt → Standing
+abbrev at : DiePass → Course → ℕ → Option RefusedAt → WorkerState
 at p c slots stop = record { pass = p; course = c; slots = slots; stop = stop }
 
 module _ (never : Bool) (clock : ℕ) (p q : DiePass) (c d : Course) (event : Event) (slots : ℕ) (stop : Option RefusedAt) where
@@ -169,19 +169,19 @@ no_stop_of (events.Submit task release due ops) r arrives = refl
 no_stop_of (events.Collect task release due) r arrives = refl
 
 -- some of the events that come by the clock were asked; whatever those that are left come to, all come to
-pub record IsBringing (never : Bool) (clock : ℕ) (s t : Standing) : Type 0 where
-  pub fed : List Said
+pub record IsBringing (never : Bool) (clock : ℕ) (s t : WorkerState) : Type 0 where
+  pub fed : List AskedEvent
   pub asks : Asks never s.pass s.course fed t.pass t.course
-  pub asked : (more : List Said) → AreAsked (arrived comes_at clock t.course.rest) more
-      → AreAsked (arrived comes_at clock s.course.rest) (fed ++ more)
-  pub rest : coming comes_at clock s.course.rest ≡ coming comes_at clock t.course.rest
+  pub asked : (more : List AskedEvent) → AreAsked (arrivals_by comes_at clock t.course.rest) more
+      → AreAsked (arrivals_by comes_at clock s.course.rest) (fed ++ more)
+  pub rest : arrivals_after comes_at clock s.course.rest ≡ arrivals_after comes_at clock t.course.rest
   pub no_slot : slots_in fed ≡ 0
   pub no_stop : stop_of fed ≡ None
   pub slots : t.slots ≡ s.slots
   pub stop : t.stop ≡ s.stop
 
 module _ (never : Bool) (clock : ℕ) where
-  pub brings_none : (s : Standing) → IsFit s.pass.view → IsBringing never clock s s
+  pub brings_none : (s : WorkerState) → IsFit s.pass.view → IsBringing never clock s s
   brings_none s fit = record {
     fed = [];
     asks = asks_none never s.pass s.course fit;
@@ -193,28 +193,28 @@ module _ (never : Bool) (clock : ℕ) where
     stop = refl;
   }
 
-  pub brings_more : (s t u : Standing) → IsBringing never clock s t → BringsOne never clock t u → IsBringing never clock s u
+  pub brings_more : (s t u : WorkerState) → IsBringing never clock s t → BringsOne never clock t u → IsBringing never clock s u
   brings_more s t u b one =
-      let last = said one.arrival.event one.reply in record {
+      let last = asked_event one.arrival.event one.reply in record {
         fed = b.fed ++ last ∷ [];
         asks = asks_joins never s.pass t.pass u.pass s.course t.course u.course b.fed (last ∷ []) b.asks one.asks;
-        asked = λ more asked. subst (AreAsked (arrived comes_at clock s.course.rest)) (sym (append_assoc b.fed (last ∷ []) more))
+        asked = λ more asked. subst (AreAsked (arrivals_by comes_at clock s.course.rest)) (sym (append_assoc b.fed (last ∷ []) more))
             (b.asked (last ∷ more)
             (subst (λ (l : List Arrival). AreAsked l (last ∷ more))
-            (sym (ap (arrived comes_at clock) one.rest ∙ arrived_one comes_at clock one.arrival u.course.rest one.by))
+            (sym (ap (arrivals_by comes_at clock) one.rest ∙ arrived_one comes_at clock one.arrival u.course.rest one.by))
             (ap (λ l. one.arrival.event ∷ l) asked)));
-        rest = b.rest ∙ (ap (coming comes_at clock) one.rest ∙ later_one comes_at clock one.arrival u.course.rest one.by);
+        rest = b.rest ∙ (ap (arrivals_after comes_at clock) one.rest ∙ later_one comes_at clock one.arrival u.course.rest one.by);
         no_slot = slots_more b.fed (last ∷ []) ∙ omega (arith, b.no_slot, no_slot_of one.arrival.event one.reply one.arrives);
         no_stop = stop_more b.fed (last ∷ []) b.no_stop ∙ no_stop_of one.arrival.event one.reply one.arrives;
         slots = one.slots ∙ b.slots;
         stop = one.stop ∙ b.stop;
       }
 
-  pub brings_all : (s t : Standing) → IsBringing never clock s t → NoneDue clock t.course.rest → Brings never clock s t
+  pub brings_all : (s t : WorkerState) → IsBringing never clock s t → NoneDue clock t.course.rest → Brings never clock s t
   brings_all s t b none = record {
     fed = b.fed;
     asks = b.asks;
-    asked = subst (AreAsked (arrived comes_at clock s.course.rest)) (append-nil b.fed)
+    asked = subst (AreAsked (arrivals_by comes_at clock s.course.rest)) (append-nil b.fed)
         (b.asked [] (ap (map (λ (a : Arrival). a.event)) (sym none.0)));
     rest = sym (b.rest ∙ none.1);
     no_slot = b.no_slot;

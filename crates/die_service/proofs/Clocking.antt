@@ -5,17 +5,17 @@ use Rattle.slot_types.specs.declared.events.Event.TheVariants as events
 use Rattle.slot_types.specs.declared.replies.Reply.TheVariants as replies
 use Rattle.die_service.specs.declared.feeds.Arrival.{Arrival}
 use Rattle.die_service.specs.declared.refused.RefusedAt.{RefusedAt}
-use Rattle.die_service.specs.Runs.{Said, said, slots_in, stop_of, refused_from, InClockOrder}
-use Rattle.die_service.specs.Drives.{Course, Standing, Asks, IsFirst, Brings, TakesSlot, IsStopped, Drives}
+use Rattle.die_service.specs.Runs.{AskedEvent, asked_event, slots_in, stop_of, refused_from, InClockOrder}
+use Rattle.die_service.specs.Drives.{Course, WorkerState, Asks, IsFirstState, Brings, TakesSlot, IsStopped, Drives}
 use Rattle.turn_lock.specs.Views.{IsLive}
 use Rattle.die_service.proofs.Joining.{live_after}
 use Rattle.die_service.proofs.Driving.{asks_joins, slots_more, stop_more}
 
 -- So many slots were carried out; whatever the slots that are left come to, all come to
-pub record IsOnTime (never : Bool) (slots from done clock : ℕ) (s t : Standing) : Type 0 where
-  pub saids : List Said
+pub record IsOnTime (never : Bool) (slots from done clock : ℕ) (s t : WorkerState) : Type 0 where
+  pub saids : List AskedEvent
   pub asks : Asks never s.pass s.course saids t.pass t.course
-  pub order : (more : List Said) → InClockOrder (slots - done) clock t.course.rest more
+  pub order : (more : List AskedEvent) → InClockOrder (slots - done) clock t.course.rest more
       → InClockOrder slots from s.course.rest (saids ++ more)
   pub counted : slots_in saids ≡ done
   pub no_stop : stop_of saids ≡ None
@@ -23,8 +23,8 @@ pub record IsOnTime (never : Bool) (slots from done clock : ℕ) (s t : Standing
   pub stop : t.stop ≡ None
 
 -- a run that ended
-pub record IsOver (never : Bool) (slots from : ℕ) (s t : Standing) : Type 0 where
-  pub saids : List Said
+pub record IsOver (never : Bool) (slots from : ℕ) (s t : WorkerState) : Type 0 where
+  pub saids : List AskedEvent
   pub asks : Asks never s.pass s.course saids t.pass t.course
   pub order : InClockOrder slots from s.course.rest saids
   pub slots_are : t.slots ≡ slots_in saids
@@ -32,7 +32,7 @@ pub record IsOver (never : Bool) (slots from : ℕ) (s t : Standing) : Type 0 wh
   pub whole : stop_of saids ≡ None → slots_in saids ≡ slots
 
 module _ (never : Bool) (slots from : ℕ) where
-  pub starts : (s t : Standing) → Asks never s.pass s.course [] t.pass t.course → t.course ≡ s.course → t.slots ≡ 0 → t.stop ≡ None
+  pub starts : (s t : WorkerState) → Asks never s.pass s.course [] t.pass t.course → t.course ≡ s.course → t.slots ≡ 0 → t.stop ≡ None
       → IsOnTime never slots from 0 from s t
   starts s t asks same none running = record {
     saids = [];
@@ -49,10 +49,10 @@ module _ (never : Bool) (slots from : ℕ) where
       minus = omega arith
 
   -- a slot more
-  pub goes_on : (done clock next : ℕ) (slot : ℕ) (s t u w : Standing) → done < slots → IsOnTime never slots from done clock s t
+  pub goes_on : (done clock next : ℕ) (slot : ℕ) (s t u w : WorkerState) → done < slots → IsOnTime never slots from done clock s t
       → Brings never clock t u → TakesSlot never u slot w → next ≡ slot + 1 → IsOnTime never slots from (done + 1) next s w
   goes_on done clock next slot s t u w below i b k is =
-      let last = said events.Slot (Ok (replies.Slot k.reply)) in
+      let last = asked_event events.Slot (Ok (replies.Slot k.reply)) in
       let front = i.saids ++ b.fed in
       let one_left : slots - done ≡ suc (slots - (done + 1)) = omega (arith, below) in
       let clock_is : next ≡ k.reply.slot + 1 = is ∙ ap (λ n. n + 1) k.slot_is in record {
@@ -81,10 +81,10 @@ module _ (never : Bool) (slots from : ℕ) where
       }
 
   -- a slot was refused
-  pub gives_up : (done clock : ℕ) (s t u w : Standing) → done < slots → IsOnTime never slots from done clock s t → Brings never clock t u
+  pub gives_up : (done clock : ℕ) (s t u w : WorkerState) → done < slots → IsOnTime never slots from done clock s t → Brings never clock t u
       → IsStopped never u w → IsOver never slots from s w
   gives_up done clock s t u w below i b k =
-      let last = said events.Slot (Err k.refused) in
+      let last = asked_event events.Slot (Err k.refused) in
       let front = i.saids ++ b.fed in
       let one_left : slots - done ≡ suc (slots - (done + 1)) = omega (arith, below) in
       let stop_is : stop_of (front ++ last ∷ []) ≡ Some k.refused = stop_more front (last ∷ []) (stop_more i.saids b.fed i.no_stop
@@ -106,7 +106,7 @@ module _ (never : Bool) (slots from : ℕ) where
       some_none r e = cc
 
   -- all slots were carried out
-  pub ends : (done clock : ℕ) (s t u : Standing) → slots ≡ done → IsOnTime never slots from done clock s t → Brings never clock t u
+  pub ends : (done clock : ℕ) (s t u : WorkerState) → slots ≡ done → IsOnTime never slots from done clock s t → Brings never clock t u
       → IsOver never slots from s u
   ends done clock s t u all i b =
       let none_left : slots - done ≡ zero = omega (arith, all) in
@@ -119,7 +119,7 @@ module _ (never : Bool) (slots from : ℕ) where
         whole = λ none. count ∙ sym all;
       }
 
-  pub drives : (s t : Standing) → IsLive s.pass.view → IsFirst s → slots ≡ s.course.slots → from ≡ s.course.from
+  pub drives : (s t : WorkerState) → IsLive s.pass.view → IsFirstState s → slots ≡ s.course.slots → from ≡ s.course.from
       → IsOver never slots from s t → Drives never s t
   drives s t live first slots_are from_is o =
       let place : s.course.place ≡ 0 = ap (λ x. x.course.place) first in

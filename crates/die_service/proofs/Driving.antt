@@ -8,16 +8,16 @@ use Rattle.slot_types.specs.declared.replies.Reply.{Reply}
 use Rattle.turn_lock.specs.Log.{times, StartsWith, entry, calls_by}
 use Rattle.die_service.specs.declared.ends.RefusedEvent.{RefusedEvent}
 use Rattle.die_service.specs.declared.refused.RefusedAt.{RefusedAt}
-use Rattle.die_service.specs.Logs.{Call, log_of}
+use Rattle.die_service.specs.Logs.{DieCall, log_of}
 use Rattle.die_service.specs.Passes.{DieView, HasGrown, AddsEntry, AddsNone}
-use Rattle.die_service.specs.Replies.{MayRefuse}
-use Rattle.die_service.specs.Runs.{Said, said, accepted_by, slots_in, slot_counted, place_behind, noted, refused_from, stop_or, stop_of}
+use Rattle.slot_core.specs.Calls.{MayRefuse}
+use Rattle.die_service.specs.Runs.{AskedEvent, asked_event, accepted_by, slots_in, slot_counted, place_behind, with_refused, refused_from, stop_or, stop_of}
 use Rattle.die_service.specs.Runs.{IsReasoned}
 use Rattle.die_service.specs.Stores.{DiePass}
 use Rattle.die_service.specs.Drives.{Course, place_after, Far, Asks, IsFit}
 use Rattle.die_service.proofs.LastPasses.{same_plan}
 use Rattle.die_service.proofs.Joining.{still_live, made_later, grown_joined, added_joined}
-use Rattle.die_log.specs.Start.{Start}
+use Rattle.die_log.specs.Model.Start.{Start}
 
 -- Places in lists
 
@@ -55,7 +55,7 @@ module _ {A : Type 0} where
 
 -- Calls that were made, and more calls
 
-pub accepted_more : (n : ℕ) (xs ys : List Said) → accepted_by n (xs ++ ys) ≡ accepted_by n xs ++ accepted_by n ys
+pub accepted_more : (n : ℕ) (xs ys : List AskedEvent) → accepted_by n (xs ++ ys) ≡ accepted_by n xs ++ accepted_by n ys
 accepted_more n [] ys = refl
 accepted_more n (x ∷ xs) ys = one x.reply (accepted_more n xs ys)
   where
@@ -65,7 +65,7 @@ accepted_more n (x ∷ xs) ys = one x.reply (accepted_more n xs ys)
     one (Ok reply) more = ap (λ rest. entry n x.event (Ok reply) ∷ rest) more
     one (Err refused) more = more
 
-pub slots_more : (xs ys : List Said) → slots_in (xs ++ ys) ≡ slots_in xs + slots_in ys
+pub slots_more : (xs ys : List AskedEvent) → slots_in (xs ++ ys) ≡ slots_in xs + slots_in ys
 slots_more [] ys = omega arith
 slots_more (x ∷ xs) ys = ap (slot_counted x.event x.reply) (slots_more xs ys) ∙ one x.event x.reply
   where
@@ -76,7 +76,7 @@ slots_more (x ∷ xs) ys = ap (slot_counted x.event x.reply) (slots_more xs ys) 
     one (events.Submit task release due ops) r = refl
     one (events.Collect task release due) r = refl
 
-pub stop_more : (xs ys : List Said) → stop_of xs ≡ None → stop_of (xs ++ ys) ≡ stop_of ys
+pub stop_more : (xs ys : List AskedEvent) → stop_of xs ≡ None → stop_of (xs ++ ys) ≡ stop_of ys
 stop_more [] ys none = refl
 stop_more (x ∷ xs) ys none = one x.event x.reply (stop_more xs ys) none
   where
@@ -90,14 +90,14 @@ stop_more (x ∷ xs) ys none = one x.event x.reply (stop_more xs ys) none
     one (events.Submit task release due ops) r more h = more h
     one (events.Collect task release due) r more h = more h
 
-pub place_more : (place : ℕ) (xs ys : List Said) → place_after place (xs ++ ys) ≡ place_after (place_after place xs) ys
+pub place_more : (place : ℕ) (xs ys : List AskedEvent) → place_after place (xs ++ ys) ≡ place_after (place_after place xs) ys
 place_more place [] ys = refl
 place_more place (x ∷ xs) ys = place_more (place_behind x.event place) xs ys
 
-pub refused_more : (place : ℕ) (xs ys : List Said) → refused_from place (xs ++ ys) ≡ refused_from place xs
+pub refused_more : (place : ℕ) (xs ys : List AskedEvent) → refused_from place (xs ++ ys) ≡ refused_from place xs
     ++ refused_from (place_after place xs) ys
 refused_more place [] ys = refl
-refused_more place (x ∷ xs) ys = ap (noted place x.event x.reply) (refused_more (place_behind x.event place) xs ys) ∙ one x.event x.reply
+refused_more place (x ∷ xs) ys = ap (with_refused place x.event x.reply) (refused_more (place_behind x.event place) xs ys) ∙ one x.event x.reply
   where
     rest : List RefusedEvent
     rest = refused_from (place_after (place_behind x.event place) xs) ys
@@ -105,15 +105,15 @@ refused_more place (x ∷ xs) ys = ap (noted place x.event x.reply) (refused_mor
     front : List RefusedEvent
     front = refused_from (place_behind x.event place) xs
 
-    one : (e : Event) (r : Result Reply RefusedAt) → noted place e r (front ++ rest) ≡ noted place e r front ++ rest
+    one : (e : Event) (r : Result Reply RefusedAt) → with_refused place e r (front ++ rest) ≡ with_refused place e r front ++ rest
     one events.Slot r = refl
     one (events.Submit task release due ops) (Ok reply) = refl
     one (events.Submit task release due ops) (Err refused) = refl
     one (events.Collect task release due) (Ok reply) = refl
     one (events.Collect task release due) (Err refused) = refl
 
--- the accepted calls behind others
-own_more : (n : ℕ) (a b c : List Call) (xs ys : List Said) → a ≡ b ++ accepted_by n ys → b ≡ c ++ accepted_by n xs → a ≡ c
+-- the accepted calls after others
+own_more : (n : ℕ) (a b c : List DieCall) (xs ys : List AskedEvent) → a ≡ b ++ accepted_by n ys → b ≡ c ++ accepted_by n xs → a ≡ c
     ++ accepted_by n (xs ++ ys)
 own_more n a b c xs ys second first =
     second ∙ (ap (λ l. l ++ accepted_by n ys) first ∙ (append_assoc c (accepted_by n xs) (accepted_by n ys)
@@ -121,7 +121,7 @@ own_more n a b c xs ys second first =
 
 module _ (never : Bool) (start : Start) where
   -- a reason stands when more was seen
-  reasoned_later : (v w x : DieView) (before : List Said) (event : Event) (refused : RefusedAt) → StartsWith x.seen w.seen
+  reasoned_later : (v w x : DieView) (before : List AskedEvent) (event : Event) (refused : RefusedAt) → StartsWith x.seen w.seen
       → IsReasoned never start v before event refused w → IsReasoned never start v before event refused x
   reasoned_later v w x before event refused starts r =
       let within : refused.entries ≤ length w.seen = r.within in
@@ -129,12 +129,12 @@ module _ (never : Bool) (start : Start) where
       let same : take refused.entries x.seen ≡ take refused.entries w.seen = ap (take refused.entries) starts.1
       ∙ take-append-le refused.entries w.seen starts.0 within in record {
         within = omega (arith, within, longer, ap length starts.1);
-        reason = subst (λ (l : List Call). MayRefuse never start (log_of l) event refused.refusal) (sym same) r.reason;
+        reason = subst (λ (l : List DieCall). MayRefuse never start (log_of l) event refused.refusal) (sym same) r.reason;
         own = ap (calls_by v.number) same ∙ r.own;
       }
 
-  -- a reason behind other calls
-  reasoned_behind : (v w x : DieView) (xs more : List Said) (event : Event) (refused : RefusedAt) → w.number ≡ v.number
+  -- a reason after other calls
+  reasoned_behind : (v w x : DieView) (xs more : List AskedEvent) (event : Event) (refused : RefusedAt) → w.number ≡ v.number
       → calls_by v.number w.seen ≡ calls_by v.number v.seen ++ accepted_by v.number xs
       → IsReasoned never start w more event refused x → IsReasoned never start v (xs ++ more) event refused x
   reasoned_behind v w x xs more event refused same own r = record {
@@ -144,7 +144,7 @@ module _ (never : Bool) (start : Start) where
         ++ accepted_by n more) same r.own) own;
   }
 
-  pub far_joins : (v w x : DieView) (xs ys : List Said) → w.number ≡ v.number → w.joined ≡ v.joined → Far never start v xs w
+  pub far_joins : (v w x : DieView) (xs ys : List AskedEvent) → w.number ≡ v.number → w.joined ≡ v.joined → Far never start v xs w
       → Far never start w ys x → Far never start v (xs ++ ys) x
   far_joins v w x xs ys same joined f g = record {
     about_is = f.about_is;
@@ -157,15 +157,15 @@ module _ (never : Bool) (start : Start) where
     later = omega (arith, f.later, g.later);
     sole = λ h. g.sole (f.sole h);
     own = own_more v.number _ _ _ xs ys (subst (λ (n : ℕ). calls_by n x.seen ≡ calls_by n w.seen ++ accepted_by n ys) same g.own) f.own;
-    refused = λ before after event refused is. by before after event refused (splits xs ys before after (said event (Err refused)) is);
+    refused = λ before after event refused is. by before after event refused (splits xs ys before after (asked_event event (Err refused)) is);
   }
     where
-      by : (before after : List Said) (event : Event) (refused : RefusedAt)
-          → ((more : List Said) × (xs ≡ before ++ said event (Err refused) ∷ more))
-          ⊎ ((more : List Said) × (before ≡ xs ++ more) × (ys ≡ more ++ said event (Err refused) ∷ after))
+      by : (before after : List AskedEvent) (event : Event) (refused : RefusedAt)
+          → ((more : List AskedEvent) × (xs ≡ before ++ asked_event event (Err refused) ∷ more))
+          ⊎ ((more : List AskedEvent) × (before ≡ xs ++ more) × (ys ≡ more ++ asked_event event (Err refused) ∷ after))
           → IsReasoned never start v before event refused x
       by before after event refused (inl h) = reasoned_later v w x before event refused g.starts (f.refused before h.0 event refused h.1)
-      by before after event refused (inr h) = subst (λ (l : List Said). IsReasoned never start v l event refused x) (sym h.1)
+      by before after event refused (inr h) = subst (λ (l : List AskedEvent). IsReasoned never start v l event refused x) (sym h.1)
           (reasoned_behind v w x xs h.0 event refused same f.own (g.refused h.0 after event refused h.2))
 
 -- One call
@@ -181,17 +181,17 @@ far_looks never v w g own = record {
   later = made_later v w g;
   sole = λ h. ap (λ u. u.sole) g.view_is ∙ g.stays_sole h;
   own = own ∙ sym (append-nil (calls_by v.number v.seen));
-  refused = λ before after event refused is. absurd (no_more before after (said event (Err refused)) is);
+  refused = λ before after event refused is. absurd (no_more before after (asked_event event (Err refused)) is);
 }
 
-no_error : (event other : Event) (reply : Reply) (refused : RefusedAt) → said event (Ok reply) ≡ said other (Err refused) → ⊥
+no_error : (event other : Event) (reply : Reply) (refused : RefusedAt) → asked_event event (Ok reply) ≡ asked_event other (Err refused) → ⊥
 no_error event other reply refused is = ok_err (ap (λ s. s.reply) is)
   where
     ok_err : ◌≡◌ {A = Result Reply RefusedAt} (Ok reply) (Err refused) → ⊥
     ok_err e = cc
 
 pub far_accepts : (never : Bool) (v w : DieView) (event : Event) (reply : Reply) (a : AddsEntry v event reply w)
-    → Far never a.grown.topic v (said event (Ok reply) ∷ []) w
+    → Far never a.grown.topic v (asked_event event (Ok reply) ∷ []) w
 far_accepts never v w event reply a = record {
   about_is = a.grown.about_is;
   starts = (
@@ -206,11 +206,11 @@ far_accepts never v w event reply a = record {
   sole = λ h. ap (λ u. u.sole) a.view_is ∙ (ap (λ u. u.sole) a.grown.view_is ∙ a.grown.stays_sole h);
   own = a.own;
   refused = λ before after other refused is. absurd (no_error event other reply refused
-      (alone (said event (Ok reply)) (said other (Err refused)) before after is).1);
+      (alone (asked_event event (Ok reply)) (asked_event other (Err refused)) before after is).1);
 }
 
 pub far_refuses : (never : Bool) (v w : DieView) (event : Event) (refused : RefusedAt) (a : AddsNone never v event refused w)
-    → Far never a.grown.topic v (said event (Err refused) ∷ []) w
+    → Far never a.grown.topic v (asked_event event (Err refused) ∷ []) w
 far_refuses never v w event refused a = record {
   about_is = a.grown.about_is;
   starts = (a.grown.more, ap (λ u. u.seen) a.grown.view_is);
@@ -220,7 +220,7 @@ far_refuses never v w event refused a = record {
   later = made_later v w a.grown;
   sole = λ h. ap (λ u. u.sole) a.grown.view_is ∙ a.grown.stays_sole h;
   own = a.own ∙ sym (append-nil (calls_by v.number v.seen));
-  refused = λ before after other by is. reason before other by (alone (said event (Err refused)) (said other (Err by)) before after is);
+  refused = λ before after other by is. reason before other by (alone (asked_event event (Err refused)) (asked_event other (Err by)) before after is);
 }
   where
     all : take refused.entries w.seen ≡ w.seen
@@ -229,22 +229,22 @@ far_refuses never v w event refused a = record {
     here : IsReasoned never a.grown.topic v [] event refused w
     here = record {
       within = omega (arith, a.entries);
-      reason = subst (λ (l : List Call). MayRefuse never a.grown.topic (log_of l) event refused.refusal) (sym all) a.reason;
+      reason = subst (λ (l : List DieCall). MayRefuse never a.grown.topic (log_of l) event refused.refusal) (sym all) a.reason;
       own = ap (calls_by v.number) all ∙ (a.own ∙ sym (append-nil (calls_by v.number v.seen)));
     }
 
     err_is : (x y : RefusedAt) → ◌≡◌ {A = Result Reply RefusedAt} (Err x) (Err y) → x ≡ y
     err_is x y e = cc
 
-    reason : (before : List Said) (other : Event) (by : RefusedAt) → (before ≡ []) × (said event (Err refused) ≡ said other (Err by))
+    reason : (before : List AskedEvent) (other : Event) (by : RefusedAt) → (before ≡ []) × (asked_event event (Err refused) ≡ asked_event other (Err by))
         → IsReasoned never a.grown.topic v before other by w
-    reason before other by h = subst (λ (l : List Said). IsReasoned never a.grown.topic v l other by w) (sym h.0)
+    reason before other by h = subst (λ (l : List AskedEvent). IsReasoned never a.grown.topic v l other by w) (sym h.0)
         (subst (λ (e : Event). IsReasoned never a.grown.topic v [] e by w) (ap (λ s. s.event) h.1)
         (subst (λ (r : RefusedAt). IsReasoned never a.grown.topic v [] event r w) (err_is refused by (ap (λ s. s.reply) h.1)) here))
 
 -- And what was noted
 
-pub asks_joins : (never : Bool) (p q r : DiePass) (c d e : Course) (xs ys : List Said) → Asks never p c xs q d → Asks never q d ys r e
+pub asks_joins : (never : Bool) (p q r : DiePass) (c d e : Course) (xs ys : List AskedEvent) → Asks never p c xs q d → Asks never q d ys r e
     → Asks never p c (xs ++ ys) r e
 asks_joins never p q r c d e xs ys a b =
     let plan_is : b.start ≡ a.start = same_plan b.start a.start (sym b.far.about_is ∙ (a.same.3 ∙ a.far.about_is)) in record {
@@ -271,12 +271,12 @@ asks_none never p c fit = record {
     later = omega arith;
     sole = λ h. h;
     own = sym (append-nil (calls_by p.view.number p.view.seen));
-    refused = λ before after event refused is. absurd (no_more before after (said event (Err refused)) is);
+    refused = λ before after event refused is. absurd (no_more before after (asked_event event (Err refused)) is);
   };
   place = refl;
   refused = sym (append-nil c.refused);
 }
 
 -- the pass knows its die still
-pub still_fit : (never : Bool) (p q : DiePass) (c d : Course) (saids : List Said) → Asks never p c saids q d → IsFit q.view
+pub still_fit : (never : Bool) (p q : DiePass) (c d : Course) (saids : List AskedEvent) → Asks never p c saids q d → IsFit q.view
 still_fit never p q c d saids a = (a.start, (a.same.3 ∙ a.far.about_is, a.far.exact))

@@ -252,7 +252,7 @@ true_both a b here there = rw (here, there) refl
 at_most : (m n : ℕ) → (nat_le m n ≡ true → m ≤ n) × (m ≤ n → nat_le m n ≡ true)
 at_most m n = (λ is. grind (arith, nat_tests), λ le. grind (arith, nat_tests))
 
--- the rows of a feed that a run may be given are told by their test
+-- the rows of a feed that a run may be given are those that pass its test
 pub in_order : (ops : List Op) (from first : ℕ) (rows : List FeedRow) → all_follow from rows ≡ true
     → IsInOrder from (feed_from ops first rows)
 in_order ops from first [] is = tt

@@ -1,4 +1,4 @@
--- The dies of a store, each with its pass and its batch, before a run and behind it.
+-- The dies of a store, each with its pass and its batch, before a run and after it.
 use Rattle.std.proofs.Common.{◌≡◌, ℕ, zero, suc, ◌<◌, ◌≤◌, Bool, List, [], ◌∷◌, length, map, get_or, refl, ap, sym, ◌∙◌, subst, arith}
 use Rattle.std.proofs.lemmas.List.{length-map}
 use Rattle.atomic_table.specs.Seated.{TableId}
@@ -6,10 +6,10 @@ use Rattle.die_service.specs.declared.batches.Batch.{Batch}
 use Rattle.die_service.specs.declared.ends.DieEnd.{DieEnd}
 use Rattle.die_service.specs.Runs.{HaveRun}
 use Rattle.die_service.specs.Stores.{DiePass}
-use Rattle.die_service.specs.Drives.{Course, Standing, first_standings, whole_course, IsFirst, Drives, end_at}
+use Rattle.die_service.specs.Drives.{Course, WorkerState, first_states, whole_course, IsFirstState, Drives, end_at}
 
-abbrev starting : List DiePass → List Batch → List Standing
-starting ps batches = first_standings ps (map whole_course batches)
+abbrev starting : List DiePass → List Batch → List WorkerState
+starting ps batches = first_states ps (map whole_course batches)
 
 pub starting_length : (ps : List DiePass) (batches : List Batch) → length ps ≡ length batches → length (starting ps batches) ≡ length ps
 starting_length [] [] same = refl
@@ -17,17 +17,17 @@ starting_length [] (b ∷ batches) same = refl
 starting_length (p ∷ ps) [] same = absurd (omega (arith, same))
 starting_length (p ∷ ps) (b ∷ batches) same = ap suc (starting_length ps batches (omega (arith, same)))
 
-pub starts_at : (ps : List DiePass) (batches : List Batch) (i : ℕ) (d : Standing) → i < length (starting ps batches)
-    → IsFirst (get_or (starting ps batches) i d)
+pub starts_at : (ps : List DiePass) (batches : List Batch) (i : ℕ) (d : WorkerState) → i < length (starting ps batches)
+    → IsFirstState (get_or (starting ps batches) i d)
 starts_at [] batches i d below = absurd (omega (arith, below))
 starts_at (p ∷ ps) [] i d below = absurd (omega (arith, below))
 starts_at (p ∷ ps) (b ∷ batches) zero d below = refl
 starts_at (p ∷ ps) (b ∷ batches) (suc i) d below = starts_at ps batches i d (omega (arith, below))
 
 module _ (never : Bool) where
-  pub all_run : (ps : List DiePass) (batches : List Batch) (ys : List Standing) → length ps ≡ length batches → length ys ≡ length ps
-      → ((i : ℕ) (d : Standing) → i < length ps → Drives never (get_or (starting ps batches) i d) (get_or ys i d))
-      → HaveRun never batches ps (map end_at ys) (map (λ (s : Standing). s.pass) ys)
+  pub all_run : (ps : List DiePass) (batches : List Batch) (ys : List WorkerState) → length ps ≡ length batches → length ys ≡ length ps
+      → ((i : ℕ) (d : WorkerState) → i < length ps → Drives never (get_or (starting ps batches) i d) (get_or ys i d))
+      → HaveRun never batches ps (map end_at ys) (map (λ (s : WorkerState). s.pass) ys)
   all_run [] [] [] same long each = tt
   all_run [] [] (y ∷ ys) same long each = absurd (omega (arith, long))
   all_run [] (b ∷ batches) ys same long each = absurd (omega (arith, same))
@@ -54,9 +54,9 @@ module _ (never : Bool) where
   same_locks (b ∷ batches) (p ∷ ps) (end ∷ ends) [] ran = absurd ran
 
 -- the dies of a store before a run
-module _ (dies : List TableId) (ps qs : List DiePass) (batches : List Batch) (courses : List Course) (xs : List Standing)
+module _ (dies : List TableId) (ps qs : List DiePass) (batches : List Batch) (courses : List Course) (xs : List WorkerState)
     (own : map (λ (p : DiePass). p.lock) ps ≡ dies) (all : length batches ≡ length dies)
-    (taken : qs ≡ ps) (cut : courses ≡ map whole_course batches) (made : xs ≡ first_standings qs courses) where
+    (taken : qs ≡ ps) (cut : courses ≡ map whole_course batches) (made : xs ≡ first_states qs courses) where
   pub starting_is : xs ≡ starting ps batches
   starting_is = rw (made, taken, cut) refl
 
@@ -66,25 +66,25 @@ module _ (dies : List TableId) (ps qs : List DiePass) (batches : List Batch) (co
   pub drivers_length : length xs ≡ length ps
   drivers_length = ap length starting_is ∙ starting_length ps batches as_many
 
-  pub ready_at : (ys : List Standing) (i : ℕ) (d : Standing) → length dies ≤ 8 → ys ≡ xs → i < length ys → d ≡ get_or ys i d
-      → (i < 4294967296) × IsFirst d
+  pub ready_at : (ys : List WorkerState) (i : ℕ) (d : WorkerState) → length dies ≤ 8 → ys ≡ xs → i < length ys → d ≡ get_or ys i d
+      → (i < 4294967296) × IsFirstState d
   ready_at ys i d few same below is =
       let whole : ys ≡ starting ps batches = same ∙ starting_is in
       let count : length ys ≡ length ps = ap length same ∙ drivers_length in
       let within : i < length (starting ps batches) = omega (arith, below, ap length whole) in
-      let here : d ≡ get_or (starting ps batches) i d = is ∙ ap (λ (l : List Standing). get_or l i d) whole in (
+      let here : d ≡ get_or (starting ps batches) i d = is ∙ ap (λ (l : List WorkerState). get_or l i d) whole in (
         omega (arith, below, few, count, ap length own, length-map ps (λ (p : DiePass). p.lock)),
-        subst IsFirst (sym here)
+        subst IsFirstState (sym here)
             (starts_at ps batches i d within),
       )
 
-  -- and behind it
-  pub have_run : (never : Bool) (ys zs : List Standing) → ys ≡ xs → length zs ≡ length ys
-      → ((i : ℕ) (d : Standing) → i < length ys → Drives never (get_or ys i d) (get_or zs i d))
-      → HaveRun never batches ps (map end_at zs) (map (λ (s : Standing). s.pass) zs)
+  -- and after it
+  pub have_run : (never : Bool) (ys zs : List WorkerState) → ys ≡ xs → length zs ≡ length ys
+      → ((i : ℕ) (d : WorkerState) → i < length ys → Drives never (get_or ys i d) (get_or zs i d))
+      → HaveRun never batches ps (map end_at zs) (map (λ (s : WorkerState). s.pass) zs)
   have_run never ys zs same long each =
       let whole : ys ≡ starting ps batches = same ∙ starting_is in
       let count : length ys ≡ length ps = ap length same ∙ drivers_length in
       all_run never ps batches zs as_many (long ∙ count)
-      (λ i d below. subst (λ (l : List Standing). Drives never (get_or l i d) (get_or zs i d)) whole
+      (λ i d below. subst (λ (l : List WorkerState). Drives never (get_or l i d) (get_or zs i d)) whole
       (each i d (omega (arith, below, count))))

@@ -8,7 +8,7 @@ use Rattle.turn_lock.specs.Log.{times, entry, calls_by}
 use Rattle.turn_lock.specs.Views.{numbers_of, IsLive}
 use Rattle.turn_lock.proofs.Counts.{calls_append}
 use Rattle.die_service.specs.declared.refused.RefusedAt.{RefusedAt}
-use Rattle.die_service.specs.Logs.{Call}
+use Rattle.die_service.specs.Logs.{DieCall}
 use Rattle.die_service.specs.Passes.{DieView, HasGrown, AddsEntry}
 
 -- the pass is as live as before, and knows of no fewer passes made
@@ -32,7 +32,7 @@ module _ (v : DieView) (p : ℕ) (live : v.live ≡ true) (mine : 0 < times p v.
       let one : 0 < cond (eqb v.number p) 1 0 + times p v.joined = omega (arith, mine) in
       let none : calls_by p g.more ≡ [] = g.none p (subst (λ (l : List ℕ). 0 < times p l) (sym numbers) one) in
       ap (λ (u : DieView). calls_by p u.seen) g.view_is
-      ∙ (calls_append p v.seen g.more ∙ (ap (λ (l : List Call). calls_by p v.seen ++ l) none ∙ append-nil (calls_by p v.seen)))
+      ∙ (calls_append p v.seen g.more ∙ (ap (λ (l : List DieCall). calls_by p v.seen ++ l) none ∙ append-nil (calls_by p v.seen)))
 
   -- a call of the pass is of another number
   not_own : (event : Event) (reply : Reply) → calls_by {E = Event} {R = Result Reply RefusedAt} p (entry v.number event (Ok reply) ∷ [])
@@ -43,5 +43,5 @@ module _ (v : DieView) (p : ℕ) (live : v.live ≡ true) (mine : 0 < times p v.
   added_joined event reply w a =
       ap (λ (u : DieView). calls_by p u.seen) a.view_is
       ∙ (calls_append p a.before.seen (entry v.number event (Ok reply) ∷ [])
-      ∙ (ap (λ (l : List Call). calls_by p a.before.seen ++ l) (not_own event reply)
+      ∙ (ap (λ (l : List DieCall). calls_by p a.before.seen ++ l) (not_own event reply)
       ∙ (append-nil (calls_by p a.before.seen) ∙ grown_joined a.before a.grown)))

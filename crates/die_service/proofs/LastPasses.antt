@@ -7,11 +7,11 @@ use Rattle.slot_core.specs.Core.{Core}
 use Rattle.turn_lock.specs.Log.{AllBy}
 use Rattle.die_service.specs.Logs.{log_of, calls_of}
 use Rattle.die_service.specs.Passes.{DieView}
-use Rattle.die_service.specs.Stores.{DiePass, IsTold, AreTold, HasLogOf, IsClosed}
+use Rattle.die_service.specs.Stores.{DiePass, IsTold, AreTold, HasLogOf, IsClosedWith}
 use Rattle.die_service.proofs.Lists.{log_of_calls}
-use Rattle.die_log.specs.Start.{Start}
+use Rattle.die_log.specs.Model.Start.{Start}
 
--- Passes that were told
+-- Passes that were answered
 
 pub told_length : (ps : List DiePass) (out : ℕ) (qs : List DiePass) → AreTold ps out qs → length qs ≡ length ps
 told_length [] out [] told = refl
@@ -62,7 +62,7 @@ pub same_plan : (a b : Start) → Some a ≡ Some b → a ≡ b
 same_plan a b e = cc
 
 module _ {N : Type 0} (never : Bool) where
-  closed_after : (p q : DiePass) (die : Core N) → IsTold p 0 q → HasLogOf never q die → IsClosed p die
+  closed_after : (p q : DiePass) (die : Core N) → IsTold p 0 q → HasLogOf never q die → IsClosedWith p die
   closed_after p q die told has = record {
     log_is = sym (log_of_calls die.log) ∙ ap log_of (has.calls_are ∙ told.1.3 refl);
     promised = has.promised;
@@ -78,7 +78,7 @@ module _ {N : Type 0} (never : Bool) where
       later = subst (λ (n : ℕ). p.view.made ≤ n) (sym (ap (λ (v : DieView). v.made) told.1.0.view_is)) told.1.0.later
 
   pub closed_each : (ps qs : List DiePass) (dies : List (Core N)) → AreTold ps 0 qs → AllZip (HasLogOf never) qs dies
-      → AllZip IsClosed ps dies
+      → AllZip IsClosedWith ps dies
   closed_each [] [] [] told has = tt
   closed_each [] [] (die ∷ dies) told has = has
   closed_each [] (q ∷ qs) dies told has = absurd told

@@ -2,7 +2,7 @@
 use Rattle.std.proofs.Common.{◌≡◌, List, [], ◌∷◌, length, map, reverse, refl, ap, ◌∙◌}
 use Rattle.std.proofs.lemmas.List.{reverse-reverse, length-reverse, length-map}
 use Rattle.slot_types.specs.declared.replies.Entry as log
-use Rattle.die_log.specs.Log.{Log}
+use Rattle.die_log.specs.Model.Log.{Log}
 use Rattle.die_service.specs.Logs.{entry_of, log_of, call_of, calls_of}
 
 entries_of_calls : (es : List log.Entry) → map entry_of (map call_of es) ≡ es

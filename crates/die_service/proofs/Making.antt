@@ -8,11 +8,11 @@ use Rattle.slot_types.specs.declared.plans.Shape.{Shape}
 use Rattle.plan_rules.specs.Bound.{MeetsBound}
 use Rattle.flash_die.specs.Flash.{Block, IsFresh}
 use Rattle.turn_lock.specs.Log.{times}
-use Rattle.die_log.specs.Start.{Start, fresh}
+use Rattle.die_log.specs.Model.Start.{Start, fresh}
 use Rattle.turn_lock.specs.Views.{first_view, IsLive}
 use Rattle.slot_core.specs.Core.{Core}
 use Rattle.die_service.specs.Passes.{DieView}
-use Rattle.die_service.specs.Stores.{DiePass, Fit, IsServed, IsAtStart, AreRenewed}
+use Rattle.die_service.specs.Stores.{DiePass, Fit, HasUsablePlans, IsAtStart, AreRenewed}
 
 module _ {N : Type 0} (shape_of : N → Shape) (blocks : N → List Block) (failures : N → ℕ) where
   -- a die can be made of these
@@ -32,7 +32,7 @@ module _ {N : Type 0} (shape_of : N → Shape) (blocks : N → List Block) (fail
 
   pub all_ready : (plans : List DiePlan) (nands : List N) → All (λ nand. IsFresh (shape_of nand) (blocks nand) (failures nand)) nands
       → Fit plans (map shape_of nands)
-      → IsServed plans (length nands) → AllZip IsReady plans nands
+      → HasUsablePlans plans (length nands) → AllZip IsReady plans nands
   all_ready plans nands fresh fit served =
       ready_by plans nands served.one_each (recursion_from_All (λ nand. IsFresh (shape_of nand) (blocks nand) (failures nand)) nands fresh)
       fit (recursion_from_All MeetsBound plans served.bound)

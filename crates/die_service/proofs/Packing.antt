@@ -10,7 +10,7 @@ use Rattle.slot_types.specs.declared.events.Op.{Op}
 use Rattle.die_service.specs.declared.op_words.PackedOp.{PackedOp}
 use Rattle.die_service.specs.declared.op_words.PackedOp.TheVariants as packed
 use Rattle.die_service.specs.declared.packed_ops.PageWrite.{PageWrite}
-use Rattle.die_service.specs.PackedOps.{blank, write_of, unpacked, all_unpacked, IsPacked, GoesOn}
+use Rattle.die_service.specs.PackedOps.{blank, write_of, unpacked_op, unpacked_ops, IsPacked, IsLongerList}
 
 get_or_before : {X : Type 0} (xs ys : List X) (n : ℕ) (d : X) → n < length xs → get_or (xs ++ ys) n d ≡ get_or xs n d
 get_or_before [] ys n d within = absurd (omega (arith, within))
@@ -26,17 +26,17 @@ pub came_last : {X : Type 0} (old new : List X) (x d : X) (place : ℕ) → new 
 came_last {X} old new x d place is at = ap (λ (l : List X). get_or l place d) is ∙ ap (λ (n : ℕ). get_or (old ++ x ∷ []) n d) at
     ∙ get_or_end old x d
 
-one_stays : (writes more : List PageWrite) (p : PackedOp) → IsPacked (length writes) p → unpacked (writes ++ more) p ≡ unpacked writes p
+one_stays : (writes more : List PageWrite) (p : PackedOp) → IsPacked (length writes) p → unpacked_op (writes ++ more) p ≡ unpacked_op writes p
 one_stays writes more (packed.Read page) is = refl
 one_stays writes more (packed.Trim page) is = refl
 one_stays writes more (packed.Write place) is = ap write_of (get_or_before writes more place blank is)
 
 all_stay : (writes more : List PageWrite) (list : List PackedOp) → AllByRecursion (IsPacked (length writes)) list
-    → all_unpacked (writes ++ more) list ≡ all_unpacked writes list
+    → unpacked_ops (writes ++ more) list ≡ unpacked_ops writes list
 all_stay writes more [] are = refl
 all_stay writes more (p ∷ list) are =
-    ap (λ op. op ∷ all_unpacked (writes ++ more) list) (one_stays writes more p are.0)
-    ∙ ap (λ l. unpacked writes p ∷ l) (all_stay writes more list are.1)
+    ap (λ op. op ∷ unpacked_ops (writes ++ more) list) (one_stays writes more p are.0)
+    ∙ ap (λ l. unpacked_op writes p ∷ l) (all_stay writes more list are.1)
 
 still_packed : (writes more : List PageWrite) (p : PackedOp) → IsPacked (length writes) p → IsPacked (length (writes ++ more)) p
 still_packed writes more (packed.Read page) is = tt
@@ -44,7 +44,7 @@ still_packed writes more (packed.Trim page) is = tt
 still_packed writes more (packed.Write place) is = omega (arith, is, length-append writes more)
 
 -- one operation more
-pub packed_more : (writes writes2 : List PageWrite) (list list2 : List PackedOp) (p : PackedOp) → GoesOn writes writes2
+pub packed_more : (writes writes2 : List PageWrite) (list list2 : List PackedOp) (p : PackedOp) → IsLongerList writes writes2
     → list2 ≡ list ++ p ∷ [] → All (IsPacked (length writes)) list → IsPacked (length writes2) p → All (IsPacked (length writes2)) list2
 packed_more writes writes2 list list2 p on list_is are is =
     subst (All (IsPacked (length writes2))) (sym list_is)
@@ -59,12 +59,12 @@ take_next (y ∷ xs) (suc n) x at =
     ap (λ (k : ℕ). take k (y ∷ xs)) next ∙ ap (λ ys. y ∷ ys) (take_next xs n x at)
 
 pub unpacked_more : (old : List Op) (writes writes2 : List PageWrite) (list list2 : List PackedOp) (p : PackedOp) (ops : List Op) (n : ℕ)
-    (op : Op) → GoesOn writes writes2 → list2 ≡ list ++ p ∷ [] → All (IsPacked (length writes)) list → unpacked writes2 p ≡ op
-    → slice_get ops n ≡ Some op → all_unpacked writes list ≡ old ++ take n ops → all_unpacked writes2 list2 ≡ old ++ take (n + 1) ops
+    (op : Op) → IsLongerList writes writes2 → list2 ≡ list ++ p ∷ [] → All (IsPacked (length writes)) list → unpacked_op writes2 p ≡ op
+    → slice_get ops n ≡ Some op → unpacked_ops writes list ≡ old ++ take n ops → unpacked_ops writes2 list2 ≡ old ++ take (n + 1) ops
 unpacked_more old writes writes2 list list2 p ops n op on list_is are is at so_far =
-    ap (all_unpacked writes2) list_is
-    ∙ map-append (unpacked writes2) list (p ∷ [])
-    ∙ ap (λ l. l ++ unpacked writes2 p ∷ []) (ap (λ w. all_unpacked w list) on.1
+    ap (unpacked_ops writes2) list_is
+    ∙ map-append (unpacked_op writes2) list (p ∷ [])
+    ∙ ap (λ l. l ++ unpacked_op writes2 p ∷ []) (ap (λ w. unpacked_ops w list) on.1
     ∙ all_stay writes on.0 list (recursion_from_All (IsPacked (length writes)) list are) ∙ so_far)
     ∙ ap (λ x. (old ++ take n ops) ++ x ∷ []) is
     ∙ append_assoc old (take n ops) (op ∷ [])

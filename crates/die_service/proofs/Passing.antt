@@ -10,14 +10,14 @@ use Rattle.slot_types.specs.declared.refusals.Refusal.{Refusal}
 use Rattle.slot_types.specs.declared.replies.Reply.{Reply}
 use Rattle.turn_lock.specs.Log.{entry, calls_by}
 use Rattle.turn_lock.specs.Passes.{Replies}
-use Rattle.die_log.specs.Log.{Log}
+use Rattle.die_log.specs.Model.Log.{Log}
 use Rattle.slot_core.specs.declared.events.ReplyNote.{ReplyNote}
-use Rattle.slot_core.specs.Events.{noted}
-use Rattle.die_log.specs.Answers.{answer, answer_by, refusal_of, IsAccepted}
+use Rattle.slot_core.specs.Events.{reply_of_note}
+use Rattle.die_log.specs.Model.Answers.{answer, answer_by, refusal_of, IsAccepted}
 use Rattle.die_service.specs.declared.refused.RefusedAt.{RefusedAt}
-use Rattle.die_service.specs.Replies.{HasExactLog, MayReply, result_noted}
-use Rattle.die_service.specs.Passes.{DieView, AddsEntry, AddsNone, IsTaken, IsSlotReply}
-use Rattle.die_log.specs.Start.{Start}
+use Rattle.die_service.specs.Replies.{HasExactLog, MayReply, result_of_note}
+use Rattle.die_service.specs.Passes.{DieView, AddsEntry, AddsNone, IsTakenReply, IsSlotReply}
+use Rattle.die_log.specs.Model.Start.{Start}
 
 -- what the lock says of a call
 abbrev Said : Bool → DieView → Event → Result Reply RefusedAt → DieView → Type 0
@@ -55,18 +55,18 @@ left never v event (Err refused) w said own = record {
 -- .. where no more than a note of the reply is kept
 
 pub noted_accepted : (never : Bool) (v : DieView) (event : Event) (result : Result ReplyNote RefusedAt) (w : DieView)
-    → Said never v event (result_noted result) w → IfOk result (λ note. IsAccepted (noted note))
+    → Said never v event (result_of_note result) w → IfOk result (λ note. IsAccepted (reply_of_note note))
 noted_accepted never v event (Ok note) w said = said.3.1
 noted_accepted never v event (Err refused) w said = tt
 
 pub noted_added : (never : Bool) (v : DieView) (event : Event) (result : Result ReplyNote RefusedAt) (w : DieView)
-    → Said never v event (result_noted result) w → Owns v event (result_noted result) w
-    → IfOk result (λ note. AddsEntry v event (noted note) w)
-noted_added never v event (Ok note) w said own = added never v event (Ok (noted note)) w said own
+    → Said never v event (result_of_note result) w → Owns v event (result_of_note result) w
+    → IfOk result (λ note. AddsEntry v event (reply_of_note note) w)
+noted_added never v event (Ok note) w said own = added never v event (Ok (reply_of_note note)) w said own
 noted_added never v event (Err refused) w said own = tt
 
 pub noted_left : (never : Bool) (v : DieView) (event : Event) (result : Result ReplyNote RefusedAt) (w : DieView)
-    → Said never v event (result_noted result) w → Owns v event (result_noted result) w
+    → Said never v event (result_of_note result) w → Owns v event (result_of_note result) w
     → IfErr result (λ refused. AddsNone never v event refused w)
 noted_left never v event (Ok note) w said own = tt
 noted_left never v event (Err refused) w said own = left never v event (Err refused) w said own
@@ -74,13 +74,13 @@ noted_left never v event (Err refused) w said own = left never v event (Err refu
 -- Which replies a die gives
 
 taken_where : (start : Start) (past : Log) (task release due : ℕ) (ops : List Op) (o : Option Refusal) (reply : Reply)
-    → answer_by start past (Submit task release due ops) o ≡ reply → IsAccepted reply → IsTaken reply
-taken_where start past task release due ops None reply is accepted = subst IsTaken is tt
+    → answer_by start past (Submit task release due ops) o ≡ reply → IsAccepted reply → IsTakenReply reply
+taken_where start past task release due ops None reply is accepted = subst IsTakenReply is tt
 taken_where start past task release due ops (Some refusal) reply is accepted = absurd (subst IsAccepted (sym is) accepted)
 
 collected_where : (start : Start) (past : Log) (task release due : ℕ) (o : Option Refusal) (reply : Reply)
-    → answer_by start past (Collect task release due) o ≡ reply → IsAccepted reply → IsTaken reply
-collected_where start past task release due None reply is accepted = subst IsTaken is tt
+    → answer_by start past (Collect task release due) o ≡ reply → IsAccepted reply → IsTakenReply reply
+collected_where start past task release due None reply is accepted = subst IsTakenReply is tt
 collected_where start past task release due (Some refusal) reply is accepted = absurd (subst IsAccepted (sym is) accepted)
 
 slot_where : (start : Start) (past : Log) (o : Option Refusal) (reply : Reply) → answer_by start past Slot o ≡ reply → IsAccepted reply
@@ -89,13 +89,13 @@ slot_where start past None reply is accepted = subst IsSlotReply is tt
 slot_where start past (Some refusal) reply is accepted = absurd (subst IsAccepted (sym is) accepted)
 
 pub submit_taken : (start : Start) (past : Log) (task release due : ℕ) (ops : List Op) (reply : Reply)
-    → answer start past (Submit task release due ops) ≡ reply → IsAccepted reply → IsTaken reply
+    → answer start past (Submit task release due ops) ≡ reply → IsAccepted reply → IsTakenReply reply
 unfolding answer
 submit_taken start past task release due ops reply is accepted = taken_where start past task release due ops
     (refusal_of start past (Submit task release due ops)) reply is accepted
 
 pub collect_taken : (start : Start) (past : Log) (task release due : ℕ) (reply : Reply) → answer start past (Collect task release due)
-    ≡ reply → IsAccepted reply → IsTaken reply
+    ≡ reply → IsAccepted reply → IsTakenReply reply
 unfolding answer
 collect_taken start past task release due reply is accepted = collected_where start past task release due
     (refusal_of start past (Collect task release due)) reply is accepted

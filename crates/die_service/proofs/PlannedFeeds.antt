@@ -1,4 +1,4 @@
--- A feed that keeps to its die's plan is not refused but for want of memory, and nothing is late.
+-- A feed that keeps to its die's plan is not refused but out of memory, and nothing is late.
 use Rattle.std.proofs.Common.{◌≡◌, ◌⊎◌, ℕ, zero, suc, ◌+◌, ◌<◌, ◌≤◌, Bool, cond, List, [], ◌∷◌, ◌++◌, map, Option, None}
 use Rattle.std.proofs.Common.{Result, Ok, Err, refl, ap, sym, subst, ◌∙◌, append_assoc, inl, inr, arith}
 use Rattle.std.specs.Prelude.{IfSome}
@@ -7,7 +7,7 @@ use Rattle.std.proofs.lemmas.List.{append-nil, map-append}
 use Rattle.std.proofs.lemmas.List.Elements.{All-head, All-tail}
 use Rattle.std.proofs.lemmas.List.Sums.{sum_by-append, sum_by-cons}
 use Rattle.slot_types.specs.Arrivals.{IsArrival}
-use Rattle.slot_types.specs.Arriving.{arrived, coming}
+use Rattle.slot_types.specs.Arriving.{arrivals_by, arrivals_after}
 use Rattle.slot_types.proofs.Arriving.{arrived_hold, later_hold}
 use Rattle.slot_types.specs.declared.limits.TheConstants.{MAX_SLOT}
 use Rattle.slot_types.specs.declared.plans.Times.{Times}
@@ -19,9 +19,9 @@ use Rattle.slot_types.specs.declared.replies.Reply.TheVariants as replies
 use Rattle.slot_types.specs.declared.replies.SlotReply.{SlotReply}
 use Rattle.plan_rules.specs.Times.{Passes}
 use Rattle.plan_rules.specs.Keeping.{is_slot, slots, KeepsPlan}
-use Rattle.die_log.specs.Log.{Log, now}
-use Rattle.die_log.specs.Answers.{answer, refusal_of, with_answer, after_call, run, IsAccepted, IsExact}
-use Rattle.die_log.specs.Planned.{told, Adds, AreEntered, IsInTime}
+use Rattle.die_log.specs.Model.Log.{Log, now}
+use Rattle.die_log.specs.Model.Answers.{answer, refusal_of, with_answer, after_call, run, IsAccepted, IsExact}
+use Rattle.die_log.specs.Results.InTime.{events_of_log, Adds, AreEntered, IsInTime}
 use Rattle.die_log.proofs.Known.{all_append}
 use Rattle.die_log.proofs.Legality.{accepted_answer}
 use Rattle.die_log.proofs.Runs.{run_exact}
@@ -33,22 +33,22 @@ use Rattle.slot_core.specs.Core.{with_entry}
 use Rattle.die_service.specs.declared.ends.DieEnd.{DieEnd}
 use Rattle.die_service.specs.declared.feeds.Arrival.{Arrival}
 use Rattle.die_service.specs.declared.refused.RefusedAt.{RefusedAt}
-use Rattle.die_service.specs.PlannedRuns.{events_in, events_from, events_of, KeepsItsPlan, RanAlone, IsForMemory, IsForMemoryOrFault}
-use Rattle.die_service.specs.PlannedRuns.{AreTakenUntilMemory, GoesAsPlanned}
-use Rattle.die_service.specs.Replies.{MayRefuse}
-use Rattle.die_service.specs.Runs.{Said, said, AllArrive, comes_at, AreAsked, InClockOrder, noted, place_behind}
+use Rattle.die_service.specs.PlannedRuns.{events_in, events_from, events_of_feed, FeedKeepsPlan, RanAlone, IsForMemory, IsForMemoryOrFault}
+use Rattle.die_service.specs.PlannedRuns.{AreTakenUntilMemory, FeedGoesAsPlanned}
+use Rattle.slot_core.specs.Calls.{MayRefuse}
+use Rattle.die_service.specs.Runs.{AskedEvent, asked_event, AllArrive, comes_at, AreAsked, InClockOrder, with_refused, place_behind}
 use Rattle.die_service.specs.Runs.{refused_from, stop_or, stop_of}
 use Rattle.die_service.proofs.Passing.{slot_answered}
 use Rattle.die_service.specs.Passes.{IsSlotReply}
 use Rattle.die_service.proofs.RunAlone.{saids, start_is, said_is, said_exact, are_told}
 use Rattle.die_service.proofs.SlotCalls.{slot_counted, slot_refused, numbered, stays_at}
 use Rattle.die_service.proofs.Transcripts.{AreTold, said_log, said_accepted, said_refused, front_exact}
-use Rattle.die_log.specs.Start.{Start}
-use Rattle.die_log.specs.Supply.{AreStocked}
-use Rattle.die_log.specs.Opening.{IsOpening}
+use Rattle.die_log.specs.Model.Start.{Start}
+use Rattle.die_log.specs.Results.Supply.{AreStocked}
+use Rattle.die_log.specs.Model.Opening.{IsOpening}
 
-abbrev asked : List Said → List Event
-asked heard = map (λ (s : Said). s.event) heard
+abbrev asked : List AskedEvent → List Event
+asked heard = map (λ (s : AskedEvent). s.event) heard
 
 -- What was said, but for a slot that was refused
 
@@ -57,36 +57,36 @@ abbrev IsHeard : Event → Result Reply RefusedAt → Type 0
 IsHeard events.Slot (Err refused) = ⊥
 IsHeard _ _ = Unit {0}
 
-abbrev AreHeard : List Said → Type 0
-AreHeard heard = AllByRecursion (λ (s : Said). IsHeard s.event s.reply) heard
+abbrev AreHeard : List AskedEvent → Type 0
+AreHeard heard = AllByRecursion (λ (s : AskedEvent). IsHeard s.event s.reply) heard
 
-abbrev AllFed : List Said → Type 0
-AllFed fed = AllByRecursion (λ (s : Said). IsArrival s.event) fed
+abbrev AllFed : List AskedEvent → Type 0
+AllFed fed = AllByRecursion (λ (s : AskedEvent). IsArrival s.event) fed
 
 heard_one : (event : Event) (reply : Result Reply RefusedAt) → IsArrival event → IsHeard event reply
 heard_one (events.Submit task release due ops) reply h = tt
 heard_one (events.Collect task release due) reply h = tt
 heard_one events.Slot reply h = absurd h
 
-heard_fed : (fed : List Said) → AllFed fed → AreHeard fed
+heard_fed : (fed : List AskedEvent) → AllFed fed → AreHeard fed
 heard_fed [] h = tt
 heard_fed (s ∷ fed) h = (heard_one s.event s.reply h.0, heard_fed fed h.1)
 
-asked_none : (s : Said) (fed : List Said) → AreAsked [] (s ∷ fed) → ⊥
+asked_none : (s : AskedEvent) (fed : List AskedEvent) → AreAsked [] (s ∷ fed) → ⊥
 asked_none s fed are = absurd cc
 
 asked_some : (arrival : Arrival) (feed : List Arrival) → AreAsked (arrival ∷ feed) [] → ⊥
 asked_some arrival feed are = absurd cc
 
-asked_first : (arrival : Arrival) (feed : List Arrival) (s : Said) (fed : List Said) → AreAsked (arrival ∷ feed) (s ∷ fed) → s.event
+asked_first : (arrival : Arrival) (feed : List Arrival) (s : AskedEvent) (fed : List AskedEvent) → AreAsked (arrival ∷ feed) (s ∷ fed) → s.event
     ≡ arrival.event
 asked_first arrival feed s fed are = cc
 
-asked_rest : (arrival : Arrival) (feed : List Arrival) (s : Said) (fed : List Said) → AreAsked (arrival ∷ feed) (s ∷ fed)
+asked_rest : (arrival : Arrival) (feed : List Arrival) (s : AskedEvent) (fed : List AskedEvent) → AreAsked (arrival ∷ feed) (s ∷ fed)
     → AreAsked feed fed
 asked_rest arrival feed s fed are = cc
 
-all_fed : (feed : List Arrival) (fed : List Said) → AreAsked feed fed → AllArrive feed → AllFed fed
+all_fed : (feed : List Arrival) (fed : List AskedEvent) → AreAsked feed fed → AllArrive feed → AllFed fed
 all_fed [] [] are arrive = tt
 all_fed [] (s ∷ fed) are arrive = absurd (asked_none s fed are)
 all_fed (arrival ∷ feed) [] are arrive = absurd (asked_some arrival feed are)
@@ -97,85 +97,85 @@ all_fed (arrival ∷ feed) (s ∷ fed) are arrive =
           (asked_rest arrival feed s fed are) (All-tail A arrival feed arrive),
     )
 
-here_arrive : (clock : ℕ) (feed : List Arrival) → AllArrive feed → AllArrive (arrived comes_at clock feed)
+here_arrive : (clock : ℕ) (feed : List Arrival) → AllArrive feed → AllArrive (arrivals_by comes_at clock feed)
 here_arrive clock = arrived_hold comes_at clock (λ a. IsArrival a.event)
 
-later_arrive : (clock : ℕ) (feed : List Arrival) → AllArrive feed → AllArrive (coming comes_at clock feed)
+later_arrive : (clock : ℕ) (feed : List Arrival) → AllArrive feed → AllArrive (arrivals_after comes_at clock feed)
 later_arrive clock = later_hold comes_at clock (λ a. IsArrival a.event)
 
-split_one : (before after : List Said) (s : Said) → before ++ s ∷ after ≡ (before ++ s ∷ []) ++ after
+split_one : (before after : List AskedEvent) (s : AskedEvent) → before ++ s ∷ after ≡ (before ++ s ∷ []) ++ after
 split_one before after s = sym (append_assoc before (s ∷ []) after)
 
-behind_first : (all before fed after : List Said) (s : Said) → all ≡ before ++ ((s ∷ fed) ++ after) → all ≡ (before ++ s ∷ [])
+behind_first : (all before fed after : List AskedEvent) (s : AskedEvent) → all ≡ before ++ ((s ∷ fed) ++ after) → all ≡ (before ++ s ∷ [])
     ++ (fed ++ after)
 behind_first all before fed after s is = is ∙ split_one before (fed ++ after) s
 
--- all that was said is `front`, or a slot was refused behind it, with which the events begin that are left over
-abbrev Ends : List Said → List Event → List Said → Type 0
-Ends front over rest = (rest ≡ front) ⊎ ((refused : RefusedAt) × (more : List Event) × (rest ≡ front ++ said events.Slot (Err refused) ∷ [])
+-- all that was said is `front`, or a slot was refused after it, with which the events begin that are left over
+abbrev Ends : List AskedEvent → List Event → List AskedEvent → Type 0
+Ends front over rest = (rest ≡ front) ⊎ ((refused : RefusedAt) × (more : List Event) × (rest ≡ front ++ asked_event events.Slot (Err refused) ∷ [])
     × (over ≡ events.Slot ∷ more))
 
 -- `front` was asked of what a run asks for, and this is left over
-record Parts (all : List Event) (rest : List Said) : Type 0 where
-  front : List Said
+record Parts (all : List Event) (rest : List AskedEvent) : Type 0 where
+  front : List AskedEvent
   over : List Event
   heard : AreHeard front
   events_are : all ≡ asked front ++ over
   ends : Ends front over rest
 
-abbrev carried : SlotReply → Said
-carried slot = said events.Slot (Ok (replies.Slot slot))
+abbrev carried : SlotReply → AskedEvent
+carried slot = asked_event events.Slot (Ok (replies.Slot slot))
 
-more_ends : (fed : List Said) (s : Said) (front : List Said) (over : List Event) (rest more : List Said) → rest ≡ fed ++ s ∷ more
+more_ends : (fed : List AskedEvent) (s : AskedEvent) (front : List AskedEvent) (over : List Event) (rest more : List AskedEvent) → rest ≡ fed ++ s ∷ more
     → Ends front over more → Ends (fed ++ s ∷ front) over rest
-more_ends fed s front over rest more is (inl same) = inl (is ∙ ap (λ (xs : List Said). fed ++ s ∷ xs) same)
+more_ends fed s front over rest more is (inl same) = inl (is ∙ ap (λ (xs : List AskedEvent). fed ++ s ∷ xs) same)
 more_ends fed s front over rest more is (inr (refused, later, last, left)) =
     inr (
       refused,
       later,
-      is ∙ (ap (λ (xs : List Said). fed ++ s ∷ xs) last
-          ∙ sym (append_assoc fed (s ∷ front) (said events.Slot (Err refused) ∷ []))),
+      is ∙ (ap (λ (xs : List AskedEvent). fed ++ s ∷ xs) last
+          ∙ sym (append_assoc fed (s ∷ front) (asked_event events.Slot (Err refused) ∷ []))),
       left,
     )
 
-more_events : (due later over : List Event) (fed front : List Said) (slot : SlotReply) → asked fed ≡ due → later ≡ asked front ++ over → due
+more_events : (due later over : List Event) (fed front : List AskedEvent) (slot : SlotReply) → asked fed ≡ due → later ≡ asked front ++ over → due
     ++ events.Slot ∷ later ≡ asked (fed ++ carried slot ∷ front) ++ over
 more_events due later over fed front slot are is =
     (λ i. sym are i ++ events.Slot ∷ is i)
     ∙ (sym (append_assoc (asked fed) (events.Slot ∷ asked front) over)
-    ∙ ap (λ (es : List Event). es ++ over) (sym (map-append (λ (s : Said). s.event) fed (carried slot ∷ front))))
+    ∙ ap (λ (es : List Event). es ++ over) (sym (map-append (λ (s : AskedEvent). s.event) fed (carried slot ∷ front))))
 
-module _ (never : Bool) (start : Start) (all : List Said) (known : AreTold never start all) where
+module _ (never : Bool) (start : Start) (all : List AskedEvent) (known : AreTold never start all) where
   -- the feed's events take no slot
-  fed_stay : (fed before after : List Said) → all ≡ before ++ (fed ++ after) → AllFed fed → now (said_log (before ++ fed))
+  fed_stay : (fed before after : List AskedEvent) → all ≡ before ++ (fed ++ after) → AllFed fed → now (said_log (before ++ fed))
       ≡ now (said_log before)
-  fed_stay [] before after is h = ap (λ (b : List Said). now (said_log b)) (append-nil before)
+  fed_stay [] before after is h = ap (λ (b : List AskedEvent). now (said_log b)) (append-nil before)
   fed_stay (s ∷ fed) before after is h =
-      ap (λ (b : List Said). now (said_log b)) (split_one before fed s)
+      ap (λ (b : List AskedEvent). now (said_log b)) (split_one before fed s)
       ∙ (fed_stay fed (before ++ s ∷ []) after (behind_first all before fed after s is) h.1
       ∙ stays_at never start all before (fed ++ after) s.event s.reply known is h.0)
 
-  parts : (left clock : ℕ) (feed : List Arrival) (before rest : List Said) → all ≡ before ++ rest → InClockOrder left clock feed rest
+  parts : (left clock : ℕ) (feed : List Arrival) (before rest : List AskedEvent) → all ≡ before ++ rest → InClockOrder left clock feed rest
       → now (said_log before) ≡ clock → AllArrive feed → Parts (events_from left clock feed) rest
   parts zero clock feed before rest is ordered at_now arrive = record {
     front = rest;
     over = [];
-    heard = heard_fed rest (all_fed (arrived comes_at clock feed) rest ordered (here_arrive clock feed arrive));
+    heard = heard_fed rest (all_fed (arrivals_by comes_at clock feed) rest ordered (here_arrive clock feed arrive));
     events_are = sym ordered ∙ sym (append-nil (asked rest));
     ends = inl refl;
   }
   parts (suc left) clock feed before rest is (fed, behind, split, are, inr (refused, last)) at_now arrive = record {
     front = fed;
-    over = events.Slot ∷ events_from left (clock + 1) (coming comes_at clock feed);
-    heard = heard_fed fed (all_fed (arrived comes_at clock feed) fed are (here_arrive clock feed arrive));
-    events_are = ap (λ (es : List Event). es ++ events.Slot ∷ events_from left (clock + 1) (coming comes_at clock feed)) (sym are);
-    ends = inr (refused, events_from left (clock + 1) (coming comes_at clock feed), split ∙ ap (λ (xs : List Said). fed ++ xs) last, refl);
+    over = events.Slot ∷ events_from left (clock + 1) (arrivals_after comes_at clock feed);
+    heard = heard_fed fed (all_fed (arrivals_by comes_at clock feed) fed are (here_arrive clock feed arrive));
+    events_are = ap (λ (es : List Event). es ++ events.Slot ∷ events_from left (clock + 1) (arrivals_after comes_at clock feed)) (sym are);
+    ends = inr (refused, events_from left (clock + 1) (arrivals_after comes_at clock feed), split ∙ ap (λ (xs : List AskedEvent). fed ++ xs) last, refl);
   }
   parts (suc left) clock feed before rest is (fed, behind, split, are, inl (slot, more, first, ordered)) at_now arrive =
-      let later = coming comes_at clock feed in
-      let rest_is : rest ≡ fed ++ carried slot ∷ more = split ∙ ap (λ (xs : List Said). fed ++ xs) first in
-      let here : all ≡ before ++ (fed ++ carried slot ∷ more) = is ∙ ap (λ (xs : List Said). before ++ xs) rest_is in
-      let fed_all = all_fed (arrived comes_at clock feed) fed are (here_arrive clock feed arrive) in
+      let later = arrivals_after comes_at clock feed in
+      let rest_is : rest ≡ fed ++ carried slot ∷ more = split ∙ ap (λ (xs : List AskedEvent). fed ++ xs) first in
+      let here : all ≡ before ++ (fed ++ carried slot ∷ more) = is ∙ ap (λ (xs : List AskedEvent). before ++ xs) rest_is in
+      let fed_all = all_fed (arrivals_by comes_at clock feed) fed are (here_arrive clock feed arrive) in
       let at_slot : all ≡ (before ++ fed) ++ carried slot ∷ more = here ∙ sym (append_assoc before fed (carried slot ∷ more)) in
       let answered = known.accepted (before ++ fed) more events.Slot (replies.Slot slot) at_slot in
       let still : now (said_log (before ++ fed)) ≡ clock = fed_stay fed before (carried slot ∷ more) here fed_all ∙ at_now in
@@ -189,17 +189,17 @@ module _ (never : Bool) (start : Start) (all : List Said) (known : AreTold never
       record {
         front = fed ++ carried slot ∷ m.front;
         over = m.over;
-        heard = all_append (λ (s : Said). IsHeard s.event s.reply) fed (carried slot ∷ m.front) (heard_fed fed fed_all) (tt, m.heard);
-        events_are = more_events (events_in (arrived comes_at clock feed)) (events_from left (clock + 1) later) m.over fed m.front slot are
+        heard = all_append (λ (s : AskedEvent). IsHeard s.event s.reply) fed (carried slot ∷ m.front) (heard_fed fed fed_all) (tt, m.heard);
+        events_are = more_events (events_in (arrivals_by comes_at clock feed)) (events_from left (clock + 1) later) m.over fed m.front slot are
             m.events_are;
         ends = more_ends fed (carried slot) m.front m.over rest more rest_is m.ends;
       }
 
   -- The log of `front` is what its events leave
 
-  enters_one : (before : List Said) (event : Event) (reply : Result Reply RefusedAt) → IsHeard event reply
-      → Adds event (said_log before) (said_log (before ++ said event reply ∷ []))
-      ⊎ (IsArrival event × (said_log (before ++ said event reply ∷ []) ≡ said_log before))
+  enters_one : (before : List AskedEvent) (event : Event) (reply : Result Reply RefusedAt) → IsHeard event reply
+      → Adds event (said_log before) (said_log (before ++ asked_event event reply ∷ []))
+      ⊎ (IsArrival event × (said_log (before ++ asked_event event reply ∷ []) ≡ said_log before))
   enters_one before event (Ok reply) h = inl (0, reply, said_accepted before event reply)
   enters_one before (events.Submit task release due ops) (Err refused) h = inr
       (tt, said_refused before (events.Submit task release due ops) refused)
@@ -207,31 +207,31 @@ module _ (never : Bool) (start : Start) (all : List Said) (known : AreTold never
       (tt, said_refused before (events.Collect task release due) refused)
   enters_one before events.Slot (Err refused) h = absurd h
 
-  enters : (front before : List Said) → AreHeard front → AreEntered (asked front) (said_log before) (said_log (before ++ front))
+  enters : (front before : List AskedEvent) → AreHeard front → AreEntered (asked front) (said_log before) (said_log (before ++ front))
   enters [] before h = ap said_log (append-nil before)
   enters (s ∷ front) before h = (
     said_log (before ++ s ∷ []),
     enters_one before s.event s.reply h.0,
-    subst (λ (xs : List Said). AreEntered (asked front) (said_log (before ++ s ∷ [])) (said_log xs)) (append_assoc before (s ∷ []) front)
+    subst (λ (xs : List AskedEvent). AreEntered (asked front) (said_log (before ++ s ∷ [])) (said_log xs)) (append_assoc before (s ∷ []) front)
         (enters front (before ++ s ∷ []) h.1),
   )
 
   -- and has at most as many slots
 
-  counts_slot : (before after : List Said) (reply : Reply) → all ≡ before ++ said events.Slot (Ok reply) ∷ after
-      → now (said_log (before ++ said events.Slot (Ok reply) ∷ [])) ≡ now (said_log before) + 1
+  counts_slot : (before after : List AskedEvent) (reply : Reply) → all ≡ before ++ asked_event events.Slot (Ok reply) ∷ after
+      → now (said_log (before ++ asked_event events.Slot (Ok reply) ∷ [])) ≡ now (said_log before) + 1
   counts_slot before after reply is =
       let t = known.accepted before after events.Slot reply is in
       by reply (slot_answered start (said_log before) reply t.0 t.1)
     where
-      by : (r : Reply) → IsSlotReply r → now (said_log (before ++ said events.Slot (Ok r) ∷ [])) ≡ now (said_log before) + 1
+      by : (r : Reply) → IsSlotReply r → now (said_log (before ++ asked_event events.Slot (Ok r) ∷ [])) ≡ now (said_log before) + 1
       by (replies.Slot slot) h = ap now (said_accepted before events.Slot (replies.Slot slot)) ∙ slot_counted (said_log before) _ slot refl
       by (replies.Taken number) h = absurd h
       by (replies.Refused refusal) h = absurd h
 
-  counts_one : (before after : List Said) (event : Event) (reply : Result Reply RefusedAt) → IsHeard event reply → all ≡ before
-      ++ said event reply ∷ after
-      → now (said_log (before ++ said event reply ∷ [])) ≡ now (said_log before) + cond (is_slot event) 1 0
+  counts_one : (before after : List AskedEvent) (event : Event) (reply : Result Reply RefusedAt) → IsHeard event reply → all ≡ before
+      ++ asked_event event reply ∷ after
+      → now (said_log (before ++ asked_event event reply ∷ [])) ≡ now (said_log before) + cond (is_slot event) 1 0
   counts_one before after events.Slot (Ok reply) h is = counts_slot before after reply is
   counts_one before after events.Slot (Err refused) h is = absurd h
   counts_one before after (events.Submit task release due ops) reply h is = omega
@@ -239,14 +239,14 @@ module _ (never : Bool) (start : Start) (all : List Said) (known : AreTold never
   counts_one before after (events.Collect task release due) reply h is = omega
       (arith, stays_at never start all before after (events.Collect task release due) reply known is tt)
 
-  counts : (front before after : List Said) → AreHeard front → all ≡ before ++ (front ++ after) → now (said_log (before ++ front))
+  counts : (front before after : List AskedEvent) → AreHeard front → all ≡ before ++ (front ++ after) → now (said_log (before ++ front))
       ≡ now (said_log before) + slots (asked front)
-  counts [] before after h is = omega (arith, ap (λ (b : List Said). now (said_log b)) (append-nil before))
+  counts [] before after h is = omega (arith, ap (λ (b : List AskedEvent). now (said_log b)) (append-nil before))
   counts (s ∷ front) before after h is =
       let one = counts_one before (front ++ after) s.event s.reply h.0 is in
       let more = counts front (before ++ s ∷ []) after h.1 (behind_first all before front after s is) in
       let same : now (said_log (before ++ s ∷ front)) ≡ now (said_log ((before ++ s ∷ []) ++ front)) = ap
-      (λ (b : List Said). now (said_log b)) (split_one before front s) in
+      (λ (b : List AskedEvent). now (said_log b)) (split_one before front s) in
       let counted : slots (asked (s ∷ front)) ≡ cond (is_slot s.event) 1 0 + slots (asked front) = sum_by-cons (λ e. cond (is_slot e) 1 0)
       s.event (asked front) in
       omega (arith, one, more, same, counted)
@@ -289,10 +289,10 @@ run_longer start (call ∷ calls) past = answered_longer call.0 call.1 (answer s
 
 -- What keeps the plan
 
--- the event of an entry is told behind those before it
-pub told_more : (past log : Log) (event : Event) (reply : Reply) (rest : List Event) → log ≡ with_entry 0 event reply past → told past
-    ++ event ∷ rest ≡ told log ++ rest
-told_more past log event reply rest is = sym (append_assoc (told past) (event ∷ []) rest) ∙ ap (λ (l : Log). told l ++ rest) (sym is)
+-- the event of an entry comes after those before it
+pub told_more : (past log : Log) (event : Event) (reply : Reply) (rest : List Event) → log ≡ with_entry 0 event reply past → events_of_log past
+    ++ event ∷ rest ≡ events_of_log log ++ rest
+told_more past log event reply rest is = sym (append_assoc (events_of_log past) (event ∷ []) rest) ∙ ap (λ (l : Log). events_of_log l ++ rest) (sym is)
 
 pub not_refused : (start : Start) (past : Log) (event : Event) (refusal : Refusal) → refusal_of start past event ≡ None
     → answer start past event ≡ replies.Refused refusal → ⊥
@@ -303,27 +303,27 @@ no_slot : (event : Event) → IsArrival event → event ≡ events.Slot → ⊥
 no_slot event h is = subst IsArrival is h
 
 module _ (never : Bool) (start : Start) (times : Times) (bound : IsOpening start) (passes : Passes start.plan times)
-    (stocked : AreStocked start times) (all : List Said) (known : AreTold never start all) (exact : IsExact start (said_log all)) where
-  -- an event of the feed that keeps the plan is refused for want of memory alone
+    (stocked : AreStocked start times) (all : List AskedEvent) (known : AreTold never start all) (exact : IsExact start (said_log all)) where
+  -- an event of the feed that keeps the plan is refused out of memory alone
   by_memory : (past : Log) (event : Event) (rest : List Event) (refusal : Refusal) → IsArrival event → IsExact start past
-      → KeepsPlan start.plan times (told past ++ event ∷ rest) → MayRefuse never start past event refusal → IsForMemory never refusal
+      → KeepsPlan start.plan times (events_of_log past ++ event ∷ rest) → MayRefuse never start past event refusal → IsForMemory never refusal
   by_memory past event rest refusal fed is keeps (inl (inl own)) = absurd
       (not_refused start past event refusal (unrefused start times bound passes stocked past event rest is keeps) own)
   by_memory past event rest refusal fed is keeps (inl (inr memory)) = inl memory.1
   by_memory past event rest refusal fed is keeps (inr (inl fault)) = absurd (no_slot event fed fault.1)
   by_memory past event rest refusal fed is keeps (inr (inr stopped)) = inr stopped
 
-  taken_from : (front before after : List Said) (over : List Event) (place : ℕ) → all ≡ before ++ (front ++ after) → AreHeard front
-      → KeepsPlan start.plan times (told (said_log before) ++ (asked front ++ over)) → AreTakenUntilMemory never (refused_from place front)
+  taken_from : (front before after : List AskedEvent) (over : List Event) (place : ℕ) → all ≡ before ++ (front ++ after) → AreHeard front
+      → KeepsPlan start.plan times (events_of_log (said_log before) ++ (asked front ++ over)) → AreTakenUntilMemory never (refused_from place front)
   taken_from [] before after over place is h keeps = tt
   taken_from (s ∷ front) before after over place is h keeps = by s.event s.reply is h.0 keeps
       (λ n. taken_from front (before ++ s ∷ []) after over n (behind_first all before front after s is) h.1)
     where
-      by : (event : Event) (reply : Result Reply RefusedAt) → all ≡ before ++ ((said event reply ∷ front) ++ after) → IsHeard event reply
-          → KeepsPlan start.plan times (told (said_log before) ++ (event ∷ asked front ++ over))
-          → ((n : ℕ) → KeepsPlan start.plan times (told (said_log (before ++ said event reply ∷ [])) ++ (asked front ++ over))
+      by : (event : Event) (reply : Result Reply RefusedAt) → all ≡ before ++ ((asked_event event reply ∷ front) ++ after) → IsHeard event reply
+          → KeepsPlan start.plan times (events_of_log (said_log before) ++ (event ∷ asked front ++ over))
+          → ((n : ℕ) → KeepsPlan start.plan times (events_of_log (said_log (before ++ asked_event event reply ∷ [])) ++ (asked front ++ over))
           → AreTakenUntilMemory never (refused_from n front))
-          → AreTakenUntilMemory never (noted place event reply (refused_from (place_behind event place) front))
+          → AreTakenUntilMemory never (with_refused place event reply (refused_from (place_behind event place) front))
       by events.Slot (Ok reply) at heard keep more = more place
           (subst (KeepsPlan start.plan times) (told_more (said_log before) _ events.Slot reply (asked front ++ over)
           (said_accepted before events.Slot reply)) keep)
@@ -345,8 +345,8 @@ module _ (never : Bool) (start : Start) (times : Times) (bound : IsOpening start
           (front_exact start all before _ exact at) keep
           (known.refused before (front ++ after) (events.Collect task release due) refused at)
 
-  -- what was heard is in time, since what is left over could be entered behind it
-  in_time : (front after : List Said) (over : List Event) → all ≡ front ++ after → AreHeard front
+  -- what was heard is in time, since what is left over could be entered after it
+  in_time : (front after : List AskedEvent) (over : List Event) → all ≡ front ++ after → AreHeard front
       → KeepsPlan start.plan times (asked front ++ over) → IsInTime start.plan (said_log front)
   in_time front after over is h keeps =
       let calls = calls_for over in
@@ -366,10 +366,10 @@ module _ (never : Bool) (start : Start) (times : Times) (bound : IsOpening start
 
 -- A slot that is refused
 
-refused_last : (front : List Said) (refused : RefusedAt) (place : ℕ) → refused_from place (front ++ said events.Slot (Err refused) ∷ [])
+refused_last : (front : List AskedEvent) (refused : RefusedAt) (place : ℕ) → refused_from place (front ++ asked_event events.Slot (Err refused) ∷ [])
     ≡ refused_from place front
 refused_last [] refused place = refl
-refused_last (s ∷ front) refused place = ap (noted place s.event s.reply) (refused_last front refused (place_behind s.event place))
+refused_last (s ∷ front) refused place = ap (with_refused place s.event s.reply) (refused_last front refused (place_behind s.event place))
 
 heard_on : (event : Event) (reply : Result Reply RefusedAt) (later : Option RefusedAt) → IsHeard event reply → stop_or event reply later
     ≡ later
@@ -378,7 +378,7 @@ heard_on events.Slot (Err refused) later h = absurd h
 heard_on (events.Submit task release due ops) reply later h = refl
 heard_on (events.Collect task release due) reply later h = refl
 
-stops_behind : (front rest : List Said) → AreHeard front → stop_of (front ++ rest) ≡ stop_of rest
+stops_behind : (front rest : List AskedEvent) → AreHeard front → stop_of (front ++ rest) ≡ stop_of rest
 stops_behind [] rest h = refl
 stops_behind (s ∷ front) rest h = heard_on s.event s.reply (stop_of (front ++ rest)) h.0 ∙ stops_behind front rest h.1
 
@@ -390,13 +390,13 @@ stops_for_memory never start past refusal few (inr (inr stopped)) = inl (inr sto
 
 -- All together
 
-record Goes (never : Bool) (start : Start) (all : List Said) : Type 0 where
+record Goes (never : Bool) (start : Start) (all : List AskedEvent) : Type 0 where
   in_time_is : IsInTime start.plan (said_log all)
   taken_is : AreTakenUntilMemory never (refused_from 0 all)
   carried_is : IfSome (stop_of all) (λ stop. IsForMemoryOrFault never stop.refusal)
 
 module _ (never : Bool) (start : Start) (times : Times) (bound : IsOpening start) (passes : Passes start.plan times)
-    (stocked : AreStocked start times) (all : List Said) (known : AreTold never start all) (exact : IsExact start (said_log all)) where
+    (stocked : AreStocked start times) (all : List AskedEvent) (known : AreTold never start all) (exact : IsExact start (said_log all)) where
   goes : (es : List Event) (p : Parts es all) → KeepsPlan start.plan times es → Goes never start all
   goes es p keeps = by p.ends
     where
@@ -407,15 +407,15 @@ module _ (never : Bool) (start : Start) (times : Times) (bound : IsOpening start
       by (inl same) =
           let here : all ≡ p.front ++ [] = same ∙ sym (append-nil p.front) in
           record {
-            in_time_is = subst (λ (xs : List Said). IsInTime start.plan (said_log xs)) (sym same)
+            in_time_is = subst (λ (xs : List AskedEvent). IsInTime start.plan (said_log xs)) (sym same)
                 (in_time never start times bound passes stocked all known exact p.front [] p.over here p.heard kept);
-            taken_is = subst (λ (xs : List Said). AreTakenUntilMemory never (refused_from 0 xs)) (sym same)
+            taken_is = subst (λ (xs : List AskedEvent). AreTakenUntilMemory never (refused_from 0 xs)) (sym same)
                 (taken_from never start times bound passes stocked all known exact p.front [] [] p.over 0 here p.heard kept);
             carried_is = subst (λ (o : Option RefusedAt). IfSome o (λ stop. IsForMemoryOrFault never stop.refusal))
                 (sym (ap stop_of here ∙ stops_behind p.front [] p.heard)) tt;
           }
       by (inr (refused, more, last, left)) =
-          let s : Said = said events.Slot (Err refused) in
+          let s : AskedEvent = asked_event events.Slot (Err refused) in
           let at_slot : slots p.over ≡ 1 + slots more = ap slots left ∙ sum_by-cons (λ e. cond (is_slot e) 1 0) events.Slot more in
           let none : now (said_log []) ≡ 0 = refl in
           let few : now (said_log p.front) < MAX_SLOT = omega (
@@ -437,12 +437,12 @@ module _ (never : Bool) (start : Start) (times : Times) (bound : IsOpening start
           }
 
 pub go_as_planned : (never : Bool) (start : Start) (count : ℕ) (feed : List Arrival) (end : DieEnd) (log : Log) → AllArrive feed
-    → KeepsItsPlan start count feed → RanAlone never start count feed end log → GoesAsPlanned never start.plan end log
+    → FeedKeepsPlan start count feed → RanAlone never start count feed end log → FeedGoesAsPlanned never start.plan end log
 go_as_planned never start count feed end log arrive k r =
-    let all : List Said = saids never count start feed end log r in
+    let all : List AskedEvent = saids never count start feed end log r in
     let known = are_told never count start feed end log r in
     let bound : IsOpening start = subst IsOpening (start_is never count start feed end log r) r.ran.exact.opens in
-    let g = goes never start k.times bound k.passes k.stocked all known (said_exact never count start feed end log r) (events_of count feed)
+    let g = goes never start k.times bound k.passes k.stocked all known (said_exact never count start feed end log r) (events_of_feed count feed)
     (parts never start all known count 0 feed [] all refl r.ran.ordered refl arrive) k.keeps in
     record {
       in_time = subst (IsInTime start.plan) (sym (said_is never count start feed end log r)) g.in_time_is;

@@ -1,21 +1,21 @@
 -- What is known of the log of a die on which nothing was done but one run.
 use Rattle.std.proofs.Common.{◌≡◌, ℕ, List, [], ◌∷◌, ◌++◌, ap, sym, ◌∙◌, subst, take, Bool}
 use Rattle.turn_lock.specs.Log.{calls_by, AllBy}
-use Rattle.die_log.specs.Log.{Log}
-use Rattle.die_log.specs.Answers.{IsExact}
+use Rattle.die_log.specs.Model.Log.{Log}
+use Rattle.die_log.specs.Model.Answers.{IsExact}
 use Rattle.die_service.specs.declared.ends.DieEnd.{DieEnd}
 use Rattle.die_service.specs.declared.feeds.Arrival.{Arrival}
-use Rattle.die_service.specs.Logs.{Call, log_of, calls_of}
+use Rattle.die_service.specs.Logs.{DieCall, log_of, calls_of}
 use Rattle.die_service.specs.PlannedRuns.{RanAlone}
-use Rattle.die_service.specs.Replies.{MayRefuse}
-use Rattle.die_service.specs.Runs.{Said, accepted_by}
+use Rattle.slot_core.specs.Calls.{MayRefuse}
+use Rattle.die_service.specs.Runs.{AskedEvent, accepted_by}
 use Rattle.die_service.proofs.LastPasses.{same_plan}
 use Rattle.die_service.proofs.Transcripts.{AreTold, said_log, told_accepted, own_of_log, front_own}
-use Rattle.die_log.specs.Start.{Start}
+use Rattle.die_log.specs.Model.Start.{Start}
 
 module _ (never_fails : Bool) (slots : ℕ) (start : Start) (feed : List Arrival) (end : DieEnd) (log : Log)
     (r : RanAlone never_fails start slots feed end log) where
-  abbrev pub saids : List Said
+  abbrev pub saids : List AskedEvent
   saids = r.ran.saids
 
   pub start_is : r.ran.start ≡ start
@@ -25,7 +25,7 @@ module _ (never_fails : Bool) (slots : ℕ) (start : Start) (feed : List Arrival
   number_is = ap (λ v. v.number) r.fresh
 
   all_mine : AllBy (0 ∷ []) (calls_of (log_of r.last.view.seen))
-  all_mine = subst (λ (x : List ℕ × List Call). AllBy x.0 x.1)
+  all_mine = subst (λ (x : List ℕ × List DieCall). AllBy x.0 x.1)
       (λ i. ((r.same.1 ∙ number_is) i ∷ (r.same.2 ∙ ap (λ v. v.joined) r.fresh) i, calls_of (r.log_is i))) r.by_own
 
   mine : calls_by 0 r.last.view.seen ≡ r.last.view.seen

@@ -12,22 +12,22 @@ use Rattle.slot_types.specs.declared.refusals.Refusal.TheVariants as because
 use Rattle.slot_types.specs.declared.replies.Reply.{Reply}
 use Rattle.slot_types.specs.declared.replies.Reply.TheVariants as replies
 use Rattle.slot_types.specs.declared.replies.SlotReply.{SlotReply}
-use Rattle.die_log.specs.Log.{Log, now, carried}
-use Rattle.die_log.specs.Answers.{answer, answer_by, refusal_of, slot_reply, choice, IsAccepted}
+use Rattle.die_log.specs.Model.Log.{Log, now, carried_slots}
+use Rattle.die_log.specs.Model.Answers.{answer, answer_by, refusal_of, slot_reply, choice, IsAccepted}
 use Rattle.die_log.proofs.Numbered.{slot_is}
 use Rattle.slot_core.specs.Core.{with_entry}
 use Rattle.slot_core.specs.Calls.{RefusedBy}
 use Rattle.die_service.specs.declared.refused.RefusedAt.{RefusedAt}
-use Rattle.die_service.specs.Passes.{IsTaken}
-use Rattle.die_service.specs.Runs.{Said, said}
+use Rattle.die_service.specs.Passes.{IsTakenReply}
+use Rattle.die_service.specs.Runs.{AskedEvent, asked_event}
 use Rattle.die_service.proofs.Passing.{submit_taken, collect_taken}
 use Rattle.die_service.proofs.Transcripts.{AreTold, said_log, said_accepted, said_refused}
-use Rattle.die_log.specs.Start.{Start}
+use Rattle.die_log.specs.Model.Start.{Start}
 
 -- Slots
 
 pub slot_counted : (past log : Log) (reply : SlotReply) → log ≡ with_entry 0 events.Slot (replies.Slot reply) past → now log ≡ now past + 1
-slot_counted past log reply logged = ap now logged ∙ length_push (carried past) reply.ran
+slot_counted past log reply logged = ap now logged ∙ length_push (carried_slots past) reply.ran
 
 goes_on : (start : Start) (past : Log) → now past < MAX_SLOT → refusal_of start past events.Slot ≡ None
 goes_on start past few = rw (lt-leb MAX_SLOT (now past) few) refl
@@ -39,7 +39,7 @@ accepted_slot start past few = rw (goes_on start past few) tt
 no_refusal : (r : Reply) (refusal : Refusal) → IsAccepted r → r ≡ replies.Refused refusal → ⊥
 no_refusal r refusal taken is = subst IsAccepted is taken
 
--- below the clock's end a slot is refused for want of memory alone, unless its device fails
+-- below the clock's end a slot is refused out of memory alone, unless its device fails
 pub slot_refused : (start : Start) (past : Log) (refusal : Refusal) → now past < MAX_SLOT → RefusedBy start past events.Slot refusal
     → refusal ≡ because.NoMemory
 slot_refused start past refusal few (inl is) = absurd (no_refusal _ refusal (accepted_slot start past few) is)
@@ -68,22 +68,22 @@ pub taken_stays : (start : Start) (past : Log) (event : Event) (reply : Reply) �
 taken_stays start past (events.Submit task release due ops) reply h is taken = by reply
     (submit_taken start past task release due ops reply is taken)
   where
-    by : (r : Reply) → IsTaken r → now (with_entry 0 (events.Submit task release due ops) r past) ≡ now past
+    by : (r : Reply) → IsTakenReply r → now (with_entry 0 (events.Submit task release due ops) r past) ≡ now past
     by (replies.Taken number) t = refl
     by (replies.Slot slot) t = absurd t
     by (replies.Refused refusal) t = absurd t
 taken_stays start past (events.Collect task release due) reply h is taken = by reply
     (collect_taken start past task release due reply is taken)
   where
-    by : (r : Reply) → IsTaken r → now (with_entry 0 (events.Collect task release due) r past) ≡ now past
+    by : (r : Reply) → IsTakenReply r → now (with_entry 0 (events.Collect task release due) r past) ≡ now past
     by (replies.Taken number) t = refl
     by (replies.Slot slot) t = absurd t
     by (replies.Refused refusal) t = absurd t
 taken_stays start past events.Slot reply h is taken = absurd h
 
-pub stays_at : (never_fails : Bool) (start : Start) (saids before after : List Said) (event : Event) (reply : Result Reply RefusedAt)
-    → AreTold never_fails start saids → saids ≡ before ++ said event reply ∷ after → IsArrival event
-    → now (said_log (before ++ said event reply ∷ [])) ≡ now (said_log before)
+pub stays_at : (never_fails : Bool) (start : Start) (saids before after : List AskedEvent) (event : Event) (reply : Result Reply RefusedAt)
+    → AreTold never_fails start saids → saids ≡ before ++ asked_event event reply ∷ after → IsArrival event
+    → now (said_log (before ++ asked_event event reply ∷ [])) ≡ now (said_log before)
 stays_at never_fails start saids before after event (Ok reply) told is h =
     let t = told.accepted before after event reply is in
     ap now (said_accepted before event reply) ∙ taken_stays start (said_log before) event reply h t.0 t.1

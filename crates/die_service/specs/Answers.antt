@@ -1,23 +1,23 @@
--- What a die behind its turn may answer to a question.
+-- What a die behind its lock may answer to a question.
 use Rattle.std.specs.Prelude.{◌≡◌, ℕ, ◌⊎◌, ◌↔◌, List, Option, Some, None, Result, Err, IsOk, IfOk, IfErr, IfSome}
 use Rattle.slot_types.specs.declared.refusals.Refusal.{Refusal}
 use Rattle.slot_types.specs.declared.refusals.Refusal.TheVariants.{NoMemory, UnknownJob}
 use Rattle.late_cert.specs.declared.certificates.Certificate.{Certificate}
-use Rattle.die_log.specs.Log.{Log, job_at, now}
-use Rattle.die_log.specs.Rows.{certificate}
+use Rattle.die_log.specs.Model.Log.{Log, job_at, now}
+use Rattle.die_log.specs.Model.Rows.{certificate}
 use Rattle.slot_core.specs.declared.outcomes.Outcome.{Outcome}
 use Rattle.slot_core.specs.declared.outcomes.Outcome.TheVariants.{Waiting, Waived}
 use Rattle.slot_core.specs.Outcomes.{outcome_at, worst_of}
-use Rattle.die_log.specs.Certified.{NothingDone, IsOfWorst, HoldsOver, BindsAll}
+use Rattle.die_log.specs.Results.Certificates.{NothingDone, IsOfWorst, HoldsOver, BindsAll}
 use Rattle.die_service.specs.declared.queries.Query.{Query}
 use Rattle.die_service.specs.declared.queries.Query.TheVariants as asks
 use Rattle.die_service.specs.declared.queries.Answer.{Answer}
 use Rattle.die_service.specs.declared.queries.Answer.TheVariants as tells
-use Rattle.die_service.specs.Logs.{Call, log_of}
-use Rattle.die_log.specs.Start.{Start}
+use Rattle.die_service.specs.Logs.{DieCall, log_of}
+use Rattle.die_log.specs.Model.Start.{Start}
 
--- what became of the job or collection of this number; refused where the log has none of it, or memory is refused. One that waits or was
--- waived takes no memory
+-- what became of the job or collection of this number; refused where the log has none of it, or memory is refused. One
+-- that waits or was waived takes no memory
 pub record TellsOutcome (start : Start) (log : Log) (job : ℕ) (result : Result Outcome Refusal) : Type 0 where
   pub ok : IfOk result (λ outcome. outcome_at start log job ≡ Some outcome)
   pub unknown : (result ≡ Err UnknownJob) ↔ (job_at log job ≡ None)
@@ -25,8 +25,8 @@ pub record TellsOutcome (start : Start) (log : Log) (job : ℕ) (result : Result
   pub waived : (given : ℕ) → outcome_at start log job ≡ Some (Waived given) → IsOk result
   pub refused : IfErr result (λ refusal. (refusal ≡ UnknownJob) ⊎ (refusal ≡ NoMemory))
 
--- the certificate of the log's worst job, none where nothing is done; refused where memory is refused, which it never is where nothing is
--- done
+-- the certificate of the log's worst job, none where nothing is done; refused where memory is refused, which it never
+-- is where nothing is done
 pub record TellsCertificate (start : Start) (log : Log) (result : Result (Option Certificate) Refusal) : Type 0 where
   pub ok : IfOk result (λ built. built ≡ certificate start.plan log)
   pub none : IfOk result (λ built. (built ≡ None) ↔ NothingDone start.plan log)
@@ -43,5 +43,5 @@ Tells start log asks.Certificate (tells.Certificate result) = TellsCertificate s
 Tells start log asks.Now (tells.Now result) = result ≡ now log
 Tells start log _ _ = ⊥
 
-abbrev pub MayAnswer : Start → List Call → Query → Answer → Type 0
+abbrev pub MayAnswer : Start → List DieCall → Query → Answer → Type 0
 MayAnswer start calls query answer = Tells start (log_of calls) query answer

@@ -1,4 +1,4 @@
--- The events of a feed as flat rows, with the operations of all jobs one behind another.
+-- The events of a feed as flat rows, with the operations of all jobs one after another.
 use Rattle.std.specs.Prelude.{◌≡◌, ℕ, zero, suc, ◌-◌, ◌≤◌, nat_le, Bool, true, false, not, ◌&&◌, ⊤, List, [], ◌∷◌, length, take, drop, All}
 use Rattle.slot_types.specs.declared.events.Event.{Event}
 use Rattle.slot_types.specs.declared.events.Event.TheVariants as events
@@ -38,7 +38,8 @@ ops_between ops first last = take (last - first) (drop first ops)
 abbrev pub arrival_at : List Op → ℕ → FeedRow → Arrival
 arrival_at ops first row = record { at = row.at; event = with_ops row.head (ops_between ops first row.ops_end) }
 
--- what rows stand for: the operations of the first begin at this place, and those of each other one where those before it end
+-- what rows stand for: the operations of the first begin at this place, and those of each other one where those before
+-- it end
 abbrev pub feed_from : List Op → ℕ → List FeedRow → List Arrival
 feed_from ops first [] = []
 feed_from ops first (row ∷ rows) = arrival_at ops first row ∷ feed_from ops row.ops_end rows

@@ -3,8 +3,8 @@ use Rattle.std.specs.Prelude.{ℕ, ◌+◌, ◌-◌, ◌*◌, ◌<◌, nat_lt, i
 use Rattle.die_service.specs.declared.op_words.PackedOp.{PackedOp}
 use Rattle.die_service.specs.declared.op_words.PackedOp.TheVariants as packed
 
--- how many words the writes have, as many as a vector may have places; and how many the reads have, and the trims, as many as there are
--- pages in 32 bits
+-- how many words the writes have, as many as a vector may have places; and how many the reads have, and the trims, as
+-- many as there are pages in 32 bits
 abbrev pub places : ℕ
 places = 9223372036854775808
 

@@ -14,13 +14,13 @@ abbrev pub write_of : PageWrite → Op
 write_of write = ops.Write write.page write.bytes
 
 -- the operation that these writes make of a packed one
-abbrev pub unpacked : List PageWrite → PackedOp → Op
-unpacked writes (packed.Read page) = ops.Read page
-unpacked writes (packed.Write place) = write_of (get_or writes place blank)
-unpacked writes (packed.Trim page) = ops.Trim page
+abbrev pub unpacked_op : List PageWrite → PackedOp → Op
+unpacked_op writes (packed.Read page) = ops.Read page
+unpacked_op writes (packed.Write place) = write_of (get_or writes place blank)
+unpacked_op writes (packed.Trim page) = ops.Trim page
 
-abbrev pub all_unpacked : List PageWrite → List PackedOp → List Op
-all_unpacked writes list = map (unpacked writes) list
+abbrev pub unpacked_ops : List PageWrite → List PackedOp → List Op
+unpacked_ops writes list = map (unpacked_op writes) list
 
 -- of so many writes its own is one, if it has one
 abbrev pub IsPacked : ℕ → PackedOp → Type 0
@@ -28,5 +28,5 @@ IsPacked writes (packed.Write place) = place < writes
 IsPacked writes _ = ⊤
 
 -- a list goes on with more
-abbrev pub GoesOn : {X : Type 0} → List X → List X → Type 0
-GoesOn {X} old new = (more : List X) × (new ≡ old ++ more)
+abbrev pub IsLongerList : {X : Type 0} → List X → List X → Type 0
+IsLongerList {X} old new = (more : List X) × (new ≡ old ++ more)

@@ -5,14 +5,15 @@ use Rattle.slot_types.specs.declared.replies.Reply.{Reply}
 use Rattle.slot_types.specs.declared.replies.Reply.TheVariants as replies
 use Rattle.turn_lock.specs.declared.view.View.{View}
 use Rattle.turn_lock.specs.Log.{entry, calls_by}
-use Rattle.turn_lock.specs.Passes.{Grown}
-use Rattle.die_log.specs.Log.{Log}
-use Rattle.die_log.specs.Answers.{answer}
-use Rattle.die_log.specs.Promised.{KeepsPromises}
+use Rattle.turn_lock.specs.Passes.{SeesMore}
+use Rattle.die_log.specs.Model.Log.{Log}
+use Rattle.die_log.specs.Model.Answers.{answer}
+use Rattle.die_log.specs.Results.Promises.{KeepsPromises}
 use Rattle.die_service.specs.declared.refused.RefusedAt.{RefusedAt}
 use Rattle.die_service.specs.Logs.{log_of}
-use Rattle.die_service.specs.Replies.{HasExactLog, MayRefuse}
-use Rattle.die_log.specs.Start.{Start}
+use Rattle.slot_core.specs.Calls.{MayRefuse}
+use Rattle.die_service.specs.Replies.{HasExactLog}
+use Rattle.die_log.specs.Model.Start.{Start}
 
 -- what a pass knows of its die
 abbrev pub DieView : Type 0
@@ -20,9 +21,9 @@ DieView = View Event (Result Reply RefusedAt) Start
 
 -- the pass has seen what others did since, and what it has seen is an exact log
 abbrev pub HasGrown : DieView → DieView → Type 0
-HasGrown = Grown HasExactLog
+HasGrown = SeesMore HasExactLog
 
--- an accepted call: what was seen grows by what others did, and then by this call, which a die answers so behind that
+-- an accepted call: what was seen grows by what others did, and then by this call, which a die answers so after that
 pub record AddsEntry (v : DieView) (event : Event) (reply : Reply) (w : DieView) : Type 0 where
   pub before : DieView
   pub grown : HasGrown v before
@@ -50,9 +51,9 @@ pub record SeesPromised (v : DieView) : Type 0 where
   pub promised : KeepsPromises start (log_of v.seen)
 
 -- the reply that takes a job or collection
-abbrev pub IsTaken : Reply → Type 0
-IsTaken (replies.Taken number) = Unit {0}
-IsTaken _ = ⊥
+abbrev pub IsTakenReply : Reply → Type 0
+IsTakenReply (replies.Taken number) = Unit {0}
+IsTakenReply _ = ⊥
 
 -- the reply of a slot
 abbrev pub IsSlotReply : Reply → Type 0

@@ -4,7 +4,7 @@ use Rattle.std.specs.Prelude.{take, All, Option, Some, None, Result, Ok, Err, is
 use Rattle.slot_types.specs.declared.events.Event.{Event}
 use Rattle.slot_types.specs.declared.events.Event.TheVariants as events
 use Rattle.slot_types.specs.Arrivals.{IsArrival}
-use Rattle.slot_types.specs.Arriving.{arrived, coming}
+use Rattle.slot_types.specs.Arriving.{arrivals_by, arrivals_after}
 use Rattle.slot_types.specs.declared.replies.Reply.{Reply}
 use Rattle.slot_types.specs.declared.replies.Reply.TheVariants as replies
 use Rattle.slot_types.specs.declared.replies.SlotReply.{SlotReply}
@@ -15,21 +15,22 @@ use Rattle.die_service.specs.declared.ends.DieEnd.{DieEnd}
 use Rattle.die_service.specs.declared.ends.RefusedEvent.{RefusedEvent}
 use Rattle.die_service.specs.declared.feeds.Arrival.{Arrival}
 use Rattle.die_service.specs.declared.refused.RefusedAt.{RefusedAt}
-use Rattle.die_service.specs.Logs.{Call, log_of}
+use Rattle.die_service.specs.Logs.{DieCall, log_of}
 use Rattle.die_service.specs.Passes.{DieView}
-use Rattle.die_service.specs.Replies.{HasExactLog, MayRefuse}
+use Rattle.slot_core.specs.Calls.{MayRefuse}
+use Rattle.die_service.specs.Replies.{HasExactLog}
 use Rattle.die_service.specs.Stores.{DiePass}
-use Rattle.die_log.specs.Start.{Start}
+use Rattle.die_log.specs.Model.Start.{Start}
 
 -- What is asked, and in which order
 
 -- an event, and the reply to it
-pub record Said : Type 0 where
+pub record AskedEvent : Type 0 where
   pub event : Event
   pub reply : Result Reply RefusedAt
 
-abbrev pub said : Event → Result Reply RefusedAt → Said
-said event reply = record { event = event; reply = reply }
+abbrev pub asked_event : Event → Result Reply RefusedAt → AskedEvent
+asked_event event reply = record { event = event; reply = reply }
 
 abbrev pub AllArrive : List Arrival → Type 0
 AllArrive feed = All (λ arrival. IsArrival arrival.event) feed
@@ -43,35 +44,35 @@ abbrev pub whole_batch : ℕ → List Arrival → Batch
 whole_batch slots feed = record { from = 0; slots = slots; feed = feed }
 
 -- these events were asked, in their order
-abbrev pub AreAsked : List Arrival → List Said → Type 0
-AreAsked feed saids = map (λ (s : Said). s.event) saids ≡ map (λ (arrival : Arrival). arrival.event) feed
+abbrev pub AreAsked : List Arrival → List AskedEvent → Type 0
+AreAsked feed saids = map (λ (s : AskedEvent). s.event) saids ≡ map (λ (arrival : Arrival). arrival.event) feed
 
 -- Where a worker's clock is at a slot and so many slots are left: it asks for the events of the feed that come by the
--- clock; and then, where a slot is left, for that, and goes on with the clock behind the slot that was carried out. A
+-- clock; and then, where a slot is left, for that, and goes on with the clock after the slot that was carried out. A
 -- refused slot is the last that it asks for.
-abbrev pub InClockOrder : ℕ → ℕ → List Arrival → List Said → Type 0
-InClockOrder zero clock feed saids = AreAsked (arrived comes_at clock feed) saids
-InClockOrder (suc left) clock feed saids = (fed : List Said) × (rest : List Said) × (saids ≡ fed ++ rest)
-    × AreAsked (arrived comes_at clock feed) fed
-    × (((slot : SlotReply) × (more : List Said) × (rest ≡ said events.Slot (Ok (replies.Slot slot)) ∷ more)
-    × InClockOrder left (slot.slot + 1) (coming comes_at clock feed) more)
-    ⊎ ((refused : RefusedAt) × (rest ≡ said events.Slot (Err refused) ∷ [])))
+abbrev pub InClockOrder : ℕ → ℕ → List Arrival → List AskedEvent → Type 0
+InClockOrder zero clock feed saids = AreAsked (arrivals_by comes_at clock feed) saids
+InClockOrder (suc left) clock feed saids = (fed : List AskedEvent) × (rest : List AskedEvent) × (saids ≡ fed ++ rest)
+    × AreAsked (arrivals_by comes_at clock feed) fed
+    × (((slot : SlotReply) × (more : List AskedEvent) × (rest ≡ asked_event events.Slot (Ok (replies.Slot slot)) ∷ more)
+    × InClockOrder left (slot.slot + 1) (arrivals_after comes_at clock feed) more)
+    ⊎ ((refused : RefusedAt) × (rest ≡ asked_event events.Slot (Err refused) ∷ [])))
 
 -- What came of it
 
-abbrev pub was_accepted : Said → Bool
+abbrev pub was_accepted : AskedEvent → Bool
 was_accepted s = is_ok s.reply
 
 -- the accepted calls, as entries of this caller
-abbrev pub accepted_by : ℕ → List Said → List Call
-accepted_by caller saids = map (λ (s : Said). entry caller s.event s.reply) (filter was_accepted saids)
+abbrev pub accepted_by : ℕ → List AskedEvent → List DieCall
+accepted_by caller saids = map (λ (s : AskedEvent). entry caller s.event s.reply) (filter was_accepted saids)
 
 abbrev pub slot_counted : Event → Result Reply RefusedAt → ℕ → ℕ
 slot_counted events.Slot (Ok reply) slots = suc slots
 slot_counted _ _ slots = slots
 
 -- how many slots were carried out
-abbrev pub slots_in : List Said → ℕ
+abbrev pub slots_in : List AskedEvent → ℕ
 slots_in [] = 0
 slots_in (s ∷ saids) = slot_counted s.event s.reply (slots_in saids)
 
@@ -79,49 +80,49 @@ abbrev pub place_behind : Event → ℕ → ℕ
 place_behind events.Slot place = place
 place_behind _ place = suc place
 
-abbrev pub noted : ℕ → Event → Result Reply RefusedAt → List RefusedEvent → List RefusedEvent
-noted place events.Slot reply more = more
-noted place _ (Ok reply) more = more
-noted place _ (Err refused) more = record { place = place; refused = refused } ∷ more
+abbrev pub with_refused : ℕ → Event → Result Reply RefusedAt → List RefusedEvent → List RefusedEvent
+with_refused place events.Slot reply more = more
+with_refused place _ (Ok reply) more = more
+with_refused place _ (Err refused) more = record { place = place; refused = refused } ∷ more
 
 -- of the events of a feed, the first of which has this place, those that were refused
-abbrev pub refused_from : ℕ → List Said → List RefusedEvent
+abbrev pub refused_from : ℕ → List AskedEvent → List RefusedEvent
 refused_from place [] = []
-refused_from place (s ∷ saids) = noted place s.event s.reply (refused_from (place_behind s.event place) saids)
+refused_from place (s ∷ saids) = with_refused place s.event s.reply (refused_from (place_behind s.event place) saids)
 
 abbrev pub stop_or : Event → Result Reply RefusedAt → Option RefusedAt → Option RefusedAt
 stop_or events.Slot (Err refused) later = Some refused
 stop_or _ _ later = later
 
 -- why a slot was refused, if one was
-abbrev pub stop_of : List Said → Option RefusedAt
+abbrev pub stop_of : List AskedEvent → Option RefusedAt
 stop_of [] = None
 stop_of (s ∷ saids) = stop_or s.event s.reply (stop_of saids)
 
-abbrev pub end_of : List Said → DieEnd
+abbrev pub end_of : List AskedEvent → DieEnd
 end_of saids = record { slots = slots_in saids; refused = refused_from 0 saids; stop = stop_of saids }
 
--- A call was refused behind so many entries of those that the pass `w` has seen: a die with these may refuse it so, and
+-- A call was refused after so many entries of those that the pass `w` has seen: a die with these may refuse it so, and
 -- of the pass's own entries they are the ones from before the call.
-pub record IsReasoned (never_fails : Bool) (start : Start) (v : DieView) (before : List Said) (event : Event) (refused : RefusedAt)
+pub record IsReasoned (never_fails : Bool) (start : Start) (v : DieView) (before : List AskedEvent) (event : Event) (refused : RefusedAt)
     (w : DieView) : Type 0 where
   pub within : refused.entries ≤ length w.seen
   pub reason : MayRefuse never_fails start (log_of (take refused.entries w.seen)) event refused.refusal
   pub own : calls_by v.number (take refused.entries w.seen) ≡ calls_by v.number v.seen ++ accepted_by v.number before
 
--- A pass that knew `v` ran the slots of this batch with its feed, and knows `w`: it has seen an exact log, its own entries are
--- those that it had and then the accepted calls in the order of the clock, those of each number that was joined into it
--- are those that it had, and each refused call has its reason. It is live, and knows of no fewer passes made than before;
--- where no other pass was left, none is.
+-- A pass that knew `v` ran the slots of this batch with its feed, and knows `w`: it has seen an exact log, its own
+-- entries are those that it had and then the accepted calls in the order of the clock, those of each number that was
+-- joined into it are those that it had, and each refused call has its reason. It is live, and knows of no fewer passes
+-- made than before; where no other pass was left, none is.
 pub record HasRun (never_fails : Bool) (batch : Batch) (v : DieView) (end : DieEnd) (w : DieView) : Type 0 where
-  pub saids : List Said
+  pub saids : List AskedEvent
   pub start : Start
   pub about_is : v.about ≡ Some start
   pub ordered : InClockOrder batch.slots batch.from batch.feed saids
   pub starts : StartsWith w.seen v.seen
   pub exact : HasExactLog start w.seen
   pub own : calls_by v.number w.seen ≡ calls_by v.number v.seen ++ accepted_by v.number saids
-  pub refused : (before after : List Said) (event : Event) (refused : RefusedAt) → saids ≡ before ++ said event (Err refused) ∷ after
+  pub refused : (before after : List AskedEvent) (event : Event) (refused : RefusedAt) → saids ≡ before ++ asked_event event (Err refused) ∷ after
       → IsReasoned never_fails start v before event refused w
   pub joined : (p : ℕ) → 0 < times p v.joined → p ≢ v.number → calls_by p w.seen ≡ calls_by p v.seen
   pub live : IsLive w

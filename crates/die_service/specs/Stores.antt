@@ -1,5 +1,5 @@
 -- What a store is made of, and what becomes of its passes where it closes.
-use Rattle.std.specs.Prelude.{◌≡◌, ℕ, ◌+◌, ◌<◌, ◌≤◌, ◌⊎◌, Bool, true, false, List, [], ◌∷◌, length, All, Some, Result}
+use Rattle.std.specs.Prelude.{◌≡◌, ℕ, zero, suc, ◌+◌, ◌<◌, ◌≤◌, ◌⊎◌, Bool, true, false, List, [], ◌∷◌, length, All, Some, Result}
 use Rattle.slot_types.specs.Shapes.{IsShape}
 use Rattle.slot_types.specs.declared.plans.DiePlan.{DiePlan}
 use Rattle.slot_types.specs.declared.plans.Shape.{Shape}
@@ -8,17 +8,17 @@ use Rattle.slot_types.specs.declared.replies.Reply.{Reply}
 use Rattle.slot_types.specs.declared.refusals.Refusal.{Refusal}
 use Rattle.slot_types.specs.declared.refusals.Refusal.TheVariants.{NoMemory, PassesOut}
 use Rattle.plan_rules.specs.Bound.{MeetsBound}
-use Rattle.turn_lock.specs.Views.{Known, IsSamePass}
+use Rattle.turn_lock.specs.Views.{PassView, IsSamePass}
 use Rattle.turn_lock.specs.Log.{AllBy}
 use Rattle.turn_lock.specs.Passes.{IsOut}
 use Rattle.slot_core.specs.Core.{Core}
 use Rattle.slot_core.specs.declared.renewals.RenewalRefusal.{RenewalRefusal}
 use Rattle.slot_core.specs.Renewals.{MayBeRenewed, RefusesRenewal, renewed_core}
-use Rattle.die_log.specs.Promised.{KeepsPromises}
+use Rattle.die_log.specs.Results.Promises.{KeepsPromises}
 use Rattle.die_service.specs.declared.refused.RefusedAt.{RefusedAt}
 use Rattle.die_service.specs.Logs.{log_of, calls_of}
 use Rattle.die_service.specs.Replies.{HasExactLog}
-use Rattle.die_log.specs.Start.{Start}
+use Rattle.die_log.specs.Model.Start.{Start}
 
 -- each device has the shape of the die in its place; a die or a device that is alone in its place fits
 abbrev pub Fit : List DiePlan → List Shape → Type 0
@@ -33,7 +33,7 @@ pub record IsShaped (plans : List DiePlan) (shapes : List Shape) : Type 0 where
   pub fit : Fit plans shapes
 
 -- each die has a device, and a plan within its bound
-pub record IsServed (plans : List DiePlan) (devices : ℕ) : Type 0 where
+pub record HasUsablePlans (plans : List DiePlan) (devices : ℕ) : Type 0 where
   pub one_each : devices ≡ length plans
   pub bound : All MeetsBound plans
 
@@ -48,12 +48,11 @@ AreRenewed [] [] = Unit {0}
 AreRenewed (die ∷ dies) (after ∷ afters) = MayBeRenewed die × (after ≡ renewed_core die) × AreRenewed dies afters
 AreRenewed _ _ = ⊥
 
--- the dies were renewed in order until one is refused so; it and the later ones are as they were
-abbrev pub AreRenewedUntil : {N : Type 0} → List (Core N) → RenewalRefusal → List (Core N) → Type 0
-AreRenewedUntil (die ∷ dies) refusal (after ∷ afters) =
-    (MayBeRenewed die × (after ≡ renewed_core die) × AreRenewedUntil dies refusal afters)
-    ⊎ (RefusesRenewal die refusal × (after ≡ die) × (afters ≡ dies))
-AreRenewedUntil _ _ _ = ⊥
+-- the first of the dies that may not be renewed has this place, and is refused so
+abbrev pub IsFirstNotRenewable : {N : Type 0} → List (Core N) → ℕ → RenewalRefusal → Type 0
+IsFirstNotRenewable (die ∷ dies) zero refusal = RefusesRenewal die refusal
+IsFirstNotRenewable (die ∷ dies) (suc place) refusal = MayBeRenewed die × IsFirstNotRenewable dies place refusal
+IsFirstNotRenewable _ _ _ = ⊥
 
 -- a store may have so many dies
 abbrev pub IsDieCount : ℕ → Type 0
@@ -61,13 +60,14 @@ IsDieCount dies = (1 ≤ dies) × (dies ≤ 8)
 
 -- a pass of a die, as clauses see it
 abbrev pub DiePass : Type 0
-DiePass = Known Event (Result Reply RefusedAt) Start
+DiePass = PassView Event (Result Reply RefusedAt) Start
 
--- the pass was told that so many passes are out
+-- the pass was answered that so many passes are out
 abbrev pub IsTold : DiePass → ℕ → DiePass → Type 0
 IsTold p out q = IsSamePass p q × IsOut HasExactLog p.view out q.view
 
--- the passes were told in order that none is out, until one was told that some are; the later ones are as they were
+-- the passes were answered in order that none is out, until one was answered that some are; the later ones are as they
+-- were
 abbrev pub AreTold : List DiePass → ℕ → List DiePass → Type 0
 AreTold [] out [] = out ≡ 0
 AreTold (p ∷ ps) out (q ∷ qs) = (IsTold p 0 q × AreTold ps out qs) ⊎ ((0 < out) × IsTold p out q × (qs ≡ ps))
@@ -81,9 +81,10 @@ StayOpen ps refusal qs = ((out : ℕ) × (0 < out) × (refusal ≡ PassesOut out
 abbrev pub AllJoined : DiePass → Type 0
 AllJoined pass = (made : ℕ) × (pass.view.made ≤ made) × (made ≡ 1 + length pass.view.joined)
 
--- A die that was closed with this pass: no other pass of it was left, and its log is just what the pass had seen. All that
--- is promised of a log is kept: it is exact, hence legal, and at every moment of it the greatest lateness so far is least.
-pub record IsClosed {N : Type 0} (pass : DiePass) (die : Core N) : Type 0 where
+-- A die that was closed with this pass: no other pass of it was left, and its log is just what the pass had seen. All
+-- that is promised of a log is kept: it is exact, hence legal, and at every moment of it the greatest lateness so far
+-- is least.
+pub record IsClosedWith {N : Type 0} (pass : DiePass) (die : Core N) : Type 0 where
   pub log_is : die.log ≡ log_of pass.view.seen
   pub promised : KeepsPromises die.start die.log
   pub about_is : pass.view.about ≡ Some die.start

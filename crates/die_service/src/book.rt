@@ -1,4 +1,4 @@
-//! A die as the book behind its turn.
+//! A die as the book behind its lock.
 
 ghost use Rattle.std.specs.Prelude.{◌≡◌, true, false};
 ghost use Rattle.std.specs.Box.{box_value};
@@ -105,7 +105,7 @@ impl<N: Nand> Book for DieBook<N> {
 }
 
 impl<N: Nand> NotingBook for DieBook<N> {
-    ghost use Rattle.die_service.specs.Replies.{result_noted};
+    ghost use Rattle.die_service.specs.Replies.{result_of_note};
     ghost use Rattle.slot_core.specs.Events.{with_ops};
 
     type Note = Result<ReplyNote, RefusedAt>;
@@ -114,7 +114,7 @@ impl<N: Nand> NotingBook for DieBook<N> {
 
     type Part = Op;
 
-    ghost noted = { result_noted };
+    ghost noted = { result_of_note };
 
     ghost whole = { with_ops };
 

@@ -2,7 +2,7 @@
 
 ghost use Rattle.std.specs.Prelude.{◌≡◌, ◌≤◌, true, false, [], map, length, All, IfOk, IfErr, vec_capacity};
 ghost use Rattle.std.specs.List.{AllZip};
-ghost use Rattle.die_service.specs.Stores.{AreTold, StayOpen, HasLogOf, IsClosed};
+ghost use Rattle.die_service.specs.Stores.{AreTold, StayOpen, HasLogOf, IsClosedWith};
 
 use crate::die::{Die, DiePass};
 use crate::store::Store;
@@ -69,11 +69,11 @@ fn close_each<N: Nand, R: Wait>(
 }
 
 /// Ends a store, and gives its dies back in order, whose logs are what their passes had seen: each call in a log is by
-/// the die's pass or by one that was joined into it. It takes one pass of each die, in order. May wait for the turn of each
-/// die. All that is promised of a log is kept by each, and a die whose device never fails isn't stopped.
+/// the die's pass or by one that was joined into it. It takes one pass of each die, in order. May wait for the turn of
+/// each die. All that is promised of a log is kept by each, and a die whose device never fails isn't stopped.
 ///
-/// `PassesOut` with what `out` answers on the first die where it isn't 0; else `NoMemory` where memory is refused. No die
-/// is closed then, and the store and all passes are handed back.
+/// `PassesOut` with what `out` answers on the first die where it isn't 0; else `NoMemory` where memory is refused. No
+/// die is closed then, and the store and all passes are handed back.
 ///
 /// Where each pass knows that no other pass of its die is left, as those of a store just made do, only memory can be
 /// refused.
@@ -83,7 +83,7 @@ pub fn close<N: Nand, R: Wait>(
     passes: Vec<DiePass<N>>,
 ) -> Result<Vec<DieCore<N>>, StillOpen<N>>
     requires own { map (λ pass. pass.lock) passes.items ≡ store }
-    ensures closed { IfOk result (λ dies. AllZip IsClosed passes.items dies.items) }
+    ensures closed { IfOk result (λ dies. AllZip IsClosedWith passes.items dies.items) }
     ensures runs { IfOk result (λ dies. N.never_fails ≡ true → All (λ die. die.stopped ≡ false) dies.items) }
     ensures refused { IfErr result (λ kept. StayOpen passes.items kept.refusal kept.passes.items) }
     ensures back { IfErr result (λ kept. kept.store ≡ store) }

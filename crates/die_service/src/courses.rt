@@ -53,7 +53,7 @@ impl Model for Course {
 }
 
 impl Course {
-    /// The whole of a batch. The only refusal is for want of memory.
+    /// The whole of a batch. The only refusal is out of memory.
     pub(crate) fn new(alloc: Global, batch: Batch) -> Result<Course, Refusal>
         requires arrive { AllArrive batch.feed }
         ensures whole { IfOk result (λ course. course ≡ whole_course batch) }
@@ -121,7 +121,7 @@ impl Course {
         });
     }
 
-    /// Lets the feed go, and the room for operations. The events that were refused stay.
+    /// Frees the feed, and the room for operations. The events that were refused stay.
     pub(crate) fn end(&mut self, alloc: Global)
         ensures gone { self.new.rest ≡ [] }
         ensures refused { self.new.refused ≡ self.old.refused }

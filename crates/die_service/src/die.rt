@@ -1,16 +1,16 @@
 //! A die, as its passes use it. The condition of each call: the pass is of this die.
 
 ghost use Rattle.std.specs.Prelude.{◌≡◌, [], length, IfOk, IfErr};
-ghost use Rattle.die_log.specs.Log.{now};
-ghost use Rattle.die_log.specs.Answers.{IsAccepted};
+ghost use Rattle.die_log.specs.Model.Log.{now};
+ghost use Rattle.die_log.specs.Model.Answers.{IsAccepted};
 ghost use Rattle.slot_core.specs.Outcomes.{worst_of};
 ghost use Rattle.turn_lock.specs.Log.{calls_by};
 ghost use Rattle.turn_lock.specs.Views.{IsLive, IsSamePass};
-ghost use Rattle.turn_lock.specs.Passes.{Parts, IsFull, Joined, IsOut};
-ghost use Rattle.slot_core.specs.Events.{with_ops, noted};
+ghost use Rattle.turn_lock.specs.Passes.{Parts, IsFull, IsJoined, IsOut};
+ghost use Rattle.slot_core.specs.Events.{with_ops, reply_of_note};
 ghost use Rattle.die_service.specs.Replies.{HasExactLog};
 ghost use Rattle.die_service.specs.Answers.{TellsOutcome, TellsCertificate};
-ghost use Rattle.die_service.specs.Passes.{HasGrown, AddsEntry, AddsNone, Sees, IsTaken, IsSlotReply};
+ghost use Rattle.die_service.specs.Passes.{HasGrown, AddsEntry, AddsNone, Sees, IsTakenReply, IsSlotReply};
 
 use crate::book::DieBook;
 use crate::queries::{Answer, Query};
@@ -42,7 +42,7 @@ impl<N: Nand> Model for Die<N> {
 
 /// The number under which a job or collection was taken.
 fn taken_number(reply: &Reply) -> JobNo
-    requires { IsTaken reply.now }
+    requires { IsTakenReply reply.now }
     ensures { reply.now ≡ Reply.Taken result }
 {
     match reply {
@@ -64,8 +64,8 @@ fn slot_reply(reply: Reply) -> SlotReply
 
 /// The note of a slot.
 fn slot_note(note: ReplyNote) -> SlotNote
-    requires { IsSlotReply (noted note) }
-    ensures { noted note ≡ Reply.Slot result }
+    requires { IsSlotReply (reply_of_note note) }
+    ensures { reply_of_note note ≡ Reply.Slot result }
 {
     match note {
         ReplyNote::Slot(slot) => slot,
@@ -100,21 +100,21 @@ impl<N: Nand> Die<N> {
     ) -> Result<ReplyNote, RefusedAt>
         requires { pass.old.lock ≡ self.now }
         ensures same { IsSamePass pass.old pass.new }
-        ensures accepted { IfOk result (λ note. IsAccepted (noted note)) }
-        ensures added { IfOk result (λ note. AddsEntry pass.old.view (with_ops head ops.now) (noted note) pass.new.view) }
+        ensures accepted { IfOk result (λ note. IsAccepted (reply_of_note note)) }
+        ensures added { IfOk result (λ note. AddsEntry pass.old.view (with_ops head ops.now) (reply_of_note note) pass.new.view) }
         ensures refused { IfErr result (λ refused. AddsNone N.never_fails pass.old.view (with_ops head ops.now) refused pass.new.view) }
     {
         self.turned.note(rt, pass, head, ops)
     }
 
-    /// Accepts a job of the task, to run from slot `release` on and to be done by `due`, and answers its number. May
+    /// Accepts a job of the task, to run from slot `release` on, with the deadline `due`, and answers its number. May
     /// wait for the turn.
     ///
     /// The refusals, of which the first that stands is answered, and no entry is made: `DieStopped`; `UnknownTask`;
     /// `EmptyJob`; `TooManyOps`, above 64; `BadPage`, with the first page that the die doesn't have; `ReleasePast`,
-    /// where the release is below the present slot; `BadDue`, where the due isn't above the release or is above
-    /// 1,048,576; `JobsFull`, where 65,536 were accepted; `NoTokens`, where the task's balance is below the job's writes;
-    /// `NoMemory`. The operations are given up then.
+    /// where the release is below the present slot; `BadDue`, where the deadline isn't above the release or is above
+    /// 1,048,576; `JobsFull`, where 65,536 were accepted; `NoTokens`, where the task's balance is below the job's
+    /// writes; `NoMemory`. The operations are given up then.
     pub fn submit<R: Wait>(
         &self,
         rt: &R,
@@ -143,13 +143,13 @@ impl<N: Nand> Die<N> {
         }
     }
 
-    /// Accepts a collection for the task, to run from slot `release` on and to be done by `due`, and answers its number.
-    /// May wait for the turn.
+    /// Accepts a collection for the task, to run from slot `release` on, with the deadline `due`, and answers its
+    /// number. May wait for the turn.
     ///
     /// The refusals, of which the first that stands is answered, and no entry is made: `DieStopped`; `UnknownTask`;
-    /// `ReleasePast`, where the release is below the present slot; `BadDue`, where the due isn't above the release or is
-    /// above 1,048,576; `CollectorBusy`, where the task has a collection that is neither done nor waived; `JobsFull`,
-    /// where 65,536 were accepted; `NoMemory`.
+    /// `ReleasePast`, where the release is below the present slot; `BadDue`, where the deadline isn't above the release
+    /// or is above 1,048,576; `CollectorBusy`, where the task has a collection that is neither done nor waived;
+    /// `JobsFull`, where 65,536 were accepted; `NoMemory`.
     pub fn collect<R: Wait>(
         &self,
         rt: &R,
@@ -207,8 +207,8 @@ impl<N: Nand> Die<N> {
 
     /// What became of the job or collection of a number. May wait for the turn.
     ///
-    /// `UnknownJob` where the log has none of that number; else `NoMemory` where it is done and memory is refused for what
-    /// its reads gave. Of one that waits or was waived no memory is taken.
+    /// `UnknownJob` where the log has none of that number; else `NoMemory` where it is done and memory is refused for
+    /// what its reads gave. Of one that waits or was waived no memory is taken.
     pub fn outcome<R: Wait>(
         &self,
         rt: &R,
@@ -238,7 +238,7 @@ impl<N: Nand> Die<N> {
         }
     }
 
-    /// The certificate of the worst job or collection, or none where nothing is done. The only refusal is for want of
+    /// The certificate of the worst job or collection, or none where nothing is done. The only refusal is out of
     /// memory; where nothing is done, none is taken. May wait for the turn.
     pub fn certificate<R: Wait>(
         &self,
@@ -295,13 +295,13 @@ impl<N: Nand> Die<N> {
         self.turned.split_pass(rt, pass)
     }
 
-    /// Joins another pass of this die into this one, which keeps its number and the longer of what both had seen. The calls
-    /// by each number of either pass are then those that it had seen before.
+    /// Joins another pass of this die into this one, which keeps its number and the longer of what both had seen. The
+    /// calls by each number of either pass are then those that it had seen before.
     pub fn join_pass(&self, pass: &mut DiePass<N>, other: DiePass<N>)
         requires own { pass.old.lock ≡ self.now }
         requires other { other.lock ≡ self.now }
         ensures same { pass.new.lock ≡ pass.old.lock }
-        ensures joined { Joined pass.old.view other.view pass.new.view }
+        ensures joined { IsJoined pass.old.view other.view pass.new.view }
     {
         self.turned.join_pass(pass, other)
     }

@@ -1,7 +1,7 @@
 //! A die with its pass and its feed, as one worker has them.
 
 ghost use Rattle.std.specs.Prelude.{◌≡◌, ◌<◌, [], false, IsTrue, IfSome, IfNone};
-ghost use Rattle.die_service.specs.Drives.{first_standing, end_at, Asks, IsFit, IsFirst, NoneDue, BringsOne, Brings, TakesSlot, IsStopped};
+ghost use Rattle.die_service.specs.Drives.{first_state, end_at, Asks, IsFit, IsFirstState, NoneDue, BringsOne, Brings, TakesSlot, IsStopped};
 ghost use Rattle.die_service.specs.Drives.{Drives};
 
 use crate::courses::Course;
@@ -30,7 +30,7 @@ impl<'a, N: Nand> Model for Driver<'a, N> {
     ghost use Rattle.std.specs.Prelude.{◌≡◌};
     ghost use Rattle.die_service.specs.Drives as drives;
 
-    ghost Value = { drives.Standing };
+    ghost Value = { drives.WorkerState };
 
     ghost view = { λ d. record { pass = d.pass; course = d.course; slots = d.slots; stop = d.stop } };
 
@@ -41,7 +41,7 @@ impl<'a, N: Nand> Driver<'a, N> {
     /// A die of which nothing was asked yet.
     pub(crate) fn new(die: &'a Die<N>, pass: DiePass<N>, course: Course) -> Driver<'a, N>
         requires { pass.lock ≡ die.now }
-        ensures { result ≡ first_standing pass course }
+        ensures { result ≡ first_state pass course }
     {
         Driver {
             die,
@@ -127,10 +127,10 @@ impl<'a, N: Nand> Driver<'a, N> {
         }
     }
 
-    /// Asks for the slots of its batch, and before each for the events that come by it. Then the feed is let go, so that the
-    /// dies that run later find its memory.
+    /// Asks for the slots of its batch, and before each for the events that come by it. Then the feed is freed, so that
+    /// the dies that run later find its memory.
     pub(crate) fn run<G: Gate, R: Wait>(&mut self, rt: &R, alloc: Global, gate: &G, number: u32)
-        requires { IsFirst self.old }
+        requires { IsFirstState self.old }
         ensures ran { Drives N.never_fails self.old self.new }
         ensures gone { self.new.course.rest ≡ [] }
     {
@@ -140,7 +140,7 @@ impl<'a, N: Nand> Driver<'a, N> {
 
     /// Asks for the slots of its batch, and before each for the events that come by it.
     fn drive<G: Gate, R: Wait>(&mut self, rt: &R, gate: &G, number: u32)
-        requires { IsFirst self.old }
+        requires { IsFirstState self.old }
         ensures { Drives N.never_fails self.old self.new }
     {
         // It says that the pass is live.

@@ -20,7 +20,8 @@ pub struct Arrival {
     pub event: Event,
 }
 
-/// An event that comes, flat. A job's operations are those of the feed from where those of the row before it end to `ops_end`.
+/// An event that comes, flat. A job's operations are those of the feed from where those of the row before it end to
+/// `ops_end`.
 #[derive(Clone, Copy, Debug, Drop)]
 pub(crate) struct FeedRow {
     pub(crate) ops_end: usize,
@@ -32,7 +33,7 @@ pub(crate) struct FeedRow {
 #[derive(Drop)]
 pub struct Feed {
     rows: Vec<FeedRow>,
-    /// The operations of all jobs, one behind another.
+    /// The operations of all jobs, one after another.
     ops: PackedOps,
     /// The most operations that a row has.
     most: usize,
@@ -97,7 +98,7 @@ fn first_op(rows: &[FeedRow], place: usize) -> usize
     }
 }
 
-/// Whether a row may come behind one that comes before this slot, in a feed for a run.
+/// Whether a row may come after one that comes before this slot, in a feed for a run.
 fn may_follow(from: u32, row: &FeedRow) -> bool
     ensures { result ≡ follows from row.now }
 {
@@ -193,8 +194,8 @@ impl Feed {
         }
     }
 
-    /// Whether the feed may be given to a run: no event is a slot, and no event comes before an earlier slot than the one in
-    /// front of it.
+    /// Whether the feed may be given to a run: no event is a slot, and no event comes before an earlier slot than the
+    /// one in front of it.
     pub fn is_in_order(&self) -> bool
         ensures exact { IsTrue result ↔ IsInOrder 0 self.now }
         ensures arrive { IsTrue result → AllArrive self.now }
@@ -216,8 +217,8 @@ impl Feed {
         Ok(())
     }
 
-    /// Adds an event that comes before slot `at`, at the end. Refused with `NoMemory`, the feed stays as it was, and the
-    /// event is let go.
+    /// Adds an event that comes before slot `at`, at the end. Refused with `NoMemory`, the feed stays as it was, and
+    /// the event is freed.
     pub fn push(&mut self, at: u32, event: Event) -> Result<(), Refusal>
         ensures ok { OnOk result (self.new ≡ self.old ++ record { at = at; event = event } ∷ []) }
         ensures refused { FailsForMemory result }
@@ -251,8 +252,8 @@ impl Feed {
         }
     }
 
-    /// Adds a job of these operations, which are lent, that comes before slot `at`; or a collection, which leaves them aside.
-    /// Refused with `NoMemory`, the feed stays as it was.
+    /// Adds a job of these operations, which are lent, that comes before slot `at`; or a collection, which leaves them
+    /// aside. Refused with `NoMemory`, the feed stays as it was.
     pub fn push_lent(&mut self, at: u32, head: JobHead, ops: &[Op]) -> Result<(), Refusal>
         ensures ok { OnOk result (self.new ≡ self.old ++ record { at = at; event = arrival_of head ops.now } ∷ []) }
         ensures refused { FailsForMemory result }

@@ -13,8 +13,8 @@ use slot_types::Refusal;
 use std::alloc::{AllocFailed, Global};
 use turn_lock::Vacancy;
 
-/// A die with all the memory that it needs behind its lock, and the lock that waits for it. Where memory is refused, the die
-/// is handed back.
+/// A die with all the memory that it needs behind its lock, and the lock that waits for it. Where memory is refused,
+/// the die is handed back.
 fn make_ready<N: Nand>(
     alloc: Global,
     core: DieCore<N>,
@@ -34,7 +34,7 @@ fn make_ready<N: Nand>(
     }
 }
 
-/// Puts each die behind a lock of its own, with its first pass, into room that was made. The only refusal is for want of
+/// Puts each die behind a lock of its own, with its first pass, into room that was made. The only refusal is out of
 /// memory, and each die is in its place then: none goes behind its lock before there is memory for all.
 pub(crate) fn open_each<N: Nand>(
     alloc: Global,

@@ -3,7 +3,7 @@
 ghost use Rattle.std.specs.Prelude.{◌≡◌, ◌+◌, ◌-◌, ◌<◌, ◌≤◌, ◌++◌, [], Some, All, length, take, drop, slice_get, vec_len, vec_capacity};
 ghost use Rattle.std.specs.Prelude.{OnErr, OnOk};
 ghost use Rattle.slot_types.specs.Refusal.{FailsForMemory};
-ghost use Rattle.die_service.specs.PackedOps.{GoesOn, IsPacked, all_unpacked, unpacked};
+ghost use Rattle.die_service.specs.PackedOps.{IsLongerList, IsPacked, unpacked_ops, unpacked_op};
 
 use crate::op_words::{OpWord, PackedOp};
 use slot_types::{Op, PageData, Refusal};
@@ -17,7 +17,7 @@ pub(crate) struct PageWrite {
     pub(crate) bytes: PageData,
 }
 
-/// Operations, one behind another. Contracts see the list of these.
+/// Operations, one after another. Contracts see the list of these.
 #[derive(Drop)]
 pub(crate) struct PackedOps {
     words: Vec<OpWord>,
@@ -27,21 +27,21 @@ pub(crate) struct PackedOps {
 impl Model for PackedOps {
     ghost use Rattle.std.specs.Prelude.{List, All, length};
     ghost use Rattle.slot_types.specs.declared.events.Op.{Op};
-    ghost use Rattle.die_service.specs.PackedOps.{IsPacked, all_unpacked};
+    ghost use Rattle.die_service.specs.PackedOps.{IsPacked, unpacked_ops};
 
     ghost Value = { List Op };
 
-    ghost view = { λ p. all_unpacked p.writes.items p.words.items };
+    ghost view = { λ p. unpacked_ops p.writes.items p.words.items };
 
     ghost invariant = { λ p. All (IsPacked (length p.writes.items)) p.words.items };
 }
 
-/// The word of an operation. The page and the bytes of a write go behind the other writes, in room that was made.
+/// The word of an operation. The page and the bytes of a write go after the other writes, in room that was made.
 fn pack(writes: &mut Vec<PageWrite>, op: Op) -> OpWord
     requires room { vec_len writes.old < vec_capacity writes.old }
-    ensures op { unpacked writes.new.items result ≡ op }
+    ensures op { unpacked_op writes.new.items result ≡ op }
     ensures packed { IsPacked (length writes.new.items) result }
-    ensures goes_on { GoesOn writes.old.items writes.new.items }
+    ensures goes_on { IsLongerList writes.old.items writes.new.items }
     ensures len { vec_len writes.new ≤ vec_len writes.old + 1 }
     ensures capacity { vec_capacity writes.new ≡ vec_capacity writes.old }
 {
@@ -61,7 +61,7 @@ fn push_packed(list: &mut Vec<OpWord>, writes: &mut Vec<PageWrite>, ops: &[Op])
     requires room { vec_len list.old + length ops.now ≤ vec_capacity list.old }
     requires writes_room { vec_len writes.old + length ops.now ≤ vec_capacity writes.old }
     requires packed { All (IsPacked (length writes.old.items)) list.old.items }
-    ensures ops { all_unpacked writes.new.items list.new.items ≡ all_unpacked writes.old.items list.old.items ++ ops.now }
+    ensures ops { unpacked_ops writes.new.items list.new.items ≡ unpacked_ops writes.old.items list.old.items ++ ops.now }
     ensures packed { All (IsPacked (length writes.new.items)) list.new.items }
 {
     for op in ops {

@@ -3,7 +3,7 @@
 ghost use Rattle.std.specs.Prelude.{◌≡◌, ◌<◌, ◌≤◌, [], map, length, All, IfOk, IfErr, vec_capacity};
 ghost use Rattle.slot_types.specs.Refusal.{FailsForMemory};
 ghost use Rattle.die_service.specs.Runs.{AllArrive, HaveRun, whole_batch};
-ghost use Rattle.die_service.specs.Drives.{whole_course, first_standings, end_at, IsFirst, Drives};
+ghost use Rattle.die_service.specs.Drives.{whole_course, first_states, end_at, IsFirstState, Drives};
 
 use crate::batches::Batch;
 use crate::courses::Course;
@@ -20,7 +20,7 @@ use std::sync::Wait;
 use std::thread::Threads;
 use std::{mem, thread};
 
-/// A batch of each feed that begins at slot 0, of so many slots. The only refusal is for want of memory.
+/// A batch of each feed that begins at slot 0, of so many slots. The only refusal is out of memory.
 fn whole_batches(alloc: Global, feeds: Vec<Feed>, slots: u32) -> Result<Vec<Batch>, Refusal>
     ensures whole { IfOk result (λ batches. batches.items ≡ map (whole_batch slots) feeds.items) }
     ensures refused { FailsForMemory result }
@@ -33,7 +33,7 @@ fn whole_batches(alloc: Global, feeds: Vec<Feed>, slots: u32) -> Result<Vec<Batc
     Ok(batches)
 }
 
-/// The whole of each batch. The only refusal is for want of memory.
+/// The whole of each batch. The only refusal is out of memory.
 fn make_courses(alloc: Global, batches: Vec<Batch>) -> Result<Vec<Course>, Refusal>
     requires arrive { All (λ batch. AllArrive batch.feed) batches.items }
     ensures whole { IfOk result (λ courses. courses.items ≡ map whole_course batches.items) }
@@ -57,7 +57,7 @@ fn make_drivers<'a, N: Nand>(
     requires courses { length courses.items ≡ length passes.items }
     requires none { drivers.items ≡ [] }
     requires room { length passes.items ≤ vec_capacity drivers }
-    ensures { result.items ≡ first_standings passes.items courses.items }
+    ensures { result.items ≡ first_states passes.items courses.items }
 {
     let mut drivers = drivers;
     let mut dies = dies;
@@ -97,29 +97,29 @@ fn into_ends<'a, N: Nand>(
     DieEnds::from_vec(ends)
 }
 
-/// Runs each die of a store, with its pass and its batch, by workers that are threads. The passes and the batches are in the
-/// order of the dies, and a feed has no slot among its events. The dies are dealt out in their order, as many to each worker
-/// as dies / workers, rounded up; a worker takes its dies one after the other, each wholly. Where no thread can be made for a
-/// worker, its dies come before or after those of another. Nothing is said of which thread has which die, nor of when. Each
-/// call of a die may wait for its turn.
+/// Runs each die of a store, with its pass and its batch, by workers that are threads. The passes and the batches are
+/// in the order of the dies, and a feed has no slot among its events. The dies are dealt out in their order, as many to
+/// each worker as dies / workers, rounded up; a worker takes its dies one after the other, each wholly. Where no thread
+/// can be made for a worker, its dies come before or after those of another. Nothing is said of which thread has which
+/// die, nor of when. Each call of a die may wait for its turn.
 ///
-/// On each die a clock begins at the batch's `from`. Each event in front of the feed whose `at` isn't above the clock is asked
-/// for, in the order of the feed; `gate.before` is called with the die and the clock; then the slot is asked for,
-/// `gate.after` is called with the slot that was carried out, and the clock goes on to the one behind it. Once all `slots` of
-/// the batch were carried out, the events that come by the clock are asked for, and the run on this die ends; later ones are
-/// let go. A refused slot ends the run on this die alone: `gate.after` isn't called, and no event is asked for behind it. A
-/// refused event ends nothing.
+/// On each die a clock begins at the batch's `from`. Each event in front of the feed whose `at` isn't above the clock
+/// is asked for, in the order of the feed; `gate.before` is called with the die and the clock; then the slot is asked
+/// for, `gate.after` is called with the slot that was carried out, and the clock goes on to the one after it. Once all
+/// `slots` of the batch were carried out, the events that come by the clock are asked for, and the run on this die
+/// ends; later ones are freed. A refused slot ends the run on this die alone: `gate.after` isn't called, and no event
+/// is asked for after it. A refused event ends nothing.
 ///
-/// The ends are in the order of the dies: `slots`, how many were carried out; `refused`, the place in the batch's feed of
-/// each event that was refused, with its refusal; `stop`, why a slot was refused, if one was. Where `stop` is none, `slots`
-/// is what was asked.
+/// The ends are in the order of the dies: `slots`, how many were carried out; `refused`, the place in the batch's feed
+/// of each event that was refused, with its refusal; `stop`, why a slot was refused, if one was. Where `stop` is none,
+/// `slots` is what was asked.
 ///
-/// Batches compose: where no other pass calls a die, a run whose batch begins where the one before it ended, with the events
-/// that come from there on, goes on with that run as if both had been one.
+/// Batches compose: where no other pass calls a die, a run whose batch begins where the one before it ended, with the
+/// events that come from there on, goes on with that run as if both had been one.
 ///
-/// The only refusal is `NoMemory`. It comes before anything is asked of a die: the passes are as they were then, and the
-/// batches are given up. While the run goes on, memory is taken by the dies alone, and where it is refused to a die, that is
-/// in its end.
+/// The only refusal is `NoMemory`. It comes before anything is asked of a die: the passes are as they were then, and
+/// the batches are given up. While the run goes on, memory is taken by the dies alone, and where it is refused to a
+/// die, that is in its end.
 pub fn run_batches<N: Nand + Send, G: Gate + Sync, R: Threads + Wait + Sync>(
     rt: &R,
     store: &Store<N>,
@@ -146,15 +146,15 @@ pub fn run_batches<N: Nand + Send, G: Gate + Sync, R: Threads + Wait + Sync>(
     let taken = mem::replace(passes, back);
     let mut drivers = make_drivers(store.dies.as_slice(), taken, courses, drivers);
     let drive = |die: usize, driver: &mut Driver<'_, N>|
-        requires { (die < 4294967296) × IsFirst driver.now }
+        requires { (die < 4294967296) × IsFirstState driver.now }
         ensures { Drives N.never_fails driver.entry.now driver.exit.now }
     { driver.run(rt, alloc, gate, die as u32) };
     thread::for_each_mut(rt, drivers.as_mut_slice(), workers as usize, &drive);
     Ok(into_ends(drivers, ends, passes))
 }
 
-/// Runs each die of a store, with its pass and its feed, for so many slots, by workers that are threads: each die's clock
-/// begins at 0. The rest is said of [`run_batches`].
+/// Runs each die of a store, with its pass and its feed, for so many slots, by workers that are threads: each die's
+/// clock begins at 0. The rest is said of [`run_batches`].
 pub fn run_slots<N: Nand + Send, G: Gate + Sync, R: Threads + Wait + Sync>(
     rt: &R,
     store: &Store<N>,

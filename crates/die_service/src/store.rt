@@ -5,9 +5,9 @@ ghost use Rattle.slot_types.specs.Refusal.{FailsForMemory};
 ghost use Rattle.slot_types.specs.Shapes.{IsShape};
 ghost use Rattle.plan_rules.specs.Bound.{MeetsBound};
 ghost use Rattle.flash_die.specs.Flash.{IsFresh};
-ghost use Rattle.die_log.specs.Start.{fresh};
+ghost use Rattle.die_log.specs.Model.Start.{fresh};
 ghost use Rattle.turn_lock.specs.Views.{first_view, IsLive};
-ghost use Rattle.die_service.specs.Stores.{Fit, IsShaped, IsServed, IsAtStart, IsDieCount};
+ghost use Rattle.die_service.specs.Stores.{Fit, IsShaped, HasUsablePlans, IsAtStart, IsDieCount};
 
 use crate::die::{Die, DiePass};
 use crate::opening::open_each;
@@ -18,7 +18,7 @@ use slot_types::{DiePlan, MAX_DIES, Refusal, StorePlan};
 use std::alloc::Global;
 use std::marker::Model;
 
-/// The dies of a store, each behind a turn of its own. Contracts see their locks.
+/// The dies of a store, each behind a lock of its own. Contracts see their locks.
 #[derive(Drop)]
 pub struct Store<N: Nand> {
     pub(crate) dies: Vec<Die<N>>,
@@ -91,10 +91,10 @@ fn do_fit<N: Nand>(plans: &[DiePlan], nands: &[N]) -> bool
 
 /// Why a store isn't made of these, if memory is no matter.
 fn refusal_of<N: Nand>(plans: &[DiePlan], nands: &[N]) -> Result<(), Refusal>
-    ensures ok { IsOk result ↔ (IsShaped plans.now (map N.shape_of nands.now) × IsServed plans.now (length nands.now)) }
+    ensures ok { IsOk result ↔ (IsShaped plans.now (map N.shape_of nands.now) × HasUsablePlans plans.now (length nands.now)) }
     ensures bad_shape { (result ≡ Err Refusal.BadShape) ↔ ¬ IsShaped plans.now (map N.shape_of nands.now) }
     ensures bad_plan { (result ≡ Err Refusal.BadPlan) ↔ (IsShaped plans.now (map N.shape_of nands.now)
-        × ¬ IsServed plans.now (length nands.now)) }
+        × ¬ HasUsablePlans plans.now (length nands.now)) }
     ensures refused { IfErr result (λ refusal. (refusal ≡ Refusal.BadShape) ⊎ (refusal ≡ Refusal.BadPlan)) }
 {
     if plans.is_empty()
@@ -130,7 +130,7 @@ fn new_cores<N: Nand>(
 ) -> Result<Vec<DieCore<N>>, Refusal>
     requires fresh { All (λ nand. IsFresh (N.shape_of nand) (N.blocks nand) (N.failures nand)) nands.items }
     requires fit { Fit plans.items (map N.shape_of nands.items) }
-    requires served { IsServed plans.items (vec_len nands) }
+    requires served { HasUsablePlans plans.items (vec_len nands) }
     ensures starts { IfOk result (λ cores. map (λ core. core.start) cores.items ≡ map fresh plans.items) }
     ensures at_start { IfOk result (λ cores. All IsAtStart cores.items) }
     ensures refused { FailsForMemory result }
@@ -188,7 +188,7 @@ fn make_store<N: Nand>(
 ) -> Result<(Store<N>, Vec<DiePass<N>>), Refusal>
     requires fresh { All (λ nand. IsFresh (N.shape_of nand) (N.blocks nand) (N.failures nand)) nands.items }
     requires fit { Fit plans.items (map N.shape_of nands.items) }
-    requires served { IsServed plans.items (vec_len nands) }
+    requires served { HasUsablePlans plans.items (vec_len nands) }
     requires few { length plans.items ≤ 8 }
     ensures own { IfOk result (λ made. map (λ pass. pass.lock) made.1.items ≡ made.0) }
     ensures first { IfOk result (λ made. map (λ pass. pass.view) made.1.items ≡ map first_view (map fresh plans.items)) }
@@ -218,7 +218,7 @@ impl<N: Nand> Store<N> {
         ensures first { IfOk result (λ made. map (λ pass. pass.view) made.1.items ≡ map first_view (map fresh plan)) }
         ensures live { IfOk result (λ made. All (λ pass. IsLive pass.view) made.1.items) }
         ensures bad_shape { (result ≡ Err Refusal.BadShape) ↔ ¬ IsShaped plan (map N.shape_of nands.items) }
-        ensures bad_plan { (result ≡ Err Refusal.BadPlan) ↔ (IsShaped plan (map N.shape_of nands.items) × ¬ IsServed plan (vec_len nands)) }
+        ensures bad_plan { (result ≡ Err Refusal.BadPlan) ↔ (IsShaped plan (map N.shape_of nands.items) × ¬ HasUsablePlans plan (vec_len nands)) }
         ensures refused { IfErr result (λ refusal. (refusal ≡ Refusal.BadShape) ⊎ (refusal ≡ Refusal.BadPlan)
             ⊎ (refusal ≡ Refusal.NoMemory)) }
     {
@@ -227,13 +227,13 @@ impl<N: Nand> Store<N> {
         Ok(made)
     }
 
-    /// A store of dies that another store was closed into, each at the start of a log, as [`DieCore::renew`] leaves it; and
-    /// the first pass of each die. A die's pages hold what they held, and all that is promised of a log that begins at its
-    /// start is kept from then on. The dies may be fewer than before, as where one was stopped: their numbers are their
-    /// places.
+    /// A store of dies that another store was closed into, each at the start of a log, as [`DieCore::renew`] leaves it;
+    /// and the first pass of each die. A die's pages hold what they held, and all that is promised of a log that begins
+    /// at its start is kept from then on. The dies may be fewer than before, as where one was stopped: their numbers
+    /// are their places.
     ///
-    /// `BadShape` where there are not 1 to 8 dies; else `NoMemory` where memory is refused. All dies are handed back then,
-    /// as they were.
+    /// `BadShape` where there are not 1 to 8 dies; else `NoMemory` where memory is refused. All dies are handed back
+    /// then, as they were.
     pub fn reopen(
         alloc: Global,
         dies: Vec<DieCore<N>>,

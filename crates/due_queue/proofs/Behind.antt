@@ -1,8 +1,8 @@
--- The first key, given up and taken back, and what lies behind it.
+-- The first key, given up and taken back, and what lies after it.
 use Rattle.std.proofs.Common.{◌≡◌, ℕ, zero, suc, ◌+◌, ◌-◌, ◌<◌, Bool, true, false, cond, refl, sym, ap, ◌∙◌, arith, List, [], ◌∷◌, map, Option, Some, None}
 use Rattle.std.proofs.Common.{option_map, Contains}
 use Rattle.std.specs.List.{AllByRecursion}
-use Rattle.due_queue.specs.Queue.{behind, inserted, first_of, rest_of, IsRising}
+use Rattle.due_queue.specs.Queue.{behind, with_key, first_of, rest_of, IsRising}
 use Rattle.due_queue.specs.Pairs.{is_pair_before}
 use Rattle.due_queue.proofs.Members.{absent-every}
 use Rattle.due_queue.proofs.Orders.{pairs_strict}
@@ -17,21 +17,21 @@ first_absent (x ∷ xs) k is rising =
 
 -- taken back, it is the first again
 pub taken_back : (keys : List (ℕ × ℕ)) (k : ℕ × ℕ) → Some k ≡ first_of keys → IsRising is_pair_before keys
-    → inserted is_pair_before k (rest_of keys) ≡ keys
+    → with_key is_pair_before k (rest_of keys) ≡ keys
 taken_back [] k is rising = absurd cc
 taken_back (x ∷ xs) k is rising = let it : k ≡ x = cc in rw it (front x xs rising.0)
   where
     front : (x : ℕ × ℕ) (xs : List (ℕ × ℕ)) → AllByRecursion (λ later. is_pair_before x later ≡ true) xs
-        → inserted is_pair_before x xs ≡ x ∷ xs
+        → with_key is_pair_before x xs ≡ x ∷ xs
     front x [] all = refl
     front x (y ∷ ys) all = rw all.0 refl
 
--- nothing lies behind nothing
+-- nothing lies after nothing
 pub behind_none : {K : Type 0} (n : ℕ) → first_of {K = K} (behind n []) ≡ None
 behind_none zero = refl
 behind_none (suc n) = behind_none n
 
--- the rest of nothing lies behind the first of nothing
+-- the rest of nothing lies after the first of nothing
 pub none_there : (n : ℕ) (keys : List (ℕ × ℕ)) → None ≡ first_of keys → first_of (behind n keys) ≡ None
 none_there n [] is = behind_none n
 none_there n (k ∷ ks) is = absurd cc

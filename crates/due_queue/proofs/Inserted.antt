@@ -6,7 +6,7 @@ use Rattle.std.proofs.lemmas.Bool.{cases_Bool}
 use Rattle.std.proofs.lemmas.List.Sorted.{IsPermutation-keeps}
 use Rattle.std.proofs.lemmas.List.Edits.{swap_is}
 use Rattle.std.specs.List.{AllByRecursion, swap}
-use Rattle.due_queue.specs.Queue.{inserted, in_order, IsRising}
+use Rattle.due_queue.specs.Queue.{with_key, in_order, IsRising}
 use Rattle.due_queue.proofs.Orders.{IsStrict}
 
 -- what holds of each by one fact holds by a weaker one
@@ -14,10 +14,10 @@ pub every : {K : Type 0} (P Q : K → Type 0) → ((y : K) → P y → Q y) → 
 every P Q weaker [] all = tt
 every P Q weaker (x ∷ xs) all = (weaker x all.0, every P Q weaker xs all.1)
 
-pub length-inserted : {K : Type 0} (is_before : K → K → Bool) (x : K) (zs : List K) → length (inserted is_before x zs) ≡ suc (length zs)
+pub length-inserted : {K : Type 0} (is_before : K → K → Bool) (x : K) (zs : List K) → length (with_key is_before x zs) ≡ suc (length zs)
 length-inserted is_before x [] = refl
 length-inserted is_before x (z ∷ zs) =
-    elim (is_before x z) as (λ v. length (cond v (x ∷ z ∷ zs) (z ∷ inserted is_before x zs)) ≡ suc (suc (length zs)))
+    elim (is_before x z) as (λ v. length (cond v (x ∷ z ∷ zs) (z ∷ with_key is_before x zs)) ≡ suc (suc (length zs)))
     [ true ↦ refl | false ↦ ap suc (length-inserted is_before x zs) ]
 
 pub length-in_order : {K : Type 0} (is_before : K → K → Bool) (xs : List K) → length (in_order is_before xs) ≡ length xs
@@ -26,22 +26,22 @@ length-in_order is_before (x ∷ xs) = length-inserted is_before x (in_order is_
 
 -- what holds of a key and of each of the list holds of each of the list with it
 pub every-inserted : {K : Type 0} (is_before : K → K → Bool) (P : K → Type 0) (x : K) (zs : List K) → P x → AllByRecursion P zs
-    → AllByRecursion P (inserted is_before x zs)
+    → AllByRecursion P (with_key is_before x zs)
 every-inserted is_before P x [] here all = (here, tt)
 every-inserted is_before P x (z ∷ zs) here all =
-    elim (is_before x z) as (λ v. AllByRecursion P (cond v (x ∷ z ∷ zs) (z ∷ inserted is_before x zs)))
+    elim (is_before x z) as (λ v. AllByRecursion P (cond v (x ∷ z ∷ zs) (z ∷ with_key is_before x zs)))
     [ true ↦ (here, all) | false ↦ (all.0, every-inserted is_before P x zs here all.1) ]
 
 module _ {K : Type 0} (is_before : K → K → Bool) (order : IsStrict is_before) where
   -- a key that none of the list is before goes to its front
-  pub inserted-least : (x : K) (xs : List K) → AllByRecursion (λ y. is_before y x ≡ false) xs → inserted is_before x xs ≡ x ∷ xs
+  pub inserted-least : (x : K) (xs : List K) → AllByRecursion (λ y. is_before y x ≡ false) xs → with_key is_before x xs ≡ x ∷ xs
   inserted-least x [] all = refl
   inserted-least x (y ∷ ys) all =
       ⊎_elim
-      (λ (e : is_before x y ≡ true). ap (λ v. cond v (x ∷ y ∷ ys) (y ∷ inserted is_before x ys)) e)
+      (λ (e : is_before x y ≡ true). ap (λ v. cond v (x ∷ y ∷ ys) (y ∷ with_key is_before x ys)) e)
       (λ (e : is_before x y ≡ false).
       let same = order.apart x y e all.0 in
-      ap (λ v. cond v (x ∷ y ∷ ys) (y ∷ inserted is_before x ys)) e
+      ap (λ v. cond v (x ∷ y ∷ ys) (y ∷ with_key is_before x ys)) e
       ∙ ap (λ l. y ∷ l) (inserted-least x ys all.1)
       ∙ ap (λ k. k ∷ x ∷ ys) (sym same) ∙ ap (λ k. x ∷ k ∷ ys) same)
       (cases_Bool (is_before x y))
@@ -67,8 +67,8 @@ module _ {K : Type 0} (is_before : K → K → Bool) (order : IsStrict is_before
       (λ (g : is_before y x ≡ false). g)
       (cases_Bool (is_before y x))
 
-  pub inserted_comm : (x y : K) (zs : List K) → inserted is_before x (inserted is_before y zs)
-      ≡ inserted is_before y (inserted is_before x zs)
+  pub inserted_comm : (x y : K) (zs : List K) → with_key is_before x (with_key is_before y zs)
+      ≡ with_key is_before y (with_key is_before x zs)
   inserted_comm x y [] = front x y []
   inserted_comm x y (z ∷ zs) =
       ⊎_elim
@@ -85,7 +85,7 @@ module _ {K : Type 0} (is_before : K → K → Bool) (order : IsStrict is_before
       (cases_Bool (is_before x z))
 
   -- a key that isn't there leaves the list rising
-  pub rising-inserted : (x : K) (zs : List K) → ¬ Contains zs x → IsRising is_before zs → IsRising is_before (inserted is_before x zs)
+  pub rising-inserted : (x : K) (zs : List K) → ¬ Contains zs x → IsRising is_before zs → IsRising is_before (with_key is_before x zs)
   rising-inserted x [] absent rising = (tt, tt)
   rising-inserted x (z ∷ zs) absent rising =
       ⊎_elim
@@ -104,13 +104,13 @@ module _ {K : Type 0} (is_before : K → K → Bool) (order : IsStrict is_before
       (cases_Bool (is_before x z))
 
   -- another key in the place of one
-  in_order-set : (xs : List K) (i : ℕ) (v d : K) → i < length xs → inserted is_before (get_or xs i d) (in_order is_before (set xs i v))
-      ≡ inserted is_before v (in_order is_before xs)
+  in_order-set : (xs : List K) (i : ℕ) (v d : K) → i < length xs → with_key is_before (get_or xs i d) (in_order is_before (set xs i v))
+      ≡ with_key is_before v (in_order is_before xs)
   in_order-set [] i v d h = absurd (omega arith)
   in_order-set (x ∷ xs) zero v d h = inserted_comm x v (in_order is_before xs)
   in_order-set (x ∷ xs) (suc i) v d h =
       inserted_comm (get_or xs i d) x (in_order is_before (set xs i v))
-      ∙ ap (inserted is_before x) (in_order-set xs i v d (omega arith))
+      ∙ ap (with_key is_before x) (in_order-set xs i v d (omega arith))
       ∙ inserted_comm x v (in_order is_before xs)
 
   in_order-exchange : (xs : List K) (i j : ℕ) (d : K) → i < length xs → j < length xs
@@ -119,7 +119,7 @@ module _ {K : Type 0} (is_before : K → K → Bool) (order : IsStrict is_before
   in_order-exchange (x ∷ xs) zero zero d p q = refl
   in_order-exchange (x ∷ xs) zero (suc j) d p q = in_order-set xs j x d (omega arith)
   in_order-exchange (x ∷ xs) (suc i) zero d p q = in_order-set xs i x d (omega arith)
-  in_order-exchange (x ∷ xs) (suc i) (suc j) d p q = ap (inserted is_before x) (in_order-exchange xs i j d (omega arith) (omega arith))
+  in_order-exchange (x ∷ xs) (suc i) (suc j) d p q = ap (with_key is_before x) (in_order-exchange xs i j d (omega arith) (omega arith))
 
   in_order-swap : (xs : List K) (i j : ℕ) → i < length xs → j < length xs → in_order is_before (swap xs i j) ≡ in_order is_before xs
   in_order-swap [] i j p q = absurd (omega arith)

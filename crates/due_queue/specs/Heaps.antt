@@ -16,7 +16,7 @@ abbrev pub reverse_cmp : Reverse (ℕ × ℕ) → Reverse (ℕ × ℕ) → Order
 reverse_cmp x y = ordering_then (nat_cmp y.0.0 x.0.0) (nat_cmp y.0.1 x.0.1)
 
 -- a heap with room for the spare ones, that holds no pair twice
-pub record IsSound (items : List (Reverse (ℕ × ℕ))) (len capacity spare : ℕ) : Type 0 where
+pub record IsSoundHeap (items : List (Reverse (ℕ × ℕ))) (len capacity spare : ℕ) : Type 0 where
   pub in_order : IsHeap reverse_cmp items
   pub rising : IsRising is_pair_before (pairs_in items)
   pub room : len + spare ≤ capacity

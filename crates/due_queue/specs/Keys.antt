@@ -3,7 +3,7 @@ use Rattle.std.specs.Prelude.{ℕ, ◌==◌, nat_lt, nat_le, ◌&&◌, ◌||◌,
 use Rattle.due_queue.specs.declared.keys.Key.{Key}
 use Rattle.due_queue.specs.declared.keys.WaitKey.{WaitKey}
 
--- the earlier due goes first, and of equal ones the smaller number
+-- the earlier deadline goes first, and of equal ones the smaller number
 abbrev pub is_due_before : Key → Key → Bool
 is_due_before k l = nat_lt k.due l.due || (k.due == l.due && nat_lt k.number l.number)
 

@@ -7,15 +7,15 @@ pub record Queue (K : Type 0) : Type 0 where
   pub keys : List K
   pub spare : ℕ
 
--- the list with this key in its place, behind the keys that it is not before
-abbrev pub inserted : {K : Type 0} → (K → K → Bool) → K → List K → List K
-inserted is_before key [] = key ∷ []
-inserted is_before key (k ∷ ks) = cond (is_before key k) (key ∷ k ∷ ks) (k ∷ inserted is_before key ks)
+-- the list with this key in its place, after the keys that it is not before
+abbrev pub with_key : {K : Type 0} → (K → K → Bool) → K → List K → List K
+with_key is_before key [] = key ∷ []
+with_key is_before key (k ∷ ks) = cond (is_before key k) (key ∷ k ∷ ks) (k ∷ with_key is_before key ks)
 
 -- the keys of a list in order
 abbrev pub in_order : {K : Type 0} → (K → K → Bool) → List K → List K
 in_order is_before [] = []
-in_order is_before (k ∷ ks) = inserted is_before k (in_order is_before ks)
+in_order is_before (k ∷ ks) = with_key is_before k (in_order is_before ks)
 
 -- each key is before all that follow it
 abbrev pub IsRising : {K : Type 0} → (K → K → Bool) → List K → Type 0

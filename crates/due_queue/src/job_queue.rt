@@ -2,7 +2,7 @@
 
 ghost use Rattle.std.specs.Prelude.{◌≡◌, ◌+◌, ◌<◌, ◌≤◌, [], length, Contains, IsOk, OnOk, OnErr, OnSome, IfNone};
 ghost use Rattle.slot_types.specs.Refusal.{FailsForMemory};
-ghost use Rattle.due_queue.specs.Queue.{behind, inserted, first_of, rest_of, IsRising};
+ghost use Rattle.due_queue.specs.Queue.{behind, with_key, first_of, rest_of, IsRising};
 ghost use Rattle.due_queue.specs.Keys.{released_by};
 
 use crate::keys::{JobKey, Key, WaitKey};
@@ -11,7 +11,7 @@ use slot_types::Refusal;
 use std::alloc::Global;
 use std::marker::{Model, PhantomData};
 
-/// The released jobs that wait, the earliest due first.
+/// The released jobs that wait, the earliest deadline first.
 pub type DueQueue = JobQueue<Key>;
 
 /// The accepted jobs that are not released yet, the earliest release first.
@@ -71,7 +71,7 @@ impl<K: JobKey> JobQueue<K> {
     pub fn insert(&mut self, key: K)
         requires room { 0 < self.old.spare }
         requires absent { ¬ Contains self.old.keys key }
-        ensures keys { self.new.keys ≡ inserted K.is_before key self.old.keys }
+        ensures keys { self.new.keys ≡ with_key K.is_before key self.old.keys }
         ensures spare { self.new.spare + 1 ≡ self.old.spare }
     {
         self.pairs.insert(key.pair());
@@ -88,7 +88,8 @@ impl<K: JobKey> JobQueue<K> {
         }
     }
 
-    /// The first key behind `count` others. It takes the time of so many removals and insertions. The queue is as before.
+    /// The first key after `count` others. It takes the time of so many removals and insertions. The queue is as
+    /// before.
     pub fn first_behind(&mut self, count: usize) -> Option<K>
         ensures first { result ≡ first_of (behind count self.old.keys) }
         ensures unchanged { self.new ≡ self.old }

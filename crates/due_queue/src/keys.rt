@@ -24,7 +24,7 @@ pub trait JobKey: Copy + Drop {
     ghost in_order: { (p q : ℕ × ℕ) → is_before (made p) (made q) ≡ is_pair_before p q };
 }
 
-/// The key of a released job: the earlier due date goes first, and of equal ones the smaller number.
+/// The key of a released job: the earlier deadline goes first, and of equal ones the smaller number.
 #[derive(Clone, Copy, PartialEq, Eq, PartialOrd, Ord, Debug)]
 pub struct Key {
     pub due: u32,

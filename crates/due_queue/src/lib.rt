@@ -1,4 +1,4 @@
-//! Queues of waiting jobs in memory reserved beforehand: by due date, and by release.
+//! Queues of waiting jobs in memory reserved beforehand: by deadline, and by release.
 #![tactic(auto)]
 
 pub mod job_queue;

@@ -2,7 +2,7 @@
 
 ghost use Rattle.std.specs.Prelude.{◌≡◌, ◌+◌, ◌-◌, ◌<◌, ◌≤◌, [], length, Contains, IsOk, OnOk, OnErr, OnSome, IfNone};
 ghost use Rattle.slot_types.specs.Refusal.{FailsForMemory};
-ghost use Rattle.due_queue.specs.Queue.{behind, inserted, first_of, rest_of, IsRising};
+ghost use Rattle.due_queue.specs.Queue.{behind, with_key, first_of, rest_of, IsRising};
 ghost use Rattle.due_queue.specs.Pairs.{is_pair_before};
 
 use slot_types::Refusal;
@@ -22,13 +22,13 @@ impl Model for PairHeap {
     ghost use Rattle.std.specs.Prelude.{ℕ};
     ghost use Rattle.std.specs.BinaryHeap.{heap_items, heap_len, heap_capacity};
     ghost use Rattle.due_queue.specs.Queue.{Queue};
-    ghost use Rattle.due_queue.specs.Heaps.{pairs_in, IsSound};
+    ghost use Rattle.due_queue.specs.Heaps.{pairs_in, IsSoundHeap};
 
     ghost Value = { Queue (ℕ × ℕ) };
 
     ghost view = { λ h. record { keys = pairs_in (heap_items h.heap); spare = h.spare } };
 
-    ghost invariant = { λ h. IsSound (heap_items h.heap) (heap_len h.heap) (heap_capacity h.heap) h.spare };
+    ghost invariant = { λ h. IsSoundHeap (heap_items h.heap) (heap_len h.heap) (heap_capacity h.heap) h.spare };
 }
 
 impl PairHeap {
@@ -67,7 +67,7 @@ impl PairHeap {
     pub fn insert(&mut self, pair: (u32, u32))
         requires room { 0 < self.old.spare }
         requires absent { ¬ Contains self.old.keys pair }
-        ensures keys { self.new.keys ≡ inserted is_pair_before pair self.old.keys }
+        ensures keys { self.new.keys ≡ with_key is_pair_before pair self.old.keys }
         ensures spare { self.new.spare + 1 ≡ self.old.spare }
     {
         match self.heap.push(Reverse(pair)) {
@@ -102,7 +102,8 @@ impl PairHeap {
         }
     }
 
-    /// The first pair behind `count` others. The heap is as before, for which it gives up those others and takes them back.
+    /// The first pair after `count` others. The heap is as before, for which it gives up those others and takes them
+    /// back.
     pub fn first_behind(&mut self, count: usize) -> Option<(u32, u32)>
         ensures first { result ≡ first_of (behind count self.old.keys) }
         ensures unchanged { self.new ≡ self.old }

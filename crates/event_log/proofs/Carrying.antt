@@ -12,7 +12,7 @@ use Rattle.event_log.specs.declared.runs.Run.{Run}
 use Rattle.event_log.specs.declared.waivers.Waiver.{Waiver}
 use Rattle.event_log.specs.Spread.{spread}
 use Rattle.event_log.specs.Notes.{notes_of}
-use Rattle.event_log.specs.Kept.{notes_in}
+use Rattle.event_log.specs.SoundLog.{notes_in}
 use Rattle.event_log.specs.Slots.{slot_by, with_carried, carried_in}
 
 -- Equal deeds

@@ -1,4 +1,4 @@
--- The stretches of a log are the records that its entries take.
+-- The records of a log's events are those that its entries take.
 use Rattle.std.proofs.Common.{◌≡◌, ℕ, ◌+◌, ◌==◌, ◌&&◌, Bool, true, false, List, [], ◌∷◌, Option, Some, None, refl, ap, sym, ◌∙◌, slice_get}
 use Rattle.slot_types.specs.declared.acts.Act.{Act}
 use Rattle.slot_types.specs.declared.acts.Act.TheVariants as does
@@ -15,7 +15,7 @@ use Rattle.event_log.specs.declared.deeds.Deed.TheVariants.{Submit, Collect, Idl
 use Rattle.event_log.specs.declared.deeds.Deed.TheVariants.{CopyProgram, EraseSlot, LastEraseSlot}
 use Rattle.event_log.specs.Notes.{Note, is_none}
 use Rattle.event_log.specs.Stretches.{alike_deeds, alike_notes, new_stretches, stretches}
-use Rattle.event_log.specs.Alike.{waives_none, is_erase, is_quiet, replied_alike, replies_alike, alike, counted, records}
+use Rattle.event_log.specs.Alike.{waives_none, is_erase, is_quiet, replied_alike, replies_alike, alike, count_if, record_count}
 use Rattle.event_log.specs.Entries.{act_reading, act_doing, act_in, act_at, reply_of, entry_of, slots_in, entries_of, reads_before}
 
 -- No operation is an erase
@@ -138,12 +138,12 @@ entries_alike jobs k m s t =
     ∙ rw (none_as s.waived, none_as t.waived) (four (s.caller == t.caller) (is_none s.waived) (is_none t.waived)
     (alike_deeds s.deed t.deed))
 
-counted_as : (b : Bool) → counted b ≡ new_stretches b
+counted_as : (b : Bool) → count_if b ≡ new_stretches b
 counted_as true = refl
 counted_as false = refl
 
--- a log has as many records as its events have stretches
-pub records_are : (jobs : List JobRecord) (notes : List Note) → records (entries_of jobs notes) ≡ stretches notes
+-- a log has as many records as its events take
+pub records_are : (jobs : List JobRecord) (notes : List Note) → record_count (entries_of jobs notes) ≡ stretches notes
 records_are jobs [] = refl
 records_are jobs (s ∷ []) = refl
 records_are jobs (s ∷ (t ∷ past)) =

@@ -7,7 +7,7 @@ use Rattle.slot_types.specs.declared.events.Op.{Op}
 use Rattle.slot_types.specs.declared.events.Op.TheVariants as asks
 use Rattle.job_table.specs.declared.stages.Stage.{Stage}
 use Rattle.slot_types.specs.declared.replies.Waived.{Waived}
-use Rattle.job_table.specs.Jobs.{JobRecord, is_read, carried, with_read, with_stage}
+use Rattle.job_table.specs.Jobs.{JobRecord, is_read, with_one_more_slot, with_read, with_stage}
 use Rattle.job_table.specs.Table.{changed_at}
 use Rattle.event_log.specs.declared.deeds.Deed.{Deed}
 use Rattle.event_log.specs.declared.deeds.Deed.TheVariants.{Submit, Collect, Idle, Operation, LastOperation, CopyRead}
@@ -131,11 +131,11 @@ grown_self : (job : JobRecord) → IsGrown job job
 grown_self job =
     record { task_is = refl; release_is = refl; due_is = refl; ops_are = refl; more = []; reads_are = sym (append-nil job.reads) }
 
-pub carried_grown : (job : JobRecord) → IsGrown job (carried job)
+pub carried_grown : (job : JobRecord) → IsGrown job (with_one_more_slot job)
 carried_grown job =
     record { task_is = refl; release_is = refl; due_is = refl; ops_are = refl; more = []; reads_are = sym (append-nil job.reads) }
 
-pub read_grown : (bytes : PageData) (job : JobRecord) → IsGrown job (with_read bytes (carried job))
+pub read_grown : (bytes : PageData) (job : JobRecord) → IsGrown job (with_read bytes (with_one_more_slot job))
 read_grown bytes job = record { task_is = refl; release_is = refl; due_is = refl; ops_are = refl; more = bytes ∷ []; reads_are = refl }
 
 pub stage_grown : (stage : Stage) (job : JobRecord) → IsGrown job (with_stage stage job)

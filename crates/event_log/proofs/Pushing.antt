@@ -1,7 +1,9 @@
 -- What one more event makes of the parts of a log.
 use Rattle.std.proofs.Common.{◌≡◌, ℕ, suc, ◌+◌, ◌<◌, ◌≤◌, ◌==◌, ◌&&◌, not, Bool, true, false, List, [], ◌∷◌, ◌++◌}
 use Rattle.std.proofs.Common.{Option, Some, None, refl, ap, sym, ◌∙◌, length, map, reverse, append-nil, arith}
+use Rattle.std.proofs.lemmas.Bool.{false≢true}
 use Rattle.std.proofs.lemmas.Bool.Decides.{nat_tests}
+use Rattle.std.proofs.lemmas.Option.{same_Some}
 use Rattle.std.proofs.lemmas.List.{reverse-append, length-reverse}
 use Rattle.std.proofs.lemmas.List.Elements.{filter_map-append}
 use Rattle.slot_types.specs.declared.replies.Waived.{Waived}
@@ -13,8 +15,9 @@ use Rattle.event_log.specs.Spread.{last_of}
 use Rattle.event_log.specs.Waivers.{waiver_of}
 use Rattle.event_log.specs.Waivers.{waived_in, waived_at}
 use Rattle.event_log.specs.Notes.{Note, is_none, notes_of, waives_newest}
-use Rattle.event_log.specs.Stretches.{is_idle, alike_deeds, goes_on, new_stretches, stretches, is_some_number}
-use Rattle.event_log.specs.Kept.{AreBefore, notes_in}
+use Rattle.event_log.specs.Stretches.{is_idle, alike_deeds, alike_notes, goes_on, new_stretches, stretches, is_some_number}
+use Rattle.event_log.specs.Stretches.{has_same_block, joins, kept_of, ErasesOneBlock}
+use Rattle.event_log.specs.SoundLog.{AreBefore, notes_in}
 
 -- The waivers of an event
 
@@ -92,7 +95,7 @@ pub length_of : (deeds : List Deed) (callers : List ℕ) (waivers : List Waiver)
 length_of deeds callers waivers e =
     length_notes (reverse deeds) (reverse callers) waivers (length-reverse callers ∙ e ∙ sym (length-reverse deeds)) ∙ length-reverse deeds
 
--- Stretches
+-- Records
 
 pub stretches_push : (s : Note) (past : List Note) → stretches (s ∷ past) ≡ new_stretches (goes_on s past) + stretches past
 stretches_push s [] = refl
@@ -102,7 +105,7 @@ one_at_most : (b : Bool) → new_stretches b ≤ 1
 one_at_most true = omega arith
 one_at_most false = omega arith
 
--- there are no more stretches than events
+-- there are no more records than events
 pub few_stretches : (notes : List Note) → stretches notes ≤ length notes
 few_stretches [] = omega arith
 few_stretches (s ∷ past) = rw (stretches_push s past) (omega (arith, one_at_most (goes_on s past), few_stretches past))
@@ -185,7 +188,7 @@ pub second_of : (a b : Bool) → (a && b) ≡ true → b ≡ true
 second_of true b e = e
 second_of false b e = absurd (cc)
 
--- An idle slot that goes on with the newest stretch
+-- An idle slot that goes on with the newest record
 
 all_four : (a b c d : Bool) → (a && b && c && d) ≡ true → (a ≡ true) × (b ≡ true) × (c ≡ true) × (d ≡ true)
 all_four true true true true h = (refl, refl, refl, refl)
@@ -252,3 +255,93 @@ pub idle_push : (deeds : List Deed) (callers : List ℕ) (n : ℕ) (waivers : Li
 idle_push deeds callers n waivers c e b =
     ap (λ (ws : List Waiver). notes_in (deeds ++ Idle ∷ []) (callers ++ c ∷ []) ws) (sym (append-nil waivers))
     ∙ notes_push deeds callers n waivers c Idle [] e b
+
+-- Records that are kept
+
+same_block_itself : (d : Deed) → has_same_block d d ≡ true
+same_block_itself (Submit n) = refl
+same_block_itself (Collect n) = refl
+same_block_itself Idle = refl
+same_block_itself (Operation n p) = refl
+same_block_itself (LastOperation n p) = refl
+same_block_itself (CopyRead n p) = refl
+same_block_itself (CopyProgram n p) = refl
+same_block_itself (EraseSlot n b) = the_same b
+same_block_itself (LastEraseSlot n b) = refl
+
+-- alike deeds of one block are one deed
+one_deed : (d e : Deed) → alike_deeds d e ≡ true → has_same_block d e ≡ true → e ≡ d
+one_deed (Submit n) e h k = absurd (cc)
+one_deed (Collect n) e h k = absurd (cc)
+one_deed Idle e h k = idle_is e h
+one_deed (Operation n p) e h k = absurd (cc)
+one_deed (LastOperation n p) e h k = absurd (cc)
+one_deed (CopyRead n p) e h k = absurd (cc)
+one_deed (CopyProgram n p) e h k = absurd (cc)
+one_deed (EraseSlot n b) (Submit m) h k = absurd (cc)
+one_deed (EraseSlot n b) (Collect m) h k = absurd (cc)
+one_deed (EraseSlot n b) Idle h k = absurd (cc)
+one_deed (EraseSlot n b) (Operation m q) h k = absurd (cc)
+one_deed (EraseSlot n b) (LastOperation m q) h k = absurd (cc)
+one_deed (EraseSlot n b) (CopyRead m q) h k = absurd (cc)
+one_deed (EraseSlot n b) (CopyProgram m q) h k = absurd (cc)
+one_deed (EraseSlot n b) (EraseSlot m o) h k = rw (the_number n m h, the_number b o k) refl
+one_deed (EraseSlot n b) (LastEraseSlot m o) h k = absurd (cc)
+one_deed (LastEraseSlot n b) e h k = absurd (cc)
+
+not_true : (b : Bool) → (b ≡ true → ⊥) → b ≡ false
+not_true true h = absurd (h refl)
+not_true false h = refl
+
+same_as : (d e : Deed) (same : Bool) → alike_deeds d e ≡ true → (same ≡ true → e ≡ d) → (e ≡ d → same ≡ true) → has_same_block d e ≡ same
+same_as d e true h f g = rw (f refl) (same_block_itself d)
+same_as d e false h f g = not_true (has_same_block d e) (λ k. false≢true (g (one_deed d e h k)))
+
+joined_by : (a b c : Bool) → (a ≡ true → b ≡ c) → (a && b) ≡ (a && c)
+joined_by true b c h = h refl
+joined_by false b c h = refl
+
+joins_by_last : (deeds : List Deed) (callers : List ℕ) (waivers : List Waiver) (s : Note) (same : Bool) (last : Option Deed)
+    → last_of deeds ≡ last → length callers ≡ length deeds
+    → (same ≡ true → last_of deeds ≡ Some s.deed) → (last_of deeds ≡ Some s.deed → same ≡ true)
+    → (goes_on s (notes_in deeds callers waivers) && same) ≡ joins s (notes_in deeds callers waivers)
+joins_by_last deeds callers waivers s same None last n f g = rw (last_none deeds last) refl
+joins_by_last deeds callers waivers s same (Some d) last n f g =
+    let who = last_with deeds callers d n last in
+    let ds = last_split deeds d last in
+    let cs = last_split callers who.0 who.1 in
+    let shown = newest_shown deeds ds.0 callers cs.0 waivers who.0 d ds.1 cs.1 in
+    let before = waived_at (length (reverse ds.0)) waivers in
+    rw shown (sym (joined_by (alike_notes s (record { caller = who.0; deed = d; waived = before })) (has_same_block s.deed d) same
+    (λ on. same_as s.deed d same (all_four (s.caller == who.0) (is_none s.waived) (is_none before) (alike_deeds s.deed d) on).3
+    (λ h. same_Some _ _ (sym last ∙ f h)) (λ e. g (last ∙ ap Some e)))))
+
+-- whether one more event is kept with the newest
+pub joins_is : (deeds : List Deed) (callers : List ℕ) (waivers : List Waiver) (s : Note) (same : Bool) → length callers ≡ length deeds
+    → (same ≡ true → last_of deeds ≡ Some s.deed) → (last_of deeds ≡ Some s.deed → same ≡ true)
+    → (goes_on s (notes_in deeds callers waivers) && same) ≡ joins s (notes_in deeds callers waivers)
+joins_is deeds callers waivers s same n f g = joins_by_last deeds callers waivers s same (last_of deeds) refl n f g
+
+and_true : (b : Bool) → b ≡ true → (b && true) ≡ true
+and_true true h = refl
+and_true false h = absurd (cc)
+
+pub joins_idle : (notes : List Note) (c : ℕ) (ws : List Waived) → goes_on (record { caller = c; deed = Idle; waived = ws }) notes ≡ true
+    → joins (record { caller = c; deed = Idle; waived = ws }) notes ≡ true
+joins_idle [] c ws on = absurd (cc)
+joins_idle (t ∷ past) c ws on = and_true _ on
+
+by_true : (a b : Bool) → (a ≡ true → (a && b) ≡ true) → (a && b) ≡ a
+by_true true b h = h refl
+by_true false b h = refl
+
+joins_goes : (s : Note) (past : List Note) → (goes_on s past ≡ true → joins s past ≡ true) → joins s past ≡ goes_on s past
+joins_goes s [] h = refl
+joins_goes s (t ∷ past) h = by_true (alike_notes s t) (has_same_block s.deed t.deed) h
+
+-- as many records are kept as there are runs of like events
+pub kept_stretches : (notes : List Note) → ErasesOneBlock notes → kept_of notes ≡ stretches notes
+kept_stretches [] h = refl
+kept_stretches (s ∷ past) h =
+    ap (λ n. new_stretches (joins s past) + n) (kept_stretches past h.1)
+    ∙ ap (λ b. new_stretches b + stretches past) (joins_goes s past h.0) ∙ sym (stretches_push s past)

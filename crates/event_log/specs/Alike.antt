@@ -49,20 +49,20 @@ abbrev pub replies_alike : Reply → Reply → Bool
 replies_alike (replies.Slot s) other = replied_alike s other
 replies_alike _ other = false
 
--- two successive entries are alike: slots of one caller, without waiver and without an end, both idle or both erase acts
--- of one collection
+-- two successive entries are alike: slots of one caller, without waiver and without an end, both idle or both erase
+-- acts of one collection
 abbrev pub alike : Entry → Entry → Bool
 alike e f = (e.caller == f.caller) && replies_alike e.reply f.reply
 
-abbrev pub counted : Bool → ℕ
-counted true = 0
-counted false = 1
+abbrev pub count_if : Bool → ℕ
+count_if true = 0
+count_if false = 1
 
-abbrev pub records_with : Entry → List Entry → ℕ
-records_with e [] = 1
-records_with e (f ∷ past) = counted (alike e f) + records_with f past
+abbrev pub record_count_with : Entry → List Entry → ℕ
+record_count_with e [] = 1
+record_count_with e (f ∷ past) = count_if (alike e f) + record_count_with f past
 
--- how many maximal stretches of alike entries a log has, an entry by itself being one
-abbrev pub records : List Entry → ℕ
-records [] = 0
-records (e ∷ past) = records_with e past
+-- how many records a log takes: maximal runs of alike entries, an entry by itself being one
+abbrev pub record_count : List Entry → ℕ
+record_count [] = 0
+record_count (e ∷ past) = record_count_with e past

@@ -48,18 +48,18 @@ act_at jobs number place = act_in (slice_get jobs number) place
 
 -- Entries
 
-abbrev pub submitted : Option JobRecord → Event
-submitted None = events.Slot
-submitted (Some job) = events.Submit job.task job.release job.due job.ops
+abbrev pub submit_event : Option JobRecord → Event
+submit_event None = events.Slot
+submit_event (Some job) = events.Submit job.task job.release job.due job.ops
 
-abbrev pub collected : Option JobRecord → Event
-collected None = events.Slot
-collected (Some job) = events.Collect job.task job.release job.due
+abbrev pub collect_event : Option JobRecord → Event
+collect_event None = events.Slot
+collect_event (Some job) = events.Collect job.task job.release job.due
 
 -- what was asked
 abbrev pub event_of : List JobRecord → Deed → Event
-event_of jobs (Submit number) = submitted (slice_get jobs number)
-event_of jobs (Collect number) = collected (slice_get jobs number)
+event_of jobs (Submit number) = submit_event (slice_get jobs number)
+event_of jobs (Collect number) = collect_event (slice_get jobs number)
 event_of jobs _ = events.Slot
 
 -- who acted in a slot, and how

@@ -28,7 +28,7 @@ Fits jobs _ = Unit {0}
 abbrev pub AllFit : List JobRecord → List Note → Type 0
 AllFit jobs notes = AllByRecursion (λ s. Fits jobs s.deed) notes
 
--- a job's operations stay, and its reads stay with maybe more behind
+-- a job's operations stay, and its reads stay with maybe more after
 pub record IsGrown (old new : JobRecord) : Type 0 where
   pub task_is : new.task ≡ old.task
   pub release_is : new.release ≡ old.release

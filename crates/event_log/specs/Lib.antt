@@ -3,7 +3,7 @@ pub mod Notes
 pub mod Stretches
 pub mod Spread
 pub mod Slots
-pub mod Kept
+pub mod SoundLog
 pub mod Entries
 pub mod Growth
 pub mod Alike

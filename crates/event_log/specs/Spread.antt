@@ -3,10 +3,12 @@ use Rattle.std.specs.Prelude.{ℕ, ◌<◌, List, [], ◌∷◌, ◌++◌, Optio
 use Rattle.std.specs.List.{AllByRecursion}
 use Rattle.event_log.specs.declared.runs.Run.{Run}
 
--- a list as contracts see it: its items one by one, and for how many more there is room at least
+-- a list as contracts see it: its items one by one, for how many more there is room at least, and in how many runs it
+-- keeps them
 pub record Spread (T : Type 0) : Type 0 where
   pub items : List T
   pub room : ℕ
+  pub kept : ℕ
 
 -- the items of runs, in order
 abbrev pub spread : {T : Type 0} → List (Run T) → List T

@@ -1,5 +1,5 @@
--- Stretches: successive notes that one record stands for.
-use Rattle.std.specs.Prelude.{ℕ, ◌+◌, ◌==◌, ◌&&◌, Bool, true, false, List, [], ◌∷◌, Option, Some, None}
+-- Records: successive events, of which one record stands for all that are alike.
+use Rattle.std.specs.Prelude.{◌≡◌, ℕ, ◌+◌, ◌==◌, ◌&&◌, Bool, true, false, List, [], ◌∷◌, Option, Some, None}
 use Rattle.event_log.specs.declared.deeds.Deed.{Deed}
 use Rattle.event_log.specs.declared.deeds.Deed.TheVariants.{Idle, EraseSlot}
 use Rattle.event_log.specs.Notes.{Note, is_none}
@@ -19,16 +19,16 @@ alike_deeds Idle other = is_idle other
 alike_deeds (EraseSlot n block) other = erases_for n other
 alike_deeds _ other = false
 
--- two successive slots that count as one stretch
+-- two successive slots that count as one record
 abbrev pub alike_notes : Note → Note → Bool
 alike_notes s t = (s.caller == t.caller) && is_none s.waived && is_none t.waived && alike_deeds s.deed t.deed
 
--- how many stretches the newest note is beside those of the past: none if it goes on with the last one
+-- how many records the newest event adds to those of the past: none if it goes on with the last one
 abbrev pub new_stretches : Bool → ℕ
 new_stretches true = 0
 new_stretches false = 1
 
--- how many maximal stretches of alike notes there are, the newest first
+-- how many records the events take, the newest first: maximal runs of alike events
 abbrev pub stretches_with : Note → List Note → ℕ
 stretches_with s [] = 1
 stretches_with s (t ∷ past) = new_stretches (alike_notes s t) + stretches_with t past
@@ -41,7 +41,29 @@ abbrev pub is_some_number : Option ℕ → ℕ → Bool
 is_some_number None number = false
 is_some_number (Some n) number = number == n
 
--- it goes on with the newest stretch
+-- it goes on with the newest record
 abbrev pub goes_on : Note → List Note → Bool
 goes_on s [] = false
 goes_on s (t ∷ past) = alike_notes s t
+
+-- Records that are kept
+
+-- of two alike deeds: they are of one block, or of none
+abbrev pub has_same_block : Deed → Deed → Bool
+has_same_block (EraseSlot n block) (EraseSlot m other) = block == other
+has_same_block _ _ = true
+
+-- it goes on with the newest run of like events and did the same, so that no record of its own is kept of it
+abbrev pub joins : Note → List Note → Bool
+joins s [] = false
+joins s (t ∷ past) = alike_notes s t && has_same_block s.deed t.deed
+
+-- how many records of deeds are kept: neighbours that count as one run of like events and did the same are kept once
+abbrev pub kept_of : List Note → ℕ
+kept_of [] = 0
+kept_of (s ∷ past) = new_stretches (joins s past) + kept_of past
+
+-- neighbours in one erase have one block, as in each log of a die
+abbrev pub ErasesOneBlock : List Note → Type 0
+ErasesOneBlock [] = Unit {0}
+ErasesOneBlock (s ∷ past) = (goes_on s past ≡ true → joins s past ≡ true) × ErasesOneBlock past

@@ -34,8 +34,8 @@ pub enum Deed {
 const _: () = prove!(size_of::<Deed>() == 12);
 
 impl Deed {
-    /// Whether two slots of one caller that waived nothing, and did this and that, count as one stretch: both idle, or both in
-    /// the erase of one collection, with more to come.
+    /// Whether two slots of one caller that waived nothing, and did this and that, count as one record: both idle, or
+    /// both in the erase of one collection, with more to come.
     pub(crate) fn is_alike(self, other: Deed) -> bool
         ensures { result ≡ alike_deeds self other }
     {

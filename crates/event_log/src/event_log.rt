@@ -1,11 +1,11 @@
 //! The log of a die, in parts.
 
-ghost use Rattle.std.specs.Prelude.{◌≡◌, ◌+◌, ◌<◌, ◌≤◌, ◌∷◌, ◌^◌, [], true, length, IsOk, OnOk, OnErr, IfOk};
+ghost use Rattle.std.specs.Prelude.{◌≡◌, ◌+◌, ◌<◌, ◌≤◌, ◌↔◌, ◌∷◌, ◌^◌, [], true, length, IsOk, OnOk, OnErr, IfOk};
 ghost use Rattle.slot_types.specs.Refusal.{FailsForMemory};
 ghost use Rattle.event_log.specs.Spread.{last_of};
 ghost use Rattle.event_log.specs.Notes.{Note};
 ghost use Rattle.event_log.specs.Slots.{carried_in};
-ghost use Rattle.event_log.specs.Stretches.{goes_on, new_stretches, stretches, is_some_number};
+ghost use Rattle.event_log.specs.Stretches.{goes_on, new_stretches, stretches, kept_of, is_some_number};
 
 use crate::carried::carried_by;
 use crate::deeds::Deed;
@@ -17,9 +17,11 @@ use std::alloc::Global;
 use std::marker::Model;
 use std::mem::size_of;
 
-/// The events of a die, kept small: equal neighbours once with their count, callers and waivers beside them, and no bytes.
+/// The events of a die, kept small: equal neighbours once with their count, callers and waivers beside them, and no
+/// bytes.
 ///
-/// Contracts see the events one by one, the newest first, and for how many more events and waivers there is room.
+/// Contracts see the events one by one, the newest first, for how many more events and waivers there is room, and how many
+/// records of deeds are kept.
 #[derive(Drop)]
 pub struct EventLog {
     deeds: Runs<Deed>,
@@ -43,7 +45,7 @@ const _: () = prove!(size_of::<Run<u32>>() == 8);
 impl Model for EventLog {
     ghost use Rattle.std.specs.Prelude.{vec_len, vec_capacity};
     ghost use Rattle.event_log.specs.Notes.{Events};
-    ghost use Rattle.event_log.specs.Kept.{notes_in, IsOf, HasRoom};
+    ghost use Rattle.event_log.specs.SoundLog.{notes_in, IsSoundLog, HasPromisedRoom};
 
     ghost Value = { Events };
 
@@ -51,17 +53,18 @@ impl Model for EventLog {
       notes = notes_in l.deeds.items l.callers.items l.waivers.items;
       room = l.room;
       waiver_room = l.waiver_room;
+      kept = l.deeds.kept;
     } };
 
     ghost invariant = { λ l.
-        IsOf l.deeds.items l.callers.items l.waivers.items l.len l.stretches l.waives
-        × HasRoom l.room l.waiver_room l.deeds.room l.callers.room (vec_len l.waivers) (vec_capacity l.waivers) };
+        IsSoundLog l.deeds.items l.callers.items l.waivers.items l.len l.stretches l.deeds.kept l.waives
+        × HasPromisedRoom l.room l.waiver_room l.deeds.room l.callers.room (vec_len l.waivers) (vec_capacity l.waivers) };
 }
 
 impl EventLog {
     /// A log without events, and without room for any. It takes no memory.
     pub fn new(alloc: Global) -> EventLog
-        ensures { result ≡ record { notes = []; room = 0; waiver_room = 0 } }
+        ensures { result ≡ record { notes = []; room = 0; waiver_room = 0; kept = 0 } }
     {
         EventLog {
             deeds: Runs::new(alloc),
@@ -96,11 +99,20 @@ impl EventLog {
         self.len
     }
 
-    /// How many maximal stretches of alike events there are, one by itself being a stretch.
+    /// How many records the events take: maximal runs of alike events, one by itself being one.
     pub fn stretches(&self) -> u32
         ensures { result ≡ stretches self.now.notes }
     {
         self.stretches
+    }
+
+    /// How many records of deeds it keeps. Neighbours that count as one run of like events and did the same are kept once, so these are as
+    /// many as the runs of like events, where each erase is of one block (see [`crate::laws`]).
+    pub fn kept(&self) -> usize
+        ensures kept { result ≡ self.now.kept }
+        ensures counted { self.now.kept ≡ kept_of self.now.notes }
+    {
+        self.deeds.kept()
     }
 
     /// What the slots carried, by slot. It walks the runs of equal deeds once. The only refusal is `NoMemory`.
@@ -111,8 +123,8 @@ impl EventLog {
         carried_by(alloc, self.deeds.as_slice())
     }
 
-    /// Makes room for at least so many more events, and for so many more waivers with them, and never less than there was.
-    /// Where there is that room already, this isn't refused. Refused with `NoMemory`, nothing changes.
+    /// Makes room for at least so many more events, and for so many more waivers with them, and never less than there
+    /// was. Where there is that room already, this isn't refused. Refused with `NoMemory`, nothing changes.
     pub fn reserve(&mut self, events: usize, waivers: usize) -> Result<(), Refusal>
         ensures room { OnOk result (events ≤ self.new.room) }
         ensures waiver_room { OnOk result (waivers ≤ self.new.waiver_room) }
@@ -141,16 +153,14 @@ impl EventLog {
     {
         self.deeds.reserve(events)?;
         self.callers.reserve(events)?;
-        if self.waivers.reserve(waivers).is_err() {
-            return Err(Refusal::NoMemory);
-        }
+        self.waivers.reserve(waivers)?;
         // All that was had, so that the next events seldom ask.
         self.room = self.deeds.room().min(self.callers.room());
         self.waiver_room = self.waivers.capacity() - self.waivers.len();
         Ok(())
     }
 
-    /// Whether an event of this caller goes on with the newest stretch.
+    /// Whether an event of this caller goes on with the newest record.
     fn goes_on(&self, caller: u32, deed: &Deed, waived: &[Waived]) -> bool
         ensures { result ≡ goes_on (record { caller = caller; deed = deed.now; waived = waived.now }) self.now.notes }
     {
@@ -186,7 +196,7 @@ impl EventLog {
         self.waives = !waived.is_empty();
     }
 
-    /// As `push_reserved` of an idle slot, and quicker where that goes on with the newest stretch.
+    /// As `push_reserved` of an idle slot, and quicker where that goes on with the newest record.
     pub fn push_idle(&mut self, caller: u32, waived: &[Waived])
         requires room { 0 < self.old.room }
         requires waiver_room { length waived.now ≤ self.old.waiver_room }
@@ -206,7 +216,7 @@ impl EventLog {
     }
 }
 
-/// How many stretches there are with an event that goes on with the newest, or doesn't.
+/// How many records there are with an event that goes on with the newest, or doesn't.
 fn stretches_with(goes_on: bool, stretches: u32) -> u32
     requires { stretches + 1 < 2 ^ 32 }
     ensures { result ≡ new_stretches goes_on + stretches }
@@ -216,7 +226,7 @@ fn stretches_with(goes_on: bool, stretches: u32) -> u32
 
 /// Whether the last deed, if there is one, is this one.
 fn is_last_deed(deeds: &Runs<Deed>, deed: &Deed) -> bool
-    ensures { result ≡ true → last_of deeds.now.items ≡ Some deed.now }
+    ensures { result ≡ true ↔ last_of deeds.now.items ≡ Some deed.now }
 {
     match deeds.last() {
         Some(last) => last == *deed,

@@ -3,6 +3,7 @@
 ghost use Rattle.std.specs.Prelude.{◌≡◌, ◌+◌, ◌<◌, ◌≤◌, ◌∷◌, ◌++◌, ◌^◌, [], true, length, IsOk, OnOk, OnErr, Some};
 ghost use Rattle.slot_types.specs.Refusal.{FailsForMemory};
 ghost use Rattle.event_log.specs.Spread.{spread, last_of};
+ghost use Rattle.event_log.specs.Stretches.{new_stretches};
 
 use slot_types::Refusal;
 use std::alloc::Global;
@@ -15,7 +16,8 @@ pub(crate) struct Run<T> {
     pub(crate) count: u32,
 }
 
-/// A list that grows at its end. Contracts see its items one by one, and for how many more there is room at least.
+/// A list that grows at its end. Contracts see its items one by one, for how many more there is room at least, and in how
+/// many runs it keeps them.
 #[derive(Drop)]
 pub struct Runs<T> {
     runs: Vec<Run<T>>,
@@ -27,7 +29,11 @@ impl<T> Model for Runs<T> {
 
     ghost Value = { Spread T };
 
-    ghost view = { λ r. record { items = spread r.runs.items; room = vec_capacity r.runs - vec_len r.runs } };
+    ghost view = { λ r. record {
+      items = spread r.runs.items;
+      room = vec_capacity r.runs - vec_len r.runs;
+      kept = vec_len r.runs;
+    } };
 
     ghost invariant = { λ r. AreSome r.runs.items };
 }
@@ -35,27 +41,27 @@ impl<T> Model for Runs<T> {
 impl<T> Runs<T> {
     /// A list with no item. It takes no memory.
     pub fn new(alloc: Global) -> Runs<T>
-        ensures { result.items ≡ [] }
+        ensures items { result.items ≡ [] }
+        ensures kept { result.kept ≡ 0 }
     {
         Runs {
             runs: Vec::new(alloc),
         }
     }
 
-    /// Makes room for at least `count` more items, and never less than there was. Where there is that room already, this
-    /// isn't refused. Refused with `NoMemory`, nothing changes.
+    /// Makes room for at least `count` more items, and never less than there was. Where there is that room already,
+    /// this isn't refused. Refused with `NoMemory`, nothing changes.
     pub fn reserve(&mut self, count: usize) -> Result<(), Refusal>
         ensures ok { OnOk result (count ≤ self.new.room) }
         ensures refused { FailsForMemory result }
         ensures items { self.new.items ≡ self.old.items }
+        ensures kept { self.new.kept ≡ self.old.kept }
         ensures room { self.old.room ≤ self.new.room }
         ensures succeeds { count ≤ self.old.room → IsOk result }
         ensures err { OnErr result (self.new ≡ self.old) }
     {
-        match self.runs.reserve(count) {
-            Ok(()) => Ok(()),
-            Err(_) => Err(Refusal::NoMemory),
-        }
+        self.runs.reserve(count)?;
+        Ok(())
     }
 }
 
@@ -63,6 +69,7 @@ impl<T: Drop> Runs<T> {
     /// Takes all items away. The list keeps its memory.
     pub fn clear(&mut self)
         ensures items { self.new.items ≡ [] }
+        ensures kept { self.new.kept ≡ 0 }
         ensures room { self.old.room ≤ self.new.room }
     {
         self.runs.clear();
@@ -75,6 +82,13 @@ impl<T> Runs<T> {
         ensures { result ≡ self.now.room }
     {
         self.runs.capacity() - self.runs.len()
+    }
+
+    /// How many runs there are.
+    pub fn kept(&self) -> usize
+        ensures { result ≡ self.now.kept }
+    {
+        self.runs.len()
     }
 
     /// The runs, in order.
@@ -103,6 +117,7 @@ impl<T: Copy> Runs<T> {
         requires few { length self.old.items + 1 < 2 ^ 32 }
         requires like { is_like_last ≡ true → last_of self.old.items ≡ Some item }
         ensures items { self.new.items ≡ self.old.items ++ item ∷ [] }
+        ensures kept { self.new.kept ≡ new_stretches is_like_last + self.old.kept }
         ensures room { self.old.room ≤ self.new.room + 1 }
     {
         if is_like_last {

@@ -1,5 +1,5 @@
-//! Texts that the program and the tests share: the plan and the script of the run without words, and what came of it; the
-//! same with a second die; a plan with times.
+//! Texts that the program and the tests share: the plan and the script of the run without words, and what came of it;
+//! the same with a second die; a plan with times.
 #![tactic(auto)]
 
 pub mod built_in;

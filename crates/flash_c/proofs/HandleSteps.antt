@@ -25,7 +25,7 @@ use Rattle.std.specs.contracts.impls.GlobalAllocator.TheImpl as heap
 use Rattle.stepped_die.specs.declared.die.SteppedDie.{SteppedDie}
 use Rattle.stepped_die.specs.contracts.die.SteppedDie as die
 use Rattle.flash_c.specs.contracts.handles.Handle as handle
-use Rattle.flash_c.specs.Handles.{heap_token, held}
+use Rattle.flash_c.specs.Handles.{heap_token, block_or_null}
 
 abbrev pub X : RattleType
 X = die.the_row
@@ -55,7 +55,7 @@ some_of None e = absurd (true≢false (sym e))
 
 module _ {M : Type 1} {𝓤 : Ura M} {𝓛 : Logic 𝓤} {K : Type 0} {Γ : List (Item 𝓤)} {G : Goal 𝓤 𝓛.H} where
   pub handle_in : K → (p : Ptr) (o : Option SteppedDie)
-      → Step K 𝓛 (‵ (Row.own_val (record { at = p; value = o }) (one (ptr_val p) ∷ [])) ∷ Γ) G (‵ (held X p o) ∷ Γ) G
+      → Step K 𝓛 (‵ (Row.own_val (record { at = p; value = o }) (one (ptr_val p) ∷ [])) ∷ Γ) G (‵ (block_or_null X p o) ∷ Γ) G
   handle_in t p o = step (λ s. let v : Val = one (ptr_val p) in
       nothing t $ feq_i t (List Val) (ptr_val p ∷ []) (ptr_val p ∷ []) refl $ fjoin t $ feq_i t (List Val) (v ∷ []) (v ∷ []) refl $ fjoin t $
       fpack t (Valss (RawPtr ∷ [])) (within (shape handle.the_type) (p, tt) (v ∷ [])) (ptr_val p ∷ [], tt) $ fjoin t $ s)
@@ -65,6 +65,6 @@ module _ {M : Type 1} {𝓤 : Ura M} {𝓛 : Logic 𝓤} {K : Type 0} {Γ : List
       → Seq K 𝓛 (‵ (Row.own_val d vs) ∷ Γ) G
   handle_out t d x vs some k =
       fsplit t $ fpick t (λ vss. fsplit t $ feq_l t (λ ev. fsplit t $ feq_l t (λ ep. drop t $
-      rewrite t 0 (λ (o : Option SteppedDie). ‵ (held X d.at o)) some refl $
+      rewrite t 0 (λ (o : Option SteppedDie). ‵ (block_or_null X d.at o)) some refl $
       in_a_block t d.at (λ p. box_owns heap_token X p x) (fst∗ 𝓤 (never 𝓤) (sem 𝓛 (heap_token (bare (lone X.mir)) null_ptr))) (λ b o e. k b o e
       (subst (λ (p : Ptr). vs ≡ vstruct (of_list (ptr_val p ∷ [])) ∷ []) e (subst (λ (ps : List Val). vs ≡ vstruct (of_list (ps ++ [])) ∷ []) ep ev))))))

@@ -1,4 +1,5 @@
 pub mod LooseValues
 pub mod HandleSteps
+pub mod Faults
 pub mod Filling
 pub mod Verdicts

@@ -4,12 +4,12 @@ use Rattle.slot_types.specs.declared.pages.PageData.{PageData}
 use Rattle.slot_types.specs.declared.replies.SlotReply.{SlotReply}
 use Rattle.stepped_die.specs.declared.refusals.StepRefusal.{StepRefusal}
 use Rattle.stepped_die.specs.Stepped.{Stepped}
-use Rattle.stepped_die.specs.Steps.{HasEnded}
+use Rattle.stepped_die.specs.Steps.{HasEnded, RefusesBeginning}
 use Rattle.flash_c.specs.declared.shapes.FlashWhy.{FlashWhy}
 use Rattle.flash_c.specs.declared.shapes.FlashReply.{FlashReply}
 use Rattle.flash_c.specs.declared.shapes.FlashWaived.{FlashWaived}
 use Rattle.flash_c.specs.Codes.{code_of, why_of}
-use Rattle.flash_c.specs.Lists.{filled}
+use Rattle.flash_c.specs.Lists.{array_with}
 use Rattle.flash_c.specs.Slots.{reply_of, waived_of}
 
 -- the number of a refusal of this kind, with its numbers
@@ -19,9 +19,15 @@ pub record TellsRefusal (Refuses : StepRefusal → Type 0) (code : ℕ) (why : F
   pub code_is : code ≡ code_of refusal
   pub why_is : why ≡ why_of refusal
 
--- a slot has ended with a reply, which is told with the collections that were waived
+-- the number of why no slot is begun
+pub record TellsUnbegun (die : Stepped) (code : ℕ) : Type 0 where
+  pub refusal : StepRefusal
+  pub refuses : RefusesBeginning die refusal
+  pub code_is : code ≡ code_of refusal
+
+-- a slot has ended with a reply, which is reported with the collections that were waived
 pub record TellsReply (ok : Bool) (bytes : PageData) (before after : Stepped) (told : FlashReply) (room waived : List FlashWaived) : Type 0 where
   pub reply : SlotReply
   pub ended : HasEnded ok bytes reply before after
   pub told_is : told ≡ reply_of reply
-  pub waived_is : waived ≡ filled waived_of room reply.waived
+  pub waived_is : waived ≡ array_with waived_of room reply.waived

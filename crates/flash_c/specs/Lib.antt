@@ -5,6 +5,7 @@ pub mod Names
 pub mod Plans
 pub mod Slots
 pub mod Lists
-pub mod Told
+pub mod Conversions
 pub mod Texts
+pub mod Checkpoints
 pub mod Answers

@@ -2,7 +2,7 @@
 use Rattle.std.specs.Prelude.{List, [], ◌∷◌}
 
 -- an array after these were put into it, as far as there is room
-abbrev pub filled : {A B : Type 0} → (A → B) → List B → List A → List B
-filled f [] items = []
-filled f (place ∷ places) [] = place ∷ places
-filled f (place ∷ places) (item ∷ items) = f item ∷ filled f places items
+abbrev pub array_with : {A B : Type 0} → (A → B) → List B → List A → List B
+array_with f [] items = []
+array_with f (place ∷ places) [] = place ∷ places
+array_with f (place ∷ places) (item ∷ items) = f item ∷ array_with f places items

@@ -25,8 +25,8 @@ abbrev pub is_of_a_kind : FlashOp → Bool
 is_of_a_kind op = nat_le op.kind 2
 
 -- what is looked at: no more than 65 operations, since a job has 64 at most
-abbrev pub seen : List FlashOp → List FlashOp
-seen ops = take 65 ops
+abbrev pub ops_looked_at : List FlashOp → List FlashOp
+ops_looked_at ops = take 65 ops
 
 abbrev pub ops_in : List FlashOp → List Op
-ops_in ops = map op_in (seen ops)
+ops_in ops = map op_in (ops_looked_at ops)

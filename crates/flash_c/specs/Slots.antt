@@ -65,7 +65,7 @@ abbrev pub next_job : Option (ℕ × NextAct) → ℕ
 next_job None = 0
 next_job (Some runs) = runs.0
 
--- what the device is told: its kind, the cell or block, and the name
+-- what the device is asked: its kind, the cell or block, and the name
 abbrev pub call_by : ℕ → ℕ → ℕ → Option Call → FlashCall
 call_by slot act job None = record { kind = 0; block = 0; page = 0; last = 0; slot = slot; act = act; job = job; name = no_name }
 call_by slot act job (Some (calls.Read place bytes)) = record {

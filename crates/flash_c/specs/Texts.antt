@@ -1,58 +1,65 @@
 -- The names of refusals.
 use Rattle.std.specs.Prelude.{ℕ, ◌==◌, List, [], ◌∷◌, codes, if◌then◌else◌}
 
-pub record Named : Type 0 where
+pub record CodeName : Type 0 where
   pub number : ℕ
   pub name : List ℕ
 
-abbrev pub named : ℕ → List ℕ → Named
-named number name = record { number = number; name = name }
+abbrev pub code_name : ℕ → List ℕ → CodeName
+code_name number name = record { number = number; name = name }
 
--- the refusals of the store, then those of this interface, then the faults of a certificate
-abbrev pub names : List Named
+-- the refusals of the store, then those of this interface, then the faults of a certificate and of a checkpoint
+abbrev pub names : List CodeName
 names =
-    named 0 (codes "Ok")
-    ∷ named 1 (codes "NoMemory")
-    ∷ named 2 (codes "BadShape")
-    ∷ named 3 (codes "BadPlan")
-    ∷ named 4 (codes "UnknownDie")
-    ∷ named 5 (codes "UnknownTask")
-    ∷ named 6 (codes "EmptyJob")
-    ∷ named 7 (codes "TooManyOps")
-    ∷ named 8 (codes "BadPage")
-    ∷ named 9 (codes "ReleasePast")
-    ∷ named 10 (codes "BadDue")
-    ∷ named 11 (codes "JobsFull")
-    ∷ named 12 (codes "NoTokens")
-    ∷ named 13 (codes "CollectorBusy")
-    ∷ named 14 (codes "ClockEnd")
-    ∷ named 15 (codes "DeviceFault")
-    ∷ named 16 (codes "DieStopped")
-    ∷ named 17 (codes "UnknownJob")
-    ∷ named 18 (codes "PlanText")
-    ∷ named 19 (codes "ScriptRow")
-    ∷ named 20 (codes "ReportText")
-    ∷ named 21 (codes "ReadFault")
-    ∷ named 22 (codes "WriteFault")
-    ∷ named 23 (codes "PassesFull")
-    ∷ named 24 (codes "PassesOut")
-    ∷ named 100 (codes "Begun")
-    ∷ named 101 (codes "NotBegun")
-    ∷ named 102 (codes "BadKind")
-    ∷ named 103 (codes "NothingDone")
-    ∷ named 104 (codes "RowsNotRising")
-    ∷ named 105 (codes "NotQuiet")
-    ∷ named 106 (codes "WornOut")
-    ∷ named 201 (codes "Empty")
-    ∷ named 202 (codes "NotRising")
-    ∷ named 203 (codes "UnknownJob")
-    ∷ named 204 (codes "Unfinished")
-    ∷ named 205 (codes "EarlyRelease")
-    ∷ named 206 (codes "LateDue")
-    ∷ named 207 (codes "WrongSum")
+    code_name 0 (codes "Ok")
+    ∷ code_name 1 (codes "NoMemory")
+    ∷ code_name 2 (codes "BadShape")
+    ∷ code_name 3 (codes "BadPlan")
+    ∷ code_name 4 (codes "UnknownDie")
+    ∷ code_name 5 (codes "UnknownTask")
+    ∷ code_name 6 (codes "EmptyJob")
+    ∷ code_name 7 (codes "TooManyOps")
+    ∷ code_name 8 (codes "BadPage")
+    ∷ code_name 9 (codes "ReleasePast")
+    ∷ code_name 10 (codes "BadDue")
+    ∷ code_name 11 (codes "JobsFull")
+    ∷ code_name 12 (codes "NoTokens")
+    ∷ code_name 13 (codes "CollectorBusy")
+    ∷ code_name 14 (codes "ClockEnd")
+    ∷ code_name 15 (codes "DeviceFault")
+    ∷ code_name 16 (codes "DieStopped")
+    ∷ code_name 17 (codes "UnknownJob")
+    ∷ code_name 18 (codes "PlanText")
+    ∷ code_name 19 (codes "ScriptRow")
+    ∷ code_name 20 (codes "ReportText")
+    ∷ code_name 21 (codes "ReadFault")
+    ∷ code_name 22 (codes "WriteFault")
+    ∷ code_name 23 (codes "PassesFull")
+    ∷ code_name 24 (codes "PassesOut")
+    ∷ code_name 100 (codes "Begun")
+    ∷ code_name 101 (codes "NotBegun")
+    ∷ code_name 102 (codes "BadKind")
+    ∷ code_name 103 (codes "NothingDone")
+    ∷ code_name 104 (codes "RowsNotRising")
+    ∷ code_name 105 (codes "NotQuiet")
+    ∷ code_name 106 (codes "WornOut")
+    ∷ code_name 201 (codes "Empty")
+    ∷ code_name 202 (codes "NotRising")
+    ∷ code_name 203 (codes "UnknownJob")
+    ∷ code_name 204 (codes "Unfinished")
+    ∷ code_name 205 (codes "EarlyRelease")
+    ∷ code_name 206 (codes "LateDue")
+    ∷ code_name 207 (codes "WrongSum")
+    ∷ code_name 301 (codes "OtherShape")
+    ∷ code_name 302 (codes "Overfull")
+    ∷ code_name 303 (codes "SecondOpen")
+    ∷ code_name 304 (codes "Unprogrammed")
+    ∷ code_name 305 (codes "AboveCap")
+    ∷ code_name 306 (codes "OtherSum")
+    ∷ code_name 307 (codes "SharedCell")
     ∷ []
 
-abbrev pub name_among : List Named → ℕ → List ℕ
+abbrev pub name_among : List CodeName → ℕ → List ℕ
 name_among [] number = codes "Unknown"
 name_among (first ∷ rest) number = if number == first.number then first.name else name_among rest number
 

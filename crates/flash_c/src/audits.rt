@@ -9,8 +9,8 @@ ghost use Rattle.late_cert.specs.Bound.{IsCertificate, BindsEverySchedule};
 ghost use Rattle.flash_c.specs.Codes.{verdict_code};
 ghost use Rattle.flash_c.specs.Plans.{plan_in};
 ghost use Rattle.flash_c.specs.Texts.{name_at};
-ghost use Rattle.flash_c.specs.Lists.{filled};
-ghost use Rattle.flash_c.specs.Told.{row_in, number_in};
+ghost use Rattle.flash_c.specs.Lists.{array_with};
+ghost use Rattle.flash_c.specs.Conversions.{row_in, number_in};
 
 use crate::codes::{OK, ROWS_NOT_RISING, of_refusal, of_verdict};
 use crate::counts::count_of;
@@ -51,7 +51,7 @@ pub extern "C" fn flash_plan_bound(alloc: Global, plan: &FlashPlan, tasks: &[Fla
     }
 }
 
-/// Tests a plan with times, and tells its load.
+/// Tests a plan with times, and writes its demand.
 #[unsafe(no_mangle)]
 pub extern "C" fn flash_plan_test(
     alloc: Global,
@@ -120,10 +120,10 @@ pub extern "C" fn flash_check(
     of_verdict(check(&made, &given))
 }
 
-/// The name of a refusal's number, with a 0 behind it, as far as there is room; answers its length without the 0.
+/// The name of a refusal's number, with a 0 after it, as far as there is room; answers its length without the 0.
 #[unsafe(no_mangle)]
 pub extern "C" fn flash_refusal_name(refusal: u32, text: &mut [u8]) -> u32
-    ensures text { text.new ≡ filled number_in text.old (name_at refusal ++ 0 ∷ []) }
+    ensures text { text.new ≡ array_with number_in text.old (name_at refusal ++ 0 ∷ []) }
     ensures len { result ≡ length (name_at refusal) }
 {
     let name = name_of(refusal).as_bytes();

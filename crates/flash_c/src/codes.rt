@@ -2,12 +2,15 @@
 
 ghost use Rattle.std.specs.Prelude.{◌≡◌, ◌<◌};
 ghost use Rattle.flash_c.specs.Codes.{code_of, why_of, renewal_code, renewal_why, verdict_code};
+ghost use Rattle.flash_c.specs.Checkpoints.{untaken_code, untaken_why, fault_code, fault_why};
 
+use crate::counts::count_of;
 use crate::shapes::FlashWhy;
+use die_checkpoint::CheckpointFault;
 use late_cert::Verdict;
-use slot_core::RenewalRefusal;
+use slot_core::{CheckpointRefusal, RenewalRefusal};
 use slot_types::Refusal;
-use stepped_die::{StepRefusal, StepRenewalRefusal};
+use stepped_die::{StepCheckpointRefusal, StepRefusal, StepRenewalRefusal};
 
 pub const OK: u32 = 0;
 
@@ -40,6 +43,30 @@ pub const WORN_OUT: u32 = 106;
 
 /// The faults of a certificate are 201 to 207.
 pub const VERDICTS: u32 = 200;
+
+/// A plan out of its limits, or whose bound isn't met.
+pub const BAD_PLAN: u32 = 3;
+
+/// A checkpoint of another number of pages, blocks or tasks than the plan has.
+pub const OTHER_SHAPE: u32 = 301;
+
+/// More pages are programmed in a block than it has.
+pub const OVERFULL: u32 = 302;
+
+/// Two blocks have programmed and free pages.
+pub const SECOND_OPEN: u32 = 303;
+
+/// A page lies in a cell that isn't programmed.
+pub const UNPROGRAMMED: u32 = 304;
+
+/// A balance is above its task's cap.
+pub const ABOVE_CAP: u32 = 305;
+
+/// The accounts share out another number of pages than are free.
+pub const OTHER_SUM: u32 = 306;
+
+/// Two pages lie in one cell.
+pub const SHARED_CELL: u32 = 307;
 
 /// The number of a refusal of the store.
 pub(crate) fn of_refusal(refusal: Refusal) -> u32
@@ -104,4 +131,69 @@ pub(crate) fn of_verdict(verdict: Verdict) -> u32
         None => OK,
         Some(number) => VERDICTS + u32::from(number),
     }
+}
+
+/// The number of why no checkpoint is taken.
+pub(crate) fn of_untaken(refusal: StepCheckpointRefusal) -> u32
+    ensures { result ≡ untaken_code refusal }
+{
+    match refusal {
+        StepCheckpointRefusal::Die(CheckpointRefusal::NotRenewable { why }) => {
+            of_renewal(StepRenewalRefusal::Die(why))
+        }
+        StepCheckpointRefusal::Die(CheckpointRefusal::NoMemory) => NO_MEMORY,
+        StepCheckpointRefusal::Begun => BEGUN,
+    }
+}
+
+/// The job or block that it has.
+pub(crate) fn untaken_why(refusal: StepCheckpointRefusal) -> FlashWhy
+    ensures { result ≡ untaken_why refusal }
+{
+    match refusal {
+        StepCheckpointRefusal::Die(CheckpointRefusal::NotRenewable { why }) => {
+            renewal_why(StepRenewalRefusal::Die(why))
+        }
+        _ => FlashWhy {
+            first: 0,
+            second: 0,
+        },
+    }
+}
+
+/// The number of what is wrong with a checkpoint.
+pub(crate) fn of_fault(fault: CheckpointFault) -> u32
+    ensures { result ≡ fault_code fault }
+{
+    match fault {
+        CheckpointFault::OtherShape => OTHER_SHAPE,
+        CheckpointFault::BadPlan => BAD_PLAN,
+        CheckpointFault::Overfull { .. } => OVERFULL,
+        CheckpointFault::SecondOpen { .. } => SECOND_OPEN,
+        CheckpointFault::WornOut { .. } => WORN_OUT,
+        CheckpointFault::Unprogrammed { .. } => UNPROGRAMMED,
+        CheckpointFault::AboveCap { .. } => ABOVE_CAP,
+        CheckpointFault::OtherSum { .. } => OTHER_SUM,
+        CheckpointFault::NoMemory => NO_MEMORY,
+        CheckpointFault::SharedCell { .. } => SHARED_CELL,
+    }
+}
+
+/// The block, page or task that it names, or the two sums.
+pub(crate) fn fault_why(fault: CheckpointFault) -> FlashWhy
+    ensures { result ≡ fault_why fault }
+{
+    let (first, second) = match fault {
+        CheckpointFault::Overfull { block } => (block, 0),
+        CheckpointFault::SecondOpen { block } => (block, 0),
+        CheckpointFault::WornOut { block } => (block, 0),
+        CheckpointFault::Unprogrammed { page } => (page, 0),
+        CheckpointFault::AboveCap { task } => (task, 0),
+        CheckpointFault::OtherSum { accounts, free } => {
+            (count_of(accounts as usize), count_of(free as usize))
+        }
+        CheckpointFault::SharedCell { page } => (page, 0),
+        _ => (0, 0),
+    };
+    FlashWhy { first, second }
 }

@@ -1,26 +1,28 @@
 //! What C does with a die.
 
-ghost use Rattle.std.specs.Prelude.{◌≡◌, ◌≢◌, ◌⊎◌, ◌==◌, None, Some, IsSome, IfSome, IfOk, IfErr, OnErr, true, false, max};
+ghost use Rattle.std.specs.Prelude.{◌≡◌, ◌≢◌, ◌⊎◌, ◌<◌, ◌==◌, None, Some, IsSome, IfSome, IfOk, IfErr, OnErr, true, false, max};
 ghost use Rattle.std.specs.List.{list_all};
 ghost use Rattle.slot_types.specs.declared.events.Event.TheVariants as events;
-ghost use Rattle.slot_core.specs.Calls.{HasTaken};
+ghost use Rattle.slot_core.specs.Calls.{HasEntered};
 ghost use Rattle.slot_core.specs.Renewals.{MayBeRenewed, renewed_core};
 ghost use Rattle.stepped_die.specs.Stepped.{Stepped};
 ghost use Rattle.stepped_die.specs.Steps.{IsNew, HasBegun, HasFailed, RefusesArrival};
-ghost use Rattle.flash_c.specs.Names.{page_in, is_of_a_kind, seen, ops_in};
+ghost use Rattle.flash_c.specs.Names.{page_in, is_of_a_kind, ops_looked_at, ops_in};
 ghost use Rattle.flash_c.specs.Plans.{plan_in};
 ghost use Rattle.flash_c.specs.Slots.{call_of};
-ghost use Rattle.flash_c.specs.Answers.{TellsRefusal, TellsReply};
+ghost use Rattle.flash_c.specs.Answers.{TellsRefusal, TellsReply, TellsUnbegun};
+ghost use Rattle.flash_c.specs.Checkpoints.{TellsUnrenewed};
 
 use crate::codes::{BAD_KIND, NO_MEMORY, OK, of_refusal, of_renewal, of_step, renewal_why, why_of};
 use crate::handles::{Handle, put, take};
 use crate::lists::put_waived;
-use crate::names::{are_of_a_kind, page_in, put_ops, seen};
+use crate::names::{FEW_OPS, MOST_OPS, are_of_a_kind, page_in, put_ops, seen};
 use crate::plans::plan_in;
 use crate::shapes::{
     FlashCall, FlashName, FlashOp, FlashPlan, FlashReply, FlashTask, FlashWaived, FlashWhy,
 };
 use crate::slots::{call_of, reply_of};
+use slot_core::new_reply;
 use slot_types::{JobNo, Op, TaskNo};
 use std::alloc::Global;
 use stepped_die::{StepRefusal, SteppedDie};
@@ -55,7 +57,7 @@ pub extern "C" fn flash_new(
     }
 }
 
-/// Lets a die go, and leaves its handle empty.
+/// Frees a die, and leaves its handle empty.
 #[unsafe(no_mangle)]
 pub extern "C" fn flash_free(alloc: Global, die: &mut Handle)
     requires full { IsSome die.old.value }
@@ -74,19 +76,25 @@ fn submit_ops(
     due: u32,
     ops: &[FlashOp],
 ) -> Result<JobNo, StepRefusal>
-    ensures taken { IfOk result (λ number. HasTaken caller (events.Submit task release due (ops_in ops.now)) number die.old.core
+    ensures taken { IfOk result (λ number. HasEntered caller (events.Submit task release due (ops_in ops.now)) number die.old.core
         die.new.core) }
     ensures cause { IfErr result (RefusesArrival release (events.Submit task release due (ops_in ops.now)) die.old die.new) }
     ensures refused { OnErr result (die.new ≡ die.old) }
 {
     let looked_at = seen(ops);
-    let mut places = [Op::Read(0); 65];
-    put_ops(&mut places, looked_at);
     let count = looked_at.len();
-    die.submit(alloc, caller, TaskNo(task), release, due, &places[..count])
+    if count <= FEW_OPS {
+        let mut places = [Op::Read(0); FEW_OPS];
+        put_ops(&mut places, looked_at);
+        die.submit(alloc, caller, TaskNo(task), release, due, &places[..count])
+    } else {
+        let mut places = [Op::Read(0); MOST_OPS];
+        put_ops(&mut places, looked_at);
+        die.submit(alloc, caller, TaskNo(task), release, due, &places[..count])
+    }
 }
 
-/// Accepts a job, and tells its number.
+/// Accepts a job, and writes its number.
 #[unsafe(no_mangle)]
 pub extern "C" fn flash_submit(
     alloc: Global,
@@ -103,11 +111,11 @@ pub extern "C" fn flash_submit(
     requires full { die.old.value ≡ Some held }
     ensures full { IsSome die.new.value }
     ensures taken { result ≡ 0 → IfSome die.new.value (λ after.
-        HasTaken caller (events.Submit task release due (ops_in ops.now)) number.new held.core after.core) }
+        HasEntered caller (events.Submit task release due (ops_in ops.now)) number.new held.core after.core) }
     ensures refused { result ≢ 0 → die.new.value ≡ Some held }
     ensures silent { result ≢ 0 → number.new ≡ number.old }
-    ensures kind { list_all is_of_a_kind (seen ops.now) ≡ false → result ≡ 102 }
-    ensures cause { list_all is_of_a_kind (seen ops.now) ≡ true → result ≢ 0 →
+    ensures kind { list_all is_of_a_kind (ops_looked_at ops.now) ≡ false → result ≡ 102 }
+    ensures cause { list_all is_of_a_kind (ops_looked_at ops.now) ≡ true → result ≢ 0 →
         TellsRefusal (RefusesArrival release (events.Submit task release due (ops_in ops.now)) held held) result why.new }
 {
     if !are_of_a_kind(seen(ops)) {
@@ -128,7 +136,7 @@ pub extern "C" fn flash_submit(
     }
 }
 
-/// Accepts a collection, and tells its number.
+/// Accepts a collection, and writes its number.
 #[unsafe(no_mangle)]
 pub extern "C" fn flash_collect(
     alloc: Global,
@@ -144,7 +152,7 @@ pub extern "C" fn flash_collect(
     requires full { die.old.value ≡ Some held }
     ensures full { IsSome die.new.value }
     ensures taken { result ≡ 0 → IfSome die.new.value (λ after.
-        HasTaken caller (events.Collect task release due) number.new held.core after.core) }
+        HasEntered caller (events.Collect task release due) number.new held.core after.core) }
     ensures refused { result ≢ 0 → die.new.value ≡ Some held }
     ensures silent { result ≢ 0 → number.new ≡ number.old }
     ensures cause { result ≢ 0 → TellsRefusal (RefusesArrival release (events.Collect task release due) held held) result why.new }
@@ -164,7 +172,7 @@ pub extern "C" fn flash_collect(
     }
 }
 
-/// Begins the present slot, and tells what the device is to do.
+/// Begins the present slot, and writes what the device is to do.
 #[unsafe(no_mangle)]
 pub extern "C" fn flash_begin(
     alloc: Global,
@@ -177,6 +185,8 @@ pub extern "C" fn flash_begin(
     ensures full { IsSome die.new.value }
     ensures begun { result ≡ 0 → IfSome die.new.value (λ after. IfSome after.begun (λ begun.
         HasBegun caller begun held after × (call.new ≡ call_of begun))) }
+    ensures cause { result ≢ 0 → TellsUnbegun held result }
+    ensures memory { 0 < held.core.reserved → result ≢ 1 }
     ensures refused { result ≢ 0 → die.new.value ≡ Some held }
     ensures silent { result ≢ 0 → call.new ≡ call.old }
 {
@@ -213,11 +223,12 @@ pub extern "C" fn flash_end(
     ensures silent { result ≢ 0 → (reply.new ≡ reply.old) × (waived.new ≡ waived.old) }
 {
     let bytes = page_in(name);
+    let mut told = new_reply(alloc);
     let mut boxed = take(alloc, die);
-    let ended = boxed.end(alloc, ok == 1, bytes);
+    let ended = boxed.end(ok == 1, bytes, &mut told);
     put(die, boxed);
     match ended {
-        Ok(told) => {
+        Ok(()) => {
             put_waived(waived, told.waived.as_slice());
             *reply = reply_of(&told);
             OK
@@ -256,6 +267,7 @@ pub extern "C" fn flash_renew(alloc: Global, die: &mut Handle, why: &mut FlashWh
     ensures full { IsSome die.new.value }
     ensures renewed { result ≡ 0 → IfSome die.new.value (λ after. after ≡ record held { core = renewed_core held.core }) }
     ensures may { result ≡ 0 → MayBeRenewed held.core }
+    ensures cause { result ≢ 0 → TellsUnrenewed held result why.new }
     ensures refused { result ≢ 0 → die.new.value ≡ Some held }
 {
     let mut boxed = take(alloc, die);

@@ -3,7 +3,7 @@
 ghost use Rattle.std.specs.Prelude.{◌≡◌, IsSome, Option, Some, None};
 ghost use Rattle.stepped_die.specs.declared.die.SteppedDie.{SteppedDie};
 ghost use Rattle.stepped_die.specs.contracts.die.SteppedDie.{the_row};
-ghost use Rattle.flash_c.specs.Handles.{held};
+ghost use Rattle.flash_c.specs.Handles.{block_or_null};
 
 use crate::loose::Loose;
 use std::alloc::Global;
@@ -19,7 +19,7 @@ pub struct Handle {
 }
 
 impl Model for Handle {
-    ghost also_owns = { λ h. held the_row h.at h.value };
+    ghost also_owns = { λ h. block_or_null the_row h.at h.value };
 }
 
 impl Handle {

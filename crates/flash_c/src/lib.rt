@@ -3,6 +3,7 @@
 #![tactic(auto)]
 
 pub mod audits;
+pub mod checkpoints;
 pub mod codes;
 mod counts;
 pub mod exports;

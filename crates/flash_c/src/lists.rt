@@ -2,10 +2,10 @@
 
 ghost use Rattle.std.specs.Prelude.{◌≡◌, map, IfOk, IfErr};
 ghost use Rattle.slot_types.specs.Refusal.{FailsForMemory};
-ghost use Rattle.flash_c.specs.Lists.{filled};
+ghost use Rattle.flash_c.specs.Lists.{array_with};
 ghost use Rattle.flash_c.specs.Names.{name_of};
 ghost use Rattle.flash_c.specs.Slots.{waived_of};
-ghost use Rattle.flash_c.specs.Told.{row_of, row_in, number_in};
+ghost use Rattle.flash_c.specs.Conversions.{row_of, row_in, number_in};
 
 use crate::names::name_of;
 use crate::shapes::{FlashName, FlashRow, FlashWaived};
@@ -16,7 +16,7 @@ use slot_types::{JobNo, PageData, Refusal, Waived};
 use std::alloc::Global;
 
 pub(crate) fn put_names(places: &mut [FlashName], pages: &[PageData])
-    ensures { places.new ≡ filled name_of places.old pages.now }
+    ensures { places.new ≡ array_with name_of places.old pages.now }
 {
     for i in 0..places.len().min(pages.len()) {
         places[i] = name_of(pages[i]);
@@ -24,7 +24,7 @@ pub(crate) fn put_names(places: &mut [FlashName], pages: &[PageData])
 }
 
 pub(crate) fn put_waived(places: &mut [FlashWaived], waived: &[Waived])
-    ensures { places.new ≡ filled waived_of places.old waived.now }
+    ensures { places.new ≡ array_with waived_of places.old waived.now }
 {
     for i in 0..places.len().min(waived.len()) {
         places[i] = waived_of(waived[i]);
@@ -32,7 +32,7 @@ pub(crate) fn put_waived(places: &mut [FlashWaived], waived: &[Waived])
 }
 
 pub(crate) fn put_jobs(places: &mut [u32], jobs: &[JobNo])
-    ensures { places.new ≡ filled number_in places.old jobs.now }
+    ensures { places.new ≡ array_with number_in places.old jobs.now }
 {
     for i in 0..places.len().min(jobs.len()) {
         let job = jobs[i];
@@ -41,7 +41,7 @@ pub(crate) fn put_jobs(places: &mut [u32], jobs: &[JobNo])
 }
 
 pub(crate) fn put_rows(places: &mut [FlashRow], rows: &[JobRow])
-    ensures { places.new ≡ filled row_of places.old rows.now }
+    ensures { places.new ≡ array_with row_of places.old rows.now }
 {
     for i in 0..places.len().min(rows.len()) {
         places[i] = row_of(rows[i]);

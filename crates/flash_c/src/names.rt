@@ -2,13 +2,16 @@
 
 ghost use Rattle.std.specs.Prelude.{◌≡◌, ◌≤◌, length, take, map};
 ghost use Rattle.std.specs.List.{list_all};
-ghost use Rattle.flash_c.specs.Names.{page_in, name_of, op_in, is_of_a_kind, seen};
+ghost use Rattle.flash_c.specs.Names.{page_in, name_of, op_in, is_of_a_kind, ops_looked_at};
 
 use crate::shapes::{FlashName, FlashOp};
 use slot_types::{Op, PageData};
 
 /// As many operations as are looked at: one more than a job has.
 pub(crate) const MOST_OPS: usize = 65;
+
+/// As many operations as most jobs have: places for these are sooner made.
+pub(crate) const FEW_OPS: usize = 8;
 
 pub(crate) const NO_NAME: FlashName = FlashName { bytes: [255; 16] };
 
@@ -40,7 +43,7 @@ fn op_in(op: &FlashOp) -> Op
 
 /// The operations that are looked at.
 pub(crate) fn seen(ops: &[FlashOp]) -> &[FlashOp]
-    ensures seen { result.now ≡ seen ops.now }
+    ensures seen { result.now ≡ ops_looked_at ops.now }
     ensures few { length result.now ≤ 65 }
 {
     let count = ops.len().min(MOST_OPS);
@@ -55,8 +58,8 @@ pub(crate) fn are_of_a_kind(ops: &[FlashOp]) -> bool
 }
 
 /// Puts operations into place.
-pub(crate) fn put_ops(places: &mut [Op; 65], ops: &[FlashOp])
-    requires few { length ops.now ≤ 65 }
+pub(crate) fn put_ops<const N: usize>(places: &mut [Op; N], ops: &[FlashOp])
+    requires few { length ops.now ≤ N }
     ensures { take (length ops.now) places.new ≡ map op_in ops.now }
 {
     for i in 0..ops.len() {

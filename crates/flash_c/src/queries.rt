@@ -1,15 +1,15 @@
 //! What a die is asked. A question leaves the die as it is.
 
 ghost use Rattle.std.specs.Prelude.{◌≡◌, ◌≢◌, ◌⊎◌, ◌↔◌, None, Some, length, IsSomeAnd};
-ghost use Rattle.event_log.specs.Alike.{records};
-ghost use Rattle.die_log.specs.Log.{now, job_at};
-ghost use Rattle.die_log.specs.Rows.{rows, certificate};
+ghost use Rattle.event_log.specs.Alike.{record_count};
+ghost use Rattle.die_log.specs.Model.Log.{now, job_at};
+ghost use Rattle.die_log.specs.Model.Rows.{rows, certificate};
 ghost use Rattle.slot_core.specs.Outcomes.{outcome_at, head_at, worst_of};
 ghost use Rattle.stepped_die.specs.Stepped.{Stepped};
 ghost use Rattle.flash_c.specs.Counts.{count_of};
-ghost use Rattle.flash_c.specs.Lists.{filled};
+ghost use Rattle.flash_c.specs.Lists.{array_with};
 ghost use Rattle.flash_c.specs.Names.{name_of};
-ghost use Rattle.flash_c.specs.Told as tells;
+ghost use Rattle.flash_c.specs.Conversions as tells;
 
 use crate::codes::{NOTHING_DONE, OK, of_refusal};
 use crate::counts::count_of;
@@ -55,7 +55,7 @@ pub extern "C" fn flash_records(alloc: Global, die: &mut Handle) -> u64
     ghost held: { Stepped }
     requires full { die.old.value ≡ Some held }
     ensures same { die.new.value ≡ Some held }
-    ensures records { result ≡ records held.core.log }
+    ensures records { result ≡ record_count held.core.log }
 {
     let boxed = take(alloc, die);
     let records = boxed.core().records();
@@ -98,7 +98,7 @@ pub extern "C" fn flash_outcome(
     ensures same { die.new.value ≡ Some held }
     ensures told { result ≡ 0 → IsSomeAnd (outcome_at held.core.start held.core.log job) (λ told. outcome.new ≡ tells.outcome_of told) }
     ensures reads { result ≡ 0 → IsSomeAnd (outcome_at held.core.start held.core.log job) (λ told.
-        reads.new ≡ filled name_of reads.old (tells.reads_in told)) }
+        reads.new ≡ array_with name_of reads.old (tells.reads_in told)) }
     ensures unknown { result ≢ 0 → (result ≡ 17) ⊎ (result ≡ 1) }
     ensures silent { result ≢ 0 → (outcome.new ≡ outcome.old) × (reads.new ≡ reads.old) }
 {
@@ -117,7 +117,7 @@ pub extern "C" fn flash_outcome(
 
 /// Puts what reads gave into place, as far as there is room.
 fn put_reads(places: &mut [FlashName], outcome: &Outcome)
-    ensures { places.new ≡ filled name_of places.old (tells.reads_in outcome.now) }
+    ensures { places.new ≡ array_with name_of places.old (tells.reads_in outcome.now) }
 {
     match outcome {
         Outcome::Done { reads, .. } => put_names(places, reads.as_slice()),
@@ -160,7 +160,7 @@ pub extern "C" fn flash_certificate(
     ensures told { result ≡ 0 → IsSomeAnd (certificate held.core.start.plan held.core.log) (λ built.
         told.new ≡ tells.certificate_of built) }
     ensures jobs { result ≡ 0 → IsSomeAnd (certificate held.core.start.plan held.core.log) (λ built.
-        jobs.new ≡ filled tells.number_in jobs.old built.jobs) }
+        jobs.new ≡ array_with tells.number_in jobs.old built.jobs) }
     ensures nothing { result ≡ 103 → certificate held.core.start.plan held.core.log ≡ None }
     ensures silent { result ≢ 0 → (told.new ≡ told.old) × (jobs.new ≡ jobs.old) }
 {
@@ -189,7 +189,7 @@ pub extern "C" fn flash_rows(
     ghost held: { Stepped }
     requires full { die.old.value ≡ Some held }
     ensures same { die.new.value ≡ Some held }
-    ensures rows { result ≡ 0 → told.new ≡ filled tells.row_of told.old (rows held.core.start.plan held.core.log) }
+    ensures rows { result ≡ 0 → told.new ≡ array_with tells.row_of told.old (rows held.core.start.plan held.core.log) }
     ensures count { result ≡ 0 → count.new ≡ count_of (length (rows held.core.start.plan held.core.log)) }
     ensures silent { result ≢ 0 → (result ≡ 1) × (told.new ≡ told.old) × (count.new ≡ count.old) }
 {

@@ -32,7 +32,7 @@ pub struct FlashTask {
     pub writes: u32,
 }
 
-/// What a plan asks of its die: the most slots of each `common` ones.
+/// The demand of a plan: the most slots of each `common` ones, its hyperperiod.
 #[repr(C)]
 #[derive(Clone, Copy, Drop)]
 pub struct FlashLoad {
@@ -66,7 +66,7 @@ pub struct FlashCall {
     pub page: u32,
     /// 1 where the slot of the erase is its last.
     pub last: u32,
-    /// The slot that has begun; what it does, as a `FlashReply` tells it; and for which job or collection.
+    /// The slot that has begun; what it does, as a `FlashReply` says it; and for which job or collection.
     pub slot: u32,
     pub act: u32,
     pub job: u32,
@@ -154,4 +154,20 @@ pub struct FlashRow {
     pub done: u32,
     /// One more than the last slot that carried it, where it is done.
     pub completion: u32,
+}
+
+/// The cell in which a logical page lies; with `block` 0xFFFFFFFF it lies nowhere.
+#[repr(C)]
+#[derive(Clone, Copy, Drop)]
+pub struct FlashPlace {
+    pub block: u32,
+    pub page: u32,
+}
+
+/// How many pages of a block are programmed, and how often it was erased.
+#[repr(C)]
+#[derive(Clone, Copy, Drop)]
+pub struct FlashBlock {
+    pub filled: u32,
+    pub erases: u32,
 }

@@ -1,9 +1,9 @@
 //! The names of refusals.
 
 ghost use Rattle.std.specs.Prelude.{◌≡◌, ◌≤◌, ◌++◌, ◌∷◌, [], length};
-ghost use Rattle.flash_c.specs.Lists.{filled};
+ghost use Rattle.flash_c.specs.Lists.{array_with};
 ghost use Rattle.flash_c.specs.Texts.{name_at};
-ghost use Rattle.flash_c.specs.Told.{number_in};
+ghost use Rattle.flash_c.specs.Conversions.{number_in};
 
 /// The name of a refusal's number.
 pub(crate) fn name_of(refusal: u32) -> &'static str
@@ -50,13 +50,20 @@ pub(crate) fn name_of(refusal: u32) -> &'static str
         205 => "EarlyRelease",
         206 => "LateDue",
         207 => "WrongSum",
+        301 => "OtherShape",
+        302 => "Overfull",
+        303 => "SecondOpen",
+        304 => "Unprogrammed",
+        305 => "AboveCap",
+        306 => "OtherSum",
+        307 => "SharedCell",
         _ => "Unknown",
     }
 }
 
-/// Puts a text and a 0 behind it into place, as far as there is room.
+/// Puts a text and a 0 after it into place, as far as there is room.
 pub(crate) fn put_text(places: &mut [u8], text: &[u8])
-    ensures { places.new ≡ filled number_in places.old (text.now ++ 0 ∷ []) }
+    ensures { places.new ≡ array_with number_in places.old (text.now ++ 0 ∷ []) }
 {
     for i in 0..places.len().min(text.len()) {
         places[i] = text[i];

@@ -1,7 +1,7 @@
 //! What a die is asked, as C has it.
 
 ghost use Rattle.std.specs.Prelude.{◌≡◌};
-ghost use Rattle.flash_c.specs.Told.{load_of, job_of, outcome_of, worst_of, certificate_of, done_of, row_of, row_in};
+ghost use Rattle.flash_c.specs.Conversions.{load_of, job_of, outcome_of, worst_of, certificate_of, done_of, row_of, row_in};
 
 use crate::counts::{count_of, flag};
 use crate::shapes::{FlashCertificate, FlashJob, FlashLoad, FlashOutcome, FlashRow, FlashWorst};

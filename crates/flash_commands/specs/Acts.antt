@@ -52,9 +52,9 @@ AuditsSome text old new = (status : ℕ) × PrintsAudit text old new status
 abbrev pub PrintsFigures : Option (List ℕ) → Option (List ℕ) → Option (List ℕ) → Type 0
 PrintsFigures text old new = (store : List DiePlan) × IsStoreOf text store × Appends old new (plan_text store)
 
--- the report of a run is printed: of the script that was read, on the store of the plan that was read; and each die whose
--- rows keep its plan went as planned: no lateness in its report is above 0, and no row of it was refused but for want of
--- memory, or behind one that was
+-- the report of a run is printed: of the script that was read, on the store of the plan that was read; and each die
+-- whose rows keep its plan went as planned: no lateness in its report is above 0, and no row of it was refused but out
+-- of memory, or after one that was
 pub record PrintsRun (plan script : Option (List ℕ)) (slots : ℕ) (old new : Option (List ℕ)) : Type 0 where
   pub store : List DiePlan
   pub read : IsStoreOf plan store
@@ -104,7 +104,7 @@ IsFaultOf is (Words error) = ⊥
 IsFaultOf is NotText = ⊥
 IsFaultOf is Certificate = ⊤
 
--- the report that a text has is read, its audit is behind what was there, whole, and a certificate of it is refused
+-- the report that a text has is read, its audit is after what was there, whole, and a certificate of it is refused
 abbrev pub FindsRefused : (text old new : List ℕ) → Type 0
 FindsRefused text old new = (report : List DieReport) × (report_of text ≡ Ok report) × (new ≡ old ++ audit_text report)
     × (list_any is_refused report ≡ true)

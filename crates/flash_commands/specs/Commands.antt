@@ -12,17 +12,17 @@ use Rattle.flash_commands.specs.declared.commands.Command.{Command}
 use Rattle.flash_commands.specs.declared.commands.Command.TheVariants as command
 
 -- a command, with the names of its files as texts
-pub data Task : Type 0 where
-  Alone : Task
-  Run : (plan script : Text) (slots workers : ℕ) → Task
-  Audit : (report : Text) → Task
-  Plan : (plan : Text) → Task
+pub data CommandText : Type 0 where
+  Alone : CommandText
+  Run : (plan script : Text) (slots workers : ℕ) → CommandText
+  Audit : (report : Text) → CommandText
+  Plan : (plan : Text) → CommandText
 
-abbrev pub task_of : Command → Task
-task_of command.Alone = Alone
-task_of (command.Run plan script slots workers) = Run plan.now script.now slots.count workers.count
-task_of (command.Audit report) = Audit report.now
-task_of (command.Plan plan) = Plan plan.now
+abbrev pub text_of_command : Command → CommandText
+text_of_command command.Alone = Alone
+text_of_command (command.Run plan script slots workers) = Run plan.now script.now slots.count workers.count
+text_of_command (command.Audit report) = Audit report.now
+text_of_command (command.Plan plan) = Plan plan.now
 
 -- the next step, where there is a value
 infixl 10 ◌>>=◌
@@ -33,7 +33,7 @@ o >>= f = option_and_then f o
 abbrev pub number_between : ℕ → ℕ → Text → Option ℕ
 number_between least most text = number_of text >>= number_within least most
 
-abbrev pub run_of : List Row → Option Task
+abbrev pub run_of : List Row → Option CommandText
 run_of rows = do
   plan ← first_of (codes "PLAN") rows
   script ← first_of (codes "SCRIPT") rows
@@ -41,35 +41,35 @@ run_of rows = do
   workers ← first_of (codes "workers") rows >>= number_between 1 16
   Some (Run plan script slots workers)
 
-abbrev pub audit_of : List Row → Option Task
+abbrev pub audit_of : List Row → Option CommandText
 audit_of rows = do
   report ← first_of (codes "REPORT") rows
   Some (Audit report)
 
-abbrev pub plan_of : List Row → Option Task
+abbrev pub plan_of : List Row → Option CommandText
 plan_of rows = do
   plan ← first_of (codes "PLAN") rows
   Some (Plan plan)
 
-abbrev pub named : Text → List Row → Option Task
-named name rows =
+abbrev pub command_named : Text → List Row → Option CommandText
+command_named name rows =
     if bytes_eq name (codes "run") then run_of rows
     else if bytes_eq name (codes "audit") then audit_of rows
     else if bytes_eq name (codes "plan") then plan_of rows
     else None
 
 -- what the command that clap met in the words asks for, if its numbers lie in their ranges
-abbrev pub asked_by : Option (Text × List Row) → Option Task
-asked_by None = Some Alone
-asked_by (Some met) = named met.0 met.1
+abbrev pub command_asked_by : Option (Text × List Row) → Option CommandText
+command_asked_by None = Some Alone
+command_asked_by (Some met) = command_named met.0 met.1
 
-abbrev pub asked : List Text → Option Task
-asked words = asked_by (subcommand_of flashrec_app words)
+abbrev pub command_asked : List Text → Option CommandText
+command_asked words = command_asked_by (subcommand_of flashrec_app words)
 
-abbrev pub range_fault : Option Task → Kinds
+abbrev pub range_fault : Option CommandText → Kinds
 range_fault None = ValueValidation ∷ []
 range_fault (Some task) = []
 
 -- what is wrong with the words: clap's own faults, and then a number that is none or out of its range
 abbrev pub words_fault : List Text → Kinds
-words_fault words = or_else (fault_of flashrec_app words) (range_fault (asked words))
+words_fault words = or_else (fault_of flashrec_app words) (range_fault (command_asked words))

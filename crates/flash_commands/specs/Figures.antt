@@ -16,7 +16,7 @@ figures_line die fmax closed live logical = codes "die " ++ decimal die ++ codes
 abbrev pub plan_line : ℕ → DiePlan → List ℕ
 plan_line die plan = figures_line die (fmax_of plan) (closed_of plan) (live_of plan) plan.logical
 
--- the line of a die's load
+-- the line of a die's demand
 abbrev pub load_line : (die load common : ℕ) → List ℕ
 load_line die load common = codes "die " ++ decimal die ++ codes " load " ++ decimal load ++ codes " of " ++ decimal common ++ 10 ∷ []
 

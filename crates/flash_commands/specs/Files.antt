@@ -4,21 +4,21 @@ use Rattle.flash_commands.specs.declared.commands.Command.{Command}
 use Rattle.flash_commands.specs.declared.commands.Command.TheVariants as command
 
 -- what files hold, by their names, where it is known
-abbrev pub Held : Type 0
-Held = List ℕ → Option (List ℕ)
+abbrev pub FileContents : Type 0
+FileContents = List ℕ → Option (List ℕ)
 
 -- a reader gives what a file holds, where that is known
-abbrev pub Gives : Option (List ℕ) → Option (List ℕ) → Type 0
-Gives file text = IfSome file (λ bytes. text ≡ Some bytes)
+abbrev pub GivesFile : Option (List ℕ) → Option (List ℕ) → Type 0
+GivesFile file text = IfSome file (λ bytes. text ≡ Some bytes)
 
 -- what the file of the plan or of the report holds
-abbrev pub first_held : Held → Command → Option (List ℕ)
+abbrev pub first_held : FileContents → Command → Option (List ℕ)
 first_held held (command.Audit report) = held report.now
 first_held held (command.Plan plan) = held plan.now
 first_held held (command.Run plan script slots workers) = held plan.now
 first_held held command.Alone = None
 
 -- what the file of the script holds
-abbrev pub second_held : Held → Command → Option (List ℕ)
+abbrev pub second_held : FileContents → Command → Option (List ℕ)
 second_held held (command.Run plan script slots workers) = held script.now
 second_held held _ = None

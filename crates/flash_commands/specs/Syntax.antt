@@ -5,28 +5,28 @@ use Rattle.clap.specs.declared.builder.command.Command.{Command}
 use Rattle.clap.specs.declared.builder.command.Command.TheViews.{out-Command}
 
 -- an argument that has to be there
-abbrev pub needed : Text → Rule
-needed id = record (new_rule id) { required = true }
+abbrev pub required_rule : Text → Rule
+required_rule id = record (new_rule id) { required = true }
 
 -- `--slots N`, which has to be there
 abbrev pub slots_rule : Rule
-slots_rule = record (needed (codes "slots")) { long = Some (codes "slots"); value_names = 1 }
+slots_rule = record (required_rule (codes "slots")) { long = Some (codes "slots"); value_names = 1 }
 
 -- `--workers W`, which is 1 where it isn't there
 abbrev pub workers_rule : Rule
 workers_rule = record (new_rule (codes "workers")) { long = Some (codes "workers"); value_names = 1; defaults = codes "1" ∷ [] }
 
 abbrev pub files_app : App
-files_app = with_rule (with_rule (new_app (codes "run")) (needed (codes "PLAN"))) (needed (codes "SCRIPT"))
+files_app = with_rule (with_rule (new_app (codes "run")) (required_rule (codes "PLAN"))) (required_rule (codes "SCRIPT"))
 
 abbrev pub run_app : App
 run_app = with_rule (with_rule files_app slots_rule) workers_rule
 
 abbrev pub audit_app : App
-audit_app = with_rule (new_app (codes "audit")) (needed (codes "REPORT"))
+audit_app = with_rule (new_app (codes "audit")) (required_rule (codes "REPORT"))
 
 abbrev pub plan_app : App
-plan_app = with_rule (new_app (codes "plan")) (needed (codes "PLAN"))
+plan_app = with_rule (new_app (codes "plan")) (required_rule (codes "PLAN"))
 
 -- the program alone, which has a version
 abbrev pub named_app : App

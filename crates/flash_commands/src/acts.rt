@@ -169,21 +169,22 @@ pub fn carry_out<R: Threads + Wait + Sync, F: Read + Drop, S: Read + Drop, W: Wr
     }
 }
 
-/// Carries a command out, as [`carry_out`] does, tells why not in a line to `err`, and answers the status.
+/// Carries a command out, as [`carry_out`] does, says why not in a line to `err`, and answers the status.
 ///
 /// `run` runs the script on the store of the plan by its workers, and prints the report of what became of it, which is
 /// the same for any number of them. Without words the plan and the script are built in. On a die whose rows keep its
-/// plan, with times that pass their test, no lateness in the report is above 0, and no row is refused but for want of
-/// memory, or behind one that was. Where rows were refused, `err` gets a line, as `refused 1 first line 6 with 6`.
+/// plan, with times that pass their test, no lateness in the report is above 0, and no row is refused but out of
+/// memory, or after one that was. Where rows were refused, `err` gets a line, as `refused 1 first line 6 with 6`.
 ///
 /// `audit` prints for each die of the report the lateness and the job of its certificate, and whether it holds, as
 /// `die 0 worst -1 job 0 holds` or `die 0 worst 0 job 1 refused 5 EarlyRelease`, or that it has none, as
 /// `die 0 no lateness`; the status is 3 exactly where this is written whole and some certificate is refused.
 ///
-/// `plan` prints for each die the figures of its plan, as `die 0 fmax 7 closed 6 live 18 logical 12 accepted`, and behind
-/// them, where the plan has times, its load, as `die 0 load 11 of 20`; no more of the plan is read than 1,048,577 bytes.
+/// `plan` prints for each die the figures of its plan, as `die 0 fmax 7 closed 6 live 18 logical 12 accepted`, and
+/// after them, where the plan has times, its demand, as `die 0 load 11 of 20`; no more of the plan is read than
+/// 1,048,577 bytes.
 ///
-/// Each text for `out` is made whole before its first byte. A refusal is told in a line to `err`, as
+/// Each text for `out` is made whole before its first byte. A refusal is reported in a line to `err`, as
 /// `error 19 ScriptRow 6 Fields`, and the status is 1: nothing was written to `out`, or `out` failed before it had the
 /// whole text. Where `err` fails, that is passed over. Neither is flushed. A run may wait for its workers.
 pub fn act<R: Threads + Wait + Sync, F: Read + Drop, S: Read + Drop, W: Write, E: Write>(

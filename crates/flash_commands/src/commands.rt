@@ -4,7 +4,7 @@ ghost use Rattle.std.specs.Prelude.{◌≡◌, IfOk, Some, None, map, option_map
 ghost use Rattle.clap.specs.Words.{app_of, first_of, found_of, rows_of, subcommand_rows_of};
 ghost use Rattle.clap.specs.Kinds.{FailsBy, HasKind};
 ghost use Rattle.clap.specs.Faults.{fault_of};
-ghost use Rattle.flash_commands.specs.Commands.{asked, asked_by, named, number_between, range_fault, run_of, task_of, words_fault};
+ghost use Rattle.flash_commands.specs.Commands.{command_asked, command_asked_by, command_named, number_between, range_fault, run_of, text_of_command, words_fault};
 ghost use Rattle.flash_commands.specs.Syntax.{flashrec_app};
 
 use crate::run_numbers::{Slots, Workers};
@@ -61,7 +61,7 @@ fn workers_in(text: &str) -> Option<Workers>
 
 /// The run that was met.
 fn run<'a>(met: &ArgMatches<'a>) -> Option<Command<'a>>
-    ensures run { option_map task_of result ≡ run_of (rows_of (found_of met.now)) }
+    ensures run { option_map text_of_command result ≡ run_of (rows_of (found_of met.now)) }
 {
     let plan = value(met, "PLAN")?;
     let script = value(met, "SCRIPT")?;
@@ -77,7 +77,7 @@ fn run<'a>(met: &ArgMatches<'a>) -> Option<Command<'a>>
 
 /// The command that was met, by its name.
 fn command_named<'a>(name: &str, met: &ArgMatches<'a>) -> Option<Command<'a>>
-    ensures named { option_map task_of result ≡ named name.now (rows_of (found_of met.now)) }
+    ensures named { option_map text_of_command result ≡ command_named name.now (rows_of (found_of met.now)) }
 {
     if name == "run" {
         run(met)
@@ -94,7 +94,7 @@ fn command_named<'a>(name: &str, met: &ArgMatches<'a>) -> Option<Command<'a>>
 
 /// The command that clap met.
 fn command_met<'a>(matches: &ArgMatches<'a>) -> Option<Command<'a>>
-    ensures asked { option_map task_of result ≡ asked_by (subcommand_rows_of matches.now) }
+    ensures asked { option_map text_of_command result ≡ command_asked_by (subcommand_rows_of matches.now) }
 {
     match matches.subcommand() {
         None => Some(Command::Alone),
@@ -108,7 +108,7 @@ fn parsed<'a>(
     words: &'a [String],
 ) -> Result<Option<Command<'a>>, Error>
     requires { app_of program.old ≡ flashrec_app }
-    ensures ok { IfOk result (λ c. option_map task_of c ≡ asked (map string_bytes words.entry.now)) }
+    ensures ok { IfOk result (λ c. option_map text_of_command c ≡ command_asked (map string_bytes words.entry.now)) }
     ensures fault { FailsBy (fault_of flashrec_app (map string_bytes words.entry.now)) result }
 {
     let matches = program.try_get_matches_from_mut(words)?;
@@ -130,14 +130,14 @@ fn range_error(mut program: clap::Command<'_>) -> Error
 
 /// What the words ask for, the first of them being the program's name.
 ///
-/// The words are `run PLAN SCRIPT --slots N --workers W`, with N from 0 to 1,048,576, and W from 1 to 16 or left out, which
-/// is 1; `audit REPORT`; `plan PLAN`; or none. A number is 1 to 10 decimal digits.
+/// The words are `run PLAN SCRIPT --slots N --workers W`, with N from 0 to 1,048,576, and W from 1 to 16 or left out,
+/// which is 1; `audit REPORT`; `plan PLAN`; or none. A number is 1 to 10 decimal digits.
 ///
 /// The error is that of clap, which prints itself: a call for help, a fault of the words, as an option that is given
-/// twice, or want of memory; and ValueValidation for a number that is none or out of its range.
+/// twice, or out of memory; and ValueValidation for a number that is none or out of its range.
 #[tactic(auto, using(crate::proofs::KindLemmas::has_kind_in_first))]
 pub fn read_words<'a>(alloc: Global, words: &'a [String]) -> Result<Command<'a>, Error>
-    ensures ok { IfOk result (λ c. asked (map string_bytes words.entry.now) ≡ Some (task_of c)) }
+    ensures ok { IfOk result (λ c. command_asked (map string_bytes words.entry.now) ≡ Some (text_of_command c)) }
     ensures fault { FailsBy (words_fault (map string_bytes words.entry.now)) result }
 {
     let mut program = program_words(alloc)?;

@@ -13,7 +13,7 @@ pub enum Fault {
     /// A text, a file or memory.
     #[error("error {} {}", .0.number(), .0)]
     Refused(Refusal),
-    /// The words of the command line, as clap tells it.
+    /// The words of the command line, as clap says it.
     #[error("{0}")]
     Words(clap::Error),
     /// A word of the command line that is no text.

@@ -23,7 +23,7 @@ fn put_figures(text: &mut Vec<u8>, die: usize, figures: Figures, logical: u32) -
     Ok(())
 }
 
-/// Adds the line of a load.
+/// Adds the line of a demand.
 fn put_load(text: &mut Vec<u8>, die: usize, load: Load) -> io::Result<()>
     ensures { OnOk result (text.new.items ≡ text.old.items ++ load_line die load.demand load.common) }
 {
@@ -33,7 +33,7 @@ fn put_load(text: &mut Vec<u8>, die: usize, load: Load) -> io::Result<()>
     Ok(())
 }
 
-/// Adds the line of a die's load, if its plan has times.
+/// Adds the line of a die's demand, if its plan has times.
 fn put_load_of(text: &mut Vec<u8>, die: usize, plan: &DiePlan) -> io::Result<()>
     requires bound { MeetsBound plan.now }
     requires passes { PassesItsTimes plan.now }
@@ -66,7 +66,7 @@ fn put_plans(text: &mut Vec<u8>, plans: &[DiePlan]) -> io::Result<()>
     Ok(())
 }
 
-/// A line with the figures of each die, and behind it one with its load, if the plan has times. The only refusal is
+/// A line with the figures of each die, and after it one with its demand, if the plan has times. The only refusal is
 /// NoMemory.
 pub fn figures_text(alloc: Global, store: &StorePlan) -> Result<Vec<u8>, Refusal>
     requires bound { AllMeetBound store.now }

@@ -3,7 +3,7 @@
 ghost use Rattle.std.specs.Prelude.{◌≡◌, IfErr, IfOk};
 ghost use Rattle.std.specs.Io.{ReadsAtMost};
 ghost use Rattle.std.specs.Io.KnownBytes.{ReadConsumes};
-ghost use Rattle.flash_commands.specs.Files.{Gives};
+ghost use Rattle.flash_commands.specs.Files.{GivesFile};
 ghost use Rattle.flash_commands.specs.Sources.{AreOpen, source_remaining};
 
 use crate::commands::Command;
@@ -15,15 +15,15 @@ use std::{fs, io};
 /// Files by their names. Contracts see what each holds, where that is known.
 pub trait Folder {
     ghost use Rattle.std.specs.Prelude.{None};
-    ghost use Rattle.flash_commands.specs.Files.{Held};
+    ghost use Rattle.flash_commands.specs.Files.{FileContents};
 
     type Reader: Read + Drop;
 
-    ghost held: { Self → Held } = { λ _ _. None };
+    ghost held: { Self → FileContents } = { λ _ _. None };
 
     /// Opens a file, to be read from its start. The only refusal is `ReadFault`, for a file that isn't there too.
     fn open(&self, name: &str) -> Result<Self::Reader, Refusal>
-        ensures opened { IfOk result (λ reader. Gives (held self.now name.now) (Self.Reader.remaining reader)) }
+        ensures opened { IfOk result (λ reader. GivesFile (held self.now name.now) (Self.Reader.remaining reader)) }
         ensures refused { IfErr result (λ refusal. refusal ≡ Refusal.ReadFault) };
 }
 
@@ -72,8 +72,9 @@ impl<R: Read> Read for Source<R> {
     }
 }
 
-/// Opens the files of a command, all before any of them is read: that of the plan, or of the report, and then that of the
-/// script. They are what [`act`](crate::act) takes. The only refusal is `ReadFault`, for a file that can't be opened.
+/// Opens the files of a command, all before any of them is read: that of the plan, or of the report, and then that of
+/// the script. They are what [`act`](crate::act) takes. The only refusal is `ReadFault`, for a file that can't be
+/// opened.
 pub fn open<D: Folder>(
     folder: &D,
     command: Command<'_>,

@@ -2,7 +2,7 @@
 
 ghost use Rattle.std.specs.Prelude.{◌≡◌, false, codes, IfOk};
 ghost use Rattle.clap.specs.Words.{app_of, rule_of, with_subcommand};
-ghost use Rattle.flash_commands.specs.Syntax.{audit_app, files_app, flashrec_app, has_globals, named_app, needed, plan_app, run_app};
+ghost use Rattle.flash_commands.specs.Syntax.{audit_app, files_app, flashrec_app, has_globals, named_app, required_rule, plan_app, run_app};
 ghost use Rattle.flash_commands.specs.Syntax.{slots_rule, workers_rule};
 
 use clap::{Arg, Command};
@@ -34,7 +34,7 @@ fn workers<'a>(alloc: Global) -> Arg<'a>
 
 /// The file that has the plan.
 fn plan_file<'a>(alloc: Global) -> Arg<'a>
-    ensures rule { rule_of result ≡ needed (codes "PLAN") }
+    ensures rule { rule_of result ≡ required_rule (codes "PLAN") }
     ensures local { result.global ≡ false }
 {
     Arg::new(alloc, "PLAN")

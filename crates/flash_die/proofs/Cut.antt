@@ -9,7 +9,7 @@ use Rattle.std.proofs.Math.Nat.{mul-le-mul_right}
 use Rattle.slot_types.specs.declared.pages.Place.{Place}
 use Rattle.slot_types.specs.declared.plans.Shape.{Shape}
 use Rattle.slot_types.specs.declared.pages.PageData.{PageData}
-use Rattle.flash_die.specs.Flash.{Block, blank, free_block, block_at, cell_at, IsProgrammed, IsNext, programmed}
+use Rattle.flash_die.specs.Flash.{Block, blank, free_block, block_at, cell_at, IsProgrammed, IsNextCell, blocks_after_program}
 use Rattle.flash_die.specs.Memory.{block_of, blocks_of, IsMemory}
 
 one_more : (n k : ℕ) → (n + 1) * k ≡ n * k + k
@@ -102,7 +102,7 @@ pub record Fits (shape : Shape) (cells : List PageData) (filled erasing : List �
   pub small : place.block * shape.pages + place.page < 262144
 
 pub fits : (shape : Shape) (cells : List PageData) (filled erasing erases : List ℕ) (place : Place)
-    → IsMemory shape cells filled erasing erases → IsNext (blocks_of shape.pages cells filled erasing erases) shape.pages place
+    → IsMemory shape cells filled erasing erases → IsNextCell (blocks_of shape.pages cells filled erasing erases) shape.pages place
     → Fits shape cells filled erasing place
 fits shape cells filled erasing erases place is there =
     let block : place.block < length filled = omega (arith, there.in_range, count_is shape.pages cells filled erasing erases) in
@@ -126,7 +126,7 @@ fits shape cells filled erasing erases place is there =
 pub blocks_programmed : (shape : Shape) (cells : List PageData) (filled erasing erases : List ℕ) (place : Place) (bytes : PageData)
     → IsMemory shape cells filled erasing erases → Fits shape cells filled erasing place
     → blocks_of shape.pages (set cells (place.block * shape.pages + place.page) bytes) (set filled place.block (place.page + 1)) erasing
-    erases ≡ programmed (blocks_of shape.pages cells filled erasing erases) place.block bytes
+    erases ≡ blocks_after_program (blocks_of shape.pages cells filled erasing erases) place.block bytes
 blocks_programmed shape cells filled erasing erases place bytes is fit =
     let b : ℕ = place.block in
     let pages : ℕ = shape.pages in

@@ -7,7 +7,7 @@ use Rattle.std.proofs.Common.{eq-eqb, inl, inr}
 use Rattle.std.proofs.lemmas.List.{length-set, get_or-set_same, get_or-set_other}
 use Rattle.slot_types.specs.declared.plans.Shape.{Shape}
 use Rattle.slot_types.specs.declared.pages.PageData.{PageData}
-use Rattle.flash_die.specs.Flash.{Block, block_at, IsErasable, erased, erased_once}
+use Rattle.flash_die.specs.Flash.{Block, block_at, IsErasable, blocks_after_erase_slot, block_after_erase_slot}
 use Rattle.flash_die.specs.Memory.{block_of, blocks_of, IsMemory}
 use Rattle.flash_die.proofs.Cut.{count_is, block_is, one_changed}
 
@@ -56,7 +56,7 @@ last_tested shape cells filled erasing erases block is at enough =
 pub blocks_going : (shape : Shape) (cells : List PageData) (filled erasing erases : List ℕ) (block : ℕ)
     → Erasing shape cells filled erasing erases block → get_or erasing block 0 + 1 < shape.erase_slots
     → blocks_of shape.pages cells filled (set erasing block (get_or erasing block 0 + 1)) erases
-    ≡ erased (blocks_of shape.pages cells filled erasing erases) shape.erase_slots block
+    ≡ blocks_after_erase_slot (blocks_of shape.pages cells filled erasing erases) shape.erase_slots block
 blocks_going shape cells filled erasing erases block at less =
     let before : List Block = blocks_of shape.pages cells filled erasing erases in
     let old : Block = block_at before block in
@@ -66,7 +66,7 @@ blocks_going shape cells filled erasing erases block at less =
     { erasing = old.erasing + 1 } in
     let G : Block → Block = λ x. record x { erasing = x.erasing + 1 } in
     let S : ℕ → Block = λ n. record (block_of shape.pages cells filled erasing erases block) { erasing = n } in
-    one_changed shape.pages cells filled erasing erases cells filled E erases block (erased_once shape.erase_slots old) refl at.in_filled
+    one_changed shape.pages cells filled erasing erases cells filled E erases block (block_after_erase_slot shape.erase_slots old) refl at.in_filled
     (ap S (get_or-set_same erasing block (get_or erasing block 0 + 1) 0 at.in_erasing) ∙ ap G (sym at.old_is) ∙ ap T (sym tested))
     (λ k below other.
     let K : ℕ → Block = λ n. record (block_of shape.pages cells filled erasing erases k) { erasing = n } in
@@ -76,7 +76,7 @@ blocks_going shape cells filled erasing erases block at less =
 pub blocks_freed : (shape : Shape) (cells : List PageData) (filled erasing erases : List ℕ) (block : ℕ)
     → IsMemory shape cells filled erasing erases → Erasing shape cells filled erasing erases block → shape.erase_slots
     ≤ get_or erasing block 0 + 1 → blocks_of shape.pages cells (set filled block 0) (set erasing block 0)
-    (set erases block (get_or erases block 0 + 1)) ≡ erased (blocks_of shape.pages cells filled erasing erases) shape.erase_slots block
+    (set erases block (get_or erases block 0 + 1)) ≡ blocks_after_erase_slot (blocks_of shape.pages cells filled erasing erases) shape.erase_slots block
 blocks_freed shape cells filled erasing erases block is at enough =
     let before : List Block = blocks_of shape.pages cells filled erasing erases in
     let old : Block = block_at before block in
@@ -90,7 +90,7 @@ blocks_freed shape cells filled erasing erases block is at enough =
     let B : ℕ → Block = λ n. block_with shape.pages cells block 0 n (get_or N block 0) in
     let C : ℕ → Block = λ n. block_with shape.pages cells block 0 0 n in
     let D : ℕ → Block = λ n. record { pages = []; erasing = 0; erases = n + 1 } in
-    one_changed shape.pages cells filled erasing erases cells F E N block (erased_once shape.erase_slots old) (length-set filled block 0)
+    one_changed shape.pages cells filled erasing erases cells F E N block (block_after_erase_slot shape.erase_slots old) (length-set filled block 0)
     at.in_filled
     (ap A (get_or-set_same filled block 0 0 at.in_filled) ∙ ap B (get_or-set_same erasing block 0 0 at.in_erasing)
     ∙ ap C (get_or-set_same erases block (get_or erases block 0 + 1) 0 at.in_erases)

@@ -8,7 +8,7 @@ use Rattle.slot_types.specs.declared.plans.Shape.{Shape}
 use Rattle.slot_types.specs.declared.pages.PageData.{PageData}
 use Rattle.flash_die.specs.Flash.{Block, free_block, fresh_blocks}
 use Rattle.slot_types.specs.Shapes.{IsShape}
-use Rattle.flash_die.specs.Memory.{IsMemory, block_of, blocks_of, laid}
+use Rattle.flash_die.specs.Memory.{IsMemory, block_of, blocks_of, cells_up_to}
 use Rattle.flash_die.proofs.Erase.{block_with}
 use Rattle.flash_die.proofs.Laid.{length-laid}
 
@@ -23,7 +23,7 @@ blocks_fresh shape cells =
     let F : ℕ → Block = λ n. block_with shape.pages cells k n n n in
     get_or-replicate shape.blocks k free_block free_block below ∙ ap F (sym (get_or-replicate shape.blocks k 0 0 below))))
 
-zero_at : (counts : List ℕ) (n i : ℕ) → counts ≡ replicate n 0 → get_or counts i 0 ≡ 0
+pub zero_at : (counts : List ℕ) (n i : ℕ) → counts ≡ replicate n 0 → get_or counts i 0 ≡ 0
 zero_at counts n i are =
     ap (λ (l : List ℕ). get_or l i 0) are ∙ elim (cases_lt i n) [
       | inl below ↦ get_or-replicate n i 0 0 below
@@ -33,7 +33,7 @@ zero_at counts n i are =
 -- no cell of it is laid down
 pub memory_fresh : (shape : Shape) (cells : List PageData) (filled erasing erases : List ℕ) → IsShape shape → cells ≡ [] → filled
     ≡ replicate shape.blocks 0 → erasing ≡ replicate shape.blocks 0 → erases ≡ replicate shape.blocks 0
-    → IsMemory shape (laid (shape.blocks * shape.pages) cells) filled erasing erases
+    → IsMemory shape (cells_up_to (shape.blocks * shape.pages) cells) filled erasing erases
 memory_fresh shape cells filled erasing erases is no_cells no_filled no_erasing no_erases = record {
   limits = is;
   filled_len = ap length no_filled ∙ length-replicate shape.blocks 0;

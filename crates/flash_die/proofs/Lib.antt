@@ -4,3 +4,4 @@ pub mod Laid
 pub mod Fresh
 pub mod OneDevice
 mod Looking
+pub mod Left

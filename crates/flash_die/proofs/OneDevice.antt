@@ -7,7 +7,7 @@ use Rattle.slot_types.specs.declared.refusals.Refusal.{Refusal}
 use Rattle.slot_types.specs.declared.refusals.Refusal.TheVariants.{NoMemory, BadShape}
 use Rattle.slot_types.specs.Refusal.{FailsForMemory}
 use Rattle.slot_types.specs.Shapes.{IsShape}
-use Rattle.flash_die.specs.Memory.{Memory, fresh_memory}
+use Rattle.flash_die.specs.Memory.{Memory}
 
 is_at_most : (a b : ℕ) → (a ≤ b) ⊎ ¬ (a ≤ b)
 is_at_most a b = elim (cases_lt b a) [ inl above ↦ inr (λ least. omega (arith, above, least)) | inr least ↦ inl least ]
@@ -38,17 +38,17 @@ is_shape shape = elim (
 abbrev pub AreOneDevice : Shape → Result Memory Refusal → Result Memory Refusal → Type 0
 AreOneDevice shape one other = (one ≡ other) ⊎ (IsShape shape × ((one ≡ Err NoMemory) ⊎ (other ≡ Err NoMemory)))
 
-shaped : (shape : Shape) (one other : Result Memory Refusal) → IsShape shape → IfOk one (λ device. device ≡ fresh_memory shape)
-    → IfOk other (λ device. device ≡ fresh_memory shape) → FailsForMemory one → FailsForMemory other → AreOneDevice shape one other
-shaped shape (Ok a) (Ok b) is fresh fresh' fails fails' = inl (ap (λ (m : Memory). Ok m) (fresh ∙ sym fresh'))
-shaped shape (Err a) other is fresh fresh' fails fails' = inr (is, inl (ap (λ (r : Refusal). Err r) fails))
-shaped shape (Ok a) (Err b) is fresh fresh' fails fails' = inr (is, inr (ap (λ (r : Refusal). Err r) fails'))
+shaped : (shape : Shape) (made : Memory) (one other : Result Memory Refusal) → IsShape shape → IfOk one (λ device. device ≡ made)
+    → IfOk other (λ device. device ≡ made) → FailsForMemory one → FailsForMemory other → AreOneDevice shape one other
+shaped shape made (Ok a) (Ok b) is so so' fails fails' = inl (ap (λ (m : Memory). Ok m) (so ∙ sym so'))
+shaped shape made (Err a) other is so so' fails fails' = inr (is, inl (ap (λ (r : Refusal). Err r) fails))
+shaped shape made (Ok a) (Err b) is so so' fails fails' = inr (is, inr (ap (λ (r : Refusal). Err r) fails'))
 
-pub one_device : (shape : Shape) (one other : Result Memory Refusal) → IfOk one (λ device. device ≡ fresh_memory shape)
-    → IfOk other (λ device. device ≡ fresh_memory shape)
+pub one_device : (shape : Shape) (made : Memory) (one other : Result Memory Refusal) → IfOk one (λ device. device ≡ made)
+    → IfOk other (λ device. device ≡ made)
     → ((one ≡ Err BadShape) ↔ ¬ IsShape shape) → ((other ≡ Err BadShape) ↔ ¬ IsShape shape)
     → (IsShape shape → FailsForMemory one) → (IsShape shape → FailsForMemory other) → AreOneDevice shape one other
-one_device shape one other fresh fresh' bad bad' fails fails' = elim (is_shape shape) [
-  | inl is ↦ shaped shape one other is fresh fresh' (fails is) (fails' is)
+one_device shape made one other so so' bad bad' fails fails' = elim (is_shape shape) [
+  | inl is ↦ shaped shape made one other is so so' (fails is) (fails' is)
   | inr not ↦ inl (bad.1 not ∙ sym (bad'.1 not))
 ]

@@ -1,4 +1,4 @@
--- A device that fails when it is told to.
+-- A device that fails once it is armed.
 use Rattle.std.specs.Prelude.{◌≡◌, ℕ, ◌+◌, Bool, true, false}
 use Rattle.flash_die.specs.declared.nand.NandCall.{NandCall}
 
@@ -8,12 +8,12 @@ pub record Faulty (N : Type 0) : Type 0 where
   pub armed : Bool
   pub failed : ℕ
 
-abbrev pub unarmed : {N : Type 0} → N → Faulty N
-unarmed inner = record { inner = inner; armed = false; failed = 0 }
+abbrev pub unarmed_device : {N : Type 0} → N → Faulty N
+unarmed_device inner = record { inner = inner; armed = false; failed = 0 }
 
 -- from now on each call fails
-abbrev pub armed_of : {N : Type 0} → Faulty N → Faulty N
-armed_of device = record device { armed = true }
+abbrev pub armed_device : {N : Type 0} → Faulty N → Faulty N
+armed_device device = record device { armed = true }
 
 -- a call that is not passed on
 pub record FailsAsTold {N : Type 0} (before : Faulty N) (well : Bool) (after : Faulty N) : Type 0 where

@@ -8,8 +8,8 @@ use Rattle.slot_types.specs.declared.plans.Shape.{Shape}
 abbrev pub blank : PageData
 blank = record { 0 = replicate 16 255 }
 
--- a block: the pages programmed since its last erase, in order, the others being free; how many slots its running erase has had; how many
--- erases it has had
+-- a block: the pages programmed since its last erase, in order, the others being free; how many slots its running erase
+-- has had; how many erases it has had
 pub record Block : Type 0 where
   pub pages : List PageData
   pub erasing : ℕ
@@ -32,7 +32,7 @@ pub record IsProgrammed (blocks : List Block) (place : Place) : Type 0 where
   pub quiet : (block_at blocks place.block).erasing ≡ 0
 
 -- the next free cell of a block that is not in erase
-pub record IsNext (blocks : List Block) (pages : ℕ) (place : Place) : Type 0 where
+pub record IsNextCell (blocks : List Block) (pages : ℕ) (place : Place) : Type 0 where
   pub in_range : place.block < length blocks
   pub next : place.page ≡ length (block_at blocks place.block).pages
   pub room : place.page < pages
@@ -45,21 +45,21 @@ pub record IsErasable (blocks : List Block) (pages : ℕ) (block : ℕ) : Type 0
   pub few_erases : (block_at blocks block).erases < 4294967295
 
 -- after a program of the block's next cell
-abbrev pub programmed : List Block → ℕ → PageData → List Block
-programmed blocks block bytes =
+abbrev pub blocks_after_program : List Block → ℕ → PageData → List Block
+blocks_after_program blocks block bytes =
     let old = block_at blocks block in
     slice_set blocks block (record old { pages = old.pages ++ bytes ∷ [] })
 
 -- a block after one more slot of its erase, of which the last frees it
-abbrev pub erased_once : ℕ → Block → Block
-erased_once slots block =
+abbrev pub block_after_erase_slot : ℕ → Block → Block
+block_after_erase_slot slots block =
     if block.erasing + 1 == slots
     then record { pages = []; erasing = 0; erases = block.erases + 1 }
     else record block { erasing = block.erasing + 1 }
 
 -- after one more slot of a block's erase
-abbrev pub erased : List Block → ℕ → ℕ → List Block
-erased blocks slots block = slice_set blocks block (erased_once slots (block_at blocks block))
+abbrev pub blocks_after_erase_slot : List Block → ℕ → ℕ → List Block
+blocks_after_erase_slot blocks slots block = slice_set blocks block (block_after_erase_slot slots (block_at blocks block))
 
 -- the blocks of a device on which nothing was done yet
 abbrev pub fresh_blocks : Shape → List Block

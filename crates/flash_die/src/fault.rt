@@ -1,7 +1,7 @@
-//! A device that fails when it is told to.
+//! A device that fails once it is armed.
 
 ghost use Rattle.std.specs.Prelude.{◌≡◌};
-ghost use Rattle.flash_die.specs.Faulty.{unarmed, armed_of};
+ghost use Rattle.flash_die.specs.Faulty.{unarmed_device, armed_device};
 
 use crate::nand::Nand;
 use slot_types::{PageData, Place, Refusal, Shape};
@@ -28,7 +28,7 @@ impl<N: Nand> Model for FaultNand<N> {
 impl<N: Nand> FaultNand<N> {
     /// Passes its calls on to `inner`. The device is fresh where `inner` is.
     pub fn new(inner: N) -> Self
-        ensures { result ≡ unarmed inner }
+        ensures { result ≡ unarmed_device inner }
     {
         FaultNand {
             inner,
@@ -39,7 +39,7 @@ impl<N: Nand> FaultNand<N> {
 
     /// Lets every later call fail. The shape, the blocks and the count of failures stay.
     pub fn arm(&mut self)
-        ensures { self.new ≡ armed_of self.old }
+        ensures { self.new ≡ armed_device self.old }
     {
         self.armed = true;
     }

@@ -3,19 +3,19 @@
 //! Each law is a function that does nothing. Its premises are the clauses of a call that decide, said of two answers
 //! `one` and `other`, which leave the devices `left` and `right`, where there was the device `before`.
 
-ghost use Rattle.std.specs.Prelude.{◌≡◌, ◌==◌, ◌+◌, ◌↔◌, ◌⊎◌, ℕ, Bool, true, false, Result, IfOk, OnOk};
+ghost use Rattle.std.specs.Prelude.{◌≡◌, ◌==◌, ◌≤◌, ◌+◌, ◌*◌, ◌↔◌, ◌⊎◌, ℕ, Bool, true, false, List, Result, length, slice_index, IfOk, OnOk};
 ghost use Rattle.slot_types.specs.declared.pages.PageData.{PageData};
 ghost use Rattle.slot_types.specs.declared.pages.Place.{Place};
 ghost use Rattle.slot_types.specs.declared.plans.Shape.{Shape};
 ghost use Rattle.slot_types.specs.declared.refusals.Refusal.{Refusal};
 ghost use Rattle.slot_types.specs.Refusal.{FailsForMemory};
 ghost use Rattle.slot_types.specs.Shapes.{IsShape};
-ghost use Rattle.flash_die.specs.Flash.{block_at, cell_at, programmed, erased};
+ghost use Rattle.flash_die.specs.Flash.{block_at, cell_at, blocks_after_program, blocks_after_erase_slot};
 ghost use Rattle.flash_die.specs.Calls.{FailsByFault, AreOneButForFault};
 ghost use Rattle.flash_die.specs.declared.nand.NandCall.{NandCall};
 ghost use Rattle.flash_die.specs.Fuse.{Fuse, EndsAsFused};
 ghost use Rattle.flash_die.specs.Faulty.{Faulty, EndsAsTold};
-ghost use Rattle.flash_die.specs.Memory.{Memory, fresh_memory};
+ghost use Rattle.flash_die.specs.Memory.{AreLeftSo, Memory, fresh_memory, left_memory};
 
 use crate::nand::Nand;
 use slot_types::Refusal;
@@ -31,6 +31,27 @@ pub fn making_a_device_has_one_answer()
         (IsShape shape → FailsForMemory one) → (IsShape shape → FailsForMemory other) →
         (one ≡ other)
         ⊎ (IsShape shape × ((one ≡ Err Refusal.NoMemory) ⊎ (other ≡ Err Refusal.NoMemory))) }
+{}
+
+/// Making a device as it was left (`MemoryNand::left`) has one answer. Left open is whether there is memory for the
+/// cells of a shape within its limits.
+pub fn leaving_a_device_has_one_answer()
+    ensures { (shape : Shape) (cells : List PageData) (filled erases : List ℕ) (one other : Result Memory Refusal) →
+        IfOk one (λ device. device ≡ left_memory shape cells filled erases) →
+        IfOk other (λ device. device ≡ left_memory shape cells filled erases) →
+        ((one ≡ Err Refusal.BadShape) ↔ ¬ IsShape shape) →
+        ((other ≡ Err Refusal.BadShape) ↔ ¬ IsShape shape) →
+        (IsShape shape → FailsForMemory one) → (IsShape shape → FailsForMemory other) →
+        (one ≡ other)
+        ⊎ (IsShape shape × ((one ≡ Err Refusal.NoMemory) ⊎ (other ≡ Err Refusal.NoMemory))) }
+{}
+
+/// A device as it was left has what was said of it: by block so many programmed pages, no erase that runs and so many
+/// erases, and in each programmed cell the bytes that were given for it.
+pub fn a_left_device_is_as_it_was()
+    ensures { (shape : Shape) (cells : List PageData) (filled erases : List ℕ) → length cells ≤ shape.blocks * shape.pages
+        → length filled ≡ shape.blocks → ((block : ℕ) → slice_index filled block ≤ shape.pages)
+        → AreLeftSo shape cells filled erases (left_memory shape cells filled erases).blocks }
 {}
 
 /// Reading a page (`read`) has one answer, and leaves the blocks in one way. Left open is whether a device that may
@@ -52,8 +73,8 @@ pub fn reading_a_page_has_one_answer<N: Nand>()
 pub fn programming_a_page_has_one_answer<N: Nand>()
     ensures { (place : Place) (bytes : PageData) (before left right : N)
         (one other : Result (Unit {0}) Refusal) →
-        OnOk one (N.blocks left ≡ programmed (N.blocks before) place.block bytes) →
-        OnOk other (N.blocks right ≡ programmed (N.blocks before) place.block bytes) →
+        OnOk one (N.blocks left ≡ blocks_after_program (N.blocks before) place.block bytes) →
+        OnOk other (N.blocks right ≡ blocks_after_program (N.blocks before) place.block bytes) →
         FailsByFault N.never_fails one (N.failures before) (N.failures left) →
         FailsByFault N.never_fails other (N.failures before) (N.failures right) →
         AreOneButForFault N.never_fails one other
@@ -70,9 +91,9 @@ pub fn erasing_a_block_has_one_answer<N: Nand>()
         IfOk other (λ last. last
         ≡ ((block_at (N.blocks before) block).erasing + 1 == (N.shape_of before).erase_slots)) →
         OnOk one
-        (N.blocks left ≡ erased (N.blocks before) (N.shape_of before).erase_slots block) →
+        (N.blocks left ≡ blocks_after_erase_slot (N.blocks before) (N.shape_of before).erase_slots block) →
         OnOk other
-        (N.blocks right ≡ erased (N.blocks before) (N.shape_of before).erase_slots block) →
+        (N.blocks right ≡ blocks_after_erase_slot (N.blocks before) (N.shape_of before).erase_slots block) →
         FailsByFault N.never_fails one (N.failures before) (N.failures left) →
         FailsByFault N.never_fails other (N.failures before) (N.failures right) →
         AreOneButForFault N.never_fails one other
@@ -89,8 +110,8 @@ pub fn a_fuse_burns_in_one_way<N: Nand>()
         × (before.left ≡ 0 → (one ≡ other) × (left.inner ≡ right.inner)) }
 {}
 
-/// A device that fails as it is told (`FaultNand`) ends each call that it doesn't pass on in one way. Left open is how
-/// the device ends a call that is passed on to it.
+/// A device that fails once it is armed (`FaultNand`) ends each call that it doesn't pass on in one way. Left open is
+/// how the device ends a call that is passed on to it.
 pub fn an_armed_device_fails_in_one_way<N: Nand>()
     ensures { (before left right : Faulty N) (call : NandCall) (one other : Bool) →
         EndsAsTold N.ends before call one left → EndsAsTold N.ends before call other right →

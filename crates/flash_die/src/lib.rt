@@ -1,4 +1,4 @@
-//! Flash devices: what one does, one in memory, one that fails after some calls, and one that fails when it is told to.
+//! Flash devices: what one does, one in memory, one that fails after some calls, and one that fails once it is armed.
 #![tactic(auto)]
 
 pub mod fault;

@@ -1,10 +1,10 @@
 //! A device in memory.
 
-ghost use Rattle.std.specs.Prelude.{◌≡◌, ◌≤◌, ◌+◌, ◌==◌, ◌↔◌, IfOk, slice_index_or, vec_capacity};
+ghost use Rattle.std.specs.Prelude.{◌≡◌, ◌≤◌, ◌+◌, ◌*◌, ◌==◌, ◌↔◌, ℕ, IfOk, length, slice_index, slice_index_or, vec_capacity};
 ghost use Rattle.slot_types.specs.Refusal.{FailsForMemory};
 ghost use Rattle.slot_types.specs.Shapes.{IsShape};
 ghost use Rattle.flash_die.specs.Flash.{blank, block_at, cell_at};
-ghost use Rattle.flash_die.specs.Memory.{fresh_memory, laid};
+ghost use Rattle.flash_die.specs.Memory.{fresh_memory, cells_up_to, left_memory};
 
 use crate::nand::Nand;
 use slot_types::{PageData, Place, Refusal, Shape};
@@ -13,9 +13,9 @@ use std::marker::Model;
 
 /// A device in memory, which never fails. Contracts see its shape and its blocks.
 ///
-/// `new` reserves the memory of all cells, and a cell is laid down as it is first programmed, or one behind it: what is never
-/// used is never touched. Each call takes constant time, but for the programs that lay down cells: together they lay down each
-/// cell once, and one cell each where blocks are first filled in rising order.
+/// `new` reserves the memory of all cells, and a cell is laid down as it is first programmed, or one after it: what is
+/// never used is never touched. Each call takes constant time, but for the programs that lay down cells: together they
+/// lay down each cell once, and one cell each where blocks are first filled in rising order.
 #[derive(Drop)]
 pub struct MemoryNand {
     shape: Shape,
@@ -34,11 +34,11 @@ impl Model for MemoryNand {
 
     ghost Value = { Memory };
 
-    ghost use Rattle.flash_die.specs.MemoryView.{memory_of, IsSound};
+    ghost use Rattle.flash_die.specs.MemoryView.{memory_of, IsSoundMemory};
 
     ghost view = { memory_of };
 
-    ghost invariant = { IsSound };
+    ghost invariant = { IsSoundMemory };
 }
 
 impl MemoryNand {
@@ -60,6 +60,40 @@ impl MemoryNand {
             filled: vec![in alloc; 0; blocks]?,
             erasing: vec![in alloc; 0; blocks]?,
             erases: vec![in alloc; 0; blocks]?,
+        })
+    }
+
+    /// A device as it was left: of each block so many pages are programmed, it was erased so often, and none is in erase. The
+    /// cells are in `cells`, those of one block after those of another, and each one beyond them is blank; what is there of a
+    /// free cell says nothing. Refused as [`new`](MemoryNand::new) refuses the shape.
+    pub fn left(
+        alloc: Global,
+        shape: Shape,
+        cells: Vec<PageData>,
+        filled: &[u32],
+        erases: &[u32],
+    ) -> Result<Self, Refusal>
+        requires few_cells { length cells.items ≤ shape.blocks * shape.pages }
+        requires filled_blocks { length filled.now ≡ shape.blocks }
+        requires erased_blocks { length erases.now ≡ shape.blocks }
+        requires within { (block : ℕ) → slice_index filled.now block ≤ shape.pages }
+        ensures left { IfOk result (λ device. device ≡ left_memory shape cells.items filled.now erases.now) }
+        ensures bad_shape { (result ≡ Err Refusal.BadShape) ↔ ¬ IsShape shape }
+        ensures no_memory { IsShape shape → FailsForMemory result }
+    {
+        if !shape.is_within_limits() {
+            return Err(Refusal::BadShape);
+        }
+        let blocks = shape.blocks as usize;
+        let pages = shape.pages as usize;
+        let mut cells = cells;
+        cells.reserve_exact(blocks * pages - cells.len())?;
+        Ok(MemoryNand {
+            shape,
+            cells,
+            filled: Vec::from_slice(alloc, filled)?,
+            erasing: vec![in alloc; 0; blocks]?,
+            erases: Vec::from_slice(alloc, erases)?,
         })
     }
 
@@ -146,7 +180,7 @@ fn read_cell(cells: &[PageData], at: usize) -> PageData
 /// Lays down free cells up to so many, for which there is room.
 fn lay_down(cells: &mut Vec<PageData>, count: usize)
     requires room { count ≤ vec_capacity cells.old }
-    ensures cells { cells.new.items ≡ laid count cells.old.items }
+    ensures cells { cells.new.items ≡ cells_up_to count cells.old.items }
     ensures room { vec_capacity cells.old ≤ vec_capacity cells.new }
 {
     if cells.len() < count {

@@ -1,7 +1,7 @@
 //! What a flash device does.
 
 ghost use Rattle.std.specs.Prelude.{◌≡◌, ◌==◌, ◌+◌, ◌<◌, is_ok, IfOk, OnOk};
-ghost use Rattle.flash_die.specs.Flash.{IsProgrammed, IsNext, IsErasable, block_at, cell_at, programmed, erased};
+ghost use Rattle.flash_die.specs.Flash.{IsProgrammed, IsNextCell, IsErasable, block_at, cell_at, blocks_after_program, blocks_after_erase_slot};
 ghost use Rattle.flash_die.specs.Calls.{FailsByFault};
 
 use slot_types::{PageData, Place, Refusal, Shape};
@@ -58,9 +58,9 @@ pub trait Nand: Drop {
 
     /// Fills the next free page of a block that isn't in erase.
     fn program(&mut self, place: Place, bytes: PageData) -> Result<(), Refusal>
-        requires next { IsNext (blocks self.old) (shape_of self.old).pages place }
+        requires next { IsNextCell (blocks self.old) (shape_of self.old).pages place }
         requires few_failures { failures self.old < 4294967295 }
-        ensures blocks { OnOk result (blocks self.new ≡ programmed (blocks self.old) place.block bytes) }
+        ensures blocks { OnOk result (blocks self.new ≡ blocks_after_program (blocks self.old) place.block bytes) }
         ensures fails { FailsByFault never_fails result (failures self.old) (failures self.new) }
         ensures shape { shape_of self.new ≡ shape_of self.old }
         ensures ends { ends self.old (NandCall.Program place bytes) (is_ok result) self.new };
@@ -71,7 +71,7 @@ pub trait Nand: Drop {
         requires erasable { IsErasable (blocks self.old) (shape_of self.old).pages block }
         requires few_failures { failures self.old < 4294967295 }
         ensures last { IfOk result (λ last. last ≡ ((block_at (blocks self.old) block).erasing + 1 == (shape_of self.old).erase_slots)) }
-        ensures blocks { OnOk result (blocks self.new ≡ erased (blocks self.old) (shape_of self.old).erase_slots block) }
+        ensures blocks { OnOk result (blocks self.new ≡ blocks_after_erase_slot (blocks self.old) (shape_of self.old).erase_slots block) }
         ensures fails { FailsByFault never_fails result (failures self.old) (failures self.new) }
         ensures shape { shape_of self.new ≡ shape_of self.old }
         ensures ends { ends self.old (NandCall.EraseSlot block) (is_ok result) self.new };

@@ -19,10 +19,10 @@ use Rattle.page_map.specs.Placing.{Placing}
 use Rattle.flash_die.specs.Flash.{Block, free_block, block_at}
 use Rattle.flash_volume.specs.declared.collection.Collection.{Collection}
 use Rattle.flash_volume.specs.Cells.{fills_of, is_open_with, opened_in, free_in, free_cells}
-use Rattle.flash_volume.specs.Array.{taken_out}
+use Rattle.flash_volume.specs.Array.{without_candidate}
 use Rattle.flash_volume.specs.Running.{running_of, RunWell}
 use Rattle.flash_volume.specs.Picks.{IsCandidate, IsVictim, PicksWell}
-use Rattle.flash_volume.specs.Sound.{IsSound}
+use Rattle.flash_volume.specs.SoundVolume.{IsSoundVolume}
 use Rattle.flash_volume.proofs.Opening.{Sound, OneOpen, fill_is, opened_is}
 use Rattle.flash_volume.proofs.Counting.{none_set}
 use Rattle.flash_volume.proofs.Collections.{who_runs, runs_begun}
@@ -58,7 +58,7 @@ open_or_whole pages fills block free one is =
     ]
 
 begins_short : {accounts : Accounts} {shape : Shape} {failures : ℕ} {blocks : List Block} {placing : Placing} {candidates : Candidates}
-    {running : List (Option Collection)} (task : ℕ) → IsSound accounts shape failures blocks placing candidates running → total_of accounts
+    {running : List (Option Collection)} (task : ℕ) → IsSoundVolume accounts shape failures blocks placing candidates running → total_of accounts
     ≤ fmax_of accounts.plan → task < length accounts.plan.caps → running_of running task ≡ None
     → BeginsShort accounts.plan (free_of accounts.plan.shape.pages blocks) placing.places (map victim_of running)
     (opened_in accounts.plan.shape.pages blocks)
@@ -108,7 +108,7 @@ none_any block (o ∷ os) (suc t) c none is same =
 
 counted_by : {accounts : Accounts} {shape : Shape} {failures : ℕ} {blocks : List Block} {placing : Placing} {candidates : Candidates}
     {running : List (Option Collection)} (block : ℕ) (o : Option ℕ) → count_of candidates.counts block ≡ o
-    → IsSound accounts shape failures blocks placing candidates running → IsCandidate shape.pages blocks running block
+    → IsSoundVolume accounts shape failures blocks placing candidates running → IsCandidate shape.pages blocks running block
     → count_of candidates.counts block ≡ Some (count_by (is_in block) placing.places)
 counted_by block None is sound closed =
     let it = sound.picks.closed block closed.in_range closed.closed is in
@@ -118,7 +118,7 @@ counted_by block (Some n) is sound closed = is ∙ ap (λ (m : ℕ). Some m) (so
 -- a closed block that no collection works on is counted
 pub counted_closed : {accounts : Accounts} {shape : Shape} {failures : ℕ} {blocks : List Block} {placing : Placing}
     {candidates : Candidates} {running : List (Option Collection)} (block : ℕ)
-    → IsSound accounts shape failures blocks placing candidates running → IsCandidate shape.pages blocks running block
+    → IsSoundVolume accounts shape failures blocks placing candidates running → IsCandidate shape.pages blocks running block
     → count_of candidates.counts block ≡ Some (count_by (is_in block) placing.places)
 counted_closed {candidates = candidates} block sound closed = counted_by block (count_of candidates.counts block) refl sound closed
 
@@ -132,7 +132,7 @@ in_counts counts block n is =
 -- and only those are
 pub closed_counted : {accounts : Accounts} {shape : Shape} {failures : ℕ} {blocks : List Block} {placing : Placing}
     {candidates : Candidates} {running : List (Option Collection)} (block n : ℕ)
-    → IsSound accounts shape failures blocks placing candidates running → count_of candidates.counts block ≡ Some n
+    → IsSoundVolume accounts shape failures blocks placing candidates running → count_of candidates.counts block ≡ Some n
     → IsCandidate shape.pages blocks running block
 closed_counted {candidates = candidates} block n sound is = record {
   in_range = omega (arith, in_counts candidates.counts block n is, sound.stands.candidates_len, sound.stands.count);
@@ -150,7 +150,7 @@ pub record Chosen (accounts : Accounts) (places : List (Option Place)) (counts :
   pub few : count_by (is_in block) places ≤ accounts.plan.shape.pages - accounts.plan.alpha
 
 pub chosen : {accounts : Accounts} {shape : Shape} {failures : ℕ} {blocks : List Block} {placing : Placing} {candidates : Candidates}
-    {running : List (Option Collection)} (task : ℕ) → IsSound accounts shape failures blocks placing candidates running → total_of accounts
+    {running : List (Option Collection)} (task : ℕ) → IsSoundVolume accounts shape failures blocks placing candidates running → total_of accounts
     ≤ fmax_of accounts.plan → task < length accounts.plan.caps → running_of running task ≡ None
     → Chosen accounts placing.places candidates.counts
 chosen {accounts} {shape} {failures} {blocks} {placing} {candidates} {running} task sound few in_caps none =
@@ -172,7 +172,7 @@ not_none it none = let nothing = none it.block in let some = it.counted in cc
 -- The victim
 
 pub is_victim : {accounts : Accounts} {shape : Shape} {failures : ℕ} {blocks : List Block} {placing : Placing} {candidates : Candidates}
-    {running : List (Option Collection)} (victim : ℕ) → IsSound accounts shape failures blocks placing candidates running
+    {running : List (Option Collection)} (victim : ℕ) → IsSoundVolume accounts shape failures blocks placing candidates running
     → IsLeast candidates.counts candidates.erases victim → IsVictim shape.pages blocks placing.places running victim
 is_victim {shape = shape} {blocks = blocks} {placing = placing} {candidates = candidates} {running = running} victim sound least =
     let valid : least.valid ≡ count_by (is_in victim) placing.places = (sound.stands.counted victim least.valid least.counted).1 in
@@ -198,7 +198,7 @@ is_victim {shape = shape} {blocks = blocks} {placing = placing} {candidates = ca
 
 -- in which few pages lie
 pub few_in_victim : {accounts : Accounts} {shape : Shape} {failures : ℕ} {blocks : List Block} {placing : Placing} {candidates : Candidates}
-    {running : List (Option Collection)} (victim : ℕ) → IsSound accounts shape failures blocks placing candidates running
+    {running : List (Option Collection)} (victim : ℕ) → IsSoundVolume accounts shape failures blocks placing candidates running
     → IsLeast candidates.counts candidates.erases victim → Chosen accounts placing.places candidates.counts
     → count_by (is_in victim) placing.places ≤ accounts.plan.shape.pages - accounts.plan.alpha
 few_in_victim {placing = placing} victim sound least it =
@@ -240,10 +240,10 @@ picks_begun {pages} {blocks} {counts} {running} task n new picks below none coun
 }
 
 pub sound_begun : {accounts : Accounts} {shape : Shape} {failures : ℕ} {blocks : List Block} {placing : Placing} {candidates : Candidates}
-    {running : List (Option Collection)} (task victim : ℕ) → IsSound accounts shape failures blocks placing candidates running → task
+    {running : List (Option Collection)} (task victim : ℕ) → IsSoundVolume accounts shape failures blocks placing candidates running → task
     < length accounts.plan.caps → running_of running task ≡ None → IsLeast candidates.counts candidates.erases victim
-    → Chosen accounts placing.places candidates.counts → Sound shape failures blocks placing (taken_out victim candidates)
-    → IsSound accounts shape failures blocks placing (taken_out victim candidates)
+    → Chosen accounts placing.places candidates.counts → Sound shape failures blocks placing (without_candidate victim candidates)
+    → IsSoundVolume accounts shape failures blocks placing (without_candidate victim candidates)
     (set running task (Some (record { victim = victim; buffer = None })))
 sound_begun {accounts} {shape} {failures} {blocks} {placing} {candidates} {running} task victim sound in_caps none least it stands =
     let new : Collection = record { victim = victim; buffer = None } in

@@ -9,7 +9,7 @@ use Rattle.slot_types.specs.declared.plans.Shape.{Shape}
 use Rattle.slot_types.specs.declared.pages.PageData.{PageData}
 use Rattle.plan_rules.specs.Accounts.{Accounts}
 use Rattle.victim_pick.specs.Candidates.{count_of}
-use Rattle.flash_die.specs.Flash.{Block, free_block, block_at, programmed}
+use Rattle.flash_die.specs.Flash.{Block, free_block, block_at, blocks_after_program}
 use Rattle.flash_volume.specs.declared.collection.Collection.{Collection}
 use Rattle.flash_volume.specs.Cells.{filled_of}
 use Rattle.flash_volume.specs.Running.{running_of, RunWell, RunsWell}
@@ -175,15 +175,15 @@ pub picks_written : {accounts : Accounts} {shape : Shape} {blocks : List Block} 
     {running : List (Option Collection)} {counts : List (Option ℕ)} {place : Place} (bytes : PageData) (counts_then : List (Option ℕ))
     → RunsWell accounts shape.pages blocks places running → PicksWell shape.pages blocks counts running → Fits shape blocks place
     → ((block : ℕ) → block ≢ place.block → is_some (count_of counts_then block) ≡ is_some (count_of counts block))
-    → (filled_of (block_at (programmed blocks place.block bytes) place.block) ≡ shape.pages → IsSome (count_of counts_then place.block))
-    → PicksWell shape.pages (programmed blocks place.block bytes) counts_then running
+    → (filled_of (block_at (blocks_after_program blocks place.block bytes) place.block) ≡ shape.pages → IsSome (count_of counts_then place.block))
+    → PicksWell shape.pages (blocks_after_program blocks place.block bytes) counts_then running
 picks_written {accounts} {shape} {blocks} {places} {running} {counts} {place} bytes counts_then runs picks fit others closes = record {
   taken = λ t c is. none_of (count_of counts_then c.victim) (others c.victim (not_open (runs.each t c is) fit)
       ∙ ap is_some (picks.taken t c is));
   closed = λ block below closed none. elim (cases_eq block place.block) [
     | inl same ↦
         let some : IsSome (count_of counts_then place.block) = closes
-        (ap (λ (b : ℕ). filled_of (block_at (programmed blocks place.block bytes) b)) (sym same) ∙ closed) in
+        (ap (λ (b : ℕ). filled_of (block_at (blocks_after_program blocks place.block bytes) b)) (sym same) ∙ closed) in
         let nothing : count_of counts_then place.block ≡ None = ap (λ (b : ℕ). count_of counts_then b) (sym same) ∙ none in
         absurd (some_not_none (count_of counts_then place.block) some nothing)
     | inr other ↦ picks.closed block (omega (arith, below, count_programmed blocks place.block bytes))

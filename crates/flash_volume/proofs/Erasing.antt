@@ -13,9 +13,9 @@ use Rattle.slot_types.specs.Places.{place_of, is_in, owner_of}
 use Rattle.victim_pick.specs.Candidates.{Candidates, count_of, erases_of}
 use Rattle.page_map.specs.Placing.{Placing}
 use Rattle.page_map.proofs.Owners.{unowned}
-use Rattle.flash_die.specs.Flash.{Block, free_block, blank, block_at, cell_at, IsProgrammed, IsErasable, erased}
+use Rattle.flash_die.specs.Flash.{Block, free_block, blank, block_at, cell_at, IsProgrammed, IsErasable, blocks_after_erase_slot}
 use Rattle.flash_volume.specs.Cells.{filled_of, fills_of, erases_in, is_open_with, free_in, free_cells, content_at, contents}
-use Rattle.flash_volume.specs.Array.{Stands}
+use Rattle.flash_volume.specs.Array.{IsSoundState}
 use Rattle.flash_volume.proofs.Opening.{OneOpen, erases_at, fill_is, seen, opened_is, opened_none, opened_means, none_opened}
 use Rattle.flash_volume.proofs.Counting.{here_other}
 
@@ -26,7 +26,7 @@ pub record IsEmptied (shape : Shape) (blocks : List Block) (places : List (Optio
   pub none : (p : ℕ) (q : Place) → place_of places p ≡ Some q → q.block ≡ block → ⊥
 
 pub unplaced_of : {shape : Shape} {failures : ℕ} {blocks : List Block} {placing : Placing} {fills worn : List ℕ} {writing : Option ℕ}
-    {candidates : Candidates} (block : ℕ) → Stands shape failures blocks placing fills worn writing candidates → block < length blocks
+    {candidates : Candidates} (block : ℕ) → IsSoundState shape failures blocks placing fills worn writing candidates → block < length blocks
     → filled_of (block_at blocks block) ≡ shape.pages → ((page : ℕ) → page < shape.pages
     → owner_of placing.places (record { block = block; page = page }) ≡ None) → IsEmptied shape blocks placing.places block
 unplaced_of {shape} {failures} {blocks} {placing} {fills} {worn} {writing} {candidates} block stands in_range closed unplaced = record {
@@ -41,7 +41,7 @@ unplaced_of {shape} {failures} {blocks} {placing} {fills} {worn} {writing} {cand
 
 -- what is read of the counts of erases is the block's
 pub erases_are_counted : {shape : Shape} {failures : ℕ} {blocks : List Block} {placing : Placing} {fills worn : List ℕ} {writing : Option ℕ}
-    {candidates : Candidates} (block read : ℕ) → Stands shape failures blocks placing fills worn writing candidates → block < length blocks
+    {candidates : Candidates} (block read : ℕ) → IsSoundState shape failures blocks placing fills worn writing candidates → block < length blocks
     → read ≡ get_or worn block read → read ≡ (block_at blocks block).erases
 erases_are_counted {blocks = blocks} {worn = worn} block read stands below is =
     let in_worn : block < length worn = omega (arith, below, ap length stands.erases_are, length-map blocks (λ (b : Block). b.erases)) in
@@ -102,7 +102,7 @@ record RestStands (shape : Shape) (blocks : List Block) (placing : Placing) (can
   worn : (k n : ℕ) → count_of candidates.counts k ≡ Some n → erases_of candidates.erases k ≡ (block_at blocks k).erases
 
 rest_stands : {shape : Shape} {failures : ℕ} {blocks : List Block} {placing : Placing} {fills worn : List ℕ} {writing : Option ℕ}
-    {candidates : Candidates} {block : ℕ} (new : Block) → Stands shape failures blocks placing fills worn writing candidates
+    {candidates : Candidates} {block : ℕ} (new : Block) → IsSoundState shape failures blocks placing fills worn writing candidates
     → IsEmptied shape blocks placing.places block → count_of candidates.counts block ≡ None
     → RestStands shape (set blocks block new) placing candidates
 rest_stands {shape} {failures} {blocks} {placing} {fills} {worn} {writing} {candidates} {block} new stands clear taken = record {
@@ -123,9 +123,9 @@ rest_stands {shape} {failures} {blocks} {placing} {fills} {worn} {writing} {cand
 
 -- one slot more, and not the last
 pub stands_going : {shape : Shape} {failures : ℕ} {blocks : List Block} {placing : Placing} {fills worn : List ℕ} {writing : Option ℕ}
-    {candidates : Candidates} {block : ℕ} → Stands shape failures blocks placing fills worn writing candidates
+    {candidates : Candidates} {block : ℕ} → IsSoundState shape failures blocks placing fills worn writing candidates
     → IsEmptied shape blocks placing.places block → count_of candidates.counts block ≡ None
-    → Stands shape failures (set blocks block (record (block_at blocks block) { erasing = (block_at blocks block).erasing + 1 })) placing
+    → IsSoundState shape failures (set blocks block (record (block_at blocks block) { erasing = (block_at blocks block).erasing + 1 })) placing
     fills worn writing candidates
 stands_going {shape} {failures} {blocks} {placing} {fills} {worn} {writing} {candidates} {block} stands clear taken =
     let new : Block = record (block_at blocks block) { erasing = (block_at blocks block).erasing + 1 } in
@@ -176,9 +176,9 @@ same_opened pages fills block (Some k) is closed other one =
 
 -- the last slot frees the block
 pub stands_freed : {shape : Shape} {failures : ℕ} {blocks : List Block} {placing : Placing} {fills worn : List ℕ} {writing : Option ℕ}
-    {candidates : Candidates} {block : ℕ} (erases : ℕ) → Stands shape failures blocks placing fills worn writing candidates
+    {candidates : Candidates} {block : ℕ} (erases : ℕ) → IsSoundState shape failures blocks placing fills worn writing candidates
     → IsEmptied shape blocks placing.places block → count_of candidates.counts block ≡ None
-    → Stands shape failures (set blocks block (record { pages = []; erasing = 0; erases = erases })) placing (set fills block 0)
+    → IsSoundState shape failures (set blocks block (record { pages = []; erasing = 0; erases = erases })) placing (set fills block 0)
     (set worn block erases) writing candidates
 stands_freed {shape} {failures} {blocks} {placing} {fills} {worn} {writing} {candidates} {block} erases stands clear taken =
     let new : Block = record { pages = []; erasing = 0; erases = erases } in
@@ -236,7 +236,7 @@ free_going {shape} {blocks} {places} {block} clear =
     let new : Block = record (block_at blocks block) { erasing = (block_at blocks block).erasing + 1 } in
     omega (arith, sum_by-set (free_in shape.pages) blocks block new free_block clear.in_range)
 
-pub erased_last : (blocks after : List Block) (slots block : ℕ) (last : Bool) → after ≡ erased blocks slots block → last
+pub erased_last : (blocks after : List Block) (slots block : ℕ) (last : Bool) → after ≡ blocks_after_erase_slot blocks slots block → last
     ≡ ((block_at blocks block).erasing + 1 == slots) → last ≡ true → after
     ≡ set blocks block (record { pages = []; erasing = 0; erases = (block_at blocks block).erases + 1 })
 erased_last blocks after slots block last is last_is so =
@@ -245,7 +245,7 @@ erased_last blocks after slots block last is last_is so =
     { erasing = old.erasing + 1 }) in
     is ∙ ap P (sym last_is ∙ so)
 
-pub erased_going : (blocks after : List Block) (slots block : ℕ) (last : Bool) → after ≡ erased blocks slots block → last
+pub erased_going : (blocks after : List Block) (slots block : ℕ) (last : Bool) → after ≡ blocks_after_erase_slot blocks slots block → last
     ≡ ((block_at blocks block).erasing + 1 == slots) → last ≡ false → after
     ≡ set blocks block (record (block_at blocks block) { erasing = (block_at blocks block).erasing + 1 })
 erased_going blocks after slots block last is last_is not_yet =

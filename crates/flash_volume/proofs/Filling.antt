@@ -12,10 +12,10 @@ use Rattle.slot_types.specs.declared.plans.Shape.{Shape}
 use Rattle.slot_types.specs.declared.pages.PageData.{PageData}
 use Rattle.slot_types.specs.Places.{place_of, is_in}
 use Rattle.victim_pick.specs.Candidates.{Candidates, count_of, erases_of}
-use Rattle.page_map.specs.Placing.{Placing, bound}
-use Rattle.flash_die.specs.Flash.{Block, blank, free_block, block_at, cell_at, IsProgrammed, programmed}
+use Rattle.page_map.specs.Placing.{Placing, placing_with}
+use Rattle.flash_die.specs.Flash.{Block, blank, free_block, block_at, cell_at, IsProgrammed, blocks_after_program}
 use Rattle.flash_volume.specs.Cells.{filled_of, fills_of, erases_in, is_open_with, left_open, content_at, contents, free_in, free_cells}
-use Rattle.flash_volume.specs.Array.{Stands, left}
+use Rattle.flash_volume.specs.Array.{IsSoundState, counts_after_leaving}
 use Rattle.flash_volume.proofs.Opening.{Opens, OneOpen, Fits, erases_at, opened_is, opened_none, same_block, other_block, stays}
 use Rattle.flash_volume.proofs.Counting.{counts_written, erases_written, worn_written, closed_len, left_len, closed_here, few_written}
 use Rattle.flash_volume.proofs.Counting.{candidates_written}
@@ -52,8 +52,8 @@ left_open_is pages fills block n o =
 
 pub stands_written : {shape : Shape} {failures : ℕ} {blocks : List Block} {placing : Placing} {fills worn : List ℕ} {writing : Option ℕ}
     {candidates : Candidates} (page : ℕ) (bytes : PageData) {place : Place}
-    → Stands shape failures blocks placing fills worn writing candidates → Fits shape blocks place → page < length placing.places
-    → Stands shape failures (programmed blocks place.block bytes) (bound placing page place) (set fills place.block (place.page + 1)) worn
+    → IsSoundState shape failures blocks placing fills worn writing candidates → Fits shape blocks place → page < length placing.places
+    → IsSoundState shape failures (blocks_after_program blocks place.block bytes) (placing_with placing page place) (set fills place.block (place.page + 1)) worn
     (left_open shape.pages place.block (place.page + 1))
     (record candidates {
       counts = counts_written shape page place placing.places candidates.counts;
@@ -103,18 +103,18 @@ stands_written {shape} {failures} {blocks} {placing} {fills} {worn} {writing} {c
             ∙ ap (λ (j : ℕ). get_or (set placing.places page (Some place)) j None) (sym same) ∙ lies in
             let q_is : place ≡ q = cc in
             let b = same_block blocks place.block bytes fit.in_range in
-            let here : IsProgrammed (programmed blocks place.block bytes) place = record {
+            let here : IsProgrammed (blocks_after_program blocks place.block bytes) place = record {
               in_range = omega (arith, length-set blocks place.block new, fit.in_range);
               filled = rw b (omega (arith, longer, fit.next));
               quiet = rw b (stands.quiet place.block o.room);
             } in
-            subst (λ (r : Place). IsProgrammed (programmed blocks place.block bytes) r) q_is here
+            subst (λ (r : Place). IsProgrammed (blocks_after_program blocks place.block bytes) r) q_is here
         | inr other ↦ (stays blocks place.block bytes q fit.in_range
             (stands.placed p q (sym (get_or-set_other placing.places page p (Some place) None other) ∙ lies))).0
       ];
       few_valid = λ block. few_written page bytes block stands fit below;
       candidates_len = closed_len shape.pages place.block (place.page + 1)
-          (count_by (is_in place.block) (set placing.places page (Some place))) (left (place_of placing.places page) candidates.counts)
+          (count_by (is_in place.block) (set placing.places page (Some place))) (counts_after_leaving (place_of placing.places page) candidates.counts)
           (nat_lt (place.page + 1) shape.pages) refl ∙ left_len (place_of placing.places page) candidates.counts ∙ stands.candidates_len;
       worn_len = closed_len shape.pages place.block (place.page + 1) (get_or worn place.block 0) candidates.erases
           (nat_lt (place.page + 1) shape.pages) refl ∙ stands.worn_len;
@@ -127,12 +127,12 @@ stands_written {shape} {failures} {blocks} {placing} {fills} {worn} {writing} {c
 -- a block that is closed then is a candidate
 pub closes_filled : {shape : Shape} {failures : ℕ} {blocks : List Block} {placing : Placing} {fills worn : List ℕ} {writing : Option ℕ}
     {candidates : Candidates} {place : Place} (page : ℕ) (bytes : PageData)
-    → Stands shape failures blocks placing fills worn writing candidates → Fits shape blocks place
-    → filled_of (block_at (programmed blocks place.block bytes) place.block) ≡ shape.pages
+    → IsSoundState shape failures blocks placing fills worn writing candidates → Fits shape blocks place
+    → filled_of (block_at (blocks_after_program blocks place.block bytes) place.block) ≡ shape.pages
     → IsSome (count_of (counts_written shape page place placing.places candidates.counts) place.block)
 closes_filled {shape} {failures} {blocks} {placing} {fills} {worn} {writing} {candidates} {place} page bytes stands fit closed =
     let valid : ℕ = count_by (is_in place.block) (set placing.places page (Some place)) in
-    let there = closed_here shape.pages place.block (place.page + 1) valid (left (place_of placing.places page) candidates.counts)
+    let there = closed_here shape.pages place.block (place.page + 1) valid (counts_after_leaving (place_of placing.places page) candidates.counts)
     (omega (
       arith,
       closed,
@@ -146,7 +146,7 @@ closes_filled {shape} {failures} {blocks} {placing} {fills} {worn} {writing} {ca
 
 -- a cell less is free
 pub free_written : {shape : Shape} {blocks : List Block} {place : Place} (bytes : PageData) → Fits shape blocks place
-    → free_cells shape.pages (programmed blocks place.block bytes) + 1 ≡ free_cells shape.pages blocks
+    → free_cells shape.pages (blocks_after_program blocks place.block bytes) + 1 ≡ free_cells shape.pages blocks
 free_written {shape} {blocks} {place} bytes fit =
     let old : Block = block_at blocks place.block in
     let new : Block = record old { pages = old.pages ++ bytes ∷ [] } in
@@ -159,18 +159,18 @@ free_written {shape} {blocks} {place} bytes fit =
     )
 
 content_stays : (blocks : List Block) (block : ℕ) (bytes : PageData) (o : Option Place) → block < length blocks
-    → ((q : Place) → o ≡ Some q → IsProgrammed blocks q) → content_at (programmed blocks block bytes) o ≡ content_at blocks o
+    → ((q : Place) → o ≡ Some q → IsProgrammed blocks q) → content_at (blocks_after_program blocks block bytes) o ≡ content_at blocks o
 content_stays blocks block bytes None below placed = refl
 content_stays blocks block bytes (Some q) below placed = (stays blocks block bytes q below (placed q refl)).1
 
 -- the page reads what was programmed, and every other page as before
 pub contents_written : {shape : Shape} {failures : ℕ} {blocks : List Block} {placing : Placing} {fills worn : List ℕ} {writing : Option ℕ}
     {candidates : Candidates} (page : ℕ) (bytes : PageData) {place : Place}
-    → Stands shape failures blocks placing fills worn writing candidates → Fits shape blocks place → page < length placing.places
-    → contents (programmed blocks place.block bytes) (set placing.places page (Some place))
+    → IsSoundState shape failures blocks placing fills worn writing candidates → Fits shape blocks place → page < length placing.places
+    → contents (blocks_after_program blocks place.block bytes) (set placing.places page (Some place))
     ≡ set (contents blocks placing.places) page bytes
 contents_written {shape} {failures} {blocks} {placing} {fills} {worn} {writing} {candidates} page bytes {place} stands fit below =
-    let after : List Block = programmed blocks place.block bytes in
+    let after : List Block = blocks_after_program blocks place.block bytes in
     let places : List (Option Place) = set placing.places page (Some place) in
     let len : length places ≡ length placing.places = length-set placing.places page (Some place) in
     let len_left : length (contents after places) ≡ length places = length-map places (content_at after) in

@@ -10,7 +10,7 @@ use Rattle.slot_types.specs.declared.pages.Place.{Place}
 use Rattle.slot_types.specs.declared.plans.Shape.{Shape}
 use Rattle.slot_types.specs.declared.plans.DiePlan.{DiePlan}
 use Rattle.plan_rules.specs.Bound.{MeetsBound}
-use Rattle.plan_rules.specs.Accounts.{total_of, opening}
+use Rattle.plan_rules.specs.Accounts.{total_of, opening_accounts}
 use Rattle.plan_rules.proofs.Totals.{room}
 use Rattle.std.proofs.lemmas.List.Folds.{sum_by-replicate}
 use Rattle.slot_types.specs.Places.{place_of, is_in}
@@ -19,9 +19,9 @@ use Rattle.victim_pick.specs.Candidates.{count_of}
 use Rattle.page_map.specs.Placing.{blank_map}
 use Rattle.flash_die.specs.Flash.{Block, blank, free_block, block_at, IsFresh}
 use Rattle.flash_volume.specs.Cells.{filled_of, fills_of, erases_in, free_in, free_cells, contents}
-use Rattle.flash_volume.specs.Array.{Stands, no_candidates}
+use Rattle.flash_volume.specs.Array.{IsSoundState, no_candidates}
 use Rattle.flash_volume.specs.Running.{running_of}
-use Rattle.flash_volume.specs.Sound.{IsSound}
+use Rattle.flash_volume.specs.SoundVolume.{IsSoundVolume}
 use Rattle.flash_volume.specs.declared.collection.Collection.{Collection}
 use Rattle.flash_volume.proofs.Opening.{seen, opened_none}
 
@@ -72,7 +72,7 @@ none_counted n k =
     ]
 
 pub stands_fresh : (shape : Shape) (failures : ℕ) (blocks : List Block) (logical : ℕ) → IsShape shape → IsFresh shape blocks failures
-    → Stands shape failures blocks (blank_map shape logical) (replicate shape.blocks 0) (replicate shape.blocks 0) None
+    → IsSoundState shape failures blocks (blank_map shape logical) (replicate shape.blocks 0) (replicate shape.blocks 0) None
     (no_candidates shape)
 stands_fresh shape failures blocks logical limits fresh =
     let none : (k : ℕ) → 0 < get_or (zeros shape.blocks) k 0 → ⊥ = λ k some. omega (arith, some, fill_fresh shape.blocks k) in
@@ -103,7 +103,7 @@ one_more : (n k : ℕ) → (n + 1) * k ≡ n * k + k
 one_more n k = grind arith
 
 -- the accounts hold all cells at the start
-total_opening : (plan : DiePlan) → MeetsBound plan → total_of (opening plan) ≡ plan.shape.blocks * plan.shape.pages
+total_opening : (plan : DiePlan) → MeetsBound plan → total_of (opening_accounts plan) ≡ plan.shape.blocks * plan.shape.pages
 total_opening plan bound = omega (
   arith,
   room plan bound,
@@ -146,7 +146,7 @@ contents_fresh blocks (suc logical) = ap (λ l. blank ∷ l) (contents_fresh blo
 
 -- a volume on which nothing was done yet
 pub sound_fresh : (plan : DiePlan) (shape : Shape) (failures : ℕ) (blocks : List Block) → MeetsBound plan → shape ≡ plan.shape
-    → IsFresh shape blocks failures → IsSound (opening plan) shape failures blocks (blank_map shape plan.logical) (no_candidates shape)
+    → IsFresh shape blocks failures → IsSoundVolume (opening_accounts plan) shape failures blocks (blank_map shape plan.logical) (no_candidates shape)
     (replicate (length plan.caps) None)
 sound_fresh plan shape failures blocks bound same fresh =
     let limits : IsShape shape = subst IsShape (sym same) bound.shape in

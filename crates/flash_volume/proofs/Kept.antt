@@ -12,23 +12,23 @@ use Rattle.slot_types.specs.Places.{place_of}
 use Rattle.plan_rules.specs.Bound.{MeetsBound}
 use Rattle.plan_rules.specs.Accounts.{Accounts, total_of}
 use Rattle.victim_pick.specs.Candidates.{Candidates, count_of}
-use Rattle.page_map.specs.Placing.{Placing, bound}
+use Rattle.page_map.specs.Placing.{Placing, placing_with}
 use Rattle.page_map.proofs.Owners.{within}
-use Rattle.flash_die.specs.Flash.{Block, free_block, block_at, programmed}
+use Rattle.flash_die.specs.Flash.{Block, free_block, block_at, blocks_after_program}
 use Rattle.flash_volume.specs.declared.collection.Collection.{Collection}
 use Rattle.flash_volume.specs.declared.collection.Copied.{Copied}
 use Rattle.flash_volume.specs.Cells.{filled_of, free_in, free_cells}
 use Rattle.flash_volume.specs.Running.{running_of, with_buffer, copied_of}
-use Rattle.flash_volume.specs.Sound.{IsSound}
+use Rattle.flash_volume.specs.SoundVolume.{IsSoundVolume}
 use Rattle.flash_volume.proofs.Opening.{Sound, Fits}
 use Rattle.flash_volume.proofs.Running.{run_written, run_copied, run_read, run_going, run_emptied, run_still}
 use Rattle.flash_volume.proofs.Collections.{runs_kept, runs_changed, runs_ended, picks_written, picks_changed, picks_erased, picks_ended}
 
 -- the accounts moved, but no reserve
 pub sound_still : {accounts : Accounts} (after : Accounts) {shape : Shape} {failures : ℕ} {blocks : List Block} {placing : Placing}
-    {candidates : Candidates} {running : List (Option Collection)} → IsSound accounts shape failures blocks placing candidates running
+    {candidates : Candidates} {running : List (Option Collection)} → IsSoundVolume accounts shape failures blocks placing candidates running
     → after.plan ≡ accounts.plan → after.reserves ≡ accounts.reserves → total_of after ≡ total_of accounts
-    → IsSound after shape failures blocks placing candidates running
+    → IsSoundVolume after shape failures blocks placing candidates running
 sound_still after {blocks = blocks} {placing = placing} sound plan reserves total = record {
   stands = sound.stands;
   bound = subst MeetsBound (sym plan) sound.bound;
@@ -45,8 +45,8 @@ pub record IsWritten (shape : Shape) (blocks : List Block) (placing : Placing) (
     (candidates_then : Candidates) : Type 0 where
   pub stands : Sound shape_then failures_then blocks_then placing_then candidates_then
   pub shape_is : shape_then ≡ shape
-  pub cells : blocks_then ≡ programmed blocks place.block bytes
-  pub placing_is : placing_then ≡ bound placing page place
+  pub cells : blocks_then ≡ blocks_after_program blocks place.block bytes
+  pub placing_is : placing_then ≡ placing_with placing page place
   pub free : free_cells shape_then.pages blocks_then + 1 ≡ free_cells shape.pages blocks
   pub others : (block : ℕ) → block ≢ place.block → is_some (count_of candidates_then.counts block)
       ≡ is_some (count_of candidates.counts block)
@@ -56,10 +56,10 @@ pub record IsWritten (shape : Shape) (blocks : List Block) (placing : Placing) (
 pub sound_written : {accounts : Accounts} (after : Accounts) {shape : Shape} {failures : ℕ} {blocks : List Block} {placing : Placing}
     {candidates : Candidates} {running : List (Option Collection)} {page : ℕ} {bytes : PageData} {place : Place} {shape_then : Shape}
     {failures_then : ℕ} {blocks_then : List Block} {placing_then : Placing} {candidates_then : Candidates}
-    → IsSound accounts shape failures blocks placing candidates running → Fits shape blocks place → page < length placing.places
+    → IsSoundVolume accounts shape failures blocks placing candidates running → Fits shape blocks place → page < length placing.places
     → IsWritten shape blocks placing candidates page bytes place shape_then failures_then blocks_then placing_then candidates_then
     → after.plan ≡ accounts.plan → after.reserves ≡ accounts.reserves → total_of after + 1 ≡ total_of accounts
-    → IsSound after shape_then failures_then blocks_then placing_then candidates_then running
+    → IsSoundVolume after shape_then failures_then blocks_then placing_then candidates_then running
 sound_written after {shape} {failures} {blocks} {placing} {candidates} {running} {page} {bytes} {place} {shape_then} {failures_then}
     {blocks_then} {placing_then} {candidates_then} sound fit below is plan reserves total = record {
       stands = is.stands;
@@ -68,7 +68,7 @@ sound_written after {shape} {failures} {blocks} {placing} {candidates} {running}
       map_len = ap (λ (m : Placing). length m.places) is.placing_is ∙ length-set placing.places page (Some place) ∙ sound.map_len
           ∙ ap (λ p. p.logical) (sym plan);
       total = omega (arith, is.free, sound.total, total);
-      runs = rw (is.shape_is, is.cells, is.placing_is) (runs_kept after (programmed blocks place.block bytes)
+      runs = rw (is.shape_is, is.cells, is.placing_is) (runs_kept after (blocks_after_program blocks place.block bytes)
           (set placing.places page (Some place)) sound.runs plan reserves
           (λ t c run same. run_written after page bytes run fit sound.stands.placed below same));
       picks = rw (is.shape_is, is.cells) (picks_written bytes candidates_then.counts sound.runs sound.picks fit is.others
@@ -79,12 +79,12 @@ sound_written after {shape} {failures} {blocks} {placing} {candidates} {running}
 pub sound_copied : {accounts : Accounts} (after : Accounts) {shape : Shape} {failures : ℕ} {blocks : List Block} {placing : Placing}
     {candidates : Candidates} {running : List (Option Collection)} {place : Place} {shape_then : Shape} {failures_then : ℕ}
     {blocks_then : List Block} {placing_then : Placing} {candidates_then : Candidates} (task : ℕ) (c : Collection) (k : Copied)
-    → IsSound accounts shape failures blocks placing candidates running → Fits shape blocks place → task < length accounts.plan.caps
+    → IsSoundVolume accounts shape failures blocks placing candidates running → Fits shape blocks place → task < length accounts.plan.caps
     → running_of running task ≡ Some c → c.buffer ≡ Some k → place_of placing.places k.page ≡ Some k.source
     → IsWritten shape blocks placing candidates k.page k.bytes place shape_then failures_then blocks_then placing_then candidates_then
     → after.plan ≡ accounts.plan → after.reserves ≡ set accounts.reserves task (get_or accounts.reserves task 0 - 1) → task
     < length accounts.reserves → total_of after + 1 ≡ total_of accounts
-    → IsSound after shape_then failures_then blocks_then placing_then candidates_then (set running task (Some (with_buffer c None)))
+    → IsSoundVolume after shape_then failures_then blocks_then placing_then candidates_then (set running task (Some (with_buffer c None)))
 sound_copied {accounts} after {shape} {failures} {blocks} {placing} {candidates} {running} {place} {shape_then} {failures_then}
     {blocks_then} {placing_then} {candidates_then} task c k sound fit in_caps runs holds lies is plan reserves in_reserves total =
     let below : k.page < length placing.places = within placing.places k.page k.source lies in
@@ -102,7 +102,7 @@ sound_copied {accounts} after {shape} {failures} {blocks} {placing} {candidates}
       map_len = ap (λ (m : Placing). length m.places) is.placing_is ∙ length-set placing.places k.page (Some place) ∙ sound.map_len
           ∙ ap (λ p. p.logical) (sym plan);
       total = omega (arith, is.free, sound.total, total);
-      runs = rw (is.shape_is, is.cells, is.placing_is) (runs_changed after task c new (programmed blocks place.block k.bytes)
+      runs = rw (is.shape_is, is.cells, is.placing_is) (runs_changed after task c new (blocks_after_program blocks place.block k.bytes)
           (set placing.places k.page (Some place)) sound.runs in_caps runs refl plan theirs
           (run_copied after k (sound.runs.each task c runs) fit holds lies mine)
           (λ u d other d_runs run. run_written after k.page k.bytes run fit sound.stands.placed below (theirs u other)));
@@ -114,9 +114,9 @@ sound_copied {accounts} after {shape} {failures} {blocks} {placing} {candidates}
 -- after a page of the victim was read
 pub sound_read : {accounts : Accounts} {shape : Shape} {failures : ℕ} {blocks : List Block} {placing : Placing} {candidates : Candidates}
     {running : List (Option Collection)} (task page : ℕ) (source : Place) (c : Collection)
-    → IsSound accounts shape failures blocks placing candidates running → task < length accounts.plan.caps → running_of running task
+    → IsSoundVolume accounts shape failures blocks placing candidates running → task < length accounts.plan.caps → running_of running task
     ≡ Some c → source.block ≡ c.victim → place_of placing.places page ≡ Some source
-    → IsSound accounts shape failures blocks placing candidates
+    → IsSoundVolume accounts shape failures blocks placing candidates
     (set running task (Some (with_buffer c (Some (copied_of blocks page source)))))
 sound_read {accounts} {shape} {failures} {blocks} {placing} {candidates} {running} task page source c sound in_caps runs here lies =
     let new : Collection = with_buffer c (Some (copied_of blocks page source)) in
@@ -134,11 +134,11 @@ sound_read {accounts} {shape} {failures} {blocks} {placing} {candidates} {runnin
 -- after a slot of the victim's erase, not the last
 pub sound_going : {accounts : Accounts} {shape : Shape} {failures : ℕ} {blocks : List Block} {placing : Placing} {candidates : Candidates}
     {running : List (Option Collection)} {shape_then : Shape} {failures_then : ℕ} {blocks_then : List Block} (task : ℕ) (c : Collection)
-    → IsSound accounts shape failures blocks placing candidates running → task < length accounts.plan.caps → running_of running task
+    → IsSoundVolume accounts shape failures blocks placing candidates running → task < length accounts.plan.caps → running_of running task
     ≡ Some c → Sound shape_then failures_then blocks_then placing candidates → shape_then ≡ shape → blocks_then
     ≡ set blocks c.victim (record (block_at blocks c.victim) { erasing = (block_at blocks c.victim).erasing + 1 })
     → free_cells shape_then.pages blocks_then ≡ free_cells shape.pages blocks
-    → IsSound accounts shape_then failures_then blocks_then placing candidates (set running task (Some (with_buffer c None)))
+    → IsSoundVolume accounts shape_then failures_then blocks_then placing candidates (set running task (Some (with_buffer c None)))
 sound_going {accounts} {shape} {failures} {blocks} {placing} {candidates} {running} {shape_then} {failures_then} {blocks_then} task c sound
     in_caps runs stands same cells free =
     let new : Collection = with_buffer c None in
@@ -160,13 +160,13 @@ sound_going {accounts} {shape} {failures} {blocks} {placing} {candidates} {runni
 -- after the last one
 pub sound_ended : {accounts : Accounts} (after : Accounts) {shape : Shape} {failures : ℕ} {blocks : List Block} {placing : Placing}
     {candidates : Candidates} {running : List (Option Collection)} {shape_then : Shape} {failures_then : ℕ} {blocks_then : List Block}
-    (task erases reserve : ℕ) (c : Collection) → IsSound accounts shape failures blocks placing candidates running → task
+    (task erases reserve : ℕ) (c : Collection) → IsSoundVolume accounts shape failures blocks placing candidates running → task
     < length accounts.plan.caps → running_of running task ≡ Some c → Sound shape_then failures_then blocks_then placing candidates
     → shape_then ≡ shape → blocks_then ≡ set blocks c.victim (record { pages = []; erasing = 0; erases = erases })
     → free_cells shape_then.pages blocks_then ≡ free_cells shape.pages blocks + shape.pages → after.plan ≡ accounts.plan → after.reserves
     ≡ set accounts.reserves task reserve → reserve ≡ accounts.plan.shape.pages - accounts.plan.alpha → task < length accounts.reserves
     → total_of after ≡ total_of accounts + accounts.plan.shape.pages
-    → IsSound after shape_then failures_then blocks_then placing candidates (set running task None)
+    → IsSoundVolume after shape_then failures_then blocks_then placing candidates (set running task None)
 sound_ended {accounts} after {shape} {failures} {blocks} {placing} {candidates} {running} {shape_then} {failures_then} {blocks_then} task
     erases reserve c sound in_caps runs stands same cells free plan reserves refilled in_reserves total =
     let new : Block = record { pages = []; erasing = 0; erases = erases } in
@@ -205,13 +205,13 @@ in_sum xs i =
 
 -- who holds a page finds a free cell
 pub some_free : {accounts : Accounts} {shape : Shape} {failures : ℕ} {blocks : List Block} {placing : Placing} {candidates : Candidates}
-    {running : List (Option Collection)} (task : ℕ) → IsSound accounts shape failures blocks placing candidates running → 0
+    {running : List (Option Collection)} (task : ℕ) → IsSoundVolume accounts shape failures blocks placing candidates running → 0
     < get_or accounts.holds task 0 → 0 < free_cells shape.pages blocks
 some_free {accounts} task sound held = omega (arith, sound.total, held, in_sum accounts.holds task)
 
 -- and who has a page in reserve
 pub some_lent : {accounts : Accounts} {shape : Shape} {failures : ℕ} {blocks : List Block} {placing : Placing} {candidates : Candidates}
-    {running : List (Option Collection)} (task : ℕ) → IsSound accounts shape failures blocks placing candidates running → 0
+    {running : List (Option Collection)} (task : ℕ) → IsSoundVolume accounts shape failures blocks placing candidates running → 0
     < get_or accounts.reserves task 0 → 0 < free_cells shape.pages blocks
 some_lent {accounts} task sound lent = omega (arith, sound.total, lent, in_sum accounts.reserves task)
 
@@ -224,7 +224,7 @@ free_le pages (x ∷ xs) = omega (arith, sum_by-cons (free_in pages) x xs, free_
 
 -- the cells of a victim are not among the free ones
 pub room : {accounts : Accounts} {shape : Shape} {failures : ℕ} {blocks : List Block} {placing : Placing} {candidates : Candidates}
-    {running : List (Option Collection)} (task : ℕ) (c : Collection) → IsSound accounts shape failures blocks placing candidates running
+    {running : List (Option Collection)} (task : ℕ) (c : Collection) → IsSoundVolume accounts shape failures blocks placing candidates running
     → running_of running task ≡ Some c → total_of accounts + accounts.plan.shape.pages
     ≤ accounts.plan.shape.blocks * accounts.plan.shape.pages
 room {accounts} {shape} {failures} {blocks} {placing} {candidates} {running} task c sound is =

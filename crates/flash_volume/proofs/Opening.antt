@@ -15,10 +15,10 @@ use Rattle.slot_types.specs.Places.{owner_of}
 use Rattle.victim_pick.specs.Candidates.{Candidates}
 use Rattle.page_map.specs.Placing.{Placing, IsCell}
 use Rattle.page_map.proofs.Owners.{fails_where_none, no_owner}
-use Rattle.flash_die.specs.Flash.{Block, blank, free_block, block_at, cell_at, IsProgrammed, IsNext, programmed}
+use Rattle.flash_die.specs.Flash.{Block, blank, free_block, block_at, cell_at, IsProgrammed, IsNextCell, blocks_after_program}
 use Rattle.flash_volume.specs.Cells.{filled_of, fills_of, erases_in, is_open_with, is_wholly_free, first_of, opened_in, open_in, next_cell}
 use Rattle.flash_volume.specs.Cells.{free_in, free_cells}
-use Rattle.flash_volume.specs.Array.{Stands}
+use Rattle.flash_volume.specs.Array.{IsSoundState}
 
 -- The open block
 
@@ -144,30 +144,30 @@ some_open pages blocks some = some_open_by pages blocks (open_in pages blocks) r
 -- The cell
 
 pub same_block : (blocks : List Block) (block : ℕ) (bytes : PageData) → block < length blocks
-    → block_at (programmed blocks block bytes) block ≡ record (block_at blocks block) {
+    → block_at (blocks_after_program blocks block bytes) block ≡ record (block_at blocks block) {
       pages = (block_at blocks block).pages ++ bytes
           ∷ [];
     }
 same_block blocks block bytes below = get_or-set_same blocks block
     (record (block_at blocks block) { pages = (block_at blocks block).pages ++ bytes ∷ [] }) free_block below
 
-pub other_block : (blocks : List Block) (block k : ℕ) (bytes : PageData) → k ≢ block → block_at (programmed blocks block bytes) k
+pub other_block : (blocks : List Block) (block k : ℕ) (bytes : PageData) → k ≢ block → block_at (blocks_after_program blocks block bytes) k
     ≡ block_at blocks k
 other_block blocks block k bytes other = get_or-set_other blocks block k
     (record (block_at blocks block) { pages = (block_at blocks block).pages ++ bytes ∷ [] }) free_block other
 
-pub count_programmed : (blocks : List Block) (block : ℕ) (bytes : PageData) → length (programmed blocks block bytes) ≡ length blocks
+pub count_programmed : (blocks : List Block) (block : ℕ) (bytes : PageData) → length (blocks_after_program blocks block bytes) ≡ length blocks
 count_programmed blocks block bytes = length-set blocks block
     (record (block_at blocks block) { pages = (block_at blocks block).pages ++ bytes ∷ [] })
 
 -- a program leaves what is programmed
 pub stays : (blocks : List Block) (block : ℕ) (bytes : PageData) (q : Place) → block < length blocks → IsProgrammed blocks q
-    → IsProgrammed (programmed blocks block bytes) q × (cell_at (programmed blocks block bytes) q ≡ cell_at blocks q)
+    → IsProgrammed (blocks_after_program blocks block bytes) q × (cell_at (blocks_after_program blocks block bytes) q ≡ cell_at blocks q)
 stays blocks block bytes q below is =
-    let len : length (programmed blocks block bytes) ≡ length blocks = count_programmed blocks block bytes in
+    let len : length (blocks_after_program blocks block bytes) ≡ length blocks = count_programmed blocks block bytes in
     elim (cases_eq q.block block) [
       | inl same ↦
-          let b : block_at (programmed blocks block bytes) q.block
+          let b : block_at (blocks_after_program blocks block bytes) q.block
           ≡ record (block_at blocks q.block) { pages = (block_at blocks q.block).pages ++ bytes ∷ [] } = rw same
           (same_block blocks block bytes below) in (
             record {
@@ -178,7 +178,7 @@ stays blocks block bytes q below is =
             rw b (get_or_append_left (block_at blocks q.block).pages (bytes ∷ []) blank q.page is.filled),
           )
       | inr other ↦
-          let b : block_at (programmed blocks block bytes) q.block
+          let b : block_at (blocks_after_program blocks block bytes) q.block
           ≡ block_at blocks q.block = other_block blocks block q.block bytes other in (
             record { in_range = omega (arith, len, is.in_range); filled = rw b is.filled; quiet = rw b is.quiet },
             rw b refl,
@@ -194,12 +194,12 @@ pub record Fits (shape : Shape) (blocks : List Block) (place : Place) : Type 0 w
 
 -- the array as its callers see it
 abbrev pub Sound : Shape → ℕ → List Block → Placing → Candidates → Type 0
-Sound shape failures blocks placing candidates = Stands shape failures blocks placing (fills_of blocks) (erases_in blocks)
+Sound shape failures blocks placing candidates = IsSoundState shape failures blocks placing (fills_of blocks) (erases_in blocks)
     (opened_in shape.pages blocks) candidates
 
 -- what is kept is what callers see
 pub seen : {shape : Shape} {failures : ℕ} {blocks : List Block} {placing : Placing} {fills worn : List ℕ} {writing : Option ℕ}
-    {candidates : Candidates} → Stands shape failures blocks placing fills worn writing candidates
+    {candidates : Candidates} → IsSoundState shape failures blocks placing fills worn writing candidates
     → Sound shape failures blocks placing candidates
 seen {shape} {failures} {blocks} {placing} {fills} {worn} {writing} {candidates} stands = record {
   limits = stands.limits;
@@ -223,11 +223,11 @@ seen {shape} {failures} {blocks} {placing} {fills} {worn} {writing} {candidates}
 
 -- the block that is remembered is the open one
 pub remembered : {shape : Shape} {failures : ℕ} {blocks : List Block} {placing : Placing} {fills worn : List ℕ} {writing : Option ℕ}
-    {candidates : Candidates} → Stands shape failures blocks placing fills worn writing candidates → opened_in shape.pages blocks ≡ writing
+    {candidates : Candidates} → IsSoundState shape failures blocks placing fills worn writing candidates → opened_in shape.pages blocks ≡ writing
 remembered {shape} stands = ap (λ (l : List ℕ). position (is_open_with shape.pages) l) (sym stands.fills_are) ∙ stands.writing_is
 
 pub fits : {shape : Shape} {failures : ℕ} {blocks : List Block} {placing : Placing} {fills worn : List ℕ} {writing : Option ℕ}
-    {candidates : Candidates} (place : Place) → Stands shape failures blocks placing fills worn writing candidates
+    {candidates : Candidates} (place : Place) → IsSoundState shape failures blocks placing fills worn writing candidates
     → open_in shape.pages blocks ≡ Some place.block → place.page ≡ filled_of (block_at blocks place.block) → Fits shape blocks place
 fits {shape} {failures} {blocks} {placing} {fills} {worn} {writing} {candidates} place stands is page =
     let o : Opens shape.pages (fills_of blocks) place.block = opens shape.pages blocks place.block (omega (arith, stands.limits.some_pages))
@@ -241,34 +241,34 @@ fits {shape} {failures} {blocks} {placing} {fills} {worn} {writing} {candidates}
 
 -- the next cell, where a block is open
 next_fits_by : {shape : Shape} {failures : ℕ} {blocks : List Block} {placing : Placing} {fills worn : List ℕ} {writing : Option ℕ}
-    {candidates : Candidates} (o : Option ℕ) → Stands shape failures blocks placing fills worn writing candidates
+    {candidates : Candidates} (o : Option ℕ) → IsSoundState shape failures blocks placing fills worn writing candidates
     → open_in shape.pages blocks ≡ o → IsSome o → Fits shape blocks
     (record { block = unwrap_or o 0; page = filled_of (block_at blocks (unwrap_or o 0)) })
 next_fits_by None stands is some = absurd (cc)
 next_fits_by (Some block) stands is some = fits (record { block = block; page = filled_of (block_at _ block) }) stands is refl
 
 pub next_fits : {shape : Shape} {failures : ℕ} {blocks : List Block} {placing : Placing} {fills worn : List ℕ} {writing : Option ℕ}
-    {candidates : Candidates} → Stands shape failures blocks placing fills worn writing candidates → 0 < free_cells shape.pages blocks
+    {candidates : Candidates} → IsSoundState shape failures blocks placing fills worn writing candidates → 0 < free_cells shape.pages blocks
     → Fits shape blocks (next_cell shape.pages blocks)
 next_fits {shape} {failures} {blocks} stands some = next_fits_by (open_in shape.pages blocks) stands refl
     (some_open shape.pages blocks some)
 
 pub fits_next : {shape : Shape} {failures : ℕ} {blocks : List Block} {placing : Placing} {fills worn : List ℕ} {writing : Option ℕ}
-    {candidates : Candidates} {place : Place} → Stands shape failures blocks placing fills worn writing candidates → 0
+    {candidates : Candidates} {place : Place} → IsSoundState shape failures blocks placing fills worn writing candidates → 0
     < free_cells shape.pages blocks → place ≡ next_cell shape.pages blocks → Fits shape blocks place
 fits_next {shape} {failures} {blocks} stands some is = subst (λ (p : Place). Fits shape blocks p) (sym is) (next_fits stands some)
 
 -- an array that stands, a page of it, and the cell that is written next
 pub record Ready (shape : Shape) (failures : ℕ) (blocks : List Block) (placing : Placing) (fills worn : List ℕ) (writing : Option ℕ)
     (candidates : Candidates) (page : ℕ) (place : Place) : Type 0 where
-  pub stands : Stands shape failures blocks placing fills worn writing candidates
+  pub stands : IsSoundState shape failures blocks placing fills worn writing candidates
   pub is : place ≡ next_cell shape.pages blocks
   pub fit : Fits shape blocks place
   pub in_list : page < length placing.places
 
 pub is_next : {shape : Shape} {failures : ℕ} {blocks : List Block} {placing : Placing} {fills worn : List ℕ} {writing : Option ℕ}
-    {candidates : Candidates} {place : Place} → Stands shape failures blocks placing fills worn writing candidates → Fits shape blocks place
-    → IsNext blocks shape.pages place
+    {candidates : Candidates} {place : Place} → IsSoundState shape failures blocks placing fills worn writing candidates → Fits shape blocks place
+    → IsNextCell blocks shape.pages place
 is_next {shape} {failures} {blocks} {placing} {fills} {worn} {writing} {candidates} {place} stands fit = record {
   in_range = fit.in_range;
   next = fit.next;
@@ -277,7 +277,7 @@ is_next {shape} {failures} {blocks} {placing} {fills} {worn} {writing} {candidat
 }
 
 pub is_cell : {shape : Shape} {failures : ℕ} {blocks : List Block} {placing : Placing} {fills worn : List ℕ} {writing : Option ℕ}
-    {candidates : Candidates} {place : Place} → Stands shape failures blocks placing fills worn writing candidates → Fits shape blocks place
+    {candidates : Candidates} {place : Place} → IsSoundState shape failures blocks placing fills worn writing candidates → Fits shape blocks place
     → IsCell placing.shape place
 is_cell {shape} {failures} {blocks} {placing} {fills} {worn} {writing} {candidates} {place} stands fit =
     subst (λ (s : Shape). IsCell s place) (sym stands.map_shape)
@@ -285,7 +285,7 @@ is_cell {shape} {failures} {blocks} {placing} {fills} {worn} {writing} {candidat
 
 -- nothing lies in a free cell
 pub unplaced : {shape : Shape} {failures : ℕ} {blocks : List Block} {placing : Placing} {fills worn : List ℕ} {writing : Option ℕ}
-    {candidates : Candidates} {place : Place} → Stands shape failures blocks placing fills worn writing candidates → Fits shape blocks place
+    {candidates : Candidates} {place : Place} → IsSoundState shape failures blocks placing fills worn writing candidates → Fits shape blocks place
     → owner_of placing.places place ≡ None
 unplaced {shape} {failures} {blocks} {placing} {fills} {worn} {writing} {candidates} {place} stands fit =
     no_owner placing.places place (λ page lies. omega (arith, (stands.placed page place lies).filled, fit.next))

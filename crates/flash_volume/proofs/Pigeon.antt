@@ -7,7 +7,7 @@ use Rattle.std.proofs.lemmas.List.Sums.{sum_by-cons}
 use Rattle.std.proofs.lemmas.Map.Steps.{length-le_from_distinct_below}
 use Rattle.slot_types.specs.declared.pages.Place.{Place}
 use Rattle.slot_types.specs.Places.{place_of, is_in}
-use Rattle.page_map.specs.Placing.{AreApart}
+use Rattle.page_map.specs.Placing.{HaveOwnCells}
 use Rattle.page_map.proofs.Owners.{same_place}
 
 -- the pages of a block in which logical pages lie
@@ -67,12 +67,12 @@ others b q (Some p ∷ os) no_one = by_block (p.block == b) refl (others b q os 
     )
     by_block false is more = more
 
-rest_apart : (o : Option Place) (os : List (Option Place)) → AreApart (o ∷ os) → AreApart os
+rest_apart : (o : Option Place) (os : List (Option Place)) → HaveOwnCells (o ∷ os) → HaveOwnCells os
 rest_apart o os are = record {
   apart = λ i j q at_i at_j. let same : suc i ≡ suc j = are.apart (suc i) (suc j) q at_i at_j in omega (arith, same);
 }
 
-distinct : (b : ℕ) (os : List (Option Place)) → AreApart os → IsDistinct nat_eq (pages_in b os)
+distinct : (b : ℕ) (os : List (Option Place)) → HaveOwnCells os → IsDistinct nat_eq (pages_in b os)
 unfolding IsDistinct
 distinct b [] are = tt
 distinct b (None ∷ os) are = distinct b os (rest_apart None os are)
@@ -101,7 +101,7 @@ counted b (Some p ∷ os) = by_block (p.block == b) (counted b os)
     by_block false more = omega (arith, more)
 
 -- where no two pages lie in one cell, and all that lie in a block lie in its first pages
-pub few_in : (places : List (Option Place)) (b n : ℕ) → AreApart places
+pub few_in : (places : List (Option Place)) (b n : ℕ) → HaveOwnCells places
     → ((page : ℕ) (place : Place) → place_of places page ≡ Some place → place.block ≡ b → place.page < n)
     → count_by (is_in b) places ≤ n
 few_in places b n are below =

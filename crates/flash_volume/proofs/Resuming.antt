@@ -24,10 +24,10 @@ use Rattle.die_checkpoint.specs.Fits.{Fits, in_accounts}
 use Rattle.die_checkpoint.proofs.Looking.{in_blocks}
 use Rattle.flash_die.specs.Flash.{Block, block_at, free_block}
 use Rattle.flash_volume.specs.Cells.{filled_of, fills_of, erases_in, is_open_with, free_cells}
-use Rattle.flash_volume.specs.Array.{Stands}
+use Rattle.flash_volume.specs.Array.{IsSoundState}
 use Rattle.flash_volume.specs.Running.{running_of}
-use Rattle.flash_volume.specs.Sound.{IsSound}
-use Rattle.flash_volume.specs.Resumed.{counts_of, IsAsLeft, AreClosedBelow}
+use Rattle.flash_volume.specs.SoundVolume.{IsSoundVolume}
+use Rattle.flash_volume.specs.Checkpoints.{counts_of, IsAsLeft, AreClosedBelow}
 use Rattle.flash_volume.specs.declared.collection.Collection.{Collection}
 use Rattle.flash_volume.proofs.Opening.{seen}
 use Rattle.flash_volume.proofs.Fresh.{none_running}
@@ -74,7 +74,7 @@ pub stands_resumed : (plan : DiePlan) (c : Checkpoint) (shape : Shape) (blocks :
     → fills ≡ map (λ (b : BlockCounts). b.filled) c.blocks → erases ≡ map (λ (b : BlockCounts). b.erases) c.blocks
     → writing ≡ position (is_open_with plan.shape.pages) fills
     → AreClosedBelow plan.shape.pages c.blocks c.places candidates plan.shape.blocks
-    → Stands shape failures blocks (record { shape = plan.shape; places = c.places }) fills erases writing candidates
+    → IsSoundState shape failures blocks (record { shape = plan.shape; places = c.places }) fills erases writing candidates
 stands_resumed plan c shape blocks failures fills erases writing candidates fits same left fills_are erases_are writing_is closed =
     let all = fits.all_else.blocks in
     let said : (b : ℕ) → counts_at c.blocks b ≡ counts_of (block_at blocks b) = λ b. counts_are blocks c.blocks b left.counts in
@@ -128,9 +128,9 @@ total_said plan c = omega (
 pub sound_resumed : (plan : DiePlan) (c : Checkpoint) (shape : Shape) (blocks : List Block) (failures : ℕ) (placing : Placing) (fills erases : List ℕ)
     (writing : Option ℕ) (candidates : Candidates) → Fits plan c → shape ≡ plan.shape → IsAsLeft c blocks failures
     → placing ≡ record { shape = plan.shape; places = c.places }
-    → Stands shape failures blocks placing fills erases writing candidates
+    → IsSoundState shape failures blocks placing fills erases writing candidates
     → AreClosedBelow plan.shape.pages c.blocks c.places candidates plan.shape.blocks
-    → IsSound (quiet_accounts plan c.spare c.balances) shape failures blocks placing candidates (replicate (length plan.caps) None)
+    → IsSoundVolume (quiet_accounts plan c.spare c.balances) shape failures blocks placing candidates (replicate (length plan.caps) None)
 sound_resumed plan c shape blocks failures placing fills erases writing candidates fits same left placing_is stands closed =
     let all = fits.all_else.blocks in
     let pages_are : shape.pages ≡ plan.shape.pages = ap (λ (s : Shape). s.pages) same in

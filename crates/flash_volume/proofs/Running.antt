@@ -11,7 +11,7 @@ use Rattle.slot_types.specs.declared.pages.PageData.{PageData}
 use Rattle.slot_types.specs.Places.{place_of, is_in}
 use Rattle.plan_rules.specs.Accounts.{Accounts}
 use Rattle.page_map.proofs.Owners.{within}
-use Rattle.flash_die.specs.Flash.{Block, free_block, blank, block_at, cell_at, IsProgrammed, programmed}
+use Rattle.flash_die.specs.Flash.{Block, free_block, blank, block_at, cell_at, IsProgrammed, blocks_after_program}
 use Rattle.flash_volume.specs.declared.collection.Collection.{Collection}
 use Rattle.flash_volume.specs.declared.collection.Copied.{Copied}
 use Rattle.flash_volume.specs.Cells.{filled_of}
@@ -42,7 +42,7 @@ pub run_written : {accounts : Accounts} (after : Accounts) {shape : Shape} {bloc
     {c : Collection} {place : Place} (page : ℕ) (bytes : PageData) → RunWell accounts shape.pages blocks places task c
     → Fits shape blocks place → ((p : ℕ) (q : Place) → place_of places p ≡ Some q → IsProgrammed blocks q) → page < length places
     → get_or after.reserves task 0 ≡ get_or accounts.reserves task 0
-    → RunWell after shape.pages (programmed blocks place.block bytes) (set places page (Some place)) task c
+    → RunWell after shape.pages (blocks_after_program blocks place.block bytes) (set places page (Some place)) task c
 run_written {accounts} after {shape} {blocks} {places} {task} {c} {place} page bytes run fit placed below reserve = record {
   in_range = omega (arith, run.in_range, count_programmed blocks place.block bytes);
   closed = ap filled_of (other_block blocks place.block c.victim bytes (not_open run fit)) ∙ run.closed;
@@ -94,7 +94,7 @@ run_emptied after {c} run lent = record {
 pub run_copied : {accounts : Accounts} (after : Accounts) {shape : Shape} {blocks : List Block} {places : List (Option Place)} {task : ℕ}
     {c : Collection} {place : Place} (k : Copied) → RunWell accounts shape.pages blocks places task c → Fits shape blocks place → c.buffer
     ≡ Some k → place_of places k.page ≡ Some k.source → get_or after.reserves task 0 ≡ get_or accounts.reserves task 0 - 1
-    → RunWell after shape.pages (programmed blocks place.block k.bytes) (set places k.page (Some place)) task (with_buffer c None)
+    → RunWell after shape.pages (blocks_after_program blocks place.block k.bytes) (set places k.page (Some place)) task (with_buffer c None)
 run_copied {accounts} after {shape} {blocks} {places} {task} {c} {place} k run fit holds lies reserve =
     let below : k.page < length places = within places k.page k.source lies in
     record {

@@ -9,13 +9,13 @@ use Rattle.slot_types.specs.declared.plans.Shape.{Shape}
 use Rattle.slot_types.specs.Places.{place_of, is_in}
 use Rattle.plan_rules.specs.Accounts.{Accounts}
 use Rattle.victim_pick.specs.Candidates.{Candidates, count_of}
-use Rattle.page_map.specs.Placing.{Placing, unbound}
+use Rattle.page_map.specs.Placing.{Placing, placing_without}
 use Rattle.flash_die.specs.Flash.{Block, blank}
 use Rattle.flash_volume.specs.declared.collection.Collection.{Collection}
 use Rattle.flash_volume.specs.Cells.{content_at, contents}
-use Rattle.flash_volume.specs.Array.{Stands, left}
+use Rattle.flash_volume.specs.Array.{IsSoundState, counts_after_leaving}
 use Rattle.flash_volume.specs.Running.{RunWell}
-use Rattle.flash_volume.specs.Sound.{IsSound}
+use Rattle.flash_volume.specs.SoundVolume.{IsSoundVolume}
 use Rattle.flash_volume.proofs.Opening.{Sound}
 use Rattle.flash_volume.proofs.Counting.{here, left_counted, left_len}
 use Rattle.flash_volume.proofs.Collections.{runs_kept, picks_kept}
@@ -38,9 +38,9 @@ leaves : (block page : ℕ) (places : List (Option Place)) → page < length pla
 leaves block page places below = omega (arith, sum_by-set (here block) places page None None below)
 
 pub stands_trimmed : {shape : Shape} {failures : ℕ} {blocks : List Block} {placing : Placing} {fills worn : List ℕ} {writing : Option ℕ}
-    {candidates : Candidates} (page : ℕ) → Stands shape failures blocks placing fills worn writing candidates → page < length placing.places
-    → Stands shape failures blocks (unbound placing page) fills worn writing
-    (record candidates { counts = left (place_of placing.places page) candidates.counts })
+    {candidates : Candidates} (page : ℕ) → IsSoundState shape failures blocks placing fills worn writing candidates → page < length placing.places
+    → IsSoundState shape failures blocks (placing_without placing page) fills worn writing
+    (record candidates { counts = counts_after_leaving (place_of placing.places page) candidates.counts })
 stands_trimmed {placing = placing} {candidates = candidates} page stands below = record {
   limits = stands.limits;
   map_shape = stands.map_shape;
@@ -82,10 +82,10 @@ run_trimmed {places = places} {c = c} page run below = record {
 
 pub sound_trimmed : {accounts : Accounts} {shape : Shape} {failures : ℕ} {blocks : List Block} {placing placing_then : Placing}
     {candidates candidates_then : Candidates} {running : List (Option Collection)} (page : ℕ)
-    → IsSound accounts shape failures blocks placing candidates running → page < length placing.places
-    → Sound shape failures blocks placing_then candidates_then → placing_then ≡ unbound placing page
+    → IsSoundVolume accounts shape failures blocks placing candidates running → page < length placing.places
+    → Sound shape failures blocks placing_then candidates_then → placing_then ≡ placing_without placing page
     → ((block : ℕ) → is_some (count_of candidates_then.counts block) ≡ is_some (count_of candidates.counts block))
-    → IsSound accounts shape failures blocks placing_then candidates_then running
+    → IsSoundVolume accounts shape failures blocks placing_then candidates_then running
 sound_trimmed {accounts} {blocks = blocks} {placing = placing} {candidates_then = candidates_then} page sound below stands is same =
     record {
       stands = stands;

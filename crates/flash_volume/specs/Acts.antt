@@ -2,8 +2,8 @@
 use Rattle.std.specs.Prelude.{◌≡◌, ◌≢◌, ℕ, ◌+◌, ◌-◌, ◌<◌, ◌≤◌, false, List, count_by, Option, Some, None, IsSome, slice_index, slice_set}
 use Rattle.slot_types.specs.declared.pages.Place.{Place}
 use Rattle.slot_types.specs.Places.{place_of, owner_of, is_in}
-use Rattle.plan_rules.specs.Accounts.{given_of, reserve_spent, settled, waived}
-use Rattle.flash_die.specs.Flash.{Block, block_at, programmed, erased}
+use Rattle.plan_rules.specs.Accounts.{given_of, accounts_after_copy, accounts_after_collection, accounts_after_waiver}
+use Rattle.flash_die.specs.Flash.{Block, block_at, blocks_after_program, blocks_after_erase_slot}
 use Rattle.flash_volume.specs.declared.collection.Collection.{Collection}
 use Rattle.flash_volume.specs.declared.collection.Copied.{Copied}
 use Rattle.flash_volume.specs.declared.collection.Began.{Began}
@@ -21,7 +21,7 @@ use Rattle.flash_volume.specs.State.{State}
 pub record Waives {N : Type 0} (old : State N) (task gift : ℕ) (new : State N) : Type 0 where
   pub spare : old.accounts.plan.alpha ≤ old.accounts.spare
   pub given : gift ≡ given_of old.accounts task
-  pub moved : new ≡ record old { accounts = waived old.accounts task }
+  pub moved : new ≡ record old { accounts = accounts_after_waiver old.accounts task }
 
 -- it takes its victim, in which no more pages lie than its reserve can hold
 pub record Begins {N : Type 0} (blocks : N → List Block) (old : State N) (task block : ℕ) (new : State N) : Type 0 where
@@ -50,7 +50,7 @@ abbrev pub IsUnplaced : List (Option Place) → ℕ → Type 0
 IsUnplaced places block = (page : ℕ) (place : Place) → place_of places page ≡ Some place → place.block ≢ block
 
 -- of the pages that lie in the block this one lies first
-pub record IsFirst (places : List (Option Place)) (block page : ℕ) (source : Place) : Type 0 where
+pub record IsFirstInBlock (places : List (Option Place)) (block page : ℕ) (source : Place) : Type 0 where
   pub here : source.block ≡ block
   pub lies : place_of places page ≡ Some source
   pub owns : owner_of places source ≡ Some page
@@ -62,7 +62,7 @@ pub record Reads {N : Type 0} (blocks : N → List Block) (old : State N) (task 
     pub source : Place
     pub dropped : HasDropped old.places c
     pub left : HasLeft old.places c
-    pub first : IsFirst old.places c.victim page source
+    pub first : IsFirstInBlock old.places c.victim page source
     pub cells : blocks new.device ≡ blocks old.device
     pub places : new.places ≡ old.places
     pub pages : new.pages ≡ old.pages
@@ -79,11 +79,11 @@ pub record Programs {N : Type 0} (blocks : N → List Block) (old : State N) (ta
     pub here : copied.source.block ≡ c.victim
     pub lies : place_of old.places page ≡ Some copied.source
     pub finds : IsSome (open_in old.accounts.plan.shape.pages (blocks old.device))
-    pub cells : blocks new.device ≡ programmed (blocks old.device) (next_cell old.accounts.plan.shape.pages (blocks old.device)).block
+    pub cells : blocks new.device ≡ blocks_after_program (blocks old.device) (next_cell old.accounts.plan.shape.pages (blocks old.device)).block
         copied.bytes
     pub places : new.places ≡ slice_set old.places page (Some (next_cell old.accounts.plan.shape.pages (blocks old.device)))
     pub pages : new.pages ≡ old.pages
-    pub accounts : new.accounts ≡ reserve_spent old.accounts task
+    pub accounts : new.accounts ≡ accounts_after_copy old.accounts task
     pub running : new.running ≡ slice_set old.running task (Some (with_buffer c None))
     pub well : new.failed ≡ false
 
@@ -91,7 +91,7 @@ pub record Programs {N : Type 0} (blocks : N → List Block) (old : State N) (ta
 pub record Erases {N : Type 0} (blocks : N → List Block) (old : State N) (c : Collection) (block : ℕ) (new : State N) : Type 0 where
   pub victim : block ≡ c.victim
   pub unplaced : IsUnplaced old.places block
-  pub cells : blocks new.device ≡ erased (blocks old.device) old.accounts.plan.shape.erase_slots block
+  pub cells : blocks new.device ≡ blocks_after_erase_slot (blocks old.device) old.accounts.plan.shape.erase_slots block
   pub places : new.places ≡ old.places
   pub pages : new.pages ≡ old.pages
   pub well : new.failed ≡ false
@@ -114,7 +114,7 @@ pub record Finishes {N : Type 0} (blocks : N → List Block) (old : State N) (ta
   pub erases : Erases blocks old c block new
   pub last : (block_at (blocks old.device) block).erasing + 1 ≡ old.accounts.plan.shape.erase_slots
   pub given : gift ≡ given_of old.accounts task
-  pub accounts : new.accounts ≡ settled old.accounts task
+  pub accounts : new.accounts ≡ accounts_after_collection old.accounts task
       (old.accounts.plan.shape.pages - old.accounts.plan.alpha - slice_index old.accounts.reserves task)
   pub running : new.running ≡ slice_set old.running task None
 

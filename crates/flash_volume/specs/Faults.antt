@@ -11,7 +11,8 @@ pub record FailsWithDevice {N A : Type 0} (failures : N → ℕ) (never_fails : 
     pub by_fault : FailsByFault never_fails result (failures old.device) (failures new.device)
     pub failed : new.failed ≡ is_err result
 
--- A volume that has failed answers `DieStopped`, and nothing changes; on any other the device alone makes this call fail.
+-- A volume that has failed answers `DieStopped`, and nothing changes; on any other the device alone makes this call
+-- fail.
 pub record StopsWithDevice {N A : Type 0} (failures : N → ℕ) (never_fails : Bool) (result : Result A Refusal) (old new : State N) : Type 0
   where
     pub stopped : old.failed ≡ true → result ≡ Err DieStopped

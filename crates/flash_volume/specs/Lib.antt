@@ -3,11 +3,11 @@ pub mod Array
 pub mod ArrayCalls
 pub mod Running
 pub mod Picks
-pub mod Sound
+pub mod SoundVolume
 pub mod State
 pub mod Pages
 pub mod Faults
 pub mod Acts
 pub mod Calls
 pub mod Steps
-pub mod Resumed
+pub mod Checkpoints

@@ -25,7 +25,7 @@ pub record IsVictim (pages : ℕ) (blocks : List Block) (places : List (Option P
       → (block_at blocks other).erases ≡ (block_at blocks block).erases → block ≤ other
 
 -- a collection works on the block
-pub record IsTaken (running : List (Option Collection)) (block : ℕ) : Type 0 where
+pub record IsCollected (running : List (Option Collection)) (block : ℕ) : Type 0 where
   pub task : ℕ
   pub collection : Collection
   pub runs : running_of running task ≡ Some collection
@@ -35,4 +35,4 @@ pub record IsTaken (running : List (Option Collection)) (block : ℕ) : Type 0 w
 pub record PicksWell (pages : ℕ) (blocks : List Block) (counts : List (Option ℕ)) (running : List (Option Collection)) : Type 0 where
   pub taken : (task : ℕ) (c : Collection) → running_of running task ≡ Some c → count_of counts c.victim ≡ None
   pub closed : (block : ℕ) → block < length blocks → filled_of (block_at blocks block) ≡ pages → count_of counts block ≡ None
-      → IsTaken running block
+      → IsCollected running block

@@ -19,8 +19,8 @@ with_buffer collection buffer = record collection { buffer = buffer }
 abbrev pub copied_of : List Block → ℕ → Place → Copied
 copied_of blocks page source = record { page = page; source = source; bytes = cell_at blocks source }
 
--- what is true of a task's running collection: its victim is closed, no more pages lie in it than are in reserve, and its buffer holds a
--- page of the victim as it stands there
+-- what is true of a task's running collection: its victim is closed, no more pages lie in it than are in reserve, and
+-- its buffer holds a page of the victim as it stands there
 pub record RunWell (accounts : Accounts) (pages : ℕ) (blocks : List Block) (places : List (Option Place)) (task : ℕ) (c : Collection) : Type
     0 where
   pub in_range : c.victim < length blocks

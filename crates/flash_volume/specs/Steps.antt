@@ -13,14 +13,14 @@ use Rattle.flash_volume.specs.Calls.{call_of}
 use Rattle.flash_volume.specs.Cells.{open_in}
 use Rattle.flash_volume.specs.Pages.{next_in}
 use Rattle.flash_volume.specs.Picks.{IsVictim}
-use Rattle.flash_volume.specs.Acts.{HasDropped, HasLeft, IsFirst, IsUnplaced}
+use Rattle.flash_volume.specs.Acts.{HasDropped, HasLeft, IsFirstInBlock, IsUnplaced}
 use Rattle.flash_volume.specs.State.{State}
 
 -- it reads the first page that lies in its victim
 pub record ReadsNext (places : List (Option Place)) (c : Collection) (page : ℕ) (source : Place) : Type 0 where
   pub dropped : HasDropped places c
   pub left : HasLeft places c
-  pub first : IsFirst places c.victim page source
+  pub first : IsFirstInBlock places c.victim page source
 
 -- it programs the page in its buffer, which still lies where it was read, to the next cell
 pub record ProgramsNext {N : Type 0} (blocks : N → List Block) (v : State N) (c : Collection) (page : ℕ) (place : Place) (bytes : PageData)
@@ -41,20 +41,20 @@ pub record ErasesNext (places : List (Option Place)) (c : Collection) (block : �
   pub left : HasLeft places c
   pub unplaced : IsUnplaced places block
 
-abbrev pub IsStep : {N : Type 0} → (N → List Block) → State N → Collection → CollectStep → Type 0
-IsStep blocks v c (steps.Read page source) = ReadsNext v.places c page source
-IsStep blocks v c (steps.Program page place bytes) = ProgramsNext blocks v c page place bytes
-IsStep blocks v c (steps.Erase block) = ErasesNext v.places c block
+abbrev pub IsCollectStep : {N : Type 0} → (N → List Block) → State N → Collection → CollectStep → Type 0
+IsCollectStep blocks v c (steps.Read page source) = ReadsNext v.places c page source
+IsCollectStep blocks v c (steps.Program page place bytes) = ProgramsNext blocks v c page place bytes
+IsCollectStep blocks v c (steps.Erase block) = ErasesNext v.places c block
 
 -- the collection's next step was begun, and its call of the device, which is the only one, ended so
 pub record EndsStep {N : Type 0} (ends : N → NandCall → Bool → N → Type 0) (blocks : N → List Block) (old : State N) (c : Collection)
     (well : Bool) (new : State N) : Type 0 where
   pub step : CollectStep
-  pub is : IsStep blocks old c step
+  pub is : IsCollectStep blocks old c step
   pub ended : ends old.device (call_of step) well new.device
 
 -- a collection that begins takes its victim, and then this is its first step
 pub record IsFirstStep {N : Type 0} (blocks : N → List Block) (v : State N) (step : CollectStep) : Type 0 where
   pub block : ℕ
   pub victim : IsVictim v.accounts.plan.shape.pages (blocks v.device) v.places v.running block
-  pub is : IsStep blocks v (record { victim = block; buffer = None }) step
+  pub is : IsCollectStep blocks v (record { victim = block; buffer = None }) step

@@ -7,12 +7,12 @@ ghost use Rattle.slot_types.specs.declared.pages.Place.{Place};
 ghost use Rattle.slot_types.specs.Places.{place_of, owner_of};
 ghost use Rattle.slot_types.specs.Shapes.{IsShape};
 ghost use Rattle.victim_pick.specs.Candidates.{count_of, HasNone, IsLeast};
-ghost use Rattle.page_map.specs.Placing.{blank_map, unbound};
-ghost use Rattle.flash_die.specs.Flash.{IsFresh, blank, block_at, programmed, erased};
+ghost use Rattle.page_map.specs.Placing.{blank_map, placing_without};
+ghost use Rattle.flash_die.specs.Flash.{IsFresh, blank, block_at, blocks_after_program, blocks_after_erase_slot};
 ghost use Rattle.flash_volume.specs.Cells.{filled_of, first_worn, is_wholly_free, is_worn_beyond, open_in, left_open, next_cell, content_at, contents, free_cells};
-ghost use Rattle.flash_volume.specs.Array.{IsSoundArray, no_candidates, taken_out};
+ghost use Rattle.flash_volume.specs.Array.{IsSoundArray, no_candidates, without_candidate};
 ghost use Rattle.flash_volume.specs.ArrayCalls.{HasPlaced, HasErased, EndsWithDevice};
-ghost use Rattle.flash_volume.specs.Acts.{IsFirst};
+ghost use Rattle.flash_volume.specs.Acts.{IsFirstInBlock};
 
 use crate::candidates::{close_when_filled, leave};
 use flash_die::{Nand, NandCall};
@@ -44,14 +44,14 @@ pub(crate) struct PageArray<N: Nand> {
 
 impl<N: Nand> Model for PageArray<N> {
     ghost use Rattle.std.specs.Prelude.{◌≡◌, false};
-    ghost use Rattle.flash_volume.specs.Array.{ArrayState, Stands};
+    ghost use Rattle.flash_volume.specs.Array.{ArrayState, IsSoundState};
 
     ghost Value = { ArrayState N };
 
     ghost view = { λ a. record { failed = a.failed; device = a.device; placing = a.map; candidates = a.victims } };
 
     ghost invariant = { λ a. a.failed ≡ false
-        → Stands (N.shape_of a.device) (N.failures a.device) (N.blocks a.device) a.map a.fills.items a.erases.items a.writing a.victims };
+        → IsSoundState (N.shape_of a.device) (N.failures a.device) (N.blocks a.device) a.map a.fills.items a.erases.items a.writing a.victims };
 }
 
 impl<N: Nand> PageArray<N> {
@@ -86,6 +86,13 @@ impl<N: Nand> PageArray<N> {
         ensures { result ≡ self.now.failed }
     {
         self.failed
+    }
+
+    /// How many pages there are.
+    pub(crate) fn pages(&self) -> u32
+        ensures { result ≡ length self.now.placing.places }
+    {
+        self.map.pages()
     }
 
     /// The device.
@@ -171,7 +178,7 @@ impl<N: Nand> PageArray<N> {
         requires alive { self.old.failed ≡ false }
         requires page { page < length self.old.placing.places }
         ensures device { self.new.device ≡ self.old.device }
-        ensures placing { self.new.placing ≡ unbound self.old.placing page }
+        ensures placing { self.new.placing ≡ placing_without self.old.placing page }
         ensures candidates { (block : ℕ) → is_some (count_of self.new.candidates.counts block)
             ≡ is_some (count_of self.old.candidates.counts block) }
         ensures contents { contents (N.blocks self.new.device) self.new.placing.places
@@ -221,7 +228,7 @@ impl<N: Nand> PageArray<N> {
         requires alive { self.old.failed ≡ false }
         requires some { HasNone self.old.candidates.counts → ⊥ }
         ensures least { IsLeast self.old.candidates.counts self.old.candidates.erases result }
-        ensures taken { self.new ≡ record self.old { candidates = taken_out result self.old.candidates } }
+        ensures taken { self.new ≡ record self.old { candidates = without_candidate result self.old.candidates } }
         ensures sound { IsSoundArray N.shape_of N.failures N.blocks self.new }
     {
         self.victims.take_least().unwrap()
@@ -253,7 +260,7 @@ impl<N: Nand> PageArray<N> {
     /// Of the pages that lie in a block the one that lies first, with its cell.
     pub(crate) fn first_page(&self, block: u32) -> Option<(u32, Place)>
         requires { block < self.now.placing.shape.blocks }
-        ensures some { IfSome result (λ first. IsFirst self.now.placing.places block first.0 first.1) }
+        ensures some { IfSome result (λ first. IsFirstInBlock self.now.placing.places block first.0 first.1) }
         ensures none { IfNone result ((page : ℕ) → page < self.now.placing.shape.pages
             → owner_of self.now.placing.places (record { block = block; page = page }) ≡ None) }
     {

@@ -3,7 +3,7 @@
 ghost use Rattle.std.specs.Prelude.{◌≡◌, ◌<◌, ◌≤◌, ℕ, Some, None, length};
 ghost use Rattle.victim_pick.specs.Candidates.{count_of};
 ghost use Rattle.slot_types.specs.declared.pages.Place.{Place};
-ghost use Rattle.flash_volume.specs.Array.{left, closed_when_filled};
+ghost use Rattle.flash_volume.specs.Array.{counts_after_leaving, closed_when_filled};
 
 use slot_types::Place;
 use victim_pick::Victims;
@@ -11,7 +11,7 @@ use victim_pick::Victims;
 /// A page that lay here has left its block. If that is a candidate, a page less lies in it.
 pub(crate) fn leave(victims: &mut Victims, before: Option<Place>)
     requires { (place : Place) (n : ℕ) → before ≡ Some place → count_of victims.old.counts place.block ≡ Some n → 0 < n }
-    ensures { victims.new ≡ record victims.old { counts = left before victims.old.counts } }
+    ensures { victims.new ≡ record victims.old { counts = counts_after_leaving before victims.old.counts } }
 {
     if let Some(place) = before {
         if victims.count(place.block).is_some() {

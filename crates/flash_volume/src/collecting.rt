@@ -11,7 +11,7 @@ ghost use Rattle.flash_volume.specs.Faults.{StopsWithDevice, FailsWithDevice};
 ghost use Rattle.flash_volume.specs.Pages.{KeepsBooks, next_in};
 ghost use Rattle.flash_volume.specs.Cells.{open_in};
 ghost use Rattle.flash_volume.specs.Steps.{EndsStep};
-ghost use Rattle.flash_volume.specs.Acts.{IsFirst, HasLeft, DoesBegin, Reads, Programs, Does};
+ghost use Rattle.flash_volume.specs.Acts.{IsFirstInBlock, HasLeft, DoesBegin, Reads, Programs, Does};
 
 use crate::collection::{Began, Collected, Collection, Copied};
 use crate::volume::Volume;
@@ -146,7 +146,7 @@ impl<N: Nand> Volume<N> {
         requires task { task < length self.old.accounts.plan.caps }
         requires runs { running_of self.old.running task ≡ Some collection }
         requires left { HasLeft self.old.places collection }
-        requires first { IsFirst self.old.places collection.victim page source }
+        requires first { IsFirstInBlock self.old.places collection.victim page source }
         ensures once { N.ends self.old.device (NandCall.Read source) (is_ok result) self.new.device }
         ensures did { OnOk result (Reads N.blocks self.old task collection page self.new) }
         ensures stays { OnErr result (KeepsBooks self.old self.new) }

@@ -1,7 +1,7 @@
-//! A volume whose device fails when it is told to.
+//! A volume whose device fails once it is armed.
 
 ghost use Rattle.std.specs.Prelude.{◌≡◌};
-ghost use Rattle.flash_die.specs.Faulty.{armed_of};
+ghost use Rattle.flash_die.specs.Faulty.{armed_device};
 
 use crate::array::PageArray;
 use crate::volume::Volume;
@@ -10,7 +10,7 @@ use flash_die::{FaultNand, Nand};
 impl<N: Nand> PageArray<FaultNand<N>> {
     /// Lets every later call of the device fail.
     pub(crate) fn fail_next(&mut self)
-        ensures { self.new ≡ record self.old { device = armed_of self.old.device } }
+        ensures { self.new ≡ record self.old { device = armed_device self.old.device } }
     {
         self.device.arm();
     }
@@ -19,7 +19,7 @@ impl<N: Nand> PageArray<FaultNand<N>> {
 impl<N: Nand> Volume<FaultNand<N>> {
     /// Lets every later call of the device fail. Nothing else changes.
     pub fn fail_next(&mut self)
-        ensures { self.new ≡ record self.old { device = armed_of self.old.device } }
+        ensures { self.new ≡ record self.old { device = armed_device self.old.device } }
     {
         self.array.fail_next();
     }

@@ -13,12 +13,3 @@ pub mod volume;
 
 pub use collection::{Began, CollectStep, Collected, Collection, Copied};
 pub use volume::Volume;
-
-#[cfg(test)]
-mod histories;
-#[cfg(test)]
-mod recorder;
-#[cfg(test)]
-mod steps;
-#[cfg(test)]
-mod tests;

@@ -10,7 +10,7 @@ ghost use Rattle.flash_volume.specs.Cells.{filled_of, open_in};
 ghost use Rattle.flash_volume.specs.Pages.{next_in};
 ghost use Rattle.flash_volume.specs.Picks.{IsCandidate};
 ghost use Rattle.flash_volume.specs.Running.{running_of};
-ghost use Rattle.flash_volume.specs.Steps.{IsStep, IsFirstStep};
+ghost use Rattle.flash_volume.specs.Steps.{IsCollectStep, IsFirstStep};
 
 use crate::collection::{CollectStep, Collection, Copied};
 use crate::volume::Volume;
@@ -58,7 +58,7 @@ impl<N: Nand> Volume<N> {
         requires alive { self.now.failed ≡ false }
         requires task { task < length self.now.accounts.plan.caps }
         requires runs { IsSome (running_of self.now.running task) }
-        ensures { (c : Collection) → running_of self.now.running task ≡ Some c → IsStep N.blocks self.now c result }
+        ensures { (c : Collection) → running_of self.now.running task ≡ Some c → IsCollectStep N.blocks self.now c result }
     {
         let collection = self.running[task.0 as usize].unwrap();
         match self.live_copy(collection) {
@@ -91,7 +91,7 @@ impl<N: Nand> Volume<N> {
         requires runs { running_of self.now.running task ≡ Some collection }
         requires holds { collection.buffer ≡ Some copied }
         requires lies { place_of self.now.places copied.page ≡ Some copied.source }
-        ensures { IsStep N.blocks self.now collection result }
+        ensures { IsCollectStep N.blocks self.now collection result }
     {
         let _task = task;
         CollectStep::Program {
@@ -109,7 +109,7 @@ impl<N: Nand> Volume<N> {
         requires closed { filled_of (block_at (N.blocks self.now.device) collection.victim) ≡ self.now.accounts.plan.shape.pages }
         requires dropped { HasDropped self.now.places collection }
         requires left { HasLeft self.now.places collection }
-        ensures { IsStep N.blocks self.now collection result }
+        ensures { IsCollectStep N.blocks self.now collection result }
     {
         match self.array.first_page(collection.victim) {
             Some((page, source)) => CollectStep::Read { page, source },

@@ -4,9 +4,9 @@ ghost use Rattle.std.specs.Prelude.{◌≡◌, ◌<◌, ℕ, slice_index, false,
 ghost use Rattle.slot_types.specs.Refusal.{FailsForMemory};
 ghost use Rattle.die_checkpoint.specs.Fits.{Fits};
 ghost use Rattle.die_checkpoint.specs.Counts.{counts_at};
-ghost use Rattle.flash_volume.specs.Array.{Stands};
+ghost use Rattle.flash_volume.specs.Array.{IsSoundState};
 ghost use Rattle.flash_volume.specs.Cells.{contents};
-ghost use Rattle.flash_volume.specs.Resumed.{IsIdle, IsAsLeft, resumed_volume, checkpoint_of, counts_of};
+ghost use Rattle.flash_volume.specs.Checkpoints.{IsIdle, IsAsLeft, resumed_volume, checkpoint_of, counts_of};
 
 use crate::array::PageArray;
 use crate::tables::Tables;
@@ -18,11 +18,12 @@ use slot_types::{DiePlan, Items, Refusal};
 use std::alloc::Global;
 
 impl<N: Nand> Volume<N> {
-    /// A volume that goes on from a checkpoint, over the device that it was taken of. It calls no device, and looks at each
-    /// block, page and cell once.
+    /// A volume that goes on from a checkpoint, over the device that it was taken of. It calls no device, and looks at
+    /// each block, page and cell once.
     ///
-    /// The checkpoint fits the plan, and the device is of the plan's shape and as the checkpoint says; the last is trusted,
-    /// since a device can't be asked. The device is handed back where memory is refused, the only cause; the plan is given up then.
+    /// The checkpoint fits the plan, and the device is of the plan's shape and as the checkpoint says; the last is
+    /// trusted, since a device can't be asked. The device is handed back where memory is refused, the only cause; the
+    /// plan is given up then.
     pub fn resume(
         alloc: Global,
         plan: DiePlan,
@@ -60,8 +61,8 @@ impl<N: Nand> Volume<N> {
     }
 
     /// What stands: where each page lies, of each block its programmed pages and its erases, the spare pages and the
-    /// balances. It doesn't have what jobs hold, nor what collections do. Where no block is in erase, the device is as it
-    /// says. Refused with `NoMemory` alone.
+    /// balances. It doesn't have what jobs hold, nor what collections do. Where no block is in erase, the device is as
+    /// it says. Refused with `NoMemory` alone.
     pub fn checkpoint(&self, alloc: Global) -> Result<Checkpoint, Refusal>
         requires alive { self.now.failed ≡ false }
         ensures ok { IfOk result (λ checkpoint. checkpoint ≡ checkpoint_of N.blocks self.now) }
@@ -92,7 +93,7 @@ impl<N: Nand> Volume<N> {
 impl<N: Nand> PageArray<N> {
     /// An array over a device to which these tables belong.
     fn over(device: N, tables: Tables) -> Self
-        requires { Stands (N.shape_of device) (N.failures device) (N.blocks device) tables.map tables.fills.items tables.erases.items
+        requires { IsSoundState (N.shape_of device) (N.failures device) (N.blocks device) tables.map tables.fills.items tables.erases.items
             tables.writing tables.victims }
         ensures { result ≡ record { failed = false; device = device; placing = tables.map; candidates = tables.victims } }
     {

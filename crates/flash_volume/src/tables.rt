@@ -7,7 +7,7 @@ ghost use Rattle.die_checkpoint.specs.Counts.{counts_at};
 ghost use Rattle.die_checkpoint.specs.Fits.{Fits};
 ghost use Rattle.die_checkpoint.specs.declared.checkpoint.BlockCounts.{BlockCounts};
 ghost use Rattle.flash_volume.specs.Cells.{is_open_with};
-ghost use Rattle.flash_volume.specs.Resumed.{AreClosedBelow, AreTablesOf};
+ghost use Rattle.flash_volume.specs.Checkpoints.{AreClosedBelow, AreTablesOf};
 
 use die_checkpoint::{BlockCounts, Checkpoint};
 use page_map::PageMap;

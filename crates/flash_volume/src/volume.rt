@@ -6,10 +6,11 @@ ghost use Rattle.slot_types.specs.Refusal.{FailsForMemory};
 ghost use Rattle.slot_types.specs.declared.pages.Place.{Place};
 ghost use Rattle.slot_types.specs.Places.{place_of};
 ghost use Rattle.plan_rules.specs.Bound.{MeetsBound};
-ghost use Rattle.plan_rules.specs.Accounts.{total_of, admitted};
-ghost use Rattle.flash_die.specs.Flash.{IsFresh, IsProgrammed, blank, programmed};
+ghost use Rattle.plan_rules.specs.Accounts.{total_of, accounts_after_admit};
+ghost use Rattle.flash_die.specs.Flash.{IsFresh, IsProgrammed, blank, blocks_after_program};
 ghost use Rattle.flash_volume.specs.Cells.{first_worn, open_in, contents, free_cells};
-ghost use Rattle.flash_volume.specs.State.{fresh_volume, trimmed};
+ghost use Rattle.flash_volume.specs.Running.{running_of};
+ghost use Rattle.flash_volume.specs.State.{fresh_volume, trimmed_volume};
 ghost use Rattle.flash_volume.specs.Faults.{StopsWithDevice};
 ghost use Rattle.flash_volume.specs.Pages.{HasRead, HasWritten, KeepsBooks, next_in};
 
@@ -41,7 +42,7 @@ impl<N: Nand> Model for Volume<N> {
     ghost use Rattle.std.specs.Prelude.{◌≡◌, false};
     ghost use Rattle.flash_volume.specs.State.{State};
     ghost use Rattle.flash_volume.specs.Cells.{contents};
-    ghost use Rattle.flash_volume.specs.Sound.{IsSound};
+    ghost use Rattle.flash_volume.specs.SoundVolume.{IsSoundVolume};
 
     ghost Value = { State N };
 
@@ -55,7 +56,7 @@ impl<N: Nand> Model for Volume<N> {
     } };
 
     ghost invariant = { λ v. v.array.failed ≡ false
-        → IsSound v.ledger (N.shape_of v.array.device) (N.failures v.array.device) (N.blocks v.array.device) v.array.placing
+        → IsSoundVolume v.ledger (N.shape_of v.array.device) (N.failures v.array.device) (N.blocks v.array.device) v.array.placing
         v.array.candidates v.running.items };
 }
 
@@ -115,6 +116,39 @@ impl<N: Nand> Volume<N> {
         self.array.first_worn(most)
     }
 
+    /// How many pages there are: each below this may be read, written and trimmed. Until the volume fails these are the
+    /// plan's logical pages, and no call changes their number.
+    pub fn pages(&self) -> u32
+        ensures pages { result ≡ length self.now.pages }
+        ensures logical { self.now.failed ≡ false → result ≡ self.now.accounts.plan.logical }
+    {
+        self.array.pages()
+    }
+
+    /// How many pages the task's accepted jobs are still to write.
+    pub fn hold(&self, task: TaskNo) -> u32
+        requires { task < length self.now.accounts.plan.caps }
+        ensures { result ≡ slice_index self.now.accounts.holds task }
+    {
+        self.ledger.hold(task)
+    }
+
+    /// How many pages the task's collector may still program.
+    pub fn reserve(&self, task: TaskNo) -> u32
+        requires { task < length self.now.accounts.plan.caps }
+        ensures { result ≡ slice_index self.now.accounts.reserves task }
+    {
+        self.ledger.reserve(task)
+    }
+
+    /// Whether the task runs a collection.
+    pub fn is_collecting(&self, task: TaskNo) -> bool
+        ensures runs { result ≡ true ↔ IsSome (running_of self.now.running task) }
+        ensures idle { result ≡ false ↔ running_of self.now.running task ≡ None }
+    {
+        matches!(self.running.get(task.0 as usize), Some(Some(_)))
+    }
+
     /// How many pages the task's next jobs may write.
     pub fn balance(&self, task: TaskNo) -> u32
         requires { task < length self.now.accounts.plan.caps }
@@ -142,7 +176,7 @@ impl<N: Nand> Volume<N> {
         ensures accepted { self.old.failed ≡ false → (IsOk result ↔ writes ≤ slice_index self.old.accounts.balances task) }
         ensures refused { self.old.failed ≡ false → IfErr result (λ refusal. refusal
             ≡ Refusal.NoTokens (slice_index self.old.accounts.balances task) writes) }
-        ensures ok { OnOk result (self.new ≡ record self.old { accounts = admitted self.old.accounts task writes }) }
+        ensures ok { OnOk result (self.new ≡ record self.old { accounts = accounts_after_admit self.old.accounts task writes }) }
         ensures err { OnErr result (self.new ≡ self.old) }
     {
         if self.array.failed() {
@@ -151,7 +185,8 @@ impl<N: Nand> Volume<N> {
         self.ledger.admit(task, writes)
     }
 
-    /// What a page holds. A page that was never written is blank, and calls no device; any other is read by one call of it.
+    /// What a page holds. A page that was never written is blank, and calls no device; any other is read by one call of
+    /// it.
     ///
     /// `DieStopped` exactly where the volume has failed already, which changes nothing, or else
     /// `DeviceFault` exactly where the device's call failed: the volume has failed then.
@@ -197,14 +232,14 @@ impl<N: Nand> Volume<N> {
         }
     }
 
-    /// Makes a page blank: it lies nowhere until it is written again. It takes no token and no memory and calls no device,
-    /// and leaves the accounts and the running collections; a copy of the page that a collection has read is dropped at
-    /// its next turn. A page that was never written stays as it is.
+    /// Makes a page blank: it lies nowhere until it is written again. It takes no token and no memory and calls no
+    /// device, and leaves the accounts and the running collections; a copy of the page that a collection has read is
+    /// dropped in that one's next slot. A page that was never written stays as it is.
     ///
     /// `DieStopped` exactly where the volume has failed, which changes nothing.
     pub fn trim(&mut self, page: u32) -> Result<(), Refusal>
         requires { page < length self.old.pages }
-        ensures trimmed { OnOk result (self.new ≡ trimmed self.old page) }
+        ensures trimmed { OnOk result (self.new ≡ trimmed_volume self.old page) }
         ensures stopped { self.old.failed ≡ true → result ≡ Err Refusal.DieStopped }
         ensures alive { self.old.failed ≡ false → IsOk result }
         ensures unchanged { OnErr result (self.new ≡ self.old) }

@@ -6,12 +6,20 @@ use Rattle.slot_types.specs.declared.refusals.Refusal.{Refusal}
 use Rattle.slot_types.specs.declared.refusals.Refusal.TheVariants.{WriteFault}
 use Rattle.plan_texts.specs.PlanReading.{IsStoreOf}
 use Rattle.text_base.specs.Readings.{IsOutside}
-use Rattle.plan_arrivals.specs.Planned.{IsPlannedScript}
-use Rattle.plan_arrivals.specs.declared.faults.Fault.{Fault as Unplanned}
-use Rattle.plan_arrivals.specs.declared.faults.Fault.TheVariants.{Refused}
-use Rattle.plan_design.specs.Explained.{IsAccepted}
-use Rattle.plan_breaches.specs.declared.breaches.Breach.{Breach}
-use Rattle.plan_keeping.specs.Verdicts.{IsBrokenScript, IsFrontOf}
+use Rattle.tool_plan_arrivals.specs.PlannedScripts.{IsPlannedScript}
+use Rattle.tool_plan_arrivals.specs.declared.faults.Fault.{Fault as Unplanned}
+use Rattle.tool_plan_arrivals.specs.declared.faults.Fault.TheVariants.{Refused}
+use Rattle.tool_plan_design.specs.AcceptedPlans.{IsAccepted}
+use Rattle.tool_plan_fit.specs.Fits.{IsPassingPlan}
+use Rattle.tool_plan_fit.specs.declared.faults.FitFault.{FitFault}
+use Rattle.tool_plan_fit.specs.declared.faults.FitFault.TheVariants.{NotFound}
+use Rattle.tool_plan_breaches.specs.declared.breaches.Breach.{Breach}
+use Rattle.tool_plan_keeping.specs.Verdicts.{IsBrokenScript, IsFrontOf}
+use Rattle.flash_die.specs.Memory.{Memory}
+use Rattle.report_texts.specs.ReportText.{report_text}
+use Rattle.slot_core.specs.Core.{Core}
+use Rattle.task_script.specs.StoreRuns.{reports_of}
+use Rattle.tool_checkpoint_runs.specs.declared.faults.RunFault.{RunFault}
 use Rattle.flashplan.specs.declared.commands.Command.{Command}
 use Rattle.flashplan.specs.declared.commands.Command.TheVariants as command
 
@@ -31,6 +39,18 @@ pub record PrintsArrivals (plan : Option (List ℕ)) (slots : ℕ) (old new : Op
   pub script : List ℕ
   pub planned : IsPlannedScript store slots script
   pub written : Appends old new script
+
+-- the plan that was found for a datasheet is printed: it passes its test
+pub record PrintsPassingPlan (old new : Option (List ℕ)) : Type 0 where
+  pub plan : List ℕ
+  pub passing : IsPassingPlan plan
+  pub written : Appends old new plan
+
+-- the status of a search for a plan
+abbrev pub fit_status : Result (Unit {0}) FitFault → ℕ
+fit_status (Ok found) = 0
+fit_status (Err (NotFound reason)) = 3
+fit_status (Err _) = 1
 
 -- a fault other than the writer's own leaves the writer as it was
 abbrev pub IsUnwritten : {W : Type 0} → W → W → Unplanned → Type 0
@@ -54,26 +74,45 @@ pub record BreaksPlans (plan script : Option (List ℕ)) (slots : ℕ) : Type 0 
   pub breach : Breach
   pub broken : IsBrokenScript store slots text die breach
 
--- what is told of a script: whether it keeps the plans
+-- the status of what is said of a plan and of a checkpoint
+abbrev pub explained_status : Result Bool RunFault → ℕ
+explained_status (Ok true) = 0
+explained_status (Ok false) = 1
+explained_status (Err fault) = 1
+
+-- the report of these dies is printed: what each log says over its start
+abbrev pub PrintsReport : Option (List ℕ) → Option (List ℕ) → List (Core Memory) → Type 0
+PrintsReport old new dies = Appends old new (report_text (reports_of 0 dies))
+
+-- of some dies
+abbrev pub PrintsRun : Option (List ℕ) → Option (List ℕ) → Type 0
+PrintsRun old new = (dies : List (Core Memory)) × PrintsReport old new dies
+
+-- what is reported of a script: whether it keeps the plans
 abbrev pub TellsKept : Option (List ℕ) → Option (List ℕ) → ℕ → Bool → Type 0
 TellsKept plan script slots true = KeepsPlans plan script slots
 TellsKept plan script slots false = BreaksPlans plan script slots
 
--- the status of what is told of a script
+-- the status of what is reported of a script
 abbrev pub kept_status : Result (Option Bool) Refusal → ℕ
 kept_status (Ok (Some true)) = 0
 kept_status (Ok (Some false)) = 3
 kept_status (Ok None) = 1
 kept_status (Err refusal) = 1
 
--- what was found where a command ends with 3: the plans aren't kept; no other command does
+-- what is so where a command ends with 3: the plans aren't kept, or no plan was found for a datasheet, or no checkpoint may be taken; no other command does
 abbrev pub IsBroken : Command → Option (List ℕ) → Option (List ℕ) → Type 0
 IsBroken (command.Keeps plan script slots) text rows = BreaksPlans text rows slots
+IsBroken (command.Fit sheet) text rows = ⊤
+IsBroken (command.Run plan script slots from to) text rows = ⊤
 IsBroken _ text rows = ⊥
 
--- what was done where a command ends with 0: an explained plan is accepted; arrivals are printed; the plans are kept
+-- what was done where a command ends with 0: an explained plan is accepted; a plan that passes is printed; arrivals are printed; the plans are kept; the report of a run
+-- is printed
 abbrev pub IsDone : Command → Option (List ℕ) → Option (List ℕ) → Option (List ℕ) → Option (List ℕ) → Type 0
-IsDone (command.Explain plan) text rows old new = SaysOf text true
-IsDone (command.Arrivals plan slots seed fills) text rows old new = PrintsArrivals text slots old new
+IsDone (command.Explain plan from) text rows old new = SaysOf text true
+IsDone (command.Fit sheet) text rows old new = PrintsPassingPlan old new
+IsDone (command.Arrivals plan slots seed fills phases jitter load) text rows old new = PrintsArrivals text slots old new
 IsDone (command.Keeps plan script slots) text rows old new = KeepsPlans text rows slots
+IsDone (command.Run plan script slots from to) text rows old new = PrintsRun old new
 IsDone _ text rows old new = ⊤

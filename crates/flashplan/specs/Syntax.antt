@@ -6,16 +6,16 @@ use Rattle.clap.specs.declared.builder.command.Command.{Command}
 use Rattle.clap.specs.declared.builder.command.Command.TheViews.{out-Command}
 
 -- an argument that has to be there
-abbrev pub needed : Text → Rule
-needed id = record (new_rule id) { required = true }
+abbrev pub required_rule : Text → Rule
+required_rule id = record (new_rule id) { required = true }
 
 -- `--slots N`, which has to be there
 abbrev pub slots_rule : Rule
-slots_rule = record (needed (codes "slots")) { long = Some (codes "slots"); value_names = 1 }
+slots_rule = record (required_rule (codes "slots")) { long = Some (codes "slots"); value_names = 1 }
 
--- `--die D`, which has to be there
+-- `--die D`, which is 0 where it isn't there
 abbrev pub die_rule : Rule
-die_rule = record (needed (codes "die")) { long = Some (codes "die"); value_names = 1 }
+die_rule = record (new_rule (codes "die")) { long = Some (codes "die"); value_names = 1; defaults = codes "0" ∷ [] }
 
 -- `--from A`, which is 0 where it isn't there
 abbrev pub from_rule : Rule
@@ -37,45 +37,109 @@ flag id = record (new_rule id) { long = Some id; action = Some SetTrue }
 abbrev pub fill_rule : Rule
 fill_rule = flag (codes "fill")
 
+-- a number, which is 0 where it isn't there
+abbrev pub count_rule : Text → Rule
+count_rule id = record (new_rule id) { long = Some id; value_names = 1; defaults = codes "0" ∷ [] }
+
+-- `--slot-us U`, which has to be there
+abbrev pub slot_length_rule : Rule
+slot_length_rule = record (required_rule (codes "slot-us")) { long = Some (codes "slot-us"); value_names = 1 }
+
+-- `--due D`, which is 20 where it isn't there
+abbrev pub due_rule : Rule
+due_rule = record (new_rule (codes "due")) { long = Some (codes "due"); value_names = 1; defaults = codes "20" ∷ [] }
+
+-- `--load L`, which is 100 where it isn't there
+abbrev pub load_rule : Rule
+load_rule = record (new_rule (codes "load")) { long = Some (codes "load"); value_names = 1; defaults = codes "100" ∷ [] }
+
 -- `--pool A`, which is 4 where it isn't there
 abbrev pub pool_rule : Rule
 pool_rule = record (new_rule (codes "pool")) { long = Some (codes "pool"); value_names = 1; defaults = codes "4" ∷ [] }
 
+-- `-o FILE` of each command, which is `-`, standard output, where it isn't there
+abbrev pub output_rule : Rule
+output_rule = record (new_rule (codes "output")) { short = Some 111; long = Some (codes "output"); value_names = 1; defaults = codes "-" ∷ [] }
+
+-- a program with one more command, which may write to a file
+abbrev pub with_command : App → App → App
+with_command program command = with_subcommand program (with_rule command output_rule).top
+
+-- a file that needn't be named
+abbrev pub file_rule : Text → Rule
+file_rule id = record (new_rule id) { long = Some id; value_names = 1 }
+
 abbrev pub explain_app : App
-explain_app = with_rule (new_app (codes "explain")) (needed (codes "PLAN"))
+explain_app = with_rule (with_rule (new_app (codes "explain")) (required_rule (codes "PLAN"))) (file_rule (codes "from"))
+
+abbrev pub fit_app : App
+fit_app = with_rule (new_app (codes "fit")) (required_rule (codes "DATASHEET"))
 
 abbrev pub arrivals_run_app : App
-arrivals_run_app = with_rule (with_rule (new_app (codes "arrivals")) (needed (codes "PLAN"))) slots_rule
+arrivals_run_app = with_rule (with_rule (new_app (codes "arrivals")) (required_rule (codes "PLAN"))) slots_rule
+
+abbrev pub arrivals_drawn_app : App
+arrivals_drawn_app = with_rule (with_rule arrivals_run_app seed_rule) fill_rule
 
 abbrev pub arrivals_app : App
-arrivals_app = with_rule (with_rule arrivals_run_app seed_rule) fill_rule
+arrivals_app = with_rule (with_rule (with_rule arrivals_drawn_app (flag (codes "phases"))) (count_rule (codes "jitter"))) load_rule
+
+abbrev pub import_trace_app : App
+import_trace_app = with_rule (with_rule (new_app (codes "import")) (required_rule (codes "TRACE"))) slot_length_rule
+
+abbrev pub import_app : App
+import_app = with_rule (with_rule import_trace_app due_rule) (flag (codes "plan"))
 
 abbrev pub wear_files_app : App
-wear_files_app = with_rule (with_rule (new_app (codes "wear")) (needed (codes "PLAN"))) (needed (codes "SCRIPT"))
+wear_files_app = with_rule (with_rule (new_app (codes "wear")) (required_rule (codes "PLAN"))) (required_rule (codes "SCRIPT"))
 
 abbrev pub wear_app : App
 wear_app = with_rule wear_files_app slots_rule
 
 abbrev pub keeps_files_app : App
-keeps_files_app = with_rule (with_rule (new_app (codes "keeps")) (needed (codes "PLAN"))) (needed (codes "SCRIPT"))
+keeps_files_app = with_rule (with_rule (new_app (codes "keeps")) (required_rule (codes "PLAN"))) (required_rule (codes "SCRIPT"))
 
 abbrev pub keeps_app : App
 keeps_app = with_rule keeps_files_app slots_rule
 
+abbrev pub report_files_app : App
+report_files_app = with_rule (with_rule (new_app (codes "report")) (required_rule (codes "PLAN"))) (required_rule (codes "SCRIPT"))
+
+abbrev pub report_run_app : App
+report_run_app = with_rule (with_rule report_files_app slots_rule) (flag (codes "csv"))
+
+abbrev pub report_app : App
+report_app = with_rule (with_rule report_run_app (count_rule (codes "endurance"))) (count_rule (codes "slot-us"))
+
 abbrev pub draw_files_app : App
-draw_files_app = with_rule (with_rule (new_app (codes "draw")) (needed (codes "PLAN"))) (needed (codes "SCRIPT"))
+draw_files_app = with_rule (with_rule (new_app (codes "draw")) (required_rule (codes "PLAN"))) (required_rule (codes "SCRIPT"))
 
 abbrev pub draw_run_app : App
 draw_run_app = with_rule (with_rule draw_files_app slots_rule) die_rule
 
+abbrev pub draw_window_app : App
+draw_window_app = with_rule (with_rule draw_run_app from_rule) to_rule
+
 abbrev pub draw_app : App
-draw_app = with_rule (with_rule draw_run_app from_rule) to_rule
+draw_app = with_rule (with_rule draw_window_app (flag (codes "worst"))) (flag (codes "text"))
 
 abbrev pub compare_files_app : App
-compare_files_app = with_rule (with_rule (new_app (codes "compare")) (needed (codes "PLAN"))) (needed (codes "SCRIPT"))
+compare_files_app = with_rule (with_rule (new_app (codes "compare")) (required_rule (codes "PLAN"))) (required_rule (codes "SCRIPT"))
+
+abbrev pub compare_run_app : App
+compare_run_app = with_rule (with_rule (with_rule compare_files_app slots_rule) from_rule) pool_rule
+
+abbrev pub compare_forms_app : App
+compare_forms_app = with_rule (with_rule compare_run_app (flag (codes "csv"))) (flag (codes "draw"))
 
 abbrev pub compare_app : App
-compare_app = with_rule (with_rule (with_rule compare_files_app slots_rule) from_rule) pool_rule
+compare_app = with_rule (with_rule compare_forms_app die_rule) (count_rule (codes "task"))
+
+abbrev pub run_files_app : App
+run_files_app = with_rule (with_rule (new_app (codes "run")) (required_rule (codes "PLAN"))) (required_rule (codes "SCRIPT"))
+
+abbrev pub run_app : App
+run_app = with_rule (with_rule (with_rule run_files_app slots_rule) (file_rule (codes "from"))) (file_rule (codes "to"))
 
 -- the program alone, which has a version
 abbrev pub named_app : App
@@ -83,8 +147,8 @@ named_app = let app = new_app (codes "flashplan") in record app { top = record a
 
 -- the program's command line
 abbrev pub flashplan_app : App
-flashplan_app = with_subcommand (with_subcommand (with_subcommand (with_subcommand (with_subcommand (with_subcommand named_app
-    explain_app.top) arrivals_app.top) keeps_app.top) wear_app.top) draw_app.top) compare_app.top
+flashplan_app = with_command (with_command (with_command (with_command (with_command (with_command (with_command (with_command (with_command (with_command
+    named_app explain_app) fit_app) arrivals_app) keeps_app) wear_app) report_app) draw_app) compare_app) import_app) run_app
 
 -- whether a command has an argument that is global
 abbrev pub has_globals : Command → Bool

@@ -2,25 +2,30 @@
 
 ghost use Rattle.std.specs.Prelude.{◌≡◌, ◌≢◌, ◌≤◌, IfErr, IfOk, IfSome, OnOk, is_ok, if◌then◌else◌};
 ghost use Rattle.flashplan.specs.Acts.{IsBroken, IsDone, IsHostFault, IsUnwritten, PrintsArrivals, SaysOf, TellsKept, kept_status};
+ghost use Rattle.flashplan.specs.Acts.{PrintsPassingPlan, fit_status};
 ghost use Rattle.flashplan.specs.Commands.{FitsRun};
 
+use crate::checkpoint_acts::{Kept, Shelf, act_run, end_explained, print_explained_from};
 use crate::commands::Command;
 use flash_commands::{Fault, end};
-use plain_layers::Marks;
-use plan_arrivals::{Fault as Unplanned, Manner, arrivals, full_from};
-use plan_design::explain;
-use plan_keeping::{Verdict, keep, script_text, sentence};
 use plan_texts::{plan_text, read_plan_from};
 use slot_types::{MAX_SLOT, Refusal, StorePlan};
 use std::alloc::Global;
 use std::io::{Read, Write};
-use store_compare::{CompareFault, Measure, compare};
 use text_base::write_whole;
-use watched_runs::{RefusedRows, Sights, draw, wear};
+use tool_plain_layers::Marks;
+use tool_plan_arrivals::{Fault as Unplanned, Manner, arrivals, full_from};
+use tool_plan_design::explain;
+use tool_plan_fit::{FitFault, fit};
+use tool_plan_keeping::{Verdict, keep, script_text, sentence};
+use tool_run_figures::Life;
+use tool_store_compare::{CompareFault, Form, Measure, compare};
+use tool_trace_import::{Made, Measure as TraceMeasure, TraceFault, import};
+use tool_watched_runs::{RefusedRows, Shown, Sights, draw, report, wear};
 
-/// Tells a refusal, and answers the status. Where standard output takes no more, nothing is told. A writer that fails is
-/// passed over.
-fn end_refused<E: Write>(err: &mut E, refusal: Refusal) -> u8
+/// Tells a refusal, and answers the status. Where standard output takes no more, nothing is reported. A writer that
+/// fails is passed over.
+pub fn end_refused<E: Write>(err: &mut E, refusal: Refusal) -> u8
     ensures { result ≡ 1 }
 {
     if refusal != Refusal::WriteFault {
@@ -44,15 +49,43 @@ fn print_explained<R: Read + Drop, W: Write>(
     Ok(explained.is_accepted)
 }
 
-/// What is told beside a plan that has no arrivals.
+/// Prints the plan that was found for a datasheet.
+fn print_fit<R: Read + Drop, W: Write>(alloc: Global, sheet: R, out: &mut W) -> Result<(), FitFault>
+    ensures printed { OnOk result (PrintsPassingPlan (W.contents out.old) (W.contents out.new)) }
+{
+    let sheet = plan_text(alloc, sheet)?;
+    let plan = fit(alloc, &sheet)?;
+    write_whole(out, &plan)?;
+    Ok(())
+}
+
+/// Tells why no plan was found, and answers the status. A writer that fails is passed over.
+fn end_fit<E: Write>(err: &mut E, fitted: Result<(), FitFault>) -> u8
+    ensures { result ≡ fit_status fitted }
+{
+    match fitted {
+        Ok(()) => 0,
+        Err(FitFault::Refused(refusal)) => end_refused(err, refusal),
+        Err(FitFault::Sheet(fault)) => {
+            let _ = writeln!(err, "error: {fault}");
+            1
+        }
+        Err(FitFault::NotFound(reason)) => {
+            let _ = writeln!(err, "no plan was found: {reason}");
+            3
+        }
+    }
+}
+
+/// What is reported beside a plan that has no arrivals.
 const WANTED: &str =
     "arrivals wants a plan with times (version 2) that is accepted: flashplan explain says more";
 
-/// What is told where a script doesn't keep a plan, and it isn't found why.
+/// What is reported where a script doesn't keep a plan, and it isn't found why.
 const UNFOUND: &str =
     "error: the script doesn't keep the plan, and no reason was found, which is a fault of flashplan";
 
-/// What is told beside a plan that no script keeps.
+/// What is reported beside a plan that no script keeps.
 const TIMES_WANTED: &str =
     "keeps wants a plan with times (version 2) that is accepted: flashplan explain says more";
 
@@ -77,7 +110,7 @@ fn print_arrivals<R: Read + Drop, W: Write>(
     Ok(store)
 }
 
-/// Tells from which slots on the dies are full. A writer that fails is passed over, and so is want of memory.
+/// Tells from which slots on the dies are full. A writer that fails is passed over, and so is lack of memory.
 fn tell_full<E: Write>(alloc: Global, err: &mut E, store: &StorePlan) {
     let Ok(full) = full_from(alloc, store) else {
         return;
@@ -191,6 +224,24 @@ fn print_wear<P: Read + Drop, S: Read + Drop, W: Write>(
     Ok(worn.refused)
 }
 
+/// Prints what a run came to.
+fn print_report<P: Read + Drop, S: Read + Drop, W: Write>(
+    alloc: Global,
+    plan: P,
+    script: S,
+    slots: u32,
+    life: Life,
+    as_csv: bool,
+    out: &mut W,
+) -> Result<RefusedRows, Refusal>
+    requires slots { slots ≤ MAX_SLOT }
+{
+    let store = read_plan_from(alloc, plan)?;
+    let told = report(alloc, store, script, slots, life, as_csv)?;
+    write_whole(out, &told.text)?;
+    Ok(told.refused)
+}
+
 /// Prints the picture of what the slots of a die carried.
 fn print_drawn<P: Read + Drop, S: Read + Drop, W: Write>(
     alloc: Global,
@@ -198,14 +249,13 @@ fn print_drawn<P: Read + Drop, S: Read + Drop, W: Write>(
     script: S,
     slots: u32,
     die: u32,
-    from: u32,
-    to: u32,
+    shown: Shown,
     out: &mut W,
 ) -> Result<(RefusedRows, Sights), Refusal>
     requires slots { slots ≤ MAX_SLOT }
 {
     let store = read_plan_from(alloc, plan)?;
-    let drawn = draw(alloc, store, script, slots, die, from, to)?;
+    let drawn = draw(alloc, store, script, slots, die, shown)?;
     write_whole(out, &drawn.text)?;
     Ok((drawn.refused, drawn.sights))
 }
@@ -253,14 +303,26 @@ fn print_compared<P: Read + Drop, S: Read + Drop, W: Write>(
     plan: P,
     script: S,
     measure: Measure,
+    form: Form,
     out: &mut W,
 ) -> Result<(), CompareFault>
     requires slots { measure.slots ≤ MAX_SLOT }
 {
     let store = read_plan_from(alloc, plan)?;
-    let table = compare(alloc, &store, script, measure)?;
-    write_whole(out, &table)?;
+    let told = compare(alloc, &store, script, measure, form)?;
+    write_whole(out, &told)?;
     Ok(())
+}
+
+/// How a comparison is written: a picture where one is asked for.
+fn form_of(as_csv: bool, draws: bool, die: u32, task: u32) -> Form {
+    if draws {
+        Form::Picture { die, task }
+    } else if as_csv {
+        Form::Csv
+    } else {
+        Form::Table
+    }
 }
 
 /// Answers the status of a comparison, and tells why there is none. A writer that fails is passed over.
@@ -281,8 +343,37 @@ fn end_compared<E: Write>(err: &mut E, compared: Result<(), CompareFault>) -> u8
     }
 }
 
+/// Prints the script of a trace, or its plan.
+fn print_import<R: Read + Drop, W: Write>(
+    alloc: Global,
+    trace: R,
+    measure: TraceMeasure,
+    as_plan: bool,
+    out: &mut W,
+) -> Result<(), TraceFault> {
+    let trace = script_text(alloc, trace)?;
+    let made = if as_plan { Made::Plan } else { Made::Script };
+    let text = import(alloc, &trace, measure, made)?;
+    write_whole(out, &text)?;
+    Ok(())
+}
+
+/// Tells why a trace isn't taken, and answers the status. A writer that fails is passed over.
+fn end_import<E: Write>(err: &mut E, imported: Result<(), TraceFault>) -> u8
+    ensures { result ≢ 3 }
+{
+    match imported {
+        Ok(()) => 0,
+        Err(TraceFault::Refused(refusal)) => end_refused(err, refusal),
+        Err(fault) => {
+            let _ = writeln!(err, "error: {fault}");
+            1
+        }
+    }
+}
+
 /// Tells the rows that were refused, if there are any, and answers the status. A writer that fails is passed over.
-fn end_run<E: Write>(err: &mut E, ran: Result<RefusedRows, Refusal>) -> u8
+pub fn end_run<E: Write>(err: &mut E, ran: Result<RefusedRows, Refusal>) -> u8
     ensures { result ≢ 3 }
 {
     let refused = match ran {
@@ -296,26 +387,31 @@ fn end_run<E: Write>(err: &mut E, ran: Result<RefusedRows, Refusal>) -> u8
     0
 }
 
-/// Carries a command out, with `plan` and `script` in place of its files. Answers the status.
+/// Carries a command out, with `plan` and `script` in place of its files, and `kept` in place of its checkpoints. Answers the status.
 ///
-/// `explain` prints what [`explain`](plan_design::explain) says of the plan, whole; the status is 0 where the plan is accepted,
-/// and 1 where it isn't. `arrivals` prints the script of what the plan's tasks ask for, as
-/// [`arrivals`](plan_arrivals::arrivals) makes it: its rows keep the plan of each die, so that a run of it refuses none and
-/// is never late. A plan without times that pass their test is told as `error 3 BadPlan`; then, and where more slots are
-/// asked for than a script may have, nothing is printed, and the status is 1. `keeps` prints whether the script keeps the
-/// plan of each die (status 0), or a condition that doesn't hold, and of which record (status 3). `wear` prints what
-/// [`wear`](watched_runs::wear) tells of the run of the script, and `draw` what [`draw`](watched_runs::draw) draws of it,
-/// each whole; the status is 0, and where rows were refused, `err` gets a line, as `refused 1 first line 6 with 6`. `compare`
-/// prints the table of [`compare`](store_compare::compare), whole.
+/// `explain` prints what [`explain`](tool_plan_design::explain) says of the plan, whole; the status is 0 where the plan is accepted,
+/// and 1 where it isn't. `fit` prints the plan that [`fit`](tool_plan_fit::fit) finds for a datasheet, or tells why it found none
+/// (status 3). `arrivals` prints the script of what the plan's tasks ask for, as
+/// [`arrivals`](tool_plan_arrivals::arrivals) makes it: its rows keep the plan of each die, so that a run of it refuses none and
+/// is never late. A plan without times that pass their test is reported as `error 3 BadPlan`; then, and where more
+/// slots are asked for than a script may have, nothing is printed, and the status is 1. `keeps` prints whether the
+/// script keeps the plan of each die (status 0), or a condition that doesn't hold, and of which record (status 3).
+/// `wear` prints what [`wear`](tool_watched_runs::wear) tells of the run of the script, `report` what
+/// [`report`](tool_watched_runs::report) does, and `draw` what [`draw`](tool_watched_runs::draw) draws of it, each whole; the
+/// status is 0, and where rows were refused, `err` gets a line, as `refused 1 first line 6 with 6`. `compare` prints
+/// the table, the records or the picture of [`compare`](tool_store_compare::compare), whole, and `import` the script or the plan
+/// that [`import`](tool_trace_import::import) makes of a trace, which stands in the place of the plan. `run` prints the report of
+/// dies that go on from a checkpoint, and has the checkpoint of their end written, as [`act_run`] says.
 ///
 /// No more of the plan is read than 1,048,577 bytes. Where a text is refused, memory runs out, or a reader or `out`
-/// fails, that is told in a line to `err`, as `error 21 ReadFault`, and the status is 1; where `out` fails nothing is told.
-/// Where `err` fails, that is passed over.
-pub fn act<P: Read + Drop, S: Read + Drop, W: Write, E: Write>(
+/// fails, that is reported in a line to `err`, as `error 21 ReadFault`, and the status is 1; where `out` fails nothing
+/// is reported. Where `err` fails, that is passed over.
+pub fn act<P: Read + Drop, S: Read + Drop, C: Read + Drop, K: Shelf, W: Write, E: Write>(
     alloc: Global,
     command: Command<'_>,
     plan: P,
     script: S,
+    kept: Kept<'_, C, K>,
     out: &mut W,
     err: &mut E,
 ) -> u8
@@ -324,18 +420,37 @@ pub fn act<P: Read + Drop, S: Read + Drop, W: Write, E: Write>(
     ensures broken { result ≡ 3 → IsBroken command.entry (P.remaining plan) (S.remaining script) }
 {
     match command {
-        Command::Explain { .. } => match print_explained(alloc, plan, out) {
-            Ok(true) => 0,
-            Ok(false) => 1,
-            Err(refusal) => end_refused(err, refusal),
+        Command::Explain { .. } => match kept.from {
+            Some(from) => {
+                let explained = print_explained_from(alloc, plan, from, out);
+                end_explained(err, explained)
+            }
+            None => match print_explained(alloc, plan, out) {
+                Ok(true) => 0,
+                Ok(false) => 1,
+                Err(refusal) => end_refused(err, refusal),
+            },
         },
+        Command::Fit { .. } => {
+            let fitted = print_fit(alloc, plan, out);
+            end_fit(err, fitted)
+        }
         Command::Arrivals {
             slots,
             seed,
             fills,
+            phases,
+            jitter,
+            load,
             ..
         } => {
-            let manner = Manner { seed, fills };
+            let manner = Manner {
+                seed,
+                fills,
+                phases,
+                jitter,
+                load,
+            };
             let made = print_arrivals(alloc, plan, slots, manner, out);
             end_arrivals(alloc, err, manner, made)
         }
@@ -347,20 +462,48 @@ pub fn act<P: Read + Drop, S: Read + Drop, W: Write, E: Write>(
             let ran = print_wear(alloc, plan, script, slots, out);
             end_run(err, ran)
         }
+        Command::Report {
+            slots,
+            endurance,
+            slot_us,
+            as_csv,
+            ..
+        } => {
+            let life = Life { endurance, slot_us };
+            let ran = print_report(alloc, plan, script, slots, life, as_csv, out);
+            end_run(err, ran)
+        }
         Command::Draw {
             slots,
             die,
             from,
             to,
+            worst,
+            as_text,
             ..
         } => {
-            let drawn = print_drawn(alloc, plan, script, slots, die, from, to, out);
-            end_drawn(err, to.min(slots).saturating_sub(from), drawn)
+            let shown = Shown {
+                from,
+                to,
+                worst,
+                as_text,
+            };
+            let drawn = print_drawn(alloc, plan, script, slots, die, shown, out);
+            let many = if worst || as_text {
+                0
+            } else {
+                to.min(slots).saturating_sub(from)
+            };
+            end_drawn(err, many, drawn)
         }
         Command::Compare {
             slots,
             from,
             pool,
+            as_csv,
+            draws,
+            die,
+            task,
             ..
         } => {
             let marks = Marks {
@@ -368,8 +511,22 @@ pub fn act<P: Read + Drop, S: Read + Drop, W: Write, E: Write>(
                 pool: pool as usize,
             };
             let measure = Measure { slots, from, marks };
-            let compared = print_compared(alloc, plan, script, measure, out);
+            let form = form_of(as_csv, draws, die, task);
+            let compared = print_compared(alloc, plan, script, measure, form, out);
             end_compared(err, compared)
+        }
+        Command::Import {
+            slot_us,
+            due,
+            as_plan,
+            ..
+        } => {
+            let measure = TraceMeasure { slot_us, due };
+            let imported = print_import(alloc, plan, measure, as_plan, out);
+            end_import(err, imported)
+        }
+        Command::Run { slots, to, .. } => {
+            act_run(alloc, plan, script, kept, slots, to, out, err)
         }
     }
 }

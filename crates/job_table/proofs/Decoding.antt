@@ -67,7 +67,7 @@ get_or-drop_one [] zero = refl
 get_or-drop_one [] (suc k) = refl
 get_or-drop_one (b ∷ bytes) k = refl
 
--- of a list of bytes whose first is behind
+-- of a list of bytes whose first is after
 changing_behind : (words : List ℕ) (bytes : List PageData) (n word k : ℕ)
     → ((k : ℕ) → k + count_by is_read_in (take n words) ≡ n → slice_get (ops_of words (drop 1 bytes)) n
     ≡ Some (changing_in word (get_or (drop 1 bytes) k blank)))
@@ -100,7 +100,7 @@ is_trimmed word b is = ap (λ (v : Bool). cond v (Trim (page_in word)) (Write (p
 pub is_written : (word : ℕ) (b : PageData) → is_trim_in word ≡ false → changing_in word b ≡ Write (page_in word) b
 is_written word b isnt = ap (λ (v : Bool). cond v (Trim (page_in word)) (Write (page_in word) b)) isnt
 
--- behind a word that isn't a read stand all reads that stand from it on
+-- after a word that isn't a read stand all reads that stand from it on
 no_read : (words : List ℕ) (n word : ℕ) → slice_get words n ≡ Some word → is_read_in word ≡ false → count_by is_read_in (drop n words)
     ≡ count_by is_read_in (drop (suc n) words)
 no_read [] n word e isnt = absurd cc
@@ -199,7 +199,7 @@ changing_pushed words [] word ops rest has = absurd (omega (arith, count_by-le-l
 changing_pushed words (b ∷ bytes) word ops rest has = ap (λ (l : List Op). changing_in word b ∷ l)
     (rest bytes (record { each = omega arith }))
 
--- the operations of words that are added behind
+-- the operations of words that are added after
 pub ops_pushed : (words : List ℕ) (bytes : List PageData) (ops : List Op) → HasBytes words bytes
     → ops_of (words ++ map word_of ops) (bytes ++ bytes_of ops) ≡ ops_of words bytes ++ ops
 ops_pushed [] bytes ops has =

@@ -9,7 +9,7 @@ use Rattle.due_queue.specs.Keys.{is_due_before}
 use Rattle.job_table.specs.Jobs.{JobRecord, is_pending}
 use Rattle.job_table.specs.Table.{Table, changed_at}
 use Rattle.job_table.specs.Order.{is_ready, due_key, goes_before, IsHead, NothingReady}
-use Rattle.job_table.specs.Queued.{IsAmong, IsStanding, AreQueued, AreLater}
+use Rattle.job_table.specs.QueuedKeys.{IsAmong, IsReleasedKey, AreQueued, AreLater}
 use Rattle.job_table.specs.Order.{release_key}
 use Rattle.job_table.proofs.Changed.{changed_here}
 use Rattle.job_table.proofs.Keyed.{IsQuiet, changed_cases}
@@ -41,7 +41,7 @@ ready_among table waiting ready q later n job at_n ready_n =
 pub first_is_head : (table : Table) (waiting : List WaitKey) (k : Key) (ks : List Key) → AreQueued table.jobs table.clock waiting (k ∷ ks)
     → AreLater table.clock waiting → IsRising is_due_before (k ∷ ks) → IsHead table k.number
 first_is_head table waiting k ks q later rising =
-    let first : IsStanding table.jobs table.clock k = q.stands.0 in
+    let first : IsReleasedKey table.jobs table.clock k = q.stands.0 in
     let key_is : k ≡ due_key k.number first.job = λ i. record { due = first.due_is i; number = k.number } in
     record {
       head = first.job;
@@ -89,7 +89,7 @@ pub head_is_first : (table : Table) (waiting : List WaitKey) (ready : List Key) 
     → AreLater table.clock waiting → IsRising is_due_before ready → IsHead table n → BeginsWith n ready
 head_is_first table waiting [] n q later rising head = absurd (ready_among table waiting [] q later n head.head head.is_at head.ready)
 head_is_first table waiting (k ∷ ks) n q later rising head =
-    let first : IsStanding table.jobs table.clock k = q.stands.0 in
+    let first : IsReleasedKey table.jobs table.clock k = q.stands.0 in
     let key_is : k ≡ due_key k.number first.job = λ i. record { due = first.due_is i; number = k.number } in
     let before : goes_before k.number first.job n head.head
     ≡ false = head.first k.number first.job first.is_at (ready_by table.clock first.job first.released first.pending_is) in

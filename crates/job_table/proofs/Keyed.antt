@@ -5,13 +5,13 @@ use Rattle.std.specs.List.{AllByRecursion}
 use Rattle.std.proofs.lemmas.Option.{slice_get_within}
 use Rattle.due_queue.specs.declared.keys.Key.{Key}
 use Rattle.due_queue.specs.declared.keys.WaitKey.{WaitKey}
-use Rattle.due_queue.specs.Queue.{inserted, IsRising}
+use Rattle.due_queue.specs.Queue.{with_key, IsRising}
 use Rattle.due_queue.specs.Keys.{is_due_before, is_released_before}
 use Rattle.due_queue.proofs.Inserted.{every, every-inserted}
 use Rattle.job_table.specs.Jobs.{JobRecord, is_pending}
 use Rattle.job_table.specs.Table.{changed_at}
 use Rattle.job_table.specs.Order.{due_key}
-use Rattle.job_table.specs.Queued.{IsWaiting, IsStanding, AreQueued, AreLater}
+use Rattle.job_table.specs.QueuedKeys.{IsWaitingKey, IsReleasedKey, AreQueued, AreLater}
 use Rattle.job_table.specs.Order.{release_key}
 use Rattle.job_table.proofs.Changed.{changed_elsewhere, push_before, push_here, push_cases, same_at}
 use Rattle.job_table.proofs.Members.{both, inserted_member, inserted_keeps, not_contained}
@@ -19,12 +19,12 @@ use Rattle.job_table.proofs.Orders.{later_release, not_before_same, not_due_befo
 
 -- a key stays in order where its job stands in another list
 
-pub moved_wait : (jobs other : List JobRecord) (k : WaitKey) (h : IsWaiting jobs k) → slice_get other k.number ≡ Some h.job
-    → IsWaiting other k
+pub moved_wait : (jobs other : List JobRecord) (k : WaitKey) (h : IsWaitingKey jobs k) → slice_get other k.number ≡ Some h.job
+    → IsWaitingKey other k
 moved_wait jobs other k h is_at = record { job = h.job; is_at = is_at; pending_is = h.pending_is; release_is = h.release_is }
 
-pub moved_stand : (jobs other : List JobRecord) (clock : ℕ) (k : Key) (h : IsStanding jobs clock k) → slice_get other k.number ≡ Some h.job
-    → IsStanding other clock k
+pub moved_stand : (jobs other : List JobRecord) (clock : ℕ) (k : Key) (h : IsReleasedKey jobs clock k) → slice_get other k.number ≡ Some h.job
+    → IsReleasedKey other clock k
 moved_stand jobs other clock k h is_at = record {
   job = h.job;
   is_at = is_at;
@@ -40,7 +40,7 @@ pub stand_on : (jobs : List JobRecord) (clock now : ℕ) (waiting : List WaitKey
     → AreQueued jobs clock waiting ready → AreQueued jobs now waiting ready
 stand_on jobs clock now waiting ready le q = record {
   waits = q.waits;
-  stands = every (IsStanding jobs clock) (IsStanding jobs now)
+  stands = every (IsReleasedKey jobs clock) (IsReleasedKey jobs now)
       (λ k s. record {
         job = s.job;
         is_at = s.is_at;
@@ -56,12 +56,12 @@ stand_on jobs clock now waiting ready le q = record {
 
 -- A job is released
 
--- those that come behind a key have other numbers
-others_wait : (jobs : List JobRecord) (w : WaitKey) (ws : List WaitKey) → IsWaiting jobs w
-    → AllByRecursion (λ later. is_released_before w later ≡ true) ws → AllByRecursion (IsWaiting jobs) ws
+-- those that come after a key have other numbers
+others_wait : (jobs : List JobRecord) (w : WaitKey) (ws : List WaitKey) → IsWaitingKey jobs w
+    → AllByRecursion (λ later. is_released_before w later ≡ true) ws → AllByRecursion (IsWaitingKey jobs) ws
     → AllByRecursion (λ (v : WaitKey). v.number ≢ w.number) ws
 others_wait jobs w ws here rising waits =
-    both (λ later. is_released_before w later ≡ true) (IsWaiting jobs) (λ (v : WaitKey). v.number ≢ w.number)
+    both (λ later. is_released_before w later ≡ true) (IsWaitingKey jobs) (λ (v : WaitKey). v.number ≢ w.number)
     (λ v before there same.
     let e : there.job ≡ here.job = same_at v.number w.number jobs there.job here.job same there.is_at here.is_at in
     let f : w.release ≡ v.release = here.release_is ∙ ap (λ j. j.release) (sym e) ∙ sym there.release_is in
@@ -82,15 +82,15 @@ pub release_one : (jobs : List JobRecord) (now : ℕ) (w : WaitKey) (ws : List W
     → ((job : JobRecord) → slice_get jobs w.number ≡ Some job → due ≡ job.due)
     → IsRising is_released_before (w ∷ ws)
     → AreQueued jobs now (w ∷ ws) ready
-    → AreQueued jobs now ws (inserted is_due_before (record { due = due; number = w.number }) ready)
+    → AreQueued jobs now ws (with_key is_due_before (record { due = due; number = w.number }) ready)
 release_one jobs now w ws ready due le due_is rising q =
-    let here : IsWaiting jobs w = q.waits.0 in
+    let here : IsWaitingKey jobs w = q.waits.0 in
     let key : Key = record { due = due; number = w.number } in
     let same_due : due ≡ here.job.due = due_is here.job here.is_at in
     let others = others_wait jobs w ws here rising.0 q.waits.1 in
     record {
       waits = q.waits.1;
-      stands = every-inserted is_due_before (IsStanding jobs now) key ready
+      stands = every-inserted is_due_before (IsReleasedKey jobs now) key ready
           (record {
             job = here.job;
             is_at = here.is_at;
@@ -111,7 +111,7 @@ release_one jobs now w ws ready due le due_is rising q =
             | inr h ↦ inr (inserted_keeps is_due_before key (due_key n job) ready h)
           ];
       apart = both (λ (v : WaitKey). v.number ≢ w.number) (λ (v : WaitKey). AllByRecursion (λ (k : Key). v.number ≢ k.number) ready)
-          (λ (v : WaitKey). AllByRecursion (λ (k : Key). v.number ≢ k.number) (inserted is_due_before key ready))
+          (λ (v : WaitKey). AllByRecursion (λ (k : Key). v.number ≢ k.number) (with_key is_due_before key ready))
           (λ v other rest. every-inserted is_due_before (λ (k : Key). v.number ≢ k.number) key ready other rest) ws others q.apart.1;
     }
 
@@ -129,7 +129,7 @@ pub not_waiting : (jobs : List JobRecord) (clock : ℕ) (waiting : List WaitKey)
     → AreQueued jobs clock waiting ready → Contains waiting (record { release = release; number = length jobs }) → ⊥
 not_waiting jobs clock waiting ready release q =
     not_contained (record { release = release; number = length jobs }) waiting
-    (every (IsWaiting jobs) (λ k. k ≢ record { release = release; number = length jobs })
+    (every (IsWaitingKey jobs) (λ k. k ≢ record { release = release; number = length jobs })
     (λ k here same. let lt = slice_get_within jobs k.number here.job here.is_at in let e : k.number
     ≡ length jobs = ap (λ (v : WaitKey). v.number) same in omega arith)
     waiting q.waits)
@@ -138,32 +138,32 @@ pub not_ready : (jobs : List JobRecord) (clock : ℕ) (waiting : List WaitKey) (
     → AreQueued jobs clock waiting ready → Contains ready (record { due = due; number = length jobs }) → ⊥
 not_ready jobs clock waiting ready due q =
     not_contained (record { due = due; number = length jobs }) ready
-    (every (IsStanding jobs clock) (λ k. k ≢ record { due = due; number = length jobs })
+    (every (IsReleasedKey jobs clock) (λ k. k ≢ record { due = due; number = length jobs })
     (λ k here same. let lt = slice_get_within jobs k.number here.job here.is_at in let e : k.number
     ≡ length jobs = ap (λ (v : Key). v.number) same in omega arith)
     ready q.stands)
 
-waits_on : (jobs : List JobRecord) (job : JobRecord) (waiting : List WaitKey) → AllByRecursion (IsWaiting jobs) waiting
-    → AllByRecursion (IsWaiting (jobs ++ job ∷ [])) waiting
+waits_on : (jobs : List JobRecord) (job : JobRecord) (waiting : List WaitKey) → AllByRecursion (IsWaitingKey jobs) waiting
+    → AllByRecursion (IsWaitingKey (jobs ++ job ∷ [])) waiting
 waits_on jobs job waiting all =
-    every (IsWaiting jobs) (IsWaiting (jobs ++ job ∷ []))
+    every (IsWaitingKey jobs) (IsWaitingKey (jobs ++ job ∷ []))
     (λ k h. moved_wait jobs (jobs ++ job ∷ []) k h (push_before jobs job k.number h.job h.is_at)) waiting all
 
-stands_on : (jobs : List JobRecord) (job : JobRecord) (clock : ℕ) (ready : List Key) → AllByRecursion (IsStanding jobs clock) ready
-    → AllByRecursion (IsStanding (jobs ++ job ∷ []) clock) ready
+stands_on : (jobs : List JobRecord) (job : JobRecord) (clock : ℕ) (ready : List Key) → AllByRecursion (IsReleasedKey jobs clock) ready
+    → AllByRecursion (IsReleasedKey (jobs ++ job ∷ []) clock) ready
 stands_on jobs job clock ready all =
-    every (IsStanding jobs clock) (IsStanding (jobs ++ job ∷ []) clock)
+    every (IsReleasedKey jobs clock) (IsReleasedKey (jobs ++ job ∷ []) clock)
     (λ k h. moved_stand jobs (jobs ++ job ∷ []) clock k h (push_before jobs job k.number h.job h.is_at)) ready all
 
 -- into the wait list
 pub enter_waiting : (jobs : List JobRecord) (job : JobRecord) (clock : ℕ) (waiting : List WaitKey) (ready : List Key)
     → is_pending job.stage ≡ true
     → AreQueued jobs clock waiting ready
-    → AreQueued (jobs ++ job ∷ []) clock (inserted is_released_before (release_key (length jobs) job) waiting) ready
+    → AreQueued (jobs ++ job ∷ []) clock (with_key is_released_before (release_key (length jobs) job) waiting) ready
 enter_waiting jobs job clock waiting ready pending_job q =
     let key : WaitKey = release_key (length jobs) job in
     record {
-      waits = every-inserted is_released_before (IsWaiting (jobs ++ job ∷ [])) key waiting
+      waits = every-inserted is_released_before (IsWaitingKey (jobs ++ job ∷ [])) key waiting
           (record { job = job; is_at = push_here jobs job; pending_is = pending_job; release_is = refl })
           (waits_on jobs job waiting q.waits);
       stands = stands_on jobs job clock ready q.stands;
@@ -178,7 +178,7 @@ enter_waiting jobs job clock waiting ready pending_job q =
                 inl (rw (sym key_is) (inserted_member is_released_before key waiting))
           ];
       apart = every-inserted is_released_before (λ (w : WaitKey). AllByRecursion (λ (k : Key). w.number ≢ k.number) ready) key waiting
-          (every (IsStanding jobs clock) (λ (k : Key). length jobs ≢ k.number)
+          (every (IsReleasedKey jobs clock) (λ (k : Key). length jobs ≢ k.number)
           (λ k h same. let lt = slice_get_within jobs k.number h.job h.is_at in omega arith) ready q.stands)
           q.apart;
     }
@@ -187,12 +187,12 @@ enter_waiting jobs job clock waiting ready pending_job q =
 pub enter_ready : (jobs : List JobRecord) (job : JobRecord) (clock : ℕ) (waiting : List WaitKey) (ready : List Key)
     → is_pending job.stage ≡ true → job.release ≤ clock
     → AreQueued jobs clock waiting ready
-    → AreQueued (jobs ++ job ∷ []) clock waiting (inserted is_due_before (due_key (length jobs) job) ready)
+    → AreQueued (jobs ++ job ∷ []) clock waiting (with_key is_due_before (due_key (length jobs) job) ready)
 enter_ready jobs job clock waiting ready pending_job le q =
     let key : Key = due_key (length jobs) job in
     record {
       waits = waits_on jobs job waiting q.waits;
-      stands = every-inserted is_due_before (IsStanding (jobs ++ job ∷ []) clock) key ready
+      stands = every-inserted is_due_before (IsReleasedKey (jobs ++ job ∷ []) clock) key ready
           (record { job = job; is_at = push_here jobs job; pending_is = pending_job; due_is = refl; released = le })
           (stands_on jobs job clock ready q.stands);
       each = λ n other at_n pending_n.
@@ -205,8 +205,8 @@ enter_ready jobs job clock waiting ready pending_job le q =
                 let key_is : key ≡ due_key n other = λ i. record { due = (h.1 i).due; number = (sym h.0) i } in
                 inr (rw (sym key_is) (inserted_member is_due_before key ready))
           ];
-      apart = both (IsWaiting jobs) (λ (w : WaitKey). AllByRecursion (λ (k : Key). w.number ≢ k.number) ready)
-          (λ (w : WaitKey). AllByRecursion (λ (k : Key). w.number ≢ k.number) (inserted is_due_before key ready))
+      apart = both (IsWaitingKey jobs) (λ (w : WaitKey). AllByRecursion (λ (k : Key). w.number ≢ k.number) ready)
+          (λ (w : WaitKey). AllByRecursion (λ (k : Key). w.number ≢ k.number) (with_key is_due_before key ready))
           (λ w h rest. every-inserted is_due_before (λ (k : Key). w.number ≢ k.number) key ready
           (λ same. let lt = slice_get_within jobs w.number h.job h.is_at in omega arith) rest)
           waiting q.waits q.apart;
@@ -253,7 +253,7 @@ changed_image (j ∷ jobs) (suc n) change (suc m) job e =
 pub quiet_queues : (jobs : List JobRecord) (n : ℕ) (change : JobRecord → JobRecord) (clock : ℕ) (waiting : List WaitKey) (ready : List Key)
     → IsQuiet change → AreQueued jobs clock waiting ready → AreQueued (changed_at jobs n change) clock waiting ready
 quiet_queues jobs n change clock waiting ready quiet q = record {
-  waits = every (IsWaiting jobs) (IsWaiting (changed_at jobs n change))
+  waits = every (IsWaitingKey jobs) (IsWaitingKey (changed_at jobs n change))
       (λ k h. elim (changed_image jobs n change k.number h.job h.is_at) [
         | inl g ↦ moved_wait jobs (changed_at jobs n change) k h g.1
         | inr g ↦ record {
@@ -264,7 +264,7 @@ quiet_queues jobs n change clock waiting ready quiet q = record {
           release_is = h.release_is ∙ sym (quiet.release_is h.job);
         }
       ]) waiting q.waits;
-  stands = every (IsStanding jobs clock) (IsStanding (changed_at jobs n change) clock)
+  stands = every (IsReleasedKey jobs clock) (IsReleasedKey (changed_at jobs n change) clock)
       (λ k h. elim (changed_image jobs n change k.number h.job h.is_at) [
         | inl g ↦ moved_stand jobs (changed_at jobs n change) clock k h g.1
         | inr g ↦ record {
@@ -302,10 +302,10 @@ pub end_first : (jobs : List JobRecord) (n : ℕ) (change : JobRecord → JobRec
     → AreQueued jobs clock waiting (k ∷ ks)
     → AreQueued (changed_at jobs n change) clock waiting ks
 end_first jobs n change clock waiting k ks number_is over rising q =
-    let first : IsStanding jobs clock k = q.stands.0 in
+    let first : IsReleasedKey jobs clock k = q.stands.0 in
     let wait_else = every (λ (w : WaitKey). AllByRecursion (λ (l : Key). w.number ≢ l.number) (k ∷ ks)) (λ (w : WaitKey). w.number ≢ n)
     (λ w h same. h.0 (same ∙ sym number_is)) waiting q.apart in
-    let stand_else = both (λ later. is_due_before k later ≡ true) (IsStanding jobs clock) (λ (l : Key). l.number ≢ n)
+    let stand_else = both (λ later. is_due_before k later ≡ true) (IsReleasedKey jobs clock) (λ (l : Key). l.number ≢ n)
     (λ l before there same.
     let e : there.job ≡ first.job = same_at l.number k.number jobs there.job first.job (same ∙ sym number_is) there.is_at first.is_at in
     let f : k.due ≡ l.due = first.due_is ∙ ap (λ j. j.due) (sym e) ∙ sym there.due_is in
@@ -313,10 +313,10 @@ end_first jobs n change clock waiting k ks number_is over rising q =
     cc)
     ks rising.0 q.stands.1 in
     record {
-      waits = both (λ (w : WaitKey). w.number ≢ n) (IsWaiting jobs) (IsWaiting (changed_at jobs n change))
+      waits = both (λ (w : WaitKey). w.number ≢ n) (IsWaitingKey jobs) (IsWaitingKey (changed_at jobs n change))
           (λ w other h. moved_wait jobs (changed_at jobs n change) w h (changed_elsewhere jobs n change w.number other ∙ h.is_at)) waiting
           wait_else q.waits;
-      stands = both (λ (l : Key). l.number ≢ n) (IsStanding jobs clock) (IsStanding (changed_at jobs n change) clock)
+      stands = both (λ (l : Key). l.number ≢ n) (IsReleasedKey jobs clock) (IsReleasedKey (changed_at jobs n change) clock)
           (λ l other h. moved_stand jobs (changed_at jobs n change) clock l h (changed_elsewhere jobs n change l.number other ∙ h.is_at)) ks
           stand_else q.stands.1;
       each = λ m other at_m pending_m.

@@ -10,9 +10,9 @@ use Rattle.std.proofs.lemmas.Option.{slice_get_within, slice_get_read, slice_get
 use Rattle.slot_types.specs.declared.events.Op.{Op}
 use Rattle.slot_types.specs.declared.pages.PageData.{PageData}
 use Rattle.job_table.specs.declared.rows.Row.{Row}
-use Rattle.job_table.specs.Jobs.{JobRecord, is_read, is_some_read, accepted, carried, with_read}
+use Rattle.job_table.specs.Jobs.{JobRecord, is_read, is_some_read, new_record, with_one_more_slot, with_read}
 use Rattle.job_table.specs.Table.{changed_at, reads_next_at, reads_next_of}
-use Rattle.job_table.specs.Flat.{ops_at, reads_at, job_at, jobs_at, read_count, place_count, lacking, place_from, IsRowOf, IsRowIn, AreLaid}
+use Rattle.job_table.specs.Flat.{ops_at, reads_at, job_at, jobs_at, read_count, place_count, places_lacking, place_from, IsRowOf, IsRowIn, AreLaid}
 use Rattle.job_table.specs.Flat.{HasFewOps, HaveRoom}
 use Rattle.job_table.proofs.Reading.{read_of, one_more, has_read, lacks_all, lacks_none, done_placed, reads_there, next_of_all}
 
@@ -205,13 +205,13 @@ laid_kept rows ops reads n row next e first count place same fits laid =
 
 -- there is room as before where the places that a row lacks no longer have been made
 room_set : (rows : List Row) (ops : List Op) (reads reads' : List PageData) (all capacity n : ℕ) (row next : Row)
-    → slice_get rows n ≡ Some row → length reads' + lacking ops next ≡ length reads + lacking ops row
+    → slice_get rows n ≡ Some row → length reads' + places_lacking ops next ≡ length reads + places_lacking ops row
     → HaveRoom rows ops reads all capacity → HaveRoom (set rows n next) ops reads' all capacity
 room_set rows ops reads reads' all capacity n row next e made room = record {
   all_is = room.all_is;
   places =
-      let sum = sum_by-set (lacking ops) rows n next row (slice_get_within rows n row e) in
-      let old = ap (lacking ops) (get_or_from_slice_get rows n row row e) in
+      let sum = sum_by-set (places_lacking ops) rows n next row (slice_get_within rows n row e) in
+      let old = ap (places_lacking ops) (get_or_from_slice_get rows n row row e) in
       let before = room.places in
       omega arith;
   room = room.room;
@@ -219,17 +219,17 @@ room_set rows ops reads reads' all capacity n row next e made room = record {
 
 -- .. where it lacks as many as before
 pub room_kept : (rows : List Row) (ops : List Op) (reads : List PageData) (all capacity n : ℕ) (row next : Row)
-    → slice_get rows n ≡ Some row → lacking ops next ≡ lacking ops row
+    → slice_get rows n ≡ Some row → places_lacking ops next ≡ places_lacking ops row
     → HaveRoom rows ops reads all capacity → HaveRoom (set rows n next) ops reads all capacity
 room_kept rows ops reads all capacity n row next e same room =
     room_set rows ops reads reads all capacity n row next e (ap (λ (k : ℕ). length reads + k) same) room
 
 -- a row has as much room as it lacks places
 pub row_room : (rows : List Row) (ops : List Op) (reads : List PageData) (all capacity n : ℕ) (row : Row)
-    → slice_get rows n ≡ Some row → HaveRoom rows ops reads all capacity → length reads + lacking ops row ≤ all
+    → slice_get rows n ≡ Some row → HaveRoom rows ops reads all capacity → length reads + places_lacking ops row ≤ all
 row_room rows ops reads all capacity n row e room =
-    let one = get_or-le-sum_by (lacking ops) rows n row (slice_get_within rows n row e) in
-    let same = ap (lacking ops) (get_or_from_slice_get rows n row row e) in
+    let one = get_or-le-sum_by (places_lacking ops) rows n row (slice_get_within rows n row e) in
+    let same = ap (places_lacking ops) (get_or_from_slice_get rows n row row e) in
     let places = room.places in
     omega arith
 
@@ -249,9 +249,9 @@ pub record IsMade (rows : List Row) (ops : List Op) (reads more : List PageData)
   pub apart : (m : ℕ) (other : Row) → slice_get rows m ≡ Some other → m ≢ n
       → (from + read_count ops row ≤ other.first_place) ⊎ (other.first_place + place_count ops other ≤ from)
 
--- .. where those that it lacks are made behind all others
+-- .. where those that it lacks are made after all others
 pub made : (rows : List Row) (ops : List Op) (reads more : List PageData) (n len : ℕ) (row : Row) → slice_get rows n ≡ Some row
-    → len ≡ length reads → length more ≡ lacking ops row → AreLaid rows ops reads
+    → len ≡ length reads → length more ≡ places_lacking ops row → AreLaid rows ops reads
     → IsMade rows ops reads more n row (place_from len row)
 made rows ops reads more n len row e end count laid = elim (has_read row) [
   | inl none ↦
@@ -279,7 +279,7 @@ made rows ops reads more n len row e end count laid = elim (has_read row) [
       }
 ]
 
--- its own reads have the bytes behind them
+-- its own reads have the bytes after them
 reads_more : (reads : List PageData) (from done : ℕ) (bytes : PageData) → from + done < length reads
     → take (done + 1) (drop from (set reads (from + done) bytes)) ≡ take done (drop from reads) ++ bytes ∷ []
 reads_more reads from done bytes within =
@@ -324,7 +324,7 @@ laid_read rows ops reads more n row from bytes reading laid made =
 
 pub room_read : (rows : List Row) (ops : List Op) (reads more : List PageData) (all capacity n : ℕ) (row : Row) (from : ℕ)
     (bytes : PageData)
-    → slice_get rows n ≡ Some row → length more ≡ lacking ops row → HaveRoom rows ops reads all capacity
+    → slice_get rows n ≡ Some row → length more ≡ places_lacking ops row → HaveRoom rows ops reads all capacity
     → HaveRoom (set rows n (after_read row from)) ops (set (reads ++ more) (from + row.reads_done) bytes) all capacity
 room_read rows ops reads more all capacity n row from bytes e count room =
     room_set rows ops reads (set (reads ++ more) (from + row.reads_done) bytes) all capacity n row (after_read row from) e
@@ -335,9 +335,9 @@ room_read rows ops reads more all capacity n row from bytes e count room =
 pub jobs_read : (rows : List Row) (ops : List Op) (reads more : List PageData) (n : ℕ) (row : Row) (from : ℕ) (bytes : PageData)
     → IsReading rows ops n row → AreLaid rows ops reads → IsMade rows ops reads more n row from
     → jobs_at ops (set (reads ++ more) (from + row.reads_done) bytes) (set rows n (after_read row from))
-    ≡ changed_at (jobs_at ops reads rows) n (λ (job : JobRecord). with_read bytes (carried job))
+    ≡ changed_at (jobs_at ops reads rows) n (λ (job : JobRecord). with_read bytes (with_one_more_slot job))
 jobs_read rows ops reads more n row from bytes reading laid made =
-    map_changed (job_at ops reads) (job_at ops after) rows n row (after_read row from) (λ (job : JobRecord). with_read bytes (carried job))
+    map_changed (job_at ops reads) (job_at ops after) rows n row (after_read row from) (λ (job : JobRecord). with_read bytes (with_one_more_slot job))
     reading.there
     (ap (λ (l : List PageData). record (job_at ops reads row) { reads = l; work = row.work + 1 })
     (reads_more (reads ++ more) from row.reads_done bytes (place_there rows ops reads more n row from reading laid made)
@@ -377,7 +377,7 @@ places_stay : (ops more : List Op) (row : Row) → row.first_op + row.op_count �
 places_stay ops more row there =
     ap (λ (l : List Op). cond (row.reads_done == 0) 0 (count_by is_read l)) (ops_stay ops more row there)
 
-lacks_stay : (ops more : List Op) (row : Row) → row.first_op + row.op_count ≤ length ops → lacking (ops ++ more) row ≡ lacking ops row
+lacks_stay : (ops more : List Op) (row : Row) → row.first_op + row.op_count ≤ length ops → places_lacking (ops ++ more) row ≡ places_lacking ops row
 lacks_stay ops more row there =
     ap (λ (l : List Op). cond (row.reads_done == 0) (count_by is_read l) 0) (ops_stay ops more row there)
 
@@ -389,7 +389,7 @@ sum_same f g (row ∷ rows) same =
     let rest = sum_same f g rows (λ n other e. same (suc n) other e) in
     omega (arith, sum_by-cons f row rows, sum_by-cons g row rows)
 
--- a row that begins behind all others
+-- a row that begins after all others
 pub record IsBegun (row : Row) (ops : List Op) (count : ℕ) : Type 0 where
   pub first_op_is : row.first_op ≡ length ops
   pub op_count_is : row.op_count ≡ count
@@ -466,11 +466,11 @@ pub room_push : (rows : List Row) (ops more : List Op) (reads : List PageData) (
 room_push rows ops more reads all all' capacity capacity' row begun count_is fits laid room = record {
   all_is = let old = room.all_is in omega (arith, sum_by-append read_of ops more);
   places =
-      let old = sum_same (lacking ops) (lacking (ops ++ more)) rows
+      let old = sum_same (places_lacking ops) (places_lacking (ops ++ more)) rows
       (λ n other at_n. lacks_stay ops more other (laid.each n other at_n).fits.ops_there) in
       let new = (lacks_all (ops ++ more) row begun.reads_done_is).lacks ∙ ap (count_by is_read) (begun_ops ops more row begun) in
       let before = room.places in
-      omega (arith, sum_by_push (lacking (ops ++ more)) rows row);
+      omega (arith, sum_by_push (places_lacking (ops ++ more)) rows row);
   room = fits;
 }
 
@@ -478,7 +478,7 @@ room_push rows ops more reads all all' capacity capacity' row begun count_is fit
 pub jobs_pushed : (rows : List Row) (ops more : List Op) (reads : List PageData) (row : Row) → IsBegun row ops (length more)
     → AreLaid rows ops reads
     → jobs_at (ops ++ more) reads (rows ++ row ∷ []) ≡ jobs_at ops reads rows
-    ++ record (accepted row.collects row.task row.release row.due more) { stage = row.stage } ∷ []
+    ++ record (new_record row.collects row.task row.release row.due more) { stage = row.stage } ∷ []
 jobs_pushed rows ops more reads row begun laid =
     map-append (job_at (ops ++ more) reads) rows (row ∷ [])
     ∙ ap (λ (l : List JobRecord). l ++ job_at (ops ++ more) reads row ∷ [])
@@ -493,11 +493,11 @@ jobs_pushed rows ops more reads row begun laid =
     no_reads = ap (λ (n : ℕ). take n (drop row.first_place reads)) begun.reads_done_is
 
     new_job : job_at (ops ++ more) reads row
-        ≡ record (accepted row.collects row.task row.release row.due more) { stage = row.stage }
+        ≡ record (new_record row.collects row.task row.release row.due more) { stage = row.stage }
     new_job =
         ap (λ (l : List Op). record (job_at (ops ++ more) reads row) { ops = l }) (begun_ops ops more row begun)
         ∙ ap (λ (l : List PageData). record (job_at (ops ++ more) reads row) { ops = more; reads = l }) no_reads
-        ∙ ap (λ (n : ℕ). record (accepted row.collects row.task row.release row.due more) { work = n; stage = row.stage }) begun.work_is
+        ∙ ap (λ (n : ℕ). record (new_record row.collects row.task row.release row.due more) { work = n; stage = row.stage }) begun.work_is
 
 -- a job that changes has as many operations as before
 pub few_set : (rows : List Row) (ops : List Op) (n : ℕ) (row : Row) → HasFewOps rows ops → HasFewOps (set rows n row) ops

@@ -2,8 +2,8 @@
 use Rattle.std.proofs.Common.{◌≢◌, Bool, true, false, cond, refl, sym, List, [], ◌∷◌, Contains, inl, inr}
 use Rattle.std.specs.List.{AllByRecursion}
 use Rattle.std.proofs.lemmas.List.Elements.{All-from_recursion, All-contains}
-use Rattle.due_queue.specs.Queue.{inserted}
-use Rattle.job_table.specs.Queued.{IsAmong}
+use Rattle.due_queue.specs.Queue.{with_key}
+use Rattle.job_table.specs.QueuedKeys.{IsAmong}
 
 -- what holds of each holds of a member
 pub at_member : {K : Type 0} (P : K → Type 0) (x : K) (ks : List K) → AllByRecursion P ks → IsAmong x ks → P x
@@ -17,19 +17,19 @@ pub both : {K : Type 0} (P Q R : K → Type 0) → ((k : K) → P k → Q k → 
 both P Q R follows [] p q = tt
 both P Q R follows (k ∷ ks) p q = (follows k p.0 q.0, both P Q R follows ks p.1 q.1)
 
-pub inserted_member : {K : Type 0} (is_before : K → K → Bool) (x : K) (ks : List K) → IsAmong x (inserted is_before x ks)
+pub inserted_member : {K : Type 0} (is_before : K → K → Bool) (x : K) (ks : List K) → IsAmong x (with_key is_before x ks)
 inserted_member is_before x [] = inl refl
 inserted_member is_before x (k ∷ ks) =
-    elim (is_before x k) as (λ v. IsAmong x (cond v (x ∷ k ∷ ks) (k ∷ inserted is_before x ks)))
+    elim (is_before x k) as (λ v. IsAmong x (cond v (x ∷ k ∷ ks) (k ∷ with_key is_before x ks)))
     [ true ↦ inl refl | false ↦ inr (inserted_member is_before x ks) ]
 
-pub inserted_keeps : {K : Type 0} (is_before : K → K → Bool) (x y : K) (ks : List K) → IsAmong y ks → IsAmong y (inserted is_before x ks)
+pub inserted_keeps : {K : Type 0} (is_before : K → K → Bool) (x y : K) (ks : List K) → IsAmong y ks → IsAmong y (with_key is_before x ks)
 inserted_keeps is_before x y [] h = absurd h
 inserted_keeps is_before x y (k ∷ ks) (inl e) =
-    elim (is_before x k) as (λ v. IsAmong y (cond v (x ∷ k ∷ ks) (k ∷ inserted is_before x ks)))
+    elim (is_before x k) as (λ v. IsAmong y (cond v (x ∷ k ∷ ks) (k ∷ with_key is_before x ks)))
     [ true ↦ inr (inl e) | false ↦ inl e ]
 inserted_keeps is_before x y (k ∷ ks) (inr h) =
-    elim (is_before x k) as (λ v. IsAmong y (cond v (x ∷ k ∷ ks) (k ∷ inserted is_before x ks)))
+    elim (is_before x k) as (λ v. IsAmong y (cond v (x ∷ k ∷ ks) (k ∷ with_key is_before x ks)))
     [ true ↦ inr (inr h) | false ↦ inr (inserted_keeps is_before x y ks h) ]
 
 -- a list doesn't contain what differs from each of its keys

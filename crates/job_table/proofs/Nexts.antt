@@ -9,7 +9,7 @@ use Rattle.due_queue.specs.Keys.{is_released_before}
 use Rattle.job_table.specs.Jobs.{JobRecord, is_pending}
 use Rattle.job_table.specs.Table.{Table}
 use Rattle.job_table.specs.Order.{is_waiting, due_key, release_key, IsNextReleased, NothingWaiting}
-use Rattle.job_table.specs.Queued.{IsAmong, IsStanding, IsWaiting, AreQueued, AreLater}
+use Rattle.job_table.specs.QueuedKeys.{IsAmong, IsReleasedKey, IsWaitingKey, AreQueued, AreLater}
 use Rattle.job_table.proofs.Members.{at_member}
 use Rattle.job_table.proofs.Orders.{release_strict, not_before_same}
 
@@ -24,7 +24,7 @@ waiting_by clock job h g = grind (arith, nat_tests)
 
 -- a released key is not later than the clock
 standing_released : (jobs : List JobRecord) (clock n : ℕ) (job : JobRecord) (k : Key) → slice_get jobs n ≡ Some job → k ≡ due_key n job
-    → IsStanding jobs clock k → job.release ≤ clock
+    → IsReleasedKey jobs clock k → job.release ≤ clock
 standing_released jobs clock n job k at_n key_is s =
     let same : job ≡ s.job = same_some job s.job (sym at_n ∙ (ap (λ (l : Key). slice_get jobs l.number) (sym key_is) ∙ s.is_at)) in
     rw same s.released
@@ -40,7 +40,7 @@ waiting_among table waiting ready q n job at_n waits_n =
     elim (q.each n job at_n (waiting_pending table.clock job waits_n)) [
       | inl h ↦ h
       | inr h ↦
-          absurd (let s = at_member (IsStanding table.jobs table.clock) (due_key n job) ready q.stands h in
+          absurd (let s = at_member (IsReleasedKey table.jobs table.clock) (due_key n job) ready q.stands h in
           let le = standing_released table.jobs table.clock n job (due_key n job) at_n refl s in
           let lt = waiting_later table.clock job waits_n in omega arith)
     ]
@@ -48,7 +48,7 @@ waiting_among table waiting ready q n job at_n waits_n =
 pub first_is_next : (table : Table) (k : WaitKey) (ks : List WaitKey) (ready : List Key) → AreQueued table.jobs table.clock (k ∷ ks) ready
     → AreLater table.clock (k ∷ ks) → IsRising is_released_before (k ∷ ks) → IsNextReleased table k.number
 first_is_next table k ks ready q later rising =
-    let first : IsWaiting table.jobs k = q.waits.0 in
+    let first : IsWaitingKey table.jobs k = q.waits.0 in
     let key_is : k ≡ release_key k.number first.job = λ i. record { release = first.release_is i; number = k.number } in
     record {
       job = first.job;

@@ -9,7 +9,7 @@ use Rattle.slot_types.specs.declared.events.Op.{Op}
 use Rattle.slot_types.specs.declared.pages.PageData.{PageData}
 use Rattle.job_table.specs.declared.rows.Row.{Row}
 use Rattle.job_table.specs.Jobs.{is_read, is_some_read}
-use Rattle.job_table.specs.Flat.{ops_at, reads_at, read_count, place_count, lacking, place_from, IsRowOf, IsRowIn}
+use Rattle.job_table.specs.Flat.{ops_at, reads_at, read_count, place_count, places_lacking, place_from, IsRowOf, IsRowIn}
 
 abbrev pub read_of : Op → ℕ
 read_of op = cond (is_read op) 1 0
@@ -47,7 +47,7 @@ has_read row = by_count row.reads_done
 -- nothing as long as it has not read
 pub record LacksAll (ops : List Op) (row : Row) : Type 0 where
   pub placed : place_count ops row ≡ 0
-  pub lacks : lacking ops row ≡ read_count ops row
+  pub lacks : places_lacking ops row ≡ read_count ops row
   pub from : (len : ℕ) → place_from len row ≡ len
 
 pub lacks_all : (ops : List Op) (row : Row) → row.reads_done ≡ 0 → LacksAll ops row
@@ -62,7 +62,7 @@ lacks_all ops row none =
 -- .. which is what is counted from its first operation to its last
 pub lacks_counted : (ops : List Op) (row : Row) (count : ℕ) → row.reads_done ≡ 0
     → count_by is_read (take row.first_op ops) + count ≡ count_by is_read (take (row.first_op + row.op_count) ops)
-    → count ≡ lacking ops row
+    → count ≡ places_lacking ops row
 lacks_counted ops row count none is =
     let all = (lacks_all ops row none).lacks in
     let on = reads_on ops row.first_op row.op_count in
@@ -71,7 +71,7 @@ lacks_counted ops row count none is =
 -- and all once it has
 pub record LacksNone (ops : List Op) (row : Row) : Type 0 where
   pub placed : place_count ops row ≡ read_count ops row
-  pub lacks : lacking ops row ≡ 0
+  pub lacks : places_lacking ops row ≡ 0
   pub from : (len : ℕ) → place_from len row ≡ row.first_place
 
 pub lacks_none : (ops : List Op) (row : Row) → 0 < row.reads_done → LacksNone ops row

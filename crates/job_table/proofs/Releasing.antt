@@ -5,11 +5,11 @@ use Rattle.std.proofs.lemmas.Option.{get_or_from_slice_get}
 use Rattle.std.proofs.lemmas.Bool.Decides.{nat_tests}
 use Rattle.due_queue.specs.declared.keys.Key.{Key}
 use Rattle.due_queue.specs.declared.keys.WaitKey.{WaitKey}
-use Rattle.due_queue.specs.Queue.{inserted, first_of, rest_of, IsRising}
+use Rattle.due_queue.specs.Queue.{with_key, first_of, rest_of, IsRising}
 use Rattle.due_queue.specs.Keys.{is_due_before, is_released_before, released_by}
 use Rattle.due_queue.proofs.Inserted.{rising-inserted}
 use Rattle.job_table.specs.Jobs.{JobRecord}
-use Rattle.job_table.specs.Queued.{IsRoomy, AreQueued, AreLater}
+use Rattle.job_table.specs.QueuedKeys.{IsRoomy, AreQueued, AreLater}
 use Rattle.job_table.proofs.Keyed.{release_one, absent_key, all_later}
 use Rattle.job_table.proofs.Orders.{due_strict}
 
@@ -48,7 +48,7 @@ pub release_step : (jobs : List JobRecord) (now : ℕ) (old rest : List WaitKey)
     → spare' + 1 ≡ spare
     → IsRoomy old ready spare
     → AreQueued jobs now old ready
-    → IsStep jobs now old rest ready (inserted is_due_before (record { due = due; number = w.number }) ready) spare'
+    → IsStep jobs now old rest ready (with_key is_due_before (record { due = due; number = w.number }) ready) spare'
 release_step jobs now old rest ready spare spare' w job due first_is rest_is read due_is less roomy queued =
     let pop = popped now old rest w first_is rest_is in
     let key : Key = record { due = due; number = w.number } in

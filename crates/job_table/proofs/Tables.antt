@@ -10,18 +10,18 @@ use Rattle.slot_types.specs.declared.limits.TheConstants.{MAX_JOBS}
 use Rattle.slot_types.specs.declared.pages.PageData.{PageData}
 use Rattle.due_queue.specs.declared.keys.Key.{Key}
 use Rattle.due_queue.specs.declared.keys.WaitKey.{WaitKey}
-use Rattle.due_queue.specs.Queue.{inserted, rest_of, IsRising}
+use Rattle.due_queue.specs.Queue.{with_key, rest_of, IsRising}
 use Rattle.due_queue.specs.Keys.{is_due_before, is_released_before}
 use Rattle.due_queue.proofs.Inserted.{every-inserted, length-inserted}
 use Rattle.job_table.specs.declared.stages.Stage.{Stage}
 use Rattle.job_table.specs.declared.stages.Stage.TheVariants as stages
-use Rattle.job_table.specs.Jobs.{JobRecord, is_pending, is_done, with_stage, carried, with_read}
+use Rattle.job_table.specs.Jobs.{JobRecord, is_pending, is_done, with_stage, with_one_more_slot, with_read}
 use Rattle.job_table.specs.Table.{Table, changed_at, is_collection_of, is_collecting}
 use Rattle.job_table.specs.Order.{due_key, IsHead}
-use Rattle.job_table.specs.Queued.{Lines, AreQueued, AreLater}
+use Rattle.job_table.specs.QueuedKeys.{Lines, AreQueued, AreLater}
 use Rattle.job_table.specs.Order.{release_key}
 use Rattle.job_table.specs.Worst.{IsWorst, NothingDone, IsDoneAt}
-use Rattle.job_table.specs.Kept.{unmarked, IsRunning, IsSound}
+use Rattle.job_table.specs.SoundTable.{marks_after, QueuesAgree, IsSoundTable}
 use Rattle.job_table.proofs.Changed.{length-changed_at, changed_here, one_if, count_by-changed_at, list_any-none, list_any-some, push_cases}
 use Rattle.job_table.proofs.Changed.{same_at}
 use Rattle.job_table.proofs.Keyed.{IsQuiet, changed_cases, quiet_queues, end_first, enter_waiting, enter_ready}
@@ -57,7 +57,7 @@ other_task : (a b : ℕ) → a ≢ b → one_of (a == b) ≡ 0
 other_task a b e = grind (arith, nat_tests)
 
 pub mark_is : (jobs : List JobRecord) (clock : ℕ) (collecting : List Bool) (waiting : List WaitKey) (ready : List Key) (task : ℕ)
-    → IsRunning jobs clock collecting waiting ready → task < length collecting
+    → QueuesAgree jobs clock collecting waiting ready → task < length collecting
     → get_or collecting task false ≡ is_collecting jobs task
 mark_is jobs clock collecting waiting ready task running lt = by (get_or collecting task false) refl
   where
@@ -67,7 +67,7 @@ mark_is jobs clock collecting waiting ready task running lt = by (get_or collect
 
 -- A job goes on
 
-pub carried_quiet : IsQuiet carried
+pub carried_quiet : IsQuiet with_one_more_slot
 carried_quiet = record {
   stage_is = λ job. refl;
   release_is = λ job. refl;
@@ -80,7 +80,7 @@ carried_quiet = record {
 pub quiet_sound : (jobs : List JobRecord) (n : ℕ) (change : JobRecord → JobRecord) (job : JobRecord) (clock : ℕ) (ended : Bool)
     (collecting : List Bool) (lines : Lines) (worst : Option ℕ)
     → IsQuiet change → slice_get jobs n ≡ Some job → is_pending job.stage ≡ true
-    → IsSound jobs clock ended collecting lines worst → IsSound (changed_at jobs n change) clock ended collecting lines worst
+    → IsSoundTable jobs clock ended collecting lines worst → IsSoundTable (changed_at jobs n change) clock ended collecting lines worst
 quiet_sound jobs n change job clock ended collecting lines worst quiet at_n pending_n sound =
     let len = length-changed_at jobs n change in
     let few = sound.few in
@@ -117,7 +117,7 @@ quiet_sound jobs n change job clock ended collecting lines worst quiet at_n pend
 
 -- The head is over
 
-length-unmarked : (o : Option JobRecord) (collecting : List Bool) → length (unmarked o collecting) ≡ length collecting
+length-unmarked : (o : Option JobRecord) (collecting : List Bool) → length (marks_after o collecting) ≡ length collecting
 length-unmarked None collecting = refl
 length-unmarked (Some job) collecting = by job.collects
   where
@@ -160,14 +160,14 @@ over_marks jobs n s job collecting task at_n pending_n over lt was true is =
 
 pub over_running : (table : Table) (n : ℕ) (s : Stage) (collecting : List Bool) (waiting : List WaitKey) (ready : List Key)
     → IsHead table n → is_pending s ≡ false → IsRising is_due_before ready
-    → IsRunning table.jobs table.clock collecting waiting ready
-    → IsRunning (changed_at table.jobs n (with_stage s)) table.clock (unmarked (slice_get table.jobs n) collecting) waiting (rest_of ready)
+    → QueuesAgree table.jobs table.clock collecting waiting ready
+    → QueuesAgree (changed_at table.jobs n (with_stage s)) table.clock (marks_after (slice_get table.jobs n) collecting) waiting (rest_of ready)
 over_running table n s collecting waiting ready head over rising r =
     let b : BeginsWith n ready = head_is_first table waiting ready n r.queued r.later rising head in
     let rest_is : rest_of ready ≡ b.rest = ap rest_of b.ready_is in
     let q = end_first table.jobs n (with_stage s) table.clock waiting b.first b.rest b.number_is (λ job. over)
     (subst (IsRising is_due_before) b.ready_is rising) (subst (λ l. AreQueued table.jobs table.clock waiting l) b.ready_is r.queued) in
-    let marks_len : length (unmarked (slice_get table.jobs n) collecting)
+    let marks_len : length (marks_after (slice_get table.jobs n) collecting)
     ≡ length collecting = length-unmarked (slice_get table.jobs n) collecting in
     record {
       queued = rw rest_is q;
@@ -193,9 +193,9 @@ pub over_sound : (table : Table) (n : ℕ) (s : Stage) (ended : Bool) (collectin
     (worst worst' : Option ℕ)
     → ended ≡ false → IsHead table n → is_pending s ≡ false → IsRising is_due_before lines.ready
     → lines'.waiting ≡ lines.waiting → lines'.ready ≡ rest_of lines.ready
-    → IsSound table.jobs table.clock ended collecting lines worst
+    → IsSoundTable table.jobs table.clock ended collecting lines worst
     → MatchOption worst' (NothingDone (changed_at table.jobs n (with_stage s))) (IsWorst (changed_at table.jobs n (with_stage s)))
-    → IsSound (changed_at table.jobs n (with_stage s)) table.clock ended (unmarked (slice_get table.jobs n) collecting) lines' worst'
+    → IsSoundTable (changed_at table.jobs n (with_stage s)) table.clock ended (marks_after (slice_get table.jobs n) collecting) lines' worst'
 over_sound table n s ended collecting lines lines' worst worst' runs head over rising waiting_is ready_is sound worst_is = record {
   few = rw length-changed_at sound.few;
   running = λ e. rw (waiting_is, ready_is) (over_running table n s collecting lines.waiting lines.ready head over rising (sound.running e));
@@ -218,7 +218,7 @@ head_done table n s head done = record {
   done = done;
 }
 
-pub read_quiet : (bytes : PageData) → IsQuiet (λ job. with_read bytes (carried job))
+pub read_quiet : (bytes : PageData) → IsQuiet (λ job. with_read bytes (with_one_more_slot job))
 read_quiet bytes = record {
   stage_is = λ job. refl;
   release_is = λ job. refl;
@@ -239,16 +239,16 @@ pub record HasEntered (jobs : List JobRecord) (job : JobRecord) (clock : ℕ) (w
 
 pub has_entered : (jobs : List JobRecord) (job : JobRecord) (clock : ℕ) (waiting waiting' : List WaitKey) (ready ready' : List Key)
     → is_pending job.stage ≡ true
-    → waiting' ≡ (if nat_lt clock job.release then inserted is_released_before (release_key (length jobs) job) waiting else waiting)
-    → ready' ≡ (if nat_lt clock job.release then ready else inserted is_due_before (due_key (length jobs) job) ready)
+    → waiting' ≡ (if nat_lt clock job.release then with_key is_released_before (release_key (length jobs) job) waiting else waiting)
+    → ready' ≡ (if nat_lt clock job.release then ready else with_key is_due_before (due_key (length jobs) job) ready)
     → AreQueued jobs clock waiting ready → AreLater clock waiting
     → HasEntered jobs job clock waiting waiting' ready ready'
 has_entered jobs job clock waiting waiting' ready ready' pending_job waiting_is ready_is q later = by (nat_lt clock job.release) refl
     waiting_is ready_is
   where
     by : (b : Bool) → nat_lt clock job.release ≡ b
-        → waiting' ≡ (if b then inserted is_released_before (release_key (length jobs) job) waiting else waiting)
-        → ready' ≡ (if b then ready else inserted is_due_before (due_key (length jobs) job) ready)
+        → waiting' ≡ (if b then with_key is_released_before (release_key (length jobs) job) waiting else waiting)
+        → ready' ≡ (if b then ready else with_key is_due_before (due_key (length jobs) job) ready)
         → HasEntered jobs job clock waiting waiting' ready ready'
     by true e f g =
         let lt : clock < job.release = grind (arith, nat_tests) in
@@ -274,7 +274,7 @@ pub job_sound : (jobs : List JobRecord) (job : JobRecord) (clock : ℕ) (ended :
     (worst : Option ℕ)
     → length jobs < MAX_JOBS → job.stage ≡ stages.Pending → job.collects ≡ false
     → (ended ≡ false → HasEntered jobs job clock lines.waiting lines'.waiting lines.ready lines'.ready)
-    → IsSound jobs clock ended collecting lines worst → IsSound (jobs ++ job ∷ []) clock ended collecting lines' worst
+    → IsSoundTable jobs clock ended collecting lines worst → IsSoundTable (jobs ++ job ∷ []) clock ended collecting lines' worst
 job_sound jobs job clock ended collecting lines lines' worst few pending_is collects_not entered sound =
     let len = length-append jobs (job ∷ []) in
     record {
@@ -304,7 +304,7 @@ pub collection_sound : (jobs : List JobRecord) (job : JobRecord) (clock : ℕ) (
     → ended ≡ false → length jobs < MAX_JOBS → job.stage ≡ stages.Pending → job.collects ≡ true
     → job.task < length collecting → is_collecting jobs job.task ≡ false
     → HasEntered jobs job clock lines.waiting lines'.waiting lines.ready lines'.ready
-    → IsSound jobs clock ended collecting lines worst → IsSound (jobs ++ job ∷ []) clock ended (set collecting job.task true) lines' worst
+    → IsSoundTable jobs clock ended collecting lines worst → IsSoundTable (jobs ++ job ∷ []) clock ended (set collecting job.task true) lines' worst
 collection_sound jobs job clock ended collecting lines lines' worst runs few pending_is collects_it in_range single h sound =
     let r = sound.running runs in
     let len = length-append jobs (job ∷ []) in

@@ -12,7 +12,7 @@ use Rattle.job_table.specs.declared.stages.Stage.TheVariants as stages
 use Rattle.job_table.specs.Jobs.{JobRecord, is_pending, is_waived, is_done, with_stage}
 use Rattle.job_table.specs.Table.{Table, changed_at}
 use Rattle.job_table.specs.Order.{IsHead}
-use Rattle.job_table.specs.Waivers.{after_waiver, waived_in, IsPendingAt, WerePending, without_waiver, without_waivers, is_waived_one}
+use Rattle.job_table.specs.Waivers.{jobs_after_waiver, jobs_after_waivers, IsPendingAt, WerePending, without_waiver, without_waivers, is_waived_one}
 use Rattle.job_table.specs.Waivers.{AreWaived}
 use Rattle.job_table.specs.Worst.{IsWorst, NothingDone}
 use Rattle.job_table.proofs.Changed.{changed_here, changed_elsewhere, length-changed_at, same_at}
@@ -35,15 +35,15 @@ head_pending table n head = record {
 
 -- one more waiver at the end
 
-pub waived_push : (jobs : List JobRecord) (ws : List Waived) (w : Waived) → waived_in jobs (ws ++ w ∷ [])
-    ≡ after_waiver (waived_in jobs ws) w
+pub waived_push : (jobs : List JobRecord) (ws : List Waived) (w : Waived) → jobs_after_waivers jobs (ws ++ w ∷ [])
+    ≡ jobs_after_waiver (jobs_after_waivers jobs ws) w
 waived_push jobs [] w = refl
-waived_push jobs (v ∷ ws) w = waived_push (after_waiver jobs v) ws w
+waived_push jobs (v ∷ ws) w = waived_push (jobs_after_waiver jobs v) ws w
 
 pub WerePending-push : (jobs : List JobRecord) (ws : List Waived) (w : Waived) → WerePending jobs ws
-    → IsPendingAt (waived_in jobs ws) w.number → WerePending jobs (ws ++ w ∷ [])
+    → IsPendingAt (jobs_after_waivers jobs ws) w.number → WerePending jobs (ws ++ w ∷ [])
 WerePending-push jobs [] w were here = (here, tt)
-WerePending-push jobs (v ∷ ws) w were here = (were.0, WerePending-push (after_waiver jobs v) ws w were.1 here)
+WerePending-push jobs (v ∷ ws) w were here = (were.0, WerePending-push (jobs_after_waiver jobs v) ws w were.1 here)
 
 -- two changes of one job, and changes of two
 changed_twice : (jobs : List JobRecord) (n : ℕ) (f g : JobRecord → JobRecord) → changed_at (changed_at jobs n f) n g
@@ -68,7 +68,7 @@ changed_same (j ∷ jobs) zero f job e same = let h : j ≡ job = cc in ap (λ x
 changed_same (j ∷ jobs) (suc n) f job e same = ap (λ l. j ∷ l) (changed_same jobs n f job e same)
 
 -- a waiver and its taking back
-without_waived : (jobs : List JobRecord) (w : Waived) → IsPendingAt jobs w.number → without_waiver (after_waiver jobs w) w ≡ jobs
+without_waived : (jobs : List JobRecord) (w : Waived) → IsPendingAt jobs w.number → without_waiver (jobs_after_waiver jobs w) w ≡ jobs
 without_waived jobs w here =
     changed_twice jobs w.number (with_stage (stages.Waived w.given)) (with_stage stages.Pending)
     ∙ changed_same jobs w.number (with_stage stages.Pending) here.job here.is_at (ap (λ s. with_stage s here.job) (sym here.pending_is))
@@ -79,7 +79,7 @@ pub record IsWaivedAt (jobs : List JobRecord) (number : ℕ) : Type 0 where
   pub is_at : slice_get jobs number ≡ Some job
   pub waived_is : is_waived job.stage ≡ true
 
-waived_here : (jobs : List JobRecord) (w : Waived) → IsPendingAt jobs w.number → IsWaivedAt (after_waiver jobs w) w.number
+waived_here : (jobs : List JobRecord) (w : Waived) → IsPendingAt jobs w.number → IsWaivedAt (jobs_after_waiver jobs w) w.number
 waived_here jobs w here = record {
   job = with_stage (stages.Waived w.given) here.job;
   is_at = changed_here jobs w.number (with_stage (stages.Waived w.given)) ∙ ap (option_map (with_stage (stages.Waived w.given))) here.is_at;
@@ -93,21 +93,21 @@ apart jobs m n waived pending_one same =
     let f : is_waived pending_one.job.stage ≡ true = ap (λ j. is_waived j.stage) (sym e) ∙ waived.waived_is in
     let g : is_waived pending_one.job.stage ≡ false = ap is_waived pending_one.pending_is in cc)
 
-still_waived : (jobs : List JobRecord) (n : ℕ) (w : Waived) → n ≢ w.number → IsWaivedAt jobs n → IsWaivedAt (after_waiver jobs w) n
+still_waived : (jobs : List JobRecord) (n : ℕ) (w : Waived) → n ≢ w.number → IsWaivedAt jobs n → IsWaivedAt (jobs_after_waiver jobs w) n
 still_waived jobs n w differs waived = record {
   job = waived.job;
   is_at = changed_elsewhere jobs w.number (with_stage (stages.Waived w.given)) n differs ∙ waived.is_at;
   waived_is = waived.waived_is;
 }
 
--- taking one back goes before the others' waivers as well as behind them
+-- taking one back goes before the others' waivers as well as after them
 without_first : (jobs : List JobRecord) (v : Waived) (ws : List Waived) → IsWaivedAt jobs v.number → WerePending jobs ws
-    → without_waiver (waived_in jobs ws) v ≡ waived_in (without_waiver jobs v) ws
+    → without_waiver (jobs_after_waivers jobs ws) v ≡ jobs_after_waivers (without_waiver jobs v) ws
 without_first jobs v [] waived were = refl
 without_first jobs v (w ∷ ws) waived were =
     let differs : v.number ≢ w.number = apart jobs v.number w.number waived were.0 in
-    without_first (after_waiver jobs w) v ws (still_waived jobs v.number w differs waived) were.1
-    ∙ ap (λ l. waived_in l ws) (changed_comm jobs w.number v.number (with_stage (stages.Waived w.given)) (with_stage stages.Pending)
+    without_first (jobs_after_waiver jobs w) v ws (still_waived jobs v.number w differs waived) were.1
+    ∙ ap (λ l. jobs_after_waivers l ws) (changed_comm jobs w.number v.number (with_stage (stages.Waived w.given)) (with_stage stages.Pending)
     (λ e. differs (sym e)))
 
 -- those that were pending were pending also where one that is waived is taken back
@@ -123,18 +123,18 @@ pending_after jobs v (w ∷ ws) waived were =
       },
       subst (λ l. WerePending l ws) (changed_comm jobs w.number v.number (with_stage (stages.Waived w.given)) (with_stage stages.Pending)
           (λ e. differs (sym e)))
-          (pending_after (after_waiver jobs w) v ws (still_waived jobs v.number w differs waived) were.1),
+          (pending_after (jobs_after_waiver jobs w) v ws (still_waived jobs v.number w differs waived) were.1),
     )
 
 -- what was waived and taken back is as it was
-pub without_waivers-waived_in : (jobs : List JobRecord) (ws : List Waived) → WerePending jobs ws → without_waivers (waived_in jobs ws) ws
+pub without_waivers-waived_in : (jobs : List JobRecord) (ws : List Waived) → WerePending jobs ws → without_waivers (jobs_after_waivers jobs ws) ws
     ≡ jobs
 without_waivers-waived_in jobs [] were = refl
 without_waivers-waived_in jobs (w ∷ ws) were =
     let waived = waived_here jobs w were.0 in
     let back = without_waived jobs w were.0 in
-    ap (λ l. without_waivers l ws) (without_first (after_waiver jobs w) w ws waived were.1 ∙ ap (λ l. waived_in l ws) back)
-    ∙ without_waivers-waived_in jobs ws (subst (λ l. WerePending l ws) back (pending_after (after_waiver jobs w) w ws waived were.1))
+    ap (λ l. without_waivers l ws) (without_first (jobs_after_waiver jobs w) w ws waived were.1 ∙ ap (λ l. jobs_after_waivers l ws) back)
+    ∙ without_waivers-waived_in jobs ws (subst (λ l. WerePending l ws) back (pending_after (jobs_after_waiver jobs w) w ws waived were.1))
 
 -- Waivers that are there may be taken back
 
@@ -142,16 +142,16 @@ one_waived : (jobs : List JobRecord) (n : ℕ) → IsWaivedAt jobs n → is_waiv
 one_waived jobs n waived = ap is_waived_one waived.is_at ∙ waived.waived_is
 
 last_waived : (jobs : List JobRecord) (v : Waived) (ws : List Waived) → IsWaivedAt jobs v.number → WerePending jobs ws
-    → IsWaivedAt (waived_in jobs ws) v.number
+    → IsWaivedAt (jobs_after_waivers jobs ws) v.number
 last_waived jobs v [] waived were = waived
 last_waived jobs v (w ∷ ws) waived were =
-    last_waived (after_waiver jobs w) v ws (still_waived jobs v.number w (apart jobs v.number w.number waived were.0) waived) were.1
+    last_waived (jobs_after_waiver jobs w) v ws (still_waived jobs v.number w (apart jobs v.number w.number waived were.0) waived) were.1
 
-pub AreWaived-waived_in : (jobs : List JobRecord) (ws : List Waived) → WerePending jobs ws → AreWaived (waived_in jobs ws) ws
+pub AreWaived-waived_in : (jobs : List JobRecord) (ws : List Waived) → WerePending jobs ws → AreWaived (jobs_after_waivers jobs ws) ws
 AreWaived-waived_in jobs [] were = tt
 AreWaived-waived_in jobs (w ∷ ws) were = (
-  one_waived (waived_in (after_waiver jobs w) ws) w.number (last_waived (after_waiver jobs w) w ws (waived_here jobs w were.0) were.1),
-  AreWaived-waived_in (after_waiver jobs w) ws were.1,
+  one_waived (jobs_after_waivers (jobs_after_waiver jobs w) ws) w.number (last_waived (jobs_after_waiver jobs w) w ws (waived_here jobs w were.0) were.1),
+  AreWaived-waived_in (jobs_after_waiver jobs w) ws were.1,
 )
 
 -- Taking waivers back, for the table

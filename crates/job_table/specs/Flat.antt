@@ -1,4 +1,4 @@
--- Jobs as flat rows over two arenas: the operations of all jobs, one behind another, and places for what reads give.
+-- Jobs as flat rows over two arenas: the operations of all jobs, one after another, and places for what reads give.
 use Rattle.std.specs.Prelude.{◌≡◌, ◌≢◌, ◌⊎◌, ◌==◌, ℕ, ◌+◌, ◌^◌, ◌<◌, ◌≤◌, List, Some, slice_get, length, take, drop, map, count_by}
 use Rattle.std.specs.Prelude.{sum_by, if◌then◌else◌, ◌*◌}
 use Rattle.slot_types.specs.declared.events.Op.{Op}
@@ -37,15 +37,15 @@ abbrev pub place_count : List Op → Row → ℕ
 place_count ops row = if row.reads_done == 0 then 0 else read_count ops row
 
 -- how many it lacks: one for each of its reads, until then
-abbrev pub lacking : List Op → Row → ℕ
-lacking ops row = if row.reads_done == 0 then read_count ops row else 0
+abbrev pub places_lacking : List Op → Row → ℕ
+places_lacking ops row = if row.reads_done == 0 then read_count ops row else 0
 
--- where its places begin, if those that it lacks are made behind so many
+-- where its places begin, if those that it lacks are made after so many
 abbrev pub place_from : ℕ → Row → ℕ
 place_from len row = if row.reads_done == 0 then len else row.first_place
 
--- its operations are there, as many as 16 bits count, so many reads stand before them, and it carried so many reads as its
--- work shows
+-- its operations are there, as many as 16 bits count, so many reads stand before them, and it carried so many reads as
+-- its work shows
 pub record IsRowOf (ops : List Op) (row : Row) : Type 0 where
   pub ops_there : row.first_op + row.op_count ≤ length ops
   pub ops_few : row.op_count < 2 ^ 16
@@ -57,7 +57,7 @@ pub record IsRowIn (ops : List Op) (reads : List PageData) (row : Row) : Type 0 
   pub fits : IsRowOf ops row
   pub places_there : row.first_place + place_count ops row ≤ length reads
 
--- the operations of a later row lie behind those of an earlier one, and no two rows share a place
+-- the operations of a later row lie after those of an earlier one, and no two rows share a place
 pub record AreLaid (rows : List Row) (ops : List Op) (reads : List PageData) : Type 0 where
   pub each : (n : ℕ) (row : Row) → slice_get rows n ≡ Some row → IsRowIn ops reads row
   pub ops_apart : (n m : ℕ) (row other : Row) → slice_get rows n ≡ Some row → slice_get rows m ≡ Some other → n < m
@@ -68,7 +68,7 @@ pub record AreLaid (rows : List Row) (ops : List Op) (reads : List PageData) : T
 -- so many reads the jobs have in all, and for each of them there is a place, or room for one
 pub record HaveRoom (rows : List Row) (ops : List Op) (reads : List PageData) (all capacity : ℕ) : Type 0 where
   pub all_is : all ≡ count_by is_read ops
-  pub places : length reads + sum_by (lacking ops) rows ≡ all
+  pub places : length reads + sum_by (places_lacking ops) rows ≡ all
   pub room : all ≤ capacity
 
 -- a job has at most 64 operations, so 32 bits count those of all jobs

@@ -40,7 +40,7 @@ completion_in Pending = 0
 completion_in (Done completion given) = completion
 completion_in (Waived given) = 0
 
--- completion minus due
+-- completion minus deadline
 abbrev pub lateness_of : JobRecord → ℤ
 lateness_of job = pos (completion_in job.stage) -ℤ pos job.due
 
@@ -58,21 +58,21 @@ abbrev pub reads_next : JobRecord → Bool
 reads_next job = is_some_read (slice_get job.ops job.work)
 
 -- a job or a collection that has not begun
-abbrev pub accepted : Bool → ℕ → ℕ → ℕ → List Op → JobRecord
-accepted collects task release due ops =
+abbrev pub new_record : Bool → ℕ → ℕ → ℕ → List Op → JobRecord
+new_record collects task release due ops =
     record { collects = collects; task = task; release = release; due = due; ops = ops; work = 0; reads = []; stage = Pending }
 
 -- a job that has not begun
 abbrev pub new_job : ℕ → ℕ → ℕ → List Op → JobRecord
-new_job task release due ops = accepted false task release due ops
+new_job task release due ops = new_record false task release due ops
 
 -- a collection that has not begun
 abbrev pub new_collection : ℕ → ℕ → ℕ → JobRecord
-new_collection task release due = accepted true task release due []
+new_collection task release due = new_record true task release due []
 
 -- it took one more slot
-abbrev pub carried : JobRecord → JobRecord
-carried job = record job { work = job.work + 1 }
+abbrev pub with_one_more_slot : JobRecord → JobRecord
+with_one_more_slot job = record job { work = job.work + 1 }
 
 -- one of its reads gave these bytes
 abbrev pub with_read : PageData → JobRecord → JobRecord

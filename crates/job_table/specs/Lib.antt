@@ -5,6 +5,6 @@ pub mod Table
 pub mod Waivers
 pub mod Order
 pub mod Worst
-pub mod Queued
-pub mod Kept
+pub mod QueuedKeys
+pub mod SoundTable
 pub mod Heads

@@ -10,7 +10,7 @@ use Rattle.job_table.specs.Table.{Table}
 abbrev pub is_ready : ℕ → JobRecord → Bool
 is_ready clock job = nat_le job.release clock && is_pending job.stage
 
--- the key of a job by its number: due, then number
+-- the key of a job by its number: deadline, then number
 abbrev pub due_key : ℕ → JobRecord → Key
 due_key number job = record { due = job.due; number = number }
 
@@ -39,7 +39,8 @@ is_waiting clock job = nat_lt clock job.release && is_pending job.stage
 abbrev pub release_key : ℕ → JobRecord → WaitKey
 release_key number job = record { release = job.release; number = number }
 
--- the job of this number waits for its release, and none that waits is released before it, of equal releases none with a smaller number
+-- the job of this number waits for its release, and none that waits is released before it, of equal releases none with
+-- a smaller number
 pub record IsNextReleased (table : Table) (number : ℕ) : Type 0 where
   pub job : JobRecord
   pub is_at : slice_get table.jobs number ≡ Some job

@@ -7,13 +7,13 @@ use Rattle.job_table.specs.Jobs.{JobRecord, is_waived, with_stage}
 use Rattle.job_table.specs.Table.{Table, changed_at}
 
 -- the jobs after a collection was waived
-abbrev pub after_waiver : List JobRecord → Waived → List JobRecord
-after_waiver jobs w = changed_at jobs w.number (with_stage (stages.Waived w.given))
+abbrev pub jobs_after_waiver : List JobRecord → Waived → List JobRecord
+jobs_after_waiver jobs w = changed_at jobs w.number (with_stage (stages.Waived w.given))
 
 -- the jobs after these collections were waived, one after the other
-abbrev pub waived_in : List JobRecord → List Waived → List JobRecord
-waived_in jobs [] = jobs
-waived_in jobs (w ∷ ws) = waived_in (after_waiver jobs w) ws
+abbrev pub jobs_after_waivers : List JobRecord → List Waived → List JobRecord
+jobs_after_waivers jobs [] = jobs
+jobs_after_waivers jobs (w ∷ ws) = jobs_after_waivers (jobs_after_waiver jobs w) ws
 
 -- the job of this number is there, and pending
 pub record IsPendingAt (jobs : List JobRecord) (number : ℕ) : Type 0 where
@@ -24,7 +24,7 @@ pub record IsPendingAt (jobs : List JobRecord) (number : ℕ) : Type 0 where
 -- each of these was pending when it was waived
 abbrev pub WerePending : List JobRecord → List Waived → Type 0
 WerePending jobs [] = Unit {0}
-WerePending jobs (w ∷ ws) = IsPendingAt jobs w.number × WerePending (after_waiver jobs w) ws
+WerePending jobs (w ∷ ws) = IsPendingAt jobs w.number × WerePending (jobs_after_waiver jobs w) ws
 
 -- the jobs with a waiver taken back
 abbrev pub without_waiver : List JobRecord → Waived → List JobRecord
@@ -44,5 +44,5 @@ abbrev pub AreWaived : List JobRecord → List Waived → Type 0
 AreWaived jobs waived = AllByRecursion (λ w. is_waived_one (slice_get jobs w.number) ≡ true) waived
 
 -- the die stops, and these waivers are taken back
-abbrev pub stopped : Table → List Waived → Table
-stopped table waived = record table { ended = true; jobs = without_waivers table.jobs waived }
+abbrev pub stopped_table : Table → List Waived → Table
+stopped_table table waived = record table { ended = true; jobs = without_waivers table.jobs waived }

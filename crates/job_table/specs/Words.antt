@@ -47,7 +47,7 @@ changing_in word bytes = if is_trim_in word then Trim (page_in word) else Write 
 abbrev pub op_in : ℕ → List PageData → Op
 op_in word bytes = if is_read_in word then Read (page_in word) else changing_in word (slice_index_or bytes 0 blank)
 
--- the bytes that are left behind it: a read takes none
+-- the bytes that are left after it: a read takes none
 abbrev pub bytes_behind : ℕ → List PageData → List PageData
 bytes_behind word bytes = if is_read_in word then bytes else drop 1 bytes
 

@@ -11,7 +11,7 @@ use slot_types::{Op, PageData, Refusal};
 use std::alloc::Global;
 use std::marker::Model;
 
-/// Operations, one behind another. One takes four bytes, and one that isn't a read those of its page besides: these
+/// Operations, one after another. One takes four bytes, and one that isn't a read those of its page besides: these
 /// stand in the order of their operations, so that the place of an operation's bytes is the number of operations before
 /// it that aren't reads.
 #[derive(Drop)]
@@ -83,8 +83,8 @@ impl OpArena {
         count_reads_in(&self.words[from..to])
     }
 
-    /// Adds operations, of which so many are reads, and whose pages leave room in their words. Refused with `NoMemory`, none
-    /// is added.
+    /// Adds operations, of which so many are reads, and whose pages leave room in their words. Refused with `NoMemory`,
+    /// none is added.
     pub(crate) fn push_all(&mut self, ops: &[Op], reads: usize) -> Result<(), Refusal>
         requires reads { reads ≡ count_by is_read ops.now }
         requires words { list_all has_word ops.now ≡ true }

@@ -4,7 +4,7 @@ ghost use Rattle.std.specs.Prelude.{◌≡◌, ◌<◌, true, length, slice_get}
 ghost use Rattle.job_table.specs.Jobs.{with_stage};
 ghost use Rattle.job_table.specs.Table.{changed_at};
 ghost use Rattle.job_table.specs.Waivers.{AreWaived, without_waivers};
-ghost use Rattle.job_table.specs.Kept.{AreOfTasks, unmarked};
+ghost use Rattle.job_table.specs.SoundTable.{AreOfTasks, marks_after};
 
 use crate::flat_jobs::FlatJobs;
 use crate::jobs::Job;
@@ -16,7 +16,7 @@ pub(crate) fn end_job(jobs: &mut FlatJobs, collecting: &mut Vec<bool>, number: J
     requires number { number < length jobs.old }
     requires tasks { AreOfTasks jobs.old (length collecting.old.items) }
     ensures jobs { jobs.new ≡ changed_at jobs.old number (with_stage stage) }
-    ensures marks { collecting.new.items ≡ unmarked (slice_get jobs.old number) collecting.old.items }
+    ensures marks { collecting.new.items ≡ marks_after (slice_get jobs.old number) collecting.old.items }
 {
     unmark(collecting, &jobs.at(number));
     jobs.set_stage(number, stage);
@@ -25,7 +25,7 @@ pub(crate) fn end_job(jobs: &mut FlatJobs, collecting: &mut Vec<bool>, number: J
 /// The task of a collection has no pending one any more.
 fn unmark(collecting: &mut Vec<bool>, job: &Job)
     requires { job.now.collects ≡ true → job.now.task < length collecting.old.items }
-    ensures { collecting.new.items ≡ unmarked (Some job.now) collecting.old.items }
+    ensures { collecting.new.items ≡ marks_after (Some job.now) collecting.old.items }
 {
     if job.collects() {
         collecting[job.task().0 as usize] = false;

@@ -4,11 +4,11 @@ ghost use Rattle.std.specs.Prelude.{◌≡◌, ◌+◌, ◌<◌, ◌≤◌, ◌^
 ghost use Rattle.std.specs.Prelude.{vec_capacity, OnOk, IfOk, OnErr};
 ghost use Rattle.slot_types.specs.Refusal.{FailsForMemory};
 ghost use Rattle.slot_types.specs.declared.limits.TheConstants.{MAX_JOBS, MAX_OPS};
-ghost use Rattle.job_table.specs.Jobs.{JobRecord, new_job, new_collection, accepted, carried, with_read, with_stage};
+ghost use Rattle.job_table.specs.Jobs.{JobRecord, new_job, new_collection, new_record, with_one_more_slot, with_read, with_stage};
 ghost use Rattle.job_table.specs.Table.{changed_at, work_at, reads_next_at};
 ghost use Rattle.job_table.specs.Words.{blank, has_word};
 ghost use Rattle.std.specs.List.{list_all};
-ghost use Rattle.job_table.specs.Flat.{lacking, place_from};
+ghost use Rattle.job_table.specs.Flat.{places_lacking, place_from};
 
 use crate::arenas::OpArena;
 use crate::jobs::{Job, count_reads};
@@ -19,7 +19,7 @@ use std::alloc::Global;
 use std::marker::Model;
 
 /// Jobs and collections by number. A row names operations and reads by their places in arenas, so a job has no memory
-/// of its own: accepting one takes memory only where a list grows, and letting all go is letting four lists go.
+/// of its own: accepting one takes memory only where a list grows, and freeing all is freeing four lists.
 #[derive(Drop)]
 pub(crate) struct FlatJobs {
     rows: Vec<Row>,
@@ -61,10 +61,10 @@ fn push_places(reads: &mut Vec<PageData>, count: usize)
 /// Makes the places of a row that has not read yet, in room that was made. One that has read keeps those that it has.
 fn make_places(row: &mut Row, ops: &OpArena, reads: &mut Vec<PageData>)
     requires ops { row.old.first_op + row.old.op_count ≤ length ops.now }
-    requires room { vec_len reads.old + lacking ops.now row.old ≤ vec_capacity reads.old }
+    requires room { vec_len reads.old + places_lacking ops.now row.old ≤ vec_capacity reads.old }
     requires few { vec_len reads.old < 2 ^ 32 }
     ensures row { row.new ≡ record row.old { first_place = place_from (vec_len reads.old) row.old } }
-    ensures places { reads.new.items ≡ reads.old.items ++ replicate (lacking ops.now row.old) blank }
+    ensures places { reads.new.items ≡ reads.old.items ++ replicate (places_lacking ops.now row.old) blank }
     ensures capacity { vec_capacity reads.new ≡ vec_capacity reads.old }
 {
     if row.reads_done == 0 {
@@ -128,8 +128,8 @@ impl FlatJobs {
         }
     }
 
-    /// Adds a job that has not begun, of at most 64 operations whose pages fit their words, and answers its number. It takes
-    /// all memory that the job will ever need. Refused with `NoMemory`, all stay as they were.
+    /// Adds a job that has not begun, of at most 64 operations whose pages fit their words, and answers its number. It
+    /// takes all memory that the job will ever need. Refused with `NoMemory`, all stay as they were.
     pub(crate) fn push_job(
         &mut self,
         task: TaskNo,
@@ -175,7 +175,7 @@ impl FlatJobs {
         requires few { length self.old < MAX_JOBS }
         requires few_ops { length ops.now ≤ MAX_OPS }
         requires words { list_all has_word ops.now ≡ true }
-        ensures ok { OnOk result (self.new ≡ self.old ++ accepted collects task release due ops.now ∷ []) }
+        ensures ok { OnOk result (self.new ≡ self.old ++ new_record collects task release due ops.now ∷ []) }
         ensures number { IfOk result (λ number. number ≡ length self.old) }
         ensures refused { FailsForMemory result }
         ensures err { OnErr result (self.new ≡ self.old) }
@@ -216,7 +216,7 @@ impl FlatJobs {
         requires there { number < length self.old }
         requires reads { reads_next_at self.old number ≡ false }
         requires room { work_at self.old number + 1 < 2 ^ 32 }
-        ensures { self.new ≡ changed_at self.old number carried }
+        ensures { self.new ≡ changed_at self.old number with_one_more_slot }
     {
         let row = &mut self.rows[number.0 as usize];
         row.work += 1;
@@ -227,7 +227,7 @@ impl FlatJobs {
         requires there { number < length self.old }
         requires reads { reads_next_at self.old number ≡ true }
         requires room { work_at self.old number + 1 < 2 ^ 32 }
-        ensures { self.new ≡ changed_at self.old number (λ job. with_read bytes (carried job)) }
+        ensures { self.new ≡ changed_at self.old number (λ job. with_read bytes (with_one_more_slot job)) }
     {
         let row = &mut self.rows[number.0 as usize];
         make_places(row, &self.ops, &mut self.reads);

@@ -5,9 +5,9 @@ ghost use Rattle.std.specs.Prelude.{IfNone};
 ghost use Rattle.std.specs.List.{list_all};
 ghost use Rattle.slot_types.specs.Refusal.{FailsForMemory};
 ghost use Rattle.job_table.specs.Words.{has_word};
-ghost use Rattle.job_table.specs.Jobs.{JobRecord, new_job, new_collection, carried, with_read, with_stage};
+ghost use Rattle.job_table.specs.Jobs.{JobRecord, new_job, new_collection, with_one_more_slot, with_read, with_stage};
 ghost use Rattle.job_table.specs.Table.{empty_table, with_job, with_change, work_at, reads_next_at, is_collecting};
-ghost use Rattle.job_table.specs.Waivers.{AreWaived, WerePending, waived_in, stopped};
+ghost use Rattle.job_table.specs.Waivers.{AreWaived, WerePending, jobs_after_waivers, stopped_table};
 ghost use Rattle.job_table.specs.Heads.{WereHeads, with_waived};
 ghost use Rattle.job_table.specs.Order.{IsHead, IsNextReleased, NothingReady, NothingWaiting};
 ghost use Rattle.job_table.specs.Worst.{IsWorst, NothingDone, lateness_at};
@@ -42,13 +42,13 @@ pub struct JobTable {
 impl Model for JobTable {
     ghost use Rattle.std.specs.Prelude.{length};
     ghost use Rattle.job_table.specs.Table.{Table};
-    ghost use Rattle.job_table.specs.Kept.{IsSound};
+    ghost use Rattle.job_table.specs.SoundTable.{IsSoundTable};
 
     ghost Value = { Table };
 
     ghost view = { λ t. record { tasks = length t.collecting.items; clock = t.clock; ended = t.ended; jobs = t.jobs } };
 
-    ghost invariant = { λ t. IsSound t.jobs t.clock t.ended t.collecting.items t.queues t.worst };
+    ghost invariant = { λ t. IsSoundTable t.jobs t.clock t.ended t.collecting.items t.queues t.worst };
 }
 
 impl JobTable {
@@ -139,7 +139,7 @@ impl JobTable {
     }
 
     /// The done job or collection with the greatest lateness, of equal ones the one completed first, and its lateness:
-    /// its completion minus its due.
+    /// its completion minus its deadline.
     pub fn worst(&self) -> Option<(JobNo, i64)>
         ensures worst { IfSome result (λ w. IsWorst self.now.jobs w.0) }
         ensures lateness { IfSome result (λ w. lateness_at self.now.jobs w.0 ≡ Some w.1) }
@@ -151,8 +151,8 @@ impl JobTable {
         }
     }
 
-    /// Accepts a job under the next number, to run from slot `release` on. There are fewer than `MAX_JOBS`; it has at most
-    /// `MAX_OPS` operations, on pages below 2^30. All memory that it will ever need is taken here: refused with
+    /// Accepts a job under the next number, to run from slot `release` on. There are fewer than `MAX_JOBS`; it has at
+    /// most `MAX_OPS` operations, on pages below 2^30. All memory that it will ever need is taken here: refused with
     /// `NoMemory`, the table stays as it was.
     pub fn add_job(
         &mut self,
@@ -203,8 +203,8 @@ impl JobTable {
     }
 
     /// The job or collection that has slot `now`, which is never before a slot asked for earlier: of those that are
-    /// released by then and neither done nor waived the one with the earliest due, and of equal ones the one with the
-    /// smallest number.
+    /// released by then and neither done nor waived the one with the earliest deadline, and of equal ones the one with
+    /// the smallest number.
     pub fn head(&mut self, now: u32) -> Option<JobNo>
         requires running { self.old.ended ≡ false }
         requires forward { self.old.clock ≤ now }
@@ -220,8 +220,8 @@ impl JobTable {
         }
     }
 
-    /// The job or collection that would have slot `now` if these were waived, each of which would be the head in its turn:
-    /// the head behind so many others. Nothing is waived.
+    /// The job or collection that would have slot `now` if these were waived, each of which would be the head once
+    /// those before it were: the head after so many others. Nothing is waived.
     pub fn head_behind(&mut self, now: u32, waived: &[Waived]) -> Option<JobNo>
         requires running { self.old.ended ≡ false }
         requires forward { self.old.clock ≤ now }
@@ -238,8 +238,8 @@ impl JobTable {
         }
     }
 
-    /// Of the jobs and collections that are released after the slot that `head` was last asked for, and that are neither
-    /// done nor waived, the one that is released first, and of equal ones the one with the smallest number.
+    /// Of the jobs and collections that are released after the slot that `head` was last asked for, and that are
+    /// neither done nor waived, the one that is released first, and of equal ones the one with the smallest number.
     pub fn next_released(&self) -> Option<JobNo>
         requires running { self.now.ended ≡ false }
         ensures next { IfSome result (IsNextReleased self.now) }
@@ -258,7 +258,7 @@ impl JobTable {
         requires head { IsHead self.old number }
         requires reads { reads_next_at self.old.jobs number ≡ false }
         requires room { work_at self.old.jobs number + 1 < 2 ^ 32 }
-        ensures carried { self.new ≡ with_change self.old number carried }
+        ensures carried { self.new ≡ with_change self.old number with_one_more_slot }
         ensures head { IsHead self.new number }
     {
         self.jobs.carry(number);
@@ -270,7 +270,7 @@ impl JobTable {
         requires head { IsHead self.old number }
         requires reads { reads_next_at self.old.jobs number ≡ true }
         requires room { work_at self.old.jobs number + 1 < 2 ^ 32 }
-        ensures carried { self.new ≡ with_change self.old number (λ job. with_read bytes (carried job)) }
+        ensures carried { self.new ≡ with_change self.old number (λ job. with_read bytes (with_one_more_slot job)) }
         ensures head { IsHead self.new number }
     {
         self.jobs.carry_read(number, bytes);
@@ -311,8 +311,8 @@ impl JobTable {
     /// The die has stopped, and the waivers of its last slot are taken back. From now on the table is only read.
     pub fn stop(&mut self, waived: &[Waived])
         requires { AreWaived self.old.jobs waived.now }
-        ensures stopped { self.new ≡ stopped self.old waived.now }
-        ensures as_before { (jobs : List JobRecord) → WerePending jobs waived.now → self.old.jobs ≡ waived_in jobs waived.now
+        ensures stopped { self.new ≡ stopped_table self.old waived.now }
+        ensures as_before { (jobs : List JobRecord) → WerePending jobs waived.now → self.old.jobs ≡ jobs_after_waivers jobs waived.now
             → self.new.jobs ≡ jobs }
     {
         self.ended = true;

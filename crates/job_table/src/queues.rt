@@ -1,10 +1,10 @@
-//! Who waits for a release, and who is released, by due date.
+//! Who waits for a release, and who is released, by deadline.
 
 ghost use Rattle.std.specs.Prelude.{◌≡◌, ◌<◌, ◌≤◌, ◌^◌, [], length, nat_lt, if◌then◌else◌, Contains, option_map, OnOk};
 ghost use Rattle.slot_types.specs.Refusal.{FailsForMemory};
-ghost use Rattle.due_queue.specs.Queue.{behind, inserted, first_of, rest_of, IsRising};
+ghost use Rattle.due_queue.specs.Queue.{behind, with_key, first_of, rest_of, IsRising};
 ghost use Rattle.due_queue.specs.Keys.{is_due_before, is_released_before};
-ghost use Rattle.job_table.specs.Queued.{AreQueued, AreLater};
+ghost use Rattle.job_table.specs.QueuedKeys.{AreQueued, AreLater};
 
 use crate::flat_jobs::FlatJobs;
 use due_queue::{DueQueue, Key, WaitKey, WaitList};
@@ -22,7 +22,7 @@ pub(crate) struct Queues {
 
 impl Model for Queues {
     ghost use Rattle.std.specs.Prelude.{◌-◌, min, length};
-    ghost use Rattle.job_table.specs.Queued.{Lines, IsRoomy};
+    ghost use Rattle.job_table.specs.QueuedKeys.{Lines, IsRoomy};
 
     ghost Value = { Lines };
 
@@ -73,9 +73,9 @@ impl Queues {
         requires room { 0 < self.old.room }
         requires not_waiting { ¬ Contains self.old.waiting (record { release = release; number = number }) }
         requires not_ready { ¬ Contains self.old.ready (record { due = due; number = number }) }
-        ensures waiting { self.new.waiting ≡ (if nat_lt clock release then inserted is_released_before
+        ensures waiting { self.new.waiting ≡ (if nat_lt clock release then with_key is_released_before
             (record { release = release; number = number }) self.old.waiting else self.old.waiting) }
-        ensures ready { self.new.ready ≡ (if nat_lt clock release then self.old.ready else inserted is_due_before
+        ensures ready { self.new.ready ≡ (if nat_lt clock release then self.old.ready else with_key is_due_before
             (record { due = due; number = number }) self.old.ready) }
     {
         if clock < release {
@@ -89,7 +89,7 @@ impl Queues {
     fn wait(&mut self, key: WaitKey)
         requires room { 0 < self.old.room }
         requires absent { ¬ Contains self.old.waiting key }
-        ensures waiting { self.new.waiting ≡ inserted is_released_before key self.old.waiting }
+        ensures waiting { self.new.waiting ≡ with_key is_released_before key self.old.waiting }
         ensures ready { self.new.ready ≡ self.old.ready }
     {
         self.waiting.insert(key);
@@ -100,12 +100,12 @@ impl Queues {
         requires room { 0 < self.old.room }
         requires absent { ¬ Contains self.old.ready key }
         ensures waiting { self.new.waiting ≡ self.old.waiting }
-        ensures ready { self.new.ready ≡ inserted is_due_before key self.old.ready }
+        ensures ready { self.new.ready ≡ with_key is_due_before key self.old.ready }
     {
         self.ready.insert(key);
     }
 
-    /// Lets all go ahead that are released by `now`.
+    /// Puts all that are released by `now` into the queue of those.
     pub(crate) fn release_by(&mut self, jobs: &FlatJobs, now: u32)
         requires { AreQueued jobs.now now self.old.waiting self.old.ready }
         ensures queued { AreQueued jobs.now now self.new.waiting self.new.ready }
@@ -127,7 +127,7 @@ impl Queues {
         self.ready.first().map(|key| key.number)
     }
 
-    /// The number of the first released job behind `count` others, if there is one. Nothing changes.
+    /// The number of the first released job after `count` others, if there is one. Nothing changes.
     pub(crate) fn first_behind(&mut self, count: usize) -> Option<u32>
         ensures first { result ≡ option_map (λ k. k.number) (first_of (behind count self.old.ready)) }
         ensures unchanged { self.new ≡ self.old }

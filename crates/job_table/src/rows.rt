@@ -4,8 +4,8 @@ use crate::stages::Stage;
 use slot_types::TaskNo;
 
 /// A job or a collection, flat. Its operations are `op_count` of an arena from `first_op` on, before which stand
-/// `first_read` reads. Once it has read, what its reads give has places in another arena from `first_place` on, of which
-/// `reads_done` have their bytes.
+/// `first_read` reads. Once it has read, what its reads give has places in another arena from `first_place` on, of
+/// which `reads_done` have their bytes.
 #[derive(Clone, Copy, Debug, Drop)]
 pub(crate) struct Row {
     pub(crate) task: TaskNo,

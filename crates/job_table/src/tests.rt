@@ -134,7 +134,7 @@ fn stages(table: &JobTable) -> [Option<Stage>; 3] {
     ]
 }
 
-/// Of a job: its task, its release, its due and its slots so far.
+/// Of a job: its task, its release, its deadline and its slots so far.
 type RowOf = (u32, u32, u32, u32);
 
 fn row_of(job: &Job) -> RowOf {
@@ -143,7 +143,7 @@ fn row_of(job: &Job) -> RowOf {
 
 /// What is asked of a table, and what comes of it.
 enum Step<'a> {
-    /// A job with this release, this due and these operations is accepted under this number.
+    /// A job with this release, this deadline and these operations is accepted under this number.
     Accepts(u32, u32, &'a [Op], u32),
     /// A collection for this task is accepted under this number, or none is.
     Collects(u32, Option<u32>),

@@ -93,10 +93,7 @@ fn run_slot(table: &mut JobTable, now: u32) -> Option<(JobNo, Option<Op>)> {
 fn note(jobs: &mut Vec<Plain>, number: JobNo, op: Option<Op>, now: u32) -> Result<(), Refusal> {
     if let Some(Op::Read(_)) = op {
         if let Some(job) = jobs.get_mut(number.0 as usize) {
-            match job.reads.push(page(now)) {
-                Ok(()) => {}
-                Err(_) => return Err(Refusal::NoMemory),
-            }
+            job.reads.push(page(now))?;
         }
     }
     Ok(())
@@ -118,36 +115,42 @@ fn agree(table: &JobTable, jobs: &[Plain], number: u32) -> bool {
     }
 }
 
-/// Plays so many steps, and whether both agreed at each.
+/// Plays so many steps. Answers whether both agreed at each, and how many slots carried a job.
 fn play(
     alloc: Global,
     table: &mut JobTable,
     jobs: &mut Vec<Plain>,
     steps: u32,
-) -> Result<bool, Refusal> {
+) -> Result<(bool, u32), Refusal> {
     let mut seed = 7;
     let mut same = true;
+    let mut carried = 0u32;
     for now in 0..steps {
         if draw(&mut seed) % 3 == 0 {
             accept(alloc, table, jobs, &mut seed)?;
         }
         if let Some((number, op)) = run_slot(table, now) {
+            carried = carried.saturating_add(1);
             note(jobs, number, op, now)?;
             same = same && agree(table, jobs.as_slice(), number.0);
         }
         same = same && agree(table, jobs.as_slice(), draw(&mut seed) % (now + 1));
     }
-    Ok(same && table.len() as usize == jobs.len())
+    Ok((same && table.len() as usize == jobs.len(), carried))
 }
 
-fn plays(alloc: Global, steps: u32) -> Result<bool, Refusal> {
+/// Plays so many steps on a new table. Answers whether both agreed at each, how many jobs there are, and how many slots
+/// carried one.
+fn plays(alloc: Global, steps: u32) -> Result<(bool, usize, u32), Refusal> {
     let mut table = JobTable::new(alloc, 1)?;
     let mut jobs = Vec::new(alloc);
-    play(alloc, &mut table, &mut jobs, steps)
+    let (same, carried) = play(alloc, &mut table, &mut jobs, steps)?;
+    Ok((same, jobs.len(), carried))
 }
 
+/// How many jobs come, and how many slots carry one, follows from the drawn numbers and the order of jobs alone.
 #[test]
 fn a_table_says_what_lists_of_each_job_say(rt: HostRuntime) -> Result<(), Fail> {
-    assert!(rt; plays(rt.alloc(), 10_000)?);
+    assert_eq!(rt; plays(rt.alloc(), 10_000)?, (true, 3_287, 7_355));
     Ok(())
 }

@@ -34,7 +34,7 @@ pub listed-at : (js : List ℕ) (o : Option ℕ) → is_one_of js o ≡ true →
 listed-at js None h = absurd (true≢false (sym h))
 listed-at js (Some j) h = (j, refl, h)
 
--- completing later for an earlier due is later
+-- completing later for an earlier deadline is later
 pub later : (c d c' d' : ℕ) → c ≤ c' → d' ≤ d → lateness_of c d ≤ℤ lateness_of c' d'
 later c d c' d' h k = omega (arith, ints)
 

@@ -11,8 +11,8 @@ use Rattle.late_cert.specs.declared.rows.JobRow.{JobRow}
 use Rattle.late_cert.specs.Schedule.{Slots, slot_at, is_named, work_in, end_step, end_by, completion_in}
 use Rattle.late_cert.specs.Rows.{RowsRise, row_of, number_in, is_done_in, is_known, is_done, release_of, due_of, work_of, completion_of}
 use Rattle.late_cert.specs.Bound.{is_listed}
-use Rattle.late_cert.specs.Stretch.{is_within, CarriesLeastKeys}
-use Rattle.late_cert.specs.Joined.{row_after, slot_after, joined_rows, joined_slots, AreOver}
+use Rattle.late_cert.specs.BusyInterval.{is_within, CarriesLeastKeys}
+use Rattle.late_cert.specs.JoinedRows.{row_after, slot_after, joined_rows, joined_slots, AreOver}
 use Rattle.late_cert.proofs.Binds.{end-le-length}
 use Rattle.late_cert.proofs.Keys.{KeyAtMost, within-true, true-within, done-known, known-listed}
 use Rattle.late_cert.proofs.Least.{count-map, end-map, count-pos}

@@ -7,9 +7,9 @@ use Rattle.late_cert.specs.declared.rows.JobRow.{JobRow}
 use Rattle.late_cert.specs.Schedule.{is_named}
 use Rattle.late_cert.specs.Rows.{row_of, is_known, is_done_in, is_done, due_of}
 use Rattle.late_cert.specs.Bound.{is_listed}
-use Rattle.late_cert.specs.Stretch.{key_at_most, is_within}
+use Rattle.late_cert.specs.BusyInterval.{key_at_most, is_within}
 
--- what a key at most another says of dues and numbers
+-- what a key at most another says of deadlines and numbers
 pub record KeyAtMost (due j due' k : ℕ) : Type 0 where
   pub dues : due ≤ due'
   pub numbers : due ≡ due' → j ≤ k

@@ -9,7 +9,7 @@ use Rattle.late_cert.specs.declared.rows.JobRow.{JobRow}
 use Rattle.late_cert.specs.Schedule.{Slots, slot_at, is_named, work_in, end_by, completion_in, done_slot, IsLeastLate}
 use Rattle.late_cert.specs.Rows.{is_done, release_of, due_of, work_of, completion_of}
 use Rattle.late_cert.specs.Bound.{is_listed, IsCertificate}
-use Rattle.late_cert.specs.Stretch.{is_within, IsStretch, CarriesLeastKeys, start_of, jobs_of}
+use Rattle.late_cert.specs.BusyInterval.{is_within, IsBusyInterval, CarriesLeastKeys, start_of, jobs_of}
 use Rattle.late_cert.proofs.Counting.{slot-below-end, slot-at-end, count-le-end, is_one_of, some-named, count-jobs, sum-same}
 use Rattle.late_cert.proofs.Binds.{listed-at, binds}
 use Rattle.late_cert.proofs.Keys.{KeyAtMost, within-true, true-within, key-trans, key-same, key-refl, done-known, named-some}
@@ -48,7 +48,7 @@ carried-last rows c h j done =
     let at : slot_at c t ≡ Some j = named-some j (slot_at c t) (slot-at-end (is_named j) c t s) in
     (t, is ∙ s, at, at-length c t j at)
 
--- what a slot of a stretch carries has a key not above that of the stretch
+-- what a slot of a busy interval carries has a key not above that of the busy interval
 pub stretch-key : (rows : List JobRow) (c : Slots) (j t k : ℕ) → is_within rows j (slot_at c t) ≡ true → slot_at c t ≡ Some k
     → KeyAtMost (due_of rows k) k (due_of rows j) j
 stretch-key rows c j t k is e =
@@ -56,9 +56,9 @@ stretch-key rows c j t k is e =
     let P : ℕ → Type 0 = λ m. KeyAtMost (due_of rows m) m (due_of rows j) j in
     subst P (same_Some w.number k (sym w.carries ∙ e)) w.key
 
--- the jobs of a stretch were released in it
+-- the jobs of a busy interval were released in it
 pub stretch-released : (rows : List JobRow) (c : Slots) → CarriesLeastKeys rows c
-    → (j start n : ℕ) (jobs : List ℕ) → IsStretch rows c j start n jobs
+    → (j start n : ℕ) (jobs : List ℕ) → IsBusyInterval rows c j start n jobs
     → (t k : ℕ) → start ≤ t → t < n → slot_at c t ≡ Some k → start ≤ release_of rows k
 stretch-released rows c h j start n jobs s t k a b e =
     elim (cases_lt (release_of rows k) start) [
@@ -80,9 +80,9 @@ stretch-released rows c h j start n jobs s t k a b e =
       | inr late ↦ late
     ]
 
--- a job of a stretch that is not done below the stretch's last slot is the stretch's own
+-- a job of a busy interval that is not done below the busy interval's last slot is the busy interval's own
 pub stretch-open : (rows : List JobRow) (c : Slots) → CarriesLeastKeys rows c → (j start n : ℕ) (jobs : List ℕ)
-    → IsStretch rows c j start n jobs → (last : ℕ) → n ≡ suc last → slot_at c last ≡ Some j → last < length c
+    → IsBusyInterval rows c j start n jobs → (last : ℕ) → n ≡ suc last → slot_at c last ≡ Some j → last < length c
     → (t k : ℕ) → start ≤ t → t < n → slot_at c t ≡ Some k
     → (is_done rows k ≡ true → last < completion_of rows k) → k ≡ j
 stretch-open rows c h j start n jobs s last is at inside t k a b e open_then =
@@ -93,9 +93,9 @@ stretch-open rows c h j start n jobs s last is at inside t k a b e open_then =
     let above : KeyAtMost (due_of rows k) k (due_of rows j) j = stretch-key rows c j t k (s.carries t a b) e in
     key-same (due_of rows k) k (due_of rows j) j above below
 
--- the jobs of the stretch of a done job are done
+-- the jobs of the busy interval of a done job are done
 pub stretch-done : (rows : List JobRow) (c : Slots) → CarriesLeastKeys rows c → (j start n : ℕ) (jobs : List ℕ)
-    → IsStretch rows c j start n jobs → (last : ℕ) → n ≡ suc last → slot_at c last ≡ Some j → last < length c
+    → IsBusyInterval rows c j start n jobs → (last : ℕ) → n ≡ suc last → slot_at c last ≡ Some j → last < length c
     → is_done rows j ≡ true
     → (t k : ℕ) → start ≤ t → t < n → slot_at c t ≡ Some k → is_done rows k ≡ true
 stretch-done rows c h j start n jobs s last is at inside done t k a b e =
@@ -109,7 +109,7 @@ stretch-done rows c h j start n jobs s last is at inside done t k a b e =
 
 -- and end in it
 pub stretch-ends : (rows : List JobRow) (c : Slots) → CarriesLeastKeys rows c → (j start n : ℕ) (jobs : List ℕ)
-    → IsStretch rows c j start n jobs → (last : ℕ) → n ≡ suc last → slot_at c last ≡ Some j → last < length c
+    → IsBusyInterval rows c j start n jobs → (last : ℕ) → n ≡ suc last → slot_at c last ≡ Some j → last < length c
     → completion_of rows j ≡ n
     → (t k : ℕ) → start ≤ t → t < n → slot_at c t ≡ Some k → completion_of rows k ≤ n
 stretch-ends rows c h j start n jobs s last is at inside ends t k a b e =
@@ -125,10 +125,10 @@ pub listed-filled : (js : List ℕ) (k : ℕ) → is_listed js k ≡ true → 0 
 listed-filled [] k h = absurd (false≢true h)
 listed-filled (j ∷ js) k h = omega arith
 
--- the stretch of a done job is a certificate
+-- the busy interval of a done job is a certificate
 pub stretch-certifies : (rows : List JobRow) (c : Slots) → CarriesLeastKeys rows c
     → (j : ℕ) → is_done rows j ≡ true
-    → (start : ℕ) (jobs : List ℕ) → IsStretch rows c j start (completion_of rows j) jobs
+    → (start : ℕ) (jobs : List ℕ) → IsBusyInterval rows c j start (completion_of rows j) jobs
     → IsCertificate rows start (due_of rows j) (completion_of rows j) jobs
 stretch-certifies rows c h j done start jobs s =
     let n : ℕ = completion_of rows j in
@@ -252,9 +252,9 @@ least-late rows c h =
           (bound.0, (cert.each bound.0 bound.1).done, bound.2);
     }
 
--- what a stretch carries was released in it and is due by its due
+-- what a busy interval carries was released in it and is due by its deadline
 pub stretch-carries : (rows : List JobRow) (c : Slots) → CarriesLeastKeys rows c
-    → (j start n : ℕ) (jobs : List ℕ) → IsStretch rows c j start n jobs
+    → (j start n : ℕ) (jobs : List ℕ) → IsBusyInterval rows c j start n jobs
     → (t k : ℕ) → start ≤ t → t < n → slot_at c t ≡ Some k → (start ≤ release_of rows k) × (due_of rows k ≤ due_of rows j)
 stretch-carries rows c h j start n jobs s t k a b e =
     (stretch-released rows c h j start n jobs s t k a b e, (stretch-key rows c j t k (s.carries t a b) e).dues)

@@ -1,11 +1,11 @@
--- The marks of the rows that a stretch carries.
+-- The marks of the rows that a busy interval carries.
 use Rattle.std.proofs.Common.{◌≡◌, ℕ, zero, suc, ◌+◌, ◌<◌, ◌≤◌, Bool, true, false, cond, List, [], ◌∷◌, length, map, None, get_or, filter}
 use Rattle.std.proofs.Common.{take, ◌++◌, append-nil, replicate, arith, refl, sym, ap, ◌∙◌}
 use Rattle.std.proofs.lemmas.Bool.{lt-leb}
 use Rattle.std.proofs.lemmas.List.Elements.{filter_more}
 use Rattle.late_cert.specs.declared.rows.JobRow.{JobRow}
 use Rattle.late_cert.specs.Schedule.{Slots}
-use Rattle.late_cert.specs.Stretch.{is_carried}
+use Rattle.late_cert.specs.BusyInterval.{is_carried}
 use Rattle.late_cert.specs.Build.{AreMarks}
 use Rattle.late_cert.proofs.RowSearch.{map-length, map-get}
 

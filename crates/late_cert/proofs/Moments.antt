@@ -8,7 +8,7 @@ use Rattle.std.proofs.lemmas.Option.{none-some}
 use Rattle.late_cert.specs.declared.rows.JobRow.{JobRow}
 use Rattle.late_cert.specs.Schedule.{Slots, slot_at, is_named, work_in, end_by, completion_in}
 use Rattle.late_cert.specs.Rows.{is_known, is_done, release_of, due_of, work_of, completion_of}
-use Rattle.late_cert.specs.Stretch.{is_within, CarriesLeastKeys}
+use Rattle.late_cert.specs.BusyInterval.{is_within, CarriesLeastKeys}
 use Rattle.late_cert.specs.Moments.{AcceptsJob, WaivesJob, CarriesSlot}
 use Rattle.late_cert.proofs.Counting.{some-named}
 use Rattle.late_cert.proofs.Keys.{KeyAtMost, within-true, true-within, done-known, named-some}

@@ -1,4 +1,4 @@
--- A done job has one stretch.
+-- A done job has one busy interval.
 use Rattle.std.proofs.Common.{IsSome, is_some, ◌≡◌, ℕ, suc, ◌-◌, ◌<◌, ◌≤◌, true, eqb, List, [], ◌∷◌, Option, Some, arith, refl, sym, ap}
 use Rattle.std.proofs.Common.{◌∙◌, subst, inl, inr, eq-eqb, eqb-true}
 use Rattle.std.proofs.lemmas.Bool.{false≢true, cases_Bool, cases_order, both_ways, or_left, or_right, or_cases}
@@ -11,10 +11,10 @@ use Rattle.late_cert.specs.declared.verdicts.Verdict.TheVariants.{Holds}
 use Rattle.late_cert.specs.Schedule.{Slots, slot_at}
 use Rattle.late_cert.specs.Rows.{RowsRise, is_done, due_of, completion_of}
 use Rattle.late_cert.specs.Bound.{is_listed}
-use Rattle.late_cert.specs.Stretch.{is_within, IsStretch, CarriesLeastKeys, start_of, jobs_of}
+use Rattle.late_cert.specs.BusyInterval.{is_within, IsBusyInterval, CarriesLeastKeys, start_of, jobs_of}
 use Rattle.late_cert.specs.Check.{verdict_of}
 use Rattle.late_cert.specs.Verdict.{is_holds}
-use Rattle.late_cert.specs.Build.{stretch_of, verdict_on, certificate_of, IsOwn, stretch_if_done}
+use Rattle.late_cert.specs.Build.{busy_interval_of, verdict_on, certificate_of, IsOwn, busy_interval_if_done}
 use Rattle.late_cert.proofs.Counting.{Rises, rises-tail, rises-head, above-not-listed, listed-all}
 use Rattle.late_cert.proofs.Window.{stretch-is}
 use Rattle.late_cert.proofs.Least.{stretch-certifies}
@@ -61,9 +61,9 @@ same-members (x ∷ xs) (y ∷ ys) r s to from =
     (λ q. both_ways (is_listed ys y) (above-not-listed y ys (rises-head y ys s)) (ap (is_listed ys) (sym e ∙ sym q) ∙ l))) in
     cc
 
--- a stretch has one start
+-- a busy interval has one start
 pub start-unique : (rows : List JobRow) (c : Slots) (j n s s' : ℕ) (js js' : List ℕ)
-    → IsStretch rows c j s n js → IsStretch rows c j s' n js' → s < s' → ⊥
+    → IsBusyInterval rows c j s n js → IsBusyInterval rows c j s' n js' → s < s' → ⊥
 start-unique rows c j n s s' js js' a b lt =
     let t : ℕ = s' - 1 in
     let is : s' ≡ suc t = omega arith in
@@ -71,7 +71,7 @@ start-unique rows c j n s s' js js' a b lt =
     both_ways (is_within rows j (slot_at c t)) (b.least t is) (a.carries t (omega arith) (omega arith))
 
 pub same-start : (rows : List JobRow) (c : Slots) (j n s s' : ℕ) (js js' : List ℕ)
-    → IsStretch rows c j s n js → IsStretch rows c j s' n js' → s ≡ s'
+    → IsBusyInterval rows c j s n js → IsBusyInterval rows c j s' n js' → s ≡ s'
 same-start rows c j n s s' js js' a b =
     elim (cases_order s s') [
       | inl e ↦ e
@@ -81,16 +81,16 @@ same-start rows c j n s s' js js' a b =
 
 -- and one list of jobs
 pub same-jobs : (rows : List JobRow) (c : Slots) (j n s s' : ℕ) (js js' : List ℕ)
-    → IsStretch rows c j s n js → IsStretch rows c j s' n js' → js ≡ js'
+    → IsBusyInterval rows c j s n js → IsBusyInterval rows c j s' n js' → js ≡ js'
 same-jobs rows c j n s s' js js' a b =
     let e : s ≡ s' = same-start rows c j n s s' js js' a b in
     same-members js js' (AllPairs-from_increasing js a.rising) (AllPairs-from_increasing js' b.rising)
     (λ k l. let q = (a.listed k).0 l in let q1 : s ≤ q.0 = q.1 in (b.listed k).1 (q.0, omega arith, q.2, q.3))
     (λ k l. let q = (b.listed k).0 l in let q1 : s' ≤ q.0 = q.1 in (a.listed k).1 (q.0, omega arith, q.2, q.3))
 
--- where the stretch of a done job holds, it is the job's certificate
+-- where the busy interval of a done job holds, it is the job's certificate
 pub own-stretch : (rows : List JobRow) → RowsRise rows → (c : Slots) (j : ℕ) → is_done rows j ≡ true
-    → verdict_on rows (stretch_of rows c j) ≡ Holds → IsOwn rows c j (stretch_of rows c j)
+    → verdict_on rows (busy_interval_of rows c j) ≡ Holds → IsOwn rows c j (busy_interval_of rows c j)
 own-stretch rows r c j done h = record {
   done = done;
   job = refl;
@@ -102,14 +102,14 @@ own-stretch rows r c j done h = record {
 
 pub own-built : (rows : List JobRow) → RowsRise rows → (c : Slots) (j : ℕ) (answer : Option Certificate) (built : Certificate)
     (verdict : Verdict)
-    → answer ≡ stretch_if_done rows c j → answer ≡ Some built → verdict ≡ verdict_on rows built → verdict ≡ Holds
+    → answer ≡ busy_interval_if_done rows c j → answer ≡ Some built → verdict ≡ verdict_on rows built → verdict ≡ Holds
     → IsOwn rows c j built
 own-built rows r c j answer built verdict is some checked holds =
-    let e : stretch_if_done rows c j ≡ Some built = sym is ∙ some in
+    let e : busy_interval_if_done rows c j ≡ Some built = sym is ∙ some in
     let h : verdict_on rows built ≡ Holds = sym checked ∙ holds in
     elim (cases_Bool (is_done rows j)) [
       | inl done ↦
-          let same : stretch_of rows c j ≡ built = same_Some _ _ (rw done at e) in
+          let same : busy_interval_of rows c j ≡ built = same_Some _ _ (rw done at e) in
           subst (λ (q : Certificate). IsOwn rows c j q) same
           (own-stretch rows r c j done (ap (verdict_on rows) same ∙ h))
       | inr open_job ↦ absurd (none-some built (rw open_job at e))
@@ -119,16 +119,16 @@ pub same-verdict : (rows : List JobRow) (s s' d d' n n' : ℕ) (js js' : List �
     → verdict_of rows s d n js ≡ verdict_of rows s' d' n' js'
 same-verdict rows s s' d d' n n' js js' a b e f = cc
 
--- a certificate of the job's stretch is that stretch
+-- a certificate of the job's busy interval is that busy interval
 pub own-verdict : (rows : List JobRow) → RowsRise rows → (c : Slots) (j : ℕ) (q : Certificate) → IsOwn rows c j q
-    → verdict_on rows (stretch_of rows c j) ≡ Holds
+    → verdict_on rows (busy_interval_of rows c j) ≡ Holds
 own-verdict rows r c j q own =
     let n : ℕ = completion_of rows j in
     let start : ℕ = start_of rows c j n in
     let jobs : List ℕ = jobs_of rows c start n in
-    let theirs : IsStretch rows c j q.start n q.jobs =
-    subst (λ (m : ℕ). IsStretch rows c j q.start m q.jobs) own.completion own.stretch in
-    let ours : IsStretch rows c j start n jobs = stretch-is rows c j n r in
+    let theirs : IsBusyInterval rows c j q.start n q.jobs =
+    subst (λ (m : ℕ). IsBusyInterval rows c j q.start m q.jobs) own.completion own.stretch in
+    let ours : IsBusyInterval rows c j start n jobs = stretch-is rows c j n r in
     same-verdict rows start q.start (due_of rows j) q.due n q.completion jobs q.jobs
     (same-start rows c j n start q.start jobs q.jobs ours theirs) (sym own.due) (sym own.completion)
     (same-jobs rows c j n start q.start jobs q.jobs ours theirs)
@@ -136,25 +136,25 @@ own-verdict rows r c j q own =
 
 pub none-built : (rows : List JobRow) → RowsRise rows → (c : Slots) (j : ℕ) (answer : Option Certificate) (built q : Certificate)
     (verdict : Verdict)
-    → answer ≡ stretch_if_done rows c j → answer ≡ Some built → verdict ≡ verdict_on rows built → (verdict ≡ Holds → ⊥)
+    → answer ≡ busy_interval_if_done rows c j → answer ≡ Some built → verdict ≡ verdict_on rows built → (verdict ≡ Holds → ⊥)
     → IsOwn rows c j q → ⊥
 none-built rows r c j answer built q verdict is some checked faulty own =
-    let e : stretch_if_done rows c j ≡ Some built = sym is ∙ some in
+    let e : busy_interval_if_done rows c j ≡ Some built = sym is ∙ some in
     elim (cases_Bool (is_done rows j)) [
       | inl done ↦
-          let same : stretch_of rows c j ≡ built = same_Some _ _ (rw done at e) in
+          let same : busy_interval_of rows c j ≡ built = same_Some _ _ (rw done at e) in
           faulty (checked ∙ ap (verdict_on rows) (sym same) ∙ own-verdict rows r c j q own)
       | inr open_job ↦ absurd (none-some built (rw open_job at e))
     ]
 
--- where each slot carried a least key, the stretch of a done job is its certificate
+-- where each slot carried a least key, the busy interval of a done job is its certificate
 pub certificate_of-done : (rows : List JobRow) (c : Slots) → CarriesLeastKeys rows c → (j : ℕ) → is_done rows j ≡ true
-    → certificate_of rows c j ≡ Some (stretch_of rows c j)
+    → certificate_of rows c j ≡ Some (busy_interval_of rows c j)
 certificate_of-done rows c h j done =
     let n : ℕ = completion_of rows j in
     let start : ℕ = start_of rows c j n in
     let jobs : List ℕ = jobs_of rows c start n in
-    let holds : verdict_on rows (stretch_of rows c j) ≡ Holds =
+    let holds : verdict_on rows (busy_interval_of rows c j) ≡ Holds =
     certificate-verdict rows start (due_of rows j) n jobs
     (stretch-certifies rows c h j done start jobs (stretch-is rows c j n h.rising)) in
     rw (done, ap is_holds holds) refl

@@ -31,7 +31,7 @@ slots-longer (q ∷ (p ∷ ps)) (suc i) last number m n h e same sum =
     ap (λ xs. replicate q.length q.number ++ xs) (slots-longer (p ∷ ps) i last number m n (omega arith) e same sum)
     ∙ sym (append_assoc (replicate q.length q.number) (slots_of (p ∷ ps)) (replicate n number))
 
--- the slots of a run are those behind the runs before it
+-- the slots of a run are those after the runs before it
 pub run-slot : (runs : List Run) (i : ℕ) (d : Run) (t : ℕ) → i < length runs → length (slots_of (take i runs)) ≤ t
     → t < length (slots_of (take i runs)) + (get_or runs i d).length → slot_at (slots_of runs) t ≡ (get_or runs i d).number
 run-slot [] i d t h a b = absurd (omega arith)

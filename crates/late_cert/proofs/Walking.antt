@@ -8,7 +8,7 @@ use Rattle.late_cert.specs.declared.carried.Run.{Run}
 use Rattle.late_cert.specs.declared.rows.JobRow.{JobRow}
 use Rattle.late_cert.specs.Schedule.{Slots, slot_at}
 use Rattle.late_cert.specs.Rows.{RowsRise, IsNamedAt}
-use Rattle.late_cert.specs.Stretch.{is_within, start_of, is_carried}
+use Rattle.late_cert.specs.BusyInterval.{is_within, start_of, is_carried}
 use Rattle.late_cert.specs.Build.{AreMarks}
 use Rattle.late_cert.specs.Runs.{slots_of}
 use Rattle.late_cert.proofs.Runs.{run-slot, prefix-more}
@@ -19,7 +19,7 @@ use Rattle.late_cert.proofs.Window.{carried-true, true-carried}
 abbrev pub AllCarry : Slots → ℕ → ℕ → Option ℕ → Type 0
 AllCarry c b s o = (t : ℕ) → b ≤ t → t < s → slot_at c t ≡ o
 
--- the stretch goes on over slots that are all within
+-- the busy interval goes on over slots that are all within
 pub start-run : (rows : List JobRow) (c : Slots) (j b s : ℕ) (o : Option ℕ) → b ≤ s → AllCarry c b s o → is_within rows j o ≡ true
     → start_of rows c j s ≡ start_of rows c j b
 start-run rows c j b zero o h all w = let e : b ≡ 0 = omega arith in rw e refl

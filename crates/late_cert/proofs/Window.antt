@@ -1,4 +1,4 @@
--- The slots of a stretch, and their numbers.
+-- The slots of a busy interval, and their numbers.
 use Rattle.std.proofs.Common.{◌≡◌, ℕ, zero, suc, ◌+◌, ◌<◌, ◌≤◌, Bool, true, false, cond, leb, ◌&&◌, List, [], ◌∷◌, length, map, Option}
 use Rattle.std.proofs.Common.{Some, count_by, arith, refl, sym, ap, ◌∙◌, inl, inr, eq-eqb, leb-true, le-leb}
 use Rattle.std.proofs.lemmas.Bool.{false≢true, or_left, or_right, or_cases, and_parts, and_from, cases_Bool, false_from_ne_true}
@@ -11,7 +11,7 @@ use Rattle.late_cert.specs.declared.rows.JobRow.{JobRow}
 use Rattle.late_cert.specs.Schedule.{Slots, slot_at, is_named}
 use Rattle.late_cert.specs.Rows.{is_known}
 use Rattle.late_cert.specs.Bound.{is_listed}
-use Rattle.late_cert.specs.Stretch.{is_within, IsStretch, start_of, is_carried, jobs_of}
+use Rattle.late_cert.specs.BusyInterval.{is_within, IsBusyInterval, start_of, is_carried, jobs_of}
 use Rattle.late_cert.proofs.Keys.{within-true, known-listed, filter-listed, named-some}
 
 -- where just the slots from s on and below n pass, they are all that count
@@ -110,9 +110,9 @@ true-carried c s (suc n) k t a b e =
       | inr (inr gt) ↦ absurd (omega arith)
     ]
 
--- each number has its stretch
+-- each number has its busy interval
 pub stretch-is : (rows : List JobRow) (c : Slots) (j n : ℕ) → IsStrictlyIncreasing (map (λ (row : JobRow). row.number) rows)
-    → IsStretch rows c j (start_of rows c j n) n (jobs_of rows c (start_of rows c j n) n)
+    → IsBusyInterval rows c j (start_of rows c j n) n (jobs_of rows c (start_of rows c j n) n)
 stretch-is rows c j n rises =
     let s : ℕ = start_of rows c j n in
     let numbers : List ℕ = map (λ (row : JobRow). row.number) rows in

@@ -10,8 +10,8 @@ abbrev pub is_listed : List ℕ → ℕ → Bool
 is_listed [] k = false
 is_listed (j ∷ js) k = (j == k) || is_listed js k
 
--- a listed job is done, took a slot at least, was released in the stretch and is due with it
-pub record IsInStretch (rows : List JobRow) (start due j : ℕ) : Type 0 where
+-- a listed job is done, took a slot at least, was released in the busy interval and is due with it
+pub record IsInBusyInterval (rows : List JobRow) (start due j : ℕ) : Type 0 where
   pub done : is_done rows j ≡ true
   pub works : 0 < work_of rows j
   pub released : start ≤ release_of rows j
@@ -21,7 +21,7 @@ pub record IsInStretch (rows : List JobRow) (start due j : ℕ) : Type 0 where
 pub record IsCertificate (rows : List JobRow) (start due completion : ℕ) (jobs : List ℕ) : Type 0 where
   pub filled : 0 < length jobs
   pub rising : IsStrictlyIncreasing jobs
-  pub each : (j : ℕ) → is_listed jobs j ≡ true → IsInStretch rows start due j
+  pub each : (j : ℕ) → is_listed jobs j ≡ true → IsInBusyInterval rows start due j
   pub sum : sum_by (work_of rows) jobs + start ≡ completion
 
 -- every schedule that serves the jobs completes one of them with this lateness or a greater one

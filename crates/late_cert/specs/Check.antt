@@ -38,7 +38,7 @@ abbrev pub last_verdict : Option Verdict → Bool → Verdict
 last_verdict (Some v) fits = v
 last_verdict None fits = if fits then Holds else WrongSum
 
--- the verdict on a certificate of this start, due, completion and jobs
+-- the verdict on a certificate of this start, deadline, completion and jobs
 abbrev pub verdict_of : List JobRow → ℕ → ℕ → ℕ → List ℕ → Verdict
 verdict_of rows start due completion [] = Empty
 verdict_of rows start due completion (j ∷ js) =

@@ -2,9 +2,9 @@ pub mod Rows
 pub mod Schedule
 pub mod Runs
 pub mod Bound
-pub mod Stretch
+pub mod BusyInterval
 pub mod Verdict
 pub mod Check
 pub mod Build
 pub mod Moments
-pub mod Joined
+pub mod JoinedRows

@@ -3,7 +3,7 @@ use Rattle.std.specs.Prelude.{◌≡◌, ℕ, ◌+◌, ◌≤◌, true, false, i
 use Rattle.late_cert.specs.declared.rows.JobRow.{JobRow}
 use Rattle.late_cert.specs.Schedule.{Slots, is_named}
 use Rattle.late_cert.specs.Rows.{RowsRise, is_known, is_done, release_of, due_of, work_of, completion_of}
-use Rattle.late_cert.specs.Stretch.{is_within}
+use Rattle.late_cert.specs.BusyInterval.{is_within}
 
 -- a job is accepted: no slot carried it, and it is not released before the next slot
 pub record AcceptsJob (rows rows' : List JobRow) (carried : Slots) (j : ℕ) : Type 0 where

@@ -1,4 +1,4 @@
--- How a verdict is told.
+-- How a verdict is reported.
 use Rattle.std.specs.Prelude.{ℕ, Bool, List, Option, Some, None, is_none, codes}
 use Rattle.late_cert.specs.declared.verdicts.Verdict.{Verdict}
 use Rattle.late_cert.specs.declared.verdicts.Verdict.TheVariants.{Holds, Empty, NotRising, UnknownJob, Unfinished, EarlyRelease, LateDue}
@@ -15,7 +15,7 @@ fault_number EarlyRelease = Some 5
 fault_number LateDue = Some 6
 fault_number WrongSum = Some 7
 
--- a verdict that tells no fault
+-- a verdict that names no fault
 abbrev pub is_holds : Verdict → Bool
 is_holds verdict = is_none (fault_number verdict)
 

@@ -1,6 +1,6 @@
 //! What the slots carried, kept in runs. Contracts see it as a list by slot.
 
-ghost use Rattle.std.specs.Prelude.{◌≡◌, ◌+◌, ◌<◌, ◌≤◌, ◌∷◌, ◌++◌, ◌==◌, [], length, replicate, OnOk, OnErr, slice_get, vec_len};
+ghost use Rattle.std.specs.Prelude.{◌≡◌, ◌+◌, ◌<◌, ◌≤◌, ◌∷◌, ◌++◌, ◌==◌, [], length, replicate, IsOk, OnOk, OnErr, slice_get, vec_len};
 ghost use Rattle.std.specs.Prelude.{vec_capacity};
 ghost use Rattle.slot_types.specs.Refusal.{FailsForMemory};
 ghost use Rattle.late_cert.specs.Runs.{slots_of};
@@ -58,10 +58,12 @@ impl Carried {
         self.push_run(number, 1)
     }
 
-    /// Adds that each of the next `length` slots carried the same. Without memory for it (`NoMemory`) nothing changes.
+    /// Adds that each of the next `length` slots carried the same; none needs no memory. Without memory for it (`NoMemory`)
+    /// nothing changes.
     /// Where the slot before carried the same too, they become one run.
     pub fn push_run(&mut self, number: Option<JobNo>, length: u32) -> Result<(), Refusal>
         ensures ok { OnOk result (self.new ≡ self.old ++ replicate length number) }
+        ensures none { length ≡ 0 → IsOk result }
         ensures refused { FailsForMemory result }
         ensures err { OnErr result (self.new ≡ self.old) }
     {
@@ -72,9 +74,7 @@ impl Carried {
         if length as usize > usize::MAX - self.len {
             return Err(Refusal::NoMemory);
         }
-        if self.runs.reserve(1).is_err() {
-            return Err(Refusal::NoMemory);
-        }
+        self.runs.reserve(1)?;
         add_run(&mut self.runs, number, length);
         self.len += length as usize;
         Ok(())

@@ -12,7 +12,7 @@ pub struct Certificate {
     pub job: JobNo,
     /// The first of the slots that the jobs fill.
     pub start: u32,
-    /// The job's due. None of the jobs is due later.
+    /// The job's deadline. None of the jobs is due later.
     pub due: u32,
     /// The job's completion: one more than the last of the slots that the jobs fill.
     pub completion: u32,

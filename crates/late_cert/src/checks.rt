@@ -16,9 +16,9 @@ use slot_types::JobNo;
 ///
 /// A certificate that holds binds every schedule of its jobs: one that gives each of them the slots that its row
 /// says, none before its release, completes one of them at least `completion - due` slots late. This speaks of the
-/// due and the completion alone: whether they are those of the certificate's `job` is for the caller to see.
+/// deadline and the completion alone: whether they are those of the certificate's `job` is for the caller to see.
 ///
-/// The rows rise by number, which [`rows_rise`](crate::rows_rise) tells.
+/// The rows rise by number, as [`rows_rise`](crate::rows_rise) says.
 pub fn check(rows: &JobRows, certificate: &Certificate) -> Verdict
     requires { RowsRise rows.now }
     ensures verdict { let c = certificate.now in
@@ -71,7 +71,7 @@ fn rises(jobs: &[JobNo]) -> bool
 }
 
 // The work of the listed jobs, or their first fault. A sum beyond 64 bits stays at the greatest number of 64 bits:
-// no stretch of slots has as many.
+// no busy interval has as many.
 fn sum_or_fault(rows: &[JobRow], jobs: &[JobNo], start: u32, due: u32) -> Result<u64, Verdict>
     requires { RowsRise rows.now }
     ensures fault { IfErr result (λ verdict. first_fault rows.now start due jobs.now ≡ Some verdict) }

@@ -15,10 +15,10 @@ ghost use Rattle.late_cert.specs.declared.rows.JobRow.{JobRow};
 ghost use Rattle.late_cert.specs.Schedule.{Slots, slot_at, IsLeastLate};
 ghost use Rattle.late_cert.specs.Rows.{RowsRise, is_done, release_of, due_of, completion_of};
 ghost use Rattle.late_cert.specs.Bound.{IsCertificate, BindsEverySchedule};
-ghost use Rattle.late_cert.specs.Stretch.{IsStretch, CarriesLeastKeys};
+ghost use Rattle.late_cert.specs.BusyInterval.{IsBusyInterval, CarriesLeastKeys};
 ghost use Rattle.late_cert.specs.Build.{certificate_of};
 ghost use Rattle.late_cert.specs.Moments.{AcceptsJob, WaivesJob, CarriesSlot};
-ghost use Rattle.late_cert.specs.Joined.{AreOver, joined_rows, joined_slots};
+ghost use Rattle.late_cert.specs.JoinedRows.{AreOver, joined_rows, joined_slots};
 
 use slot_types::Refusal;
 
@@ -28,11 +28,11 @@ pub fn certificates_bind_every_schedule()
         IsCertificate rows start due completion jobs → BindsEverySchedule rows due completion jobs }
 {}
 
-/// Where each slot carried a least key, the stretch of a done job is a certificate.
+/// Where each slot carried a least key, the busy interval of a done job is a certificate.
 pub fn stretches_are_certificates()
     ensures { (rows : List JobRow) (carried : Slots) → CarriesLeastKeys rows carried →
         (j : ℕ) → is_done rows j ≡ true → (start : ℕ) (jobs : List ℕ) →
-        IsStretch rows carried j start (completion_of rows j) jobs →
+        IsBusyInterval rows carried j start (completion_of rows j) jobs →
         IsCertificate rows start (due_of rows j) (completion_of rows j) jobs }
 {}
 
@@ -48,10 +48,10 @@ pub fn least_keys_are_least_late()
         CarriesLeastKeys rows carried → IsLeastLate rows carried }
 {}
 
-/// What a stretch carries was released in it and is due by its due, wherever the stretch ends.
+/// What a busy interval carries was released in it and is due by its deadline, wherever the busy interval ends.
 pub fn stretches_carry_what_was_released_in_them()
     ensures { (rows : List JobRow) (carried : Slots) → CarriesLeastKeys rows carried →
-        (j start end : ℕ) (jobs : List ℕ) → IsStretch rows carried j start end jobs →
+        (j start end : ℕ) (jobs : List ℕ) → IsBusyInterval rows carried j start end jobs →
         (t k : ℕ) → start ≤ t → t < end → slot_at carried t ≡ Some k →
         (start ≤ release_of rows k) × (due_of rows k ≤ due_of rows j) }
 {}
@@ -70,10 +70,10 @@ pub fn least_keys_are_kept()
         CarriesLeastKeys later (carried ++ slot ∷ []) }
 {}
 
-/// Least keys stay least over logs that follow each other. Where each slot of two logs carried a least key, and all jobs
-/// of the first are done, each slot of both carried one, where the jobs of the later log come that many slots later and
-/// have higher numbers. So no schedule of the jobs of both has a smaller greatest lateness, and each certificate of a
-/// done job holds over both.
+/// Least keys stay least over logs that follow each other. Where each slot of two logs carried a least key, and all
+/// jobs of the first are done, each slot of both carried one, where the jobs of the later log come that many slots
+/// later and have higher numbers. So no schedule of the jobs of both has a smaller greatest lateness, and each
+/// certificate of a done job holds over both.
 pub fn least_keys_are_joined()
     ensures keys { (rows later : List JobRow) (carried slots : Slots) (numbers : ℕ) →
         CarriesLeastKeys rows carried → AreOver rows numbers → CarriesLeastKeys later slots →

@@ -1,11 +1,11 @@
 //! Certificates that a lateness was unavoidable.
 //!
 //! A *certificate* lists jobs that leave no slot idle from a start to a completion, none of them released before
-//! the start and none due after the certificate's due. Whoever schedules these jobs, one of them is then at least
-//! as late as the completion is for the due: all of them fit below the completion only if they fill every slot.
+//! the start and none due after the certificate's deadline. Whoever schedules these jobs, one of them is then at least
+//! as late as the completion is for the deadline: all of them fit below the completion only if they fill every slot.
 //! The argument is Horn's (W. A. Horn, Some simple scheduling algorithms, 1974), for jobs that may be preempted.
 //!
-//! [`build`] reads the certificate of a done job off what the slots carried, and [`check`] tells of any
+//! [`build`] reads the certificate of a done job off what the slots carried, and [`check`] says of any
 //! certificate whether it holds. The laws say why the two agree wherever each slot carried the least key.
 #![tactic(auto)]
 

@@ -12,7 +12,7 @@ pub struct JobRow {
     pub number: JobNo,
     /// The first slot that may carry it.
     pub release: u32,
-    /// The slot before which it should be done.
+    /// Its deadline: the slot before which it should be done.
     pub due: u32,
     /// How many slots carried it so far.
     pub work: u32,
@@ -23,7 +23,7 @@ pub struct JobRow {
 /// Rows of jobs and collections. A collection that was waived has none.
 pub type JobRows = Items<JobRow>;
 
-/// How many slots a completion comes after a due; negative where it comes before.
+/// How many slots a completion comes after a deadline; negative where it comes before.
 pub fn lateness(completion: u32, due: u32) -> i64
     ensures { result ≡ lateness_of completion due }
 {

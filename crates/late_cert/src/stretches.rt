@@ -1,11 +1,11 @@
-//! The certificate of a done job, by the stretch of slots before its completion.
+//! The certificate of a done job, by the busy interval before its completion.
 
-ghost use Rattle.std.specs.Prelude.{◌≡◌, ◌<◌, length, true, false, IfOk, IfSome, IfNone};
+ghost use Rattle.std.specs.Prelude.{◌≡◌, ◌<◌, length, true, false, IsOk, IfOk, IfSome, IfNone};
 ghost use Rattle.slot_types.specs.Refusal.{FailsForMemory};
 ghost use Rattle.late_cert.specs.declared.certificates.Certificate.{Certificate};
-ghost use Rattle.late_cert.specs.Rows.{RowsRise, IsNamedAt, due_of};
-ghost use Rattle.late_cert.specs.Stretch.{is_within, start_of, jobs_of};
-ghost use Rattle.late_cert.specs.Build.{stretch_if_done, certificate_of, IsOwn, AreMarks};
+ghost use Rattle.late_cert.specs.Rows.{RowsRise, IsNamedAt, is_done, due_of};
+ghost use Rattle.late_cert.specs.BusyInterval.{is_within, start_of, jobs_of};
+ghost use Rattle.late_cert.specs.Build.{busy_interval_if_done, certificate_of, IsOwn, AreMarks};
 
 use crate::carried::Carried;
 use crate::certificates::{Certificate, JobList};
@@ -16,14 +16,15 @@ use crate::verdicts::Verdict;
 use slot_types::{JobNo, Refusal};
 use std::alloc::{AllocError, Global};
 
-/// The certificate of a done job. Its slots are the longest stretch up to the job's completion in which each
-/// carries a job with a row and a key (due, number) that isn't above the job's own; its jobs are those carried.
+/// The certificate of a done job. Its slots are the longest busy interval up to the job's completion in which each
+/// carries a job with a row and a key (deadline, number) that isn't above the job's own; its jobs are those carried.
 ///
 /// There is none where the job has no row or isn't done, and where [`check`](crate::check) finds a fault in what
-/// the stretch makes: as with rows and slots that no run had, or slots that passed over a lesser key. Where each
+/// the busy interval makes: as with rows and slots that no run had, or slots that passed over a lesser key. Where each
 /// slot carried the least key, every done job has one (see [`crate::laws`]).
 ///
-/// The rows rise by number, which [`rows_rise`](crate::rows_rise) tells. The only refusal is for want of memory.
+/// The rows rise by number, which [`rows_rise`](crate::rows_rise) tells. The only refusal is out of memory, and a job that
+/// isn't done, or has no row, takes none.
 pub fn build(
     alloc: Global,
     rows: &JobRows,
@@ -34,6 +35,7 @@ pub fn build(
     ensures built { IfOk result (λ built. built ≡ certificate_of rows.now carried.now job) }
     ensures own { IfOk result (λ built. IfSome built (IsOwn rows.now carried.now job)) }
     ensures none { IfOk result (λ built. IfNone built ((c : Certificate) → IsOwn rows.now carried.now job c → ⊥)) }
+    ensures not_done { is_done rows.now job ≡ false → IsOk result }
     ensures refused { FailsForMemory result }
 {
     let Some(certificate) = stretch(alloc, rows.as_slice(), carried, job)? else {
@@ -46,15 +48,17 @@ pub fn build(
     }
 }
 
-// The stretch of a job, where it is done.
+// The busy interval of a job, where it is done.
 fn stretch(
     alloc: Global,
     rows: &[JobRow],
     carried: &Carried,
     job: JobNo,
-) -> Result<Option<Certificate>, AllocError>
+) -> Result<Option<Certificate>, Refusal>
     requires { RowsRise rows.now }
-    ensures { IfOk result (λ stretch. stretch ≡ stretch_if_done rows.now carried.now job) }
+    ensures ok { IfOk result (λ stretch. stretch ≡ busy_interval_if_done rows.now carried.now job) }
+    ensures not_done { is_done rows.now job ≡ false → IsOk result }
+    ensures refused { FailsForMemory result }
 {
     let Some(row) = find(rows, job) else {
         return Ok(None);
@@ -80,8 +84,8 @@ fn stretch(
     }))
 }
 
-// Where a stretch starts, and for each row whether one of its slots carries it. The rows rise, so the marked numbers do,
-// with no sort.
+// Where a busy interval starts, and for each row whether one of its slots carries it. The rows rise, so the marked
+// numbers do, with no sort.
 #[derive(Drop)]
 struct Walk {
     start: u32,
@@ -155,9 +159,10 @@ fn marked(
     carried: &Carried,
     start: u32,
     completion: u32,
-) -> Result<JobList, AllocError>
+) -> Result<JobList, Refusal>
     requires { AreMarks rows.now carried.now start completion marks.now }
-    ensures { IfOk result (λ jobs. jobs ≡ jobs_of rows.now carried.now start completion) }
+    ensures ok { IfOk result (λ jobs. jobs ≡ jobs_of rows.now carried.now start completion) }
+    ensures refused { FailsForMemory result }
 {
     let mut jobs = JobList::new(alloc);
     for i in 0..rows.len() {

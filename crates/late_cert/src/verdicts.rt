@@ -17,7 +17,7 @@ pub enum Verdict {
     Unfinished,
     /// A listed job was released before the certificate's start.
     EarlyRelease,
-    /// A listed job is due after the certificate's due.
+    /// A listed job is due after the certificate's deadline.
     LateDue,
     /// The work of the listed jobs isn't the number of slots from the start to the completion.
     WrongSum,

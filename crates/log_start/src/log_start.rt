@@ -1,7 +1,7 @@
 //! Where the log of a die starts.
 
 ghost use Rattle.std.specs.Prelude.{◌≡◌};
-ghost use Rattle.die_log.specs.Start.{Start, fresh};
+ghost use Rattle.die_log.specs.Model.Start.{Start, fresh};
 
 use crate::mark::Mark;
 use slot_types::DiePlan;
@@ -14,7 +14,7 @@ pub struct LogStart {
 }
 
 impl Model for LogStart {
-    ghost use Rattle.die_log.specs.Start.{Start};
+    ghost use Rattle.die_log.specs.Model.Start.{Start};
 
     ghost Value = { Start };
 

@@ -2,7 +2,7 @@
 
 ghost use Rattle.std.specs.Prelude.{◌≡◌};
 ghost use Rattle.std.specs.Borrow.{ftrue};
-ghost use Rattle.die_log.specs.Start.{Start};
+ghost use Rattle.die_log.specs.Model.Start.{Start};
 
 use std::marker::Model;
 

@@ -1,6 +1,6 @@
 -- What a ledger keeps.
 use Rattle.page_ledger.specs.declared.accounts.Ledger.TheInside.{Inside}
-use Rattle.plan_rules.specs.Accounts.{Accounts, AreSound}
+use Rattle.plan_rules.specs.Accounts.{Accounts, AreSoundAccounts}
 
 -- the accounts that a ledger keeps
 abbrev pub accounts_of : Inside → Accounts
@@ -13,5 +13,5 @@ accounts_of ledger = record {
 }
 
 -- a ledger's accounts are sound
-abbrev pub IsSound : Inside → Type 0
-IsSound ledger = AreSound (accounts_of ledger)
+abbrev pub IsSoundLedger : Inside → Type 0
+IsSoundLedger ledger = AreSoundAccounts (accounts_of ledger)

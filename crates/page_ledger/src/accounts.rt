@@ -4,7 +4,7 @@ ghost use Rattle.std.specs.Prelude.{◌≡◌, ◌+◌, ◌-◌, ◌*◌, ◌≤
 ghost use Rattle.std.specs.Prelude.{IfNone, OnOk, OnErr, OnSome};
 ghost use Rattle.slot_types.specs.Refusal.{FailsForMemory};
 ghost use Rattle.plan_rules.specs.Bound.{MeetsBound, fmax_of};
-ghost use Rattle.plan_rules.specs.Accounts.{AreSound, total_of, given_of, opening, admitted, hold_spent, reserve_spent, settled, waived};
+ghost use Rattle.plan_rules.specs.Accounts.{AreSoundAccounts, total_of, given_of, opening_accounts, accounts_after_admit, accounts_after_write, accounts_after_copy, accounts_after_collection, accounts_after_waiver};
 
 use slot_types::{DiePlan, Refusal, TaskNo};
 use std::alloc::Global;
@@ -30,22 +30,23 @@ impl Model for Ledger {
 
     ghost Value = { Accounts };
 
-    ghost use Rattle.page_ledger.specs.Ledger.{accounts_of, IsSound};
+    ghost use Rattle.page_ledger.specs.Ledger.{accounts_of, IsSoundLedger};
 
     ghost view = { accounts_of };
 
-    ghost invariant = { IsSound };
+    ghost invariant = { IsSoundLedger };
 }
 
 impl Ledger {
     /// The accounts of a die on which nothing was written: each balance is its task's cap, each
-    /// hold 0, each reserve `pages - alpha`, and all other pages are spare.
+    /// hold 0, each reserve `pages - alpha`, and all other pages are spare. Together they are all pages of the die.
     ///
     /// The plan meets its bound (`plan_rules::bound`). `NoMemory` where memory for the accounts
     /// is refused; the plan is given up then.
     pub fn new(alloc: Global, plan: DiePlan) -> Result<Self, Refusal>
         requires { MeetsBound plan }
-        ensures ok { IfOk result (λ ledger. ledger ≡ opening plan) }
+        ensures ok { IfOk result (λ ledger. ledger ≡ opening_accounts plan) }
+        ensures total { IfOk result (λ ledger. total_of ledger ≡ plan.shape.blocks * plan.shape.pages) }
         ensures err { FailsForMemory result }
     {
         let tasks = plan.caps.len();
@@ -73,7 +74,7 @@ impl Ledger {
         ensures accepted { IsOk result ↔ writes ≤ slice_index self.old.balances task }
         ensures refused { IfErr result (λ refusal.
             refusal ≡ Refusal.NoTokens (slice_index self.old.balances task) writes) }
-        ensures ok { OnOk result (self.new ≡ admitted self.old task writes) }
+        ensures ok { OnOk result (self.new ≡ accounts_after_admit self.old task writes) }
         ensures err { OnErr result (self.new ≡ self.old) }
         ensures total { total_of self.new ≡ total_of self.old }
         ensures plan { self.new.plan ≡ self.old.plan }
@@ -93,7 +94,7 @@ impl Ledger {
     pub fn spend_hold(&mut self, task: TaskNo)
         requires task { task < length self.old.plan.caps }
         requires held { 0 < slice_index self.old.holds task }
-        ensures moved { self.new ≡ hold_spent self.old task }
+        ensures moved { self.new ≡ accounts_after_write self.old task }
         ensures total { total_of self.new + 1 ≡ total_of self.old }
     {
         self.holds[task.0 as usize] -= 1;
@@ -104,7 +105,7 @@ impl Ledger {
     pub fn spend_reserve(&mut self, task: TaskNo)
         requires task { task < length self.old.plan.caps }
         requires reserved { 0 < slice_index self.old.reserves task }
-        ensures moved { self.new ≡ reserve_spent self.old task }
+        ensures moved { self.new ≡ accounts_after_copy self.old task }
         ensures total { total_of self.new + 1 ≡ total_of self.old }
     {
         self.reserves[task.0 as usize] -= 1;
@@ -123,7 +124,7 @@ impl Ledger {
         requires room { total_of self.old + self.old.plan.shape.pages
             ≤ self.old.plan.shape.blocks * self.old.plan.shape.pages }
         ensures given { result ≡ given_of self.old task }
-        ensures moved { self.new ≡ settled self.old task copied }
+        ensures moved { self.new ≡ accounts_after_collection self.old task copied }
         ensures total { total_of self.new ≡ total_of self.old + self.old.plan.shape.pages }
     {
         let given = self.given(task);
@@ -141,7 +142,7 @@ impl Ledger {
         requires { task < length self.old.plan.caps }
         ensures short { IsNone result ↔ self.old.spare < self.old.plan.alpha }
         ensures given { IfSome result (λ given. given ≡ given_of self.old task) }
-        ensures some { OnSome result (self.new ≡ waived self.old task) }
+        ensures some { OnSome result (self.new ≡ accounts_after_waiver self.old task) }
         ensures none { IfNone result (self.new ≡ self.old) }
         ensures few { IfNone result (total_of self.old ≤ fmax_of self.old.plan) }
         ensures total { total_of self.new ≡ total_of self.old }
@@ -182,7 +183,7 @@ impl Ledger {
     /// as `sound` says.
     pub fn reserve(&self, task: TaskNo) -> u32
         requires { task < length self.now.plan.caps }
-        ensures sound { AreSound self.now }
+        ensures sound { AreSoundAccounts self.now }
         ensures reserve { result ≡ slice_index self.now.reserves task }
     {
         self.reserves[task.0 as usize]
@@ -198,7 +199,7 @@ impl Ledger {
     /// How many pages are in all accounts. While fewer than `alpha` are spare, these are few:
     /// a collection that begins then finds a block to collect.
     pub fn total(&self) -> u32
-        ensures sound { AreSound self.now }
+        ensures sound { AreSoundAccounts self.now }
         ensures total { result ≡ total_of self.now }
         ensures few { self.now.spare < self.now.plan.alpha → result ≤ fmax_of self.now.plan }
     {

@@ -8,7 +8,7 @@ use Rattle.slot_types.specs.declared.pages.Place.{Place}
 use Rattle.slot_types.specs.declared.plans.Shape.{Shape}
 use Rattle.page_map.specs.Placing.{IsCell, cell_index}
 use Rattle.page_map.specs.Packing.{place_at, place_in}
-use Rattle.page_map.specs.Tables.{laid}
+use Rattle.page_map.specs.Tables.{entries_up_to}
 use Rattle.page_map.proofs.Laid.{length-laid, read-laid, laid_below}
 use Rattle.page_map.proofs.Owners.{same_place}
 
@@ -31,8 +31,8 @@ placed_at shape (o ∷ l) zero = refl
 placed_at shape (o ∷ l) (suc i) = placed_at shape l i
 
 pub length-placed : (shape : Shape) (logical : ℕ) (cells : List (Option ℕ)) → length cells ≤ logical
-    → length (map (place_in shape) (laid logical cells)) ≡ logical
-length-placed shape logical cells few = length-map (laid logical cells) (place_in shape) ∙ length-laid logical cells few
+    → length (map (place_in shape) (entries_up_to logical cells)) ≡ logical
+length-placed shape logical cells few = length-map (entries_up_to logical cells) (place_in shape) ∙ length-laid logical cells few
 
 -- an entry with a cell is that of its place
 pub set-placed : (shape : Shape) (l : List (Option ℕ)) (i : ℕ) (o : Option ℕ) (p : Option Place) → place_in shape o ≡ p
@@ -52,13 +52,13 @@ told_cell shape (Some cell) place is = (cell, refl)
 
 -- the place that an entry tells
 pub found : (shape : Shape) (logical : ℕ) (cells : List (Option ℕ)) (page : ℕ) (word : Option ℕ) → word ≡ get_or cells page None
-    → get_or (map (place_in shape) (laid logical cells)) page None ≡ place_in shape word
-found shape logical cells page word is = placed_at shape (laid logical cells) page
+    → get_or (map (place_in shape) (entries_up_to logical cells)) page None ≡ place_in shape word
+found shape logical cells page word is = placed_at shape (entries_up_to logical cells) page
     ∙ ap (place_in shape) (read-laid logical cells page ∙ sym is)
 
 -- an entry that tells a place is laid down
 pub found_below : (shape : Shape) (logical : ℕ) (cells : List (Option ℕ)) (page : ℕ) (place : Place)
-    → get_or (map (place_in shape) (laid logical cells)) page None ≡ Some place → page < length cells
+    → get_or (map (place_in shape) (entries_up_to logical cells)) page None ≡ Some place → page < length cells
 found_below shape logical cells page place is =
-    let told = told_cell shape (get_or (laid logical cells) page None) place (sym (placed_at shape (laid logical cells) page) ∙ is) in
+    let told = told_cell shape (get_or (entries_up_to logical cells) page None) place (sym (placed_at shape (entries_up_to logical cells) page) ∙ is) in
     laid_below logical cells page told.0 told.1

@@ -6,8 +6,8 @@ use Rattle.std.proofs.lemmas.Bool.{cases_lt, cases_eq}
 use Rattle.std.proofs.lemmas.List.{length-replicate, length-set, get_or-set_other, get_or-set_same, ext_get_or}
 use Rattle.slot_types.specs.declared.pages.Place.{Place}
 use Rattle.slot_types.specs.Places.{place_of, owner_of}
-use Rattle.page_map.specs.Placing.{AreApart}
-use Rattle.page_map.specs.Given.{IsFirstShared}
+use Rattle.page_map.specs.Placing.{HaveOwnCells}
+use Rattle.page_map.specs.PlacesFaults.{IsFirstShared}
 use Rattle.page_map.proofs.Owners.{owner_lies}
 use Rattle.page_map.proofs.Moving.{apart_with}
 use Rattle.page_map.proofs.Blank.{lies_nowhere}
@@ -17,7 +17,7 @@ pub record IsLaid (given places : List (Option Place)) (page : ℕ) : Type 0 whe
   pub len : length places ≡ length given
   pub below : (k : ℕ) → k < page → place_of places k ≡ place_of given k
   pub above : (k : ℕ) → page ≤ k → place_of places k ≡ None
-  pub apart : AreApart places
+  pub apart : HaveOwnCells places
 
 pub none_else : {X : Type 0} (o : Option X) → ((x : X) → o ≡ Some x → ⊥) → o ≡ None
 none_else None h = refl
@@ -87,5 +87,5 @@ laid_shared given places page other place so lies owned =
 pub laid_all : (given places : List (Option Place)) (page : ℕ) → IsLaid given places page → length given ≤ page → places ≡ given
 laid_all given places page so all = ext_get_or None places given so.len (λ i inside. so.below i (omega (arith, inside, so.len)))
 
-pub laid_apart : (given places : List (Option Place)) (page : ℕ) → IsLaid given places page → length given ≤ page → AreApart given
+pub laid_apart : (given places : List (Option Place)) (page : ℕ) → IsLaid given places page → length given ≤ page → HaveOwnCells given
 laid_apart given places page so all = rw (← laid_all given places page so all) so.apart

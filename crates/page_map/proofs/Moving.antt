@@ -10,7 +10,7 @@ use Rattle.std.proofs.Math.Nat.{mul-le-mul_right}
 use Rattle.slot_types.specs.declared.pages.Place.{Place}
 use Rattle.slot_types.specs.declared.plans.Shape.{Shape}
 use Rattle.slot_types.specs.Places.{place_of, is_in, owner_of}
-use Rattle.page_map.specs.Placing.{AreApart, IsCell, cell_index}
+use Rattle.page_map.specs.Placing.{HaveOwnCells, IsCell, cell_index}
 use Rattle.page_map.specs.Tables.{AreTables}
 use Rattle.page_map.proofs.Owners.{same_place, no_owner, owner_is, owner_lies, same_owner, unowned}
 
@@ -73,13 +73,13 @@ stays_without places page i place below lies =
       | inr other ↦ (other, sym (get_or-set_other places page i None None other) ∙ lies)
     ]
 
-pub apart_without : (places : List (Option Place)) (page : ℕ) → AreApart places → page < length places → AreApart (set places page None)
+pub apart_without : (places : List (Option Place)) (page : ℕ) → HaveOwnCells places → page < length places → HaveOwnCells (set places page None)
 apart_without places page are below = record {
   apart = λ i j place at_i at_j. are.apart i j place (stays_without places page i place below at_i).1
       (stays_without places page j place below at_j).1;
 }
 
-owner_without : (places : List (Option Place)) (page : ℕ) (old place : Place) → AreApart places → page < length places
+owner_without : (places : List (Option Place)) (page : ℕ) (old place : Place) → HaveOwnCells places → page < length places
     → place_of places page ≡ Some old → place ≢ old → owner_of (set places page None) place ≡ owner_of places place
 owner_without places page old place are below lay other =
     same_owner places (set places page None) place (apart_without places page are below)
@@ -89,7 +89,7 @@ owner_without places page old place are below lay other =
     ])
     (λ i lies. (stays_without places page i place below lies).1)
 
-none_without : (places : List (Option Place)) (page : ℕ) (old : Place) → AreApart places → page < length places → place_of places page
+none_without : (places : List (Option Place)) (page : ℕ) (old : Place) → HaveOwnCells places → page < length places → place_of places page
     ≡ Some old → owner_of (set places page None) old ≡ None
 none_without places page old are below lay =
     no_owner (set places page None) old (λ i lies. (stays_without places page i old below lies).0
@@ -166,8 +166,8 @@ comes : (places : List (Option Place)) (page i : ℕ) (place : Place) → page <
 comes places page i place below same = ap (λ (j : ℕ). place_of (set places page (Some place)) j) same
     ∙ get_or-set_same places page (Some place) None below
 
-pub apart_with : (places : List (Option Place)) (page : ℕ) (place : Place) → AreApart places → page < length places → owner_of places place
-    ≡ None → AreApart (set places page (Some place))
+pub apart_with : (places : List (Option Place)) (page : ℕ) (place : Place) → HaveOwnCells places → page < length places → owner_of places place
+    ≡ None → HaveOwnCells (set places page (Some place))
 apart_with places page place are below free = record {
   apart = λ i j q at_i at_j.
       let in_i = came places page i place q below at_i in
@@ -184,7 +184,7 @@ apart_with places page place are below free = record {
       ];
 }
 
-owner_with : (places : List (Option Place)) (page : ℕ) (place q : Place) → AreApart places → page < length places → owner_of places place
+owner_with : (places : List (Option Place)) (page : ℕ) (place q : Place) → HaveOwnCells places → page < length places → owner_of places place
     ≡ None → place_of places page ≡ None → q ≢ place → owner_of (set places page (Some place)) q ≡ owner_of places q
 owner_with places page place q are below free nowhere other =
     same_owner places (set places page (Some place)) q (apart_with places page place are below free)
@@ -215,7 +215,7 @@ tables_with shape places owners valid page count place are below cell free nowhe
     let new : List (Option Place) = set places page (Some place) in
     let in_owners : cell_index shape place < length owners = omega (arith, in_table shape place cell, are.owners_len) in
     let in_valid : place.block < length valid = omega (arith, cell.block, are.valid_len) in
-    let are_apart : AreApart new = apart_with places page place are.apart below free in
+    let are_apart : HaveOwnCells new = apart_with places page place are.apart below free in
     record {
       few = rw (length-set places page (Some place)) are.few;
       apart = are_apart;

@@ -9,7 +9,7 @@ use Rattle.std.proofs.lemmas.List.Quantifiers.{position-Some}
 use Rattle.std.proofs.lemmas.Bool.Decides.{nat_tests}
 use Rattle.slot_types.specs.declared.pages.Place.{Place}
 use Rattle.slot_types.specs.Places.{place_of, is_at, owner_of}
-use Rattle.page_map.specs.Placing.{AreApart}
+use Rattle.page_map.specs.Placing.{HaveOwnCells}
 
 at_itself : (place : Place) → is_at place (Some place) ≡ true
 at_itself place = grind (arith, nat_tests)
@@ -67,25 +67,25 @@ pub no_owner : (places : List (Option Place)) (place : Place) → ((page : ℕ) 
     ≡ None
 no_owner places place none = no_owner_by places place (owner_of places place) refl none
 
-owner_is_by : (places : List (Option Place)) (page : ℕ) (place : Place) (o : Option ℕ) → owner_of places place ≡ o → AreApart places
+owner_is_by : (places : List (Option Place)) (page : ℕ) (place : Place) (o : Option ℕ) → owner_of places place ≡ o → HaveOwnCells places
     → place_of places page ≡ Some place → owner_of places place ≡ Some page
 owner_is_by places page place None is are lies = absurd (unowned places page place is lies)
 owner_is_by places page place (Some other) is are lies = is
     ∙ ap (λ (n : ℕ). Some n) (are.apart other page place (owner_lies places other place is) lies)
 
 -- who lies in a cell owns it
-pub owner_is : (places : List (Option Place)) (page : ℕ) (place : Place) → AreApart places → place_of places page ≡ Some place
+pub owner_is : (places : List (Option Place)) (page : ℕ) (place : Place) → HaveOwnCells places → place_of places page ≡ Some place
     → owner_of places place ≡ Some page
 owner_is places page place are lies = owner_is_by places page place (owner_of places place) refl are lies
 
-same_owner_by : (old new : List (Option Place)) (place : Place) (o : Option ℕ) → owner_of old place ≡ o → AreApart new
+same_owner_by : (old new : List (Option Place)) (place : Place) (o : Option ℕ) → owner_of old place ≡ o → HaveOwnCells new
     → ((page : ℕ) → place_of old page ≡ Some place → place_of new page ≡ Some place)
     → ((page : ℕ) → place_of new page ≡ Some place → place_of old page ≡ Some place) → owner_of new place ≡ o
 same_owner_by old new place None is are on back = no_owner new place (λ page lies. unowned old page place is (back page lies))
 same_owner_by old new place (Some page) is are on back = owner_is new page place are (on page (owner_lies old page place is))
 
 -- a cell in which the same pages lie keeps its owner
-pub same_owner : (old new : List (Option Place)) (place : Place) → AreApart new
+pub same_owner : (old new : List (Option Place)) (place : Place) → HaveOwnCells new
     → ((page : ℕ) → place_of old page ≡ Some place → place_of new page ≡ Some place)
     → ((page : ℕ) → place_of new page ≡ Some place → place_of old page ≡ Some place) → owner_of new place ≡ owner_of old place
 same_owner old new place are on back = same_owner_by old new place (owner_of old place) refl are on back

@@ -19,19 +19,19 @@ abbrev pub cell_index : Shape → Place → ℕ
 cell_index shape place = place.block * shape.pages + place.page
 
 -- no two pages lie in one cell
-pub record AreApart (places : List (Option Place)) : Type 0 where
+pub record HaveOwnCells (places : List (Option Place)) : Type 0 where
   pub apart : (i j : ℕ) (place : Place) → place_of places i ≡ Some place → place_of places j ≡ Some place → i ≡ j
 
 abbrev pub blank_map : Shape → ℕ → Placing
 blank_map shape logical = record { shape = shape; places = replicate logical None }
 
 -- with a page that lies in this cell
-abbrev pub bound : Placing → ℕ → Place → Placing
-bound placing page place = record placing { places = slice_set placing.places page (Some place) }
+abbrev pub placing_with : Placing → ℕ → Place → Placing
+placing_with placing page place = record placing { places = slice_set placing.places page (Some place) }
 
 -- with a page that lies nowhere
-abbrev pub unbound : Placing → ℕ → Placing
-unbound placing page = record placing { places = slice_set placing.places page None }
+abbrev pub placing_without : Placing → ℕ → Placing
+placing_without placing page = record placing { places = slice_set placing.places page None }
 
 -- the cell of this page and block is the first that holds a logical page, from a page on
 pub record IsNextOwned (places : List (Option Place)) (block from page : ℕ) : Type 0 where

@@ -1,7 +1,7 @@
 -- A number or none, in one word.
 use Rattle.std.specs.Prelude.{◌≡◌, ℕ, zero, suc, Option, Some, None, refl}
 
--- 0 is none, and a number has the word behind it
+-- 0 is none, and a number has the word after it
 abbrev pub number_in : ℕ → Option ℕ
 number_in zero = None
 number_in (suc number) = Some number

@@ -2,8 +2,8 @@
 
 ghost use Rattle.std.specs.Prelude.{◌≡◌, ◌<◌, ◌*◌, ◌^◌, length, IfOk, IfErr, OnOk};
 ghost use Rattle.slot_types.specs.Refusal.{FailsForMemory};
-ghost use Rattle.page_map.specs.Placing.{AreApart};
-ghost use Rattle.page_map.specs.Given.{AreCells, HasFault};
+ghost use Rattle.page_map.specs.Placing.{HaveOwnCells};
+ghost use Rattle.page_map.specs.PlacesFaults.{AreCells, HasPlacesFault};
 
 use crate::map::PageMap;
 use slot_types::{Place, Refusal, Shape};
@@ -19,11 +19,11 @@ pub enum PlacesFault {
 }
 
 impl PageMap {
-    /// The map, of fewer than 2^32 cells, in which each page lies where `places` has it. It takes time for each page once,
-    /// beside the memory of a map.
+    /// The map, of fewer than 2^32 cells, in which each page lies where `places` has it. It takes time for each page
+    /// once, beside the memory of a map.
     ///
-    /// `NoMemory` where there is no memory for a map, of which nothing else is known then; else `SharedCell` exactly where
-    /// two pages lie in one cell.
+    /// `NoMemory` where there is no memory for a map, of which nothing else is known then; else `SharedCell` exactly
+    /// where two pages lie in one cell.
     pub fn of_places(
         alloc: Global,
         shape: Shape,
@@ -33,8 +33,8 @@ impl PageMap {
         requires few_cells { shape.blocks * shape.pages < 2 ^ 32 }
         requires few { length places.now < 2 ^ 32 }
         ensures ok { IfOk result (λ map. map ≡ record { shape = shape; places = places.now }) }
-        ensures apart { OnOk result (AreApart places.now) }
-        ensures fault { IfErr result (HasFault places.now) }
+        ensures apart { OnOk result (HaveOwnCells places.now) }
+        ensures fault { IfErr result (HasPlacesFault places.now) }
     {
         let mut map = match PageMap::new(alloc, shape, places.len() as u32) {
             Ok(map) => map,

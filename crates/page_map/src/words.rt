@@ -5,7 +5,7 @@ ghost use Rattle.std.specs.Prelude.{◌≡◌, ◌<◌, ◌+◌, ◌^◌, Some, 
 use std::marker::Model;
 use std::mem::size_of;
 
-/// A number or none, in four bytes: 0 is none, and a number has the word behind it. Contracts see which.
+/// A number or none, in four bytes: 0 is none, and a number has the word after it. Contracts see which.
 #[derive(Clone, Copy, Debug, Drop)]
 pub(crate) struct Word(u32);
 

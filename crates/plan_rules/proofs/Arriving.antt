@@ -14,35 +14,35 @@ use Rattle.slot_types.specs.declared.events.Event.{Event}
 use Rattle.slot_types.specs.declared.events.Event.TheVariants as events
 use Rattle.slot_types.specs.declared.plans.Times.{Times}
 use Rattle.plan_rules.specs.Times.{times_of}
-use Rattle.plan_rules.specs.Keeping.{Arrival, arrivals, slots, IsPlannedJob, IsPlannedCollection, IsPlanned, is_collection_at}
+use Rattle.plan_rules.specs.Keeping.{TaskArrival, arrivals, slots, IsPlannedJob, IsPlannedCollection, IsPlanned, is_collection_at}
 use Rattle.plan_rules.specs.Keeping.{IsCollectSlot, KeepsPlan}
 use Rattle.plan_rules.specs.Keeping as keeping
 use Rattle.plan_rules.proofs.Windows as windows
 
 -- below, jobs or collections of one task
 
-abbrev pub is_job_of : ℕ → Arrival → Bool
+abbrev pub is_job_of : ℕ → TaskArrival → Bool
 is_job_of task a = not a.collects && (a.task == task)
 
-abbrev pub is_collection_of : ℕ → Arrival → Bool
+abbrev pub is_collection_of : ℕ → TaskArrival → Bool
 is_collection_of task a = a.collects && (a.task == task)
 
-abbrev pub release_of : Arrival → ℕ
+abbrev pub release_of : TaskArrival → ℕ
 release_of a = a.release
 
-abbrev pub due_of : Arrival → ℕ
+abbrev pub due_of : TaskArrival → ℕ
 due_of a = a.due
 
 -- What the tests and the plan say
 
-as_job : (plan : DiePlan) (times : Times) (end task : ℕ) (a : Arrival) → IsPlanned plan times end a → is_job_of task a ≡ true
+as_job : (plan : DiePlan) (times : Times) (end task : ℕ) (a : TaskArrival) → IsPlanned plan times end a → is_job_of task a ≡ true
     → (a.collects ≡ false) × (a.task ≡ task) × IsPlannedJob plan times a
 as_job plan times end task a h is =
     let p = and_parts (not a.collects) (a.task == task) is in
     let kind : a.collects ≡ false = not-true a.collects p.0 in
     (kind, eqb-true a.task task p.1, subst (λ b. MatchBool b (IsPlannedCollection plan times end a) (IsPlannedJob plan times a)) kind h)
 
-as_collection : (plan : DiePlan) (times : Times) (end task : ℕ) (a : Arrival) → IsPlanned plan times end a → is_collection_of task a ≡ true
+as_collection : (plan : DiePlan) (times : Times) (end task : ℕ) (a : TaskArrival) → IsPlanned plan times end a → is_collection_of task a ≡ true
     → (a.collects ≡ true) × (a.task ≡ task) × IsPlannedCollection plan times end a
 as_collection plan times end task a h is =
     let p = and_parts a.collects (a.task == task) is in
@@ -51,7 +51,7 @@ as_collection plan times end task a h is =
 -- Jobs
 
 module _ (plan : DiePlan) (times : Times) (end task : ℕ) where
-  jobs_behind : (a : Arrival) → (a.collects ≡ false) → a.task ≡ task → (rest : List Arrival)
+  jobs_behind : (a : TaskArrival) → (a.collects ≡ false) → a.task ≡ task → (rest : List TaskArrival)
       → AllByRecursion (IsPlanned plan times end) rest → AllByRecursion (keeping.AreApart times a) rest
       → AllByRecursion (λ b. is_job_of task b ≡ true → a.release + (times_of times task).period ≤ b.release) rest
   jobs_behind a kind of [] planned apart = tt
@@ -62,7 +62,7 @@ module _ (plan : DiePlan) (times : Times) (end task : ℕ) where
     jobs_behind a kind of rest planned.1 apart.1,
   )
 
-  pub jobs_apart_in : (all : List Arrival) → AllByRecursion (IsPlanned plan times end) all → AllPairs (keeping.AreApart times) all
+  pub jobs_apart_in : (all : List TaskArrival) → AllByRecursion (IsPlanned plan times end) all → AllPairs (keeping.AreApart times) all
       → windows.AreApart release_of due_of (is_job_of task) (times_of times task).period all
   jobs_apart_in [] planned apart = tt
   jobs_apart_in (a ∷ rest) planned apart = (
@@ -78,11 +78,11 @@ module _ (plan : DiePlan) (times : Times) (end task : ℕ) where
 -- Collections
 
 -- arrivals come one after the other
-abbrev ComesLater : List Arrival → Type 0
+abbrev ComesLater : List TaskArrival → Type 0
 ComesLater [] = Unit {0}
 ComesLater (a ∷ rest) = AllByRecursion (λ b. a.at ≤ b.at) rest × ComesLater rest
 
-sooner : (n m : ℕ) → n ≤ m → (all : List Arrival) → AllByRecursion (λ b. m ≤ b.at) all → AllByRecursion (λ b. n ≤ b.at) all
+sooner : (n m : ℕ) → n ≤ m → (all : List TaskArrival) → AllByRecursion (λ b. m ≤ b.at) all → AllByRecursion (λ b. n ≤ b.at) all
 sooner n m le [] h = tt
 sooner n m le (b ∷ rest) h = (omega (arith, le, h.0), sooner n m le rest h.1)
 
@@ -127,15 +127,15 @@ none_counted test (x ∷ xs) h =
 
 module _ (plan : DiePlan) (times : Times) (end task : ℕ) where
   -- in each slot at which the plan has one, at most one collection of the task comes
-  abbrev AtMostOne : List Arrival → Type 0
+  abbrev AtMostOne : List TaskArrival → Type 0
   AtMostOne all =
       (slot : ℕ) → IsCollectSlot times end task slot → count_by (is_collection_at task slot) all ≤ 1
 
-  fewer : (a : Arrival) (rest : List Arrival) → AtMostOne (a ∷ rest) → AtMostOne rest
+  fewer : (a : TaskArrival) (rest : List TaskArrival) → AtMostOne (a ∷ rest) → AtMostOne rest
   fewer a rest h slot at =
       omega (arith, sum_by-cons (λ b. cond (is_collection_at task slot b) 1 0) a rest, h slot at)
 
-  collections_behind : (a : Arrival) → a.release ≡ a.at → a.release % (times_of times task).collect_period ≡ 0 → (rest : List Arrival)
+  collections_behind : (a : TaskArrival) → a.release ≡ a.at → a.release % (times_of times task).collect_period ≡ 0 → (rest : List TaskArrival)
       → AllByRecursion (IsPlanned plan times end) rest
       → AllByRecursion (λ b. a.at ≤ b.at) rest → AllByRecursion (λ b. is_collection_at task a.at b ≡ false) rest
       → AllByRecursion (λ b. is_collection_of task b ≡ true → a.release + (times_of times task).collect_period ≤ b.release) rest
@@ -154,7 +154,7 @@ module _ (plan : DiePlan) (times : Times) (end task : ℕ) where
           [ inl less ↦ less | inr more ↦ absurd (apart (omega (arith, more, later.0))) ] in
           next_multiple a.release b.release (times_of times task).collect_period multiple own (omega (arith, behind, comes, k.2.comes))
 
-  pub collections_apart_in : (all : List Arrival) → AllByRecursion (IsPlanned plan times end) all → ComesLater all → AtMostOne all
+  pub collections_apart_in : (all : List TaskArrival) → AllByRecursion (IsPlanned plan times end) all → ComesLater all → AtMostOne all
       → windows.AreApart release_of due_of (is_collection_of task) (times_of times task).collect_period all
   collections_apart_in [] planned later once = tt
   collections_apart_in (a ∷ rest) planned later once = (here, collections_apart_in rest planned.1 later.1 (fewer a rest once))

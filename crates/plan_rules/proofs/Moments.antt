@@ -15,7 +15,7 @@ use Rattle.slot_types.specs.declared.events.Event.{Event}
 use Rattle.slot_types.specs.declared.events.Event.TheVariants as events
 use Rattle.slot_types.specs.declared.plans.Times.{Times}
 use Rattle.plan_rules.specs.Times.{times_of, IsTaskTimes, HasTimes, IsSustained, Passes}
-use Rattle.plan_rules.specs.Keeping.{Arrival, arrivals, slots, is_slot, is_collection_at, IsCollectSlot, IsPlanned, IsPlannedJob}
+use Rattle.plan_rules.specs.Keeping.{TaskArrival, arrivals, slots, is_slot, is_collection_at, IsCollectSlot, IsPlanned, IsPlannedJob}
 use Rattle.plan_rules.specs.Keeping.{IsPlannedCollection, AreApart, KeepsPlan}
 use Rattle.plan_rules.proofs.Pacing.{one_if, ArePaced, is_collection_of, collections_in, paced_other, paced_collection, paced_slot}
 
@@ -56,7 +56,7 @@ arrivals_append now m (events.Slot ∷ xs) ys e = arrivals_append (now + 1) m xs
 pub arrivals_after : (before rest : List Event) → arrivals 0 (before ++ rest) ≡ arrivals 0 before ++ arrivals (slots before) rest
 arrivals_after before rest = arrivals_append 0 (slots before) before rest (omega arith)
 
-apart_slots : (task n m : ℕ) (a : Arrival) → n < m → m ≤ a.at → is_collection_at task n a ≡ false
+apart_slots : (task n m : ℕ) (a : TaskArrival) → n < m → m ≤ a.at → is_collection_at task n a ≡ false
 apart_slots task n m a h k = grind (arith, nat_tests)
 
 -- what comes later comes at a later slot
@@ -70,7 +70,7 @@ none_later task n m (events.Submit t release due ops ∷ xs) h =
       none_later task n m xs h,
     )
 none_later task n m (events.Collect t release due ∷ xs) h =
-    let a : Arrival = record { at = m; collects = true; task = t; release = release; due = due; ops = [] } in
+    let a : TaskArrival = record { at = m; collects = true; task = t; release = release; due = due; ops = [] } in
     omega (
       arith,
       sum_by-cons (λ b. one_if (is_collection_at task n b)) a (arrivals m xs),
@@ -100,14 +100,14 @@ task_sustained plan times task h lt = zip_at (IsSustained plan times.common) pla
 -- One event
 
 -- a job, where events keep the plan: it is planned, and all jobs of its task before it are a period apart from it
-pub record IsNextJob (plan : DiePlan) (times : Times) (before : List Event) (a : Arrival) : Type 0 where
+pub record IsNextJob (plan : DiePlan) (times : Times) (before : List Event) (a : TaskArrival) : Type 0 where
   pub planned : IsPlannedJob plan times a
   pub apart : All (λ b. AreApart times b a) (arrivals 0 before)
 
-abbrev pub job_arrival : ℕ → ℕ → ℕ → ℕ → List Op → Arrival
+abbrev pub job_arrival : ℕ → ℕ → ℕ → ℕ → List Op → TaskArrival
 job_arrival now task release due ops = record { at = now; collects = false; task = task; release = release; due = due; ops = ops }
 
-abbrev pub collection_arrival : ℕ → ℕ → ℕ → ℕ → Arrival
+abbrev pub collection_arrival : ℕ → ℕ → ℕ → ℕ → TaskArrival
 collection_arrival now task release due = record { at = now; collects = true; task = task; release = release; due = due; ops = [] }
 
 abbrev ArePlanned : DiePlan → Times → List Event → Type 0
@@ -129,7 +129,7 @@ pub next_job : (plan : DiePlan) (times : Times) (before rest : List Event) (task
     → IsNextJob plan times before (job_arrival (slots before) task release due ops)
 next_job plan times before rest task release due ops h =
     let all : List Event = before ++ events.Submit task release due ops ∷ rest in
-    let a : Arrival = job_arrival (slots before) task release due ops in
+    let a : TaskArrival = job_arrival (slots before) task release due ops in
     let parts : arrivals 0 all ≡ arrivals 0 before ++ a ∷ arrivals (slots before) rest = arrivals_after before
     (events.Submit task release due ops ∷ rest) in
     record {
@@ -145,19 +145,19 @@ pub next_collection : (plan : DiePlan) (times : Times) (before rest : List Event
     (collection_arrival (slots before) task release due)
 next_collection plan times before rest task release due h =
     let all : List Event = before ++ events.Collect task release due ∷ rest in
-    let a : Arrival = collection_arrival (slots before) task release due in
+    let a : TaskArrival = collection_arrival (slots before) task release due in
     all_middle (IsPlanned plan times (slots all)) (arrivals 0 before) a (arrivals (slots before) rest)
     (subst (AllByRecursion (IsPlanned plan times (slots all))) (arrivals_after before (events.Collect task release due ∷ rest))
     (all_planned plan times all h))
 
 -- one more comes, and not too many have come
-pub next_fits : (plan : DiePlan) (times : Times) (before rest : List Event) (a : Arrival) (after : List Arrival) (event : Event)
+pub next_fits : (plan : DiePlan) (times : Times) (before rest : List Event) (a : TaskArrival) (after : List TaskArrival) (event : Event)
     → KeepsPlan plan times (before ++ event ∷ rest) → arrivals (slots before) (event ∷ rest) ≡ a ∷ after
     → length (arrivals 0 before) < MAX_JOBS
 next_fits plan times before rest a after event h e =
     let parts : arrivals 0 (before ++ event ∷ rest) ≡ arrivals 0 before ++ a ∷ after = arrivals_after before (event ∷ rest)
     ∙ ap (λ l. arrivals 0 before ++ l) e in
-    omega (arith, h.few_arrivals, ap (λ (l : List Arrival). length l) parts, length-append (arrivals 0 before) (a ∷ after))
+    omega (arith, h.few_arrivals, ap (λ (l : List TaskArrival). length l) parts, length-append (arrivals 0 before) (a ∷ after))
 
 pub next_slot : (plan : DiePlan) (times : Times) (before rest : List Event) → KeepsPlan plan times (before ++ events.Slot ∷ rest)
     → slots before < MAX_SLOT
@@ -174,15 +174,15 @@ none_before : (plan : DiePlan) (times : Times) (before rest : List Event) (task 
     → count_by (is_collection_at task (slots before)) (arrivals 0 before) ≡ 0
 none_before plan times before rest task release due h =
     let all : List Event = before ++ events.Collect task release due ∷ rest in
-    let a : Arrival = collection_arrival (slots before) task release due in
+    let a : TaskArrival = collection_arrival (slots before) task release due in
     let p = next_collection plan times before rest task release due h in
-    let test : Arrival → Bool = is_collection_at task (slots before) in
+    let test : TaskArrival → Bool = is_collection_at task (slots before) in
     let one : count_by test (arrivals 0 all) ≡ 1 = h.collected task (slots before) p.task (here p) in
     let is : test a ≡ true = grind (arith, nat_tests) in
     omega (
       arith,
       one,
-      ap (λ (l : List Arrival). count_by test l) (arrivals_after before (events.Collect task release due ∷ rest)),
+      ap (λ (l : List TaskArrival). count_by test l) (arrivals_after before (events.Collect task release due ∷ rest)),
       sum_by-append (λ b. one_if (test b)) (arrivals 0 before) (a ∷ arrivals (slots before) rest),
       sum_by-cons (λ b. one_if (test b)) a (arrivals (slots before) rest),
       ap one_if is,
@@ -205,7 +205,7 @@ one_before : (plan : DiePlan) (times : Times) (before rest : List Event) (task :
     ≤ count_by (is_collection_at task (slots before)) (arrivals 0 before)
 one_before plan times before rest task lt h multiple within =
     let all : List Event = before ++ events.Slot ∷ rest in
-    let test : Arrival → Bool = is_collection_at task (slots before) in
+    let test : TaskArrival → Bool = is_collection_at task (slots before) in
     let one : count_by test (arrivals 0 all) ≡ 1 = h.collected task (slots before) lt
     (record {
       multiple = multiple;
@@ -215,7 +215,7 @@ one_before plan times before rest task lt h multiple within =
     omega (
       arith,
       one,
-      ap (λ (l : List Arrival). count_by test l) (arrivals_after before (events.Slot ∷ rest)),
+      ap (λ (l : List TaskArrival). count_by test l) (arrivals_after before (events.Slot ∷ rest)),
       sum_by-append (λ b. one_if (test b)) (arrivals 0 before) (arrivals (slots before + 1) rest),
       none_later task (slots before) (slots before + 1) rest (omega arith),
     )
@@ -241,14 +241,14 @@ pub paced_event : (plan : DiePlan) (times : Times) (before rest : List Event) (e
     → ArePaced (period_of times task) task (arrivals 0 before) (slots before)
     → ArePaced (period_of times task) task (arrivals 0 (before ++ event ∷ [])) (slots (before ++ event ∷ []))
 paced_event plan times before rest (events.Submit t release due ops) task lt h paced =
-    let a : Arrival = job_arrival (slots before) t release due ops in
+    let a : TaskArrival = job_arrival (slots before) t release due ops in
     let count : slots (before ++ events.Submit t release due ops ∷ [])
     ≡ slots before = omega (arith, slots_append before (events.Submit t release due ops ∷ [])) in
     subst (ArePaced (period_of times task) task (arrivals 0 (before ++ events.Submit t release due ops ∷ []))) (sym count)
     (subst (λ l. ArePaced (period_of times task) task l (slots before)) (sym (arrivals_after before (events.Submit t release due ops ∷ [])))
     (paced_other (period_of times task) task (arrivals 0 before) (slots before) a refl paced))
 paced_event plan times before rest (events.Collect t release due) task lt h paced =
-    let a : Arrival = collection_arrival (slots before) t release due in
+    let a : TaskArrival = collection_arrival (slots before) t release due in
     let count : slots (before ++ events.Collect t release due ∷ [])
     ≡ slots before = omega (arith, slots_append before (events.Collect t release due ∷ [])) in
     subst (ArePaced (period_of times task) task (arrivals 0 (before ++ events.Collect t release due ∷ []))) (sym count)

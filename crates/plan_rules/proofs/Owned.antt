@@ -3,7 +3,7 @@ use Rattle.std.proofs.Common.{◌≡◌, ℕ, ◌+◌, ◌-◌, ◌<◌, ◌≤�
 use Rattle.std.specs.Prelude.{◌≢◌}
 use Rattle.std.proofs.lemmas.Bool.{cases_eq}
 use Rattle.std.proofs.lemmas.List.{get_or-set_same, get_or-set_other}
-use Rattle.plan_rules.specs.Accounts.{Accounts, owned_of, given_of, admitted, hold_spent, settled, waived}
+use Rattle.plan_rules.specs.Accounts.{Accounts, owned_of, given_of, accounts_after_admit, accounts_after_write, accounts_after_collection, accounts_after_waiver}
 
 -- what a collection gives brings its task up to its cap, or alpha pages higher
 pub given_owned : (a : Accounts) (task : ℕ) → task < length a.balances → owned_of a task ≤ slice_index a.plan.caps task
@@ -12,14 +12,14 @@ pub given_owned : (a : Accounts) (task : ℕ) → task < length a.balances → o
 given_owned a task below owned = omega (arith, owned, get_or-set_same a.balances task (get_or a.balances task 0 + given_of a task) 0 below)
 
 -- and leaves what others own
-pub settled_others : (a : Accounts) (task copied other : ℕ) → other ≢ task → owned_of (settled a task copied) other ≡ owned_of a other
+pub settled_others : (a : Accounts) (task copied other : ℕ) → other ≢ task → owned_of (accounts_after_collection a task copied) other ≡ owned_of a other
 settled_others a task copied other apart = omega (
   arith,
   get_or-set_other a.balances task other (get_or a.balances task 0 + given_of a task)
       0 apart,
 )
 
-pub waived_others : (a : Accounts) (task other : ℕ) → other ≢ task → owned_of (waived a task) other ≡ owned_of a other
+pub waived_others : (a : Accounts) (task other : ℕ) → other ≢ task → owned_of (accounts_after_waiver a task) other ≡ owned_of a other
 waived_others a task other apart = omega (
   arith,
   get_or-set_other a.balances task other (get_or a.balances task 0 + given_of a task) 0
@@ -29,7 +29,7 @@ waived_others a task other apart = omega (
 -- an accepted job moves what its task owns
 pub admitted_owned : (a : Accounts) (task writes other : ℕ) → task < length a.balances → task < length a.holds → writes
     ≤ slice_index a.balances task
-    → owned_of (admitted a task writes) other ≡ owned_of a other
+    → owned_of (accounts_after_admit a task writes) other ≡ owned_of a other
 admitted_owned a task writes other b h have = elim (cases_eq other task) [
   | inl e ↦
       rw e (omega (
@@ -47,9 +47,9 @@ admitted_owned a task writes other b h have = elim (cases_eq other task) [
 ]
 
 -- a write takes one page of what its task owns
-pub spent_owned : (a : Accounts) (task : ℕ) → task < length a.holds → 0 < slice_index a.holds task → owned_of (hold_spent a task) task + 1
+pub spent_owned : (a : Accounts) (task : ℕ) → task < length a.holds → 0 < slice_index a.holds task → owned_of (accounts_after_write a task) task + 1
     ≡ owned_of a task
 spent_owned a task h some = omega (arith, some, get_or-set_same a.holds task (get_or a.holds task 0 - 1) 0 h)
 
-pub spent_others : (a : Accounts) (task other : ℕ) → other ≢ task → owned_of (hold_spent a task) other ≡ owned_of a other
+pub spent_others : (a : Accounts) (task other : ℕ) → other ≢ task → owned_of (accounts_after_write a task) other ≡ owned_of a other
 spent_others a task other apart = omega (arith, get_or-set_other a.holds task other (get_or a.holds task 0 - 1) 0 apart)

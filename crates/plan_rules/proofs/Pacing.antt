@@ -7,22 +7,22 @@ use Rattle.std.proofs.lemmas.Bool.{cases_lt, and_parts}
 use Rattle.std.proofs.lemmas.Bool.Decides.{nat_tests}
 use Rattle.std.proofs.lemmas.List.Sums.{sum_by-cons, sum_by_push}
 use Rattle.slot_types.specs.declared.limits.TheConstants.{MAX_SLOT}
-use Rattle.plan_rules.specs.Keeping.{Arrival, is_collection_at}
+use Rattle.plan_rules.specs.Keeping.{TaskArrival, is_collection_at}
 
-abbrev pub is_collection_of : ℕ → Arrival → Bool
+abbrev pub is_collection_of : ℕ → TaskArrival → Bool
 is_collection_of task a = a.collects && (a.task == task)
 
 -- the collections of a task among what came
-abbrev pub collections_in : ℕ → List Arrival → ℕ
+abbrev pub collections_in : ℕ → List TaskArrival → ℕ
 collections_in task came = count_by (is_collection_of task) came
 
 -- a collection came, and is due, before the next one can come
-abbrev pub IsBefore : ℕ → ℕ → ℕ → Arrival → Type 0
+abbrev pub IsBefore : ℕ → ℕ → ℕ → TaskArrival → Type 0
 IsBefore task period next a = is_collection_of task a ≡ true → (a.at + period ≤ next) × (a.due ≤ next)
 
 -- By slot `now` the collections of the task came at the multiples of its period, one at each: all that there are up to
 -- `now`, but for one at `now` itself, and those that would be due beyond the last slot.
-pub record ArePaced (period task : ℕ) (came : List Arrival) (now : ℕ) : Type 0 where
+pub record ArePaced (period task : ℕ) (came : List TaskArrival) (now : ℕ) : Type 0 where
   pub few : period * collections_in task came ≤ now + period
   pub many : (now ≤ period * collections_in task came) ⊎ (MAX_SLOT < period * collections_in task came + period)
   pub each : AllByRecursion (IsBefore task period (period * collections_in task came)) came
@@ -58,7 +58,7 @@ paced_start period task = record {
 }
 
 -- no collection of the task comes
-pub paced_other : (period task : ℕ) (came : List Arrival) (now : ℕ) (a : Arrival) → is_collection_of task a ≡ false
+pub paced_other : (period task : ℕ) (came : List TaskArrival) (now : ℕ) (a : TaskArrival) → is_collection_of task a ≡ false
     → ArePaced period task came now → ArePaced period task (came ++ a ∷ []) now
 paced_other period task came now a other h =
     let same : collections_in task (came ++ a ∷ []) ≡ collections_in task came = omega
@@ -85,11 +85,11 @@ next_multiple period count now m some is few many =
       | inr all ↦ inl (omega (arith, all, least))
     ]
 
-at_slot : (task slot : ℕ) (a : Arrival) → is_collection_of task a ≡ true → a.at ≡ slot → is_collection_at task slot a ≡ true
+at_slot : (task slot : ℕ) (a : TaskArrival) → is_collection_of task a ≡ true → a.at ≡ slot → is_collection_at task slot a ≡ true
 at_slot task slot a is e = grind (arith, nat_tests)
 
 -- a collection of the task comes, and none has come in this slot
-pub paced_collection : (period task : ℕ) (came : List Arrival) (now : ℕ) (a : Arrival) → 0 < period → is_collection_of task a ≡ true → a.at
+pub paced_collection : (period task : ℕ) (came : List TaskArrival) (now : ℕ) (a : TaskArrival) → 0 < period → is_collection_of task a ≡ true → a.at
     ≡ now → a.due ≡ now + period → now % period ≡ 0 → now + period ≤ MAX_SLOT
     → count_by (is_collection_at task now) came ≡ 0 → ArePaced period task came now → (now ≡ period * collections_in task came)
     × ArePaced period task (came ++ a ∷ []) now
@@ -140,7 +140,7 @@ some_of {X = X} p P (x ∷ xs) h all = by_test (p x) refl (λ le. some_of p P xs
     by_test false e further = further (omega (arith, h, sum_by-cons (λ y. one_if (p y)) x xs, ap one_if e))
 
 -- a slot passes, in which the task's collection has come if one must
-pub paced_slot : (period task : ℕ) (came : List Arrival) (now : ℕ) → 0 < period
+pub paced_slot : (period task : ℕ) (came : List TaskArrival) (now : ℕ) → 0 < period
     → (now % period ≡ 0 → now + period ≤ MAX_SLOT → 1 ≤ count_by (is_collection_at task now) came)
     → ArePaced period task came now → ArePaced period task came (now + 1)
 paced_slot period task came now some comes h = record {

@@ -9,7 +9,7 @@ use Rattle.std.proofs.Math.Nat.{mul-le-mul_right}
 use Rattle.std.proofs.lemmas.Nat.{div-add-mod', mod_below}
 use Rattle.slot_types.specs.declared.plans.DiePlan.{DiePlan}
 use Rattle.plan_rules.specs.Bound.{MeetsBound, fmax_of}
-use Rattle.plan_rules.specs.Accounts.{Accounts, total_of, AreSound}
+use Rattle.plan_rules.specs.Accounts.{Accounts, total_of, AreSoundAccounts}
 
 -- two lists that come to no more than a third one at each place
 pub sums_le : (xs ys zs : List ℕ) → length xs ≡ length zs → length ys ≡ length zs
@@ -38,7 +38,7 @@ sum_le (x ∷ xs) m below =
     omega (arith, sum_by-cons (λ (n : ℕ). n) x xs, below 0, sum_le xs m (λ i. below (suc i)), one-more (length xs) m)
 
 -- while few pages are spare, few are free
-pub few_free : (accounts : Accounts) → AreSound accounts → accounts.spare < accounts.plan.alpha → total_of accounts ≤ fmax_of accounts.plan
+pub few_free : (accounts : Accounts) → AreSoundAccounts accounts → accounts.spare < accounts.plan.alpha → total_of accounts ≤ fmax_of accounts.plan
 few_free accounts sound short =
     omega (
       arith,
@@ -71,7 +71,7 @@ get_or-replicate_le n m i =
 pub opening_sound : (plan : DiePlan) (spare : ℕ) (balances holds reserves : List ℕ) → MeetsBound plan → spare
     ≡ plan.shape.blocks * plan.shape.pages - sum plan.caps - length plan.caps * (plan.shape.pages - plan.alpha) → balances ≡ plan.caps
     → holds ≡ replicate (length plan.caps) 0 → reserves ≡ replicate (length plan.caps) (plan.shape.pages - plan.alpha)
-    → AreSound (record { plan = plan; spare = spare; balances = balances; holds = holds; reserves = reserves })
+    → AreSoundAccounts (record { plan = plan; spare = spare; balances = balances; holds = holds; reserves = reserves })
 opening_sound plan spare balances holds reserves bound rest all none lent = record {
   bound = bound;
   balances_len = ap length all;

@@ -16,7 +16,7 @@ use Rattle.slot_types.specs.declared.events.Event.TheVariants as events
 use Rattle.slot_types.specs.declared.plans.Times.{Times}
 use Rattle.plan_rules.specs.Times.{times_of, HasTimes}
 use Rattle.slot_types.specs.Operations.{page_of, is_write}
-use Rattle.plan_rules.specs.Keeping.{Arrival, arrivals, slots, is_slot, IsPlannedJob, IsPlannedCollection, IsPlanned, AreApart}
+use Rattle.plan_rules.specs.Keeping.{TaskArrival, arrivals, slots, is_slot, IsPlannedJob, IsPlannedCollection, IsPlanned, AreApart}
 use Rattle.plan_rules.specs.Keeping.{is_collection_at, KeepsPlan}
 use Rattle.plan_rules.specs.Walks.{planned_job, planned_collection, planned_from, apart_from, is_due_at, collected_from, IsTaskKept}
 use Rattle.plan_rules.proofs.Arriving.{is_job_of, come_from}
@@ -36,10 +36,10 @@ all_as P Q f [] h = tt
 all_as P Q f (x ∷ xs) h = (f x h.0, all_as P Q f xs h.1)
 
 -- the job or the collection that comes
-abbrev job : ℕ → ℕ → ℕ → ℕ → List Op → Arrival
+abbrev job : ℕ → ℕ → ℕ → ℕ → List Op → TaskArrival
 job now task release due ops = record { at = now; collects = false; task = task; release = release; due = due; ops = ops }
 
-abbrev collection : ℕ → ℕ → ℕ → ℕ → Arrival
+abbrev collection : ℕ → ℕ → ℕ → ℕ → TaskArrival
 collection now task release due = record { at = now; collects = true; task = task; release = release; due = due; ops = [] }
 
 module _ (plan : DiePlan) (times : Times) where
@@ -160,7 +160,7 @@ module _ (plan : DiePlan) (times : Times) where
 -- Jobs apart
 
 module _ (task period : ℕ) where
-  later_by : (from more : ℕ) → from ≤ more → (all : List Arrival) → AllByRecursion (λ b. is_job_of task b ≡ true → more ≤ b.release) all
+  later_by : (from more : ℕ) → from ≤ more → (all : List TaskArrival) → AllByRecursion (λ b. is_job_of task b ≡ true → more ≤ b.release) all
       → AllByRecursion (λ b. is_job_of task b ≡ true → from ≤ b.release) all
   later_by from more le all h = all_as (λ b. is_job_of task b ≡ true → more ≤ b.release) (λ b. is_job_of task b ≡ true → from ≤ b.release)
       (λ b k is. omega (arith, k is, le)) all h
@@ -208,7 +208,7 @@ module _ (plan : DiePlan) (times : Times) (end : ℕ) where
   found_behind : (now : ℕ) (event : Event) (rest : List Event) → AreFoundApart (event ∷ rest) → AreFoundApart rest
   found_behind now event rest h task lt = let k = h task lt in apart_rest task (times_of times task).period k.0 event rest k.1
 
-  pairs_of : (now task release due : ℕ) (ops : List Op) (rest : List Arrival)
+  pairs_of : (now task release due : ℕ) (ops : List Op) (rest : List TaskArrival)
       → AllByRecursion (λ b. is_job_of task b ≡ true → release + (times_of times task).period ≤ b.release) rest
       → AllByRecursion (AreApart times (job now task release due ops)) rest
   pairs_of now task release due ops rest h =
@@ -264,7 +264,7 @@ module _ (times : Times) (task : ℕ) where
       apart_if from now rest (first_pairs (AreApart times) (collection now other release due) (arrivals now rest) pairs).1 h.1
   apart_if from now (events.Slot ∷ rest) pairs h = apart_if from (now + 1) rest pairs h
 
-pub from_zero : (task : ℕ) (all : List Arrival) → AllByRecursion (λ b. is_job_of task b ≡ true → 0 ≤ b.release) all
+pub from_zero : (task : ℕ) (all : List TaskArrival) → AllByRecursion (λ b. is_job_of task b ≡ true → 0 ≤ b.release) all
 from_zero task [] = tt
 from_zero task (b ∷ rest) = ((λ is. omega arith), from_zero task rest)
 
@@ -296,10 +296,10 @@ due_if period now a b = and_from (now % period == 0) (nat_le (now + period) MAX_
     (le-leb (now + period) MAX_SLOT b)
 
 module _ (task period : ℕ) where
-  abbrev count_at : ℕ → List Arrival → ℕ
+  abbrev count_at : ℕ → List TaskArrival → ℕ
   count_at slot all = count_by (is_collection_at task slot) all
 
-  count_more : (slot : ℕ) (a : Arrival) (rest : List Arrival) → count_at slot (a ∷ rest)
+  count_more : (slot : ℕ) (a : TaskArrival) (rest : List TaskArrival) → count_at slot (a ∷ rest)
       ≡ one_if (is_collection_at task slot a) + count_at slot rest
   count_more slot a rest = sum_by-cons (λ b. cond (is_collection_at task slot b) 1 0) a rest
 
@@ -309,7 +309,7 @@ module _ (task period : ℕ) where
       → count_at slot (arrivals now all) + one_if (seen && (slot == now)) ≡ 1
 
   -- a collection of another task, or a job, is not counted
-  passed_over : (now : ℕ) (seen : Bool) (a : Arrival) (event : Event) (rest : List Event) → arrivals now (event ∷ rest) ≡ a
+  passed_over : (now : ℕ) (seen : Bool) (a : TaskArrival) (event : Event) (rest : List Event) → arrivals now (event ∷ rest) ≡ a
       ∷ arrivals now rest → is_slot event ≡ false → (a.collects && (a.task == task)) ≡ false
       → IsOnce now seen rest → IsOnce now seen (event ∷ rest)
   passed_over now seen a event rest come arrives another h slot from below due =
@@ -333,8 +333,8 @@ module _ (task period : ℕ) where
         h slot from (omega (arith, below, slots_more (events.Collect other release due) rest)) is,
       )
 
-  -- none comes behind a slot
-  none_later : (slot : ℕ) (all : List Arrival) → AllByRecursion (λ b. slot + 1 ≤ b.at) all → count_at slot all ≡ 0
+  -- none comes after a slot
+  none_later : (slot : ℕ) (all : List TaskArrival) → AllByRecursion (λ b. slot + 1 ≤ b.at) all → count_at slot all ≡ 0
   none_later slot [] h = refl
   none_later slot (b ∷ rest) h =
       omega (
@@ -393,7 +393,7 @@ module _ (task period : ℕ) where
 
   -- the other way round
 
-  passed_back : (now : ℕ) (seen : Bool) (a : Arrival) (event : Event) (rest : List Event) → arrivals now (event ∷ rest) ≡ a
+  passed_back : (now : ℕ) (seen : Bool) (a : TaskArrival) (event : Event) (rest : List Event) → arrivals now (event ∷ rest) ≡ a
       ∷ arrivals now rest → is_slot event ≡ false → (a.collects && (a.task == task)) ≡ false
       → IsOnce now seen (event ∷ rest) → IsOnce now seen rest
   passed_back now seen a event rest come arrives another h slot from below due =

@@ -1,4 +1,4 @@
--- How many periods, one behind the other, lie in a window.
+-- How many periods, one after the other, lie in a window.
 use Rattle.std.proofs.Common.{◌≡◌, ℕ, ◌+◌, ◌-◌, ◌*◌, ◌≤◌, ◌&&◌, nat_le, Bool, true, false, cond, List, [], ◌∷◌, ◌++◌, count_by, refl, sym}
 use Rattle.std.proofs.Common.{ap, inl, inr, arith}
 use Rattle.std.specs.List.{AllByRecursion}
@@ -30,7 +30,7 @@ count_more p q (x ∷ xs) h =
     )
 
 module _ {X : Type 0} (release due : X → ℕ) (chosen : X → Bool) (period : ℕ) where
-  -- each chosen one has a period, and those behind it are released after that
+  -- each chosen one has a period, and those after it are released after that
   abbrev pub AreApart : List X → Type 0
   AreApart [] = Unit {0}
   AreApart (x ∷ xs) =

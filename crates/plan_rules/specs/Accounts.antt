@@ -36,8 +36,8 @@ abbrev pub given_of : Accounts → ℕ → ℕ
 given_of accounts task = min accounts.plan.alpha (slice_index accounts.plan.caps task - owned_of accounts task)
 
 -- the accounts of a die on which nothing was written: each balance is its cap, each reserve whole, and the rest spare
-abbrev pub opening : DiePlan → Accounts
-opening plan = record {
+abbrev pub opening_accounts : DiePlan → Accounts
+opening_accounts plan = record {
   plan = plan;
   spare = plan.shape.blocks * plan.shape.pages - sum plan.caps - length plan.caps * (plan.shape.pages - plan.alpha);
   balances = plan.caps;
@@ -46,42 +46,42 @@ opening plan = record {
 }
 
 -- after a job of the task with so many writes is accepted
-abbrev pub admitted : Accounts → ℕ → ℕ → Accounts
-admitted accounts task writes = record accounts {
+abbrev pub accounts_after_admit : Accounts → ℕ → ℕ → Accounts
+accounts_after_admit accounts task writes = record accounts {
   balances = slice_set accounts.balances task (slice_index accounts.balances task - writes);
   holds = slice_set accounts.holds task (slice_index accounts.holds task + writes);
 }
 
 -- after the program of a write
-abbrev pub hold_spent : Accounts → ℕ → Accounts
-hold_spent accounts task = record accounts {
+abbrev pub accounts_after_write : Accounts → ℕ → Accounts
+accounts_after_write accounts task = record accounts {
   holds = slice_set accounts.holds task (slice_index accounts.holds task - 1);
 }
 
 -- after the program of a copy
-abbrev pub reserve_spent : Accounts → ℕ → Accounts
-reserve_spent accounts task = record accounts {
+abbrev pub accounts_after_copy : Accounts → ℕ → Accounts
+accounts_after_copy accounts task = record accounts {
   reserves = slice_set accounts.reserves task (slice_index accounts.reserves task - 1);
 }
 
 -- after the last erase slot of the task's collection, which copied so many pages
-abbrev pub settled : Accounts → ℕ → ℕ → Accounts
-settled accounts task copied = record accounts {
+abbrev pub accounts_after_collection : Accounts → ℕ → ℕ → Accounts
+accounts_after_collection accounts task copied = record accounts {
   spare = accounts.spare + (accounts.plan.shape.pages - copied - given_of accounts task);
   balances = slice_set accounts.balances task (slice_index accounts.balances task + given_of accounts task);
   reserves = slice_set accounts.reserves task (slice_index accounts.reserves task + copied);
 }
 
 -- after the task's collection was waived
-abbrev pub waived : Accounts → ℕ → Accounts
-waived accounts task = record accounts {
+abbrev pub accounts_after_waiver : Accounts → ℕ → Accounts
+accounts_after_waiver accounts task = record accounts {
   spare = accounts.spare - given_of accounts task;
   balances = slice_set accounts.balances task (slice_index accounts.balances task + given_of accounts task);
 }
 
 -- what is true of the accounts at every moment: no task owns more than its cap, no reserve is more than whole, and
 -- there are no more pages than the die has
-pub record AreSound (accounts : Accounts) : Type 0 where
+pub record AreSoundAccounts (accounts : Accounts) : Type 0 where
   pub bound : MeetsBound accounts.plan
   pub balances_len : length accounts.balances ≡ length accounts.plan.caps
   pub holds_len : length accounts.holds ≡ length accounts.plan.caps

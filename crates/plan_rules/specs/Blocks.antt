@@ -1,3 +1,4 @@
+-- What the blocks of a die hold when a collection begins, for the law that it finds a victim.
 use Rattle.std.specs.Prelude.{◌≡◌, ◌==◌, ℕ, ◌-◌, ◌<◌, ◌≤◌, ◌⊎◌, Bool, false, ◌&&◌, nat_lt, List, length, map, sum_by, count_by, Option}
 use Rattle.std.specs.Prelude.{Some, None, Contains}
 use Rattle.std.specs.List.{list_any, range_with_len}

@@ -1,3 +1,4 @@
+-- The bound that a plan has to meet, and its three figures.
 use Rattle.std.specs.Prelude.{ℕ, ◌+◌, ◌-◌, ◌*◌, ◌/◌, ◌<◌, ◌≤◌, length, sum, All}
 use Rattle.slot_types.specs.declared.plans.DiePlan.{DiePlan}
 pub use Rattle.slot_types.specs.Shapes.{IsShape}

@@ -39,7 +39,7 @@ pub record HasTimes (plan : DiePlan) (times : Times) : Type 0 where
   pub few_common : times.common ≤ MAX_SLOT
   pub each : All IsTaskTimes times.tasks
 
--- both periods of a task divide the common one; its collections give it at least what its jobs write; and its cap
+-- both periods of a task divide the hyperperiod; its collections give it at least what its jobs write; and its cap
 -- covers two jobs and two collections
 pub record IsSustained (plan : DiePlan) (common cap : ℕ) (t : TaskTimes) : Type 0 where
   pub period_divides : common % t.period ≡ 0

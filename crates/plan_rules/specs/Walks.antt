@@ -44,7 +44,7 @@ planned_from plan times end now (events.Collect task release due ∷ rest) =
     planned_collection plan times end now task release due && planned_from plan times end now rest
 planned_from plan times end now (events.Slot ∷ rest) = planned_from plan times end (now + 1) rest
 
--- no job of the task is released before `from`, nor less than a period behind the one before it
+-- no job of the task is released before `from`, nor less than a period after the one before it
 abbrev pub apart_from : ℕ → ℕ → ℕ → List Event → Bool
 apart_from task period from [] = true
 apart_from task period from (events.Submit other release due ops ∷ rest) =

@@ -207,13 +207,12 @@ fn is_each_task_kept(times: &Times, tasks: usize, events: &[Event]) -> bool
 
 /// Whether events keep to a plan. It takes any plan and events, and no memory.
 ///
-/// It is false where the plan has no times, or these and its tasks don't fit together. The events keep to the plan where
-/// each job comes at its release and has a period until its due, at most 1,048,576, with 1 to `work`
-/// operations, all on pages of the die, and at most `writes` writes; where two jobs of a task are
-/// released a period apart or more; where a collection of each task comes at each multiple of its
-/// collect period that is below the number of slots, before that slot, with a collect period until
-/// its due, unless that is above 1,048,576, and no other collections come; and where there are at
-/// most 65,536 jobs and collections, and at most 1,048,576 slots.
+/// It is false where the plan has no times, or these and its tasks don't fit together. The events keep to the plan
+/// where each job comes at its release and has a period until its deadline, at most 1,048,576, with 1 to `work`
+/// operations, all on pages of the die, and at most `writes` writes; where two jobs of a task are released a period
+/// apart or more; where a collection of each task comes at each multiple of its collect period that is below the number
+/// of slots, before that slot, with a collect period until its deadline, unless that is above 1,048,576, and no other
+/// collections come; and where there are at most 65,536 jobs and collections, and at most 1,048,576 slots.
 pub fn keeps_plan(plan: &DiePlan, events: &Items<Event>) -> bool
     ensures { IsTrue result ↔ IsSomeAnd plan.now.times (λ times. KeepsPlan plan.now times events.now) }
 {

@@ -4,7 +4,7 @@ ghost use Rattle.std.specs.Prelude.{◌≡◌, ◌+◌, ◌-◌, ◌*◌, ◌<�
 ghost use Rattle.slot_types.specs.declared.plans.DiePlan.{DiePlan};
 ghost use Rattle.slot_types.specs.declared.pages.Place.{Place};
 ghost use Rattle.plan_rules.specs.Bound.{MeetsBound, fmax_of};
-ghost use Rattle.plan_rules.specs.Accounts.{Accounts, AreSound, total_of, opening, admitted, hold_spent, reserve_spent, settled, waived};
+ghost use Rattle.plan_rules.specs.Accounts.{Accounts, AreSoundAccounts, total_of, opening_accounts, accounts_after_admit, accounts_after_write, accounts_after_copy, accounts_after_collection, accounts_after_waiver};
 ghost use Rattle.plan_rules.specs.Blocks.{BlockUse, MayBegin, IsVictim, BeginsShort, IsChoice};
 
 /// Where a plan meets its bound, a collection that begins while few pages are free finds a closed
@@ -27,24 +27,24 @@ pub fn finds_choice()
 /// Sound accounts have few pages while fewer than `alpha` are spare, which is what such a collection
 /// needs. Accounts are sound at the start, and each move that may be made keeps them so.
 pub fn stays_sound()
-    ensures few { (accounts : Accounts) → AreSound accounts →
+    ensures few { (accounts : Accounts) → AreSoundAccounts accounts →
         accounts.spare < accounts.plan.alpha → total_of accounts ≤ fmax_of accounts.plan }
-    ensures opening { (plan : DiePlan) → MeetsBound plan → AreSound (opening plan) }
-    ensures admitted { (accounts : Accounts) (task writes : ℕ) → AreSound accounts →
+    ensures opening { (plan : DiePlan) → MeetsBound plan → AreSoundAccounts (opening_accounts plan) }
+    ensures admitted { (accounts : Accounts) (task writes : ℕ) → AreSoundAccounts accounts →
         task < length accounts.plan.caps → writes ≤ slice_index accounts.balances task →
-        AreSound (admitted accounts task writes) }
-    ensures hold_spent { (accounts : Accounts) (task : ℕ) → AreSound accounts →
-        task < length accounts.plan.caps → AreSound (hold_spent accounts task) }
-    ensures reserve_spent { (accounts : Accounts) (task : ℕ) → AreSound accounts →
-        task < length accounts.plan.caps → AreSound (reserve_spent accounts task) }
-    ensures settled { (accounts : Accounts) (task copied : ℕ) → AreSound accounts →
+        AreSoundAccounts (accounts_after_admit accounts task writes) }
+    ensures hold_spent { (accounts : Accounts) (task : ℕ) → AreSoundAccounts accounts →
+        task < length accounts.plan.caps → AreSoundAccounts (accounts_after_write accounts task) }
+    ensures reserve_spent { (accounts : Accounts) (task : ℕ) → AreSoundAccounts accounts →
+        task < length accounts.plan.caps → AreSoundAccounts (accounts_after_copy accounts task) }
+    ensures settled { (accounts : Accounts) (task copied : ℕ) → AreSoundAccounts accounts →
         task < length accounts.plan.caps →
         slice_index accounts.reserves task + copied
         ≡ accounts.plan.shape.pages - accounts.plan.alpha →
         total_of accounts + accounts.plan.shape.pages
         ≤ accounts.plan.shape.blocks * accounts.plan.shape.pages →
-        AreSound (settled accounts task copied) }
-    ensures waived { (accounts : Accounts) (task : ℕ) → AreSound accounts →
+        AreSoundAccounts (accounts_after_collection accounts task copied) }
+    ensures waived { (accounts : Accounts) (task : ℕ) → AreSoundAccounts accounts →
         task < length accounts.plan.caps → accounts.plan.alpha ≤ accounts.spare →
-        AreSound (waived accounts task) }
+        AreSoundAccounts (accounts_after_waiver accounts task) }
 {}

@@ -8,15 +8,15 @@ ghost use Rattle.plan_rules.specs.Times.{IsTaskTimes, HasTimes, IsSustained, Pas
 use crate::counts::Load;
 use slot_types::{DiePlan, MAX_OPS, MAX_SLOT, Refusal, TaskTimes, Times};
 
-/// Whether a die can do all that its tasks may ask for, and the load that this is. It takes no memory.
+/// Whether a die can do all that its tasks may ask for, and their demand. It takes no memory.
 ///
-/// `BadPlan` where the plan has no times, where not each task has its times, or a number of these is out of its limits: the common
-/// number and the periods are 1 to 1,048,576, a job has 1 to 64 operations, and no more writes than
-/// these. Else `BadPlan` where the common number isn't a multiple of each period, where the load is
-/// above it, where a task's collections give it less than its jobs write, or where its cap is below
-/// what two jobs write and two collections give.
+/// `BadPlan` where the plan has no times, where not each task has its times, or a number of these is out of its limits:
+/// the hyperperiod and the periods are 1 to 1,048,576, a job has 1 to 64 operations, and no more writes than these.
+/// Else `BadPlan` where the hyperperiod isn't a multiple of each period, where the demand is above it, where a task's
+/// collections give it less than its jobs write, or where its cap is below what two jobs write and two collections
+/// give.
 ///
-/// The plan meets its bound, as [`bound`](crate::bound) tells.
+/// The plan meets its bound, as [`bound`](crate::bound) says.
 pub fn plan_test(plan: &DiePlan) -> Result<Load, Refusal>
     requires { MeetsBound plan.now }
     ensures passes { IsOk result ↔ IsSomeAnd plan.now.times (Passes plan.now) }

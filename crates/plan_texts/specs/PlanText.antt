@@ -14,7 +14,7 @@ use Rattle.plan_texts.specs.declared.numbers.PlanNumbers.{PlanNumbers}
 use Rattle.plan_texts.specs.declared.numbers.TaskNumbers.{TaskNumbers}
 use Rattle.plan_texts.specs.declared.numbers.TopNumbers.{TopNumbers}
 
--- for how many slots the load is counted, in a plan with times
+-- the hyperperiod, in a plan with times
 abbrev pub common_of : Bool → Members → Result (Option ℕ) Refusal
 common_of timed ms = if timed then (number_at ms (codes "common") >>= (λ common. Ok (Some common))) else Ok None
 
@@ -51,8 +51,8 @@ times_in ms = do
   Ok (record { period = period; collect_period = collect_period; work = work; writes = writes })
 
 -- the times of a task, in a plan with times
-abbrev pub task_times_of : Bool → Members → Result (Option TaskTimes) Refusal
-task_times_of timed ms = if timed then (times_in ms >>= (λ times. Ok (Some times))) else Ok None
+abbrev pub task_times_read : Bool → Members → Result (Option TaskTimes) Refusal
+task_times_read timed ms = if timed then (times_in ms >>= (λ times. Ok (Some times))) else Ok None
 
 -- the numbers of a task, of a plan with times or without
 unfoldable pub task_of : Bool → Members → Result TaskNumbers Refusal
@@ -60,7 +60,7 @@ task_of timed ms = do
   keys ← checked_keys (has_only (is_task_key timed) ms) (has_task_keys timed ms)
   die ← number_at ms (codes "die")
   cap ← number_at ms (codes "cap")
-  times ← task_times_of timed ms
+  times ← task_times_read timed ms
   Ok (record { die = die; cap = cap; times = times })
 
 abbrev pub task_in : Bool → Option Members → Result TaskNumbers Refusal
@@ -90,15 +90,15 @@ abbrev pub is_known : ℕ → Bool
 is_known version = (version == 1) || (version == 2)
 
 -- the numbers of these, where the version is known
-abbrev pub versioned : Bool → TopNumbers → Result (List TaskNumbers) Refusal → Result PlanNumbers Refusal
-versioned known top read = if known then (read >>= (λ tasks. Ok (record { top = top; tasks = tasks }))) else fault cause.BadVersion
+abbrev pub numbers_of_version : Bool → TopNumbers → Result (List TaskNumbers) Refusal → Result PlanNumbers Refusal
+numbers_of_version known top read = if known then (read >>= (λ tasks. Ok (record { top = top; tasks = tasks }))) else fault cause.BadVersion
 
 -- the numbers of a plan's table: the top table is judged first, then the version, then each task
 unfoldable pub numbers_of : Members → Result PlanNumbers Refusal
 numbers_of ms = do
   top ← top_of (has_times ms) ms
   tables ← tables_or (option_and_then as_array (get_member (codes "task") ms))
-  versioned (is_known top.version) top (tasks_of (has_times ms) tables)
+  numbers_of_version (is_known top.version) top (tasks_of (has_times ms) tables)
 
 -- the table of a text
 abbrev pub table_of : List ℕ → Result Members Refusal

@@ -23,12 +23,12 @@ abbrev pub caps_of : List TaskNumbers → ℕ → List ℕ
 caps_of tasks die = map (λ (task : TaskNumbers). task.cap) (filter (λ (task : TaskNumbers). task.die == die) tasks)
 
 -- their times, if the plan has any, in the same order
-abbrev pub task_times_of : List TaskNumbers → ℕ → List TaskTimes
-task_times_of tasks die = filter_map (λ (task : TaskNumbers). task.times) (filter (λ (task : TaskNumbers). task.die == die) tasks)
+abbrev pub times_of_tasks : List TaskNumbers → ℕ → List TaskTimes
+times_of_tasks tasks die = filter_map (λ (task : TaskNumbers). task.times) (filter (λ (task : TaskNumbers). task.die == die) tasks)
 
 -- the times of a die, in a plan with times
 abbrev pub times_of : PlanNumbers → ℕ → Option Times
-times_of plan die = option_map (λ common. record { common = common; tasks = task_times_of plan.tasks die }) plan.top.common
+times_of plan die = option_map (λ common. record { common = common; tasks = times_of_tasks plan.tasks die }) plan.top.common
 
 -- the plan of a die
 abbrev pub die_of : PlanNumbers → ℕ → DiePlan
@@ -56,7 +56,7 @@ pub record IsUsable (die : DiePlan) : Type 0 where
   pub passes : PassesItsTimes die
 
 -- each task names a die that is there, and each die is usable
-pub record IsServed (plan : PlanNumbers) : Type 0 where
+pub record HasUsableDies (plan : PlanNumbers) : Type 0 where
   pub named : All (λ (task : TaskNumbers). task.die < plan.top.dies) plan.tasks
   pub usable : (die : ℕ) → die < plan.top.dies → IsUsable (die_of plan die)
 
@@ -64,11 +64,11 @@ pub record IsServed (plan : PlanNumbers) : Type 0 where
 pub record IsStore (plan : PlanNumbers) (store : List DiePlan) : Type 0 where
   pub dies : store ≡ dies_of plan
   pub shaped : IsShaped plan.top
-  pub served : IsServed plan
+  pub served : HasUsableDies plan
 
 -- why the numbers of a text make no store: the shape first, and then the rest
 abbrev pub RefusesStore : PlanNumbers → Refusal → Type 0
-RefusesStore plan refusal = ((refusal ≡ BadShape) × ¬ IsShaped plan.top) ⊎ ((refusal ≡ BadPlan) × (IsShaped plan.top × ¬ IsServed plan))
+RefusesStore plan refusal = ((refusal ≡ BadShape) × ¬ IsShaped plan.top) ⊎ ((refusal ≡ BadPlan) × (IsShaped plan.top × ¬ HasUsableDies plan))
 
 -- why a text makes no store: its own fault, or what its numbers lack
 abbrev pub RefusesPlan : Result PlanNumbers Refusal → Refusal → Type 0

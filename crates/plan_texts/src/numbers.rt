@@ -4,8 +4,8 @@ ghost use Rattle.std.specs.Prelude.{◌≡◌, is_some, codes, option_and_then, 
 ghost use Rattle.std.specs.List.{list_all};
 ghost use Rattle.toml.specs.Data.{as_array, as_table, get_member};
 ghost use Rattle.toml.specs.View.{table_view, items_view, view};
-ghost use Rattle.text_base.specs.Readings.{Gives, Shows};
-ghost use Rattle.plan_texts.specs.PlanText.{are_tables, common_of, numbers_of, plan_of, table_of, tables_or, task_of, task_times_of};
+ghost use Rattle.text_base.specs.Readings.{GivesReading, Shows};
+ghost use Rattle.plan_texts.specs.PlanText.{are_tables, common_of, numbers_of, plan_of, table_of, tables_or, task_of, task_times_read};
 ghost use Rattle.plan_texts.specs.PlanText.{tasks_of, times_in, top_of};
 
 use crate::tables::{check_task_keys, check_top_keys, find, has_times, number_in};
@@ -26,7 +26,7 @@ pub struct TopNumbers {
     pub erase_slots: u32,
     pub logical: u32,
     pub alpha: u32,
-    /// For how many slots the load is counted; none where the plan has no times.
+    /// The hyperperiod; none where the plan has no times.
     pub common: Option<u32>,
 }
 
@@ -49,7 +49,7 @@ pub struct PlanNumbers {
     pub tasks: TaskList,
 }
 
-/// For how many slots the load is counted, in a plan with times.
+/// The hyperperiod, in a plan with times.
 fn common(table: &Table, timed: bool) -> Result<Option<u32>, Refusal>
     ensures { result ≡ common_of timed (table_view table.now) }
 {
@@ -105,7 +105,7 @@ fn times(table: &Table) -> Result<TaskTimes, Refusal>
 
 /// The times of a task, in a plan with times.
 fn task_times(table: &Table, timed: bool) -> Result<Option<TaskTimes>, Refusal>
-    ensures { result ≡ task_times_of timed (table_view table.now) }
+    ensures { result ≡ task_times_read timed (table_view table.now) }
 {
     if !timed {
         return Ok(None);
@@ -128,7 +128,7 @@ fn task(table: &Table, timed: bool) -> Result<TaskNumbers, Refusal>
 
 /// The numbers of the tasks, in their order.
 fn tasks(alloc: Global, tables: &[Value], timed: bool) -> Result<TaskList, Refusal>
-    ensures { Gives result (tasks_of timed (items_view tables.now)) }
+    ensures { GivesReading result (tasks_of timed (items_view tables.now)) }
 {
     let mut tasks = TaskList::new(alloc);
     for i in 0..tables.len() {
@@ -186,7 +186,7 @@ fn task_tables(table: &Table) -> Result<&[Value], Refusal>
 /// The numbers of a plan's table.
 #[tactic(auto, unfolding(crate::specs::PlanText::numbers_of))]
 fn numbers(alloc: Global, table: &Table) -> Result<PlanNumbers, Refusal>
-    ensures { Gives result (numbers_of (table_view table.now)) }
+    ensures { GivesReading result (numbers_of (table_view table.now)) }
 {
     let timed = has_times(table);
     let top = top(table, timed)?;
@@ -223,10 +223,10 @@ fn table(alloc: Global, text: &[u8]) -> Result<Table, Refusal>
     }
 }
 
-/// The numbers of a plan's text, which aren't judged beside others: a text that is read may still make no store. Refused as
-/// PlanText with the first fault of the text, as [`read_plan`](crate::read_plan) tells, or as NoMemory.
+/// The numbers of a plan's text, which aren't judged beside others: a text that is read may still make no store.
+/// Refused as PlanText with the first fault of the text, as [`read_plan`](crate::read_plan) says, or as NoMemory.
 pub fn plan_numbers(alloc: Global, text: &[u8]) -> Result<PlanNumbers, Refusal>
-    ensures { Gives result (plan_of text.now) }
+    ensures { GivesReading result (plan_of text.now) }
 {
     let table = table(alloc, text)?;
     numbers(alloc, &table)

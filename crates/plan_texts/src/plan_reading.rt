@@ -18,7 +18,7 @@ const MAX_BYTES: usize = 1_048_577;
 /// The most calls that a plan is read with, those among them that are interrupted.
 const MAX_CALLS: usize = 1_048_577;
 
-/// Puts what one call gives behind a text, and answers how many bytes these are: none at the end. An interrupted call is
+/// Puts what one call gives after a text, and answers how many bytes these are: none at the end. An interrupted call is
 /// made again, while calls are left.
 fn read_more<R: Read>(
     reader: &mut R,
@@ -40,8 +40,9 @@ fn read_more<R: Read>(
 }
 
 /// Reads the text of a plan: all of it, or the first 1,048,577 bytes, of which [`plan_numbers`](crate::plan_numbers)
-/// tells that they are too many. The reader is called 1,048,577 times at most, again where it is interrupted, and no more
-/// where it fails: an error of its own is ReadFault, of whatever other kind it is. NoMemory comes where memory is refused.
+/// tells that they are too many. The reader is called 1,048,577 times at most, again where it is interrupted, and no
+/// more where it fails: an error of its own is ReadFault, of whatever other kind it is. NoMemory comes where memory is
+/// refused.
 pub fn plan_text<R: Read + Drop>(alloc: Global, reader: R) -> Result<Vec<u8>, Refusal>
     ensures text { IfOk result (λ text. IfSome (R.remaining reader) (λ bytes. text.items ≡ take 1048577 bytes)) }
     ensures refused { IfErr result IsOutside }
@@ -59,8 +60,8 @@ pub fn plan_text<R: Read + Drop>(alloc: Global, reader: R) -> Result<Vec<u8>, Re
 }
 
 /// Reads the plan of a store from a reader, as [`read_plan`] does from a text; one that goes on beyond 1,048,576 bytes
-/// is told as too long, and no more of it is read than one byte more. ReadFault comes where the reader fails, whatever
-/// its error says of itself, before anything is judged.
+/// is reported as too long, and no more of it is read than one byte more. ReadFault comes where the reader fails,
+/// whatever its error says of itself, before anything is judged.
 pub fn read_plan_from<R: Read + Drop>(alloc: Global, reader: R) -> Result<StorePlan, Refusal>
     ensures store { IfOk result (IsStoreOf (R.remaining reader)) }
     ensures short { IfOk result (λ _. IsShort (R.remaining reader)) }

@@ -1,17 +1,18 @@
 //! The plan of a store, from the numbers of its text.
 
 ghost use Rattle.std.specs.Prelude.{◌≡◌, ◌↔◌, ◌<◌, ◌≤◌, ◌⊎◌, ℕ, All, IsTrue, IfOk, IfErr, Ok, length};
+ghost use Rattle.slot_types.specs.Refusal.{FailsForMemory};
 ghost use Rattle.plan_rules.specs.Bound.{MeetsBound};
 ghost use Rattle.plan_rules.specs.Times.{PassesItsTimes};
 ghost use Rattle.plan_texts.specs.PlanText.{plan_of};
-ghost use Rattle.plan_texts.specs.Stores.{IsShaped, IsServed, IsStore, IsUsable, RefusesPlan, RefusesStore, caps_of, die_of, dies_of};
-ghost use Rattle.plan_texts.specs.Stores.{shape_of, task_times_of, times_of};
+ghost use Rattle.plan_texts.specs.Stores.{IsShaped, HasUsableDies, IsStore, IsUsable, RefusesPlan, RefusesStore, caps_of, die_of, dies_of};
+ghost use Rattle.plan_texts.specs.Stores.{shape_of, times_of_tasks, times_of};
 ghost use Rattle.plan_texts.specs.declared.numbers.PlanNumbers.{PlanNumbers};
 
 use crate::numbers::{PlanNumbers, TaskNumbers, TopNumbers, plan_numbers};
 use plan_rules::{bound, plan_test};
 use slot_types::{Caps, DiePlan, MAX_DIES, Refusal, Shape, StorePlan, Times, TimesList};
-use std::alloc::{AllocError, Global};
+use std::alloc::Global;
 
 /// The shape of the dies.
 fn shape(top: &TopNumbers) -> Shape
@@ -39,8 +40,9 @@ fn are_named(tasks: &[TaskNumbers], dies: u32) -> bool
 }
 
 /// The caps of a die's tasks, in the order of the text.
-fn caps(alloc: Global, tasks: &[TaskNumbers], die: u32) -> Result<Caps, AllocError>
-    ensures { IfOk result (λ caps. caps ≡ caps_of tasks.now die) }
+fn caps(alloc: Global, tasks: &[TaskNumbers], die: u32) -> Result<Caps, Refusal>
+    ensures ok { IfOk result (λ caps. caps ≡ caps_of tasks.now die) }
+    ensures refused { FailsForMemory result }
 {
     let mut caps = Caps::new(alloc);
     for task in tasks {
@@ -52,8 +54,9 @@ fn caps(alloc: Global, tasks: &[TaskNumbers], die: u32) -> Result<Caps, AllocErr
 }
 
 /// The times of a die's tasks, in the order of the text.
-fn task_times(alloc: Global, tasks: &[TaskNumbers], die: u32) -> Result<TimesList, AllocError>
-    ensures { IfOk result (λ times. times ≡ task_times_of tasks.now die) }
+fn task_times(alloc: Global, tasks: &[TaskNumbers], die: u32) -> Result<TimesList, Refusal>
+    ensures ok { IfOk result (λ times. times ≡ times_of_tasks tasks.now die) }
+    ensures refused { FailsForMemory result }
 {
     let mut times = TimesList::new(alloc);
     for task in tasks {
@@ -67,8 +70,9 @@ fn task_times(alloc: Global, tasks: &[TaskNumbers], die: u32) -> Result<TimesLis
 }
 
 /// The times of a die, in a plan with times.
-fn times(alloc: Global, plan: &PlanNumbers, die: u32) -> Result<Option<Times>, AllocError>
-    ensures { IfOk result (λ times. times ≡ times_of plan.now die) }
+fn times(alloc: Global, plan: &PlanNumbers, die: u32) -> Result<Option<Times>, Refusal>
+    ensures ok { IfOk result (λ times. times ≡ times_of plan.now die) }
+    ensures refused { FailsForMemory result }
 {
     match plan.top.common {
         Some(common) => {
@@ -80,8 +84,9 @@ fn times(alloc: Global, plan: &PlanNumbers, die: u32) -> Result<Option<Times>, A
 }
 
 /// The plan of a die, by the numbers of a text. It isn't judged.
-pub fn die_plan(alloc: Global, plan: &PlanNumbers, die: u32) -> Result<DiePlan, AllocError>
-    ensures { IfOk result (λ made. made ≡ die_of plan.now die) }
+pub fn die_plan(alloc: Global, plan: &PlanNumbers, die: u32) -> Result<DiePlan, Refusal>
+    ensures ok { IfOk result (λ made. made ≡ die_of plan.now die) }
+    ensures refused { FailsForMemory result }
 {
     let caps = caps(alloc, plan.tasks.as_slice(), die)?;
     let times = times(alloc, plan, die)?;
@@ -136,14 +141,14 @@ fn store_of(alloc: Global, plan: &PlanNumbers) -> Result<StorePlan, Refusal>
 /// Reads the plan of a store, a TOML text of at most 1,048,576 bytes: `version`, which is 1 or 2, `dies`, `blocks`,
 /// `pages`, `erase_slots`, `logical` and `alpha`, whole numbers, and for each task a table `[[task]]` with `die` and
 /// `cap`. The tasks of a die are numbered from 0 in the order of the text. A plan whose version is the whole number 2
-/// has times: it also has `common`, and in each task `period`, `collect_period`, `work` and `writes`.
+/// has times: it also has `common`, the hyperperiod, and in each task `period`, `collect_period`, `work` and `writes`.
 ///
 /// Refusals, in order: PlanText with the first fault of the text, where for the top table, and then for each task, a
 /// key that isn't one of those comes before one that is missing, and that before a value that is no number from 0 to
 /// 4,294,967,295 or no array of tables, and another version comes between the top table and the tasks; BadShape
 /// where dies, blocks, pages or erase slots are out of their limits; BadPlan where a task names a die that isn't
 /// there, or a die doesn't meet the bound on plans, or doesn't pass the test of its times, as
-/// [`plan_test`](plan_rules::plan_test) tells. NoMemory comes where memory is refused.
+/// [`plan_test`](plan_rules::plan_test) says. NoMemory comes where memory is refused.
 pub fn read_plan(alloc: Global, bytes: &[u8]) -> Result<StorePlan, Refusal>
     ensures ok { IfOk result (λ store. (plan : PlanNumbers) × (plan_of bytes.now ≡ Ok plan) × IsStore plan store) }
     ensures some { IfOk result (λ store. 1 ≤ length store) }

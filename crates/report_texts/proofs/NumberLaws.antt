@@ -9,7 +9,7 @@ use Rattle.std.proofs.lemmas.List.Elements.{All-append, All-cons, All-nil}
 use Rattle.late_cert.specs.Rows.{RowsRise}
 use Rattle.late_cert.specs.declared.rows.JobRow.{JobRow}
 use Rattle.report_texts.specs.JobRows.{job_row_if, job_rows_of}
-use Rattle.report_texts.specs.Numbered.{AreNumbered, GathersNumbered, IsNumbered, IsNumberedFrom}
+use Rattle.report_texts.specs.Numbering.{AreNumbered, GathersNumbered, IsNumbered, IsNumberedFrom}
 use Rattle.report_texts.specs.ReportOf.{all_dies, gathered_with, if_follows, may_follow, report_on, with_row}
 use Rattle.report_texts.specs.ReportRows.{◌>>=◌, sound_row}
 use Rattle.report_texts.specs.declared.gathered.Gathered.{Gathered}

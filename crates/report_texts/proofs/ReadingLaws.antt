@@ -9,7 +9,7 @@ use Rattle.slot_types.specs.declared.refusals.Refusal.{Refusal}
 use Rattle.slot_types.specs.declared.refusals.Refusal.TheVariants.{ReportText}
 use Rattle.text_base.specs.Readings.{IsOutside}
 use Rattle.report_texts.specs.RecordsLeft.{Loses, Stays, hand_of, unless_cert, with_hand}
-use Rattle.report_texts.specs.ReportOf.{Reading, Reads, Tells, all_dies, broken, certs_for, certs_from, gathered_with, rows_from, with_die}
+use Rattle.report_texts.specs.ReportOf.{Reading, Reads, Tells, all_dies, broken_at, certs_for, certs_from, gathered_with, rows_from, with_die}
 use Rattle.text_base.specs.CsvRecords.{Fields}
 use Rattle.report_texts.specs.Worst.{is_cert, worst_of}
 use Rattle.report_texts.specs.declared.gathered.Gathered.{Gathered}
@@ -51,7 +51,7 @@ rows-more g g2 line line2 true own fields (Some rest) new (Some w) at more next 
     rw (loses, next) (ap Some (sym (row-then g g2 line fields rest row.1 more) ∙ ap (λ f. rows_from g line (f ∷ rest)) (sym is) ∙ here))
 
 row-else : (g : Gathered) (line : ℕ) (fields : Fields) (rest : List Fields) → is_cert fields ≡ false → gathered_with g fields ≡ None
-    → rows_from g line (fields ∷ rest) ≡ broken line
+    → rows_from g line (fields ∷ rest) ≡ broken_at line
 unfolding rows_from
 row-else g line fields rest other none = rw (other, none) refl
 
@@ -120,7 +120,7 @@ certs-fault after dies i old line (Some records) new (Some w) e below at (inr ba
     let here : front_dies (take i dies) (certs_from (drop i dies) line records) ≡ w = cc so-far in
     inr (sym here ∙ ap (front_dies (take i dies)) (certs-first dies i old line records below at ∙ bad))
 
--- a record behind the certificates
+-- a record after the certificates
 pub certs-over : (dies : List DieReport) (i line : ℕ) (found : Bool) (own : Fields) (left : Option (List Fields)) (whole : Option Reading)
     → length dies ≤ i → found ≡ true
     → Stays whole (option_map (λ records. front_dies (take i dies) (certs_from (drop i dies) line records)) (with_hand found own left))

@@ -5,7 +5,7 @@ use Rattle.std.specs.Prelude.{option_map, OnOk, IfErr, IfSome, ◌+◌}
 use Rattle.slot_types.specs.declared.refusals.Refusal.{Refusal}
 use Rattle.text_base.specs.Readings.{IsOutside}
 use Rattle.report_texts.specs.RecordsLeft.{Loses, Stays, hand_of, with_fit, with_hand}
-use Rattle.text_base.specs.Marked.{is_within}
+use Rattle.text_base.specs.Marks.{is_within}
 use Rattle.text_base.specs.CsvRecordsLeft.{KeepsFit}
 use Rattle.text_base.proofs.MarkLaws.{within-short}
 use Rattle.report_texts.specs.ReportOf.{Reading, Reads}
@@ -18,7 +18,7 @@ hand-taken None new found fields takes = tt
 hand-taken (Some rows) new true fields takes = rw (takes.1, takes.2) refl
 hand-taken (Some rows) new false fields takes = rw takes refl
 
--- the record at hand is let go for the next one
+-- the record at hand is freed for the next one
 pub hand-lost : (left new : Option (List Fields)) (had found : Bool) (fields next : Fields) → had ≡ true → TakesRow left new found next
     → Loses (with_hand had fields left) (with_hand found next new)
 hand-lost None new had found fields next yes_had takes = rw yes_had tt

@@ -11,7 +11,7 @@ use Rattle.late_cert.specs.declared.certificates.Certificate.{Certificate}
 use Rattle.report_texts.specs.declared.reports.DieReport.{DieReport}
 use Rattle.report_texts.specs.declared.reports.ReportRow.{ReportRow}
 
--- the records of one die behind those of others
+-- the records of one die after those of others
 records_behind : (f : DieReport → List (List (List ℕ))) (dies : List DieReport) (die : DieReport)
     → records_text (flat_map f (dies ++ die ∷ [])) ≡ records_text (flat_map f dies) ++ records_text (f die)
 records_behind f dies die =
@@ -29,7 +29,7 @@ text_more dies die old new so_far added =
       certs = sym (records_behind cert_record dies die) i;
     })
 
--- one row behind others
+-- one row after others
 pub rows_push : (die : ℕ) (rows : List ReportRow) (row : ReportRow) (text : TextSoFar)
     → row_added die row (rows_added die rows text) ≡ rows_added die (rows ++ row ∷ []) text
 rows_push die rows row text = λ i. record {
@@ -62,7 +62,7 @@ rows_more die rows i row old new whole below is added so_far =
     here : drop i rows ≡ row ∷ drop (i + 1) rows
     here = drop_more rows i row below ∙ ap (λ (r : ReportRow). r ∷ drop (i + 1) rows) (sym is)
 
--- the certificate behind the rows makes the report
+-- the certificate after the rows makes the report
 pub cert_last : (report : DieReport) (cert : Certificate) (old text new : TextSoFar) → report.cert ≡ Some cert
     → text ≡ rows_added report.die report.rows old → new ≡ cert_added report.die cert text → new ≡ die_added report old
 cert_last report cert old text new is rows added =

@@ -13,7 +13,7 @@ use Rattle.slot_types.specs.declared.refusals.Refusal.TheVariants.{ReportText}
 use Rattle.report_texts.specs.GatheredWork.{all_work, if_next, no_work, no_work_on, with_numbers, with_work, work_progress}
 use Rattle.report_texts.specs.GatheredWork.{work_so_far, work_with}
 use Rattle.report_texts.specs.JobRows.{job_row_if, job_row_of, job_rows_of}
-use Rattle.report_texts.specs.Numbered.{AreNumbered, GathersNumbered, IsNumbered}
+use Rattle.report_texts.specs.Numbering.{AreNumbered, GathersNumbered, IsNumbered}
 use Rattle.report_texts.specs.RecordsLeft.{Loses, Stays, hand_of, unless_cert, with_hand}
 use Rattle.report_texts.specs.ReportOf.{Reading, Reads, all_dies, certs_from, gathered_with, if_follows, may_follow, no_rows, report_on}
 use Rattle.report_texts.specs.ReportOf.{rows_from, with_row}
@@ -21,7 +21,7 @@ use Rattle.report_texts.specs.ReportRows.{◌>>=◌, sound_row}
 use Rattle.report_texts.specs.ReportWork.{AllRise, ReadsWork, work_of, works_of}
 use Rattle.report_texts.specs.RowNumbers.{comes_next, numbers_of, row_with}
 use Rattle.text_base.specs.CsvRecords.{Fields}
-use Rattle.report_texts.specs.Worst.{finish_if, finish_of, worse, worst_from, worst_of}
+use Rattle.report_texts.specs.Worst.{finish_if, finish_of, worse_finish, worst_from, worst_of}
 use Rattle.report_texts.specs.declared.gathered.Gathered.{Gathered}
 use Rattle.report_texts.specs.declared.gathered_work.GatheredWork.{GatheredWork}
 use Rattle.report_texts.specs.declared.report_certs.Finish.{Finish}
@@ -50,9 +50,9 @@ finish x None = refl
 finish x (Some completion) = refl
 
 worst-more : (best : Option Finish) (rows : List ReportRow) (row : ReportRow)
-    → worst_from best (rows ++ row ∷ []) ≡ worse (worst_from best rows) (finish_of row)
+    → worst_from best (rows ++ row ∷ []) ≡ worse_finish (worst_from best rows) (finish_of row)
 worst-more best [] row = refl
-worst-more best (r ∷ rows) row = worst-more (worse best (finish_of r)) rows row
+worst-more best (r ∷ rows) row = worst-more (worse_finish best (finish_of r)) rows row
 
 abbrev work-on : ℕ → List JobRow → Option Finish → DieWork
 work-on die rows worst = record { die = die; rows = rows; worst = worst; cert = None }
@@ -63,8 +63,8 @@ work-more : (die : ℕ) (rows : List ReportRow) (x : DieRow)
 work-more die rows x =
     let rows-are : job_rows_of (rows ++ x.row ∷ []) ≡ job_rows_of rows ++ job_rows_of (row_with (numbers_of x) [] ∷ [])
     = filter_map-append job_row_of rows (x.row ∷ []) ∙ ap (λ o. job_rows_of rows ++ cons_option o []) (job-row x x.row.row) in
-    let worst-is : worst_of (rows ++ x.row ∷ []) ≡ worse (worst_of rows) (finish_of (row_with (numbers_of x) []))
-    = worst-more None rows x.row ∙ ap (worse (worst_of rows)) (finish x x.row.completion) in
+    let worst-is : worst_of (rows ++ x.row ∷ []) ≡ worse_finish (worst_of rows) (finish_of (row_with (numbers_of x) []))
+    = worst-more None rows x.row ∙ ap (worse_finish (worst_of rows)) (finish x x.row.completion) in
     ap (λ rs. work-on die rs (worst_of (rows ++ x.row ∷ []))) rows-are
     ∙ ap (work-on die (job_rows_of rows ++ job_rows_of (row_with (numbers_of x) [] ∷ []))) worst-is
 

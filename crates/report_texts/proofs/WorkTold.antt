@@ -1,4 +1,4 @@
--- The work of a report is told as the report itself is: its certificates, and what follows from step to step.
+-- The work of a report is reported as the report itself is: its certificates, and what follows from step to step.
 use Rattle.std.proofs.Common.{◌≡◌, ℕ, ◌+◌, ◌<◌, ◌≤◌, List, [], Option, Result, Ok, Err, length, take, drop, get_or, set}
 use Rattle.std.proofs.Common.{sym, ap, ◌∙◌, arith}
 use Rattle.std.specs.Prelude.{Bool, true, false, option_map}
@@ -72,7 +72,7 @@ certs-stop work i line line2 old new before left next e below at step so-far =
     certs-fault (λ _ rest. with_die (certified d new) (certs_from (drop (i + 1) dies) line2 rest)) dies i d line left next before e inside
     (get_or_default dies i (report_on 0 []) d inside) (step d old-is (certs_from (drop (i + 1) dies))) so-far.read
 
--- a record behind the certificates
+-- a record after the certificates
 pub certs-past : (work : List DieWork) (i line : ℕ) (found : Bool) (own : Fields) (left : Option (List Fields)) (before : Option Reading)
     → length work ≤ i → found ≡ true → AreCertsRead work i before line (with_hand found own left) → TellsWork before (Err (ReportText line))
 certs-past work i line found own left before above at so-far =

@@ -6,7 +6,7 @@ use Rattle.report_texts.specs.ReportRows.{◌>>=◌, sound_row}
 use Rattle.report_texts.specs.ReportWork.{work_of, works_of}
 use Rattle.report_texts.specs.RowNumbers.{comes_next, numbers_of, row_with}
 use Rattle.text_base.specs.CsvRecords.{Fields}
-use Rattle.report_texts.specs.Worst.{finish_of, worse}
+use Rattle.report_texts.specs.Worst.{finish_of, worse_finish}
 use Rattle.report_texts.specs.declared.gathered.Gathered.{Gathered}
 use Rattle.report_texts.specs.declared.gathered_work.GatheredWork.{GatheredWork}
 use Rattle.report_texts.specs.declared.report_work.DieWork.{DieWork}
@@ -31,7 +31,7 @@ all_work w = w.done ++ (if w.rows == 0 then [] else w.last ∷ [])
 
 -- a die's work with one more row, which is no row of it where the row is of a waived collection
 abbrev pub with_work : DieWork → ReportRow → DieWork
-with_work work row = record work { rows = work.rows ++ job_rows_of (row ∷ []); worst = worse work.worst (finish_of row) }
+with_work work row = record work { rows = work.rows ++ job_rows_of (row ∷ []); worst = worse_finish work.worst (finish_of row) }
 
 abbrev pub with_numbers : GatheredWork → RowNumbers → GatheredWork
 with_numbers w n =

@@ -10,7 +10,7 @@ pub mod Worst
 pub mod RecordsLeft
 pub mod ReportOf
 pub mod Progress
-pub mod Numbered
+pub mod Numbering
 pub mod ReportWork
 pub mod GatheredWork
 pub mod WellFormed

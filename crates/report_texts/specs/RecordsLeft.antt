@@ -32,7 +32,7 @@ record_line r = r.line
 abbrev pub IsReady : {R : Type 0} → Records R → Type 0
 IsReady r = IsPlain r.rows
 
--- the record at hand and those behind it, where they are known
+-- the record at hand and those after it, where they are known
 abbrev pub with_hand : Bool → Fields → Option (List Fields) → Option (List Fields)
 with_hand found fields rest = if found then option_map (λ more. fields ∷ more) rest else Some []
 

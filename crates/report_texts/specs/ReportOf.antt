@@ -20,8 +20,8 @@ abbrev pub Reading : Type 0
 Reading = Result (List DieReport) Refusal
 
 -- the record of this number breaks the report
-abbrev pub broken : ℕ → Reading
-broken line = Err (ReportText line)
+abbrev pub broken_at : ℕ → Reading
+broken_at line = Err (ReportText line)
 
 -- one die, and then the others
 abbrev pub with_die : DieReport → Reading → Reading
@@ -65,26 +65,26 @@ with_cert die cert = record die { cert = Some cert }
 
 -- the certificate of a die, and then what follows
 abbrev pub then_certs : DieReport → ℕ → Reading → Option Certificate → Reading
-then_certs die line more None = broken line
+then_certs die line more None = broken_at line
 then_certs die line more (Some cert) = with_die (with_cert die cert) more
 
 -- a die without a done row has no certificate, any other one for its worst job
 abbrev pub certs_for : DieReport → (ℕ → List Fields → Reading) → Option Finish → ℕ → List Fields → Reading
 certs_for die more None line records = with_die die (more line records)
-certs_for die more (Some worst) line [] = broken line
+certs_for die more (Some worst) line [] = broken_at line
 certs_for die more (Some worst) line (fields ∷ rest) = then_certs die line (more (line + 1) rest) (cert_of die.die worst fields)
 
--- the certificates of these dies, from the record of this number on, and no record behind them
+-- the certificates of these dies, from the record of this number on, and no record after them
 unfoldable pub certs_from : List DieReport → ℕ → List Fields → Reading
 certs_from [] line [] = Ok []
-certs_from [] line (fields ∷ rest) = broken line
+certs_from [] line (fields ∷ rest) = broken_at line
 certs_from (die ∷ dies) line records = certs_for die (certs_from dies) (worst_of die.rows) line records
 
 -- The report
 
 -- what is gathered, and then what follows
 abbrev pub then_rows : ℕ → (Gathered → Reading) → Option Gathered → Reading
-then_rows line more None = broken line
+then_rows line more None = broken_at line
 then_rows line more (Some g) = more g
 
 -- the rows from the record of this number on, and then the certificates
@@ -96,8 +96,8 @@ rows_from g line (fields ∷ rest) =
 
 -- the header, and then the rows
 abbrev pub report_from : List Fields → Reading
-report_from [] = broken 1
-report_from (fields ∷ rest) = if is_report_header fields then rows_from no_rows 2 rest else broken 1
+report_from [] = broken_at 1
+report_from (fields ∷ rest) = if is_report_header fields then rows_from no_rows 2 rest else broken_at 1
 
 -- the report of a text, or its first fault
 abbrev pub report_of : List ℕ → Reading

@@ -86,7 +86,7 @@ abbrev pub is_late : Option ℤ → ℤ → Bool
 is_late None late = false
 is_late (Some said) late = int_eq said late
 
--- a done row has work, and its lateness is its completion less its due
+-- a done row has work, and its lateness is its completion less its deadline
 abbrev pub is_done : ReportRow → ℕ → Bool
 is_done row completion = nat_le completion 1048576 && (nat_le 1 row.work && is_late row.lateness (lateness_of completion row.due))
 
@@ -103,7 +103,7 @@ has_outcome row kind.Waived None = is_none row.lateness && (is_some row.given &&
 abbrev pub is_placed : DieRow → Bool
 is_placed x = nat_lt x.die 8 && (nat_lt x.row.task 16 && nat_lt x.row.job 65536)
 
--- the due is above the release, and within its limit
+-- the deadline is above the release, and within its limit
 abbrev pub is_timed : ReportRow → Bool
 is_timed row = nat_lt row.release row.due && nat_le row.due 1048576
 

@@ -21,12 +21,14 @@ works_of report = map work_of report
 abbrev pub AllRise : List DieWork → Type 0
 AllRise work = All (λ (die : DieWork). RowsRise die.rows) work
 
--- a call gave the work of a report, or a refusal, as the known reading of a text has it, if memory and the reader didn't fail
+-- a call gave the work of a report, or a refusal, as the known reading of a text has it, if memory and the reader
+-- didn't fail
 abbrev pub TellsWork : Option Reading → Result (List DieWork) Refusal → Type 0
 TellsWork known (Ok work) = (report : List DieReport) × (work ≡ works_of report) × Tells known (Ok report)
 TellsWork known (Err e) = Tells known (Err e)
 
--- a call read on from these records: it gave the work of dies, and those that are left say after these dies what all said
+-- a call read on from these records: it gave the work of dies, and those that are left say after these dies what all
+-- said
 abbrev pub ReadsWork : (List Fields → Reading) → (List DieReport → List Fields → Reading) → Option (List Fields) → Option (List Fields)
     → Result (List DieWork) Refusal → Type 0
 ReadsWork before after old new (Ok work) = (dies : List DieReport) × (work ≡ works_of dies) × Reads before after old new (Ok dies)

@@ -44,6 +44,7 @@ numbers_of x = record {
   given = x.row.given;
 }
 
--- whether a row may come next where the last die has so many rows: the next number of that die, or number 0 of a later one
+-- whether a row may come next where the last die has so many rows: the next number of that die, or number 0 of a later
+-- one
 abbrev pub comes_next : ℕ → ℕ → RowNumbers → Bool
 comes_next die rows n = if n.die == die then n.job == rows else nat_lt die n.die && (n.job == 0)

@@ -6,7 +6,7 @@ use Rattle.report_texts.specs.ReportText.{cert_fields, cert_record, die_records,
 use Rattle.report_texts.specs.declared.reports.DieReport.{DieReport}
 use Rattle.report_texts.specs.declared.reports.ReportRow.{ReportRow}
 
--- the header and the rows, and apart from them the certificates, which stand behind all rows
+-- the header and the rows, and apart from them the certificates, which stand after all rows
 pub record TextSoFar : Type 0 where
   pub rows : List ℕ
   pub certs : List ℕ

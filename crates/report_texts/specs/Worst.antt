@@ -12,12 +12,12 @@ use Rattle.text_base.specs.Words.{list_of}
 use Rattle.report_texts.specs.declared.report_certs.Finish.{Finish}
 use Rattle.report_texts.specs.declared.reports.ReportRow.{ReportRow}
 
-abbrev pub late : Finish → ℤ
-late finish = lateness_of finish.completion finish.due
+abbrev pub lateness_of_finish : Finish → ℤ
+lateness_of_finish finish = lateness_of finish.completion finish.due
 
 -- later, or as late and completed first
 abbrev pub is_worse : Finish → Finish → Bool
-is_worse one other = int_lt (late other) (late one) || (not (int_lt (late one) (late other)) && nat_lt one.completion other.completion)
+is_worse one other = int_lt (lateness_of_finish other) (lateness_of_finish one) || (not (int_lt (lateness_of_finish one) (lateness_of_finish other)) && nat_lt one.completion other.completion)
 
 abbrev pub finish_if : ReportRow → Option ℕ → Option Finish
 finish_if row None = None
@@ -28,15 +28,15 @@ abbrev pub finish_of : ReportRow → Option Finish
 finish_of row = finish_if row row.completion
 
 -- the worse of two, the first where neither is
-abbrev pub worse : Option Finish → Option Finish → Option Finish
-worse best None = best
-worse None (Some finish) = Some finish
-worse (Some best) (Some finish) = Some (if is_worse finish best then finish else best)
+abbrev pub worse_finish : Option Finish → Option Finish → Option Finish
+worse_finish best None = best
+worse_finish None (Some finish) = Some finish
+worse_finish (Some best) (Some finish) = Some (if is_worse finish best then finish else best)
 
 -- the worst, beginning with one
 abbrev pub worst_from : Option Finish → List ReportRow → Option Finish
 worst_from best [] = best
-worst_from best (row ∷ rows) = worst_from (worse best (finish_of row)) rows
+worst_from best (row ∷ rows) = worst_from (worse_finish best (finish_of row)) rows
 
 -- the done row with the greatest lateness, of equal ones the one completed first
 abbrev pub worst_of : List ReportRow → Option Finish
@@ -61,7 +61,7 @@ is_cert fields = has_text (field_at fields 0) (codes "cert")
 abbrev pub is_of : ℕ → Finish → List (List ℕ) → Bool
 is_of die worst fields = is_cert fields && (says fields 1 die && (says fields 2 worst.job && (is_empty fields 3 && (says fields 5 worst.due
     && (is_empty fields 6 && (says fields 7 worst.completion
-    && (is_late (lateness_in (field_or fields 8)) (late worst) && is_empty fields 9)))))))
+    && (is_late (lateness_in (field_or fields 8)) (lateness_of_finish worst) && is_empty fields 9)))))))
 
 -- the certificate that a record says, for the worst job of a die
 unfoldable pub cert_of : ℕ → Finish → List (List ℕ) → Option Certificate

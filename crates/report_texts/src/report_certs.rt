@@ -2,18 +2,19 @@
 
 ghost use Rattle.std.specs.Prelude.{◌≡◌, IfOk};
 ghost use Rattle.csv.specs.Records.{fields_of};
+ghost use Rattle.slot_types.specs.Refusal.{FailsForMemory};
 ghost use Rattle.text_base.specs.Fields.{field_or};
 ghost use Rattle.text_base.specs.Number.{number_of};
 ghost use Rattle.report_texts.specs.ReportRows.{is_late, lateness_in};
 ghost use Rattle.text_base.specs.Words.{list_of};
-ghost use Rattle.report_texts.specs.Worst.{cert_of, finish_of, is_cert, is_empty, is_of, is_worse, late, says, worse, worst_of};
+ghost use Rattle.report_texts.specs.Worst.{cert_of, finish_of, is_cert, is_empty, is_of, is_worse, lateness_of_finish, says, worse_finish, worst_of};
 
 use crate::reports::ReportRow;
 use crate::row_numbers::{number_in, read_lateness};
 use csv::ByteRecord;
 use late_cert::{Certificate, JobList, lateness};
-use slot_types::JobNo;
-use std::alloc::{AllocError, Global};
+use slot_types::{JobNo, Refusal};
+use std::alloc::Global;
 use text_base::{field_in, is_named, list};
 
 /// How a job or a collection ended.
@@ -27,7 +28,7 @@ pub struct Finish {
 impl Finish {
     /// How late it was.
     fn late(&self) -> i64
-        ensures { result ≡ late self.now }
+        ensures { result ≡ lateness_of_finish self.now }
     {
         lateness(self.completion, self.due)
     }
@@ -57,7 +58,7 @@ pub fn finish_in(row: &ReportRow) -> Option<Finish>
 
 /// The worse of two, the first where neither is.
 pub fn worse_of(best: Option<Finish>, next: Option<Finish>) -> Option<Finish>
-    ensures { result ≡ worse best next }
+    ensures { result ≡ worse_finish best next }
 {
     let Some(next) = next else {
         return best;
@@ -124,14 +125,15 @@ fn certifies(fields: &ByteRecord, die: u32, worst: &Finish) -> bool
 
 /// Whether a certificate says the lateness of this job.
 fn says_lateness(fields: &ByteRecord, worst: &Finish) -> bool
-    ensures { result ≡ is_late (lateness_in (field_or (fields_of fields.now) 8)) (late worst.now) }
+    ensures { result ≡ is_late (lateness_in (field_or (fields_of fields.now) 8)) (lateness_of_finish worst.now) }
 {
     read_lateness(field_in(fields, 8)) == Some(worst.late())
 }
 
 /// The jobs that a certificate lists.
-fn jobs(alloc: Global, fields: &ByteRecord) -> Result<Option<JobList>, AllocError>
-    ensures { IfOk result (λ jobs. jobs ≡ list_of number_of (field_or (fields_of fields.now) 10)) }
+fn jobs(alloc: Global, fields: &ByteRecord) -> Result<Option<JobList>, Refusal>
+    ensures ok { IfOk result (λ jobs. jobs ≡ list_of number_of (field_or (fields_of fields.now) 10)) }
+    ensures refused { FailsForMemory result }
 {
     list(alloc, field_in(fields, 10))
 }
@@ -143,8 +145,9 @@ pub fn cert(
     fields: &ByteRecord,
     die: u32,
     worst: &Finish,
-) -> Result<Option<Certificate>, AllocError>
-    ensures { IfOk result (λ found. found ≡ cert_of die worst.now (fields_of fields.now)) }
+) -> Result<Option<Certificate>, Refusal>
+    ensures ok { IfOk result (λ found. found ≡ cert_of die worst.now (fields_of fields.now)) }
+    ensures refused { FailsForMemory result }
 {
     if fields.len() != 11 || !certifies(fields, die, worst) {
         return Ok(None);

@@ -2,7 +2,7 @@
 
 ghost use Rattle.std.specs.Prelude.{◌≡◌, ◌≤◌, ℕ, List, true, IfOk, IfSome, OnOk, length, option_map};
 ghost use Rattle.csv.specs.Records.{fields_of};
-ghost use Rattle.report_texts.specs.Numbered.{AreNumbered};
+ghost use Rattle.report_texts.specs.Numbering.{AreNumbered};
 ghost use Rattle.report_texts.specs.ReportHeader.{is_report_header};
 ghost use Rattle.report_texts.specs.ReportOf.{Reading, Reads, Tells, certs_for, certs_from, no_rows, report_from, report_of, rows_from};
 ghost use Rattle.report_texts.specs.ReportOf.{with_die};
@@ -109,7 +109,7 @@ fn take_cert<R: Read>(
     records.advance()
 }
 
-/// Takes the certificates of all dies, behind which no record may stand.
+/// Takes the certificates of all dies, after which no record may stand.
 fn take_certs<R: Read>(
     alloc: Global,
     records: &mut Records<R>,
@@ -139,12 +139,13 @@ fn take_certs<R: Read>(
 /// Reads a report, csv as `ScriptReader` reads it, within the same bound.
 ///
 /// Record 1 is the header, and each record has 11 fields. The rows of jobs and collections stand in rising order of
-/// die, from 0 to 7, and on each die their numbers are 0, 1, 2, .. up to at most 65,535; tasks are from 0 to 15. A due
-/// is above its release and at most 1,048,576. A done row has a completion of at most 1,048,576, a lateness that is
-/// its completion less its due, and at least one slot of work; a job's has what its reads gave, at most 64 pages, a
-/// collection's what it gave its task. A waiting row has none of these, and a row of a waived collection only what it
-/// gave, and no work. Behind all rows each die that has a done one has a certificate, by die, with the number, due,
-/// completion and lateness of its worst job; its start and the jobs that it lists may be anything of the right shape.
+/// die, from 0 to 7, and on each die their numbers are 0, 1, 2, .. up to at most 65,535; tasks are from 0 to 15. A
+/// deadline is above its release and at most 1,048,576. A done row has a completion of at most 1,048,576, a lateness
+/// that is its completion less its deadline, and at least one slot of work; a job's has what its reads gave, at most 64
+/// pages, a collection's what it gave its task. A waiting row has none of these, and a row of a waived collection only
+/// what it gave, and no work. After all rows each die that has a done one has a certificate, by die, with the number,
+/// deadline, completion and lateness of its worst job; its start and the jobs that it lists may be anything of the
+/// right shape.
 ///
 /// ReportText has the number of the first record that breaks this, or that a missing one would have had. ReadFault
 /// comes where the reader fails or goes on beyond its bound; the records before it are judged first. NoMemory comes

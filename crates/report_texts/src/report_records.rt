@@ -5,7 +5,7 @@ ghost use Rattle.csv.specs.Records.{fields_of};
 ghost use Rattle.text_base.specs.Readings.{IsOutside};
 ghost use Rattle.report_texts.specs.RecordsLeft.{IsReady, Loses, Stays, at_hand, is_found, record_line, records_fit, records_left};
 ghost use Rattle.report_texts.specs.RecordsLeft.{row_at_hand};
-ghost use Rattle.text_base.specs.Marked.{is_within};
+ghost use Rattle.text_base.specs.Marks.{is_within};
 ghost use Rattle.text_base.specs.CsvRecords.{rows_of};
 
 use crate::report_certs::begins_cert;
@@ -15,7 +15,7 @@ use std::alloc::Global;
 use std::io::Read;
 use text_base::{Bounded, rows_in, take_row};
 
-/// The records of a text: the one at hand, if there is one, and those behind it.
+/// The records of a text: the one at hand, if there is one, and those after it.
 #[derive(Drop)]
 pub struct Records<R> {
     rows: Reader<Bounded<R>>,

@@ -3,6 +3,7 @@
 ghost use Rattle.std.specs.Prelude.{◌≡◌, IfOk};
 ghost use Rattle.csv.specs.Records.{fields_of};
 ghost use Rattle.text_base.specs.Fields.{field_or};
+ghost use Rattle.slot_types.specs.Refusal.{FailsForMemory};
 ghost use Rattle.report_texts.specs.ReportRows.{sound_row};
 ghost use Rattle.report_texts.specs.RowNumbers.{row_with};
 ghost use Rattle.text_base.specs.Words.{list_of};
@@ -11,8 +12,8 @@ ghost use Rattle.text_base.specs.Pages.{page_of};
 use crate::reports::ReportRow;
 use crate::row_numbers::{RowNumbers, row_numbers, stands};
 use csv::ByteRecord;
-use slot_types::Reads;
-use std::alloc::{AllocError, Global};
+use slot_types::{Reads, Refusal};
+use std::alloc::Global;
 use text_base::{field_in, list};
 
 /// A row, and the die that it is of.
@@ -23,8 +24,9 @@ pub struct DieRow {
 }
 
 /// What the reads of a row gave.
-fn reads(alloc: Global, fields: &ByteRecord) -> Result<Option<Reads>, AllocError>
-    ensures { IfOk result (λ reads. reads ≡ list_of page_of (field_or (fields_of fields.now) 10)) }
+fn reads(alloc: Global, fields: &ByteRecord) -> Result<Option<Reads>, Refusal>
+    ensures ok { IfOk result (λ reads. reads ≡ list_of page_of (field_or (fields_of fields.now) 10)) }
+    ensures refused { FailsForMemory result }
 {
     list(alloc, field_in(fields, 10))
 }
@@ -48,8 +50,9 @@ pub fn row_with(numbers: &RowNumbers, reads: Reads) -> ReportRow
 }
 
 /// The row that a record says, if it is of the right shape.
-pub fn read_row(alloc: Global, fields: &ByteRecord) -> Result<Option<DieRow>, AllocError>
-    ensures { IfOk result (λ found. found ≡ sound_row (fields_of fields.now)) }
+pub fn read_row(alloc: Global, fields: &ByteRecord) -> Result<Option<DieRow>, Refusal>
+    ensures ok { IfOk result (λ found. found ≡ sound_row (fields_of fields.now)) }
+    ensures refused { FailsForMemory result }
 {
     if fields.len() != 11 {
         return Ok(None);

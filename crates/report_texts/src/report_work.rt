@@ -1,13 +1,14 @@
 //! The work of a report: what certificates are checked against, and no more.
 
 ghost use Rattle.std.specs.Prelude.{◌≡◌, OnOk};
+ghost use Rattle.slot_types.specs.Refusal.{FailsForMemory};
 ghost use Rattle.report_texts.specs.GatheredWork.{no_work_on, with_work};
 
 use crate::report_certs::{Finish, finish_in, worse_of};
 use crate::reports::ReportRow;
 use late_cert::{Certificate, JobRows};
-use slot_types::Items;
-use std::alloc::{AllocError, Global};
+use slot_types::{Items, Refusal};
+use std::alloc::Global;
 
 /// What a report says of a die's work.
 #[derive(Clone, PartialEq, Eq, Debug, Drop)]
@@ -37,9 +38,10 @@ impl DieWork {
         }
     }
 
-    /// Adds one more row: a waived collection is no work.
-    pub fn add(&mut self, row: &ReportRow) -> Result<(), AllocError>
-        ensures { OnOk result (self.new ≡ with_work self.old row.now) }
+    /// Adds one more row: a waived collection is no work. The only refusal is NoMemory.
+    pub fn add(&mut self, row: &ReportRow) -> Result<(), Refusal>
+        ensures ok { OnOk result (self.new ≡ with_work self.old row.now) }
+        ensures refused { FailsForMemory result }
     {
         if let Some(job_row) = row.job_row() {
             self.rows.push(job_row)?;

@@ -18,7 +18,7 @@ use std::io::Write;
 use std::marker::Model;
 use text_base::write_whole;
 
-/// The text of a report while it is made: a line for each row as it comes, and the certificates, which stand behind all
+/// The text of a report while it is made: a line for each row as it comes, and the certificates, which stand after all
 /// rows. It keeps no row and no page but as text.
 ///
 /// Where a call is refused the text is of no more use: it may hold a part of a line.
@@ -74,20 +74,18 @@ impl ReportText {
         }
     }
 
-    /// The whole text: the rows, and behind them the certificates.
+    /// The whole text: the rows, and after them the certificates.
     fn whole(self) -> Result<Vec<u8>, Refusal>
         ensures ok { IfOk result (λ text. text.items ≡ whole_text self) }
         ensures refused { FailsForMemory result }
     {
         let mut text = self.rows;
-        match text.extend_from_slice(self.certs.as_slice()) {
-            Ok(()) => Ok(text),
-            Err(_) => Err(Refusal::NoMemory),
-        }
+        text.extend_from_slice(self.certs.as_slice())?;
+        Ok(text)
     }
 
-    /// Writes the text as csv: a header, the rows, and after all of them the certificates. Numbers have no leading zeros,
-    /// pages are 32 lower-case hexadecimal digits, each record ends with one line feed, no field is quoted.
+    /// Writes the text as csv: a header, the rows, and after all of them the certificates. Numbers have no leading
+    /// zeros, pages are 32 lower-case hexadecimal digits, each record ends with one line feed, no field is quoted.
     ///
     /// NoMemory comes before the first byte, and the writer is as it was. WriteFault comes where the writer fails, as
     /// [`write_whole`] says: a front of the text was then written that isn't the whole.

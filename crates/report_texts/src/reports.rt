@@ -32,7 +32,7 @@ pub struct ReportRow {
     pub work: u32,
     /// One more than the last slot that carried it, once it is done.
     pub completion: Option<u32>,
-    /// How many slots the completion comes after the due, negative where it comes before.
+    /// How many slots the completion comes after the deadline, negative where it comes before.
     pub lateness: Option<i64>,
     /// The pages that a done or a waived collection gave its task.
     pub given: Option<u32>,
@@ -74,13 +74,13 @@ pub struct DieReport {
 
 impl DieReport {
     ghost use Rattle.report_texts.specs.JobRows.{job_rows_of};
-    ghost use Rattle.report_texts.specs.Numbered.{IsNumbered};
+    ghost use Rattle.report_texts.specs.Numbering.{IsNumbered};
 
     /// The rows of the jobs, and of the collections that were not waived, in their order: what the die's certificate is
     /// checked against.
     ///
-    /// Where the die's rows have the numbers 0, 1, 2, .., as in each report that [`read_report`](crate::read_report) gives,
-    /// these rise by number, which [`check`](late_cert::check) requires. The only refusal is NoMemory.
+    /// Where the die's rows have the numbers 0, 1, 2, .., as in each report that [`read_report`](crate::read_report)
+    /// gives, these rise by number, which [`check`](late_cert::check) requires. The only refusal is NoMemory.
     pub fn job_rows(&self, alloc: Global) -> Result<JobRows, Refusal>
         ensures rows { IfOk result (λ rows. rows ≡ job_rows_of self.now.rows) }
         ensures rise { IsNumbered self.now.rows → IfOk result RowsRise }

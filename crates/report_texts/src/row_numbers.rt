@@ -165,7 +165,7 @@ fn has_place(row: &RowNumbers) -> bool
     row.die < MAX_DIES && row.task.0 < MAX_TASKS && row.job.0 < MAX_JOBS
 }
 
-/// Whether the due is above the release, and within its limit.
+/// Whether the deadline is above the release, and within its limit.
 fn has_times(row: &RowNumbers) -> bool
     ensures { result ≡ is_timed (row_with row.now []) }
 {

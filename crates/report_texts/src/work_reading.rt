@@ -71,7 +71,7 @@ fn take_cert<R: Read>(
     records.advance()
 }
 
-/// Takes the certificates of all dies, behind which no record may stand.
+/// Takes the certificates of all dies, after which no record may stand.
 fn take_certs<R: Read>(
     alloc: Global,
     records: &mut Records<R>,
@@ -99,12 +99,12 @@ fn take_certs<R: Read>(
     Ok(Items::from_vec(dies))
 }
 
-/// Reads the work of a report: of each of its dies the rows that a certificate is checked against, how the worst of them
-/// ended, and the certificate. These rows rise by number. What else a report says is judged, and not kept.
+/// Reads the work of a report: of each of its dies the rows that a certificate is checked against, how the worst of
+/// them ended, and the certificate. These rows rise by number. What else a report says is judged, and not kept.
 ///
-/// A text is read within the same bound as by [`read_report`](crate::read_report), and refused where that refuses it, with
-/// the same refusal, of the same record. NoMemory comes where memory is refused, of which this takes less, and ReadFault
-/// where the reader fails.
+/// A text is read within the same bound as by [`read_report`](crate::read_report), and refused where that refuses it,
+/// with the same refusal, of the same record. NoMemory comes where memory is refused, of which this takes less, and
+/// ReadFault where the reader fails.
 pub fn read_work<R: Read + Drop>(alloc: Global, reader: R) -> Result<ReportWork, Refusal>
     ensures work { TellsWork (option_map report_of (R.remaining reader)) result }
     ensures bound { OnOk result (IfSome (R.remaining reader) (λ text. length text ≤ 67108864)) }

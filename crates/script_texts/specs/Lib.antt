@@ -2,6 +2,6 @@ pub mod ScriptHeader
 pub mod ScriptRows
 pub mod Heads
 pub mod Script
-pub mod Left
+pub mod ScriptLeft
 pub mod AskedPages
 pub mod Arrivals

@@ -1,7 +1,7 @@
 -- What a row of a script says.
 use Rattle.std.specs.Cmp.Lexicographic.{pointwise}
-use Rattle.std.specs.Prelude.{ℕ, ◌==◌, ◌||◌, nat_lt, List, [], Bool, true, false, codes, Option, Some, None, Result, Ok, Err, length}
-use Rattle.std.specs.Prelude.{slice_index, option_and_then, nat_eq, if◌then◌else◌, unwrap_or}
+use Rattle.std.specs.Prelude.{ℕ, ◌==◌, ◌||◌, nat_lt, List, Bool, true, false, codes, Option, Some, None, Result, Ok, Err, length}
+use Rattle.std.specs.Prelude.{slice_index, option_and_then, nat_eq, if◌then◌else◌}
 use Rattle.csv.specs.Records.{field_at}
 use Rattle.slot_types.specs.declared.events.Event.{Event}
 use Rattle.slot_types.specs.declared.events.Event.TheVariants.{Submit, Collect}

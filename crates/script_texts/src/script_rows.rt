@@ -39,7 +39,7 @@ pub struct RowHead {
 impl RowHead {
     ghost use Rattle.script_texts.specs.Heads.{row_of};
 
-    /// The row, with its operations. A collection lets them go.
+    /// The row, with its operations. A collection frees them.
     pub fn with_ops(self, ops: OpList) -> ScriptItem
         ensures { result ≡ row_of self ops }
     {
@@ -86,7 +86,7 @@ fn collects_in(row: &ByteRecord, line: u32) -> Result<bool, Refusal>
     }
 }
 
-/// Puts the operations of a field in place of others, in their memory, or tells the fault of its record.
+/// Puts the operations of a field in place of others, in their memory, or says the fault of its record.
 fn put_ops(ops: &mut OpList, field: &[u8], line: u32) -> Result<(), Refusal>
     ensures { Shows (λ _. ops.new) result (ops_or line (ops_of field.now)) }
 {

@@ -39,12 +39,12 @@ pub struct ScriptReader<R> {
 }
 
 impl<R: Read> ScriptReader<R> {
-    ghost use Rattle.script_texts.specs.Script.{EndsFit, Yields, script_of};
+    ghost use Rattle.script_texts.specs.Script.{EndsFit, Gives, Yields, reading_of, script_of};
     ghost use Rattle.script_texts.specs.AskedPages.{RowHasPages};
     ghost use Rattle.script_texts.specs.Arrivals.{IsRowFor};
     ghost use Rattle.script_texts.specs.Heads.{HasOwnOps, row_of, row_read};
-    ghost use Rattle.script_texts.specs.Left.{Recalls, dies_of, script_fits, script_left, slots_of};
-    ghost use Rattle.text_base.specs.Marked.{is_within};
+    ghost use Rattle.script_texts.specs.ScriptLeft.{Recalls, dies_of, reading_left, script_fits, script_left, slots_of};
+    ghost use Rattle.text_base.specs.Marks.{is_within};
 
     /// A reader of a script for the dies of a store and so many slots. The only refusal is NoMemory.
     pub fn new(
@@ -57,6 +57,8 @@ impl<R: Read> ScriptReader<R> {
         R: Drop,
         ensures dies { IfOk result (λ script. dies_of script ≡ length plan.now) }
         ensures slots { IfOk result (λ script. slots_of script ≡ slots) }
+        ensures reading { IfOk result (λ script. reading_left R.remaining script
+            ≡ option_map (reading_of (length plan.now) slots) (R.remaining reader)) }
         ensures script { IfOk result (λ script. script_left R.remaining script
             ≡ option_map (script_of (length plan.now) slots) (R.remaining reader)) }
         ensures bound { IfOk result (λ script. script_fits R.remaining script ≡ option_map (is_within 67108864) (R.remaining reader)) }
@@ -75,7 +77,8 @@ impl<R: Read> ScriptReader<R> {
         })
     }
 
-    /// The next item, or none at the end. After a refusal it answers the same again.
+    /// The next item, or none at the end. It is the next of the text also where a later record is at fault: the fault
+    /// comes after the last item before it. After a refusal it answers the same again.
     ///
     /// ScriptRow has the number of the first record at fault, and its first fault in this order: TooManyRows for a
     /// record numbered above 1,000,001; Header where record 1 isn't the header or there is no record; Fields where it
@@ -83,6 +86,7 @@ impl<R: Read> ScriptReader<R> {
     /// reader fails or goes on beyond its bound; the records before it are judged first. NoMemory comes where memory
     /// is refused.
     pub fn next(&mut self) -> Result<Option<ScriptItem>, Refusal>
+        ensures gives { Gives (reading_left R.remaining self.old) (reading_left R.remaining self.new) result }
         ensures item { Yields (script_left R.remaining self.old) (script_left R.remaining self.new) result }
         ensures bound { EndsFit (script_fits R.remaining self.old) (script_fits R.remaining self.new) result }
         ensures row { IfOk result (λ o. IfSome o (IsRowFor (dies_of self.old) (slots_of self.old))) }
@@ -103,6 +107,7 @@ impl<R: Read> ScriptReader<R> {
     /// memory for its longest job alone. A collection has no operations. Where there is no item, nothing is said of
     /// the list.
     pub fn next_into(&mut self, ops: &mut OpList) -> Result<Option<RowHead>, Refusal>
+        ensures gives { Gives (reading_left R.remaining self.old) (reading_left R.remaining self.new) (row_read result ops.new) }
         ensures item { Yields (script_left R.remaining self.old) (script_left R.remaining self.new) (row_read result ops.new) }
         ensures bound { EndsFit (script_fits R.remaining self.old) (script_fits R.remaining self.new) (row_read result ops.new) }
         ensures row { IfOk result (λ o. IfSome o (λ head. IsRowFor (dies_of self.old) (slots_of self.old) (row_of head ops.new))) }

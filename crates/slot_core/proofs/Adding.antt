@@ -1,69 +1,77 @@
 -- A run adds its accepted calls to the log, which stays exact; so no other exact log has just these calls.
-use Rattle.std.proofs.Common.{◌≡◌, ◌⊎◌, inl, inr, List, [], ◌∷◌, refl, ap, sym, subst, ◌∙◌}
-use Rattle.slot_types.specs.declared.plans.DiePlan.{DiePlan}
+use Rattle.std.proofs.Common.{◌≡◌, ◌⊎◌, inl, inr, ℕ, Bool, List, [], ◌∷◌, refl, ap, sym, subst, ◌∙◌}
 use Rattle.slot_types.specs.declared.events.Event.{Event}
+use Rattle.slot_types.specs.declared.refusals.Refusal.{Refusal}
 use Rattle.slot_types.specs.declared.replies.Reply.{Reply}
 use Rattle.slot_types.specs.declared.replies.Reply.TheVariants as replies
-use Rattle.die_log.specs.Log.{Log, calls}
-use Rattle.die_log.specs.Answers.{answer, with_answer, IsExact}
+use Rattle.flash_die.specs.declared.nand.NandCall.{NandCall}
+use Rattle.die_log.specs.Model.Log.{Log, calls}
+use Rattle.die_log.specs.Model.Start.{Start}
+use Rattle.die_log.specs.Model.Answers.{answer, with_answer, IsAccepted, IsExact}
 use Rattle.die_log.proofs.Exact.{same_calls_lem}
-use Rattle.slot_core.specs.Runs.{Moment, AnsweredByLog, FoundNoMemory, StoppedByFault, FoundStopped, IsRun, with_call, with_accepted}
-use Rattle.die_log.specs.Start.{Start}
+use Rattle.slot_core.specs.Core.{Core, with_entry}
+use Rattle.slot_core.specs.Calls.{IsAnswered, RefusesCall}
+use Rattle.slot_core.specs.Runs.{IsRun, with_call, with_accepted, HasGrown}
+use Rattle.slot_core.proofs.Running.{Calls, Runs, by_reply, run_start}
 
 -- One event
 
-answered_calls : (event : Event) (reply : Reply) (log : Log) → calls (with_answer 0 event reply log) ≡ with_call event reply (calls log)
-answered_calls event (replies.Refused refusal) log = refl
-answered_calls event (replies.Taken number) log = refl
-answered_calls event (replies.Slot s) log = refl
+entered_calls : (event : Event) (reply : Reply) (log : Log) → IsAccepted reply → calls (with_entry 0 event reply log)
+    ≡ with_call event reply (calls log)
+entered_calls event (replies.Refused refusal) log is = absurd is
+entered_calls event (replies.Taken number) log is = refl
+entered_calls event (replies.Slot s) log is = refl
 
-answered_exact : (start : Start) (event : Event) (reply : Reply) (log : Log) → IsExact start log → reply ≡ answer start log event
-    → IsExact start (with_answer 0 event reply log)
-answered_exact start event (replies.Refused refusal) log exact is = exact
-answered_exact start event (replies.Taken number) log exact is = (exact, is, tt)
-answered_exact start event (replies.Slot s) log exact is = (exact, is, tt)
+log_stays : {N : Type 0} (event : Event) (refusal : Refusal) (before after : Core N) → RefusesCall event refusal before after → after.log ≡ before.log
+log_stays {N} event refusal before after (inl h) = ap (λ (c : Core N). c.log) h.unchanged
+log_stays {N} event refusal before after (inr (inl h)) = ap (λ (c : Core N). c.log) h.unchanged
+log_stays {N} event refusal before after (inr (inr (inl h))) = h.log_stays
+log_stays {N} event refusal before after (inr (inr (inr h))) = ap (λ (c : Core N). c.log) h.unchanged
 
-module _ (start : Start) (event : Event) (reply : Reply) (before after : Moment) where
-  abbrev Answered : Type 0
-  Answered = AnsweredByLog start event reply before after ⊎ FoundNoMemory start event reply before after
-      ⊎ StoppedByFault start event reply before after ⊎ FoundStopped start.plan event reply before after
+module _ {N : Type 0} (ends : N → NandCall → Bool → N → Type 0) (failures : N → ℕ) (never : Bool) where
+  call_adds : (event : Event) (reply : Reply) (before after : Core N) → Calls ends failures never event reply before after
+      → calls after.log ≡ with_call event reply (calls before.log)
+  call_adds event reply before after call = by (by_reply ends failures never event reply before after call)
+    where
+      by : IsAnswered 0 event reply before after ⊎ ((refusal : Refusal) × (reply ≡ replies.Refused refusal) × RefusesCall event refusal before after)
+          → calls after.log ≡ with_call event reply (calls before.log)
+      by (inl a) = ap calls a.logged ∙ entered_calls event reply before.log a.accepted
+      by (inr (refusal, is, h)) = rw is (ap calls (log_stays event refusal before after h))
 
-  step_calls : Answered → calls after.log ≡ with_call event reply (calls before.log)
-  step_calls (inl a) = ap calls a.log_is ∙ answered_calls event reply before.log
-  step_calls (inr (inl a)) = ap (λ (m : Moment). calls m.log) a.unchanged ∙ sym (ap (λ r. with_call event r (calls before.log)) a.reply_is)
-  step_calls (inr (inr (inl a))) = ap calls a.log_stays ∙ sym (ap (λ r. with_call event r (calls before.log)) a.reply_is)
-  step_calls (inr (inr (inr a))) = ap (λ (m : Moment). calls m.log) a.unchanged
-      ∙ sym (ap (λ r. with_call event r (calls before.log)) a.reply_is)
+  call_exact : (event : Event) (reply : Reply) (before after : Core N) → Calls ends failures never event reply before after
+      → IsExact before.start before.log → IsExact after.start after.log
+  call_exact event reply before after call exact = subst (λ (s : Start). IsExact s after.log) (sym call.start_stays)
+      (by (by_reply ends failures never event reply before after call))
+    where
+      by : IsAnswered 0 event reply before after ⊎ ((refusal : Refusal) × (reply ≡ replies.Refused refusal) × RefusesCall event refusal before after)
+          → IsExact before.start after.log
+      by (inl a) = subst (IsExact before.start) (sym a.logged) (exact, sym a.answered, a.accepted)
+      by (inr (refusal, is, h)) = subst (IsExact before.start) (sym (log_stays event refusal before after h)) exact
 
-  step_exact : IsExact start before.log → Answered → IsExact start after.log
-  step_exact exact (inl a) = subst (IsExact start) (sym a.log_is) (answered_exact start event reply before.log exact a.reply_is)
-  step_exact exact (inr (inl a)) = subst (λ (m : Moment). IsExact start m.log) (sym a.unchanged) exact
-  step_exact exact (inr (inr (inl a))) = subst (IsExact start) (sym a.log_stays) exact
-  step_exact exact (inr (inr (inr a))) = subst (λ (m : Moment). IsExact start m.log) (sym a.unchanged) exact
+  -- A run
 
--- A run
+  run_adds : (before after : Core N) (events : List Event) (rs : List Reply) → Runs ends failures never before events rs after
+      → calls after.log ≡ with_accepted events rs (calls before.log)
+  run_adds before after [] [] h = ap (λ (c : Core N). calls c.log) h
+  run_adds before after [] (reply ∷ rs) h = absurd h
+  run_adds before after (event ∷ events) [] h = absurd h
+  run_adds before after (event ∷ events) (reply ∷ rs) h =
+      run_adds h.0 after events rs h.2 ∙ ap (with_accepted events rs) (call_adds event reply before h.0 h.1)
 
-pub run_calls : (start : Start) (before : Moment) (events : List Event) (replies : List Reply) (after : Moment)
-    → IsRun start before events replies after
-    → calls after.log ≡ with_accepted events replies (calls before.log)
-run_calls start before [] [] after h = ap (λ (m : Moment). calls m.log) h
-run_calls start before [] (reply ∷ replies) after h = absurd h
-run_calls start before (event ∷ events) [] after h = absurd h
-run_calls start before (event ∷ events) (reply ∷ replies) after h =
-    run_calls start h.0 events replies after h.2 ∙ ap (with_accepted events replies) (step_calls start event reply before h.0 h.1.answered)
+  run_exact : (before after : Core N) (events : List Event) (rs : List Reply) → Runs ends failures never before events rs after
+      → IsExact before.start before.log → IsExact after.start after.log
+  run_exact before after [] [] h exact = subst (λ (c : Core N). IsExact c.start c.log) (sym h) exact
+  run_exact before after [] (reply ∷ rs) h exact = absurd h
+  run_exact before after (event ∷ events) [] h exact = absurd h
+  run_exact before after (event ∷ events) (reply ∷ rs) h exact =
+      run_exact h.0 after events rs h.2 (call_exact event reply before h.0 h.1 exact)
 
-run_exact : (start : Start) (before : Moment) (events : List Event) (replies : List Reply) (after : Moment) → IsExact start before.log
-    → IsRun start before events replies after → IsExact start after.log
-run_exact start before [] [] after exact h = subst (λ (m : Moment). IsExact start m.log) (sym h) exact
-run_exact start before [] (reply ∷ replies) after exact h = absurd h
-run_exact start before (event ∷ events) [] after exact h = absurd h
-run_exact start before (event ∷ events) (reply ∷ replies) after exact h =
-    run_exact start h.0 events replies after (step_exact start event reply before h.0 exact h.1.answered) h.2
-
--- behind no call
-pub only_run : (start : Start) (before : Moment) (events : List Event) (replies : List Reply) (after : Moment) → IsExact start before.log
-    → IsRun start before events replies after
-    → before.log ≡ [] → (log : Log) → IsExact start log → calls log ≡ with_accepted events replies [] → log ≡ after.log
-only_run start before events replies after exact ran empty log other is =
-    same_calls_lem start log after.log other (run_exact start before events replies after exact ran)
-    (is ∙ sym (run_calls start before events replies after ran ∙ ap (λ l. with_accepted events replies (calls l)) empty))
+  pub run_grows : (before after : Core N) (events : List Event) (rs : List Reply) → IsExact before.start before.log
+      → Runs ends failures never before events rs after → HasGrown before events rs after
+  run_grows before after events rs exact h = record {
+    grown = run_adds before after events rs h;
+    only = λ empty log other is. same_calls_lem before.start log after.log other
+        (subst (λ (s : Start). IsExact s after.log) (run_start ends failures never before after events rs h)
+        (run_exact before after events rs h exact))
+        (is ∙ sym (run_adds before after events rs h ∙ ap (λ l. with_accepted events rs (calls l)) empty));
+  }

@@ -19,19 +19,19 @@ use Rattle.job_table.specs.declared.stages.Stage.TheVariants.{Waived as Gone}
 use Rattle.job_table.specs.Jobs.{JobRecord, with_stage, is_pending}
 use Rattle.job_table.specs.Table.{Table, changed_at, with_change}
 use Rattle.job_table.specs.Order as table
-use Rattle.job_table.specs.Waivers.{after_waiver as gone_after, IsPendingAt}
+use Rattle.job_table.specs.Waivers.{jobs_after_waiver as gone_after, IsPendingAt}
 use Rattle.job_table.proofs.Waivers.{head_pending, waived_push, WerePending-push}
-use Rattle.die_log.specs.Log.{Log, Job, jobs, job_at, acts, waived, work}
-use Rattle.die_log.specs.Work.{victim_of}
-use Rattle.die_log.specs.Accounts.{accounts, after_waiver, after_waivers}
-use Rattle.die_log.specs.Answers.{is_running, is_waivable, buffer_after, victim}
+use Rattle.die_log.specs.Model.Log.{Log, Job, jobs, job_at, acts, waived_collections, work}
+use Rattle.die_log.specs.Model.Work.{victim_of}
+use Rattle.die_log.specs.Model.Accounts.{accounts, after_waiver, after_waivers}
+use Rattle.die_log.specs.Model.Answers.{is_running, is_waivable, buffer_after, victim}
 use Rattle.die_log.proofs.Standing.Longer.{number_at, stands_at}
 use Rattle.die_log.proofs.Standing.Actors.{runs_from}
-use Rattle.slot_core.specs.Records.{record_with, records, waiver_among}
+use Rattle.slot_core.specs.Records.{record_with, job_records, waiver_among}
 use Rattle.slot_core.specs.Device.{FlashState, flash_of, page_held, AreRunning}
-use Rattle.slot_core.specs.Slotted.{GoesOn, IsWaivedTable, InSlot, RunsHead, HasTurn}
-use Rattle.slot_core.specs.Reserved.{open_collections}
-use Rattle.slot_core.specs.Turns.{is_fresh, BeginsBy, BeginsAs}
+use Rattle.slot_core.specs.WithinSlot.{ChoiceGoesOn, IsWaivedTable, InSlot, RunsHead, IsHeadInSlot}
+use Rattle.slot_core.specs.ReservedSlots.{open_collections}
+use Rattle.slot_core.specs.HeadSteps.{is_fresh, BeginsBy, BeginsAs}
 use Rattle.slot_core.proofs.Choosing.{waiver_of, waives}
 use Rattle.slot_core.proofs.Collections.{own_running, running_pending, one_pending, others_run, others_begun, runs_none}
 use Rattle.slot_core.proofs.Recording.{map_changed}
@@ -39,14 +39,14 @@ use Rattle.slot_core.proofs.Turning.{IsHeadJob, head_job}
 use Rattle.slot_core.proofs.Victims.{victim_is}
 use Rattle.slot_core.proofs.Waiving.{waiver_fits}
 use Rattle.slot_core.proofs.Reserving.{waiver_closes}
-use Rattle.die_log.specs.Start.{Start, over}
+use Rattle.die_log.specs.Model.Start.{Start, over}
 
 -- The head, and its record
 
 -- the head's job, and that its record is read off the log
 head_record : (start : Start) (log : Log) (ws : List Waived) (t : Table) (n : ℕ) (j : Job) (r : JobRecord) → IsHeadJob start log ws t n j
-    → slice_get t.jobs n ≡ Some r → record_with start log (waived log ++ ws) j ≡ r
-head_record start log ws t n j r h at = same_Some (record_with start log (waived log ++ ws) j) r (sym h.record_at ∙ at)
+    → slice_get t.jobs n ≡ Some r → record_with start log (waived_collections log ++ ws) j ≡ r
+head_record start log ws t n j r h at = same_Some (record_with start log (waived_collections log ++ ws) j) r (sym h.record_at ∙ at)
 
 fresh_is : (start : Start) (log : Log) (ws : List Waived) (t : Table) (n : ℕ) (j : Job) (r : JobRecord) → IsHeadJob start log ws t n j
     → slice_get t.jobs n ≡ Some r → is_fresh r ≡ (j.collects && (work j.number log == 0))
@@ -91,7 +91,7 @@ begin_leaves {N = N} blocks_of v w r o h = by_fresh (is_fresh r) o h
     }
 
     by_fresh : (b : Bool) (o : Option ℕ) → BeginsBy blocks_of v r.task b o w → LeavesRest v w
-    by_fresh true (Some given) h = same (record v { accounts = moves.waived v.accounts r.task }) h.moved refl refl refl
+    by_fresh true (Some given) h = same (record v { accounts = moves.accounts_after_waiver v.accounts r.task }) h.moved refl refl refl
     by_fresh true None h = same _ h.1.moved refl refl refl
     by_fresh false o h = same v h.1 refl refl refl
 
@@ -155,45 +155,45 @@ table_waived start log ws t n given j k h head = record {
   clock_is = k.clock_is;
   running = k.running;
   jobs_are = ap (λ (js : List JobRecord). changed_at js n (with_stage (Gone given))) k.jobs_are
-      ∙ (map_changed (record_with start log (waived log ++ ws)) (record_with start log ((waived log ++ ws) ++ w ∷ [])) (jobs log) n
+      ∙ (map_changed (record_with start log (waived_collections log ++ ws)) (record_with start log ((waived_collections log ++ ws) ++ w ∷ [])) (jobs log) n
       (with_stage (Gone given)) others here
-      ∙ ap (λ (l : List Waived). map (record_with start log l) (jobs log)) (append_assoc (waived log) ws (w ∷ [])));
-  were_pending = WerePending-push (records start log) ws w k.were_pending
+      ∙ ap (λ (l : List Waived). map (record_with start log l) (jobs log)) (append_assoc (waived_collections log) ws (w ∷ [])));
+  were_pending = WerePending-push (job_records start log) ws w k.were_pending
       (subst (λ (js : List JobRecord). IsPendingAt js n) k.were (head_pending t n head));
-  were = ap (λ (js : List JobRecord). gone_after js w) k.were ∙ sym (waived_push (records start log) ws w);
+  were = ap (λ (js : List JobRecord). gone_after js w) k.were ∙ sym (waived_push (job_records start log) ws w);
 }
   where
     w : Waived
     w = record { number = n; given = given }
 
-    none : waiver_among j.number (waived log ++ ws) ≡ None
-    none = unwaived_pending (waiver_among j.number (waived log ++ ws)) refl
+    none : waiver_among j.number (waived_collections log ++ ws) ≡ None
+    none = unwaived_pending (waiver_among j.number (waived_collections log ++ ws)) refl
       where
-        not_pending : (x : Waived) → waiver_among j.number (waived log ++ ws) ≡ Some x → ⊥
+        not_pending : (x : Waived) → waiver_among j.number (waived_collections log ++ ws) ≡ Some x → ⊥
         not_pending x e =
             let pending_one = head_pending t n head in
-            let same : pending_one.job ≡ record_with start log (waived log ++ ws) j = same_Some pending_one.job
-            (record_with start log (waived log ++ ws) j) (sym pending_one.is_at ∙ h.record_at) in
-            let gone : (record_with start log (waived log ++ ws) j).stage ≡ Gone x.given = rw e refl in
+            let same : pending_one.job ≡ record_with start log (waived_collections log ++ ws) j = same_Some pending_one.job
+            (record_with start log (waived_collections log ++ ws) j) (sym pending_one.is_at ∙ h.record_at) in
+            let gone : (record_with start log (waived_collections log ++ ws) j).stage ≡ Gone x.given = rw e refl in
             absurd (let clash = sym pending_one.pending_is ∙ (ap (λ (r : JobRecord). r.stage) same ∙ gone) in cc)
 
-        unwaived_pending : (o : Option Waived) → waiver_among j.number (waived log ++ ws) ≡ o → o ≡ None
+        unwaived_pending : (o : Option Waived) → waiver_among j.number (waived_collections log ++ ws) ≡ o → o ≡ None
         unwaived_pending None e = refl
         unwaived_pending (Some x) e = absurd (not_pending x e)
 
-    others : (k : ℕ) (i : Job) → slice_get (jobs log) k ≡ Some i → (k ≡ n → ⊥) → record_with start log (waived log ++ ws) i
-        ≡ record_with start log ((waived log ++ ws) ++ w ∷ []) i
+    others : (k : ℕ) (i : Job) → slice_get (jobs log) k ≡ Some i → (k ≡ n → ⊥) → record_with start log (waived_collections log ++ ws) i
+        ≡ record_with start log ((waived_collections log ++ ws) ++ w ∷ []) i
     others k i at other =
         let is : i.number ≡ 0 + k = number_at 0 (jobs log) k i h.both.0.numbered at in
-        rw (among_other i.number (waived log ++ ws) w (ne_eqb n i.number (λ same. other (omega (arith, same, is))))) refl
+        rw (among_other i.number (waived_collections log ++ ws) w (ne_eqb n i.number (λ same. other (omega (arith, same, is))))) refl
 
-    here : (i : Job) → slice_get (jobs log) n ≡ Some i → with_stage (Gone given) (record_with start log (waived log ++ ws) i)
-        ≡ record_with start log ((waived log ++ ws) ++ w ∷ []) i
+    here : (i : Job) → slice_get (jobs log) n ≡ Some i → with_stage (Gone given) (record_with start log (waived_collections log ++ ws) i)
+        ≡ record_with start log ((waived_collections log ++ ws) ++ w ∷ []) i
     here i at =
         let it : j ≡ i = same_Some j i (sym h.at ∙ at) in
-        subst (λ (x : Job). with_stage (Gone given) (record_with start log (waived log ++ ws) x)
-        ≡ record_with start log ((waived log ++ ws) ++ w ∷ []) x) it
-        (rw (among_own j.number (waived log ++ ws) w (sym h.number_is) none) refl)
+        subst (λ (x : Job). with_stage (Gone given) (record_with start log (waived_collections log ++ ws) x)
+        ≡ record_with start log ((waived_collections log ++ ws) ++ w ∷ []) x) it
+        (rw (among_own j.number (waived_collections log ++ ws) w (sym h.number_is) none) refl)
 
 -- what holds within the slot holds after one more waiver
 pub waives_head : (start : Start) {N : Type 0} (blocks_of : N → List device.Block) (log : Log) (present : ℕ) (ws : List Waived) (t : Table) (n given : ℕ)
@@ -206,12 +206,12 @@ waives_head start {N = N} blocks_of log present ws t n given v w r s head at h =
     (with_change t n (with_stage (Gone given))) (flash_of blocks_of x)) (sym waiver.waives.moved) (record {
       slot = s.slot;
       table = table_waived (over v.accounts.plan start) log ws t n given j s.table job head;
-      goes_on = subst (λ (x : Waived). GoesOn (over v.accounts.plan start) log (ws ++ x ∷ []) (moves.waived v.accounts r.task)) waiver_is
-          (subst (λ (k : ℕ). GoesOn (over v.accounts.plan start) log (ws ++ waiver_of v.accounts j ∷ []) (moves.waived v.accounts k)) task_is
+      goes_on = subst (λ (x : Waived). ChoiceGoesOn (over v.accounts.plan start) log (ws ++ x ∷ []) (moves.accounts_after_waiver v.accounts r.task)) waiver_is
+          (subst (λ (k : ℕ). ChoiceGoesOn (over v.accounts.plan start) log (ws ++ waiver_of v.accounts j ∷ []) (moves.accounts_after_waiver v.accounts k)) task_is
           (waives (over v.accounts.plan start) log ws v.accounts j s.goes_on job.least_is waivable));
       flash = record {
-        accounts_are = ap (λ (a : Accounts). moves.waived a r.task) s.flash.accounts_are
-            ∙ (ap (λ (k : ℕ). moves.waived (after_waivers log ws (accounts (over v.accounts.plan start) log)) k) (sym task_is)
+        accounts_are = ap (λ (a : Accounts). moves.accounts_after_waiver a r.task) s.flash.accounts_are
+            ∙ (ap (λ (k : ℕ). moves.accounts_after_waiver (after_waivers log ws (accounts (over v.accounts.plan start) log)) k) (sym task_is)
             ∙ sym (waivers_more log ws (record { number = n; given = given }) (accounts (over v.accounts.plan start) log)
             ∙ ap (λ (o : Option Job). after_waiver o (after_waivers log ws (accounts (over v.accounts.plan start) log))) job.at));
         pages_are = s.flash.pages_are;
@@ -246,7 +246,7 @@ waives_head start {N = N} blocks_of log present ws t n given v w r s head at h =
     waiver_is = same_waiver j.number n (given_of v.accounts j.task) given job.number_is (ap (given_of v.accounts) task_is
         ∙ sym waiver.waives.given)
 
--- The turn begins
+-- The step begins
 
 not_spare : (m n : ℕ) → n < m → nat_le m n ≡ false
 not_spare m n h = grind (arith, nat_tests)
@@ -285,7 +285,7 @@ begun_runs start blocks_of log ws t n v j h r collects begun =
 turn_unfresh : (start : Start) {N : Type 0} (blocks_of : N → List device.Block) (log : Log) (present : ℕ) (ws : List Waived) (t : Table) (n : ℕ)
     (v : State N) (j : Job) → InSlot (over v.accounts.plan start) log present ws t (flash_of blocks_of v) → table.IsHead t n
     → IsHeadJob (over v.accounts.plan start) log ws t n j → (j.collects && (work j.number log == 0)) ≡ false
-    → HasTurn (over v.accounts.plan start) log present ws t (flash_of blocks_of v) n
+    → IsHeadInSlot (over v.accounts.plan start) log present ws t (flash_of blocks_of v) n
 turn_unfresh start blocks_of log present ws t n v j s head h unfresh = record {
   slot = s.slot;
   table = s.table;
@@ -308,7 +308,7 @@ nil_by (x ∷ xs) h = absurd (omega (arith, h))
 turn_fresh : (start : Start) {N : Type 0} (blocks_of : N → List device.Block) (log : Log) (present : ℕ) (ws : List Waived) (t : Table) (n block : ℕ)
     (v : State N) (w : State N) (j : Job) → InSlot (over v.accounts.plan start) log present ws t (flash_of blocks_of v) → table.IsHead t n
     → IsHeadJob (over v.accounts.plan start) log ws t n j → (j.collects && (work j.number log == 0)) ≡ true → Begins blocks_of v j.task block w
-    → HasTurn (over v.accounts.plan start) log present ws t (record (flash_of blocks_of v)
+    → IsHeadInSlot (over v.accounts.plan start) log present ws t (record (flash_of blocks_of v)
     { running = slice_set v.running j.task (Some (record { victim = block; buffer = None })) }) n
 turn_fresh start blocks_of log present ws t n block v w j s head h fresh begins = record {
   slot = s.slot;
@@ -348,10 +348,10 @@ turn_fresh start blocks_of log present ws t n block v w j s head h fresh begins 
     parts : (j.collects ≡ true) × ((work j.number log == 0) ≡ true)
     parts = and_parts j.collects (work j.number log == 0) fresh
 
--- who is not waived has the turn
+-- who is not waived is the head
 pub turn_begins : (start : Start) {N : Type 0} (blocks_of : N → List device.Block) (log : Log) (present : ℕ) (ws : List Waived) (t : Table) (n : ℕ)
     (v w : State N) (r : JobRecord) → InSlot (over v.accounts.plan start) log present ws t (flash_of blocks_of v) → table.IsHead t n
-    → slice_get t.jobs n ≡ Some r → BeginsAs blocks_of v r None w → HasTurn (over v.accounts.plan start) log present ws t (flash_of blocks_of w) n
+    → slice_get t.jobs n ≡ Some r → BeginsAs blocks_of v r None w → IsHeadInSlot (over v.accounts.plan start) log present ws t (flash_of blocks_of w) n
 turn_begins start {N = N} blocks_of log present ws t n v w r s head at h = by_fresh (is_fresh r) refl h
   where
     j : Job
@@ -364,13 +364,13 @@ turn_begins start {N = N} blocks_of log present ws t n v w r s head at h = by_fr
     task_is = sym (ap (λ (x : JobRecord). x.task) (head_record (over v.accounts.plan start) log ws t n j r job at))
 
     by_fresh : (b : Bool) → is_fresh r ≡ b → BeginsBy blocks_of v r.task b None w
-        → HasTurn (over v.accounts.plan start) log present ws t (flash_of blocks_of w) n
+        → IsHeadInSlot (over v.accounts.plan start) log present ws t (flash_of blocks_of w) n
     by_fresh true e k =
         let begins : Begins blocks_of v j.task k.0 w = subst (λ (task : ℕ). Begins blocks_of v task k.0 w) task_is k.1 in
-        subst (λ (x : State N). HasTurn (over v.accounts.plan start) log present ws t (flash_of blocks_of x) n) (sym begins.moved)
+        subst (λ (x : State N). IsHeadInSlot (over v.accounts.plan start) log present ws t (flash_of blocks_of x) n) (sym begins.moved)
         (turn_fresh start blocks_of log present ws t n k.0 v w j s head job (sym (fresh_is (over v.accounts.plan start) log ws t n j r job at) ∙ e) begins)
     by_fresh false e k =
-        subst (λ (x : State N). HasTurn (over v.accounts.plan start) log present ws t (flash_of blocks_of x) n) (sym k.1)
+        subst (λ (x : State N). IsHeadInSlot (over v.accounts.plan start) log present ws t (flash_of blocks_of x) n) (sym k.1)
         (turn_unfresh start blocks_of log present ws t n v j s head job (sym (fresh_is (over v.accounts.plan start) log ws t n j r job at) ∙ e))
 
 -- The table is asked for its head
@@ -402,9 +402,9 @@ looks_fit start blocks_of log present ws t u n v r s is head at = begin_fits sta
 
 pub looks_turn : (start : Start) {N : Type 0} (blocks_of : N → List device.Block) (log : Log) (present : ℕ) (ws : List Waived) (t u : Table) (n : ℕ)
     (v w : State N) (r : JobRecord) → Within start blocks_of log present ws t v → u ≡ record t { clock = present } → table.IsHead u n
-    → slice_get u.jobs n ≡ Some r → BeginsAs blocks_of v r None w → HasTurn (over w.accounts.plan start) log present ws u (flash_of blocks_of w) n
+    → slice_get u.jobs n ≡ Some r → BeginsAs blocks_of v r None w → IsHeadInSlot (over w.accounts.plan start) log present ws u (flash_of blocks_of w) n
 looks_turn start blocks_of log present ws t u n v w r s is head at h =
-    subst (λ (p : DiePlan). HasTurn (over p start) log present ws u (flash_of blocks_of w) n) (sym (begin_leaves blocks_of v w r None h).plan)
+    subst (λ (p : DiePlan). IsHeadInSlot (over p start) log present ws u (flash_of blocks_of w) n) (sym (begin_leaves blocks_of v w r None h).plan)
     (turn_begins start blocks_of log present ws u n v w r (asked start blocks_of log present ws t u v s is) head at h)
 
 pub looks_waived : (start : Start) {N : Type 0} (blocks_of : N → List device.Block) (log : Log) (present : ℕ) (ws after : List Waived) (t u x : Table)

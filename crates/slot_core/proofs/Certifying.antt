@@ -8,17 +8,17 @@ use Rattle.late_cert.specs.declared.rows.JobRow.{JobRow}
 use Rattle.late_cert.specs.declared.certificates.Certificate.{Certificate}
 use Rattle.late_cert.specs.Schedule.{Slots}
 use Rattle.late_cert.specs.Build.{certificate_of}
-use Rattle.die_log.specs.Log.{Log, Job}
-use Rattle.die_log.specs.Work.{worst}
-use Rattle.die_log.specs.Answers.{IsExact}
-use Rattle.die_log.specs.Rows.{rows, carried_numbers, certificate, certificate_for}
+use Rattle.die_log.specs.Model.Log.{Log, Job}
+use Rattle.die_log.specs.Model.Work.{worst}
+use Rattle.die_log.specs.Model.Answers.{IsExact}
+use Rattle.die_log.specs.Model.Rows.{rows, carried_numbers, certificate, certificate_for}
 use Rattle.die_log.proofs.Least.Certificates.{nothing_done}
 use Rattle.die_log.proofs.Promises.{keeps_promises}
 use Rattle.slot_core.specs.declared.outcomes.Worst.{Worst}
 use Rattle.slot_core.specs.Outcomes.{worst_from, worst_of}
-use Rattle.die_log.specs.Certified.{NothingDone, IsOfWorst, HoldsOver, BindsAll}
-use Rattle.die_log.specs.Start.{Start}
-use Rattle.die_log.specs.Opening.{IsOpening}
+use Rattle.die_log.specs.Results.Certificates.{NothingDone, IsOfWorst, HoldsOver, BindsAll}
+use Rattle.die_log.specs.Model.Start.{Start}
+use Rattle.die_log.specs.Model.Opening.{IsOpening}
 
 worst_named : (plan : DiePlan) (log : Log) (w : Worst) (o : Option Job) → Some w ≡ option_map (worst_from log) o
     → certificate_for plan log o ≡ certificate_of (rows plan log) (carried_numbers log) w.job

@@ -5,15 +5,15 @@ use Rattle.slot_types.specs.declared.plans.DiePlan.{DiePlan}
 use Rattle.slot_types.specs.declared.replies.Waived.{Waived}
 use Rattle.plan_rules.specs.Accounts.{Accounts, given_of}
 use Rattle.plan_rules.specs.Accounts as moves
-use Rattle.die_log.specs.Log.{Log, Job}
-use Rattle.die_log.specs.Work.{ready, least}
-use Rattle.die_log.specs.Accounts.{accounts}
-use Rattle.die_log.specs.Answers.{Choice, choice, choice_among, chosen, weighed, without, with_waiver, is_waivable}
-use Rattle.die_log.specs.Legal.{is_among}
-use Rattle.slot_core.specs.Slotted.{unwaived, behind, GoesOn}
+use Rattle.die_log.specs.Model.Log.{Log, Job}
+use Rattle.die_log.specs.Model.Work.{ready, least}
+use Rattle.die_log.specs.Model.Accounts.{accounts}
+use Rattle.die_log.specs.Model.Answers.{Choice, choice, choice_among, choice_by_head, head_or_waiver, without, with_waiver, is_waivable}
+use Rattle.die_log.specs.Results.Legal.{is_among}
+use Rattle.slot_core.specs.WithinSlot.{without_waived, choice_after, ChoiceGoesOn}
 use Rattle.die_log.proofs.Choices.{OfSome}
 use Rattle.die_log.proofs.Heads.{least_less}
-use Rattle.die_log.specs.Start.{Start}
+use Rattle.die_log.specs.Model.Start.{Start}
 
 abbrev pub waiver_of : Accounts → Job → Waived
 waiver_of a j = record { number = j.number; given = given_of a j.task }
@@ -22,9 +22,9 @@ filter_all : {X : Type 0} (xs : List X) → filter (λ (x : X). true) xs ≡ xs
 filter_all [] = refl
 filter_all (x ∷ xs) = ap (λ ys. x ∷ ys) (filter_all xs)
 
-pub starts : (start : Start) (past : Log) → GoesOn start past [] (accounts start past)
+pub starts : (start : Start) (past : Log) → ChoiceGoesOn start past [] (accounts start past)
 starts start past = record {
-  turns = length (ready start.plan past);
+  rounds = length (ready start.plan past);
   enough = rw (filter_all (ready start.plan past)) (omega arith);
   rest = rw (filter_all (ready start.plan past)) refl;
 }
@@ -63,8 +63,8 @@ same_turned : (m n : ℕ) → (m == n) ≡ (n == m)
 same_turned m n = grind (arith)
 
 -- to waive one more is to leave it out
-pub unwaived_more : (ws : List Waived) (w : Waived) (j : Job) (waiting : List Job) → w.number ≡ j.number → unwaived (ws ++ w ∷ []) waiting
-    ≡ without j (unwaived ws waiting)
+pub unwaived_more : (ws : List Waived) (w : Waived) (j : Job) (waiting : List Job) → w.number ≡ j.number → without_waived (ws ++ w ∷ []) waiting
+    ≡ without j (without_waived ws waiting)
 unwaived_more ws w j waiting e =
     sym (filter_twice (λ i. not (is_among i.number ws)) (λ i. not (i.number == j.number)) waiting
     ∙ filter_same (λ i. not (is_among i.number ws) && not (i.number == j.number)) (λ i. not (is_among i.number (ws ++ w ∷ []))) same
@@ -76,74 +76,74 @@ unwaived_more ws w j waiting e =
         ∙ ap not (ap (λ b. is_among i.number ws || b) (same_turned i.number j.number ∙ ap (λ n. n == i.number) (sym e))
         ∙ sym (among_more i.number ws w))
 
-none_of_nil : (turns : ℕ) (xs : List Job) (j : Job) → least xs ≡ Some j → length xs ≤ turns → 0 < turns
-none_of_nil turns [] j e h = absurd cc
-none_of_nil turns (x ∷ xs) j e h = omega arith
+none_of_nil : (rounds : ℕ) (xs : List Job) (j : Job) → least xs ≡ Some j → length xs ≤ rounds → 0 < rounds
+none_of_nil rounds [] j e h = absurd cc
+none_of_nil rounds (x ∷ xs) j e h = omega arith
 
-joined : (ws : List Waived) (w : Waived) (c : Choice) → behind ws (with_waiver w c) ≡ behind (ws ++ w ∷ []) c
-joined ws w c = ap (λ (ys : List Waived). behind [] (record { waived = ys; head = c.head })) (sym (append_assoc ws (w ∷ []) c.waived))
+joined : (ws : List Waived) (w : Waived) (c : Choice) → choice_after ws (with_waiver w c) ≡ choice_after (ws ++ w ∷ []) c
+joined ws w c = ap (λ (ys : List Waived). choice_after [] (record { waived = ys; head = c.head })) (sym (append_assoc ws (w ∷ []) c.waived))
 
 append_none : {X : Type 0} (xs : List X) → xs ++ [] ≡ xs
 append_none [] = refl
 append_none (x ∷ xs) = ap (λ ys. x ∷ ys) (append_none xs)
 
-only : (ws : List Waived) (o : Option Job) → behind ws (record { waived = []; head = o }) ≡ record { waived = ws; head = o }
-only ws o = ap (λ (ys : List Waived). behind [] (record { waived = ys; head = o })) (append_none ws)
+only : (ws : List Waived) (o : Option Job) → choice_after ws (record { waived = []; head = o }) ≡ record { waived = ws; head = o }
+only ws o = ap (λ (ys : List Waived). choice_after [] (record { waived = ys; head = o })) (append_none ws)
 
 -- the head is waived, and the choice goes on
-pub waives : (start : Start) (past : Log) (ws : List Waived) (a : Accounts) (j : Job) → GoesOn start past ws a
-    → least (unwaived ws (ready start.plan past)) ≡ Some j → is_waivable start.plan past a j ≡ true
-    → GoesOn start past (ws ++ waiver_of a j ∷ []) (moves.waived a j.task)
-waives start past ws a j g e yes_is = by_turns g.turns refl
+pub waives : (start : Start) (past : Log) (ws : List Waived) (a : Accounts) (j : Job) → ChoiceGoesOn start past ws a
+    → least (without_waived ws (ready start.plan past)) ≡ Some j → is_waivable start.plan past a j ≡ true
+    → ChoiceGoesOn start past (ws ++ waiver_of a j ∷ []) (moves.accounts_after_waiver a j.task)
+waives start past ws a j g e yes_is = by_rounds g.rounds refl
   where
     xs : List Job
-    xs = unwaived ws (ready start.plan past)
+    xs = without_waived ws (ready start.plan past)
 
     less : OfSome (λ i. length (without i xs) < length xs) (Some j)
     less = subst (OfSome (λ i. length (without i xs) < length xs)) e (least_less xs)
 
-    by_turns : (n : ℕ) → g.turns ≡ n → GoesOn start past (ws ++ waiver_of a j ∷ []) (moves.waived a j.task)
-    by_turns zero is = absurd (omega (arith, none_of_nil g.turns xs j e g.enough))
-    by_turns (suc n) is = record {
-      turns = n;
+    by_rounds : (n : ℕ) → g.rounds ≡ n → ChoiceGoesOn start past (ws ++ waiver_of a j ∷ []) (moves.accounts_after_waiver a j.task)
+    by_rounds zero is = absurd (omega (arith, none_of_nil g.rounds xs j e g.enough))
+    by_rounds (suc n) is = record {
+      rounds = n;
       enough = rw (unwaived_more ws (waiver_of a j) j (ready start.plan past) refl) (omega (arith, less, g.enough));
-      rest = g.rest ∙ (ap (λ t. behind ws (choice_among start.plan past t a xs)) is
-          ∙ (ap (λ o. behind ws (chosen start.plan past a xs (choice_among start.plan past n) o)) e
-          ∙ (ap (λ b. behind ws (weighed a xs (choice_among start.plan past n) j b)) yes_is ∙ moved n)));
+      rest = g.rest ∙ (ap (λ t. choice_after ws (choice_among start.plan past t a xs)) is
+          ∙ (ap (λ o. choice_after ws (choice_by_head start.plan past a xs (choice_among start.plan past n) o)) e
+          ∙ (ap (λ b. choice_after ws (head_or_waiver a xs (choice_among start.plan past n) j b)) yes_is ∙ moved n)));
     }
       where
-        moved : (n : ℕ) → behind ws (with_waiver (waiver_of a j) (choice_among start.plan past n (moves.waived a j.task) (without j xs)))
-            ≡ behind (ws ++ waiver_of a j ∷ []) (choice_among start.plan past n (moves.waived a j.task)
-            (unwaived (ws ++ waiver_of a j ∷ []) (ready start.plan past)))
+        moved : (n : ℕ) → choice_after ws (with_waiver (waiver_of a j) (choice_among start.plan past n (moves.accounts_after_waiver a j.task) (without j xs)))
+            ≡ choice_after (ws ++ waiver_of a j ∷ []) (choice_among start.plan past n (moves.accounts_after_waiver a j.task)
+            (without_waived (ws ++ waiver_of a j ∷ []) (ready start.plan past)))
         moved n = rw (unwaived_more ws (waiver_of a j) j (ready start.plan past) refl)
-            (joined ws (waiver_of a j) (choice_among start.plan past n (moves.waived a j.task) (without j xs)))
+            (joined ws (waiver_of a j) (choice_among start.plan past n (moves.accounts_after_waiver a j.task) (without j xs)))
 
 -- the head is not waived: it has the slot
-pub begins : (start : Start) (past : Log) (ws : List Waived) (a : Accounts) (j : Job) → GoesOn start past ws a
-    → least (unwaived ws (ready start.plan past)) ≡ Some j → is_waivable start.plan past a j ≡ false
+pub begins : (start : Start) (past : Log) (ws : List Waived) (a : Accounts) (j : Job) → ChoiceGoesOn start past ws a
+    → least (without_waived ws (ready start.plan past)) ≡ Some j → is_waivable start.plan past a j ≡ false
     → choice start past ≡ record { waived = ws; head = Some j }
-begins start past ws a j g e no_is = by_turns g.turns refl
+begins start past ws a j g e no_is = by_rounds g.rounds refl
   where
     xs : List Job
-    xs = unwaived ws (ready start.plan past)
+    xs = without_waived ws (ready start.plan past)
 
-    by_turns : (n : ℕ) → g.turns ≡ n → choice start past ≡ record { waived = ws; head = Some j }
-    by_turns zero is = absurd (omega (arith, none_of_nil g.turns xs j e g.enough))
-    by_turns (suc n) is =
-        g.rest ∙ (ap (λ t. behind ws (choice_among start.plan past t a xs)) is
-        ∙ (ap (λ o. behind ws (chosen start.plan past a xs (choice_among start.plan past n) o)) e
-        ∙ (ap (λ b. behind ws (weighed a xs (choice_among start.plan past n) j b)) no_is ∙ only ws (Some j))))
+    by_rounds : (n : ℕ) → g.rounds ≡ n → choice start past ≡ record { waived = ws; head = Some j }
+    by_rounds zero is = absurd (omega (arith, none_of_nil g.rounds xs j e g.enough))
+    by_rounds (suc n) is =
+        g.rest ∙ (ap (λ t. choice_after ws (choice_among start.plan past t a xs)) is
+        ∙ (ap (λ o. choice_after ws (choice_by_head start.plan past a xs (choice_among start.plan past n) o)) e
+        ∙ (ap (λ b. choice_after ws (head_or_waiver a xs (choice_among start.plan past n) j b)) no_is ∙ only ws (Some j))))
 
 -- nobody is left
-pub ends : (start : Start) (past : Log) (ws : List Waived) (a : Accounts) → GoesOn start past ws a → least (unwaived ws (ready start.plan past))
+pub ends : (start : Start) (past : Log) (ws : List Waived) (a : Accounts) → ChoiceGoesOn start past ws a → least (without_waived ws (ready start.plan past))
     ≡ None → choice start past ≡ record { waived = ws; head = None }
-ends start past ws a g e = by_turns g.turns refl
+ends start past ws a g e = by_rounds g.rounds refl
   where
     xs : List Job
-    xs = unwaived ws (ready start.plan past)
+    xs = without_waived ws (ready start.plan past)
 
-    by_turns : (n : ℕ) → g.turns ≡ n → choice start past ≡ record { waived = ws; head = None }
-    by_turns zero is = g.rest ∙ (ap (λ t. behind ws (choice_among start.plan past t a xs)) is ∙ only ws None)
-    by_turns (suc n) is =
-        g.rest ∙ (ap (λ t. behind ws (choice_among start.plan past t a xs)) is
-        ∙ (ap (λ o. behind ws (chosen start.plan past a xs (choice_among start.plan past n) o)) e ∙ only ws None))
+    by_rounds : (n : ℕ) → g.rounds ≡ n → choice start past ≡ record { waived = ws; head = None }
+    by_rounds zero is = g.rest ∙ (ap (λ t. choice_after ws (choice_among start.plan past t a xs)) is ∙ only ws None)
+    by_rounds (suc n) is =
+        g.rest ∙ (ap (λ t. choice_after ws (choice_among start.plan past t a xs)) is
+        ∙ (ap (λ o. choice_after ws (choice_by_head start.plan past a xs (choice_among start.plan past n) o)) e ∙ only ws None))

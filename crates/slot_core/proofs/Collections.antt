@@ -11,18 +11,18 @@ use Rattle.slot_types.specs.declared.acts.Act.{Act}
 use Rattle.slot_types.specs.declared.replies.Entry.{Entry}
 use Rattle.flash_volume.specs.declared.collection.Collection.{Collection}
 use Rattle.flash_volume.specs.Running.{running_of}
-use Rattle.die_log.specs.Log.{Log, Job, jobs, job_at, act_of, acts, is_waived, work}
-use Rattle.die_log.specs.Flash.{ran_by}
-use Rattle.die_log.specs.Work.{is_done}
-use Rattle.die_log.specs.Answers.{is_running, buffer_after}
-use Rattle.die_log.specs.Held.{is_pending, AreTrue}
-use Rattle.die_log.specs.Standing.{AreNumbered, Runs}
+use Rattle.die_log.specs.Model.Log.{Log, Job, jobs, job_at, act_of, acts, is_waived, work}
+use Rattle.die_log.specs.Model.Flash.{ran_by}
+use Rattle.die_log.specs.Model.Work.{is_done}
+use Rattle.die_log.specs.Model.Answers.{is_running, buffer_after}
+use Rattle.die_log.specs.Invariants.TrueAccounts.{is_pending, AreTrueAccounts}
+use Rattle.die_log.specs.Invariants.RunningCollections.{AreNumbered, RunsOnBlock}
 use Rattle.die_log.proofs.Standing.Longer.{acts_stay, act_other, same_job, stands_at}
 use Rattle.die_log.proofs.Standing.Quiet.{runs_says, runs_later, runs_before}
 use Rattle.die_log.proofs.Tokens.Found.{first_with, finds_it}
-use Rattle.slot_core.specs.Device.{FlashState, IsRun, AreRunning}
-use Rattle.slot_core.specs.Slotted.{OthersRun}
-use Rattle.die_log.specs.Start.{Start}
+use Rattle.slot_core.specs.Device.{FlashState, IsRunningCollection, AreRunning}
+use Rattle.slot_core.specs.WithinSlot.{OthersRun}
+use Rattle.die_log.specs.Model.Start.{Start}
 
 -- The list by task
 
@@ -52,7 +52,7 @@ no_work : (l : List Act) → l ≡ [] → 0 < length l → ⊥
 no_work l e h = omega (arith, h, ap (λ (x : List Act). length x) e)
 
 -- what runs is pending
-pub running_pending : (start : Start) (past : Log) (j : Job) → AreTrue start past → is_running start.plan past j ≡ true
+pub running_pending : (start : Start) (past : Log) (j : Job) → AreTrueAccounts start past → is_running start.plan past j ≡ true
     → is_pending start.plan (λ n. acts n past) (is_waived past) j ≡ true
 running_pending start past j h is = by_waived (is_waived past j.number) refl
   where
@@ -65,7 +65,7 @@ running_pending start past j h is = by_waived (is_waived past j.number) refl
         (not_from_false (is_waived past j.number) e)
 
 -- two pending collections of one task are one
-pub one_pending : (start : Start) (past : Log) (i j : Job) → AreTrue start past → job_at past i.number ≡ Some i → job_at past j.number
+pub one_pending : (start : Start) (past : Log) (i j : Job) → AreTrueAccounts start past → job_at past i.number ≡ Some i → job_at past j.number
     ≡ Some j
     → is_pending start.plan (λ n. acts n past) (is_waived past) i ≡ true → is_pending start.plan (λ n. acts n past) (is_waived past) j ≡ true → i.task
     ≡ j.task → i ≡ j
@@ -86,14 +86,14 @@ no_act : (n : ℕ) (e : Entry) → ran_by e.reply ≡ None → act_of n (ran_by 
 no_act n e none = ap (act_of n) none
 
 later_run : (start : Start) (e : Entry) (past : Log) (task : ℕ) (c : Collection) (j : Job) → act_of j.number (ran_by e.reply) ≡ None
-    → Contains (jobs (e ∷ past)) j → IsRun start past task c j → IsRun start (e ∷ past) task c j
+    → Contains (jobs (e ∷ past)) j → IsRunningCollection start past task c j → IsRunningCollection start (e ∷ past) task c j
 later_run start e past task c j quiet there r = record {
   runs = runs_later start e past j c.victim quiet there r.runs;
   task_is = r.task_is;
   holds = r.holds ∙ ap (λ (own : List Act). buffer_after (last_or None own)) (sym (acts_stay j.number e past quiet));
 }
 
--- an entry that carried nothing, behind which nobody runs that didn't before
+-- an entry that carried nothing, after which nobody runs that didn't before
 pub running_quiet : (start : Start) (e : Entry) (past : Log) (running : List (Option Collection)) → ran_by e.reply ≡ None
     → ((j : Job) → Contains (jobs past) j → Contains (jobs (e ∷ past)) j)
     → ((j : Job) → Contains (jobs (e ∷ past)) j → is_running start.plan (e ∷ past) j ≡ true → Contains (jobs past) j)
@@ -111,7 +111,7 @@ running_quiet start e past running none later before r = record {
 -- the head's collection runs on, or is done
 abbrev pub OwnRun : Start → Log → Job → List (Option Collection) → Type 0
 OwnRun start log j running =
-    ((c : Collection) × (running_of running j.task ≡ Some c) × IsRun start log j.task c j)
+    ((c : Collection) × (running_of running j.task ≡ Some c) × IsRunningCollection start log j.task c j)
     ⊎ ((running_of running j.task ≡ None) × (is_running start.plan log j ≡ false))
 
 -- an entry that carried the head's act
@@ -133,14 +133,14 @@ running_acted start e past j act f after ran same numbered stands others len res
     there i h = subst (λ (js : List Job). Contains js i) (sym same) h
 
     each_other : (task : ℕ) (c : Collection) → running_of after task ≡ Some c → (apart : j.collects ≡ true → task ≢ j.task) → (i : Job)
-        × IsRun start (e ∷ past) task c i
+        × IsRunningCollection start (e ∷ past) task c i
     each_other task c at apart =
         let old = others.each task c apart (sym (rest task apart) ∙ at) in (
           old.0,
           later_run start e past task c old.0 (quiet old.0 (λ number. differs old.0 old.1 number)) (there old.0 old.1.runs.stands) old.1,
         )
       where
-        differs : (i : Job) → IsRun start past task c i → i.number ≡ j.number → ⊥
+        differs : (i : Job) → IsRunningCollection start past task c i → i.number ≡ j.number → ⊥
         differs i r number =
             let it : i ≡ j = same_job (jobs past) i j numbered r.runs.stands stands number in
             let collects : j.collects ≡ true = subst (λ (x : Job). x.collects ≡ true) it
@@ -148,28 +148,28 @@ running_acted start e past j act f after ran same numbered stands others len res
             apart collects (sym r.task_is ∙ ap (λ (x : Job). x.task) it)
 
     each_own : (task : ℕ) (c : Collection) → running_of after task ≡ Some c → task ≡ j.task → OwnRun start (e ∷ past) j after → (i : Job)
-        × IsRun start (e ∷ past) task c i
+        × IsRunningCollection start (e ∷ past) task c i
     each_own task c at is (inl x) =
         let c_is : c ≡ x.0 = same_Some c x.0 (sym at ∙ (ap (running_of after) is ∙ x.1)) in
         (j, rw c_is (rw is x.2))
     each_own task c at is (inr x) = absurd (none-some c (sym x.0 ∙ (ap (running_of after) (sym is) ∙ at)))
 
     each_by : (task : ℕ) (c : Collection) → running_of after task ≡ Some c → (b : Bool) → j.collects ≡ b → (task ≡ j.task)
-        ⊎ (task ≡ j.task → ⊥) → (i : Job) × IsRun start (e ∷ past) task c i
+        ⊎ (task ≡ j.task → ⊥) → (i : Job) × IsRunningCollection start (e ∷ past) task c i
     each_by task c at false plain is = each_other task c at (λ h. absurd (true≢false (sym h ∙ plain)))
     each_by task c at true collects (inl is) = each_own task c at is (own collects)
     each_by task c at true collects (inr apart) = each_other task c at (λ h. apart)
 
-    all_own : (b : ℕ) → Runs start (e ∷ past) j b → OwnRun start (e ∷ past) j after → (c : Collection) × (running_of after j.task ≡ Some c)
+    all_own : (b : ℕ) → RunsOnBlock start (e ∷ past) j b → OwnRun start (e ∷ past) j after → (c : Collection) × (running_of after j.task ≡ Some c)
         × (c.victim ≡ b)
     all_own b runs (inl x) = (x.0, x.1, same_Some x.0.victim b (sym x.2.runs.victim ∙ runs.victim))
     all_own b runs (inr x) = absurd (true≢false (sym runs.running ∙ x.1))
 
-    all_by : (i : Job) (b : ℕ) → Runs start (e ∷ past) i b → (i.number ≡ j.number) ⊎ (i.number ≡ j.number → ⊥) → (c : Collection)
+    all_by : (i : Job) (b : ℕ) → RunsOnBlock start (e ∷ past) i b → (i.number ≡ j.number) ⊎ (i.number ≡ j.number → ⊥) → (c : Collection)
         × (running_of after i.task ≡ Some c) × (c.victim ≡ b)
     all_by i b runs (inl number) =
         let it : i ≡ j = same_job (jobs past) i j numbered (subst (λ (js : List Job). Contains js i) same runs.stands) stands number in
-        rw it (all_own b (subst (λ (x : Job). Runs start (e ∷ past) x b) it runs)
+        rw it (all_own b (subst (λ (x : Job). RunsOnBlock start (e ∷ past) x b) it runs)
         (own (subst (λ (x : Job). x.collects ≡ true) it (runs_says start.plan i (acts i.number (e ∷ past)) runs.running).collects)))
     all_by i b runs (inr apart) =
         let old = others.all i b apart (runs_before start e past i b (quiet i apart)
@@ -179,7 +179,7 @@ running_acted start e past j act f after ran same numbered stands others len res
 -- Before the head acts
 
 -- of the collections that run, those that aren't the head's are of other tasks
-pub others_run : (start : Start) (past : Log) (j : Job) (f : FlashState) → AreTrue start past → AreNumbered 0 (jobs past)
+pub others_run : (start : Start) (past : Log) (j : Job) (f : FlashState) → AreTrueAccounts start past → AreNumbered 0 (jobs past)
     → job_at past j.number ≡ Some j → (j.collects ≡ true → is_pending start.plan (λ n. acts n past) (is_waived past) j ≡ true)
     → AreRunning start past f.running → OthersRun start past j f
 others_run start past j f h numbered at pending_j r = record {
@@ -213,7 +213,7 @@ others_begun start past j f g o collects is others = record {
 }
 
 -- a task whose pending collection has not begun runs none
-pub runs_none : (start : Start) (past : Log) (j : Job) (running : List (Option Collection)) → AreTrue start past → AreNumbered 0 (jobs past)
+pub runs_none : (start : Start) (past : Log) (j : Job) (running : List (Option Collection)) → AreTrueAccounts start past → AreNumbered 0 (jobs past)
     → job_at past j.number ≡ Some j → is_pending start.plan (λ n. acts n past) (is_waived past) j ≡ true
     → work j.number past ≡ 0 → AreRunning start past running → running_of running j.task ≡ None
 runs_none start past j running h numbered at pending_j fresh r = by_found (running_of running j.task) refl

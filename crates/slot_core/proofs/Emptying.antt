@@ -11,13 +11,13 @@ use Rattle.slot_types.specs.declared.pages.Place.{Place}
 use Rattle.slot_types.specs.Places.{place_of, owner_of, is_at}
 use Rattle.flash_volume.specs.declared.collection.Collection.{Collection}
 use Rattle.flash_volume.specs.declared.collection.Copied.{Copied}
-use Rattle.flash_volume.specs.Acts.{HasDropped, IsUnplaced, IsFirst}
-use Rattle.die_log.specs.Log.{Log, Job}
-use Rattle.die_log.specs.Flash.{Cells, cells, valid_pages}
-use Rattle.die_log.specs.Answers.{is_block, is_placed_in, read_or_erase, collect_act, act_for, block_for}
-use Rattle.die_log.specs.Sound.{AreSound}
+use Rattle.flash_volume.specs.Acts.{HasDropped, IsUnplaced, IsFirstInBlock}
+use Rattle.die_log.specs.Model.Log.{Log, Job}
+use Rattle.die_log.specs.Model.Flash.{Cells, cells, valid_pages}
+use Rattle.die_log.specs.Model.Answers.{is_block, is_placed_in, read_or_erase, collect_act, act_for, block_for}
+use Rattle.die_log.specs.Invariants.SoundCells.{AreSoundCells}
 use Rattle.slot_core.specs.Device.{page_in, page_held}
-use Rattle.die_log.specs.Start.{Start}
+use Rattle.die_log.specs.Model.Start.{Start}
 
 -- The pages that lie in a block, in order
 
@@ -43,7 +43,7 @@ none_found g a zero none = refl
 none_found g a (suc n) none = ap (λ (o : Option ℕ). cons_option o (filter_map g (range_with_len (a + 1) n))) (none a)
     ∙ none_found g (a + 1) n none
 
-pub first_valid : (plan : DiePlan) (c : Cells) (b page : ℕ) (source : Place) → AreSound plan c → IsFirst c.places b page source
+pub first_valid : (plan : DiePlan) (c : Cells) (b page : ℕ) (source : Place) → AreSoundCells plan c → IsFirstInBlock c.places b page source
     → (rest : List ℕ) × (valid_pages plan c b ≡ page ∷ rest)
 first_valid plan c b page source sound first =
     first_found (λ cell. owner_of c.places (record { block = b; page = cell })) 0 plan.shape.pages source.page page
@@ -100,7 +100,7 @@ held_is c run copied holds here lies = (
 
 -- The act
 
--- of a collection that has its turn
+-- of a collection that is the head
 pub collect_is : (start : Start) (past : Log) (j : Job) (run : Collection) → j.collects ≡ true → block_for start past j ≡ Some run.victim
     → page_in run ≡ page_held past j.number
     → act_for start past j ≡ collect_act start.plan (cells start past) (page_in run) (Some run.victim)
@@ -128,9 +128,9 @@ left start past j run pages collects victim holds dropped valid =
     (Some (read_or_erase run.victim (valid_pages start.plan (cells start past) run.victim)))) (dropped_is (cells start past) run dropped)
     ∙ ap (λ (ps : List ℕ). Some (read_or_erase run.victim ps)) valid)
 
-pub reads : (start : Start) (past : Log) (j : Job) (run : Collection) (page : ℕ) (source : Place) → AreSound start.plan (cells start past)
+pub reads : (start : Start) (past : Log) (j : Job) (run : Collection) (page : ℕ) (source : Place) → AreSoundCells start.plan (cells start past)
     → j.collects ≡ true → block_for start past j ≡ Some run.victim → page_in run ≡ page_held past j.number
-    → HasDropped (cells start past).places run → IsFirst (cells start past).places run.victim page source → act_for start past j
+    → HasDropped (cells start past).places run → IsFirstInBlock (cells start past).places run.victim page source → act_for start past j
     ≡ Some (does.CopyRead page)
 reads start past j run page source sound collects victim holds dropped first =
     let pages = first_valid start.plan (cells start past) run.victim page source sound first in

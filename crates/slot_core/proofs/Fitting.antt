@@ -13,9 +13,9 @@ use Rattle.slot_types.specs.declared.events.Event.TheVariants as events
 use Rattle.slot_types.specs.Operations.{page_of}
 use Rattle.plan_rules.specs.Bound.{MeetsBound, closed_of}
 use Rattle.job_table.specs.Words.{has_word}
-use Rattle.die_log.specs.Answers.{refusal_of, refusals}
-use Rattle.die_log.specs.Log.{Log}
-use Rattle.die_log.specs.Start.{Start}
+use Rattle.die_log.specs.Model.Answers.{refusal_of, refusals}
+use Rattle.die_log.specs.Model.Log.{Log}
+use Rattle.die_log.specs.Model.Start.{Start}
 use Rattle.die_log.proofs.Legality.{none_stands}
 
 -- a die within its bound has few logical pages

@@ -13,22 +13,22 @@ use Rattle.slot_types.specs.declared.replies.Reply.TheVariants as replies
 use Rattle.slot_types.specs.declared.replies.Waived.{Waived}
 use Rattle.slot_types.specs.declared.pages.PageData.{PageData}
 use Rattle.slot_types.specs.declared.replies.Entry.{Entry}
-use Rattle.plan_rules.specs.Accounts.{Accounts, admitted, hold_spent, reserve_spent, opening}
+use Rattle.plan_rules.specs.Accounts.{Accounts, accounts_after_admit, accounts_after_write, accounts_after_copy, opening_accounts}
 use Rattle.flash_volume.specs.declared.collection.Collection.{Collection}
 use Rattle.flash_die.specs.Flash as device
-use Rattle.die_log.specs.Log.{Log, Job, jobs, job_at, act_of, acts}
-use Rattle.die_log.specs.Flash.{Block, Cells, block_at, contents, cells, open_block, erased_once, ran_by, free_block, content}
+use Rattle.die_log.specs.Model.Log.{Log, Job, jobs, job_at, act_of, acts}
+use Rattle.die_log.specs.Model.Flash.{Block, Cells, block_at, contents, cells, open_block, block_after_erase_slot, ran_by, free_block, content}
 use Rattle.slot_types.specs.Operations.{writes}
-use Rattle.die_log.specs.Accounts.{accounts, after_act, after_waivers}
-use Rattle.die_log.specs.Answers.{IsExact, is_running}
+use Rattle.die_log.specs.Model.Accounts.{accounts, after_act, after_waivers}
+use Rattle.die_log.specs.Model.Answers.{IsExact, is_running}
 use Rattle.die_log.proofs.Collecting.{no_acts}
 use Rattle.die_log.proofs.Standing.Longer.{acts_stay}
 use Rattle.die_log.proofs.Standing.Quiet.{runs_says}
 use Rattle.die_log.proofs.Legality.{entry}
 use Rattle.slot_core.specs.Device.{FlashState, counts_of, IsFlashOf, AreRunning}
-use Rattle.slot_core.specs.Slotted.{IsWaivedFlash}
+use Rattle.slot_core.specs.WithinSlot.{IsWaivedFlash}
 use Rattle.slot_core.proofs.Collections.{none_running, running_quiet}
-use Rattle.die_log.specs.Start.{Start, fresh}
+use Rattle.die_log.specs.Model.Start.{Start, fresh}
 
 -- A fresh die
 
@@ -38,7 +38,7 @@ map_replicate (suc n) = ap (λ bs. free_block ∷ bs) (map_replicate n)
 
 abbrev pub fresh_state : DiePlan → FlashState
 fresh_state plan = record {
-  tokens = opening plan;
+  tokens = opening_accounts plan;
   pages = replicate plan.logical device.blank;
   places = replicate plan.logical None;
   blocks = replicate plan.shape.blocks device.free_block;
@@ -75,9 +75,9 @@ running_taken start e past new running none same is nil r = running_quiet start 
 pub flash-submit : (start : Start) (past : Log) (caller task release due : ℕ) (ops : List Op) (f : FlashState) → IsExact start past
     → IsFlashOf start past f
     → IsFlashOf start (entry caller (events.Submit task release due ops) (replies.Taken (length (jobs past))) ∷ past)
-    (record f { tokens = admitted f.tokens task (writes ops) })
+    (record f { tokens = accounts_after_admit f.tokens task (writes ops) })
 flash-submit start past caller task release due ops f exact h = record {
-  accounts_are = ap (λ a. admitted a task (writes ops)) h.accounts_are;
+  accounts_are = ap (λ a. accounts_after_admit a task (writes ops)) h.accounts_are;
   pages_are = h.pages_are;
   places_are = h.places_are;
   blocks_are = h.blocks_are;
@@ -168,7 +168,7 @@ counted blocks b = sym (by_get blocks b)
     by_get (x ∷ bs) (suc k) = by_get bs k
 
 programmed_counts : (blocks : List device.Block) (b : ℕ) (bytes : PageData) (c : Cells) → map counts_of blocks ≡ c.blocks
-    → map counts_of (device.programmed blocks b bytes) ≡ slice_set c.blocks b (record (block_at c b) { filled = (block_at c b).filled + 1 })
+    → map counts_of (device.blocks_after_program blocks b bytes) ≡ slice_set c.blocks b (record (block_at c b) { filled = (block_at c b).filled + 1 })
 programmed_counts blocks b bytes c is =
     map-set counts_of blocks b _
     ∙ (ap (λ n. slice_set (map counts_of blocks) b (record
@@ -184,7 +184,7 @@ state_programmed f tokens pages page b bytes running = record {
   tokens = tokens;
   pages = pages;
   places = slice_set f.places page (Some (record { block = b; page = length (device.block_at f.blocks b).pages }));
-  blocks = device.programmed f.blocks b bytes;
+  blocks = device.blocks_after_program f.blocks b bytes;
   running = running;
 }
 
@@ -201,9 +201,9 @@ pub flash-write : (start : Start) (past : Log) (caller slot : ℕ) (ws : List Wa
     → job_at past j.number ≡ Some j → open_block start.plan (cells start past) ≡ Some b → IsWaivedFlash start past ws f
     → AreRunning start (slot_with caller slot ws j.number (does.Write page bytes) finished past) f.running
     → IsFlashOf start (slot_with caller slot ws j.number (does.Write page bytes) finished past)
-    (state_programmed f (hold_spent f.tokens j.task) (slice_set f.pages page bytes) page b bytes f.running)
+    (state_programmed f (accounts_after_write f.tokens j.task) (slice_set f.pages page bytes) page b bytes f.running)
 flash-write start past caller slot ws j page bytes finished f b at opens h r = record {
-  accounts_are = rw at (ap (λ a. hold_spent a j.task) h.accounts_are);
+  accounts_are = rw at (ap (λ a. accounts_after_write a j.task) h.accounts_are);
   pages_are = ap (λ ps. slice_set ps page bytes) h.pages_are;
   places_are = rw opens (place_is start past page b f h.blocks_are
       ∙ ap (λ ps. slice_set ps page (Some (record { block = b; page = (block_at (cells start past) b).filled }))) h.places_are);
@@ -232,9 +232,9 @@ pub flash-copy : (start : Start) (past : Log) (caller slot : ℕ) (ws : List Wai
     → job_at past j.number ≡ Some j → open_block start.plan (cells start past) ≡ Some b → IsWaivedFlash start past ws f
     → AreRunning start (slot_with caller slot ws j.number (does.CopyProgram page) finished past) running
     → IsFlashOf start (slot_with caller slot ws j.number (does.CopyProgram page) finished past)
-    (state_programmed f (reserve_spent f.tokens j.task) f.pages page b bytes running)
+    (state_programmed f (accounts_after_copy f.tokens j.task) f.pages page b bytes running)
 flash-copy start past caller slot ws j page bytes finished f running b at opens h r = record {
-  accounts_are = rw at (ap (λ a. reserve_spent a j.task) h.accounts_are);
+  accounts_are = rw at (ap (λ a. accounts_after_copy a j.task) h.accounts_are);
   pages_are = h.pages_are;
   places_are = rw opens (place_is start past page b f h.blocks_are
       ∙ ap (λ ps. slice_set ps page (Some (record { block = b; page = (block_at (cells start past) b).filled }))) h.places_are);
@@ -245,12 +245,12 @@ flash-copy start past caller slot ws j page bytes finished f running b at opens 
 -- a slot of an erase
 erased_counts : (slots : ℕ) (blocks : List device.Block) (b : ℕ) (plan : DiePlan) (c : Cells) → slots ≡ plan.shape.erase_slots
     → map counts_of blocks ≡ c.blocks
-    → map counts_of (device.erased blocks slots b) ≡ slice_set c.blocks b (erased_once plan (block_at c b))
+    → map counts_of (device.blocks_after_erase_slot blocks slots b) ≡ slice_set c.blocks b (block_after_erase_slot plan (block_at c b))
 erased_counts slots blocks b plan c slots_are is =
     map-set counts_of blocks b _
     ∙ (ap (λ s. slice_set (map counts_of blocks) b s) (once (device.block_at blocks b) (device.block_at blocks b).erasing refl)
-    ∙ (ap (λ (s : Block). slice_set (map counts_of blocks) b (erased_once plan s)) (counted blocks b)
-    ∙ ap (λ (bs : List Block). slice_set bs b (erased_once plan (slice_index_or bs b free_block))) is))
+    ∙ (ap (λ (s : Block). slice_set (map counts_of blocks) b (block_after_erase_slot plan s)) (counted blocks b)
+    ∙ ap (λ (bs : List Block). slice_set bs b (block_after_erase_slot plan (slice_index_or bs b free_block))) is))
   where
     by_test : (t : Bool) (s : device.Block)
         → counts_of (cond t (record { pages = []; erasing = 0; erases = s.erases + 1 }) (record s { erasing = s.erasing + 1 }))
@@ -258,7 +258,7 @@ erased_counts slots blocks b plan c slots_are is =
     by_test true s = refl
     by_test false s = refl
 
-    once : (s : device.Block) (n : ℕ) → s.erasing ≡ n → counts_of (device.erased_once slots s) ≡ erased_once plan (counts_of s)
+    once : (s : device.Block) (n : ℕ) → s.erasing ≡ n → counts_of (device.block_after_erase_slot slots s) ≡ block_after_erase_slot plan (counts_of s)
     once s n e = by_test (s.erasing + 1 == slots) s ∙ ap
         (λ (t : ℕ). cond (s.erasing + 1 == t) (record { filled = 0; erasing = 0; erases = s.erases + 1 })
         (record (counts_of s) { erasing = s.erasing + 1 })) slots_are
@@ -268,7 +268,7 @@ state_erased f tokens b running = record {
   tokens = tokens;
   pages = f.pages;
   places = f.places;
-  blocks = device.erased f.blocks
+  blocks = device.blocks_after_erase_slot f.blocks
       f.tokens.plan.shape.erase_slots b;
   running = running;
 }

@@ -23,34 +23,34 @@ use Rattle.flash_volume.specs.declared.collection.CollectStep.TheVariants as ste
 use Rattle.flash_volume.specs.Calls.{call_of}
 use Rattle.flash_volume.specs.Picks.{IsCandidate}
 use Rattle.flash_volume.specs.State.{State}
-use Rattle.flash_volume.specs.Steps.{IsStep, IsFirstStep}
+use Rattle.flash_volume.specs.Steps.{IsCollectStep, IsFirstStep}
 use Rattle.job_table.specs.declared.stages.Stage.TheVariants.{Waived as Gone}
 use Rattle.job_table.specs.Heads.{WereHeads, with_waived}
 use Rattle.job_table.specs.Jobs.{JobRecord, with_stage}
 use Rattle.job_table.specs.Order as table
 use Rattle.job_table.specs.Table.{Table, with_change}
-use Rattle.job_table.specs.Waivers.{waived_in}
+use Rattle.job_table.specs.Waivers.{jobs_after_waivers}
 use Rattle.job_table.proofs.Behind.{WereHeads-push, pending_stays}
 use Rattle.job_table.proofs.Heads.{ready_pending}
 use Rattle.job_table.proofs.Waivers.{waived_push}
-use Rattle.die_log.specs.Log.{Log, Job, acts, job_at, jobs, is_waived, waived, work}
-use Rattle.die_log.specs.Work.{victim_of}
-use Rattle.die_log.specs.Accounts.{after_waiver, after_waivers}
-use Rattle.die_log.specs.Answers.{act_for, block_for, buffer_after, choice, collect_act, is_waivable, victim}
-use Rattle.die_log.specs.Flash.{cells}
-use Rattle.die_log.specs.Held.{is_pending, AreTrue}
-use Rattle.die_log.specs.Legal.{is_among}
-use Rattle.die_log.specs.Start.{Start, over}
+use Rattle.die_log.specs.Model.Log.{Log, Job, acts, job_at, jobs, is_waived, waived_collections, work}
+use Rattle.die_log.specs.Model.Work.{victim_of}
+use Rattle.die_log.specs.Model.Accounts.{after_waiver, after_waivers}
+use Rattle.die_log.specs.Model.Answers.{act_for, block_for, buffer_after, choice, collect_act, is_waivable, victim}
+use Rattle.die_log.specs.Model.Flash.{cells}
+use Rattle.die_log.specs.Invariants.TrueAccounts.{is_pending, AreTrueAccounts}
+use Rattle.die_log.specs.Results.Legal.{is_among}
+use Rattle.die_log.specs.Model.Start.{Start, over}
 use Rattle.slot_core.specs.declared.next_slot.NextAct.{NextAct}
 use Rattle.slot_core.specs.declared.next_slot.NextSlot.{NextSlot}
 use Rattle.slot_core.specs.Device.{flash_of, page_held}
-use Rattle.slot_core.specs.Foreseen.{IsTurnSlot, IsFirstSlot}
-use Rattle.slot_core.specs.Kept.{Keeps}
+use Rattle.slot_core.specs.HeadSlots.{IsHeadSlot, IsFirstSlot}
+use Rattle.slot_core.specs.Agreement.{AgreeWithLog}
 use Rattle.slot_core.specs.NextSlot.{kind_of_step, next_slot, nothing_next}
-use Rattle.slot_core.specs.NextTurns.{op_call, NextBy}
+use Rattle.slot_core.specs.NextHeadSteps.{op_call, NextBy}
 use Rattle.slot_core.specs.Records.{record_with}
-use Rattle.slot_core.specs.Slotted.{InSlot, HasTurn}
-use Rattle.slot_core.specs.Turns.{is_fresh, BeginsBy, BeginsAs, OpFits, HeadFits}
+use Rattle.slot_core.specs.WithinSlot.{InSlot, IsHeadInSlot}
+use Rattle.slot_core.specs.HeadSteps.{is_fresh, BeginsBy, BeginsAs, OpFits, HeadFits}
 use Rattle.slot_core.proofs.Beginning.{looks_turn, looks_waived, looks_few}
 use Rattle.slot_core.proofs.Choosing.{begins}
 use Rattle.slot_core.proofs.Collections.{one_pending}
@@ -94,7 +94,7 @@ gift_stays log (w ∷ ws) a task all =
     gift_stays log ws (after_waiver (job_at log w.number) a) task all.1
     ∙ (ap (λ (o : Option Job). given_of (after_waiver o a) task) all.0.1 ∙ other all.0.0.task all.0.2)
   where
-    other : (k : ℕ) → task ≢ k → given_of (moves.waived a k) task ≡ given_of a task
+    other : (k : ℕ) → task ≢ k → given_of (moves.accounts_after_waiver a k) task ≡ given_of a task
     other k apart = ap (λ (b : ℕ). min a.plan.alpha (slice_index a.plan.caps task - (b + slice_index a.holds task)))
         (get_or-set_other a.balances k task (slice_index a.balances k + given_of a k) 0 apart)
 
@@ -121,7 +121,7 @@ pub record Foresees (start : Start) {N : Type 0} (blocks_of : N → List device.
   pub open_ones : AllByRecursion (IsOpenOne (over v.accounts.plan start) log) ws
 
 pub foresees_start : (start : Start) {N : Type 0} (blocks_of : N → List device.Block) (log : Log) (present : ℕ) (t : Table) (v : State N)
-    → Keeps (over v.accounts.plan start) log present t v.failed (flash_of blocks_of v) → v.failed ≡ false → present < MAX_SLOT
+    → AgreeWithLog (over v.accounts.plan start) log present t v.failed (flash_of blocks_of v) → v.failed ≡ false → present < MAX_SLOT
     → Foresees start blocks_of log present [] (record t { clock = present }) v v.accounts.spare
 foresees_start start blocks_of log present t v k alive few = record {
   within = slot_starts start blocks_of log present t v k alive few;
@@ -138,7 +138,7 @@ foresees_idle start blocks_of log present ws t v spare f nothing =
 
 -- the head's record is as it is without the waivers
 record_there : (t : Table) (ws : List Waived) (n : ℕ) (r : JobRecord) → table.IsHead (with_waived t ws) n → slice_get t.jobs n ≡ Some r
-    → slice_get (waived_in t.jobs ws) n ≡ Some r
+    → slice_get (jobs_after_waivers t.jobs ws) n ≡ Some r
 record_there t ws n r head at =
     let here = pending_stays t.jobs ws n head.head head.is_at (ready_pending t.clock head.head head.ready) in
     head.is_at ∙ (sym here ∙ at)
@@ -150,7 +150,7 @@ same_clock start blocks_of log present ws t v spare f = ap (λ (c : ℕ). record
 
 -- a step needs nothing of the accounts but their plan
 step_over : {N : Type 0} (blocks_of : N → List device.Block) (log : Log) (ws : List Waived) (v : State N) (c : Collection) (x : CollectStep)
-    → IsStep blocks_of v c x → IsStep blocks_of (waived_state log v ws) c x
+    → IsCollectStep blocks_of v c x → IsCollectStep blocks_of (waived_state log v ws) c x
 step_over blocks_of log ws v c (steps.Read page source) k = k
 step_over blocks_of log ws v c (steps.Program page place bytes) k = record {
   copied = k.copied;
@@ -169,7 +169,7 @@ step_over blocks_of log ws v c (steps.Erase block) k = k
 unfresh_turn : (start : Start) {N : Type 0} (blocks_of : N → List device.Block) (log : Log) (present : ℕ) (ws : List Waived) (t : Table) (n : ℕ)
     (v : State N) (spare : ℕ) (r : JobRecord) → Foresees start blocks_of log present ws t v spare → table.IsHead (with_waived t ws) n
     → slice_get t.jobs n ≡ Some r → is_fresh r ≡ false
-    → HasTurn (over v.accounts.plan start) log present ws (with_waived t ws) (flash_of blocks_of (waived_state log v ws)) n
+    → IsHeadInSlot (over v.accounts.plan start) log present ws (with_waived t ws) (flash_of blocks_of (waived_state log v ws)) n
 unfresh_turn start blocks_of log present ws t n v spare r f head at unfresh =
     looks_turn start blocks_of log present ws (with_waived t ws) (with_waived t ws) n (waived_state log v ws) (waived_state log v ws) r f.within
     (same_clock start blocks_of log present ws t v spare f) head (record_there t ws n r head at)
@@ -199,7 +199,7 @@ foresees_fits start {N = N} blocks_of log present ws t n v spare r f head at unf
 
 pub foresees_turn : (start : Start) {N : Type 0} (blocks_of : N → List device.Block) (log : Log) (present : ℕ) (ws : List Waived) (t : Table)
     (n : ℕ) (v : State N) (spare : ℕ) (r : JobRecord) (slot : NextSlot) → Foresees start blocks_of log present ws t v spare
-    → table.IsHead (with_waived t ws) n → slice_get t.jobs n ≡ Some r → is_fresh r ≡ false → IsTurnSlot blocks_of v r n slot
+    → table.IsHead (with_waived t ws) n → slice_get t.jobs n ≡ Some r → is_fresh r ≡ false → IsHeadSlot blocks_of v r n slot
     → slot ≡ next_slot (over v.accounts.plan start) log
 foresees_turn start blocks_of log present ws t n v spare r slot f head at unfresh s =
     s.is ∙ sym (turn_next start blocks_of log present ws (with_waived t ws) n (waived_state log v ws) r s.kind s.call
@@ -251,9 +251,9 @@ foresees_first start {N = N} blocks_of log present ws t n v spare r slot f head 
         (head_job (over v.accounts.plan start) log present ws (with_waived t ws) n f.within.slot f.within.table head).0
     job = (head_job (over v.accounts.plan start) log present ws (with_waived t ws) n f.within.slot f.within.table head).1
 
-    record_is : record_with (over v.accounts.plan start) log (waived log ++ ws)
+    record_is : record_with (over v.accounts.plan start) log (waived_collections log ++ ws)
         (head_job (over v.accounts.plan start) log present ws (with_waived t ws) n f.within.slot f.within.table head).0 ≡ r
-    record_is = same_Some (record_with (over v.accounts.plan start) log (waived log ++ ws) j) r
+    record_is = same_Some (record_with (over v.accounts.plan start) log (waived_collections log ++ ws) j) r
         (sym job.record_at ∙ record_there t ws n r head at)
 
     parts : ((head_job (over v.accounts.plan start) log present ws (with_waived t ws) n f.within.slot f.within.table head).0.collects ≡ true)
@@ -303,7 +303,7 @@ or_parts true b h = absurd cc
 or_parts false b h = (refl, h)
 
 -- what pending collections are waived are of other tasks than one that isn't among them
-others_of : (start : Start) (log : Log) (ws : List Waived) (j : Job) → AreTrue start log → job_at log j.number ≡ Some j
+others_of : (start : Start) (log : Log) (ws : List Waived) (j : Job) → AreTrueAccounts start log → job_at log j.number ≡ Some j
     → is_pending start.plan (λ k. acts k log) (is_waived log) j ≡ true → is_among j.number ws ≡ false
     → AllByRecursion (IsOpenOne start log) ws → AllByRecursion (IsOther log j.task) ws
 others_of start log [] j truth at_j open_j among all = tt
@@ -359,7 +359,7 @@ foresees_waive start {N = N} blocks_of log present ws t n v spare given r f head
     before = after_waivers log ws v.accounts
 
     after : State N
-    after = record v { accounts = moves.waived (waived_accounts log v ws) r.task }
+    after = record v { accounts = moves.accounts_after_waiver (waived_accounts log v ws) r.task }
 
     j : Job
     j = (head_job (over v.accounts.plan start) log present ws (with_waived t ws) n f.within.slot f.within.table head).0
@@ -368,9 +368,9 @@ foresees_waive start {N = N} blocks_of log present ws t n v spare given r f head
         (head_job (over v.accounts.plan start) log present ws (with_waived t ws) n f.within.slot f.within.table head).0
     job = (head_job (over v.accounts.plan start) log present ws (with_waived t ws) n f.within.slot f.within.table head).1
 
-    record_is : record_with (over v.accounts.plan start) log (waived log ++ ws)
+    record_is : record_with (over v.accounts.plan start) log (waived_collections log ++ ws)
         (head_job (over v.accounts.plan start) log present ws (with_waived t ws) n f.within.slot f.within.table head).0 ≡ r
-    record_is = same_Some (record_with (over v.accounts.plan start) log (waived log ++ ws) j) r
+    record_is = same_Some (record_with (over v.accounts.plan start) log (waived_collections log ++ ws) j) r
         (sym job.record_at ∙ record_there t ws n r head at)
 
     task_is : (head_job (over v.accounts.plan start) log present ws (with_waived t ws) n f.within.slot f.within.table head).0.task ≡ r.task
@@ -401,18 +401,18 @@ foresees_waive start {N = N} blocks_of log present ws t n v spare given r f head
     })
 
     moved : after_waivers log (ws ++ record { number = n; given = given } ∷ []) v.accounts
-        ≡ moves.waived (after_waivers log ws v.accounts)
+        ≡ moves.accounts_after_waiver (after_waivers log ws v.accounts)
         (head_job (over v.accounts.plan start) log present ws (with_waived t ws) n f.within.slot f.within.table head).0.task
     moved = after_more log ws w v.accounts ∙ ap (λ (o : Option Job). after_waiver o before) job.at
 
-    same_plan : record (moves.waived (after_waivers log ws v.accounts) r.task) { plan = v.accounts.plan }
-        ≡ moves.waived (waived_accounts log v ws) r.task
-    same_plan = subst (λ (p : DiePlan). record (moves.waived before r.task) { plan = p } ≡ moves.waived (record before { plan = p }) r.task)
+    same_plan : record (moves.accounts_after_waiver (after_waivers log ws v.accounts) r.task) { plan = v.accounts.plan }
+        ≡ moves.accounts_after_waiver (waived_accounts log v ws) r.task
+    same_plan = subst (λ (p : DiePlan). record (moves.accounts_after_waiver before r.task) { plan = p } ≡ moves.accounts_after_waiver (record before { plan = p }) r.task)
         (plan_stays log ws v.accounts) refl
 
-    accounts_are : moves.waived (waived_accounts log v ws) r.task
+    accounts_are : moves.accounts_after_waiver (waived_accounts log v ws) r.task
         ≡ waived_accounts log v (ws ++ record { number = n; given = given } ∷ [])
-    accounts_are = sym (ap (λ (a : Accounts). record a { plan = v.accounts.plan }) (moved ∙ ap (moves.waived before) task_is) ∙ same_plan)
+    accounts_are = sym (ap (λ (a : Accounts). record a { plan = v.accounts.plan }) (moved ∙ ap (moves.accounts_after_waiver before) task_is) ∙ same_plan)
 
     table_are : record (with_change (with_waived t ws) n (with_stage (Gone given))) { clock = present }
         ≡ with_waived t (ws ++ record { number = n; given = given } ∷ [])
@@ -432,5 +432,5 @@ pub foresees_task : (start : Start) {N : Type 0} (blocks_of : N → List device.
 foresees_task start blocks_of log present ws t n v spare r f head at =
     let found = head_job (over v.accounts.plan start) log present ws (with_waived t ws) n f.within.slot f.within.table head in
     subst (λ (x : JobRecord). x.task < length v.accounts.plan.caps)
-    (same_Some (record_with (over v.accounts.plan start) log (waived log ++ ws) found.0) r (sym found.1.record_at ∙ record_there t ws n r head at))
+    (same_Some (record_with (over v.accounts.plan start) log (waived_collections log ++ ws) found.0) r (sym found.1.record_at ∙ record_there t ws n r head at))
     found.1.limits.task

@@ -13,17 +13,17 @@ use Rattle.slot_types.specs.declared.replies.Waived.{Waived}
 use Rattle.job_table.specs.Jobs.{JobRecord, is_pending}
 use Rattle.job_table.specs.Table.{Table}
 use Rattle.job_table.specs.Order as table
-use Rattle.die_log.specs.Log.{Log, Job, jobs, now, waived, is_waived}
-use Rattle.die_log.specs.Work.{is_ready, ready, is_done, goes_first, least, completion}
-use Rattle.die_log.specs.Legal.{is_among}
-use Rattle.die_log.specs.Standing.{AreNumbered}
+use Rattle.die_log.specs.Model.Log.{Log, Job, jobs, now, waived_collections, is_waived}
+use Rattle.die_log.specs.Model.Work.{is_ready, ready, is_done, goes_first, least, completion}
+use Rattle.die_log.specs.Results.Legal.{is_among}
+use Rattle.die_log.specs.Invariants.RunningCollections.{AreNumbered}
 use Rattle.die_log.proofs.Choices.{OfSome, least_all}
 use Rattle.die_log.proofs.Heads.{none_before}
 use Rattle.die_log.proofs.Standing.Longer.{number_at, stands_at, same_job, kept_both}
-use Rattle.slot_core.specs.Records.{record_with, waiver_among, stage_by, given}
-use Rattle.slot_core.specs.Slotted.{unwaived}
+use Rattle.slot_core.specs.Records.{record_with, waiver_among, stage_by, pages_given}
+use Rattle.slot_core.specs.WithinSlot.{without_waived}
 use Rattle.slot_core.proofs.Choosing.{filter_twice}
-use Rattle.die_log.specs.Start.{Start}
+use Rattle.die_log.specs.Model.Start.{Start}
 
 -- Lists that are mapped
 
@@ -71,7 +71,7 @@ pending_by None false c g = refl
 pub pending_is : (start : Start) (past : Log) (ws : List Waived) (j : Job) → is_pending (record_with start past ws j).stage
     ≡ (not (is_done start.plan past j) && not (is_among j.number ws))
 pending_is start past ws j =
-    pending_by (waiver_among j.number ws) (is_done start.plan past j) (completion j.number past) (given start j.number past)
+    pending_by (waiver_among j.number ws) (is_done start.plan past j) (completion j.number past) (pages_given start j.number past)
     ∙ ap (λ b. not (is_done start.plan past j) && not b) (waiver_is j.number ws)
 
 pub among_both : (n : ℕ) (xs ys : List Waived) → is_among n (xs ++ ys) ≡ (is_among n xs || is_among n ys)
@@ -100,13 +100,13 @@ tests_join false b c d = refl
 
 -- a record is ready where its job is ready and stays
 pub ready_is : (start : Start) (past : Log) (ws : List Waived) (j : Job)
-    → table.is_ready (now past) (record_with start past (waived past ++ ws) j) ≡ stays start.plan past ws j
+    → table.is_ready (now past) (record_with start past (waived_collections past ++ ws) j) ≡ stays start.plan past ws j
 ready_is start past ws j =
-    ap (λ b. nat_le j.release (now past) && b) (pending_is start past (waived past ++ ws) j
-    ∙ ap (λ b. not (is_done start.plan past j) && not b) (among_both j.number (waived past) ws))
+    ap (λ b. nat_le j.release (now past) && b) (pending_is start past (waived_collections past ++ ws) j
+    ∙ ap (λ b. not (is_done start.plan past j) && not b) (among_both j.number (waived_collections past) ws))
     ∙ tests_join (nat_le j.release (now past)) (is_done start.plan past j) (is_waived past j.number) (is_among j.number ws)
 
-pub unwaived_is : (plan : DiePlan) (past : Log) (ws : List Waived) → unwaived ws (ready plan past) ≡ filter (stays plan past ws) (jobs past)
+pub unwaived_is : (plan : DiePlan) (past : Log) (ws : List Waived) → without_waived ws (ready plan past) ≡ filter (stays plan past ws) (jobs past)
 unwaived_is plan past ws = filter_twice (is_ready plan past) (λ i. not (is_among i.number ws)) (jobs past)
 
 -- The least
@@ -142,21 +142,21 @@ table_at tasks ended start past ws = record {
   clock = now past;
   ended = ended;
   jobs = map
-      (record_with start past (waived past ++ ws)) (jobs past);
+      (record_with start past (waived_collections past ++ ws)) (jobs past);
 }
 
 -- the head of the table is the least of those that stay
 pub head_least : (start : Start) (past : Log) (ws : List Waived) (tasks n : ℕ) (ended : Bool) (j : Job) → AreNumbered 0 (jobs past)
     → slice_get (jobs past) n ≡ Some j
-    → table.IsHead (table_at tasks ended start past ws) n → least (unwaived ws (ready start.plan past)) ≡ Some j
+    → table.IsHead (table_at tasks ended start past ws) n → least (without_waived ws (ready start.plan past)) ≡ Some j
 head_least start past ws tasks n ended j numbered at h = rw (unwaived_is start.plan past ws)
     (by_least (least (filter (stays start.plan past ws) (jobs past))) refl)
   where
     t : Job → Bool
     t = stays start.plan past ws
 
-    head_is : record_with start past (waived past ++ ws) j ≡ h.head
-    head_is = same_Some _ _ (sym (slice_get-map (record_with start past (waived past ++ ws)) (jobs past) n j at) ∙ h.is_at)
+    head_is : record_with start past (waived_collections past ++ ws) j ≡ h.head
+    head_is = same_Some _ _ (sym (slice_get-map (record_with start past (waived_collections past ++ ws)) (jobs past) n j at) ∙ h.is_at)
 
     passes : stays start.plan past ws j ≡ true
     passes = sym (ready_is start past ws j) ∙ (ap (table.is_ready (now past)) head_is ∙ h.ready)
@@ -188,9 +188,9 @@ head_least start past ws tasks n ended j numbered at h = rw (unwaived_is start.p
 
         not_m : goes_first m j ≡ false
         not_m = subst (λ (k : ℕ). goes_first m (record j { number = k }) ≡ false) (sym number_is)
-            (subst (λ (r : JobRecord). table.goes_before m.number (record_with start past (waived past ++ ws) m) n r ≡ false) (sym head_is)
-            (h.first m.number (record_with start past (waived past ++ ws) m)
-            (slice_get-map (record_with start past (waived past ++ ws)) (jobs past) m.number m there) (ready_is start past ws m
+            (subst (λ (r : JobRecord). table.goes_before m.number (record_with start past (waived_collections past ++ ws) m) n r ≡ false) (sym head_is)
+            (h.first m.number (record_with start past (waived_collections past ++ ws) m)
+            (slice_get-map (record_with start past (waived_collections past ++ ws)) (jobs past) m.number m there) (ready_is start past ws m
             ∙ member.1)))
 
 none_kept : (t : Job → Bool) (js : List Job) → ((n : ℕ) (j : Job) → slice_get js n ≡ Some j → t j ≡ false) → filter t js ≡ []
@@ -199,8 +199,8 @@ none_kept t (x ∷ js) h = rw (h 0 x refl) (none_kept t js (λ n j e. h (suc n) 
 
 -- where no record is ready, nobody stays
 pub nothing_least : (start : Start) (past : Log) (ws : List Waived) (tasks : ℕ) (ended : Bool)
-    → table.NothingReady (table_at tasks ended start past ws) → least (unwaived ws (ready start.plan past)) ≡ None
+    → table.NothingReady (table_at tasks ended start past ws) → least (without_waived ws (ready start.plan past)) ≡ None
 nothing_least start past ws tasks ended h =
     ap least (unwaived_is start.plan past ws
     ∙ none_kept (stays start.plan past ws) (jobs past) (λ n j e. sym (ready_is start past ws j)
-    ∙ h n (record_with start past (waived past ++ ws) j) (slice_get-map (record_with start past (waived past ++ ws)) (jobs past) n j e)))
+    ∙ h n (record_with start past (waived_collections past ++ ws) j) (slice_get-map (record_with start past (waived_collections past ++ ws)) (jobs past) n j e)))

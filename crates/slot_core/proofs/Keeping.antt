@@ -16,29 +16,28 @@ use Rattle.slot_types.specs.declared.events.Event.TheVariants as events
 use Rattle.slot_types.specs.declared.replies.Reply.{Reply}
 use Rattle.slot_types.specs.declared.replies.Reply.TheVariants as replies
 use Rattle.plan_rules.specs.Bound.{MeetsBound}
-use Rattle.plan_rules.specs.Accounts.{Accounts, admitted}
+use Rattle.plan_rules.specs.Accounts.{Accounts, accounts_after_admit}
 use Rattle.flash_die.specs.Flash as device
 use Rattle.flash_volume.specs.State.{State, fresh_volume}
 use Rattle.job_table.specs.Jobs.{JobRecord, new_job, new_collection}
 use Rattle.job_table.specs.Table.{Table, empty_table, with_job}
 use Rattle.job_table.specs.Table as table_words
-use Rattle.die_log.specs.Log.{Log, Job, jobs, waived, is_waived}
+use Rattle.die_log.specs.Model.Log.{Log, Job, jobs, waived_collections, is_waived}
 use Rattle.slot_types.specs.Operations.{writes}
-use Rattle.die_log.specs.Work.{is_done, is_collecting}
-use Rattle.die_log.specs.Accounts.{accounts}
-use Rattle.die_log.specs.Answers.{IsAccepted, answer, refusal_of, refusals}
+use Rattle.die_log.specs.Model.Work.{is_done, is_collecting}
+use Rattle.die_log.specs.Model.Accounts.{accounts}
+use Rattle.die_log.specs.Model.Answers.{IsAccepted, answer, refusal_of, refusals}
 use Rattle.die_log.proofs.Legality.{entry, accepted_answer, none_stands}
 use Rattle.die_log.proofs.Legal.Exact.{has_slots}
-use Rattle.slot_core.specs.Records.{record_with, records}
+use Rattle.slot_core.specs.Records.{record_with, job_records}
 use Rattle.slot_core.specs.Device.{FlashState, flash_of, IsFlashOf}
-use Rattle.slot_core.specs.Kept.{Keeps}
+use Rattle.slot_core.specs.Agreement.{AgreeWithLog}
 use Rattle.slot_core.specs.Core.{with_entry}
-use Rattle.slot_core.specs.Calls.{RefusedBy}
 use Rattle.slot_core.proofs.Recording.{records-submit, records-collect}
 use Rattle.slot_core.proofs.Heading.{pending_is}
 use Rattle.slot_core.proofs.Flashing.{flash-submit, flash-collect, fresh_state, fresh_flash}
-use Rattle.die_log.specs.Start.{Start, over, fresh}
-use Rattle.die_log.specs.Opening.{IsOpening}
+use Rattle.die_log.specs.Model.Start.{Start, over, fresh}
+use Rattle.die_log.specs.Model.Opening.{IsOpening}
 use Rattle.die_log.proofs.Openings.{fresh_opens, fresh_erases}
 
 -- Arrivals
@@ -51,9 +50,9 @@ abbrev number_reply : ℕ → Reply
 number_reply n = replies.Taken n
 
 pub keeps_submit : (start : Start) (log : Log) (present : ℕ) (t : Table) (f : FlashState) (caller task release due : ℕ) (ops : List Op)
-    → Keeps start log present t false f → refusal_of start log (events.Submit task release due ops) ≡ None
-    → Keeps start (entry caller (events.Submit task release due ops) (replies.Taken (length (jobs log))) ∷ log) present
-    (with_job t (new_job task release due ops)) false (record f { tokens = admitted f.tokens task (writes ops) })
+    → AgreeWithLog start log present t false f → refusal_of start log (events.Submit task release due ops) ≡ None
+    → AgreeWithLog start (entry caller (events.Submit task release due ops) (replies.Taken (length (jobs log))) ∷ log) present
+    (with_job t (new_job task release due ops)) false (record f { tokens = accounts_after_admit f.tokens task (writes ops) })
 keeps_submit start log present t f caller task release due ops k none = record {
   exact = (k.exact, sym (accepted_answer start log (events.Submit task release due ops) none), tt);
   bound = k.bound;
@@ -71,8 +70,8 @@ keeps_submit start log present t f caller task release due ops k none = record {
     some = some_ops (length ops) ((none_stands (refusals start log (events.Submit task release due ops)) none).1.0)
 
 pub keeps_collect : (start : Start) (log : Log) (present : ℕ) (t : Table) (f : FlashState) (caller task release due : ℕ)
-    → Keeps start log present t false f → refusal_of start log (events.Collect task release due) ≡ None
-    → Keeps start (entry caller (events.Collect task release due) (replies.Taken (length (jobs log))) ∷ log) present
+    → AgreeWithLog start log present t false f → refusal_of start log (events.Collect task release due) ≡ None
+    → AgreeWithLog start (entry caller (events.Collect task release due) (replies.Taken (length (jobs log))) ∷ log) present
     (with_job t (new_collection task release due)) false f
 keeps_collect start log present t f caller task release due k none = record {
   exact = (k.exact, sym (accepted_answer start log (events.Collect task release due) none), tt);
@@ -92,7 +91,7 @@ keeps_collect start log present t f caller task release due k none = record {
 pub keeps_start : {N : Type 0} (blocks_of : N → List device.Block) (plan : DiePlan) (nand : N) (log : Log) (t : Table) (v : State N)
     → (start : Start) → MeetsBound plan → blocks_of nand ≡ device.fresh_blocks plan.shape → log ≡ [] → t ≡ empty_table (length plan.caps) → v
     ≡ fresh_volume plan nand → start ≡ fresh plan
-    → Keeps (over v.accounts.plan start) log 0 t v.failed (flash_of blocks_of v)
+    → AgreeWithLog (over v.accounts.plan start) log 0 t v.failed (flash_of blocks_of v)
 keeps_start blocks_of plan nand log t v start bound unused none table_is volume_is start_is =
     rw start_is (rw volume_is (rw none (rw table_is (record {
       exact = tt;
@@ -118,33 +117,33 @@ tokens_suffice start log task release due ops tokens is none =
     rw is (balance_enough (slice_index (accounts start log).balances task) (writes ops)
     (none_stands (refusals start log (events.Submit task release due ops)) none).1.1.1.1.1.1.1.0)
 
-pub jobs_counted : (start : Start) (log : Log) (t : Table) → t.jobs ≡ records start log → length t.jobs ≡ length (jobs log)
-jobs_counted start log t is = ap length is ∙ length-map (jobs log) (record_with start log (waived log))
+pub jobs_counted : (start : Start) (log : Log) (t : Table) → t.jobs ≡ job_records start log → length t.jobs ≡ length (jobs log)
+jobs_counted start log t is = ap length is ∙ length-map (jobs log) (record_with start log (waived_collections log))
 
 pub submit_kept : (start : Start) {N : Type 0} (blocks_of : N → List device.Block) (log later : Log) (present caller number task release due : ℕ)
     (ops : List Op) (t u : Table) (v w : State N)
-    → Keeps (over v.accounts.plan start) log present t v.failed (flash_of blocks_of v) → v.failed ≡ false
+    → AgreeWithLog (over v.accounts.plan start) log present t v.failed (flash_of blocks_of v) → v.failed ≡ false
     → refusal_of (over v.accounts.plan start) log (events.Submit task release due ops) ≡ None → number ≡ length t.jobs → u
     ≡ with_job t (new_job task release due ops)
-    → w ≡ record v { accounts = admitted v.accounts task (writes ops) } → later
+    → w ≡ record v { accounts = accounts_after_admit v.accounts task (writes ops) } → later
     ≡ with_entry caller (events.Submit task release due ops) (replies.Taken number) log
-    → Keeps (over w.accounts.plan start) later present u w.failed (flash_of blocks_of w)
+    → AgreeWithLog (over w.accounts.plan start) later present u w.failed (flash_of blocks_of w)
 submit_kept start blocks_of log later present caller number task release due ops t u v w k alive none number_is table_is volume_is log_is =
     rw volume_is (rw table_is (rw log_is (rw alive (rw (number_is ∙ jobs_counted (over v.accounts.plan start) log t k.jobs_are)
     (keeps_submit (over v.accounts.plan start) log present t (flash_of blocks_of v) caller task release due ops
-    (subst (λ (b : Bool). Keeps (over v.accounts.plan start) log present t b (flash_of blocks_of v)) alive k) none)))))
+    (subst (λ (b : Bool). AgreeWithLog (over v.accounts.plan start) log present t b (flash_of blocks_of v)) alive k) none)))))
 
 pub collect_kept : (start : Start) {N : Type 0} (blocks_of : N → List device.Block) (log later : Log) (present caller number task release due : ℕ)
     (t u : Table) (v : State N)
-    → Keeps (over v.accounts.plan start) log present t v.failed (flash_of blocks_of v) → v.failed ≡ false
+    → AgreeWithLog (over v.accounts.plan start) log present t v.failed (flash_of blocks_of v) → v.failed ≡ false
     → refusal_of (over v.accounts.plan start) log (events.Collect task release due) ≡ None → number ≡ length t.jobs → u
     ≡ with_job t (new_collection task release due)
     → later ≡ with_entry caller (events.Collect task release due) (replies.Taken number) log
-    → Keeps (over v.accounts.plan start) later present u v.failed (flash_of blocks_of v)
+    → AgreeWithLog (over v.accounts.plan start) later present u v.failed (flash_of blocks_of v)
 collect_kept start blocks_of log later present caller number task release due t u v k alive none number_is table_is log_is =
     rw table_is (rw log_is (rw alive (rw (number_is ∙ jobs_counted (over v.accounts.plan start) log t k.jobs_are)
     (keeps_collect (over v.accounts.plan start) log present t (flash_of blocks_of v) caller task release due
-    (subst (λ (b : Bool). Keeps (over v.accounts.plan start) log present t b (flash_of blocks_of v)) alive k) none))))
+    (subst (λ (b : Bool). AgreeWithLog (over v.accounts.plan start) log present t b (flash_of blocks_of v)) alive k) none))))
 
 pub submit_accepts : (start : Start) (log : Log) (task release due : ℕ) (ops : List Op)
     → refusal_of start log (events.Submit task release due ops) ≡ None → IsAccepted (answer start log (events.Submit task release due ops))
@@ -156,13 +155,13 @@ pub collect_accepts : (start : Start) (log : Log) (task release due : ℕ) → r
 collect_accepts start log task release due none = subst IsAccepted (sym (accepted_answer start log (events.Collect task release due) none)) tt
 
 pub collect_taken : (start : Start) (log : Log) (t : Table) (task release due number : ℕ)
-    → refusal_of start log (events.Collect task release due) ≡ None → t.jobs ≡ records start log → number ≡ length t.jobs
+    → refusal_of start log (events.Collect task release due) ≡ None → t.jobs ≡ job_records start log → number ≡ length t.jobs
     → answer start log (events.Collect task release due) ≡ replies.Taken number
 collect_taken start log t task release due number none jobs_are is = accepted_answer start log (events.Collect task release due) none
     ∙ ap number_reply (sym (is ∙ jobs_counted start log t jobs_are))
 
 -- the task of a collection has a pending one in the table where it has one in the log
-pub collecting_is : (start : Start) (log : Log) (js : List JobRecord) (task : ℕ) → js ≡ records start log
+pub collecting_is : (start : Start) (log : Log) (js : List JobRecord) (task : ℕ) → js ≡ job_records start log
     → table_words.is_collecting js task ≡ is_collecting start.plan log task
 collecting_is start log js task are = ap (λ (rs : List JobRecord). table_words.is_collecting rs task) are ∙ any_mapped (jobs log)
   where
@@ -171,12 +170,12 @@ collecting_is start log js task are = ap (λ (rs : List JobRecord). table_words.
     joined true false c d = refl
     joined false b c d = refl
 
-    one : (j : Job) → table_words.is_collection_of task (record_with start log (waived log) j)
+    one : (j : Job) → table_words.is_collection_of task (record_with start log (waived_collections log) j)
         ≡ (j.collects && (j.task == task) && not (is_done start.plan log j) && not (is_waived log j.number))
-    one j = ap (λ (b : Bool). (j.collects && (j.task == task)) && b) (pending_is start log (waived log) j)
+    one j = ap (λ (b : Bool). (j.collects && (j.task == task)) && b) (pending_is start log (waived_collections log) j)
         ∙ joined j.collects (j.task == task) (not (is_done start.plan log j)) (not (is_waived log j.number))
 
-    any_mapped : (xs : List Job) → list_any (table_words.is_collection_of task) (map (record_with start log (waived log)) xs)
+    any_mapped : (xs : List Job) → list_any (table_words.is_collection_of task) (map (record_with start log (waived_collections log)) xs)
         ≡ list_any (λ j. j.collects && (j.task == task) && not (is_done start.plan log j) && not (is_waived log j.number)) xs
     any_mapped [] = refl
     any_mapped (x ∷ xs) = rw (one x) (ap (λ b. (x.collects && (x.task == task) && not (is_done start.plan log x) && not (is_waived log x.number))
@@ -224,7 +223,7 @@ same_shape s t h =
 
 -- what a job is answered that is not refused
 pub submit_taken : (start : Start) (log : Log) (t : Table) (task release due number : ℕ) (ops : List Op)
-    → refusal_of start log (events.Submit task release due ops) ≡ None → t.jobs ≡ records start log → number ≡ length t.jobs
+    → refusal_of start log (events.Submit task release due ops) ≡ None → t.jobs ≡ job_records start log → number ≡ length t.jobs
     → answer start log (events.Submit task release due ops) ≡ replies.Taken number
 submit_taken start log t task release due number ops none jobs_are is = accepted_answer start log (events.Submit task release due ops) none
     ∙ ap number_reply (sym (is ∙ jobs_counted start log t jobs_are))
@@ -232,12 +231,12 @@ submit_taken start log t task release due number ops none jobs_are is = accepted
 -- the tokens are there, so they are moved
 pub admit_made : {N A : Type 0} (v w : State N) (task count : ℕ) (ops : List Op) (r : Result A Refusal) → count ≡ writes ops → writes ops
     ≤ slice_index v.accounts.balances task
-    → OnOk r (w ≡ record v { accounts = admitted v.accounts task count }) → (IsOk r ↔ count ≤ slice_index v.accounts.balances task) → w
-    ≡ record v { accounts = admitted v.accounts task (writes ops) }
+    → OnOk r (w ≡ record v { accounts = accounts_after_admit v.accounts task count }) → (IsOk r ↔ count ≤ slice_index v.accounts.balances task) → w
+    ≡ record v { accounts = accounts_after_admit v.accounts task (writes ops) }
 admit_made v w task count ops r is enough made accepted =
-    on_ok r (w ≡ record v { accounts = admitted v.accounts task count }) made
+    on_ok r (w ≡ record v { accounts = accounts_after_admit v.accounts task count }) made
     (accepted.1 (subst (λ (n : ℕ). n ≤ slice_index v.accounts.balances task) (sym is) enough))
-    ∙ ap (λ (n : ℕ). record v { accounts = admitted v.accounts task n }) is
+    ∙ ap (λ (n : ℕ). record v { accounts = accounts_after_admit v.accounts task n }) is
 
 -- What a collection's entry leaves, as it comes
 
@@ -258,14 +257,8 @@ if_err_both (Ok x) P Q R h k f = tt
 if_err_both (Err e) P Q R h k f = f e h k
 
 pub collect_answered : (start : Start) (log : Log) (t : Table) (task release due : ℕ) (r : Result ℕ Refusal)
-    → refusal_of start log (events.Collect task release due) ≡ None → t.jobs ≡ records start log → IfOk r (λ number. number ≡ length t.jobs)
+    → refusal_of start log (events.Collect task release due) ≡ None → t.jobs ≡ job_records start log → IfOk r (λ number. number ≡ length t.jobs)
     → IfOk r (λ number. answer start log (events.Collect task release due) ≡ replies.Taken number)
 collect_answered start log t task release due r none jobs_are is =
     if_ok r (λ number. number ≡ length t.jobs) (λ number. answer start log (events.Collect task release due) ≡ replies.Taken number) is
     (λ number e. collect_taken start log t task release due number none jobs_are e)
-
-pub collect_short : (start : Start) (log : Log) (task release due : ℕ) (r : Result ℕ Refusal)
-    → refusal_of start log (events.Collect task release due) ≡ None → IfErr r (λ refusal. refusal ≡ NoMemory)
-    → IfErr r (RefusedBy start log (events.Collect task release due))
-collect_short start log task release due r none is = if_err r (λ refusal. refusal ≡ NoMemory)
-    (RefusedBy start log (events.Collect task release due)) is (λ refusal e. inr (collect_accepts start log task release due none, e))

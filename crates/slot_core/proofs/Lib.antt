@@ -23,8 +23,9 @@ pub mod Needing
 pub mod Making
 pub mod Foreseeing
 pub mod Noting
-pub mod Performing
+pub mod Calling
 pub mod Running
+pub mod OneAnswer
 pub mod Adding
 pub mod Worsts
 pub mod Rowing

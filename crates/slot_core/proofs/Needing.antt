@@ -23,38 +23,38 @@ use Rattle.flash_die.specs.declared.nand.NandCall.TheVariants as calls
 use Rattle.flash_volume.specs.declared.collection.Collection.{Collection}
 use Rattle.flash_volume.specs.declared.collection.CollectStep.{CollectStep}
 use Rattle.flash_volume.specs.declared.collection.CollectStep.TheVariants as steps
-use Rattle.flash_volume.specs.Acts.{HasDropped, IsUnplaced, IsFirst}
+use Rattle.flash_volume.specs.Acts.{HasDropped, IsUnplaced, IsFirstInBlock}
 use Rattle.flash_volume.specs.Calls as step_calls
 use Rattle.flash_volume.specs.Cells.{open_in, next_cell}
 use Rattle.flash_volume.specs.Pages.{next_in}
-use Rattle.flash_volume.specs.Steps.{IsStep}
+use Rattle.flash_volume.specs.Steps.{IsCollectStep}
 use Rattle.flash_volume.specs.State.{State}
 use Rattle.job_table.specs.Jobs.{JobRecord}
 use Rattle.job_table.specs.Order as table
 use Rattle.job_table.specs.Table.{Table}
-use Rattle.die_log.specs.Log.{Log, Job, Carried, acts, job_at, jobs, now, waived, is_waived, work}
-use Rattle.die_log.specs.Flash as flash
-use Rattle.die_log.specs.Flash.{Block, Cells, cells, content, free, block_at, free_block, ran_by, open_block}
-use Rattle.die_log.specs.Work.{owed}
-use Rattle.die_log.specs.Accounts.{accounts}
-use Rattle.die_log.specs.Answers.{answer, accepted, act_for, block_for, Choice, choice, slot_reply, reply_with}
-use Rattle.die_log.specs.Held.{held_of, lent_to}
-use Rattle.die_log.specs.Needed.{next_place, call_of, call_by, needed_call}
-use Rattle.die_log.specs.Sound.{AreSound}
-use Rattle.die_log.specs.Start.{Start, over}
+use Rattle.die_log.specs.Model.Log.{Log, Job, Carried, acts, job_at, jobs, now, waived_collections, is_waived, work}
+use Rattle.die_log.specs.Model.Flash as flash
+use Rattle.die_log.specs.Model.Flash.{Block, Cells, cells, content, free, block_at, free_block, ran_by, open_block}
+use Rattle.die_log.specs.Model.Work.{owed}
+use Rattle.die_log.specs.Model.Accounts.{accounts}
+use Rattle.die_log.specs.Model.Answers.{answer, reply_if_accepted, act_for, block_for, Choice, choice, slot_reply, reply_with}
+use Rattle.die_log.specs.Invariants.TrueAccounts.{held_of, lent_to}
+use Rattle.die_log.specs.Model.NeededCalls.{next_place, call_of, call_by, needed_call}
+use Rattle.die_log.specs.Invariants.SoundCells.{AreSoundCells}
+use Rattle.die_log.specs.Model.Start.{Start, over}
 use Rattle.die_log.proofs.Cells.Steps.{opens}
 use Rattle.die_log.proofs.Legality.{accepted_answer}
 use Rattle.die_log.proofs.Tokens.Amounts.{one_le_sum}
 use Rattle.die_log.proofs.Tokens.Turns.{owed_fits}
 use Rattle.slot_core.specs.declared.next_slot.NextAct.{NextAct}
 use Rattle.slot_core.specs.declared.next_slot.NextSlot.{NextSlot}
-use Rattle.slot_core.specs.Acting.{act_by}
+use Rattle.slot_core.specs.OpEffects.{act_by}
 use Rattle.slot_core.specs.Device.{FlashState, flash_of, counts_of, page_in, page_held}
 use Rattle.slot_core.specs.NextSlot.{kind_of, kind_of_op, kind_of_step, nothing_next, next_by, next_slot}
-use Rattle.slot_core.specs.Needs.{Made, MadeAndFailed, MakesCall}
-use Rattle.slot_core.specs.NextTurns.{op_call, OpNext, StepNext, NextBy, TurnMakes}
+use Rattle.slot_core.specs.Needs.{IsOnlyCall, MadeAndFailed, MakesCall}
+use Rattle.slot_core.specs.NextHeadSteps.{op_call, OpNext, StepNext, NextBy, HeadStepMakes}
 use Rattle.slot_core.specs.Records.{record_with}
-use Rattle.slot_core.specs.Slotted.{IsSlot, IsWaivedFlash, InSlot, HasTurn}
+use Rattle.slot_core.specs.WithinSlot.{IsSlot, IsWaivedFlash, InSlot, IsHeadInSlot}
 use Rattle.slot_core.proofs.Choosing.{begins, ends}
 use Rattle.slot_core.proofs.Emptying.{copies, reads, erases}
 use Rattle.slot_core.proofs.Flashing.{counted, content_is}
@@ -100,15 +100,15 @@ pub record ActsSo (start : Start) (log : Log) (j : Job) (kind : NextAct) (call :
 
 -- a collection's step is what the log lets it do
 pub step_acts : (start : Start) {N : Type 0} (blocks_of : N → List device.Block) (log : Log) (ws : List Waived) (j : Job) (v : State N)
-    (c : Collection) (step : CollectStep) → AreSound v.accounts.plan (cells (over v.accounts.plan start) log)
+    (c : Collection) (step : CollectStep) → AreSoundCells v.accounts.plan (cells (over v.accounts.plan start) log)
     → IsWaivedFlash (over v.accounts.plan start) log ws (flash_of blocks_of v) → j.collects ≡ true
-    → block_for (over v.accounts.plan start) log j ≡ Some c.victim → page_in c ≡ page_held log j.number → IsStep blocks_of v c step
+    → block_for (over v.accounts.plan start) log j ≡ Some c.victim → page_in c ≡ page_held log j.number → IsCollectStep blocks_of v c step
     → ActsSo (over v.accounts.plan start) log j (kind_of_step step) (Some (step_calls.call_of step))
 step_acts start blocks_of log ws j v c (steps.Read page source) sound flash collects victim holds d = record {
   act = does.CopyRead page;
   act_is = reads (over v.accounts.plan start) log j c page source sound collects victim holds
       (subst (λ (ps : List (Option Place)). HasDropped ps c) flash.places_are d.dropped)
-      (subst (λ (ps : List (Option Place)). IsFirst ps c.victim page source) flash.places_are d.first);
+      (subst (λ (ps : List (Option Place)). IsFirstInBlock ps c.victim page source) flash.places_are d.first);
   kind_is = refl;
   call_is = ap (option_map (λ (p : Place). calls.Read p)) (ap (λ (ps : List (Option Place)). place_of ps page) (sym flash.places_are)
       ∙ d.first.lies);
@@ -190,7 +190,7 @@ slot_answers : (start : Start) (log : Log) (present : ℕ) → IsSlot start log 
     ≡ replies.Slot (slot_reply start log (choice start log).waived (choice start log).head)
 slot_answers start log present s = accepted_answer start log events.Slot (slot_unrefused start log (now log) refl s.few)
 
--- behind this choice the slot carries this
+-- after this choice the slot carries this
 pub acts_next : (start : Start) (log : Log) (present : ℕ) (ws : List Waived) (j : Job) (kind : NextAct) (call : Option NandCall)
     → IsSlot start log present → choice start log ≡ record { waived = ws; head = Some j } → ActsSo start log j kind call
     → next_slot start log ≡ record { ran = Some (j.number, kind); call = call }
@@ -231,10 +231,10 @@ needed_next start log = by_carried (ran_by (answer start log events.Slot))
     by_carried None = refl
     by_carried (Some (n, act)) = refl
 
--- the head's turn
+-- the head's step
 pub turn_next : (start : Start) {N : Type 0} (blocks_of : N → List device.Block) (log : Log) (present : ℕ) (ws : List Waived) (t : Table)
     (n : ℕ) (v : State N) (r : JobRecord) (kind : NextAct) (call : Option NandCall)
-    → HasTurn (over v.accounts.plan start) log present ws t (flash_of blocks_of v) n → slice_get t.jobs n ≡ Some r
+    → IsHeadInSlot (over v.accounts.plan start) log present ws t (flash_of blocks_of v) n → slice_get t.jobs n ≡ Some r
     → NextBy blocks_of v r r.collects kind call → next_slot (over v.accounts.plan start) log ≡ record { ran = Some (n, kind); call = call }
 turn_next start blocks_of log present ws t n v r kind call h at next =
     subst (λ (m : ℕ). next_slot (over v.accounts.plan start) log ≡ record { ran = Some (m, kind); call = call }) job.number_is
@@ -245,11 +245,11 @@ turn_next start blocks_of log present ws t n v r kind call h at next =
     job : IsHeadJob (over v.accounts.plan start) log ws t n h.job
     job = turn_job (over v.accounts.plan start) log present ws t (flash_of blocks_of v) n h
 
-    record_is : r ≡ record_with (over v.accounts.plan start) log (waived log ++ ws) h.job
-    record_is = same_Some r (record_with (over v.accounts.plan start) log (waived log ++ ws) h.job) (sym at ∙ job.record_at)
+    record_is : r ≡ record_with (over v.accounts.plan start) log (waived_collections log ++ ws) h.job
+    record_is = same_Some r (record_with (over v.accounts.plan start) log (waived_collections log ++ ws) h.job) (sym at ∙ job.record_at)
 
     by_kind : (b : Bool) → h.job.collects ≡ b
-        → NextBy blocks_of v (record_with (over v.accounts.plan start) log (waived log ++ ws) h.job) b kind call
+        → NextBy blocks_of v (record_with (over v.accounts.plan start) log (waived_collections log ++ ws) h.job) b kind call
         → ActsSo (over v.accounts.plan start) log h.job kind call
     by_kind false plain d =
         subst (λ (k : NextAct). ActsSo (over v.accounts.plan start) log h.job k call) (sym d.kind_is)
@@ -262,12 +262,12 @@ turn_next start blocks_of log present ws t n v r kind call h at next =
         subst (λ (k : NextAct). ActsSo (over v.accounts.plan start) log h.job k call) (sym d.kind_is)
         (subst (λ (x : Option NandCall). ActsSo (over v.accounts.plan start) log h.job (kind_of_step d.step) x) (sym d.call_is)
         (step_acts start blocks_of log ws h.job v c.0 d.step job.both.0.collects.sound h.flash collects c.1.victim c.1.holds
-        (subst (λ (x : Collection). IsStep blocks_of v x d.step) (sym same) d.is)))
+        (subst (λ (x : Collection). IsCollectStep blocks_of v x d.step) (sym same) d.is)))
 
 -- so it needs this call
 pub turn_needs : (start : Start) {N : Type 0} (blocks_of : N → List device.Block) (log : Log) (present : ℕ) (ws : List Waived) (t : Table)
     (n : ℕ) (v : State N) (r : JobRecord) (kind : NextAct) (call : Option NandCall)
-    → HasTurn (over v.accounts.plan start) log present ws t (flash_of blocks_of v) n → slice_get t.jobs n ≡ Some r
+    → IsHeadInSlot (over v.accounts.plan start) log present ws t (flash_of blocks_of v) n → slice_get t.jobs n ≡ Some r
     → NextBy blocks_of v r r.collects kind call → needed_call (over v.accounts.plan start) log ≡ call
 turn_needs start blocks_of log present ws t n v r kind call h at next =
     needed_next (over v.accounts.plan start) log
@@ -291,24 +291,24 @@ idle_makes start {N = N} blocks_of ends_so failures log present ws t v w a plan_
         ∙ (needed_next (over w.accounts.plan start) log
         ∙ ap (λ (x : NextSlot). x.call) (idle_next (over w.accounts.plan start) log present ws t (flash_of blocks_of w) s nothing))
 
--- a turn's call is the needed one
+-- a step's call is the needed one
 turn_call : (start : Start) {N : Type 0} (blocks_of : N → List device.Block) (ends_so : N → NandCall → Bool → N → Type 0)
     (log : Log) (present : ℕ) (ws : List Waived) (t : Table) (n : ℕ) (v u w : State N) (r : JobRecord) (well : Bool)
-    → u.accounts.plan ≡ v.accounts.plan → HasTurn (over u.accounts.plan start) log present ws t (flash_of blocks_of u) n
-    → slice_get t.jobs n ≡ Some r → (m : TurnMakes ends_so blocks_of u r well w) → needed_call (over v.accounts.plan start) log ≡ m.call
+    → u.accounts.plan ≡ v.accounts.plan → IsHeadInSlot (over u.accounts.plan start) log present ws t (flash_of blocks_of u) n
+    → slice_get t.jobs n ≡ Some r → (m : HeadStepMakes ends_so blocks_of u r well w) → needed_call (over v.accounts.plan start) log ≡ m.call
 turn_call start blocks_of ends_so log present ws t n v u w r well plan_is h at m =
     ap (λ (p : DiePlan). needed_call (over p start) log) (sym plan_is)
     ∙ turn_needs start blocks_of log present ws t n u r m.kind m.call h at m.next
 
--- a turn that ended well
+-- a step that ended well
 pub turn_makes : (start : Start) {N A : Type 0} (blocks_of : N → List device.Block) (ends_so : N → NandCall → Bool → N → Type 0) (failures : N → ℕ)
     (log : Log) (present : ℕ) (ws : List Waived) (t : Table) (n : ℕ) (v u w : State N) (r : JobRecord) (a : A)
-    → u.accounts.plan ≡ v.accounts.plan → u.device ≡ v.device → HasTurn (over u.accounts.plan start) log present ws t (flash_of blocks_of u) n
-    → slice_get t.jobs n ≡ Some r → TurnMakes ends_so blocks_of u r true w → failures w.device ≡ failures u.device
+    → u.accounts.plan ≡ v.accounts.plan → u.device ≡ v.device → IsHeadInSlot (over u.accounts.plan start) log present ws t (flash_of blocks_of u) n
+    → slice_get t.jobs n ≡ Some r → HeadStepMakes ends_so blocks_of u r true w → failures w.device ≡ failures u.device
     → MakesCall {A = A} ends_so failures (needed_call (over v.accounts.plan start) log) (Ok a) v.device w.device
 turn_makes start {N = N} blocks_of ends_so failures log present ws t n v u w r a plan_is device_is h at m counted_is = record {
   made = rw (turn_call start blocks_of ends_so log present ws t n v u w r true plan_is h at m)
-      (subst (λ (d : N). Made ends_so m.call true d w.device) device_is m.made);
+      (subst (λ (d : N). IsOnlyCall ends_so m.call true d w.device) device_is m.made);
   counted = counted_is ∙ ap failures device_is;
   fault = tt;
 }
@@ -316,17 +316,17 @@ turn_makes start {N = N} blocks_of ends_so failures log present ws t n v u w r a
 -- and one that the device failed
 pub turn_fails : (start : Start) {N A : Type 0} (blocks_of : N → List device.Block) (ends_so : N → NandCall → Bool → N → Type 0) (failures : N → ℕ)
     (log : Log) (present : ℕ) (ws : List Waived) (t : Table) (n : ℕ) (v u w : State N) (r : JobRecord) (refusal : Refusal)
-    → u.accounts.plan ≡ v.accounts.plan → u.device ≡ v.device → HasTurn (over u.accounts.plan start) log present ws t (flash_of blocks_of u) n
-    → slice_get t.jobs n ≡ Some r → TurnMakes ends_so blocks_of u r false w
+    → u.accounts.plan ≡ v.accounts.plan → u.device ≡ v.device → IsHeadInSlot (over u.accounts.plan start) log present ws t (flash_of blocks_of u) n
+    → slice_get t.jobs n ≡ Some r → HeadStepMakes ends_so blocks_of u r false w
     → MakesCall {A = A} ends_so failures (needed_call (over v.accounts.plan start) log) (Err refusal) v.device w.device
 turn_fails start {N = N} blocks_of ends_so failures log present ws t n v u w r refusal plan_is device_is h at m = record {
   made = tt;
   counted = tt;
   fault = λ is. by_call m.call (turn_call start blocks_of ends_so log present ws t n v u w r false plan_is h at m) (m.needs refl)
-      (subst (λ (d : N). Made ends_so m.call false d w.device) device_is m.made);
+      (subst (λ (d : N). IsOnlyCall ends_so m.call false d w.device) device_is m.made);
 }
   where
-    by_call : (o : Option NandCall) → needed_call (over v.accounts.plan start) log ≡ o → IsSome o → Made ends_so o false v.device w.device
+    by_call : (o : Option NandCall) → needed_call (over v.accounts.plan start) log ≡ o → IsSome o → IsOnlyCall ends_so o false v.device w.device
         → MadeAndFailed ends_so (needed_call (over v.accounts.plan start) log) v.device w.device
     by_call None is some made = absurd cc
     by_call (Some call) is some made = record { call = call; needed_is = is; ended = made }

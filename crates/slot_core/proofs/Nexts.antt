@@ -10,39 +10,39 @@ use Rattle.slot_types.specs.declared.replies.Waived.{Waived}
 use Rattle.job_table.specs.Jobs.{JobRecord, is_pending}
 use Rattle.job_table.specs.Table.{Table}
 use Rattle.job_table.specs.Order as table
-use Rattle.die_log.specs.Start.{Start}
-use Rattle.die_log.specs.Log.{Log, Job, jobs, now, waived, is_waived}
-use Rattle.die_log.specs.Work.{is_done, ready, least}
-use Rattle.die_log.specs.Opening.{IsQuiet}
-use Rattle.die_log.specs.Standing.{AreNumbered}
+use Rattle.die_log.specs.Model.Start.{Start}
+use Rattle.die_log.specs.Model.Log.{Log, Job, jobs, now, waived_collections, is_waived}
+use Rattle.die_log.specs.Model.Work.{is_done, ready, least}
+use Rattle.die_log.specs.Model.Opening.{IsQuiet}
+use Rattle.die_log.specs.Invariants.RunningCollections.{AreNumbered}
 use Rattle.die_log.proofs.Legal.Exact.{stands_well}
 use Rattle.die_log.proofs.Standing.Longer.{number_at, stands_at}
-use Rattle.slot_core.specs.Records.{record_with, records}
-use Rattle.slot_core.specs.Renewals.{is_coming, is_released_before, IsReleasedNext, IsNext}
+use Rattle.slot_core.specs.Records.{record_with, job_records}
+use Rattle.slot_core.specs.Renewals.{is_coming, is_released_before, IsReleasedNext, IsNextCarried}
 use Rattle.slot_core.specs.Device.{FlashState}
-use Rattle.slot_core.specs.Kept.{Keeps}
-use Rattle.slot_core.specs.Slotted.{unwaived}
+use Rattle.slot_core.specs.Agreement.{AgreeWithLog}
+use Rattle.slot_core.specs.WithinSlot.{without_waived}
 use Rattle.slot_core.proofs.Heading.{slice_get-map, slice_get-mapped, pending_is, head_least, nothing_least, table_at}
 
-unwaived_none : (js : List Job) → unwaived [] js ≡ js
+unwaived_none : (js : List Job) → without_waived [] js ≡ js
 unwaived_none [] = refl
 unwaived_none (j ∷ js) = ap (λ (l : List Job). j ∷ l) (unwaived_none js)
 
 module _ (start : Start) (past : Log) (tasks : ℕ) (ended : Bool) where
   -- the table of a log at its present slot
   abbrev here : Table
-  here = record { tasks = tasks; clock = now past; ended = ended; jobs = records start past }
+  here = record { tasks = tasks; clock = now past; ended = ended; jobs = job_records start past }
 
   here_is : table_at tasks ended start past [] ≡ here
   here_is = ap (λ (ws : List Waived). record { tasks = tasks; clock = now past; ended = ended; jobs = map (record_with start past ws) (jobs past) })
-      (append-nil (waived past))
+      (append-nil (waived_collections past))
 
-  least_of : least (unwaived [] (ready start.plan past)) ≡ least (ready start.plan past)
+  least_of : least (without_waived [] (ready start.plan past)) ≡ least (ready start.plan past)
   least_of = ap least (unwaived_none (ready start.plan past))
 
-  head_next : (n : ℕ) → AreNumbered 0 (jobs past) → table.IsHead here n → IsNext start.plan past n
+  head_next : (n : ℕ) → AreNumbered 0 (jobs past) → table.IsHead here n → IsNextCarried start.plan past n
   head_next n numbered h =
-      let f = slice_get-mapped (record_with start past (waived past)) (jobs past) n h.head h.is_at in
+      let f = slice_get-mapped (record_with start past (waived_collections past)) (jobs past) n h.head h.is_at in
       record {
         job = f.0;
         number_is = omega (arith, number_at 0 (jobs past) n f.0 numbered f.1);
@@ -51,12 +51,12 @@ module _ (start : Start) (past : Log) (tasks : ℕ) (ended : Bool) where
       }
 
   -- a record waits for its release where its job is coming
-  waiting_is : (j : Job) → table.is_waiting (now past) (record_with start past (waived past) j) ≡ is_coming start.plan past j
-  waiting_is j = ap (λ (b : Bool). nat_lt (now past) j.release && b) (pending_is start past (waived past) j)
+  waiting_is : (j : Job) → table.is_waiting (now past) (record_with start past (waived_collections past) j) ≡ is_coming start.plan past j
+  waiting_is j = ap (λ (b : Bool). nat_lt (now past) j.release && b) (pending_is start past (waived_collections past) j)
 
-  released_next : (n : ℕ) → AreNumbered 0 (jobs past) → table.NothingReady here → table.IsNextReleased here n → IsNext start.plan past n
+  released_next : (n : ℕ) → AreNumbered 0 (jobs past) → table.NothingReady here → table.IsNextReleased here n → IsNextCarried start.plan past n
   released_next n numbered nothing h =
-      let f = slice_get-mapped (record_with start past (waived past)) (jobs past) n h.job h.is_at in
+      let f = slice_get-mapped (record_with start past (waived_collections past)) (jobs past) n h.job h.is_at in
       let number : f.0.number ≡ n = omega (arith, number_at 0 (jobs past) n f.0 numbered f.1) in
       record {
         job = f.0;
@@ -69,8 +69,8 @@ module _ (start : Start) (past : Log) (tasks : ℕ) (ended : Bool) where
             first = λ i stands coming.
                 subst (λ (k : ℕ × ℕ). is_released_before i (record f.0 { release = k.0; number = k.1 }) ≡ false)
                 (λ x. ((sym (ap (λ (r : JobRecord). r.release) f.2)) x, (sym number) x))
-                (h.first i.number (record_with start past (waived past) i)
-                (slice_get-map (record_with start past (waived past)) (jobs past) i.number i (stands_at (jobs past) i numbered stands))
+                (h.first i.number (record_with start past (waived_collections past) i)
+                (slice_get-map (record_with start past (waived_collections past)) (jobs past) i.number i (stands_at (jobs past) i numbered stands))
                 (waiting_is i ∙ coming));
           },
         );
@@ -89,17 +89,17 @@ module _ (start : Start) (past : Log) (tasks : ℕ) (ended : Bool) where
   quiet_by : table.NothingReady here → table.NothingWaiting here → IsQuiet start past
   quiet_by unready unwaiting j stands =
       let at = slice_get-get_or (jobs past) stands.0 j stands.1 ∙ ap Some stands.2 in
-      let kept = slice_get-map (record_with start past (waived past)) (jobs past) stands.0 j at in
+      let kept = slice_get-map (record_with start past (waived_collections past)) (jobs past) stands.0 j at in
       over_by (nat_le j.release (now past)) (nat_lt (now past) j.release) (is_done start.plan past j) (is_waived past j.number)
       (late_or j.release)
-      (sym (ap (λ (b : Bool). nat_le j.release (now past) && b) (pending_is start past (waived past) j))
-      ∙ unready stands.0 (record_with start past (waived past) j) kept)
-      (sym (waiting_is j) ∙ unwaiting stands.0 (record_with start past (waived past) j) kept)
+      (sym (ap (λ (b : Bool). nat_le j.release (now past) && b) (pending_is start past (waived_collections past) j))
+      ∙ unready stands.0 (record_with start past (waived_collections past) j) kept)
+      (sym (waiting_is j) ∙ unwaiting stands.0 (record_with start past (waived_collections past) j) kept)
 
 -- The table of a die, asked at its present slot
 
 module _ (start : Start) (log : Log) (present : ℕ) (kept : Table) (failed : Bool) (f : FlashState) (t : Table)
-    (k : Keeps start log present kept failed f) (is : t ≡ record kept { clock = present }) where
+    (k : AgreeWithLog start log present kept failed f) (is : t ≡ record kept { clock = present }) where
   at_present : t ≡ here start log kept.tasks kept.ended
   at_present = is ∙ (λ i. record { tasks = kept.tasks; clock = k.now_is i; ended = kept.ended; jobs = k.jobs_are i })
 
@@ -107,7 +107,7 @@ module _ (start : Start) (log : Log) (present : ℕ) (kept : Table) (failed : Bo
   numbered = (stands_well start k.bound log k.exact).0.numbered
 
   pub next_told : (o : Option ℕ) → IfSome o (λ n. table.IsHead t n ⊎ (table.NothingReady t × table.IsNextReleased t n))
-      → IfSome o (IsNext start.plan log)
+      → IfSome o (IsNextCarried start.plan log)
   next_told None h = tt
   next_told (Some n) (inl head) = head_next start log kept.tasks kept.ended n numbered
       (subst (λ (u : Table). table.IsHead u n) at_present head)

@@ -1,4 +1,4 @@
--- What a turn makes of the log that a die's jobs and events tell.
+-- What a step makes of the log that a die's jobs and events tell.
 use Rattle.std.proofs.Common.{◌≡◌, ℕ, ◌+◌, ◌==◌, subst, Bool, true, false, List, ◌∷◌, Some, refl, ap, sym, ◌∙◌, length, slice_get, take}
 use Rattle.std.proofs.Common.{count_by}
 use Rattle.slot_types.specs.declared.acts.Act.{Act}
@@ -24,19 +24,19 @@ use Rattle.event_log.specs.Notes.{Note}
 use Rattle.event_log.specs.Entries.{act_at, slots_in, entries_of}
 use Rattle.event_log.specs.Growth.{HasDone, Fits, AllFit, IsGrown, Grew}
 use Rattle.event_log.proofs.Growing.{entries_stay, all_fit_stay, carried_grown, read_grown, stage_grown, grew_change, grew_then}
-use Rattle.die_log.specs.Log.{Log, now}
+use Rattle.die_log.specs.Model.Log.{Log, now}
 use Rattle.slot_core.specs.Core.{with_entry}
 use Rattle.slot_core.specs.Device.{FlashState, flash_of}
-use Rattle.slot_core.specs.Told.{log_of}
-use Rattle.slot_core.specs.Acting.{act_by}
-use Rattle.slot_core.specs.declared.turn.Turn.{Turn}
-use Rattle.slot_core.specs.Turns.{after_read, finished, after_turn, turn_by, deed_by, DidBy, DidTurn}
+use Rattle.slot_core.specs.TableLog.{log_of}
+use Rattle.slot_core.specs.OpEffects.{act_by}
+use Rattle.slot_core.specs.declared.head_step.HeadStep.{HeadStep}
+use Rattle.slot_core.specs.HeadSteps.{after_read, table_after_end, table_after_step, head_step_by, deed_by, DidBy, DidHeadStep}
 use Rattle.slot_core.proofs.Slotting.{turn_reply, turned, turn_change}
 use Rattle.slot_core.proofs.Telling.{get_here, now_told}
 
--- The jobs after a turn
+-- The jobs after a step
 
-act_grown : (act : Act) (job : JobRecord) → IsGrown job (after_read act (jobs_table.carried job))
+act_grown : (act : Act) (job : JobRecord) → IsGrown job (after_read act (jobs_table.with_one_more_slot job))
 act_grown (does.Read page bytes) job = read_grown bytes job
 act_grown (does.Write page bytes) job = carried_grown job
 act_grown (does.Trim page) job = carried_grown job
@@ -44,19 +44,19 @@ act_grown (does.CopyRead page) job = carried_grown job
 act_grown (does.CopyProgram page) job = carried_grown job
 act_grown (does.Erase block) job = carried_grown job
 
-pub turn_grew : (t : Table) (n : ℕ) (turn : Turn) (completion : ℕ) → Grew t.jobs (after_turn t n turn completion).jobs
+pub turn_grew : (t : Table) (n : ℕ) (turn : HeadStep) (completion : ℕ) → Grew t.jobs (table_after_step t n turn completion).jobs
 turn_grew t n turn completion = by_last turn.last
   where
-    acted : Grew t.jobs (changed_at t.jobs n (λ job. after_read turn.act (jobs_table.carried job)))
-    acted = grew_change t.jobs n (λ job. after_read turn.act (jobs_table.carried job)) (act_grown turn.act)
+    acted : Grew t.jobs (changed_at t.jobs n (λ job. after_read turn.act (jobs_table.with_one_more_slot job)))
+    acted = grew_change t.jobs n (λ job. after_read turn.act (jobs_table.with_one_more_slot job)) (act_grown turn.act)
 
-    by_last : (b : Bool) → Grew t.jobs (finished b n completion turn.given
-        (with_change t n (λ job. after_read turn.act (jobs_table.carried job)))).jobs
-    by_last true = grew_then _ _ _ acted (grew_change (changed_at t.jobs n (λ job. after_read turn.act (jobs_table.carried job))) n
+    by_last : (b : Bool) → Grew t.jobs (table_after_end b n completion turn.given
+        (with_change t n (λ job. after_read turn.act (jobs_table.with_one_more_slot job)))).jobs
+    by_last true = grew_then _ _ _ acted (grew_change (changed_at t.jobs n (λ job. after_read turn.act (jobs_table.with_one_more_slot job))) n
         (with_stage (Done completion turn.given)) (stage_grown (Done completion turn.given)))
     by_last false = acted
 
--- the head's record behind a turn has its operations, and its reads with what this one gave
+-- the head's record after a step has its operations, and its reads with what this one gave
 pub record IsTurned (later : List JobRecord) (n : ℕ) (r : JobRecord) (act : Act) : Type 0 where
   pub moved : JobRecord
   pub is_at : slice_get later n ≡ Some moved
@@ -93,8 +93,8 @@ turned_reads (does.CopyProgram page) false completion given r = refl
 turned_reads (does.Erase block) true completion given r = refl
 turned_reads (does.Erase block) false completion given r = refl
 
-turned_at : (t : Table) (n : ℕ) (turn : Turn) (completion : ℕ) (r : JobRecord) → slice_get t.jobs n ≡ Some r
-    → IsTurned (after_turn t n turn completion).jobs n r turn.act
+turned_at : (t : Table) (n : ℕ) (turn : HeadStep) (completion : ℕ) (r : JobRecord) → slice_get t.jobs n ≡ Some r
+    → IsTurned (table_after_step t n turn completion).jobs n r turn.act
 turned_at t n turn completion r at = record {
   moved = turned turn completion r;
   is_at = rw (turn_change t n turn completion, changed_here t.jobs n (turned turn completion), at) refl;
@@ -137,9 +137,9 @@ op_stands later n r f (asks.Read page) m next counted = read_stands later n r pa
 
 -- What is noted of it
 
--- the events with one more tell the log with this turn, and fit
+-- the events with one more tell the log with this step, and fit
 pub record Noted (later : List JobRecord) (notes : List Note) (log : Log) (caller present : ℕ) (ws : List Waived) (n place : ℕ)
-    (turn : Turn) : Type 0 where
+    (turn : HeadStep) : Type 0 where
   pub tells : entries_of later (record { caller = caller; deed = deed_by n place turn.last turn.act; waived = ws } ∷ notes)
       ≡ with_entry caller events.Slot (replies.Slot (turn_reply present ws n turn)) log
   pub fits : Fits later (deed_by n place turn.last turn.act)
@@ -163,7 +163,7 @@ op_noted later notes log caller present ws n place given f (asks.Trim page) fals
 
 did_noted : (later : List JobRecord) (notes : List Note) (log : Log) (caller present : ℕ) (ws : List Waived) (n place : ℕ) (did : Collected)
     → entries_of later notes ≡ log → slots_in notes ≡ present
-    → Noted later notes log caller present ws n place (turn_by did)
+    → Noted later notes log caller present ws n place (head_step_by did)
 did_noted later notes log caller present ws n place (acts_of.CopyRead page) told slot = record { tells = rw (told, slot) refl; fits = tt }
 did_noted later notes log caller present ws n place (acts_of.CopyProgram page) told slot = record
     { tells = rw (told, slot) refl; fits = tt }
@@ -172,43 +172,43 @@ did_noted later notes log caller present ws n place (acts_of.Finished block give
     { tells = rw (told, slot) refl; fits = tt }
 
 turn_noted : {N : Type 0} (blocks_of : N → List device.Block) (later : List JobRecord) (notes : List Note) (log : Log) (caller present : ℕ)
-    (ws : List Waived) (n : ℕ) (r : JobRecord) (v w : State N) (turn : Turn)
-    → IsTurned later n r turn.act → DidTurn blocks_of v r turn w → length r.reads ≡ count_by is_read (take r.work r.ops)
+    (ws : List Waived) (n : ℕ) (r : JobRecord) (v w : State N) (turn : HeadStep)
+    → IsTurned later n r turn.act → DidHeadStep blocks_of v r turn w → length r.reads ≡ count_by is_read (take r.work r.ops)
     → entries_of later notes ≡ log → slots_in notes ≡ present → Noted later notes log caller present ws n r.work turn
 turn_noted blocks_of later notes log caller present ws n r v w turn m did counted told slot = by_kind r.collects did
   where
     by_kind : (b : Bool) → DidBy blocks_of v r b turn w → Noted later notes log caller present ws n r.work turn
     by_kind false d =
-        let moved = subst (λ (x : Turn). IsTurned later n r x.act) d.turn_is m in
+        let moved = subst (λ (x : HeadStep). IsTurned later n r x.act) d.turn_is m in
         subst (Noted later notes log caller present ws n r.work) (sym d.turn_is)
         (op_noted later notes log caller present ws n r.work 0 (flash_of blocks_of v) d.op (r.work + 1 == length r.ops)
         (op_stands later n r (flash_of blocks_of v) d.op moved d.next counted) told slot)
     by_kind true d = subst (Noted later notes log caller present ws n r.work) (sym d.turn_is)
         (did_noted later notes log caller present ws n r.work d.did told slot)
 
--- as a slot finds it: js were the jobs before it, and t is the table before the turn
+-- as a slot finds it: js were the jobs before it, and t is the table before the step
 pub record Told (js : List JobRecord) (notes after : List Note) (log : Log) (caller : ℕ) (u : Table) (reply : SlotReply) : Type 0 where
   pub tells : log_of u after ≡ with_entry caller events.Slot (replies.Slot reply) log
   pub fits : AllFit u.jobs after
 
 pub turn_told : {N : Type 0} (blocks_of : N → List device.Block) (js : List JobRecord) (notes after : List Note) (log : Log)
-    (caller present place : ℕ) (ws : List Waived) (t u : Table) (n : ℕ) (r : JobRecord) (v w : State N) (turn : Turn) (deed : Deed)
+    (caller present place : ℕ) (ws : List Waived) (t u : Table) (n : ℕ) (r : JobRecord) (v w : State N) (turn : HeadStep) (deed : Deed)
     (reply : SlotReply)
     → entries_of js notes ≡ log → AllFit js notes → Grew js t.jobs → present ≡ now log → slice_get t.jobs n ≡ Some r
-    → DidTurn blocks_of v r turn w → length r.reads ≡ count_by is_read (take r.work r.ops) → place ≡ r.work
-    → u ≡ after_turn t n turn (present + 1) → deed ≡ deed_by n place turn.last turn.act → after
+    → DidHeadStep blocks_of v r turn w → length r.reads ≡ count_by is_read (take r.work r.ops) → place ≡ r.work
+    → u ≡ table_after_step t n turn (present + 1) → deed ≡ deed_by n place turn.last turn.act → after
     ≡ record { caller = caller; deed = deed; waived = ws } ∷ notes → reply ≡ turn_reply present ws n turn
     → Told js notes after log caller u reply
 turn_told blocks_of js notes after log caller present place ws t u n r v w turn deed reply told fits grew now_is at did counted place_is
     table_is deed_is after_is reply_is =
     rw (after_is, deed_is, place_is, reply_is, table_is)
-    (record { tells = noted.tells; fits = (noted.fits, all_fit_stay js (after_turn t n turn (present + 1)).jobs notes grown fits) })
+    (record { tells = noted.tells; fits = (noted.fits, all_fit_stay js (table_after_step t n turn (present + 1)).jobs notes grown fits) })
   where
-    grown : Grew js (after_turn t n turn (present + 1)).jobs
-    grown = grew_then js t.jobs (after_turn t n turn (present + 1)).jobs grew (turn_grew t n turn (present + 1))
+    grown : Grew js (table_after_step t n turn (present + 1)).jobs
+    grown = grew_then js t.jobs (table_after_step t n turn (present + 1)).jobs grew (turn_grew t n turn (present + 1))
 
-    noted : Noted (after_turn t n turn (present + 1)).jobs notes log caller present ws n r.work turn
-    noted = turn_noted blocks_of (after_turn t n turn (present + 1)).jobs notes log caller present ws n r v w turn
+    noted : Noted (table_after_step t n turn (present + 1)).jobs notes log caller present ws n r.work turn
+    noted = turn_noted blocks_of (table_after_step t n turn (present + 1)).jobs notes log caller present ws n r v w turn
         (turned_at t n turn (present + 1) r at) did counted
-        (entries_stay js (after_turn t n turn (present + 1)).jobs notes grown fits ∙ told) (sym (now_told js notes) ∙ ap now told
+        (entries_stay js (table_after_step t n turn (present + 1)).jobs notes grown fits ∙ told) (sym (now_told js notes) ∙ ap now told
         ∙ sym now_is)

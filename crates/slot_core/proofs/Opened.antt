@@ -5,7 +5,7 @@ use Rattle.std.proofs.lemmas.List.{length-map}
 use Rattle.slot_types.specs.declared.plans.DiePlan.{DiePlan}
 use Rattle.flash_die.specs.Flash as device
 use Rattle.flash_volume.specs.Cells.{open_in, filled_of, is_open_with, is_wholly_free}
-use Rattle.die_log.specs.Flash as flash
+use Rattle.die_log.specs.Model.Flash as flash
 use Rattle.slot_core.specs.Device.{counts_of}
 
 first_mapped : {X Y : Type 0} (p : Y → Bool) (f : X → Y) (xs : List X) → position_or_len p (map f xs) ≡ position_or_len (λ x. p (f x)) xs

@@ -20,18 +20,18 @@ use Rattle.job_table.specs.declared.stages.Stage.{Stage}
 use Rattle.job_table.specs.Jobs.{JobRecord, new_job, new_collection, with_read, with_stage}
 use Rattle.job_table.specs.Jobs as jobs_table
 use Rattle.job_table.specs.Table.{changed_at}
-use Rattle.die_log.specs.Log.{Log, Job, jobs, job_at, waived, act_of, acts, now}
-use Rattle.die_log.specs.Work.{are_all, completion, ended_by}
-use Rattle.die_log.specs.Answers.{IsExact}
-use Rattle.die_log.specs.Standing.{AreNumbered}
+use Rattle.die_log.specs.Model.Log.{Log, Job, jobs, job_at, waived_collections, act_of, acts, now}
+use Rattle.die_log.specs.Model.Work.{are_all, completion, ended_by}
+use Rattle.die_log.specs.Model.Answers.{IsExact}
+use Rattle.die_log.specs.Invariants.RunningCollections.{AreNumbered}
 use Rattle.die_log.proofs.Legality.{entry}
 use Rattle.die_log.proofs.Standing.Longer.{acts_stay, acts_grow, act_own, number_at}
 use Rattle.die_log.proofs.Collecting.{no_acts, other_number}
 use Rattle.die_log.proofs.Known.{known, WaivedBelow}
-use Rattle.slot_core.specs.Turns.{after_read}
-use Rattle.slot_core.specs.Records.{record_from, record_with, records, waiver_among, stage_by, gift_by, gift_of, given, reads_of}
+use Rattle.slot_core.specs.HeadSteps.{after_read}
+use Rattle.slot_core.specs.Records.{record_from, record_with, job_records, waiver_among, stage_by, gift_by, gift_of, pages_given, reads_of}
 use Rattle.slot_core.specs.Records.{bytes_read}
-use Rattle.die_log.specs.Start.{Start}
+use Rattle.die_log.specs.Model.Start.{Start}
 
 map_push : {X Y : Type 0} (f : X → Y) (xs : List X) (x : X) → map f (xs ++ x ∷ []) ≡ map f xs ++ f x ∷ []
 map_push f [] x = refl
@@ -43,8 +43,8 @@ no_waiver : (n : ℕ) (ws : List Waived) → AllByRecursion (WaivedBelow n) ws �
 no_waiver n [] h = refl
 no_waiver n (w ∷ ws) h = rw (other_number w.number n h.0) (no_waiver n ws h.1)
 
-pub fresh_waiver : (start : Start) (past : Log) → IsExact start past → waiver_among (length (jobs past)) (waived past) ≡ None
-fresh_waiver start past x = no_waiver (length (jobs past)) (waived past) (known start past x).of_waived
+pub fresh_waiver : (start : Start) (past : Log) → IsExact start past → waiver_among (length (jobs past)) (waived_collections past) ≡ None
+fresh_waiver start past x = no_waiver (length (jobs past)) (waived_collections past) (known start past x).of_waived
 
 -- Arrivals
 
@@ -60,14 +60,14 @@ job_from number task release due ops = record { number = number; collects = fals
 
 -- an accepted job is one more record, which has not begun
 pub records-submit : (start : Start) (past : Log) (caller task release due : ℕ) (ops : List Op) → IsExact start past → 0 < length ops
-    → records start (entry caller (events.Submit task release due ops) (replies.Taken (length (jobs past))) ∷ past) ≡ records start past
+    → job_records start (entry caller (events.Submit task release due ops) (replies.Taken (length (jobs past))) ∷ past) ≡ job_records start past
     ++ new_job task release due ops ∷ []
 records-submit start past caller task release due ops x some =
-    map_push (record_with start past (waived past)) (jobs past)
+    map_push (record_with start past (waived_collections past)) (jobs past)
     (record { number = length (jobs past); collects = false; task = task; release = release; due = due; ops = ops })
-    ∙ ap (λ r. records start past ++ r ∷ []) fresh
+    ∙ ap (λ r. job_records start past ++ r ∷ []) fresh
   where
-    fresh : record_with start past (waived past) (record {
+    fresh : record_with start past (waived_collections past) (record {
       number = length (jobs past);
       collects = false;
       task = task;
@@ -80,14 +80,14 @@ records-submit start past caller task release due ops x some =
 
 -- and so is an accepted collection
 pub records-collect : (start : Start) (past : Log) (caller task release due : ℕ) → IsExact start past → 0 < start.plan.shape.erase_slots
-    → records start (entry caller (events.Collect task release due) (replies.Taken (length (jobs past))) ∷ past) ≡ records start past
+    → job_records start (entry caller (events.Collect task release due) (replies.Taken (length (jobs past))) ∷ past) ≡ job_records start past
     ++ new_collection task release due ∷ []
 records-collect start past caller task release due x some =
-    map_push (record_with start past (waived past)) (jobs past)
+    map_push (record_with start past (waived_collections past)) (jobs past)
     (record { number = length (jobs past); collects = true; task = task; release = release; due = due; ops = [] })
-    ∙ ap (λ r. records start past ++ r ∷ []) fresh
+    ∙ ap (λ r. job_records start past ++ r ∷ []) fresh
   where
-    fresh : record_with start past (waived past) (record {
+    fresh : record_with start past (waived_collections past) (record {
       number = length (jobs past);
       collects = true;
       task = task;
@@ -124,14 +124,14 @@ slot_of caller s = entry caller events.Slot (replies.Slot s)
 
 -- an idle slot changes no record but those of the collections that it waives
 pub records-idle : (start : Start) (past : Log) (caller : ℕ) (ws : List Waived)
-    → records start (slot_of caller (record { slot = now past; waived = ws; ran = None; finished = None }) ∷ past)
-    ≡ map (record_with start past (waived past ++ ws)) (jobs past)
+    → job_records start (slot_of caller (record { slot = now past; waived = ws; ran = None; finished = None }) ∷ past)
+    ≡ map (record_with start past (waived_collections past ++ ws)) (jobs past)
 records-idle start past caller ws = map_same _ _ each (jobs past)
   where
     each : (i : Job) → record_with start (entry caller events.Slot
-        (replies.Slot (record { slot = now past; waived = ws; ran = None; finished = None })) ∷ past) (waived past ++ ws) i
-        ≡ record_with start past (waived past ++ ws) i
-    each i = ap (λ own. record_from start own (completion i.number past) (given start i.number past) (waived past ++ ws) i)
+        (replies.Slot (record { slot = now past; waived = ws; ran = None; finished = None })) ∷ past) (waived_collections past ++ ws) i
+        ≡ record_with start past (waived_collections past ++ ws) i
+    each i = ap (λ own. record_from start own (completion i.number past) (pages_given start i.number past) (waived_collections past ++ ws) i)
         (acts_stay i.number (entry caller events.Slot (replies.Slot (record { slot = now past; waived = ws; ran = None; finished = None })))
         past refl)
 
@@ -148,44 +148,44 @@ acted_reply past ws number act ends = record {
 -- the record of the one that acted
 abbrev pub acted_record : Start → Log → ℕ → List Waived → Job → Act → Bool → JobRecord
 acted_record start past caller ws j act ends =
-    record_with start (slot_of caller (acted_reply past ws j.number act ends) ∷ past) (waived past ++ ws) j
+    record_with start (slot_of caller (acted_reply past ws j.number act ends) ∷ past) (waived_collections past ++ ws) j
 
 -- a slot in which one acts changes its record, and those of the collections that it waives
 pub records-act : (start : Start) (past : Log) (caller : ℕ) (ws : List Waived) (j : Job) (act : Act) (ends : Bool) (change : JobRecord
     → JobRecord)
     → AreNumbered 0 (jobs past) → slice_get (jobs past) j.number ≡ Some j
-    → change (record_with start past (waived past ++ ws) j) ≡ acted_record start past caller ws j act ends
-    → changed_at (map (record_with start past (waived past ++ ws)) (jobs past)) j.number change
-    ≡ records start (slot_of caller (acted_reply past ws j.number act ends) ∷ past)
+    → change (record_with start past (waived_collections past ++ ws) j) ≡ acted_record start past caller ws j act ends
+    → changed_at (map (record_with start past (waived_collections past ++ ws)) (jobs past)) j.number change
+    ≡ job_records start (slot_of caller (acted_reply past ws j.number act ends) ∷ past)
 records-act start past caller ws j act ends change numbered at own =
-    map_changed (record_with start past (waived past ++ ws))
-    (record_with start (slot_of caller (acted_reply past ws j.number act ends) ∷ past) (waived past ++ ws)) (jobs past) j.number change
+    map_changed (record_with start past (waived_collections past ++ ws))
+    (record_with start (slot_of caller (acted_reply past ws j.number act ends) ∷ past) (waived_collections past ++ ws)) (jobs past) j.number change
     others mine
   where
-    mine : (i : Job) → slice_get (jobs past) j.number ≡ Some i → change (record_with start past (waived past ++ ws) i)
-        ≡ record_with start (slot_of caller (acted_reply past ws j.number act ends) ∷ past) (waived past ++ ws) i
-    mine i e = subst (λ (k : Job). change (record_with start past (waived past ++ ws) k)
-        ≡ record_with start (slot_of caller (acted_reply past ws j.number act ends) ∷ past) (waived past ++ ws) k)
+    mine : (i : Job) → slice_get (jobs past) j.number ≡ Some i → change (record_with start past (waived_collections past ++ ws) i)
+        ≡ record_with start (slot_of caller (acted_reply past ws j.number act ends) ∷ past) (waived_collections past ++ ws) i
+    mine i e = subst (λ (k : Job). change (record_with start past (waived_collections past ++ ws) k)
+        ≡ record_with start (slot_of caller (acted_reply past ws j.number act ends) ∷ past) (waived_collections past ++ ws) k)
         (same_Some j i (sym at ∙ e)) own
 
     other_given : (n : ℕ) → (j.number == n) ≡ false → (b : Bool)
-        → gift_by start past (acted_reply past ws j.number act ends) n (cond b (Some j.number) None) (given start n past) ≡ given start n past
+        → gift_by start past (acted_reply past ws j.number act ends) n (cond b (Some j.number) None) (pages_given start n past) ≡ pages_given start n past
     other_given n differs true = rw differs refl
     other_given n differs false = refl
 
     others : (k : ℕ) (i : Job) → slice_get (jobs past) k ≡ Some i → (k ≡ j.number → ⊥)
-        → record_with start past (waived past ++ ws) i ≡ record_with start (slot_of caller (acted_reply past ws j.number act ends) ∷ past)
-        (waived past ++ ws) i
+        → record_with start past (waived_collections past ++ ws) i ≡ record_with start (slot_of caller (acted_reply past ws j.number act ends) ∷ past)
+        (waived_collections past ++ ws) i
     others k i here other =
         let is : i.number ≡ 0 + k = number_at 0 (jobs past) k i numbered here in
         let differs : (j.number == i.number) ≡ false = ne_eqb j.number i.number (λ same. other (omega (arith, same, is))) in
         let none : act_of i.number (Some (j.number, act)) ≡ None = rw differs refl in
         sym (ap (λ own. record_from start own (completion i.number (slot_of caller (acted_reply past ws j.number act ends) ∷ past))
-        (given start i.number (slot_of caller (acted_reply past ws j.number act ends) ∷ past)) (waived past ++ ws) i)
+        (pages_given start i.number (slot_of caller (acted_reply past ws j.number act ends) ∷ past)) (waived_collections past ++ ws) i)
         (acts_stay i.number (slot_of caller (acted_reply past ws j.number act ends)) past none)
         ∙ (ap (λ c. record_from start (acts i.number past) (ended_by c (completion i.number past) (now past))
-        (given start i.number (slot_of caller (acted_reply past ws j.number act ends) ∷ past)) (waived past ++ ws) i) none
-        ∙ ap (λ g. record_from start (acts i.number past) (completion i.number past) g (waived past ++ ws) i)
+        (pages_given start i.number (slot_of caller (acted_reply past ws j.number act ends) ∷ past)) (waived_collections past ++ ws) i) none
+        ∙ ap (λ g. record_from start (acts i.number past) (completion i.number past) g (waived_collections past ++ ws) i)
         (other_given i.number differs ends)))
 
 -- The one that acted
@@ -199,7 +199,7 @@ reads_more own act = filter_map-append bytes_read own (act ∷ [])
 with_act : (start : Start) (own : List Act) (j : Job) (ws : List Waived) (act : Act) (c g c' g' : ℕ) (ends : Bool)
     → waiver_among j.number ws ≡ None → are_all start.plan j (own ++ act ∷ []) ≡ ends
     → record_from start (own ++ act ∷ []) c g ws j ≡ with_stage (stage_after ends c g)
-    (after_read act (jobs_table.carried (record_from start own c' g' ws j)))
+    (after_read act (jobs_table.with_one_more_slot (record_from start own c' g' ws j)))
 with_act start own j ws (does.Read page bytes) c g c' g' ends none is =
     rw is (rw none (rw (length_push own (does.Read page bytes)) (rw (reads_more own (does.Read page bytes)) refl)))
 with_act start own j ws (does.Write page bytes) c g c' g' ends none is =
@@ -218,11 +218,11 @@ with_act start own j ws (does.Erase block) c g c' g' ends none is =
 
 -- its record: one slot more, perhaps one read more, and done if that was its last act
 pub acted_is : (start : Start) (past : Log) (caller : ℕ) (ws : List Waived) (j : Job) (act : Act) (ends : Bool) → job_at past j.number
-    ≡ Some j → waiver_among j.number (waived past ++ ws) ≡ None
+    ≡ Some j → waiver_among j.number (waived_collections past ++ ws) ≡ None
     → are_all start.plan j (acts j.number past ++ act ∷ []) ≡ ends
     → acted_record start past caller ws j act ends
     ≡ with_stage (stage_after ends (now past + 1) (gift_of start past (acted_reply past ws j.number act ends) (Some j)))
-    (after_read act (jobs_table.carried (record_with start past (waived past ++ ws) j)))
+    (after_read act (jobs_table.with_one_more_slot (record_with start past (waived_collections past ++ ws) j)))
 acted_is start past caller ws j act ends at none is = by_end ends is
   where
     grown : (b : Bool) → acts j.number (slot_of caller (acted_reply past ws j.number act b) ∷ past) ≡ acts j.number past ++ act ∷ []
@@ -234,9 +234,9 @@ acted_is start past caller ws j act ends at none is = by_end ends is
     by_end : (b : Bool) → are_all start.plan j (acts j.number past ++ act ∷ []) ≡ b
         → acted_record start past caller ws j act b
         ≡ with_stage (stage_after b (now past + 1) (gift_of start past (acted_reply past ws j.number act b) (Some j)))
-        (after_read act (jobs_table.carried (record_with start past (waived past ++ ws) j)))
+        (after_read act (jobs_table.with_one_more_slot (record_with start past (waived_collections past ++ ws) j)))
     by_end true e =
         rw (grown true) (rw (act_own j.number act) (rw (eq-eqb j.number j.number refl)
-        (rw at (with_act start (acts j.number past) j (waived past ++ ws) act _ _ _ _ true none e))))
+        (rw at (with_act start (acts j.number past) j (waived_collections past ++ ws) act _ _ _ _ true none e))))
     by_end false e =
-        rw (grown false) (rw (act_own j.number act) (with_act start (acts j.number past) j (waived past ++ ws) act _ _ _ _ false none e))
+        rw (grown false) (rw (act_own j.number act) (with_act start (acts j.number past) j (waived_collections past ++ ws) act _ _ _ _ false none e))

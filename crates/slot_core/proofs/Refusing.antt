@@ -10,11 +10,11 @@ use Rattle.std.proofs.lemmas.List.Quantifiers.{position-Some}
 use Rattle.std.proofs.lemmas.Option.{same_Some}
 use Rattle.slot_types.specs.declared.plans.DiePlan.{DiePlan}
 use Rattle.flash_volume.specs.Cells.{is_worn_beyond}
-use Rattle.die_log.specs.Start.{Start, Block, free_block}
-use Rattle.die_log.specs.Log.{Log, Job, jobs, now, is_waived}
-use Rattle.die_log.specs.Flash.{cells}
-use Rattle.die_log.specs.Work.{is_done, is_ready, ready, least}
-use Rattle.die_log.specs.Opening.{IsQuiet, CanBeErased, renewed}
+use Rattle.die_log.specs.Model.Start.{Start, Block, free_block}
+use Rattle.die_log.specs.Model.Log.{Log, Job, jobs, now, is_waived}
+use Rattle.die_log.specs.Model.Flash.{cells}
+use Rattle.die_log.specs.Model.Work.{is_done, is_ready, ready, least}
+use Rattle.die_log.specs.Model.Opening.{IsQuiet, CanBeErased, renewed_start}
 use Rattle.die_log.proofs.Choices.{OfSome, least_all}
 use Rattle.die_log.proofs.Standing.Longer.{kept_both}
 use Rattle.slot_core.specs.Core.{Core}
@@ -29,7 +29,7 @@ use Rattle.die_checkpoint.specs.declared.checkpoint.Checkpoint.{Checkpoint}
 use Rattle.die_checkpoint.specs.Fits.{Fits}
 use Rattle.die_checkpoint.proofs.Excluding.{fault_breaks}
 use Rattle.die_checkpoint.proofs.OneFault.{one_fault}
-use Rattle.slot_core.specs.Renewals.{is_coming, is_released_before, IsReleasedNext, IsNext, IsFirstWorn, most_erases, MayBeRenewed, RefusesRenewal}
+use Rattle.slot_core.specs.Renewals.{is_coming, is_released_before, IsReleasedNext, IsNextCarried, IsFirstWorn, most_erases, MayBeRenewed, RefusesRenewal}
 use Rattle.slot_core.specs.Resumed.{RefusesCheckpoint, RefusesResume, no_memory}
 
 -- Work that is left
@@ -57,7 +57,7 @@ of_some : (P : Job → Type 0) (o : Option Job) (j : Job) → OfSome P o → o �
 of_some P o j h is = subst (OfSome P) is h
 
 -- where a job is next, the log is not quiet
-pub next_is_left : (start : Start) (log : Log) (number : ℕ) → IsNext start.plan log number → IsQuiet start log → ⊥
+pub next_is_left : (start : Start) (log : Log) (number : ℕ) → IsNextCarried start.plan log number → IsQuiet start log → ⊥
 next_is_left start log number n quiet = by_case n.next
   where
     all_ready : AllByRecursion (λ j. (IsTrue (is_done start.plan log j) ⊎ IsTrue (is_waived log j.number)) × (is_ready start.plan log j ≡ true))
@@ -80,7 +80,7 @@ as_early a b m n h k = grind (arith, nat_tests)
 some_none : (o : Option Job) (j : Job) → o ≡ Some j → o ≡ None → ⊥
 some_none o j is none = absurd cc
 
-pub one_next : (plan : DiePlan) (log : Log) (one other : ℕ) → IsNext plan log one → IsNext plan log other → one ≡ other
+pub one_next : (plan : DiePlan) (log : Log) (one other : ℕ) → IsNextCarried plan log one → IsNextCarried plan log other → one ≡ other
 one_next plan log one other a b = sym a.number_is ∙ by_case a.next b.next ∙ b.number_is
   where
     by_case : (least (ready plan log) ≡ Some a.job) ⊎ ((least (ready plan log) ≡ None) × IsReleasedNext plan log a.job)
@@ -98,7 +98,7 @@ worn_by : (most n : ℕ) → nat_lt most n ≡ true → most < n
 worn_by most n h = grind (arith, nat_tests)
 
 -- a block that is worn out can't be erased in each slot of a life
-pub worn_is_worn : (start : Start) (log : Log) (block : ℕ) → IsFirstWorn start log block → CanBeErased (renewed start log) → ⊥
+pub worn_is_worn : (start : Start) (log : Log) (block : ℕ) → IsFirstWorn start log block → CanBeErased (renewed_start start log) → ⊥
 worn_is_worn start log block worn left =
     let bs = (cells start log).blocks in
     let found = position-Some (is_worn_beyond most_erases) (map (λ (b : Block). b.erases) bs) block 0 worn in

@@ -6,25 +6,25 @@ use Rattle.job_table.specs.Table.{Table, empty_table}
 use Rattle.flash_volume.specs.declared.collection.Collection.{Collection}
 use Rattle.flash_die.specs.Flash as device
 use Rattle.flash_volume.specs.State.{State}
-use Rattle.die_log.specs.Start.{Start, over}
-use Rattle.die_log.specs.Start.{Block}
-use Rattle.die_log.specs.Flash.{cells}
-use Rattle.die_log.specs.Opening.{IsOpening, IsQuiet, CanBeErased, renewed}
+use Rattle.die_log.specs.Model.Start.{Start, over}
+use Rattle.die_log.specs.Model.Start.{Block}
+use Rattle.die_log.specs.Model.Flash.{cells}
+use Rattle.die_log.specs.Model.Opening.{IsOpening, IsQuiet, CanBeErased, renewed_start}
 use Rattle.flash_volume.specs.Cells.{erases_in, first_worn, is_worn_beyond}
-use Rattle.die_log.specs.Log.{Log, Job}
-use Rattle.die_log.specs.Answers.{IsExact}
+use Rattle.die_log.specs.Model.Log.{Log, Job}
+use Rattle.die_log.specs.Model.Answers.{IsExact}
 use Rattle.die_log.proofs.Renewal.{none_runs, renewed_opens}
 use Rattle.slot_core.specs.Device.{FlashState, flash_of, IsFlashOf, counts_of}
 use Rattle.flash_volume.proofs.Worn.{none_worn}
 use Rattle.slot_core.proofs.Victims.{erases_is}
 use Rattle.slot_core.specs.Renewals.{most_erases, IsFirstWorn}
-use Rattle.slot_core.specs.Kept.{Keeps}
+use Rattle.slot_core.specs.Agreement.{AgreeWithLog}
 
 nobody_in : {P : Type 0} (j : Job) → Contains [] j → P
 nobody_in j h = absurd (omega (arith, h.1))
 
 pub renewed_flash : (start : Start) (log : Log) (f : FlashState) → IsOpening start → IsExact start log → IsQuiet start log
-    → IsFlashOf start log f → IsFlashOf (renewed start log) [] f
+    → IsFlashOf start log f → IsFlashOf (renewed_start start log) [] f
 renewed_flash start log f bound exact quiet k = record {
   accounts_are = k.accounts_are;
   pages_are = k.pages_are;
@@ -38,9 +38,9 @@ renewed_flash start log f bound exact quiet k = record {
 }
 
 -- the fields of a die that is renewed: its table and its log are empty, and its flash stays
-pub keeps_renewed : (start : Start) (log : Log) (present : ℕ) (t : Table) (f : FlashState) → Keeps start log present t false f
-    → IsQuiet start log → CanBeErased (renewed start log)
-    → Keeps (renewed start log) [] 0 (empty_table (length start.plan.caps)) false f
+pub keeps_renewed : (start : Start) (log : Log) (present : ℕ) (t : Table) (f : FlashState) → AgreeWithLog start log present t false f
+    → IsQuiet start log → CanBeErased (renewed_start start log)
+    → AgreeWithLog (renewed_start start log) [] 0 (empty_table (length start.plan.caps)) false f
 keeps_renewed start log present t f k quiet left = record {
   exact = tt;
   bound = renewed_opens start log k.bound k.exact quiet;
@@ -55,16 +55,16 @@ keeps_renewed start log present t f k quiet left = record {
 
 -- so it is where the note of the start, the table and the log are made
 pub renewed_kept : {N : Type 0} (blocks_of : N → List device.Block) (start made : Start) (log after : Log) (present : ℕ) (t u : Table)
-    (v : State N) → Keeps (over v.accounts.plan start) log present t v.failed (flash_of blocks_of v) → v.failed ≡ false
-    → IsQuiet (over v.accounts.plan start) log → CanBeErased (renewed (over v.accounts.plan start) log)
-    → made ≡ renewed (over v.accounts.plan start) log → u ≡ empty_table (length v.accounts.plan.caps) → after ≡ []
-    → Keeps (over v.accounts.plan made) after 0 u v.failed (flash_of blocks_of v)
+    (v : State N) → AgreeWithLog (over v.accounts.plan start) log present t v.failed (flash_of blocks_of v) → v.failed ≡ false
+    → IsQuiet (over v.accounts.plan start) log → CanBeErased (renewed_start (over v.accounts.plan start) log)
+    → made ≡ renewed_start (over v.accounts.plan start) log → u ≡ empty_table (length v.accounts.plan.caps) → after ≡ []
+    → AgreeWithLog (over v.accounts.plan made) after 0 u v.failed (flash_of blocks_of v)
 renewed_kept blocks_of start made log after present t u v k alive quiet left made_is table_is after_is =
     let s : Start = over v.accounts.plan start in
     rw made_is (rw table_is (rw after_is (
-    subst (λ (b : Bool). Keeps (renewed s log) [] 0 (empty_table (length v.accounts.plan.caps)) b (flash_of blocks_of v)) (sym alive)
+    subst (λ (b : Bool). AgreeWithLog (renewed_start s log) [] 0 (empty_table (length v.accounts.plan.caps)) b (flash_of blocks_of v)) (sym alive)
     (keeps_renewed s log present t (flash_of blocks_of v)
-    (subst (λ (b : Bool). Keeps s log present t b (flash_of blocks_of v)) alive k) quiet left))))
+    (subst (λ (b : Bool). AgreeWithLog s log present t b (flash_of blocks_of v)) alive k) quiet left))))
 
 -- Erases
 
@@ -84,5 +84,5 @@ worn_told start log f block k is =
 
 -- where no block is worn out, each may be erased as often as a life has slots
 pub unworn_told : (start : Start) (log : Log) (f : FlashState) → IsFlashOf start log f → first_worn most_erases f.blocks ≡ None
-    → CanBeErased (renewed start log)
+    → CanBeErased (renewed_start start log)
 unworn_told start log f k none b = omega (arith, none_worn most_erases f.blocks b none, erases_is start log f.blocks b k.blocks_are)

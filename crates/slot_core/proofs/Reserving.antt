@@ -12,21 +12,21 @@ use Rattle.plan_rules.specs.Bound.{MeetsBound}
 use Rattle.slot_types.specs.declared.acts.Act.{Act}
 use Rattle.slot_types.specs.declared.acts.Act.TheVariants as does
 use Rattle.job_table.specs.declared.stages.Stage.TheVariants.{Done, Waived as Gone}
-use Rattle.job_table.specs.Jobs.{JobRecord, new_job, is_pending, carried, with_stage}
+use Rattle.job_table.specs.Jobs.{JobRecord, new_job, is_pending, with_one_more_slot, with_stage}
 use Rattle.job_table.specs.Table.{Table, changed_at}
-use Rattle.die_log.specs.Log.{Log, Job, jobs, acts, waived, is_waived}
-use Rattle.die_log.specs.Work.{is_done}
-use Rattle.die_log.specs.Answers.{IsExact}
-use Rattle.die_log.specs.Held.{is_pending as pending}
-use Rattle.slot_core.specs.Records.{record_with, records}
-use Rattle.slot_core.specs.Reserved.{is_open, open_collections}
-use Rattle.slot_core.specs.declared.turn.Turn.{Turn}
-use Rattle.slot_core.specs.Turns.{after_read, after_turn}
+use Rattle.die_log.specs.Model.Log.{Log, Job, jobs, acts, waived_collections, is_waived}
+use Rattle.die_log.specs.Model.Work.{is_done}
+use Rattle.die_log.specs.Model.Answers.{IsExact}
+use Rattle.die_log.specs.Invariants.TrueAccounts.{is_pending as pending}
+use Rattle.slot_core.specs.Records.{record_with, job_records}
+use Rattle.slot_core.specs.ReservedSlots.{is_open, open_collections}
+use Rattle.slot_core.specs.declared.head_step.HeadStep.{HeadStep}
+use Rattle.slot_core.specs.HeadSteps.{after_read, table_after_step}
 use Rattle.slot_core.proofs.Slotting.{turned, turn_change}
 use Rattle.slot_core.proofs.Heading.{pending_is}
 use Rattle.slot_core.proofs.Waiving.{tasks_of, few_pending}
-use Rattle.die_log.specs.Start.{Start}
-use Rattle.die_log.specs.Opening.{IsOpening}
+use Rattle.die_log.specs.Model.Start.{Start}
+use Rattle.die_log.specs.Model.Opening.{IsOpening}
 
 abbrev one_if : JobRecord → ℕ
 one_if r = cond (is_open r) 1 0
@@ -63,9 +63,9 @@ open_closed (x ∷ js) zero r f at opened closed =
 open_closed (x ∷ js) (suc n) r f at opened closed = omega
     (arith, open_more x js, open_more x (changed_at js n f), open_closed js n r f at opened closed)
 
--- A turn of the head
+-- A step of the head
 
-act_opens_nothing : (act : Act) (r : JobRecord) → is_open (after_read act (carried r)) ≡ is_open r
+act_opens_nothing : (act : Act) (r : JobRecord) → is_open (after_read act (with_one_more_slot r)) ≡ is_open r
 act_opens_nothing (does.Read page bytes) r = refl
 act_opens_nothing (does.Write page bytes) r = refl
 act_opens_nothing (does.Trim page) r = refl
@@ -77,14 +77,14 @@ never_both : (b : Bool) → (b && false) ≡ false
 never_both true = refl
 never_both false = refl
 
-turned_open : (turn : Turn) (completion : ℕ) (r : JobRecord) → is_open (turned turn completion r) ≡ true → is_open r ≡ true
+turned_open : (turn : HeadStep) (completion : ℕ) (r : JobRecord) → is_open (turned turn completion r) ≡ true → is_open r ≡ true
 turned_open turn completion r = by_last turn.last where
-  by_last : (b : Bool) → is_open (cond b (with_stage (Done completion turn.given) (after_read turn.act (carried r)))
-      (after_read turn.act (carried r))) ≡ true → is_open r ≡ true
-  by_last true e = absurd (true≢false (sym e ∙ never_both (after_read turn.act (carried r)).collects))
+  by_last : (b : Bool) → is_open (cond b (with_stage (Done completion turn.given) (after_read turn.act (with_one_more_slot r)))
+      (after_read turn.act (with_one_more_slot r))) ≡ true → is_open r ≡ true
+  by_last true e = absurd (true≢false (sym e ∙ never_both (after_read turn.act (with_one_more_slot r)).collects))
   by_last false e = sym (act_opens_nothing turn.act r) ∙ e
 
-pub turn_opens_nothing : (t : Table) (n : ℕ) (turn : Turn) (completion : ℕ) → open_collections (after_turn t n turn completion).jobs
+pub turn_opens_nothing : (t : Table) (n : ℕ) (turn : HeadStep) (completion : ℕ) → open_collections (table_after_step t n turn completion).jobs
     ≤ open_collections t.jobs
 turn_opens_nothing t n turn completion =
     subst (λ (x : Table). open_collections x.jobs ≤ open_collections t.jobs) (sym (turn_change t n turn completion))
@@ -106,34 +106,34 @@ open_job (r ∷ js) task release due ops = open_more r (js ++ new_job task relea
 
 -- At most one collection a task
 
-open_is : (start : Start) (log : Log) (j : Job) → is_open (record_with start log (waived log) j)
+open_is : (start : Start) (log : Log) (j : Job) → is_open (record_with start log (waived_collections log) j)
     ≡ pending start.plan (λ n. acts n log) (is_waived log) j
 open_is start log j = by_kind j.collects where
-  by_kind : (c : Bool) → (c && is_pending (record_with start log (waived log) j).stage)
+  by_kind : (c : Bool) → (c && is_pending (record_with start log (waived_collections log) j).stage)
       ≡ ((c && not (is_done start.plan log j)) && not (is_waived log j.number))
-  by_kind true = pending_is start log (waived log) j
+  by_kind true = pending_is start log (waived_collections log) j
   by_kind false = refl
 
-open_tasks : (start : Start) (log : Log) (js : List Job) → open_collections (map (record_with start log (waived log)) js)
+open_tasks : (start : Start) (log : Log) (js : List Job) → open_collections (map (record_with start log (waived_collections log)) js)
     ≡ length (tasks_of (pending start.plan (λ n. acts n log) (is_waived log)) js)
 open_tasks start log [] = refl
 open_tasks start log (j ∷ js) =
-    open_more (record_with start log (waived log) j) (map (record_with start log (waived log)) js)
-    ∙ by_kind (is_open (record_with start log (waived log) j)) (pending start.plan (λ n. acts n log) (is_waived log) j) (open_is start log j)
+    open_more (record_with start log (waived_collections log) j) (map (record_with start log (waived_collections log)) js)
+    ∙ by_kind (is_open (record_with start log (waived_collections log) j)) (pending start.plan (λ n. acts n log) (is_waived log) j) (open_is start log j)
     (open_tasks start log js)
   where
     rest : List Job
     rest = filter (pending start.plan (λ n. acts n log) (is_waived log)) js
 
-    by_kind : (a b : Bool) → a ≡ b → open_collections (map (record_with start log (waived log)) js) ≡ length (map (λ (i : Job). i.task) rest)
-        → cond a 1 0 + open_collections (map (record_with start log (waived log)) js)
+    by_kind : (a b : Bool) → a ≡ b → open_collections (map (record_with start log (waived_collections log)) js) ≡ length (map (λ (i : Job). i.task) rest)
+        → cond a 1 0 + open_collections (map (record_with start log (waived_collections log)) js)
         ≡ length (map (λ (i : Job). i.task) (cond b (j ∷ rest) rest))
     by_kind true true same h = omega (arith, h)
     by_kind true false same h = absurd (true≢false same)
     by_kind false true same h = absurd (true≢false (sym same))
     by_kind false false same h = omega (arith, h)
 
-pub few_open : (start : Start) (log : Log) (js : List JobRecord) → IsOpening start → IsExact start log → js ≡ records start log
+pub few_open : (start : Start) (log : Log) (js : List JobRecord) → IsOpening start → IsExact start log → js ≡ job_records start log
     → open_collections js ≤ length start.plan.caps
 few_open start log js bound exact is =
     subst (λ (xs : List JobRecord). open_collections xs ≤ length start.plan.caps) (sym is)
@@ -141,7 +141,7 @@ few_open start log js bound exact is =
 
 -- so there is room for a waiver of each, where there is for one a task
 pub collect_room : (r : Result ℕ Refusal) (start : Start) (log : Log) (t u : Table) (before after : ℕ) → IsOpening start → IsExact start log
-    → u.jobs ≡ records start log → t.tasks ≡ length start.plan.caps → OnOk r (t.tasks ≤ after) → OnErr r (u ≡ t)
+    → u.jobs ≡ job_records start log → t.tasks ≡ length start.plan.caps → OnOk r (t.tasks ≤ after) → OnErr r (u ≡ t)
     → open_collections t.jobs ≤ before → before ≤ after → open_collections u.jobs ≤ after
 collect_room (Ok number) start log t u before after bound exact jobs_are tasks_are made stays had more = omega
     (arith, few_open start log u.jobs bound exact jobs_are, tasks_are, made)

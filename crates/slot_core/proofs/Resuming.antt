@@ -19,21 +19,21 @@ use Rattle.die_checkpoint.specs.Counts.{no_counts, counts_at, free_in}
 use Rattle.die_checkpoint.specs.Fits.{Fits, free_pages}
 use Rattle.flash_die.specs.Flash as device
 use Rattle.flash_volume.specs.Cells as volume
-use Rattle.flash_volume.specs.Resumed as left_volume
+use Rattle.flash_volume.specs.Checkpoints as left_volume
 use Rattle.flash_volume.specs.Running.{running_of}
 use Rattle.flash_volume.specs.declared.collection.Collection.{Collection}
 use Rattle.flash_volume.proofs.Fresh.{none_running}
 use Rattle.job_table.specs.Table.{Table, empty_table}
 use Rattle.flash_volume.specs.State.{State}
-use Rattle.die_log.specs.Start.{Start, Block, blank_page, free_block, over}
-use Rattle.die_log.specs.Flash.{cells}
-use Rattle.die_log.specs.Flash as flash
-use Rattle.die_log.specs.Held.{Agree}
-use Rattle.die_log.specs.Opening.{IsOpening, IsQuiet, CanBeErased, renewed}
-use Rattle.die_log.specs.Log.{Log, Job}
+use Rattle.die_log.specs.Model.Start.{Start, Block, blank_page, free_block, over}
+use Rattle.die_log.specs.Model.Flash.{cells}
+use Rattle.die_log.specs.Model.Flash as flash
+use Rattle.die_log.specs.Invariants.TrueAccounts.{AccountsAgree}
+use Rattle.die_log.specs.Model.Opening.{IsOpening, IsQuiet, CanBeErased, renewed_start}
+use Rattle.die_log.specs.Model.Log.{Log, Job}
 use Rattle.die_log.proofs.Renewal.{renewed_opens}
 use Rattle.slot_core.specs.Device.{flash_of, IsFlashOf, counts_of}
-use Rattle.slot_core.specs.Kept.{Keeps}
+use Rattle.slot_core.specs.Agreement.{AgreeWithLog}
 use Rattle.slot_core.specs.Resumed.{counts_in, idle_block, checkpoint_of, start_with, resumed_start}
 
 -- Blocks
@@ -162,7 +162,7 @@ idle_again : (bs : List Block) → ((k : ℕ) → (get_or bs k free_block).erasi
 idle_again [] h = refl
 idle_again (b ∷ bs) h = λ i. record { filled = b.filled; erasing = sym (h 0) i; erases = b.erases } ∷ idle_again bs (λ k. h (suc k)) i
 
-quiet_again : (plan : DiePlan) (a : Accounts) (free : ℕ) → Agree plan a (λ task. 0) (λ task. 0) 0 free
+quiet_again : (plan : DiePlan) (a : Accounts) (free : ℕ) → AccountsAgree plan a (λ task. 0) (λ task. 0) 0 free
     → quiet_accounts plan a.spare a.balances ≡ a
 quiet_again plan a free g =
     let n = length plan.caps in
@@ -201,9 +201,9 @@ counted_again (b ∷ bs) = ap (λ (l : List BlockCounts). left_volume.counts_of 
 
 -- a die that may be renewed, and the checkpoint that its volume gives
 module _ {N : Type 0} (blocks_of : N → List device.Block) (start : Start) (log : Log) (present : ℕ) (t : Table) (v : State N) (c : Checkpoint)
-    (k : Keeps start log present t v.failed (flash_of blocks_of v)) (alive : v.failed ≡ false) (quiet : IsQuiet start log)
+    (k : AgreeWithLog start log present t v.failed (flash_of blocks_of v)) (alive : v.failed ≡ false) (quiet : IsQuiet start log)
     (taken : c ≡ left_volume.checkpoint_of blocks_of v) where
-  opens : IsOpening (renewed start log)
+  opens : IsOpening (renewed_start start log)
   opens = renewed_opens start log k.bound k.exact quiet
 
   f : IsFlashOf start log (flash_of blocks_of v)
@@ -212,7 +212,7 @@ module _ {N : Type 0} (blocks_of : N → List device.Block) (start : Start) (log
   blocks_told : map left_volume.counts_of (blocks_of v.device) ≡ map counts_in (cells start log).blocks
   blocks_told = counted_again (blocks_of v.device) ∙ ap (map counts_in) f.blocks_are
 
-  pub taken_told : c ≡ checkpoint_of (renewed start log)
+  pub taken_told : c ≡ checkpoint_of (renewed_start start log)
   taken_told = taken ∙ (λ i. record {
     places = f.places_are i;
     blocks = blocks_told i;
@@ -227,19 +227,19 @@ module _ {N : Type 0} (blocks_of : N → List device.Block) (start : Start) (log
       ap (λ (x : Block). x.erasing) here ∙ opens.idle b
 
   pub goes_on_told : v.pages ≡ volume.contents (blocks_of v.device) v.places
-      → resumed_start start.plan c (blocks_of v.device) ≡ renewed start log
+      → resumed_start start.plan c (blocks_of v.device) ≡ renewed_start start log
   goes_on_told pages =
-      let held : volume.contents (blocks_of v.device) (cells start log).places ≡ (renewed start log).contents =
+      let held : volume.contents (blocks_of v.device) (cells start log).places ≡ (renewed_start start log).contents =
       ap (volume.contents (blocks_of v.device)) (sym f.places_are) ∙ sym pages ∙ f.pages_are in
       ap (λ (d : Checkpoint). resumed_start start.plan d (blocks_of v.device)) taken_told
-      ∙ ap (λ (p : List PageData). start_with start.plan (checkpoint_of (renewed start log)) p) held
-      ∙ opening_again (renewed start log) opens
+      ∙ ap (λ (p : List PageData). start_with start.plan (checkpoint_of (renewed_start start log)) p) held
+      ∙ opening_again (renewed_start start log) opens
 
-  pub fits_told : CanBeErased (renewed start log) → Fits start.plan c
+  pub fits_told : CanBeErased (renewed_start start log) → Fits start.plan c
   fits_told left =
-      let again = opening_again (renewed start log) opens in
+      let again = opening_again (renewed_start start log) opens in
       subst (Fits start.plan) (sym taken_told)
-      (opening_fits start.plan (checkpoint_of (renewed start log)) (renewed start log).contents
+      (opening_fits start.plan (checkpoint_of (renewed_start start log)) (renewed_start start log).contents
       (subst IsOpening (sym again) opens) (subst CanBeErased (sym again) left))
 
 -- A die that goes on
@@ -274,7 +274,7 @@ pub keeps_resumed : {N : Type 0} (blocks_of : N → List device.Block) (plan : D
     (t : Table) (v : State N) (start : Start) → Fits plan c → left_volume.IsAsLeft c (blocks_of nand) failures → log ≡ []
     → t ≡ empty_table (length plan.caps) → v ≡ left_volume.resumed_volume blocks_of plan c nand
     → start ≡ resumed_start plan c (blocks_of nand)
-    → Keeps (over v.accounts.plan start) log 0 t v.failed (flash_of blocks_of v)
+    → AgreeWithLog (over v.accounts.plan start) log 0 t v.failed (flash_of blocks_of v)
 keeps_resumed blocks_of plan c nand failures log t v start fits left none table_is volume_is start_is =
     rw start_is (rw volume_is (rw none (rw table_is (record {
       exact = tt;

@@ -12,18 +12,18 @@ use Rattle.plan_rules.specs.Bound.{MeetsBound}
 use Rattle.late_cert.specs.declared.rows.JobRow.{JobRow}
 use Rattle.late_cert.specs.Rows.{RowsRise}
 use Rattle.job_table.specs.Jobs.{JobRecord}
-use Rattle.die_log.specs.Log.{Log, Job, jobs, work, waived, is_waived}
-use Rattle.die_log.specs.Work.{is_done, completion}
-use Rattle.die_log.specs.Answers.{IsExact}
-use Rattle.die_log.specs.Standing.{AreNumbered}
-use Rattle.die_log.specs.Rows.{rows, row_for}
+use Rattle.die_log.specs.Model.Log.{Log, Job, jobs, work, waived_collections, is_waived}
+use Rattle.die_log.specs.Model.Work.{is_done, completion}
+use Rattle.die_log.specs.Model.Answers.{IsExact}
+use Rattle.die_log.specs.Invariants.RunningCollections.{AreNumbered}
+use Rattle.die_log.specs.Model.Rows.{rows, row_for}
 use Rattle.die_log.proofs.Legal.Exact.{stands_well}
 use Rattle.die_log.proofs.Least.Lookups.{rows_rise}
-use Rattle.slot_core.specs.Records.{record_with, records, waiver_among, stage_by, given}
-use Rattle.slot_core.specs.Rowed.{row_as, row_in, rows_in}
+use Rattle.slot_core.specs.Records.{record_with, job_records, waiver_among, stage_by, pages_given}
+use Rattle.slot_core.specs.TableRows.{row_as, row_in, rows_in}
 use Rattle.slot_core.proofs.Worsts.{waiver_stands}
-use Rattle.die_log.specs.Start.{Start}
-use Rattle.die_log.specs.Opening.{IsOpening}
+use Rattle.die_log.specs.Model.Start.{Start}
+use Rattle.die_log.specs.Model.Opening.{IsOpening}
 
 -- One more record
 
@@ -102,8 +102,8 @@ row_if log j done = record {
 }
 
 first_row : (start : Start) (log : Log) (j : Job) (o : Option Waived) (done gone : Bool) (rest : List JobRow) → is_some o ≡ gone
-    → cons_option (row_as (stage_by o done (completion j.number log) (given start j.number log)) j.number
-    (record_with start log (waived log) j)) rest ≡ cond (not gone) (row_if log j done ∷ rest) rest
+    → cons_option (row_as (stage_by o done (completion j.number log) (pages_given start j.number log)) j.number
+    (record_with start log (waived_collections log) j)) rest ≡ cond (not gone) (row_if log j done ∷ rest) rest
 first_row start log j (Some w) done true rest e = refl
 first_row start log j (Some w) done false rest e = absurd (true≢false e)
 first_row start log j None done true rest e = absurd (true≢false (sym e))
@@ -115,18 +115,18 @@ map_cond f true j js = refl
 map_cond f false j js = refl
 
 rows_of : (start : Start) (log : Log) (first : ℕ) (js : List Job) → AreNumbered first js
-    → rows_in first (map (record_with start log (waived log)) js) ≡ map (row_for start.plan log) (filter (λ j. not (is_waived log j.number)) js)
+    → rows_in first (map (record_with start log (waived_collections log)) js) ≡ map (row_for start.plan log) (filter (λ j. not (is_waived log j.number)) js)
 rows_of start log first [] h = refl
 rows_of start log first (j ∷ js) h =
-    ap (λ (n : ℕ). cons_option (row_in n (record_with start log (waived log) j))
-    (rows_in (first + 1) (map (record_with start log (waived log)) js))) (sym h.0)
-    ∙ (ap (cons_option (row_in j.number (record_with start log (waived log) j))) (rows_of start log (first + 1) js h.1)
-    ∙ (first_row start log j (waiver_among j.number (waived log)) (is_done start.plan log j) (is_waived log j.number)
-    (map (row_for start.plan log) (filter (λ i. not (is_waived log i.number)) js)) (waiver_stands j.number (waived log))
+    ap (λ (n : ℕ). cons_option (row_in n (record_with start log (waived_collections log) j))
+    (rows_in (first + 1) (map (record_with start log (waived_collections log)) js))) (sym h.0)
+    ∙ (ap (cons_option (row_in j.number (record_with start log (waived_collections log) j))) (rows_of start log (first + 1) js h.1)
+    ∙ (first_row start log j (waiver_among j.number (waived_collections log)) (is_done start.plan log j) (is_waived log j.number)
+    (map (row_for start.plan log) (filter (λ i. not (is_waived log i.number)) js)) (waiver_stands j.number (waived_collections log))
     ∙ map_cond (row_for start.plan log) (not (is_waived log j.number)) j (filter (λ i. not (is_waived log i.number)) js)))
 
 pub rows_are : (start : Start) (log : Log) (rs : List JobRecord) (made : List JobRow) → IsOpening start → IsExact start log → rs
-    ≡ records start log → made ≡ rows_in 0 rs → made ≡ rows start.plan log
+    ≡ job_records start log → made ≡ rows_in 0 rs → made ≡ rows start.plan log
 rows_are start log rs made bound exact are is = is ∙ (ap (rows_in 0) are
     ∙ rows_of start log 0 (jobs log) (stands_well start bound log exact).0.numbered)
 

@@ -24,24 +24,24 @@ use Rattle.slot_types.specs.declared.replies.Entry.{Entry}
 use Rattle.slot_types.specs.declared.pages.PageData.{PageData}
 use Rattle.plan_rules.specs.Accounts.{Accounts}
 use Rattle.job_table.specs.Jobs.{is_read}
-use Rattle.die_log.specs.Log.{Log, Job, Carried, jobs, job_at, act_of, acts, work}
-use Rattle.die_log.specs.Answers.{IsExact}
-use Rattle.die_log.specs.Legal.{IsLegal, IsLegalReply, IsLegalRun, IsNumbered, IsNextOperation, IsNextCollectAct, Does}
+use Rattle.die_log.specs.Model.Log.{Log, Job, Carried, jobs, job_at, act_of, acts, work}
+use Rattle.die_log.specs.Model.Answers.{IsExact}
+use Rattle.die_log.specs.Results.Legal.{IsLegal, IsLegalReply, IsLegalRun, IsNumbered, IsNextOperation, IsNextCollectAct, Does}
 use Rattle.die_log.proofs.Legality.{entry}
 use Rattle.die_log.proofs.Standing.Longer.{acts_stay, acts_grow}
 use Rattle.die_log.proofs.Collecting.{no_acts}
-use Rattle.die_log.specs.Flash.{contents, written, ran_by}
+use Rattle.die_log.specs.Model.Flash.{contents, contents_after, ran_by}
 use Rattle.slot_types.specs.Operations.{is_write, writes}
-use Rattle.die_log.specs.Held.{Agree, held_of, left_of, at_task}
+use Rattle.die_log.specs.Invariants.TrueAccounts.{AccountsAgree, held_of, left_of, at_task}
 use Rattle.die_log.proofs.Tokens.Amounts.{at_itself}
 use Rattle.slot_core.specs.Records.{reads_of, bytes_read}
-use Rattle.die_log.specs.Start.{Start}
-use Rattle.die_log.specs.Opening.{IsOpening}
+use Rattle.die_log.specs.Model.Start.{Start}
+use Rattle.die_log.specs.Model.Opening.{IsOpening}
 use Rattle.die_log.proofs.Renewal.{contents_len as kept_len}
 
 -- Pages
 
-written_len : (c : Carried) (pages : List PageData) → length (written c pages) ≡ length pages
+written_len : (c : Carried) (pages : List PageData) → length (contents_after c pages) ≡ length pages
 written_len None pages = refl
 written_len (Some (n, does.Read page bytes)) pages = refl
 written_len (Some (n, does.Write page bytes)) pages = length-set pages page bytes
@@ -72,7 +72,7 @@ write_left (x ∷ ops) (suc w) op e is = write_left ops w op e is
 
 -- a job whose next operation is a write holds a token
 pub hold_positive : (plan : DiePlan) (a : Accounts) (own : ℕ → List Act) (lent : ℕ → ℕ) (owed free : ℕ) (js : List Job) (j : Job) (op : Op)
-    → Agree plan a (held_of own js) lent owed free → j.task < length plan.caps
+    → AccountsAgree plan a (held_of own js) lent owed free → j.task < length plan.caps
     → slice_get js j.number ≡ Some j → slice_get j.ops (length (own j.number)) ≡ Some op → is_write op ≡ true → 0
     < slice_index a.holds j.task
 hold_positive plan a own lent owed free js j op agree task at next is =

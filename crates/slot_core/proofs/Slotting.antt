@@ -28,33 +28,33 @@ use Rattle.job_table.specs.declared.stages.Stage.TheVariants.{Pending, Done, Wai
 use Rattle.job_table.specs.Jobs.{JobRecord, is_pending, is_read, is_some_read, reads_next, with_stage}
 use Rattle.job_table.specs.Jobs as jobs_table
 use Rattle.job_table.specs.Table.{Table, changed_at, with_change, reads_next_at, reads_next_of}
-use Rattle.job_table.specs.Waivers.{WerePending, waived_in, AreWaived, stopped}
+use Rattle.job_table.specs.Waivers.{WerePending, jobs_after_waivers, AreWaived, stopped_table}
 use Rattle.job_table.proofs.Waivers.{AreWaived-waived_in}
 use Rattle.job_table.specs.Order as table
 use Rattle.late_cert.specs.Schedule.{Slots}
-use Rattle.die_log.specs.Log.{Log, Job, Carried, jobs, job_at, carried, acts, waived, is_waived, now, work}
-use Rattle.die_log.specs.Flash as flash
-use Rattle.die_log.specs.Flash.{cells, contents, free}
+use Rattle.die_log.specs.Model.Log.{Log, Job, Carried, jobs, job_at, carried_slots, acts, waived_collections, is_waived, now, work}
+use Rattle.die_log.specs.Model.Flash as flash
+use Rattle.die_log.specs.Model.Flash.{cells, contents, free}
 use Rattle.slot_types.specs.Operations.{is_write}
-use Rattle.die_log.specs.Work.{is_done, are_all, owed}
-use Rattle.die_log.specs.Accounts.{accounts}
-use Rattle.die_log.specs.Answers.{answer, accepted, IsAccepted, refusal_of, Choice, choice, slot_reply, reply_with, act_for, act_of_op}
-use Rattle.die_log.specs.Held.{held_of, lent_to, IsTaken as IsOfPlan}
-use Rattle.die_log.specs.Legal.{is_among}
-use Rattle.die_log.specs.Rows.{carried_numbers}
+use Rattle.die_log.specs.Model.Work.{is_done, are_all, owed}
+use Rattle.die_log.specs.Model.Accounts.{accounts}
+use Rattle.die_log.specs.Model.Answers.{answer, reply_if_accepted, IsAccepted, refusal_of, Choice, choice, slot_reply, reply_with, act_for, act_of_op}
+use Rattle.die_log.specs.Invariants.TrueAccounts.{held_of, lent_to, HasTaskAndOps as IsOfPlan}
+use Rattle.die_log.specs.Results.Legal.{is_among}
+use Rattle.die_log.specs.Model.Rows.{carried_numbers}
 use Rattle.die_log.proofs.Cells.Steps.{opens}
 use Rattle.die_log.proofs.Legality.{entry, accepted_answer, refused_answer}
 use Rattle.die_log.proofs.Tokens.Amounts.{one_le_sum}
 use Rattle.die_log.proofs.Tokens.Sums.{all_at}
 use Rattle.die_log.proofs.Tokens.Turns.{owed_fits}
 use Rattle.slot_core.specs.Core.{with_entry}
-use Rattle.slot_core.specs.Kept.{Keeps}
-use Rattle.slot_core.specs.Records.{record_with, records, waiver_among}
+use Rattle.slot_core.specs.Agreement.{AgreeWithLog}
+use Rattle.slot_core.specs.Records.{record_with, job_records, waiver_among}
 use Rattle.slot_core.specs.Device.{FlashState, flash_of, AreRunning, IsFlashOf}
-use Rattle.slot_core.specs.Slotted.{GoesOn, IsWaivedFlash, IsSlot, InSlot, HasTurn, idle_reply}
-use Rattle.slot_core.specs.Acting.{act_by, operated}
-use Rattle.slot_core.specs.declared.turn.Turn.{Turn}
-use Rattle.slot_core.specs.Turns.{is_read_act, after_read, finished, after_turn, turn_by, DidOp, DidBy, DidTurn}
+use Rattle.slot_core.specs.WithinSlot.{ChoiceGoesOn, IsWaivedFlash, IsSlot, InSlot, IsHeadInSlot, idle_reply}
+use Rattle.slot_core.specs.OpEffects.{act_by, flash_after_op}
+use Rattle.slot_core.specs.declared.head_step.HeadStep.{HeadStep}
+use Rattle.slot_core.specs.HeadSteps.{is_read_act, after_read, table_after_end, table_after_step, head_step_by, DidOp, DidBy, DidHeadStep}
 use Rattle.slot_core.proofs.Choosing.{starts, begins, ends}
 use Rattle.slot_core.proofs.Collections.{running_acted}
 use Rattle.slot_core.proofs.Recording.{records-idle, records-act, acted_is, acted_record, acted_reply}
@@ -64,7 +64,7 @@ use Rattle.slot_core.proofs.Opened.{opens_same}
 use Rattle.slot_core.proofs.Serving.{hold_positive}
 use Rattle.slot_core.proofs.Taking.{IsCollector, IsTaken, took}
 use Rattle.slot_core.proofs.Turning.{IsHeadJob, turn_job, table_is}
-use Rattle.die_log.specs.Start.{Start, over}
+use Rattle.die_log.specs.Model.Start.{Start, over}
 
 past_clock : (m n : ℕ) → n < m → nat_le m n ≡ false
 past_clock m n h = grind (arith, nat_tests)
@@ -79,7 +79,7 @@ unrefused start log present s = rw (past_clock MAX_SLOT (now log) s.few) refl
 
 -- The slot begins
 
-starts_with : (start : Start) (log : Log) (present : ℕ) (t : Table) (f : FlashState) → Keeps start log present t false f → present
+starts_with : (start : Start) (log : Log) (present : ℕ) (t : Table) (f : FlashState) → AgreeWithLog start log present t false f → present
     < MAX_SLOT → t.clock ≡ present → InSlot start log present [] t f
 starts_with start log present t f k few clock = record {
   slot = record { exact = k.exact; bound = k.bound; left = k.left; now_is = k.now_is; few = subst (λ (n : ℕ). n < MAX_SLOT) k.now_is few };
@@ -87,25 +87,25 @@ starts_with start log present t f k few clock = record {
     tasks_are = k.tasks_are;
     clock_is = clock ∙ k.now_is;
     running = k.ended_is;
-    jobs_are = rw (append-nil (waived log)) k.jobs_are;
+    jobs_are = rw (append-nil (waived_collections log)) k.jobs_are;
     were_pending = tt;
     were = k.jobs_are;
   };
-  goes_on = subst (GoesOn start log []) (sym (k.flash refl).accounts_are) (starts start log);
+  goes_on = subst (ChoiceGoesOn start log []) (sym (k.flash refl).accounts_are) (starts start log);
   flash = unwaived_flash start log f (k.flash refl);
   running = (k.flash refl).running_are;
 }
 
 pub slot_starts : (start : Start) {N : Type 0} (blocks_of : N → List device.Block) (log : Log) (present : ℕ) (t : Table) (v : State N)
-    → Keeps (over v.accounts.plan start) log present t v.failed (flash_of blocks_of v) → v.failed ≡ false → present < MAX_SLOT
+    → AgreeWithLog (over v.accounts.plan start) log present t v.failed (flash_of blocks_of v) → v.failed ≡ false → present < MAX_SLOT
     → InSlot (over v.accounts.plan start) log present [] (record t { clock = present }) (flash_of blocks_of v)
 slot_starts start blocks_of log present t v k alive few =
     starts_with (over v.accounts.plan start) log present (record t { clock = present }) (flash_of blocks_of v)
-    (subst (λ (b : Bool). Keeps (over v.accounts.plan start) log present (record t { clock = present }) b (flash_of blocks_of v)) alive (looked k))
+    (subst (λ (b : Bool). AgreeWithLog (over v.accounts.plan start) log present (record t { clock = present }) b (flash_of blocks_of v)) alive (looked k))
     few refl
   where
-    looked : Keeps (over v.accounts.plan start) log present t v.failed (flash_of blocks_of v)
-        → Keeps (over v.accounts.plan start) log present (record t { clock = present }) v.failed (flash_of blocks_of v)
+    looked : AgreeWithLog (over v.accounts.plan start) log present t v.failed (flash_of blocks_of v)
+        → AgreeWithLog (over v.accounts.plan start) log present (record t { clock = present }) v.failed (flash_of blocks_of v)
     looked kept = record {
       exact = kept.exact;
       bound = kept.bound;
@@ -122,10 +122,10 @@ slot_starts start blocks_of log present t v k alive few =
 
 pub slot_idles : (start : Start) (log : Log) (present : ℕ) (ws : List Waived) (t : Table) (f : FlashState) (caller : ℕ)
     → InSlot start log present ws t f → table.NothingReady t
-    → Keeps start (entry caller events.Slot (replies.Slot (idle_reply present ws)) ∷ log) (present + 1) t false f
-    × (accepted start log events.Slot ≡ replies.Slot (idle_reply present ws))
+    → AgreeWithLog start (entry caller events.Slot (replies.Slot (idle_reply present ws)) ∷ log) (present + 1) t false f
+    × (reply_if_accepted start log events.Slot ≡ replies.Slot (idle_reply present ws))
 slot_idles start log present ws t f caller s nothing = (
-  subst (λ (n : ℕ). Keeps start (entry caller events.Slot (replies.Slot (idle_reply n ws)) ∷ log) (present + 1) t false f)
+  subst (λ (n : ℕ). AgreeWithLog start (entry caller events.Slot (replies.Slot (idle_reply n ws)) ∷ log) (present + 1) t false f)
       (sym s.slot.now_is) kept,
   rw s.slot.now_is replied,
 )
@@ -134,15 +134,15 @@ slot_idles start log present ws t f caller s nothing = (
     chosen = ends start log ws f.tokens s.goes_on (nothing_least start log ws (length start.plan.caps) false
         (subst table.NothingReady (table_is start log ws t s.table) nothing))
 
-    replied : accepted start log events.Slot ≡ replies.Slot (idle_reply (now log) ws)
+    replied : reply_if_accepted start log events.Slot ≡ replies.Slot (idle_reply (now log) ws)
     replied = ap (λ (c : Choice). replies.Slot (slot_reply start log c.waived c.head)) chosen
 
-    kept : Keeps start (entry caller events.Slot (replies.Slot (idle_reply (now log) ws)) ∷ log) (present + 1) t false f
+    kept : AgreeWithLog start (entry caller events.Slot (replies.Slot (idle_reply (now log) ws)) ∷ log) (present + 1) t false f
     kept = record {
       exact = (s.slot.exact, sym (accepted_answer start log events.Slot (unrefused start log present s.slot) ∙ replied), tt);
       bound = s.slot.bound;
       left = s.slot.left;
-      now_is = ap (λ n. n + 1) s.slot.now_is ∙ sym (length_push (carried log) None);
+      now_is = ap (λ n. n + 1) s.slot.now_is ∙ sym (length_push (carried_slots log) None);
       tasks_are = s.table.tasks_are;
       clock_by = omega (arith, s.table.clock_is, s.slot.now_is);
       ended_is = s.table.running;
@@ -154,7 +154,7 @@ pub idle_kept : (start : Start) {N : Type 0} (blocks_of : N → List device.Bloc
     (v : State N) (reply : SlotReply)
     → InSlot (over v.accounts.plan start) log present ws t (flash_of blocks_of v) → table.NothingReady t → v.failed ≡ false → reply
     ≡ idle_reply present ws → later ≡ with_entry caller events.Slot (replies.Slot reply) log
-    → Keeps (over v.accounts.plan start) later (present + 1) t v.failed (flash_of blocks_of v)
+    → AgreeWithLog (over v.accounts.plan start) later (present + 1) t v.failed (flash_of blocks_of v)
     × (answer (over v.accounts.plan start) log events.Slot ≡ replies.Slot reply)
 idle_kept start blocks_of log later present caller ws t v reply s nothing alive reply_is later_is =
     let done = slot_idles (over v.accounts.plan start) log present ws t (flash_of blocks_of v) caller s nothing in (
@@ -181,7 +181,7 @@ flash_operated : (start : Start) (log : Log) (caller slot : ℕ) (ws : List Waiv
     → job_at log j.number ≡ Some j → f.tokens.plan ≡ start.plan → IsWaivedFlash start log ws f
     → AreRunning start (slot_with caller slot ws j.number (act_by f op) finished log) f.running
     → (is_write op ≡ true → 0 < free start log)
-    → IsFlashOf start (slot_with caller slot ws j.number (act_by f op) finished log) (operated f j.task op)
+    → IsFlashOf start (slot_with caller slot ws j.number (act_by f op) finished log) (flash_after_op f j.task op)
 flash_operated start log caller slot ws j (asks.Read page) finished f at plan_is w runs some = flash-read start log caller slot ws j page
     (slice_index_or f.pages page device.blank) finished f at w runs
 flash_operated start log caller slot ws j (asks.Trim page) finished f at plan_is w runs some = flash-trim start log caller slot ws j page
@@ -198,8 +198,8 @@ plain_all : (plan : DiePlan) (j : Job) (own : List Act) (act : Act) → j.collec
 plain_all plan j own act plain = rw plain (ap (λ (n : ℕ). n == length j.ops) (length_push own act))
 
 took_op : (start : Start) {N : Type 0} (blocks_of : N → List device.Block) (log : Log) (present caller : ℕ) (ws : List Waived) (t : Table) (n : ℕ)
-    (v w : State N) (turn : Turn) → (h : HasTurn (over v.accounts.plan start) log present ws t (flash_of blocks_of v) n) → h.job.collects ≡ false
-    → DidOp blocks_of v (record_with (over v.accounts.plan start) log (waived log ++ ws) h.job) turn w → IsTaken start blocks_of log caller ws h.job v w turn
+    (v w : State N) (turn : HeadStep) → (h : IsHeadInSlot (over v.accounts.plan start) log present ws t (flash_of blocks_of v) n) → h.job.collects ≡ false
+    → DidOp blocks_of v (record_with (over v.accounts.plan start) log (waived_collections log ++ ws) h.job) turn w → IsTaken start blocks_of log caller ws h.job v w turn
 took_op start blocks_of log present caller ws t n v w turn h plain d = rw d.turn_is (record {
   act_is = act_is (over v.accounts.plan start) log (flash_of blocks_of v) h.job d.op h.flash.pages_are plain d.next;
   last_is = plain_all v.accounts.plan h.job (acts h.job.number log) (act_by (flash_of blocks_of v) d.op) plain;
@@ -235,17 +235,17 @@ took_op start blocks_of log present caller ws t n v w turn h plain d = rw d.turn
               (lent_to v.accounts.plan (λ k. acts k log) (is_waived log) (jobs log)) (owed log) (free (over v.accounts.plan start) log) agree,
         )
 
--- The head's turn
+-- The head's step
 
 took_turn : (start : Start) {N : Type 0} (blocks_of : N → List device.Block) (log : Log) (present caller : ℕ) (ws : List Waived) (t : Table) (n : ℕ)
-    (v w : State N) (turn : Turn) → (h : HasTurn (over v.accounts.plan start) log present ws t (flash_of blocks_of v) n)
-    → DidTurn blocks_of v (record_with (over v.accounts.plan start) log (waived log ++ ws) h.job) turn w → IsTaken start blocks_of log caller ws h.job v w turn
+    (v w : State N) (turn : HeadStep) → (h : IsHeadInSlot (over v.accounts.plan start) log present ws t (flash_of blocks_of v) n)
+    → DidHeadStep blocks_of v (record_with (over v.accounts.plan start) log (waived_collections log ++ ws) h.job) turn w → IsTaken start blocks_of log caller ws h.job v w turn
 took_turn start blocks_of log present caller ws t n v w turn h d = by_kind h.job.collects refl d
   where
     job : IsHeadJob (over v.accounts.plan start) log ws t n h.job
     job = turn_job (over v.accounts.plan start) log present ws t (flash_of blocks_of v) n h
 
-    by_kind : (b : Bool) → h.job.collects ≡ b → DidBy blocks_of v (record_with (over v.accounts.plan start) log (waived log ++ ws) h.job) b turn w
+    by_kind : (b : Bool) → h.job.collects ≡ b → DidBy blocks_of v (record_with (over v.accounts.plan start) log (waived_collections log ++ ws) h.job) b turn w
         → IsTaken start blocks_of log caller ws h.job v w turn
     by_kind false plain k = took_op start blocks_of log present caller ws t n v w turn h plain k
     by_kind true collects k =
@@ -278,8 +278,8 @@ stage_pending Pending h = refl
 stage_pending (Done c g) h = absurd cc
 stage_pending (Gone g) h = absurd cc
 
-same_stage : (act : Act) (r : JobRecord) → r.stage ≡ Pending → with_stage Pending (after_read act (jobs_table.carried r))
-    ≡ after_read act (jobs_table.carried r)
+same_stage : (act : Act) (r : JobRecord) → r.stage ≡ Pending → with_stage Pending (after_read act (jobs_table.with_one_more_slot r))
+    ≡ after_read act (jobs_table.with_one_more_slot r)
 same_stage (does.Read page bytes) r h = rw h refl
 same_stage (does.Write page bytes) r h = rw h refl
 same_stage (does.Trim page) r h = rw h refl
@@ -293,49 +293,49 @@ changed_twice [] n f g = refl
 changed_twice (x ∷ xs) zero f g = refl
 changed_twice (x ∷ xs) (suc n) f g = ap (λ ys. x ∷ ys) (changed_twice xs n f g)
 
--- what the turn does to the head's record
-abbrev pub turned : Turn → ℕ → JobRecord → JobRecord
-turned turn completion r = if turn.last then with_stage (Done completion turn.given) (after_read turn.act (jobs_table.carried r)) else
-    after_read turn.act (jobs_table.carried r)
+-- what the step does to the head's record
+abbrev pub turned : HeadStep → ℕ → JobRecord → JobRecord
+turned turn completion r = if turn.last then with_stage (Done completion turn.given) (after_read turn.act (jobs_table.with_one_more_slot r)) else
+    after_read turn.act (jobs_table.with_one_more_slot r)
 
-pub turn_change : (t : Table) (n : ℕ) (turn : Turn) (completion : ℕ) → after_turn t n turn completion
+pub turn_change : (t : Table) (n : ℕ) (turn : HeadStep) (completion : ℕ) → table_after_step t n turn completion
     ≡ with_change t n (turned turn completion)
 turn_change t n turn completion = by_last turn.last
   where
-    by_last : (b : Bool) → finished b n completion turn.given (with_change t n (λ job. after_read turn.act (jobs_table.carried job)))
-        ≡ with_change t n (λ r. if b then with_stage (Done completion turn.given) (after_read turn.act (jobs_table.carried r)) else
-        after_read turn.act (jobs_table.carried r))
+    by_last : (b : Bool) → table_after_end b n completion turn.given (with_change t n (λ job. after_read turn.act (jobs_table.with_one_more_slot job)))
+        ≡ with_change t n (λ r. if b then with_stage (Done completion turn.given) (after_read turn.act (jobs_table.with_one_more_slot r)) else
+        after_read turn.act (jobs_table.with_one_more_slot r))
     by_last true = ap (λ (js : List JobRecord). record t { jobs = js })
-        (changed_twice t.jobs n (λ r. after_read turn.act (jobs_table.carried r)) (with_stage (Done completion turn.given)))
+        (changed_twice t.jobs n (λ r. after_read turn.act (jobs_table.with_one_more_slot r)) (with_stage (Done completion turn.given)))
     by_last false = refl
 
 turned_is : (start : Start) {N : Type 0} (blocks_of : N → List device.Block) (log : Log) (present caller : ℕ) (ws : List Waived) (t : Table) (n : ℕ)
-    (v w : State N) (turn : Turn) → (h : HasTurn (over v.accounts.plan start) log present ws t (flash_of blocks_of v) n)
+    (v w : State N) (turn : HeadStep) → (h : IsHeadInSlot (over v.accounts.plan start) log present ws t (flash_of blocks_of v) n)
     → IsTaken start blocks_of log caller ws h.job v w turn
-    → turned turn (present + 1) (record_with (over v.accounts.plan start) log (waived log ++ ws) h.job)
+    → turned turn (present + 1) (record_with (over v.accounts.plan start) log (waived_collections log ++ ws) h.job)
     ≡ acted_record (over v.accounts.plan start) log caller ws h.job turn.act turn.last
 turned_is start blocks_of log present caller ws t n v w turn h k = by_last turn.last refl
   where
     job : IsHeadJob (over v.accounts.plan start) log ws t n h.job
     job = turn_job (over v.accounts.plan start) log present ws t (flash_of blocks_of v) n h
 
-    unwaived : is_among h.job.number (waived log ++ ws) ≡ false
-    unwaived = among_both h.job.number (waived log) ws ∙ or_both (is_among h.job.number (waived log)) (is_among h.job.number ws) past
+    unwaived : is_among h.job.number (waived_collections log ++ ws) ≡ false
+    unwaived = among_both h.job.number (waived_collections log) ws ∙ or_both (is_among h.job.number (waived_collections log)) (is_among h.job.number ws) past
         job.unwaived_now
       where
         past : is_waived log h.job.number ≡ false
         past = not-true (is_waived log h.job.number) (and_parts (nat_le h.job.release (now log) && not (is_done v.accounts.plan log h.job))
             (not (is_waived log h.job.number)) job.ready_now).1
 
-    none : waiver_among h.job.number (waived log ++ ws) ≡ None
-    none = none_among (waiver_among h.job.number (waived log ++ ws)) (waiver_is h.job.number (waived log ++ ws) ∙ unwaived)
+    none : waiver_among h.job.number (waived_collections log ++ ws) ≡ None
+    none = none_among (waiver_among h.job.number (waived_collections log ++ ws)) (waiver_is h.job.number (waived_collections log ++ ws) ∙ unwaived)
 
-    stage_is : (record_with (over v.accounts.plan start) log (waived log ++ ws) h.job).stage ≡ Pending
-    stage_is = stage_pending (record_with (over v.accounts.plan start) log (waived log ++ ws) h.job).stage
-        (pending_is (over v.accounts.plan start) log (waived log ++ ws) h.job ∙ rw job.undone (rw unwaived refl))
+    stage_is : (record_with (over v.accounts.plan start) log (waived_collections log ++ ws) h.job).stage ≡ Pending
+    stage_is = stage_pending (record_with (over v.accounts.plan start) log (waived_collections log ++ ws) h.job).stage
+        (pending_is (over v.accounts.plan start) log (waived_collections log ++ ws) h.job ∙ rw job.undone (rw unwaived refl))
 
     moved : JobRecord
-    moved = after_read turn.act (jobs_table.carried (record_with (over v.accounts.plan start) log (waived log ++ ws) h.job))
+    moved = after_read turn.act (jobs_table.with_one_more_slot (record_with (over v.accounts.plan start) log (waived_collections log ++ ws) h.job))
 
     by_last : (b : Bool) → turn.last ≡ b
         → (if b then with_stage (Done (present + 1) turn.given) moved else moved)
@@ -345,18 +345,18 @@ turned_is start blocks_of log present caller ws t n v w turn h k = by_last turn.
         ∙ (ap (λ (g : ℕ). with_stage (Done (now log + 1) g) moved) (k.given_is e)
         ∙ sym (acted_is (over v.accounts.plan start) log caller ws h.job turn.act true job.own_at none (k.last_is ∙ e)))
     by_last false e =
-        sym (same_stage turn.act (record_with (over v.accounts.plan start) log (waived log ++ ws) h.job) stage_is)
+        sym (same_stage turn.act (record_with (over v.accounts.plan start) log (waived_collections log ++ ws) h.job) stage_is)
         ∙ sym (acted_is (over v.accounts.plan start) log caller ws h.job turn.act false job.own_at none (k.last_is ∙ e))
 
-abbrev pub turn_reply : ℕ → List Waived → ℕ → Turn → SlotReply
+abbrev pub turn_reply : ℕ → List Waived → ℕ → HeadStep → SlotReply
 turn_reply slot ws n turn = record { slot = slot; waived = ws; ran = Some (n, turn.act); finished = if turn.last then Some n else None }
 
 slot_acts : (start : Start) {N : Type 0} (blocks_of : N → List device.Block) (log : Log) (present caller : ℕ) (ws : List Waived) (t : Table) (n : ℕ)
-    (v w : State N) (turn : Turn)
-    → (h : HasTurn (over v.accounts.plan start) log present ws t (flash_of blocks_of v) n) → IsTaken start blocks_of log caller ws h.job v w turn
-    → Keeps (over v.accounts.plan start) (with_entry caller events.Slot (replies.Slot (turn_reply (now log) ws h.job.number turn)) log) (present + 1)
+    (v w : State N) (turn : HeadStep)
+    → (h : IsHeadInSlot (over v.accounts.plan start) log present ws t (flash_of blocks_of v) n) → IsTaken start blocks_of log caller ws h.job v w turn
+    → AgreeWithLog (over v.accounts.plan start) (with_entry caller events.Slot (replies.Slot (turn_reply (now log) ws h.job.number turn)) log) (present + 1)
     (with_change t h.job.number (turned turn (present + 1))) false (flash_of blocks_of w)
-    × (accepted (over v.accounts.plan start) log events.Slot ≡ replies.Slot (turn_reply (now log) ws h.job.number turn))
+    × (reply_if_accepted (over v.accounts.plan start) log events.Slot ≡ replies.Slot (turn_reply (now log) ws h.job.number turn))
 slot_acts start blocks_of log present caller ws t n v w turn h k = (kept, replied)
   where
     plan : DiePlan
@@ -368,13 +368,13 @@ slot_acts start blocks_of log present caller ws t n v w turn h k = (kept, replie
     chosen : choice (over v.accounts.plan start) log ≡ record { waived = ws; head = Some h.job }
     chosen = begins (over v.accounts.plan start) log ws v.accounts h.job h.goes_on job.least_is h.unwaivable
 
-    replied : accepted (over v.accounts.plan start) log events.Slot ≡ replies.Slot (turn_reply (now log) ws h.job.number turn)
+    replied : reply_if_accepted (over v.accounts.plan start) log events.Slot ≡ replies.Slot (turn_reply (now log) ws h.job.number turn)
     replied =
         ap (λ (c : Choice). replies.Slot (slot_reply (over v.accounts.plan start) log c.waived c.head)) chosen
         ∙ (ap (λ (o : Option Act). replies.Slot (reply_with v.accounts.plan log ws h.job o)) k.act_is
         ∙ ap (λ (b : Bool). replies.Slot (acted_reply log ws h.job.number turn.act b)) k.last_is)
 
-    kept : Keeps (over v.accounts.plan start) (with_entry caller events.Slot (replies.Slot (turn_reply (now log) ws h.job.number turn)) log)
+    kept : AgreeWithLog (over v.accounts.plan start) (with_entry caller events.Slot (replies.Slot (turn_reply (now log) ws h.job.number turn)) log)
         (present + 1) (with_change t h.job.number (turned turn (present + 1))) false (flash_of blocks_of w)
     kept = record {
       exact = (
@@ -384,7 +384,7 @@ slot_acts start blocks_of log present caller ws t n v w turn h k = (kept, replie
       );
       bound = h.slot.bound;
       left = h.slot.left;
-      now_is = ap (λ m. m + 1) h.slot.now_is ∙ sym (length_push (carried log) (Some (h.job.number, turn.act)));
+      now_is = ap (λ m. m + 1) h.slot.now_is ∙ sym (length_push (carried_slots log) (Some (h.job.number, turn.act)));
       tasks_are = h.table.tasks_are;
       clock_by = omega (arith, h.table.clock_is, h.slot.now_is);
       ended_is = h.table.running;
@@ -395,19 +395,19 @@ slot_acts start blocks_of log present caller ws t n v w turn h k = (kept, replie
     }
 
 pub turn_kept : (start : Start) {N : Type 0} (blocks_of : N → List device.Block) (log later : Log) (present caller : ℕ) (ws : List Waived) (t x : Table)
-    (n : ℕ) (v w : State N) (r : JobRecord) (turn : Turn) (reply : SlotReply)
-    → HasTurn (over v.accounts.plan start) log present ws t (flash_of blocks_of v) n → slice_get t.jobs n ≡ Some r → DidTurn blocks_of v r turn w
+    (n : ℕ) (v w : State N) (r : JobRecord) (turn : HeadStep) (reply : SlotReply)
+    → IsHeadInSlot (over v.accounts.plan start) log present ws t (flash_of blocks_of v) n → slice_get t.jobs n ≡ Some r → DidHeadStep blocks_of v r turn w
     → w.accounts.plan ≡ v.accounts.plan → w.failed ≡ false
-    → x ≡ after_turn t n turn (present + 1) → reply ≡ turn_reply present ws n turn → later
+    → x ≡ table_after_step t n turn (present + 1) → reply ≡ turn_reply present ws n turn → later
     ≡ with_entry caller events.Slot (replies.Slot reply) log
-    → Keeps (over w.accounts.plan start) later (present + 1) x w.failed (flash_of blocks_of w)
+    → AgreeWithLog (over w.accounts.plan start) later (present + 1) x w.failed (flash_of blocks_of w)
     × (answer (over v.accounts.plan start) log events.Slot ≡ replies.Slot reply)
 turn_kept start blocks_of log later present caller ws t x n v w r turn reply h at did plan_is well table_after reply_is later_is = (
-  subst (λ (p : DiePlan). Keeps (over p start) later (present + 1) x w.failed (flash_of blocks_of w)) (sym plan_is)
+  subst (λ (p : DiePlan). AgreeWithLog (over p start) later (present + 1) x w.failed (flash_of blocks_of w)) (sym plan_is)
       (rw later_is (rw reply_is (rw well (rw (table_after ∙ turn_change t n turn (present + 1))
-      (subst (λ (m : ℕ). Keeps (over v.accounts.plan start) (with_entry caller events.Slot (replies.Slot (turn_reply m ws n turn)) log) (present + 1)
+      (subst (λ (m : ℕ). AgreeWithLog (over v.accounts.plan start) (with_entry caller events.Slot (replies.Slot (turn_reply m ws n turn)) log) (present + 1)
       (with_change t n (turned turn (present + 1))) false (flash_of blocks_of w)) (sym h.slot.now_is)
-      (subst (λ (m : ℕ). Keeps (over v.accounts.plan start) (with_entry caller events.Slot (replies.Slot (turn_reply (now log) ws m turn)) log)
+      (subst (λ (m : ℕ). AgreeWithLog (over v.accounts.plan start) (with_entry caller events.Slot (replies.Slot (turn_reply (now log) ws m turn)) log)
       (present + 1) (with_change t m (turned turn (present + 1))) false (flash_of blocks_of w)) job.number_is done.0)))))),
   accepted_answer (over v.accounts.plan start) log events.Slot (unrefused (over v.accounts.plan start) log present h.slot)
       ∙ (done.1 ∙ (ap (λ (m : ℕ). replies.Slot (turn_reply (now log) ws m turn)) job.number_is
@@ -417,34 +417,34 @@ turn_kept start blocks_of log later present caller ws t x n v w r turn reply h a
     job : IsHeadJob (over v.accounts.plan start) log ws t n h.job
     job = turn_job (over v.accounts.plan start) log present ws t (flash_of blocks_of v) n h
 
-    record_is : r ≡ record_with (over v.accounts.plan start) log (waived log ++ ws) h.job
-    record_is = same_Some r (record_with (over v.accounts.plan start) log (waived log ++ ws) h.job) (sym at ∙ job.record_at)
+    record_is : r ≡ record_with (over v.accounts.plan start) log (waived_collections log ++ ws) h.job
+    record_is = same_Some r (record_with (over v.accounts.plan start) log (waived_collections log ++ ws) h.job) (sym at ∙ job.record_at)
 
-    done : Keeps (over v.accounts.plan start) (with_entry caller events.Slot (replies.Slot (turn_reply (now log) ws h.job.number turn)) log)
+    done : AgreeWithLog (over v.accounts.plan start) (with_entry caller events.Slot (replies.Slot (turn_reply (now log) ws h.job.number turn)) log)
         (present + 1) (with_change t h.job.number (turned turn (present + 1))) false (flash_of blocks_of w)
-        × (accepted (over v.accounts.plan start) log events.Slot ≡ replies.Slot (turn_reply (now log) ws h.job.number turn))
+        × (reply_if_accepted (over v.accounts.plan start) log events.Slot ≡ replies.Slot (turn_reply (now log) ws h.job.number turn))
     done = slot_acts start blocks_of log present caller ws t n v w turn h
-        (took_turn start blocks_of log present caller ws t n v w turn h (subst (λ (x : JobRecord). DidTurn blocks_of v x turn w) record_is did))
+        (took_turn start blocks_of log present caller ws t n v w turn h (subst (λ (x : JobRecord). DidHeadStep blocks_of v x turn w) record_is did))
 
--- a turn carries a read where the next operation is one
+-- a step carries a read where the next operation is one
 pub turn_reads : (start : Start) {N : Type 0} (blocks_of : N → List device.Block) (log : Log) (present : ℕ) (ws : List Waived) (t : Table) (n : ℕ)
-    (v w : State N) (r : JobRecord) (turn : Turn) → HasTurn (over v.accounts.plan start) log present ws t (flash_of blocks_of v) n → slice_get t.jobs n
+    (v w : State N) (r : JobRecord) (turn : HeadStep) → IsHeadInSlot (over v.accounts.plan start) log present ws t (flash_of blocks_of v) n → slice_get t.jobs n
     ≡ Some r
-    → DidTurn blocks_of v r turn w → reads_next_at t.jobs n ≡ is_read_act turn.act
+    → DidHeadStep blocks_of v r turn w → reads_next_at t.jobs n ≡ is_read_act turn.act
 turn_reads start blocks_of log present ws t n v w r turn h at did = ap reads_next_of at ∙ by_kind r.collects refl did
   where
     job : IsHeadJob (over v.accounts.plan start) log ws t n h.job
     job = turn_job (over v.accounts.plan start) log present ws t (flash_of blocks_of v) n h
 
-    record_is : r ≡ record_with (over v.accounts.plan start) log (waived log ++ ws) h.job
-    record_is = same_Some r (record_with (over v.accounts.plan start) log (waived log ++ ws) h.job) (sym at ∙ job.record_at)
+    record_is : r ≡ record_with (over v.accounts.plan start) log (waived_collections log ++ ws) h.job
+    record_is = same_Some r (record_with (over v.accounts.plan start) log (waived_collections log ++ ws) h.job) (sym at ∙ job.record_at)
 
     by_op : (op : Op) → is_read op ≡ is_read_act (act_by (flash_of blocks_of v) op)
     by_op (asks.Read page) = refl
     by_op (asks.Write page bytes) = refl
     by_op (asks.Trim page) = refl
 
-    by_did : (did : Collected) → false ≡ is_read_act (turn_by did).act
+    by_did : (did : Collected) → false ≡ is_read_act (head_step_by did).act
     by_did (acts_of.CopyRead page) = refl
     by_did (acts_of.CopyProgram page) = refl
     by_did (acts_of.EraseSlot block) = refl
@@ -454,20 +454,20 @@ turn_reads start blocks_of log present ws t n v w r turn h at did = ap reads_nex
     nothing_at k = refl
 
     by_kind : (b : Bool) → r.collects ≡ b → DidBy blocks_of v r b turn w → is_some_read (slice_get r.ops r.work) ≡ is_read_act turn.act
-    by_kind false plain d = ap is_some_read d.next ∙ (by_op d.op ∙ ap (λ (x : Turn). is_read_act x.act) (sym d.turn_is))
+    by_kind false plain d = ap is_some_read d.next ∙ (by_op d.op ∙ ap (λ (x : HeadStep). is_read_act x.act) (sym d.turn_is))
     by_kind true collects d =
         let none : h.job.ops ≡ [] = (all_at (IsOfPlan v.accounts.plan) (jobs log) n h.job job.both.1.true_accounts.taken job.at).none
         (sym (ap (λ (x : JobRecord). x.collects) record_is) ∙ collects) in
         ap (λ (l : List Op). is_some_read (slice_get l r.work)) (ap (λ (x : JobRecord). x.ops) record_is ∙ none)
-        ∙ (ap is_some_read (nothing_at r.work) ∙ (by_did d.did ∙ ap (λ (x : Turn). is_read_act x.act) (sym d.turn_is)))
+        ∙ (ap is_some_read (nothing_at r.work) ∙ (by_did d.did ∙ ap (λ (x : HeadStep). is_read_act x.act) (sym d.turn_is)))
 
 -- A fault
 
 -- the waivers of a slot are all waived
 pub all_waived : (start : Start) (log : Log) (present : ℕ) (ws : List Waived) (t : Table) (f : FlashState) (n : ℕ)
-    → HasTurn start log present ws t f n → AreWaived t.jobs ws
+    → IsHeadInSlot start log present ws t f n → AreWaived t.jobs ws
 all_waived start log present ws t f n h = subst (λ (js : List JobRecord). AreWaived js ws) (sym h.table.were)
-    (AreWaived-waived_in (records start log) ws h.table.were_pending)
+    (AreWaived-waived_in (job_records start log) ws h.table.were_pending)
 
 -- What a slot is refused with
 

@@ -14,39 +14,39 @@ use Rattle.slot_types.specs.declared.pages.Place.{Place}
 use Rattle.slot_types.specs.declared.replies.Waived.{Waived}
 use Rattle.slot_types.specs.Places.{place_of}
 use Rattle.plan_rules.specs.Bound.{MeetsBound}
-use Rattle.plan_rules.specs.Accounts.{Accounts, given_of, reserve_spent, settled}
+use Rattle.plan_rules.specs.Accounts.{Accounts, given_of, accounts_after_copy, accounts_after_collection}
 use Rattle.flash_die.specs.Flash as device
 use Rattle.flash_volume.specs.declared.collection.Collection.{Collection}
 use Rattle.flash_volume.specs.declared.collection.Collected.{Collected}
 use Rattle.flash_volume.specs.declared.collection.Collected.TheVariants as acts_of
-use Rattle.flash_volume.specs.Acts.{HasDropped, IsUnplaced, IsFirst, Reads, Programs, Goes, Finishes, Does}
+use Rattle.flash_volume.specs.Acts.{HasDropped, IsUnplaced, IsFirstInBlock, Reads, Programs, Goes, Finishes, Does}
 use Rattle.flash_volume.specs.Cells.{open_in, next_cell}
 use Rattle.flash_volume.specs.Running.{running_of, with_buffer, copied_of}
 use Rattle.flash_volume.specs.State.{State}
-use Rattle.die_log.specs.Log.{Log, Job, jobs, job_at, acts, is_waived}
-use Rattle.die_log.specs.Flash.{Block, cells, block_at, free_block}
-use Rattle.die_log.specs.Work.{are_all, is_done, is_erase, is_copy_program, victim_of, shown_by}
-use Rattle.die_log.specs.Accounts.{accounts, after_waiver, after_waivers}
-use Rattle.die_log.specs.Answers.{act_for, collect_act, buffer_after}
-use Rattle.die_log.specs.Held.{is_pending}
-use Rattle.die_log.specs.Legal.{changed_since}
-use Rattle.die_log.specs.Sound.{MayDo}
+use Rattle.die_log.specs.Model.Log.{Log, Job, jobs, job_at, acts, is_waived}
+use Rattle.die_log.specs.Model.Flash.{Block, cells, block_at, free_block}
+use Rattle.die_log.specs.Model.Work.{are_all, is_done, is_erase, is_copy_program, victim_of, shown_by}
+use Rattle.die_log.specs.Model.Accounts.{accounts, after_waiver, after_waivers}
+use Rattle.die_log.specs.Model.Answers.{act_for, collect_act, buffer_after}
+use Rattle.die_log.specs.Invariants.TrueAccounts.{is_pending}
+use Rattle.die_log.specs.Results.Legal.{changed_since}
+use Rattle.die_log.specs.Invariants.SoundCells.{MayDo}
 use Rattle.die_log.proofs.Cells.Collections.{last_push, next_may}
 use Rattle.die_log.proofs.Legal.Exact.{StandsWell, has_slots}
 use Rattle.die_log.proofs.Standing.Longer.{act_own, acts_grow}
 use Rattle.die_log.proofs.Standing.Quiet.{runs_with}
 use Rattle.die_log.proofs.Standing.Actors.{IsBegun, begun, act_shows, all_is, erases_push, runs_from}
 use Rattle.die_log.proofs.Tokens.Reserves.{reserve_lacks}
-use Rattle.slot_core.specs.declared.turn.Turn.{Turn}
+use Rattle.slot_core.specs.declared.head_step.HeadStep.{HeadStep}
 use Rattle.slot_core.specs.Device.{FlashState, flash_of, counts_of, page_in, AreRunning, IsFlashOf}
-use Rattle.slot_core.specs.Slotted.{IsWaivedFlash, RunsHead, OthersRun}
-use Rattle.slot_core.specs.Turns.{turn_by}
+use Rattle.slot_core.specs.WithinSlot.{IsWaivedFlash, RunsHead, OthersRun}
+use Rattle.slot_core.specs.HeadSteps.{head_step_by}
 use Rattle.slot_core.proofs.Collections.{own_running, other_running, OwnRun, running_acted}
 use Rattle.slot_core.proofs.Emptying.{copies, reads, erases, collect_is}
 use Rattle.slot_core.proofs.Flashing.{counted, slot_entry, slot_with, state_programmed, state_erased, flash-copy_read, flash-copy}
 use Rattle.slot_core.proofs.Flashing.{flash-erase}
 use Rattle.slot_core.proofs.Opened.{opens_same}
-use Rattle.die_log.specs.Start.{Start, over}
+use Rattle.die_log.specs.Model.Start.{Start, over}
 
 -- Waivers
 
@@ -58,7 +58,7 @@ reserves_stay past (w ∷ ws) a = reserves_stay past ws (after_waiver (job_at pa
     one None = refl
     one (Some j) = refl
 
--- A collection that has its turn
+-- A collection that is the head
 
 pub record IsCollector (start : Start) {N : Type 0} (blocks_of : N → List device.Block) (log : Log) (ws : List Waived) (j : Job) (v : State N)
     (c : Collection) : Type 0 where
@@ -76,7 +76,7 @@ pub record IsCollector (start : Start) {N : Type 0} (blocks_of : N → List devi
 
 -- what it did: its act, whether that was the last, and what it gave; and the flash is that of the log with that act
 pub record IsTaken (start : Start) {N : Type 0} (blocks_of : N → List device.Block) (log : Log) (caller : ℕ) (ws : List Waived) (j : Job) (v w : State N)
-    (turn : Turn) : Type 0 where
+    (turn : HeadStep) : Type 0 where
   pub act_is : act_for (over v.accounts.plan start) log j ≡ Some turn.act
   pub last_is : are_all v.accounts.plan j (acts j.number log ++ turn.act ∷ []) ≡ turn.last
   pub given_is : turn.last ≡ true → turn.given ≡ (if j.collects then given_of (after_waivers log ws (accounts (over v.accounts.plan start) log)) j.task
@@ -122,7 +122,7 @@ erased_so_far : (start : Start) {N : Type 0} (blocks_of : N → List device.Bloc
 erased_so_far start blocks_of log ws j v c k =
     ap (λ (s : Block). s.erasing) (block_is start blocks_of log ws j v c k c.victim) ∙ (is_begun start blocks_of log ws j v c k).collecting.erases
 
--- it runs on, behind an act that isn't its last
+-- it runs on, after an act that isn't its last
 runs_on : (start : Start) {N : Type 0} (blocks_of : N → List device.Block) (log : Log) (caller slot : ℕ) (ws : List Waived) (finished : Option ℕ) (j : Job)
     (v : State N) (c d : Collection) (act : Act) (after : List (Option Collection))
     → IsCollector start blocks_of log ws j v c → act_for (over v.accounts.plan start) log j ≡ Some act
@@ -187,7 +187,7 @@ all_run start blocks_of log caller slot ws finished j v c act o after k after_is
     ∙ other_running v.running j.task task o (apart k.collects))
     (λ collects. own)
 
--- Its turn
+-- Its step
 
 same_state : (f g : FlashState) → f.tokens ≡ g.tokens → f.pages ≡ g.pages → f.places ≡ g.places → f.blocks ≡ g.blocks → f.running
     ≡ g.running → f ≡ g
@@ -199,7 +199,7 @@ dropped_there start blocks_of log ws j v c k h = subst (λ (ps : List (Option Pl
 
 took_read : (start : Start) {N : Type 0} (blocks_of : N → List device.Block) (log : Log) (caller : ℕ) (ws : List Waived) (j : Job) (v w : State N)
     (c : Collection) (page : ℕ) → IsCollector start blocks_of log ws j v c → Reads blocks_of v j.task c page w
-    → IsTaken start blocks_of log caller ws j v w (turn_by (acts_of.CopyRead page))
+    → IsTaken start blocks_of log caller ws j v w (head_step_by (acts_of.CopyRead page))
 took_read start blocks_of log caller ws j v w c page k d = record {
   act_is = act_is;
   last_is = last_is;
@@ -218,7 +218,7 @@ took_read start blocks_of log caller ws j v w c page k d = record {
     act_is : act_for (over v.accounts.plan start) log j ≡ Some (does.CopyRead page)
     act_is = reads (over v.accounts.plan start) log j c page d.source k.both.0.collects.sound k.collects k.run.victim k.run.holds
         (dropped_there start blocks_of log ws j v c k d.dropped)
-        (subst (λ (ps : List (Option Place)). IsFirst ps c.victim page d.source) k.flash.places_are d.first)
+        (subst (λ (ps : List (Option Place)). IsFirstInBlock ps c.victim page d.source) k.flash.places_are d.first)
 
     last_is : are_all v.accounts.plan j (acts j.number log ++ does.CopyRead page ∷ []) ≡ false
     last_is = goes_on v.accounts.plan log j (does.CopyRead page) k.collects k.undone refl
@@ -237,7 +237,7 @@ next_is pages blocks b e = ap (λ (o : Option ℕ). record {
 
 took_copy : (start : Start) {N : Type 0} (blocks_of : N → List device.Block) (log : Log) (caller : ℕ) (ws : List Waived) (j : Job) (v w : State N)
     (c : Collection) (page : ℕ) → IsCollector start blocks_of log ws j v c → Programs blocks_of v j.task c page w
-    → IsTaken start blocks_of log caller ws j v w (turn_by (acts_of.CopyProgram page))
+    → IsTaken start blocks_of log caller ws j v w (head_step_by (acts_of.CopyProgram page))
 took_copy start blocks_of log caller ws j v w c page k d = record {
   act_is = act_is;
   last_is = last_is;
@@ -266,7 +266,7 @@ took_copy start blocks_of log caller ws j v w c page k d = record {
     b = some_is (open_in v.accounts.plan.shape.pages (blocks_of v.device)) d.finds
 
     after : ℕ → FlashState
-    after o = state_programmed (flash_of blocks_of v) (reserve_spent v.accounts j.task) v.pages page o d.copied.bytes w.running
+    after o = state_programmed (flash_of blocks_of v) (accounts_after_copy v.accounts j.task) v.pages page o d.copied.bytes w.running
 
     next : next_cell v.accounts.plan.shape.pages (blocks_of v.device)
         ≡ record { block = b.0; page = length (device.block_at (blocks_of v.device) b.0).pages }
@@ -276,7 +276,7 @@ took_copy start blocks_of log caller ws j v w c page k d = record {
     places_are = d.places ∙ ap (λ (q : Place). slice_set v.places page (Some q)) next
 
     blocks_are : blocks_of w.device ≡ (after b.0).blocks
-    blocks_are = d.cells ∙ ap (λ (q : Place). device.programmed (blocks_of v.device) q.block d.copied.bytes) next
+    blocks_are = d.cells ∙ ap (λ (q : Place). device.blocks_after_program (blocks_of v.device) q.block d.copied.bytes) next
 
 -- the erase of its block has one slot more
 erase_count : (start : Start) {N : Type 0} (blocks_of : N → List device.Block) (log : Log) (ws : List Waived) (j : Job) (v : State N) (c : Collection)
@@ -299,7 +299,7 @@ erase_is start blocks_of log ws j v c block k is dropped unplaced =
 
 took_erase : (start : Start) {N : Type 0} (blocks_of : N → List device.Block) (log : Log) (caller : ℕ) (ws : List Waived) (j : Job) (v w : State N)
     (c : Collection) (block : ℕ) → IsCollector start blocks_of log ws j v c → Goes blocks_of v j.task c block w
-    → IsTaken start blocks_of log caller ws j v w (turn_by (acts_of.EraseSlot block))
+    → IsTaken start blocks_of log caller ws j v w (head_step_by (acts_of.EraseSlot block))
 took_erase start blocks_of log caller ws j v w c block k d = record {
   act_is = act_is;
   last_is = last_is;
@@ -310,7 +310,7 @@ took_erase start blocks_of log caller ws j v w c block k d = record {
       d.erases.places d.erases.cells refl))
       (flash-erase (over v.accounts.plan start) log caller slot ws j block finished (flash_of blocks_of v) w.accounts w.running k.at refl k.flash
       (d.accounts ∙ (k.flash.accounts_are ∙ sym (ap (λ (b : Bool). cond b
-      (settled (waived_by log) j.task (count_by is_copy_program (acts j.number log))) (waived_by log)) last_is)))
+      (accounts_after_collection (waived_by log) j.task (count_by is_copy_program (acts j.number log))) (waived_by log)) last_is)))
       (all_run start blocks_of log caller slot ws finished j v c (does.Erase block) (Some (with_buffer c None)) w.running k d.running
       (runs_on start blocks_of log caller slot ws finished j v c (with_buffer c None) (does.Erase block) w.running k act_is last_is refl refl
       d.running)));
@@ -340,7 +340,7 @@ copied_is start blocks_of log ws j v c k =
 
 took_last : (start : Start) {N : Type 0} (blocks_of : N → List device.Block) (log : Log) (caller : ℕ) (ws : List Waived) (j : Job) (v w : State N)
     (c : Collection) (block gift : ℕ) → IsCollector start blocks_of log ws j v c → Finishes blocks_of v j.task c block gift w
-    → IsTaken start blocks_of log caller ws j v w (turn_by (acts_of.Finished block gift))
+    → IsTaken start blocks_of log caller ws j v w (head_step_by (acts_of.Finished block gift))
 took_last start blocks_of log caller ws j v w c block gift k d = record {
   act_is = erase_is start blocks_of log ws j v c block k d.erases.victim d.dropped d.erases.unplaced;
   last_is = last_is;
@@ -350,9 +350,9 @@ took_last start blocks_of log caller ws j v w c block gift k d = record {
       (sym (same_state (flash_of blocks_of w) (state_erased (flash_of blocks_of v) w.accounts block w.running) refl d.erases.pages
       d.erases.places d.erases.cells refl))
       (flash-erase (over v.accounts.plan start) log caller slot ws j block finished (flash_of blocks_of v) w.accounts w.running k.at refl k.flash
-      (d.accounts ∙ (ap (λ (n : ℕ). settled v.accounts j.task n) (copied_is start blocks_of log ws j v c k)
-      ∙ (ap (λ (a : Accounts). settled a j.task (count_by is_copy_program (acts j.number log))) k.flash.accounts_are
-      ∙ sym (ap (λ (b : Bool). cond b (settled (waived_by log) j.task (count_by is_copy_program (acts j.number log))) (waived_by log))
+      (d.accounts ∙ (ap (λ (n : ℕ). accounts_after_collection v.accounts j.task n) (copied_is start blocks_of log ws j v c k)
+      ∙ (ap (λ (a : Accounts). accounts_after_collection a j.task (count_by is_copy_program (acts j.number log))) k.flash.accounts_are
+      ∙ sym (ap (λ (b : Bool). cond b (accounts_after_collection (waived_by log) j.task (count_by is_copy_program (acts j.number log))) (waived_by log))
       last_is))))
       (all_run start blocks_of log caller slot ws finished j v c (does.Erase block) None w.running k d.running
       (runs_out start blocks_of log caller slot ws finished j v c (does.Erase block) w.running k last_is d.running)));
@@ -367,7 +367,7 @@ took_last start blocks_of log caller ws j v w c block gift k d = record {
 
 pub took : (start : Start) {N : Type 0} (blocks_of : N → List device.Block) (log : Log) (caller : ℕ) (ws : List Waived) (j : Job) (v w : State N)
     (c : Collection) (did : Collected) → IsCollector start blocks_of log ws j v c → Does blocks_of v j.task c did w
-    → IsTaken start blocks_of log caller ws j v w (turn_by did)
+    → IsTaken start blocks_of log caller ws j v w (head_step_by did)
 took start blocks_of log caller ws j v w c (acts_of.CopyRead page) k d = took_read start blocks_of log caller ws j v w c page k d
 took start blocks_of log caller ws j v w c (acts_of.CopyProgram page) k d = took_copy start blocks_of log caller ws j v w c page k d
 took start blocks_of log caller ws j v w c (acts_of.EraseSlot block) k d = took_erase start blocks_of log caller ws j v w c block k d

@@ -7,7 +7,7 @@ use Rattle.slot_types.specs.declared.events.Event.TheVariants as events
 use Rattle.slot_types.specs.declared.replies.Reply.TheVariants as replies
 use Rattle.slot_types.specs.declared.replies.Waived.{Waived}
 use Rattle.job_table.specs.Jobs.{JobRecord, new_job, new_collection}
-use Rattle.job_table.specs.Waivers.{waived_in, after_waiver}
+use Rattle.job_table.specs.Waivers.{jobs_after_waivers, jobs_after_waiver}
 use Rattle.job_table.specs.declared.stages.Stage.TheVariants as stages
 use Rattle.event_log.specs.declared.deeds.Deed.{Deed}
 use Rattle.event_log.specs.declared.deeds.Deed.TheVariants.{Submit, Collect, Idle, Operation, LastOperation, CopyRead, CopyProgram}
@@ -17,9 +17,9 @@ use Rattle.event_log.specs.Entries.{event_of, ran_by, reply_of, slots_of, slots_
 use Rattle.event_log.specs.Slots.{slot_by, with_carried, carried_in}
 use Rattle.event_log.specs.Growth.{Fits, AllFit, Grew}
 use Rattle.event_log.proofs.Growing.{entries_stay, all_fit_stay, grew_push, grew_change, grew_self, grew_then, stage_grown}
-use Rattle.die_log.specs.Log.{Log, Job, Carried, jobs, with_taken, with_slot, carried, now}
-use Rattle.die_log.specs.Rows.{carried_numbers}
-use Rattle.die_log.specs.Answers.{IsExact, refusal_of}
+use Rattle.die_log.specs.Model.Log.{Log, Job, Carried, jobs, with_taken, with_slot, carried_slots, now}
+use Rattle.die_log.specs.Model.Rows.{carried_numbers}
+use Rattle.die_log.specs.Model.Answers.{IsExact, refusal_of}
 use Rattle.die_log.proofs.Limits.{keeps_limits}
 use Rattle.std.specs.Prelude.{option_map, Result, Ok, Err, IfOk, OnOk, OnErr}
 use Rattle.slot_types.specs.declared.refusals.Refusal.{Refusal}
@@ -28,10 +28,10 @@ use Rattle.flash_volume.specs.State.{State}
 use Rattle.job_table.specs.Table.{Table, with_job}
 use Rattle.slot_core.specs.Core.{with_entry}
 use Rattle.slot_core.specs.Device.{flash_of}
-use Rattle.slot_core.specs.Records.{records}
-use Rattle.slot_core.specs.Told.{log_of, Holds}
+use Rattle.slot_core.specs.Records.{job_records}
+use Rattle.slot_core.specs.TableLog.{log_of, TellsLog}
 use Rattle.slot_core.proofs.Keeping.{collect_kept}
-use Rattle.die_log.specs.Start.{Start, over}
+use Rattle.die_log.specs.Model.Start.{Start, over}
 
 abbrev job_by : ℕ → Bool → ℕ → ℕ → ℕ → List Op → Job
 job_by number collects task release due ops = record {
@@ -73,7 +73,7 @@ all_told js (s ∷ past) fits =
     omega (
       arith,
       all_told js past fits.1,
-      one_more js (slots_in past) s.waived s.deed (carried (entries_of js past))
+      one_more js (slots_in past) s.waived s.deed (carried_slots (entries_of js past))
           (jobs (entries_of js past)) fits.0,
     )
 
@@ -104,7 +104,7 @@ slot_more js slot ws (LastEraseSlot n b) cs = omega (arith, length-append cs (ra
 -- the present slot is the number of slots among the events
 pub now_told : (js : List JobRecord) (notes : List Note) → now (entries_of js notes) ≡ slots_in notes
 now_told js [] = refl
-now_told js (s ∷ past) = slot_more js (slots_in past) s.waived s.deed (carried (entries_of js past))
+now_told js (s ∷ past) = slot_more js (slots_in past) s.waived s.deed (carried_slots (entries_of js past))
     ∙ ap (λ n. slots_of s.deed + n) (now_told js past)
 
 -- What slots carried
@@ -132,7 +132,7 @@ numbers_with js slot ws (LastEraseSlot n b) cs = numbers_more (ran_by js (LastEr
 pub numbers_told : (js : List JobRecord) (notes : List Note) → carried_numbers (entries_of js notes) ≡ carried_in notes
 numbers_told js [] = refl
 numbers_told js (s ∷ past) =
-    numbers_with js (slots_in past) s.waived s.deed (carried (entries_of js past))
+    numbers_with js (slots_in past) s.waived s.deed (carried_slots (entries_of js past))
     ∙ ap (λ ks. with_carried ks (slot_by s.deed)) (numbers_told js past)
 
 -- Arrivals
@@ -176,12 +176,12 @@ submit_tells t u before after caller n task release due ops table_is is logged f
 
 pub collect_enters : (start : Start) {N : Type 0} (blocks_of : N → List device.Block) (before after : List Note) (present caller task release due : ℕ)
     (t u : Table) (v : State N) (r : Result ℕ Refusal)
-    → Holds (over v.accounts.plan start) present t before v.failed (flash_of blocks_of v) → v.failed ≡ false
+    → TellsLog (over v.accounts.plan start) present t before v.failed (flash_of blocks_of v) → v.failed ≡ false
     → refusal_of (over v.accounts.plan start) (log_of t before) (events.Collect task release due) ≡ None
     → OnOk r (u ≡ with_job t (new_collection task release due)) → IfOk r (λ number. number ≡ length t.jobs)
     → IfOk r (λ number. after ≡ record { caller = caller; deed = Collect number; waived = [] } ∷ before)
     → OnErr r (u ≡ t) → OnErr r (after ≡ before)
-    → Holds (over v.accounts.plan start) present u after v.failed (flash_of blocks_of v)
+    → TellsLog (over v.accounts.plan start) present u after v.failed (flash_of blocks_of v)
 collect_enters start blocks_of before after present caller task release due t u v (Ok number) holds alive none table_is number_is logged
     table_stays log_stays =
     let tells : (log_of u after ≡ with_entry caller (events.Collect task release due) (replies.Taken number) (log_of t before))
@@ -206,16 +206,16 @@ collect_logged t u before after caller task release due (Err refusal) fits table
 -- Slots
 
 -- waivers change no more than how jobs stand
-pub grew_waived : (js : List JobRecord) (ws : List Waived) → Grew js (waived_in js ws)
+pub grew_waived : (js : List JobRecord) (ws : List Waived) → Grew js (jobs_after_waivers js ws)
 grew_waived js [] = grew_self js
 grew_waived js (w ∷ ws) =
-    grew_then js (after_waiver js w) (waived_in (after_waiver js w) ws) (grew_change js w.number _ (stage_grown (stages.Waived w.given)))
-    (grew_waived (after_waiver js w) ws)
+    grew_then js (jobs_after_waiver js w) (jobs_after_waivers (jobs_after_waiver js w) ws) (grew_change js w.number _ (stage_grown (stages.Waived w.given)))
+    (grew_waived (jobs_after_waiver js w) ws)
 
 -- so the jobs grew, where collections were waived in a slot
-pub slot_grew : (start : Start) (plan same : DiePlan) (log : Log) (js later : List JobRecord) (ws : List Waived) → same ≡ plan → js ≡ records (over plan start) log
-    → later ≡ waived_in (records (over same start) log) ws → Grew js later
-slot_grew start plan same log js later ws plan_is jobs_are were = rw (were, plan_is, jobs_are) (grew_waived (records (over plan start) log) ws)
+pub slot_grew : (start : Start) (plan same : DiePlan) (log : Log) (js later : List JobRecord) (ws : List Waived) → same ≡ plan → js ≡ job_records (over plan start) log
+    → later ≡ jobs_after_waivers (job_records (over same start) log) ws → Grew js later
+slot_grew start plan same log js later ws plan_is jobs_are were = rw (were, plan_is, jobs_are) (grew_waived (job_records (over plan start) log) ws)
 
 pub idle_told : (js later : List JobRecord) (notes : List Note) (log : Log) (caller present : ℕ) (ws : List Waived) → entries_of js notes
     ≡ log → AllFit js notes → Grew js later → present ≡ now log

@@ -14,13 +14,13 @@ use Rattle.flash_volume.specs.State.{State}
 use Rattle.job_table.specs.Jobs.{JobRecord}
 use Rattle.job_table.specs.Table.{Table, work_at, work_of}
 use Rattle.job_table.specs.Order as table
-use Rattle.die_log.specs.Log.{Log, Job, Carried, jobs, job_at, carried, act_of, acts, waived, is_waived, work, now}
-use Rattle.die_log.specs.Flash.{Block, cells, block_at, free_block, free}
-use Rattle.die_log.specs.Work.{is_done, is_ready, ready, least, owed}
-use Rattle.die_log.specs.Accounts.{accounts, after_waiver, after_waivers}
-use Rattle.die_log.specs.Held.{lent_to, is_pending}
-use Rattle.die_log.specs.Legal.{is_among}
-use Rattle.die_log.specs.Limits.{IsWithinLimits}
+use Rattle.die_log.specs.Model.Log.{Log, Job, Carried, jobs, job_at, carried_slots, act_of, acts, waived_collections, is_waived, work, now}
+use Rattle.die_log.specs.Model.Flash.{Block, cells, block_at, free_block, free}
+use Rattle.die_log.specs.Model.Work.{is_done, is_ready, ready, least, owed}
+use Rattle.die_log.specs.Model.Accounts.{accounts, after_waiver, after_waivers}
+use Rattle.die_log.specs.Invariants.TrueAccounts.{lent_to, is_pending}
+use Rattle.die_log.specs.Results.Legal.{is_among}
+use Rattle.die_log.specs.Results.Limits.{IsWithinLimits}
 use Rattle.die_log.proofs.Legal.Exact.{stands_well, StandsWell}
 use Rattle.die_log.proofs.Legal.Runs.{operation_left}
 use Rattle.die_log.proofs.Limits.{few_found, keeps_limits}
@@ -29,13 +29,13 @@ use Rattle.die_log.proofs.Standing.Longer.{number_at, contained}
 use Rattle.die_log.proofs.Tokens.Begins.{is_pending_if}
 use Rattle.slot_core.specs.Records.{record_with}
 use Rattle.slot_core.specs.Device.{FlashState, flash_of}
-use Rattle.slot_core.specs.Slotted.{unwaived, IsWaivedFlash, IsWaivedTable, IsSlot, RunsHead, HasTurn}
-use Rattle.slot_core.specs.Turns.{OpFits, RunFits, HeadFits}
+use Rattle.slot_core.specs.WithinSlot.{without_waived, IsWaivedFlash, IsWaivedTable, IsSlot, RunsHead, IsHeadInSlot}
+use Rattle.slot_core.specs.HeadSteps.{OpFits, RunFits, HeadFits}
 use Rattle.slot_core.proofs.Flashing.{counted}
 use Rattle.slot_core.proofs.Heading.{slice_get-mapped, ready_is, stays, table_at, head_least}
 use Rattle.slot_core.proofs.Serving.{contents_len, hold_positive}
-use Rattle.die_log.specs.Start.{Start, over}
-use Rattle.die_log.specs.Opening.{IsOpening}
+use Rattle.die_log.specs.Model.Start.{Start, over}
+use Rattle.die_log.specs.Model.Opening.{IsOpening}
 
 -- The head in the log
 
@@ -46,13 +46,13 @@ pub record IsHeadJob (start : Start) (log : Log) (ws : List Waived) (t : Table) 
   pub at : job_at log n ≡ Some j
   pub own_at : job_at log j.number ≡ Some j
   pub stands : Contains (jobs log) j
-  pub record_at : slice_get t.jobs n ≡ Some (record_with start log (waived log ++ ws) j)
+  pub record_at : slice_get t.jobs n ≡ Some (record_with start log (waived_collections log ++ ws) j)
   pub ready_now : is_ready start.plan log j ≡ true
   pub unwaived_now : is_among j.number ws ≡ false
   pub undone : is_done start.plan log j ≡ false
   pub limits : IsWithinLimits start.plan j
   pub pending_if : j.collects ≡ true → is_pending start.plan (λ k. acts k log) (is_waived log) j ≡ true
-  pub least_is : least (unwaived ws (ready start.plan log)) ≡ Some j
+  pub least_is : least (without_waived ws (ready start.plan log)) ≡ Some j
 
 same_table : (t u : Table) → t.tasks ≡ u.tasks → t.clock ≡ u.clock → t.ended ≡ u.ended → t.jobs ≡ u.jobs → t ≡ u
 same_table t u a b c d = rw a (rw b (rw c (rw d refl)))
@@ -64,7 +64,7 @@ table_is start log ws t w = same_table t (table_at (length start.plan.caps) fals
 
 head_job_by : (start : Start) (log : Log) (present : ℕ) (ws : List Waived) (t : Table) (n : ℕ) (j : Job) → IsSlot start log present
     → IsWaivedTable start log ws t → (h : table.IsHead t n)
-    → slice_get (jobs log) n ≡ Some j → record_with start log (waived log ++ ws) j ≡ h.head → IsHeadJob start log ws t n j
+    → slice_get (jobs log) n ≡ Some j → record_with start log (waived_collections log ++ ws) j ≡ h.head → IsHeadJob start log ws t n j
 head_job_by start log present ws t n j s w h at record_is = record {
   both = both;
   number_is = number_is;
@@ -104,12 +104,12 @@ head_job_by start log present ws t n j s w h at record_is = record {
 pub head_job : (start : Start) (log : Log) (present : ℕ) (ws : List Waived) (t : Table) (n : ℕ) → IsSlot start log present
     → IsWaivedTable start log ws t → table.IsHead t n → (j : Job) × IsHeadJob start log ws t n j
 head_job start log present ws t n s w h =
-    let found = slice_get-mapped (record_with start log (waived log ++ ws)) (jobs log) n h.head
+    let found = slice_get-mapped (record_with start log (waived_collections log ++ ws)) (jobs log) n h.head
     (subst (λ (js : List JobRecord). slice_get js n ≡ Some h.head) w.jobs_are h.is_at) in
     (found.0, head_job_by start log present ws t n found.0 s w h found.1 found.2)
 
 pub turn_job : (start : Start) (log : Log) (present : ℕ) (ws : List Waived) (t : Table) (f : FlashState) (n : ℕ)
-    → (h : HasTurn start log present ws t f n) → IsHeadJob start log ws t n h.job
+    → (h : IsHeadInSlot start log present ws t f n) → IsHeadJob start log ws t n h.job
 turn_job start log present ws t f n h =
     let found = head_job start log present ws t n h.slot h.table h.head in
     subst (IsHeadJob start log ws t n) (same_Some found.0 h.job (sym found.1.at ∙ h.at)) found.1
@@ -132,7 +132,7 @@ some_op (x ∷ xs) (suc k) lt = some_op xs k (omega arith)
 op_fits : (start : Start) {N : Type 0} (blocks_of : N → List device.Block) (log : Log) (ws : List Waived) (t : Table) (n : ℕ) (j : Job) (v : State N)
     → IsOpening (over v.accounts.plan start) → IsHeadJob (over v.accounts.plan start) log ws t n j
     → IsWaivedFlash (over v.accounts.plan start) log ws (flash_of blocks_of v) → j.collects ≡ false
-    → OpFits v (record_with (over v.accounts.plan start) log (waived log ++ ws) j)
+    → OpFits v (record_with (over v.accounts.plan start) log (waived_collections log ++ ws) j)
 op_fits start blocks_of log ws t n j v bound h flash plain = record {
   op = next.0;
   next = next.1;
@@ -158,7 +158,7 @@ op_fits start blocks_of log ws t n j v bound h flash plain = record {
 
 run_fits : (start : Start) {N : Type 0} (blocks_of : N → List device.Block) (log : Log) (present : ℕ) (ws : List Waived) (j : Job) (v : State N)
     (c : Collection) → IsSlot (over v.accounts.plan start) log present → IsWaivedFlash (over v.accounts.plan start) log ws (flash_of blocks_of v)
-    → RunsHead (over v.accounts.plan start) log j (flash_of blocks_of v) c → RunFits blocks_of v (record_with (over v.accounts.plan start) log (waived log ++ ws) j)
+    → RunsHead (over v.accounts.plan start) log j (flash_of blocks_of v) c → RunFits blocks_of v (record_with (over v.accounts.plan start) log (waived_collections log ++ ws) j)
 run_fits start blocks_of log present ws j v c s flash run =
     let erases : (device.block_at (blocks_of v.device) c.victim).erases ≡ (block_at (cells (over v.accounts.plan start) log) c.victim).erases =
     ap (λ (x : Block). x.erases) (counted (blocks_of v.device) c.victim
@@ -171,10 +171,10 @@ run_fits start blocks_of log present ws j v c s flash run =
     }
 
 pub head_fits : (start : Start) {N : Type 0} (blocks_of : N → List device.Block) (log : Log) (present : ℕ) (ws : List Waived) (t : Table) (n : ℕ)
-    (v : State N) (r : JobRecord) → HasTurn (over v.accounts.plan start) log present ws t (flash_of blocks_of v) n → slice_get t.jobs n ≡ Some r
+    (v : State N) (r : JobRecord) → IsHeadInSlot (over v.accounts.plan start) log present ws t (flash_of blocks_of v) n → slice_get t.jobs n ≡ Some r
     → HeadFits blocks_of v r
 head_fits start blocks_of log present ws t n v r h at = subst (HeadFits blocks_of v)
-    (same_Some (record_with (over v.accounts.plan start) log (waived log ++ ws) h.job) r (sym job.record_at ∙ at)) (record {
+    (same_Some (record_with (over v.accounts.plan start) log (waived_collections log ++ ws) h.job) r (sym job.record_at ∙ at)) (record {
       task = job.limits.task;
       op = λ plain. op_fits start blocks_of log ws t n h.job v h.slot.bound job h.flash plain;
       run = λ collects. let c = h.runs collects in run_fits start blocks_of log present ws h.job v c.0 h.slot h.flash c.1;
@@ -186,8 +186,8 @@ head_fits start blocks_of log present ws t n v r h at = subst (HeadFits blocks_o
 -- Its slots so far are among the log's
 
 pub work_fits : (start : Start) (log : Log) (present : ℕ) (ws : List Waived) (t : Table) (f : FlashState) (n : ℕ)
-    → HasTurn start log present ws t f n → work_at t.jobs n + 1 < 2 ^ 32
+    → IsHeadInSlot start log present ws t f n → work_at t.jobs n + 1 < 2 ^ 32
 work_fits start log present ws t f n h =
     let job = turn_job start log present ws t f n h in
     let work_is : work_at t.jobs n ≡ work h.job.number log = ap work_of job.record_at in
-    omega (arith, work_is, few_found (λ (c : Carried). act_of h.job.number c) (carried log), h.slot.few)
+    omega (arith, work_is, few_found (λ (c : Carried). act_of h.job.number c) (carried_slots log), h.slot.few)

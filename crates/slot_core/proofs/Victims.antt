@@ -15,19 +15,19 @@ use Rattle.flash_volume.specs.declared.collection.Collection.{Collection}
 use Rattle.flash_volume.specs.Cells.{filled_of}
 use Rattle.flash_volume.specs.Running.{running_of}
 use Rattle.flash_volume.specs.Picks.{IsCandidate, IsVictim}
-use Rattle.die_log.specs.Log.{Log, jobs}
-use Rattle.die_log.specs.Flash.{Block, cells, block_at, is_closed, valid, free_block}
-use Rattle.die_log.specs.Work.{victim_of}
-use Rattle.die_log.specs.Answers.{goes_before, is_running, is_block, is_collected, candidates, victim}
-use Rattle.die_log.specs.Sound.{AreSound}
-use Rattle.die_log.specs.Standing.{Runs}
+use Rattle.die_log.specs.Model.Log.{Log, jobs}
+use Rattle.die_log.specs.Model.Flash.{Block, cells, block_at, is_closed, valid, free_block}
+use Rattle.die_log.specs.Model.Work.{victim_of}
+use Rattle.die_log.specs.Model.Answers.{goes_before, is_running, is_block, is_collected, candidates, victim}
+use Rattle.die_log.specs.Invariants.SoundCells.{AreSoundCells}
+use Rattle.die_log.specs.Invariants.RunningCollections.{RunsOnBlock}
 use Rattle.die_log.proofs.Cells.Collections.{is_block_says}
 use Rattle.die_log.proofs.Standing.Actors.{runs_collected}
 use Rattle.die_log.proofs.Standing.Longer.{contained}
 use Rattle.die_log.proofs.Tokens.Found.{any_found}
 use Rattle.slot_core.specs.Device.{counts_of, AreRunning}
 use Rattle.slot_core.proofs.Flashing.{counted}
-use Rattle.die_log.specs.Start.{Start}
+use Rattle.die_log.specs.Model.Start.{Start}
 
 -- The least of a rising list
 
@@ -164,7 +164,7 @@ erases_is start past blocks b are = ap (λ (s : Block). s.erases) (counted block
     ∙ ap (λ (bs : List Block). slice_index_or bs b free_block) are)
 
 closed_is : (start : Start) (past : Log) (blocks : List device.Block) (running : List (Option Collection)) (b : ℕ)
-    → AreSound start.plan (cells start past) → map counts_of blocks ≡ (cells start past).blocks → AreRunning start past running
+    → AreSoundCells start.plan (cells start past) → map counts_of blocks ≡ (cells start past).blocks → AreRunning start past running
     → b < start.plan.shape.blocks → is_candidate start past b ≡ true → IsCandidate start.plan.shape.pages blocks running b
 closed_is start past blocks running b sound are r lt e =
     let parts = and_parts (is_closed start.plan (block_at (cells start past) b)) (not (is_collected start past b)) e in record {
@@ -172,7 +172,7 @@ closed_is start past blocks running b sound are r lt e =
       closed = filled_is start past blocks b are ∙ eqb-true _ _ parts.0;
       alone = λ task c at is.
           let i = r.each task c at in
-          true≢false (sym (runs_collected start past i.0 b (subst (λ (x : ℕ). Runs start past i.0 x) is i.1.runs))
+          true≢false (sym (runs_collected start past i.0 b (subst (λ (x : ℕ). RunsOnBlock start past i.0 x) is i.1.runs))
           ∙ not-true (is_collected start past b) parts.1);
     }
 
@@ -202,7 +202,7 @@ candidate_is start past blocks running b are r closed =
 
 -- the volume's choice is the log's
 pub victim_is : (start : Start) (past : Log) (blocks : List device.Block) (places : List (Option Place))
-    (running : List (Option Collection)) (b : ℕ) → AreSound start.plan (cells start past) → map counts_of blocks ≡ (cells start past).blocks
+    (running : List (Option Collection)) (b : ℕ) → AreSoundCells start.plan (cells start past) → map counts_of blocks ≡ (cells start past).blocks
     → places ≡ (cells start past).places
     → AreRunning start past running → IsVictim start.plan.shape.pages blocks places running b → victim start past ≡ Some b
 victim_is start past blocks places running b sound are places_are r v =
@@ -243,7 +243,7 @@ none_pass t a (suc n) h = by_test (t a) refl (none_pass t (a + 1) n (λ o lt e. 
 
 -- where no block is a candidate, the log has no victim
 pub no_victim : (start : Start) (past : Log) (blocks : List device.Block) (running : List (Option Collection))
-    → AreSound start.plan (cells start past) → map counts_of blocks ≡ (cells start past).blocks → AreRunning start past running
+    → AreSoundCells start.plan (cells start past) → map counts_of blocks ≡ (cells start past).blocks → AreRunning start past running
     → ((b : ℕ) → ¬ IsCandidate start.plan.shape.pages blocks running b) → victim start past ≡ None
 no_victim start past blocks running sound are r none =
     ap (reduce (λ best b. if goes_before (cells start past) b best then b else best))

@@ -12,18 +12,18 @@ use Rattle.slot_types.specs.declared.replies.Waived.{Waived}
 use Rattle.plan_rules.specs.Bound.{MeetsBound}
 use Rattle.plan_rules.specs.Accounts.{Accounts}
 use Rattle.plan_rules.specs.Accounts as moves
-use Rattle.die_log.specs.Log.{Log, Job, jobs, acts, is_waived}
-use Rattle.die_log.specs.Work.{is_ready, ready, least}
-use Rattle.die_log.specs.Accounts.{accounts}
-use Rattle.die_log.specs.Answers.{IsExact, Choice, choice, choice_among, chosen, weighed, without, is_waivable}
-use Rattle.die_log.specs.Held.{is_pending, IsTaken, AreTrue}
+use Rattle.die_log.specs.Model.Log.{Log, Job, jobs, acts, is_waived}
+use Rattle.die_log.specs.Model.Work.{is_ready, ready, least}
+use Rattle.die_log.specs.Model.Accounts.{accounts}
+use Rattle.die_log.specs.Model.Answers.{IsExact, Choice, choice, choice_among, choice_by_head, head_or_waiver, without, is_waivable}
+use Rattle.die_log.specs.Invariants.TrueAccounts.{is_pending, HasTaskAndOps, AreTrueAccounts}
 use Rattle.die_log.proofs.Choices.{OfSome, least_all}
 use Rattle.die_log.proofs.Legal.Exact.{stands_well}
 use Rattle.die_log.proofs.Tokens.Begins.{is_pending_if}
-use Rattle.slot_core.specs.Slotted.{unwaived, GoesOn}
+use Rattle.slot_core.specs.WithinSlot.{without_waived, ChoiceGoesOn}
 use Rattle.slot_core.proofs.Choosing.{waiver_of, waives}
-use Rattle.die_log.specs.Start.{Start}
-use Rattle.die_log.specs.Opening.{IsOpening}
+use Rattle.die_log.specs.Model.Start.{Start}
+use Rattle.die_log.specs.Model.Opening.{IsOpening}
 
 -- As many waivers as collections
 
@@ -72,22 +72,22 @@ least_there xs j e = subst (OfSome (IsThere xs)) e (least_all (IsThere xs) xs (a
 waivable_collects : (plan : DiePlan) (past : Log) (a : Accounts) (j : Job) → is_waivable plan past a j ≡ true → j.collects ≡ true
 waivable_collects plan past a j e = (and_parts j.collects _ (and_parts _ (nat_le plan.alpha a.spare) e).0).0
 
-few_among : (plan : DiePlan) (past : Log) (turns : ℕ) (a : Accounts) (xs : List Job) → length (choice_among plan past turns a xs).waived
+few_among : (plan : DiePlan) (past : Log) (rounds : ℕ) (a : Accounts) (xs : List Job) → length (choice_among plan past rounds a xs).waived
     ≤ count_by collects xs
 few_among plan past zero a xs = omega arith
-few_among plan past (suc turns) a xs = by_least (λ b ys. few_among plan past turns b ys) (least xs) refl
+few_among plan past (suc rounds) a xs = by_least (λ b ys. few_among plan past rounds b ys) (least xs) refl
   where
-    by_weight : ((b : Accounts) (ys : List Job) → length (choice_among plan past turns b ys).waived ≤ count_by collects ys) → (j : Job)
+    by_weight : ((b : Accounts) (ys : List Job) → length (choice_among plan past rounds b ys).waived ≤ count_by collects ys) → (j : Job)
         → least xs ≡ Some j → (t : Bool) → is_waivable plan past a j ≡ t
-        → length (weighed a xs (choice_among plan past turns) j t).waived ≤ count_by collects xs
+        → length (head_or_waiver a xs (choice_among plan past rounds) j t).waived ≤ count_by collects xs
     by_weight again j e true is =
         let at = least_there xs j e in
-        omega (arith, again (moves.waived a j.task) (without j xs), without_one j xs at.0 at.1 (waivable_collects plan past a j is))
+        omega (arith, again (moves.accounts_after_waiver a j.task) (without j xs), without_one j xs at.0 at.1 (waivable_collects plan past a j is))
     by_weight again j e false is = omega arith
 
-    by_least : ((b : Accounts) (ys : List Job) → length (choice_among plan past turns b ys).waived ≤ count_by collects ys)
+    by_least : ((b : Accounts) (ys : List Job) → length (choice_among plan past rounds b ys).waived ≤ count_by collects ys)
         → (o : Option Job) → least xs ≡ o
-        → length (chosen plan past a xs (choice_among plan past turns) o).waived ≤ count_by collects xs
+        → length (choice_by_head plan past a xs (choice_among plan past rounds) o).waived ≤ count_by collects xs
     by_least again None e = omega arith
     by_least again (Some j) e = by_weight again j e (is_waivable plan past a j) refl
 
@@ -181,7 +181,7 @@ count_pending p t (x ∷ xs) h = by_tests (t x) (p x) refl refl (count_pending p
     by_tests false true waits passes rest = omega (arith, rest)
     by_tests false false waits fails rest = rest
 
-all_tasks : (plan : DiePlan) (js : List Job) → AllByRecursion (IsTaken plan) js → AllByRecursion (λ (j : Job). j.task < length plan.caps) js
+all_tasks : (plan : DiePlan) (js : List Job) → AllByRecursion (HasTaskAndOps plan) js → AllByRecursion (λ (j : Job). j.task < length plan.caps) js
 all_tasks plan [] h = tt
 all_tasks plan (x ∷ xs) h = (h.0.task, all_tasks plan xs h.1)
 
@@ -194,7 +194,7 @@ few_pending start log bound exact =
     (tasks_below (length start.plan.caps) (is_pending start.plan (λ n. acts n log) (is_waived log)) (jobs log)
     (all_tasks start.plan (jobs log) true_accounts.taken))
   where
-    true_accounts : AreTrue start log
+    true_accounts : AreTrueAccounts start log
     true_accounts = (stands_well start bound log exact).1.true_accounts
 
 -- a slot waives at most one collection a task
@@ -210,18 +210,18 @@ few_waivers start log bound exact =
 
 -- so there is room for one more where one more is waived
 pub waiver_fits : (start : Start) (log : Log) (ws : List Waived) (a : Accounts) (j : Job) → IsOpening start → IsExact start log
-    → GoesOn start log ws a → least (unwaived ws (ready start.plan log)) ≡ Some j → is_waivable start.plan log a j ≡ true
+    → ChoiceGoesOn start log ws a → least (without_waived ws (ready start.plan log)) ≡ Some j → is_waivable start.plan log a j ≡ true
     → length ws < length start.plan.caps
 waiver_fits start log ws a j bound exact g e yes_is =
     let more = waives start log ws a j g e yes_is in
     let whole : length (choice start log).waived ≡ length ((ws ++ waiver_of a j ∷ [])
-    ++ (choice_among start.plan log more.turns (moves.waived a j.task) (unwaived (ws ++ waiver_of a j ∷ []) (ready start.plan log))).waived) = ap
+    ++ (choice_among start.plan log more.rounds (moves.accounts_after_waiver a j.task) (without_waived (ws ++ waiver_of a j ∷ []) (ready start.plan log))).waived) = ap
     (λ (c : Choice). length c.waived) more.rest in
     omega (
       arith,
       few_waivers start log bound exact,
       whole,
-      length-append (ws ++ waiver_of a j ∷ []) (choice_among start.plan log more.turns (moves.waived a j.task)
-          (unwaived (ws ++ waiver_of a j ∷ []) (ready start.plan log))).waived,
+      length-append (ws ++ waiver_of a j ∷ []) (choice_among start.plan log more.rounds (moves.accounts_after_waiver a j.task)
+          (without_waived (ws ++ waiver_of a j ∷ []) (ready start.plan log))).waived,
       length-append ws (waiver_of a j ∷ []),
     )

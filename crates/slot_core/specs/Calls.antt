@@ -1,47 +1,123 @@
--- What a call answers, and what it leaves.
-use Rattle.std.specs.Prelude.{◌≡◌, ◌≢◌, ◌⊎◌, ℕ, ◌<◌, ◌-◌, Bool, true, false}
-use Rattle.slot_types.specs.declared.plans.DiePlan.{DiePlan}
+-- How a call of a die ends: what it is answered, what it leaves, and what the device has had of it.
+use Rattle.std.specs.Prelude.{◌≡◌, ◌≢◌, ◌⊎◌, ℕ, ◌-◌, Bool, true, false, Option, None, Result, Ok, Err}
 use Rattle.slot_types.specs.declared.events.Event.{Event}
 use Rattle.slot_types.specs.declared.events.Event.TheVariants as events
 use Rattle.slot_types.specs.declared.refusals.Refusal.{Refusal}
-use Rattle.slot_types.specs.declared.refusals.Refusal.TheVariants.{NoMemory, DeviceFault}
-use Rattle.slot_types.specs.declared.replies.SlotReply.{SlotReply}
+use Rattle.slot_types.specs.declared.refusals.Refusal.TheVariants.{NoMemory, DeviceFault, DieStopped}
+use Rattle.slot_types.specs.declared.replies.Reply.{Reply}
 use Rattle.slot_types.specs.declared.replies.Reply.TheVariants.{Refused, Taken, Slot}
-use Rattle.die_log.specs.Log.{Log}
-use Rattle.die_log.specs.Answers.{answer, IsAccepted}
+use Rattle.flash_die.specs.declared.nand.NandCall.{NandCall}
+use Rattle.die_log.specs.Model.Log.{Log}
+use Rattle.die_log.specs.Model.Answers.{answer, IsAccepted}
+use Rattle.die_log.specs.Model.NeededCalls.{needed_call}
+use Rattle.die_log.specs.Model.Start.{Start}
 use Rattle.slot_core.specs.Core.{Core, with_entry}
-use Rattle.die_log.specs.Start.{Start}
+use Rattle.slot_core.specs.Needs.{UsesDevice}
+
+-- Ways to end
+
+-- an answered slot uses up one of the reserved ones, if there is one
+abbrev pub reserved_after : Reply → ℕ → ℕ
+reserved_after (Slot s) reserved = reserved - 1
+reserved_after _ reserved = reserved
+
+-- the log accepts the event: its own answer is the next entry, and the die runs on
+pub record IsAnswered {N : Type 0} (caller : ℕ) (event : Event) (reply : Reply) (before after : Core N) : Type 0 where
+  pub ran : before.stopped ≡ false
+  pub answered : answer before.start before.log event ≡ reply
+  pub accepted : IsAccepted reply
+  pub logged : after.log ≡ with_entry caller event reply before.log
+  pub runs : after.stopped ≡ false
+  pub used : after.reserved ≡ reserved_after reply before.reserved
+
+-- the log refuses the event, and nothing changes
+pub record IsRefusedByLog {N : Type 0} (event : Event) (refusal : Refusal) (before after : Core N) : Type 0 where
+  pub ran : before.stopped ≡ false
+  pub answered : answer before.start before.log event ≡ Refused refusal
+  pub unchanged : after ≡ before
+
+-- the log accepts the event, but memory is refused, to a slot only where none is reserved; and nothing changes
+pub record FindsNoMemory {N : Type 0} (event : Event) (refusal : Refusal) (before after : Core N) : Type 0 where
+  pub ran : before.stopped ≡ false
+  pub accepted : IsAccepted (answer before.start before.log event)
+  pub refusal_is : refusal ≡ NoMemory
+  pub unreserved : event ≡ events.Slot → before.reserved ≡ 0
+  pub unchanged : after ≡ before
+
+-- the log accepts the slot, but the device fails, which stops the die; log and reserved slots stay
+pub record FindsFault {N : Type 0} (event : Event) (refusal : Refusal) (before after : Core N) : Type 0 where
+  pub ran : before.stopped ≡ false
+  pub slot : event ≡ events.Slot
+  pub accepted : IsAccepted (answer before.start before.log event)
+  pub refusal_is : refusal ≡ DeviceFault
+  pub stops : after.stopped ≡ true
+  pub log_stays : after.log ≡ before.log
+  pub reserve_stays : after.reserved ≡ before.reserved
+
+-- a fault had stopped the die before, and nothing changes
+pub record IsStopped {N : Type 0} (refusal : Refusal) (before after : Core N) : Type 0 where
+  pub was_stopped : before.stopped ≡ true
+  pub refusal_is : refusal ≡ DieStopped
+  pub unchanged : after ≡ before
+
+abbrev pub RefusesCall : {N : Type 0} → Event → Refusal → Core N → Core N → Type 0
+RefusesCall event refusal before after =
+    IsRefusedByLog event refusal before after
+    ⊎ FindsNoMemory event refusal before after
+    ⊎ FindsFault event refusal before after
+    ⊎ IsStopped refusal before after
+
+abbrev pub EndsCall : {N : Type 0} → ℕ → Event → Result Reply Refusal → Core N → Core N → Type 0
+EndsCall caller event (Ok reply) before after = IsAnswered caller event reply before after
+EndsCall caller event (Err refusal) before after = RefusesCall event refusal before after
+
+-- The relation
+
+-- the call of the device that an event needs, if it needs one: that of the slot
+abbrev pub call_for : Event → Start → Log → Option NandCall
+call_for events.Slot start log = needed_call start log
+call_for _ start log = None
+
+-- A call of a die ends in one of these ways, and leaves its start as it was. The device has had the one call that the
+-- event needs, and no other.
+pub record IsCall {N : Type 0} (ends : N → NandCall → Bool → N → Type 0) (failures : N → ℕ) (never_fails : Bool) (caller : ℕ) (event : Event)
+    (result : Result Reply Refusal) (before after : Core N) : Type 0 where
+  pub ended : EndsCall caller event result before after
+  pub start_stays : after.start ≡ before.start
+  pub device : UsesDevice ends failures never_fails (call_for event before.start before.log) result before.device after.device
+
+-- the result of a call, with what it hands back as a reply
+abbrev pub reply_as : {T : Type 0} → (T → Reply) → Result T Refusal → Result Reply Refusal
+reply_as reply (Ok x) = Ok (reply x)
+reply_as reply (Err refusal) = Err refusal
+
+-- What follows
+
+-- a job or collection is entered: the log's own answer is its next entry, and nothing else changes
+pub record HasEntered {N : Type 0} (caller : ℕ) (event : Event) (number : ℕ) (before after : Core N) : Type 0 where
+  pub answered : answer before.start before.log event ≡ Taken number
+  pub logged : after ≡ record before { log = with_entry caller event (Taken number) before.log }
 
 -- the log's own refusal; or the log accepts the event, and memory is refused
 abbrev pub RefusedBy : Start → Log → Event → Refusal → Type 0
 RefusedBy start log event refusal = (answer start log event ≡ Refused refusal) ⊎ (IsAccepted (answer start log event) × (refusal ≡ NoMemory))
 
--- A job or collection was accepted: the log's own answer is its next entry, and nothing else changes.
-pub record HasTaken {N : Type 0} (caller : ℕ) (event : Event) (number : ℕ) (before after : Core N) : Type 0 where
-  pub answered : answer before.start before.log event ≡ Taken number
-  pub logged : after ≡ record before { log = with_entry caller event (Taken number) before.log }
+-- A die with this log may refuse the event so: the log refuses it; or the log accepts it, and memory is refused; or the
+-- log accepts it, it is a slot, and the device fails; or the device failed before. A device that never fails does
+-- neither.
+abbrev pub MayRefuse : Bool → Start → Log → Event → Refusal → Type 0
+MayRefuse never_fails start log event refusal =
+    RefusedBy start log event refusal
+    ⊎ ((never_fails ≡ false) × (event ≡ events.Slot) × IsAccepted (answer start log event) × (refusal ≡ DeviceFault))
+    ⊎ ((never_fails ≡ false) × (refusal ≡ DieStopped))
 
--- A job or collection was refused: by a stopped die; or by the log; or the log accepts it, and memory is refused. Nothing changes.
-pub record HasRefusedArrival {N : Type 0} (event : Event) (refusal : Refusal) (before after : Core N) : Type 0 where
-  pub cause : before.stopped ≡ false → RefusedBy before.start before.log event refusal
-  pub unchanged : after ≡ before
+-- memory was refused, or the device failed, which the log doesn't decide
+abbrev pub IsByChance : Result Reply Refusal → Type 0
+IsByChance result = (result ≡ Err NoMemory) ⊎ (result ≡ Err DeviceFault)
 
--- A slot was carried out: the log's own answer is its next entry, and one of the reserved slots is used up, if there is one.
-pub record HasCarriedOut {N : Type 0} (caller : ℕ) (reply : SlotReply) (before after : Core N) : Type 0 where
-  pub answered : answer before.start before.log events.Slot ≡ Slot reply
-  pub logged : after.log ≡ with_entry caller events.Slot (Slot reply) before.log
-  pub runs : after.stopped ≡ false
-  pub used : after.reserved ≡ before.reserved - 1
-
--- A slot was refused: by a stopped die; or by the log; or the log accepts it, and memory is refused, or the device fails. A device that
--- never fails gives no such refusal, and memory is never refused while slots are reserved. A fault stops the die, and the log and the
--- reserved slots stay; any other refusal changes nothing.
-pub record HasRefusedSlot {N : Type 0} (never_fails : Bool) (refusal : Refusal) (before after : Core N) : Type 0 where
-  pub cause : before.stopped ≡ false → RefusedBy before.start before.log events.Slot refusal
-      ⊎ (IsAccepted (answer before.start before.log events.Slot) × (refusal ≡ DeviceFault))
-  pub never : never_fails ≡ true → refusal ≢ DeviceFault
-  pub memory : 0 < before.reserved → refusal ≢ NoMemory
-  pub stops : refusal ≡ DeviceFault → after.stopped ≡ true
-  pub unchanged : refusal ≢ DeviceFault → after ≡ before
-  pub log_stays : after.log ≡ before.log
-  pub reserve_stays : after.reserved ≡ before.reserved
+-- two dies agree in all but their devices
+pub record AreAlike {N : Type 0} (one other : Core N) : Type 0 where
+  pub start_is : one.start ≡ other.start
+  pub stopped_is : one.stopped ≡ other.stopped
+  pub reserved_is : one.reserved ≡ other.reserved
+  pub log_is : one.log ≡ other.log

@@ -1,9 +1,9 @@
 -- A die as its callers see it.
 use Rattle.std.specs.Prelude.{ℕ, Bool, ◌∷◌}
-use Rattle.die_log.specs.Start.{Start}
+use Rattle.die_log.specs.Model.Start.{Start}
 use Rattle.slot_types.specs.declared.events.Event.{Event}
 use Rattle.slot_types.specs.declared.replies.Reply.{Reply}
-use Rattle.die_log.specs.Log.{Log}
+use Rattle.die_log.specs.Model.Log.{Log}
 
 -- where its log started, its device, whether a fault has stopped it, for how many slots memory is reserved, and its log
 pub record Core (N : Type 0) : Type 0 where

@@ -9,14 +9,15 @@ use Rattle.flash_die.specs.Flash as device
 use Rattle.flash_volume.specs.declared.collection.Collection.{Collection}
 use Rattle.flash_volume.specs.Running.{running_of}
 use Rattle.flash_volume.specs.State.{State}
-use Rattle.die_log.specs.Log.{Log, Job, acts}
-use Rattle.die_log.specs.Flash.{Block, contents, cells}
-use Rattle.die_log.specs.Accounts.{accounts}
-use Rattle.die_log.specs.Answers.{buffer_after}
-use Rattle.die_log.specs.Standing.{Runs}
-use Rattle.die_log.specs.Start.{Start}
+use Rattle.die_log.specs.Model.Log.{Log, Job, acts}
+use Rattle.die_log.specs.Model.Flash.{Block, contents, cells}
+use Rattle.die_log.specs.Model.Accounts.{accounts}
+use Rattle.die_log.specs.Model.Answers.{buffer_after}
+use Rattle.die_log.specs.Invariants.RunningCollections.{RunsOnBlock}
+use Rattle.die_log.specs.Model.Start.{Start}
 
--- what a volume keeps: the accounts, the array of pages, where each page lies, the blocks, and by task the collection that runs
+-- what a volume keeps: the accounts, the array of pages, where each page lies, the blocks, and by task the collection
+-- that runs
 pub record FlashState : Type 0 where
   pub tokens : Accounts
   pub pages : List PageData
@@ -42,16 +43,16 @@ abbrev pub page_held : Log → ℕ → Option ℕ
 page_held log number = buffer_after (last_or None (acts number log))
 
 -- the collection that a volume runs for a task is this one of the log, with its block and the page that it holds
-pub record IsRun (start : Start) (log : Log) (task : ℕ) (c : Collection) (j : Job) : Type 0 where
-  pub runs : Runs start log j c.victim
+pub record IsRunningCollection (start : Start) (log : Log) (task : ℕ) (c : Collection) (j : Job) : Type 0 where
+  pub runs : RunsOnBlock start log j c.victim
   pub task_is : j.task ≡ task
   pub holds : page_in c ≡ page_held log j.number
 
 -- a volume runs the collections that the log has begun, and no other
 pub record AreRunning (start : Start) (log : Log) (running : List (Option Collection)) : Type 0 where
   pub len : length running ≡ length start.plan.caps
-  pub each : (task : ℕ) (c : Collection) → running_of running task ≡ Some c → (j : Job) × IsRun start log task c j
-  pub all : (j : Job) (b : ℕ) → Runs start log j b → (c : Collection) × (running_of running j.task ≡ Some c) × (c.victim ≡ b)
+  pub each : (task : ℕ) (c : Collection) → running_of running task ≡ Some c → (j : Job) × IsRunningCollection start log task c j
+  pub all : (j : Job) (b : ℕ) → RunsOnBlock start log j b → (c : Collection) × (running_of running j.task ≡ Some c) × (c.victim ≡ b)
 
 -- The whole
 

@@ -10,11 +10,11 @@ use Rattle.slot_core.specs.declared.next_slot.NextAct.TheVariants as next
 use Rattle.slot_core.specs.declared.next_slot.NextSlot.{NextSlot}
 use Rattle.flash_volume.specs.declared.collection.CollectStep.{CollectStep}
 use Rattle.flash_volume.specs.declared.collection.CollectStep.TheVariants as steps
-use Rattle.die_log.specs.Log.{Log, Carried}
-use Rattle.die_log.specs.Flash.{ran_by}
-use Rattle.die_log.specs.Answers.{answer}
-use Rattle.die_log.specs.Needed.{call_of}
-use Rattle.die_log.specs.Start.{Start}
+use Rattle.die_log.specs.Model.Log.{Log, Carried}
+use Rattle.die_log.specs.Model.Flash.{ran_by}
+use Rattle.die_log.specs.Model.Answers.{answer}
+use Rattle.die_log.specs.Model.NeededCalls.{call_of}
+use Rattle.die_log.specs.Model.Start.{Start}
 
 -- an act without the bytes
 abbrev pub kind_of : Act → NextAct
@@ -39,7 +39,7 @@ kind_of_step (steps.Erase block) = next.Erase block
 abbrev pub nothing_next : NextSlot
 nothing_next = record { ran = None; call = None }
 
--- the act of a slot that carries this behind the log, and the call that it needs
+-- the act of a slot that carries this after the log, and the call that it needs
 abbrev pub next_by : Start → Log → Carried → NextSlot
 next_by start log None = nothing_next
 next_by start log (Some (n, act)) = record { ran = Some (n, kind_of act); call = call_of start log act }

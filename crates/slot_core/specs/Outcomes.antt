@@ -7,14 +7,14 @@ use Rattle.job_table.specs.declared.stages.Stage.{Stage}
 use Rattle.job_table.specs.declared.stages.Stage.TheVariants as stages
 use Rattle.job_table.specs.Jobs.{JobRecord}
 use Rattle.late_cert.specs.Schedule as slots
-use Rattle.die_log.specs.Log.{Log, Job, job_at, acts, waived}
-use Rattle.die_log.specs.Work.{is_done, completion, lateness_of, worst}
+use Rattle.die_log.specs.Model.Log.{Log, Job, job_at, acts, waived_collections}
+use Rattle.die_log.specs.Model.Work.{is_done, completion, lateness_of, worst}
 use Rattle.slot_core.specs.declared.outcomes.Outcome.{Outcome}
 use Rattle.slot_core.specs.declared.outcomes.Outcome.TheVariants as outcomes
 use Rattle.slot_types.specs.declared.events.JobHead.{JobHead}
 use Rattle.slot_core.specs.declared.outcomes.Worst.{Worst}
-use Rattle.slot_core.specs.Records.{waiver_among, given, reads_of}
-use Rattle.die_log.specs.Start.{Start}
+use Rattle.slot_core.specs.Records.{waiver_among, pages_given, reads_of}
+use Rattle.die_log.specs.Model.Start.{Start}
 
 -- waived, done or waiting
 abbrev pub outcome_by : Option Waived → Bool → ℕ → ℤ → ℕ → List PageData → Outcome
@@ -25,8 +25,8 @@ outcome_by None false completion lateness given reads = outcomes.Waiting
 -- what became of a job or collection of the log
 abbrev pub outcome_of : Start → Log → Job → Outcome
 outcome_of start log j =
-    outcome_by (waiver_among j.number (waived log)) (is_done start.plan log j) (completion j.number log) (lateness_of log j)
-    (given start j.number log) (reads_of (acts j.number log))
+    outcome_by (waiver_among j.number (waived_collections log)) (is_done start.plan log j) (completion j.number log) (lateness_of log j)
+    (pages_given start j.number log) (reads_of (acts j.number log))
 
 -- of this number, if there is one
 abbrev pub outcome_at : Start → Log → ℕ → Option Outcome

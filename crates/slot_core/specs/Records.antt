@@ -13,10 +13,10 @@ use Rattle.job_table.specs.declared.stages.Stage.{Stage}
 use Rattle.job_table.specs.declared.stages.Stage.TheVariants as stages
 use Rattle.job_table.specs.Jobs.{JobRecord}
 use Rattle.plan_rules.specs.Accounts.{given_of}
-use Rattle.die_log.specs.Log.{Log, Job, jobs, job_at, acts, waived}
-use Rattle.die_log.specs.Work.{are_all, completion}
-use Rattle.die_log.specs.Accounts.{accounts, after_waivers}
-use Rattle.die_log.specs.Start.{Start}
+use Rattle.die_log.specs.Model.Log.{Log, Job, jobs, job_at, acts, waived_collections}
+use Rattle.die_log.specs.Model.Work.{are_all, completion}
+use Rattle.die_log.specs.Model.Accounts.{accounts, after_waivers}
+use Rattle.die_log.specs.Model.Start.{Start}
 
 -- What reads gave
 
@@ -44,9 +44,9 @@ given_by start past (replies.Slot s) number earlier = gift_by start past s numbe
 given_by start past _ number earlier = earlier
 
 -- what a done collection gave its task
-abbrev pub given : Start → ℕ → Log → ℕ
-given start number [] = 0
-given start number (e ∷ past) = given_by start past e.reply number (given start number past)
+abbrev pub pages_given : Start → ℕ → Log → ℕ
+pages_given start number [] = 0
+pages_given start number (e ∷ past) = given_by start past e.reply number (pages_given start number past)
 
 -- the waiver of a number, if it was waived
 abbrev pub waiver_among : ℕ → List Waived → Option Waived
@@ -74,8 +74,8 @@ record_from start own completion given ws j = record {
 
 -- as it stands at the end of a log, were these waived
 abbrev pub record_with : Start → Log → List Waived → Job → JobRecord
-record_with start log ws j = record_from start (acts j.number log) (completion j.number log) (given start j.number log) ws j
+record_with start log ws j = record_from start (acts j.number log) (completion j.number log) (pages_given start j.number log) ws j
 
 -- the jobs and collections of a log by number
-abbrev pub records : Start → Log → List JobRecord
-records start log = map (record_with start log (waived log)) (jobs log)
+abbrev pub job_records : Start → Log → List JobRecord
+job_records start log = map (record_with start log (waived_collections log)) (jobs log)

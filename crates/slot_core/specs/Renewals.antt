@@ -2,11 +2,11 @@
 use Rattle.std.specs.Prelude.{◌≡◌, ℕ, ◌⊎◌, ◌&&◌, ◌||◌, ◌==◌, nat_lt, not, Bool, true, false, Some, None, [], position, map, Contains}
 use Rattle.slot_types.specs.declared.plans.DiePlan.{DiePlan}
 use Rattle.flash_volume.specs.Cells.{is_worn_beyond}
-use Rattle.die_log.specs.Start.{Start, Block}
-use Rattle.die_log.specs.Log.{Log, Job, jobs, now, is_waived}
-use Rattle.die_log.specs.Flash.{cells}
-use Rattle.die_log.specs.Work.{is_done, ready, least}
-use Rattle.die_log.specs.Opening.{IsQuiet, CanBeErased, renewed}
+use Rattle.die_log.specs.Model.Start.{Start, Block}
+use Rattle.die_log.specs.Model.Log.{Log, Job, jobs, now, is_waived}
+use Rattle.die_log.specs.Model.Flash.{cells}
+use Rattle.die_log.specs.Model.Work.{is_done, ready, least}
+use Rattle.die_log.specs.Model.Opening.{IsQuiet, CanBeErased, renewed_start}
 use Rattle.slot_core.specs.Core.{Core}
 use Rattle.slot_core.specs.declared.renewals.RenewalRefusal.{RenewalRefusal}
 use Rattle.slot_core.specs.declared.renewals.RenewalRefusal.TheVariants as refusals
@@ -25,9 +25,9 @@ pub record IsReleasedNext (plan : DiePlan) (log : Log) (j : Job) : Type 0 where
   pub coming : is_coming plan log j ≡ true
   pub first : (i : Job) → Contains (jobs log) i → is_coming plan log i ≡ true → is_released_before i j ≡ false
 
--- The job or collection of this number is the next to be carried: of those that are released it has the least key of due and number; or
--- none is released, and it is released next.
-pub record IsNext (plan : DiePlan) (log : Log) (number : ℕ) : Type 0 where
+-- The job or collection of this number is the next to be carried: of those that are released it has the least key of
+-- deadline and number; or none is released, and it is released next.
+pub record IsNextCarried (plan : DiePlan) (log : Log) (number : ℕ) : Type 0 where
   pub job : Job
   pub number_is : job.number ≡ number
   pub next : (least (ready plan log) ≡ Some job) ⊎ ((least (ready plan log) ≡ None) × IsReleasedNext plan log job)
@@ -40,18 +40,19 @@ most_erases = 4293918718
 abbrev pub IsFirstWorn : Start → Log → ℕ → Type 0
 IsFirstWorn start log block = position (is_worn_beyond most_erases) (map (λ (b : Block). b.erases) (cells start log).blocks) ≡ Some block
 
--- why a die isn't renewed: a fault has stopped it; else this job or collection is the next to be carried; else this block is worn out
+-- why a die isn't renewed: a fault has stopped it; else this job or collection is the next to be carried; else this
+-- block is worn out
 abbrev pub RefusesRenewal : {N : Type 0} → Core N → RenewalRefusal → Type 0
 RefusesRenewal core refusals.DieStopped = core.stopped ≡ true
-RefusesRenewal core (refusals.NotQuiet job) = (core.stopped ≡ false) × IsNext core.start.plan core.log job
+RefusesRenewal core (refusals.NotQuiet job) = (core.stopped ≡ false) × IsNextCarried core.start.plan core.log job
 RefusesRenewal core (refusals.WornOut block) = (core.stopped ≡ false) × IsQuiet core.start core.log × IsFirstWorn core.start core.log block
 
 -- no fault has stopped the die, all that it accepted is done or was waived, and no block is worn out
 pub record MayBeRenewed {N : Type 0} (core : Core N) : Type 0 where
   pub runs : core.stopped ≡ false
   pub quiet : IsQuiet core.start core.log
-  pub unworn : CanBeErased (renewed core.start core.log)
+  pub unworn : CanBeErased (renewed_start core.start core.log)
 
--- The log starts anew at what stood behind it. The device, the pages, the accounts and the reserved slots stay.
+-- The log starts anew at what stood after it. The device, the pages, the accounts and the reserved slots stay.
 abbrev pub renewed_core : {N : Type 0} → Core N → Core N
-renewed_core core = record core { start = renewed core.start core.log; log = [] }
+renewed_core core = record core { start = renewed_start core.start core.log; log = [] }

@@ -7,10 +7,10 @@ use Rattle.page_ledger.specs.Quiet.{quiet_accounts}
 use Rattle.die_checkpoint.specs.declared.checkpoint.BlockCounts.{BlockCounts}
 use Rattle.die_checkpoint.specs.declared.checkpoint.Checkpoint.{Checkpoint}
 use Rattle.die_checkpoint.specs.declared.fault.CheckpointFault.TheVariants.{NoMemory}
-use Rattle.die_checkpoint.specs.Faults.{HasFault}
+use Rattle.die_checkpoint.specs.Faults.{HasCheckpointFault}
 use Rattle.flash_die.specs.Flash as device
 use Rattle.flash_volume.specs.Cells as volume
-use Rattle.die_log.specs.Start.{Start, Block}
+use Rattle.die_log.specs.Model.Start.{Start, Block}
 use Rattle.slot_core.specs.Core.{Core}
 use Rattle.slot_core.specs.Renewals.{RefusesRenewal, MayBeRenewed}
 use Rattle.slot_core.specs.declared.resumptions.CheckpointRefusal.{CheckpointRefusal}
@@ -35,7 +35,8 @@ checkpoint_of start = record {
 abbrev pub idle_block : BlockCounts → Block
 idle_block counts = record { filled = counts.filled; erasing = 0; erases = counts.erases }
 
--- The start that a checkpoint makes with these pages. No block is in erase, no task holds a page for a job, and each reserve is whole.
+-- The start that a checkpoint makes with these pages. No block is in erase, no task holds a page for a job, and each
+-- reserve is whole.
 abbrev pub start_with : DiePlan → Checkpoint → List PageData → Start
 start_with plan c pages = record {
   plan = plan;
@@ -53,11 +54,12 @@ abbrev pub RefusesCheckpoint : {N : Type 0} → Core N → CheckpointRefusal →
 RefusesCheckpoint core (untaken.NotRenewable why) = RefusesRenewal core why
 RefusesCheckpoint core untaken.NoMemory = MayBeRenewed core
 
--- why a die isn't resumed: the device is of another shape than the plan; or it is of that shape, and this is the checkpoint's first fault
+-- why a die isn't resumed: the device is of another shape than the plan; or it is of that shape, and this is the
+-- checkpoint's first fault
 abbrev pub RefusesResume : DiePlan → Checkpoint → Shape → ResumeRefusal → Type 0
 RefusesResume plan c shape unresumed.OtherDevice = shape ≢ plan.shape
-RefusesResume plan c shape (unresumed.Unfit fault) = (shape ≡ plan.shape) × HasFault plan c fault
+RefusesResume plan c shape (unresumed.Unfit fault) = (shape ≡ plan.shape) × HasCheckpointFault plan c fault
 
--- for want of memory
+-- out of memory
 abbrev pub no_memory : ResumeRefusal
 no_memory = unresumed.Unfit NoMemory

@@ -3,10 +3,10 @@ use Rattle.std.specs.Prelude.{ℕ, Option, option_map}
 use Rattle.slot_types.specs.declared.plans.DiePlan.{DiePlan}
 use Rattle.slot_types.specs.declared.events.JobHead.{JobHead}
 use Rattle.job_table.specs.Jobs.{JobRecord}
-use Rattle.die_log.specs.Log.{Log, Job, job_at, work}
+use Rattle.die_log.specs.Model.Log.{Log, Job, job_at, work}
 use Rattle.slot_core.specs.declared.outcomes.Outcome.{Outcome}
 use Rattle.slot_core.specs.Outcomes.{outcome_of, outcome_in, head_of, head_in}
-use Rattle.die_log.specs.Start.{Start}
+use Rattle.die_log.specs.Model.Start.{Start}
 
 -- what a job or a collection was accepted with, how many slots it took, and what became of it
 pub record JobSummary : Type 0 where

@@ -1,15 +1,16 @@
 //! Jobs and collections that arrive at a die.
 
-ghost use Rattle.std.specs.Prelude.{◌≡◌, ◌∷◌, ◌+◌, ◌^◌, ◌<◌, ◌≤◌, ◌↔◌, true, false, length, IfOk, IfErr, OnOk, OnErr};
+ghost use Rattle.std.specs.Prelude.{◌≡◌, ◌∷◌, ◌+◌, ◌^◌, ◌<◌, ◌≤◌, true, false, length, IfOk, OnOk, OnErr};
 ghost use Rattle.std.specs.Prelude.{[]};
 ghost use Rattle.std.specs.List.{list_all};
 ghost use Rattle.slot_types.specs.Refusal.{FailsForMemory};
+ghost use Rattle.slot_types.specs.declared.replies.Reply.{Reply};
 ghost use Rattle.job_table.specs.Jobs.{new_job, new_collection};
 ghost use Rattle.job_table.specs.Table.{with_job, is_collecting};
 ghost use Rattle.job_table.specs.Words.{has_word};
-ghost use Rattle.die_log.specs.Work.{is_collecting as collecting};
-ghost use Rattle.die_log.specs.Answers.{refusal_of};
-ghost use Rattle.slot_core.specs.Calls.{HasTaken, HasRefusedArrival};
+ghost use Rattle.die_log.specs.Model.Work.{is_collecting as collecting};
+ghost use Rattle.die_log.specs.Model.Answers.{refusal_of};
+ghost use Rattle.slot_core.specs.Calls.{IsCall, reply_as};
 
 use crate::die_core::DieCore;
 use crate::operations::{bad_page, count_writes};
@@ -125,15 +126,15 @@ impl<N: Nand> DieCore<N> {
         None
     }
 
-    /// Accepts a job of the task, to run from slot `release` on and to be done by `due`, and answers its number. It
+    /// Accepts a job of the task, to run from slot `release` on, with the deadline `due`, and answers its number. It
     /// does its operations in order, one a slot: a read; a write, which takes a token of the task; a trim, which takes
     /// none and calls no device.
     ///
     /// The refusals, of which the first that stands is answered and nothing is changed: `DieStopped`; `UnknownTask`;
-    /// `EmptyJob`; `TooManyOps`, above 64; `BadPage`, with the first page that the die doesn't have; `ReleasePast`, where
-    /// the release is below the present slot; `BadDue`, where the due isn't above the release or is above 1,048,576;
-    /// `JobsFull`, where 65,536 were accepted; `NoTokens`, where the task's balance is below the job's writes; `NoMemory`.
-    /// The operations are given up then.
+    /// `EmptyJob`; `TooManyOps`, above 64; `BadPage`, with the first page that the die doesn't have; `ReleasePast`,
+    /// where the release is below the present slot; `BadDue`, where the deadline isn't above the release or is above
+    /// 1,048,576; `JobsFull`, where 65,536 were accepted; `NoTokens`, where the task's balance is below the job's
+    /// writes; `NoMemory`. The operations are given up then.
     pub fn submit(
         &mut self,
         alloc: Global,
@@ -143,9 +144,8 @@ impl<N: Nand> DieCore<N> {
         due: u32,
         ops: OpList,
     ) -> Result<JobNo, Refusal>
-        ensures stopped { (result ≡ Err Refusal.DieStopped) ↔ (self.old.stopped ≡ true) }
-        ensures taken { IfOk result (λ number. HasTaken caller (Event.Submit task release due ops) number self.old self.new) }
-        ensures refused { IfErr result (λ refusal. HasRefusedArrival (Event.Submit task release due ops) refusal self.old self.new) }
+        ensures { IsCall N.ends N.failures N.never_fails caller (Event.Submit task release due ops) (reply_as Reply.Taken result) self.old
+            self.new }
     {
         self.submit_lent(alloc, caller, task, release, due, ops.as_slice())
     }
@@ -160,9 +160,8 @@ impl<N: Nand> DieCore<N> {
         due: u32,
         ops: &[Op],
     ) -> Result<JobNo, Refusal>
-        ensures stopped { (result ≡ Err Refusal.DieStopped) ↔ (self.old.stopped ≡ true) }
-        ensures taken { IfOk result (λ number. HasTaken caller (Event.Submit task release due ops.now) number self.old self.new) }
-        ensures refused { IfErr result (λ refusal. HasRefusedArrival (Event.Submit task release due ops.now) refusal self.old self.new) }
+        ensures { IsCall N.ends N.failures N.never_fails caller (Event.Submit task release due ops.now) (reply_as Reply.Taken result) self.old
+            self.new }
     {
         if self.volume.failed() {
             return Err(Refusal::DieStopped);
@@ -224,12 +223,13 @@ impl<N: Nand> DieCore<N> {
         None
     }
 
-    /// Accepts a collection for the task, to run from slot `release` on and to be done by `due`, and answers its number.
+    /// Accepts a collection for the task, to run from slot `release` on, with the deadline `due`, and answers its
+    /// number.
     ///
     /// The refusals, of which the first that stands is answered and nothing is changed: `DieStopped`; `UnknownTask`;
-    /// `ReleasePast`, where the release is below the present slot; `BadDue`, where the due isn't above the release or is
-    /// above 1,048,576; `CollectorBusy`, where the task has a collection that is neither done nor waived; `JobsFull`,
-    /// where 65,536 were accepted; `NoMemory`.
+    /// `ReleasePast`, where the release is below the present slot; `BadDue`, where the deadline isn't above the release
+    /// or is above 1,048,576; `CollectorBusy`, where the task has a collection that is neither done nor waived;
+    /// `JobsFull`, where 65,536 were accepted; `NoMemory`.
     pub fn collect(
         &mut self,
         alloc: Global,
@@ -238,9 +238,8 @@ impl<N: Nand> DieCore<N> {
         release: u32,
         due: u32,
     ) -> Result<JobNo, Refusal>
-        ensures stopped { (result ≡ Err Refusal.DieStopped) ↔ (self.old.stopped ≡ true) }
-        ensures taken { IfOk result (λ number. HasTaken caller (Event.Collect task release due) number self.old self.new) }
-        ensures refused { IfErr result (λ refusal. HasRefusedArrival (Event.Collect task release due) refusal self.old self.new) }
+        ensures { IsCall N.ends N.failures N.never_fails caller (Event.Collect task release due) (reply_as Reply.Taken result) self.old
+            self.new }
     {
         if self.volume.failed() {
             return Err(Refusal::DieStopped);

@@ -3,10 +3,10 @@
 ghost use Rattle.std.specs.Prelude.{◌≡◌, ◌↔◌, None, IsOk, IfOk, IfSome};
 ghost use Rattle.slot_types.specs.Refusal.{FailsForMemory};
 ghost use Rattle.late_cert.specs.Rows.{RowsRise};
-ghost use Rattle.die_log.specs.Rows.{rows, certificate};
-ghost use Rattle.die_log.specs.Certified.{NothingDone, IsOfWorst, HoldsOver, BindsAll};
-ghost use Rattle.die_log.specs.Promised.{KeepsPromises};
-ghost use Rattle.slot_core.specs.Rowed.{row_in, rows_in};
+ghost use Rattle.die_log.specs.Model.Rows.{rows, certificate};
+ghost use Rattle.die_log.specs.Results.Certificates.{NothingDone, IsOfWorst, HoldsOver, BindsAll};
+ghost use Rattle.die_log.specs.Results.Promises.{KeepsPromises};
+ghost use Rattle.slot_core.specs.TableRows.{row_in, rows_in};
 
 use crate::die_core::DieCore;
 use flash_die::Nand;
@@ -42,10 +42,7 @@ fn rows_in(alloc: Global, table: &JobTable) -> Result<JobRows, Refusal>
     for number in 0..table.len() {
         if let Some(job) = table.job(JobNo(number)) {
             if let Some(row) = row_in(number, &job) {
-                match rows.push(row) {
-                    Ok(()) => {}
-                    Err(_) => return Err(Refusal::NoMemory),
-                }
+                rows.push(row)?;
             }
         }
     }
@@ -54,7 +51,7 @@ fn rows_in(alloc: Global, table: &JobTable) -> Result<JobRows, Refusal>
 
 impl<N: Nand> DieCore<N> {
     /// The rows of all jobs and collections by number, without those that were waived: what [`late_cert::check`] reads.
-    /// The only refusal is for want of memory.
+    /// The only refusal is out of memory.
     pub fn rows(&self, alloc: Global) -> Result<JobRows, Refusal>
         ensures ok { IfOk result (λ made. made ≡ rows self.now.start.plan self.now.log) }
         ensures rise { IfOk result (λ made. RowsRise made) }
@@ -65,7 +62,7 @@ impl<N: Nand> DieCore<N> {
 
     /// The certificate of the worst job or collection, or none where nothing is done. [`late_cert::check`] says of it,
     /// over the die's rows, that it holds: every schedule that gives its jobs the slots that they took, none before its
-    /// release, completes one of them at least as late. The only refusal is for want of memory; where nothing is done, no
+    /// release, completes one of them at least as late. The only refusal is out of memory; where nothing is done, no
     /// memory is taken.
     pub fn certificate(&self, alloc: Global) -> Result<Option<Certificate>, Refusal>
         ensures ok { IfOk result (λ built. built ≡ certificate self.now.start.plan self.now.log) }
@@ -87,10 +84,10 @@ impl<N: Nand> DieCore<N> {
     }
 
     /// All that is promised of a die's log, whatever was done with the die; the call does nothing. The plan meets its
-    /// bound, and the log is the exact answer to the accepted calls, hence legal. At every moment each slot so far carried
-    /// the least key of those that waited, and the greatest lateness so far is least: no schedule that respects releases,
-    /// and gives what is done as many slots as it took, has a smaller one. Collections keep to their slots, and the worst
-    /// job has its certificate.
+    /// bound, and the log is the exact answer to the accepted calls, hence legal. At every moment each slot so far
+    /// carried the least key of those that waited, and the greatest lateness so far is least: no schedule that respects
+    /// releases, and gives what is done as many slots as it took, has a smaller one. Collections keep to their slots,
+    /// and the worst job has its certificate.
     pub fn promises(&self)
         ensures { KeepsPromises self.now.start self.now.log }
     {

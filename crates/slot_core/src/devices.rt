@@ -2,7 +2,7 @@
 
 ghost use Rattle.std.specs.Prelude.{◌≡◌, false, map};
 ghost use Rattle.flash_volume.specs.Cells as volume;
-ghost use Rattle.die_log.specs.Flash.{cells, contents};
+ghost use Rattle.die_log.specs.Model.Flash.{cells, contents};
 ghost use Rattle.slot_core.specs.Device.{counts_of};
 
 use crate::die_core::DieCore;

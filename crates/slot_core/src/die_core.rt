@@ -6,9 +6,9 @@ ghost use Rattle.slot_types.specs.Refusal.{FailsForMemory};
 ghost use Rattle.slot_types.specs.Shapes.{IsShape};
 ghost use Rattle.plan_rules.specs.Bound.{MeetsBound};
 ghost use Rattle.flash_die.specs.Flash.{IsFresh};
-ghost use Rattle.event_log.specs.Alike.{records};
-ghost use Rattle.die_log.specs.Log.{now};
-ghost use Rattle.die_log.specs.Start.{fresh};
+ghost use Rattle.event_log.specs.Alike.{record_count};
+ghost use Rattle.die_log.specs.Model.Log.{now};
+ghost use Rattle.die_log.specs.Model.Start.{fresh};
 
 use event_log::EventLog;
 use flash_die::Nand;
@@ -22,12 +22,17 @@ use std::marker::Model;
 
 /// One die: its flash, its jobs and collections, and the log of the calls that it accepted.
 ///
-/// Contracts see its plan, its device, whether a fault has stopped it, for how many slots memory is reserved, and its log.
+/// Contracts see where its log starts (with its plan), its device, whether a fault has stopped it, for how many slots
+/// memory is reserved, and its log.
 #[derive(Drop)]
 pub struct DieCore<N: Nand> {
+    /// The pages and the accounts of free pages, on the device.
     pub(crate) volume: Volume<N>,
+    /// The jobs and collections, with what the log says of each.
     pub(crate) table: JobTable,
+    /// The log, as what each call did. With the table it stands for the entries that contracts see.
     pub(crate) events: EventLog,
+    /// The present slot.
     pub(crate) present: u32,
     /// For how many slots there is room in the log, beside what jobs and collections take.
     pub(crate) reserved: u32,
@@ -37,10 +42,10 @@ pub struct DieCore<N: Nand> {
 
 impl<N: Nand> Model for DieCore<N> {
     ghost use Rattle.slot_core.specs.Core.{Core};
-    ghost use Rattle.slot_core.specs.Told.{log_of, Holds};
-    ghost use Rattle.slot_core.specs.Reserved.{HasRoom};
+    ghost use Rattle.slot_core.specs.TableLog.{log_of, TellsLog};
+    ghost use Rattle.slot_core.specs.ReservedSlots.{HasReservedRoom};
     ghost use Rattle.slot_core.specs.Device.{flash_of};
-    ghost use Rattle.die_log.specs.Start.{over};
+    ghost use Rattle.die_log.specs.Model.Start.{over};
 
     ghost Value = { Core N };
 
@@ -53,15 +58,15 @@ impl<N: Nand> Model for DieCore<N> {
     } };
 
     ghost invariant = { λ c.
-        Holds (over c.volume.accounts.plan c.start) c.present c.table c.events.notes c.volume.failed (flash_of N.blocks c.volume)
-        × HasRoom c.reserved c.table.jobs c.events.room c.events.waiver_room };
+        TellsLog (over c.volume.accounts.plan c.start) c.present c.table c.events.notes c.volume.failed (flash_of N.blocks c.volume)
+        × HasReservedRoom c.reserved c.table.jobs c.events.room c.events.waiver_room };
 }
 
 impl<N: Nand> DieCore<N> {
     /// A die on which nothing was done, at slot 0.
     ///
-    /// `BadShape` where the plan's shape is out of its limits or is not the device's; else `BadPlan` where the plan does
-    /// not meet its bound; else `NoMemory` where memory is refused. Plan and device are given up then.
+    /// `BadShape` where the plan's shape is out of its limits or is not the device's; else `BadPlan` where the plan
+    /// does not meet its bound; else `NoMemory` where memory is refused. Plan and device are given up then.
     pub fn new(alloc: Global, plan: DiePlan, nand: N) -> Result<DieCore<N>, Refusal>
         requires fresh { IsFresh (N.shape_of nand) (N.blocks nand) (N.failures nand) }
         ensures ok { IfOk result (λ core. core ≡ record { start = fresh plan; device = nand; stopped = false; reserved = 0; log = [] }) }
@@ -87,8 +92,8 @@ impl<N: Nand> DieCore<N> {
         })
     }
 
-    /// A die as [`new`](DieCore::new) makes it, in a box, since a die is large to move. It is refused as there; `NoMemory`
-    /// also where memory for the box is.
+    /// A die as [`new`](DieCore::new) makes it, in a box, since a die is large to move. It is refused as there;
+    /// `NoMemory` also where memory for the box is.
     pub fn boxed(alloc: Global, plan: DiePlan, nand: N) -> Result<Box<DieCore<N>>, Refusal>
         requires fresh { IsFresh (N.shape_of nand) (N.blocks nand) (N.failures nand) }
         ensures ok { IfOk result (λ core. box_value core
@@ -149,9 +154,9 @@ impl<N: Nand> DieCore<N> {
         self.events.len() as u64
     }
 
-    /// How many records the log takes: how many maximal stretches of alike entries it has, one by itself being one.
+    /// How many records the log takes: how many maximal runs of alike entries it has, one by itself being one.
     pub fn records(&self) -> u64
-        ensures { result ≡ records self.now.log }
+        ensures { result ≡ record_count self.now.log }
     {
         self.events.stretches() as u64
     }

@@ -1,10 +1,8 @@
 //! Events of a die: a job or a collection arrives, or a slot is carried out.
 
-ghost use Rattle.std.specs.Prelude.{◌≡◌, ◌+◌, ◌↔◌, true, IfOk, IfErr};
 ghost use Rattle.slot_types.specs.Arrivals.{arrival_of};
-ghost use Rattle.die_log.specs.Needed.{needed_call};
-ghost use Rattle.slot_core.specs.Events.{with_ops, noted, HasAccepted, HasRefused};
-ghost use Rattle.slot_core.specs.Needs.{MakesCall};
+ghost use Rattle.slot_core.specs.Calls.{IsCall, reply_as};
+ghost use Rattle.slot_core.specs.Events.{with_ops, reply_of_note};
 
 use crate::die_core::DieCore;
 use crate::slot_note::SlotNote;
@@ -39,11 +37,8 @@ impl<N: Nand> DieCore<N> {
         head: JobHead,
         ops: &[Op],
     ) -> Result<JobNo, Refusal>
-        ensures stopped { (result ≡ Err Refusal.DieStopped) ↔ (self.old.stopped ≡ true) }
-        ensures accepted { IfOk result (λ number. HasAccepted caller (arrival_of head ops.now) (Reply.Taken number) self.old self.new) }
-        ensures refused { IfErr result (λ refusal. HasRefused N.never_fails (arrival_of head ops.now) refusal self.old self.new) }
-        ensures fault { (result ≡ Err Refusal.DeviceFault) ↔ (N.failures self.new.device ≡ N.failures self.old.device + 1) }
-        ensures plan { self.new.start ≡ self.old.start }
+        ensures { IsCall N.ends N.failures N.never_fails caller (arrival_of head ops.now) (reply_as Reply.Taken result) self.old
+            self.new }
     {
         let JobHead {
             collects,
@@ -60,13 +55,7 @@ impl<N: Nand> DieCore<N> {
 
     /// Carries out an event, and answers as [`DieCore::submit`], [`DieCore::collect`] or [`DieCore::slot`] does.
     pub fn perform(&mut self, alloc: Global, caller: u32, event: Event) -> Result<Reply, Refusal>
-        ensures stopped { (result ≡ Err Refusal.DieStopped) ↔ (self.old.stopped ≡ true) }
-        ensures accepted { IfOk result (λ reply. HasAccepted caller event reply self.old self.new) }
-        ensures refused { IfErr result (λ refusal. HasRefused N.never_fails event refusal self.old self.new) }
-        ensures fault { (result ≡ Err Refusal.DeviceFault) ↔ (N.failures self.new.device ≡ N.failures self.old.device + 1) }
-        ensures calls { event ≡ Event.Slot → MakesCall N.ends N.failures (needed_call self.old.start self.old.log) result self.old.device
-            self.new.device }
-        ensures plan { self.new.start ≡ self.old.start }
+        ensures { IsCall N.ends N.failures N.never_fails caller event result self.old self.new }
     {
         let taken = match event {
             Event::Submit {
@@ -113,13 +102,8 @@ impl<N: Nand> DieCore<N> {
         head: EventHead,
         ops: &[Op],
     ) -> Result<ReplyNote, Refusal>
-        ensures stopped { (result ≡ Err Refusal.DieStopped) ↔ (self.old.stopped ≡ true) }
-        ensures accepted { IfOk result (λ note. HasAccepted caller (with_ops head ops.now) (noted note) self.old self.new) }
-        ensures refused { IfErr result (λ refusal. HasRefused N.never_fails (with_ops head ops.now) refusal self.old self.new) }
-        ensures fault { (result ≡ Err Refusal.DeviceFault) ↔ (N.failures self.new.device ≡ N.failures self.old.device + 1) }
-        ensures calls { head ≡ EventHead.Slot → MakesCall N.ends N.failures (needed_call self.old.start self.old.log) result self.old.device
-            self.new.device }
-        ensures plan { self.new.start ≡ self.old.start }
+        ensures { IsCall N.ends N.failures N.never_fails caller (with_ops head ops.now) (reply_as reply_of_note result) self.old
+            self.new }
     {
         match head {
             EventHead::Arrive(head) => match self.arrive(alloc, caller, head, ops) {

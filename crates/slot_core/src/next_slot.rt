@@ -25,7 +25,7 @@ pub enum NextAct {
 pub struct NextSlot {
     /// The job or collection that has the slot, and what it will do; none where the slot is idle.
     pub ran: Option<(JobNo, NextAct)>,
-    /// The one call of the device that the slot makes; none of an idle slot, of a trim, and of a read of a page that was
-    /// never written or was trimmed since.
+    /// The one call of the device that the slot makes; none of an idle slot, of a trim, and of a read of a page that
+    /// was never written or was trimmed since.
     pub call: Option<NandCall>,
 }

@@ -3,22 +3,22 @@
 ghost use Rattle.std.specs.Prelude.{◌≡◌, ◌+◌, ◌<◌, ◌≤◌, ◌∷◌, ◌++◌, ◌^◌, [], if◌then◌else◌, None, Some, true, false, length};
 ghost use Rattle.job_table.specs.Order.{IsHead};
 ghost use Rattle.job_table.specs.Table.{work_at, reads_next_at};
-ghost use Rattle.slot_core.specs.Turns.{is_read_act, after_turn, deed_by};
-ghost use Rattle.slot_core.specs.Slotted.{idle_reply};
+ghost use Rattle.slot_core.specs.HeadSteps.{is_read_act, table_after_step, deed_by};
+ghost use Rattle.slot_core.specs.WithinSlot.{idle_reply};
 
-use crate::turn::Turn;
+use crate::head_step::HeadStep;
 use event_log::{Deed, EventLog};
 use job_table::JobTable;
 use slot_types::{Act, JobNo, SlotReply, WaivedList};
 use std::alloc::Global;
 
-/// Notes a turn of the head in the table.
-pub(crate) fn note_turn(table: &mut JobTable, number: JobNo, turn: Turn, completion: u32)
+/// Notes a step of the head in the table.
+pub(crate) fn note_step(table: &mut JobTable, number: JobNo, turn: HeadStep, completion: u32)
     requires running { table.old.ended ≡ false }
     requires head { IsHead table.old number }
     requires room { work_at table.old.jobs number + 1 < 2 ^ 32 }
     requires reads { reads_next_at table.old.jobs number ≡ is_read_act turn.act }
-    ensures { table.new ≡ after_turn table.old number turn completion }
+    ensures { table.new ≡ table_after_step table.old number turn completion }
 {
     match turn.act {
         Act::Read { bytes, .. } => table.carry_read(number, bytes),
@@ -36,8 +36,8 @@ pub(crate) fn finished(number: JobNo, last: bool) -> Option<JobNo>
     if last { Some(number) } else { None }
 }
 
-/// A reply to be filled.
-pub(crate) fn new_reply(alloc: Global) -> SlotReply
+/// A reply to be filled by [`fill_slot`](crate::DieCore::fill_slot). It takes no memory.
+pub fn new_reply(alloc: Global) -> SlotReply
     ensures { result ≡ idle_reply 0 [] }
 {
     SlotReply {
@@ -48,8 +48,8 @@ pub(crate) fn new_reply(alloc: Global) -> SlotReply
     }
 }
 
-/// What a turn of this number's was, which did its operation at this place if it is a job.
-pub(crate) fn deed_of(number: JobNo, place: u32, turn: Turn) -> Deed
+/// What a step of this number's was, which did its operation at this place if it is a job.
+pub(crate) fn deed_of(number: JobNo, place: u32, turn: HeadStep) -> Deed
     ensures { result ≡ deed_by number place turn.last turn.act }
 {
     match turn.act {

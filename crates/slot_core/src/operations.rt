@@ -4,10 +4,10 @@ ghost use Rattle.std.specs.Prelude.{◌≡◌, ◌<◌, true, false, length, sli
 ghost use Rattle.std.specs.Prelude.{nat_le};
 ghost use Rattle.slot_types.specs.Operations.{is_write, writes, page_of};
 ghost use Rattle.slot_core.specs.Device.{flash_of};
-ghost use Rattle.slot_core.specs.Acting.{act_by, operated};
+ghost use Rattle.slot_core.specs.OpEffects.{act_by, flash_after_op};
 ghost use Rattle.flash_volume.specs.Faults.{FailsWithDevice};
-ghost use Rattle.slot_core.specs.Needs.{Made};
-ghost use Rattle.slot_core.specs.NextTurns.{op_call};
+ghost use Rattle.slot_core.specs.Needs.{IsOnlyCall};
+ghost use Rattle.slot_core.specs.NextHeadSteps.{op_call};
 
 use flash_die::Nand;
 use flash_volume::Volume;
@@ -53,10 +53,10 @@ pub(crate) fn operate<N: Nand>(volume: &mut Volume<N>, task: TaskNo, op: Op) -> 
     requires page { page_of op < length volume.old.pages }
     requires held { is_write op ≡ true → 0 < slice_index volume.old.accounts.holds task }
     ensures act { IfOk result (λ act. act ≡ act_by (flash_of N.blocks volume.old) op) }
-    ensures flash { OnOk result (flash_of N.blocks volume.new ≡ operated (flash_of N.blocks volume.old) task op) }
+    ensures flash { OnOk result (flash_of N.blocks volume.new ≡ flash_after_op (flash_of N.blocks volume.old) task op) }
     ensures plan { volume.new.accounts.plan ≡ volume.old.accounts.plan }
     ensures fails { FailsWithDevice N.failures N.never_fails result volume.old volume.new }
-    ensures made { Made N.ends (op_call N.blocks volume.old op) (is_ok result) volume.old.device volume.new.device }
+    ensures made { IsOnlyCall N.ends (op_call N.blocks volume.old op) (is_ok result) volume.old.device volume.new.device }
     ensures needs { OnErr result (IsSome (op_call N.blocks volume.old op)) }
 {
     match op {

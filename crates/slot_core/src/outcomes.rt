@@ -3,7 +3,7 @@
 ghost use Rattle.std.specs.Prelude.{◌≡◌, ◌↔◌, ◌⊎◌, ℕ, false, Some, None, IsOk, IfOk, IfErr};
 ghost use Rattle.slot_types.specs.Refusal.{FailsForMemory};
 ghost use Rattle.job_table.specs.Jobs.{is_done};
-ghost use Rattle.die_log.specs.Log.{job_at};
+ghost use Rattle.die_log.specs.Model.Log.{job_at};
 ghost use Rattle.slot_core.specs.Outcomes.{outcome_in, outcome_at, head_in, head_at, worst_of, worst_as};
 
 use crate::die_core::DieCore;
@@ -18,9 +18,9 @@ use std::alloc::Global;
 pub enum Outcome {
     /// It is neither done nor waived.
     Waiting,
-    /// It is done: `completion` is 1 + its last slot, and `lateness` how many slots that is after its due, negative
-    /// where it is before. `given` counts the pages that a collection gave its task, 0 for a job, and `reads` has what
-    /// a job's reads gave, in order.
+    /// It is done: `completion` is 1 + its last slot, and `lateness` how many slots that is after its deadline,
+    /// negative where it is before. `given` counts the pages that a collection gave its task, 0 for a job, and `reads`
+    /// has what a job's reads gave, in order.
     Done {
         completion: u32,
         lateness: i64,
@@ -37,7 +37,7 @@ pub enum Outcome {
 #[derive(Clone, Copy, PartialEq, Eq, Debug, Drop)]
 pub struct Worst {
     pub job: JobNo,
-    /// Its completion minus its due; negative where it was early.
+    /// Its completion minus its deadline; negative where it was early.
     pub lateness: i64,
 }
 
@@ -85,8 +85,8 @@ fn worst_as(found: (JobNo, i64)) -> Worst
 impl<N: Nand> DieCore<N> {
     /// What became of the job or collection of a number, by the log.
     ///
-    /// `UnknownJob` where the log has none of that number; else `NoMemory` where it is done and memory is refused for what
-    /// its reads gave. Of one that waits or was waived no memory is taken.
+    /// `UnknownJob` where the log has none of that number; else `NoMemory` where it is done and memory is refused for
+    /// what its reads gave. Of one that waits or was waived no memory is taken.
     pub fn outcome(&self, alloc: Global, job: JobNo) -> Result<Outcome, Refusal>
         ensures ok { IfOk result (λ outcome. outcome_at self.now.start self.now.log job ≡ Some outcome) }
         ensures unknown { (result ≡ Err Refusal.UnknownJob) ↔ (job_at self.now.log job ≡ None) }

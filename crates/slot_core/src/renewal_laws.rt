@@ -1,5 +1,5 @@
-//! What is said of a die's renewal, of its checkpoint and of its resumption leaves no choice, and what fits a plan is exactly
-//! an opening. Each law is a function that does nothing.
+//! What is said of a die's renewal, of its checkpoint and of its resumption leaves no choice, and what fits a plan is
+//! exactly an opening. Each law is a function that does nothing.
 
 ghost use Rattle.std.specs.Prelude.{◌≡◌, ◌≢◌, ◌↔◌, List};
 ghost use Rattle.slot_types.specs.declared.plans.DiePlan.{DiePlan};
@@ -7,8 +7,8 @@ ghost use Rattle.slot_types.specs.declared.plans.Shape.{Shape};
 ghost use Rattle.die_checkpoint.specs.declared.checkpoint.Checkpoint.{Checkpoint};
 ghost use Rattle.die_checkpoint.specs.Fits.{Fits};
 ghost use Rattle.flash_die.specs.Flash.{Block};
-ghost use Rattle.die_log.specs.Start.{Start};
-ghost use Rattle.die_log.specs.Opening.{IsOpening, CanBeErased};
+ghost use Rattle.die_log.specs.Model.Start.{Start};
+ghost use Rattle.die_log.specs.Model.Opening.{IsOpening, CanBeErased};
 ghost use Rattle.slot_core.specs.Core.{Core};
 ghost use Rattle.slot_core.specs.Renewals.{MayBeRenewed, RefusesRenewal};
 ghost use Rattle.slot_core.specs.Resumed.{checkpoint_of, start_with, resumed_start, RefusesCheckpoint, RefusesResume};
@@ -19,8 +19,8 @@ ghost use Rattle.slot_core.specs.declared.resumptions.ResumeRefusal.{ResumeRefus
 
 use flash_die::Nand;
 
-/// A checkpoint fits a plan exactly where the start that it makes over a device is an opening each of whose blocks can be
-/// erased in each slot of a life.
+/// A checkpoint fits a plan exactly where the start that it makes over a device is an opening each of whose blocks can
+/// be erased in each slot of a life.
 pub fn what_fits_is_an_opening()
     ensures { (plan : DiePlan) (c : Checkpoint) (blocks : List Block) →
         Fits plan c ↔ (IsOpening (resumed_start plan c blocks) × CanBeErased (resumed_start plan c blocks)) }
@@ -44,8 +44,8 @@ pub fn a_checkpoint_has_one_answer<N: Nand>()
         RefusesCheckpoint before one → RefusesCheckpoint before other → one ≡ other }
 {}
 
-/// A resumption is refused for one cause, and only where the device is of another shape or the checkpoint doesn't fit; but
-/// for want of memory.
+/// A resumption is refused for one cause, and only where the device is of another shape or the checkpoint doesn't fit;
+/// but out of memory.
 pub fn a_resumption_has_one_answer()
     ensures refused { (plan : DiePlan) (c : Checkpoint) (shape : Shape) (one other : ResumeRefusal) →
         RefusesResume plan c shape one → RefusesResume plan c shape other →

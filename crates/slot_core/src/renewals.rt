@@ -2,9 +2,9 @@
 
 ghost use Rattle.std.specs.Prelude.{◌≡◌, ◌≤◌, ◌⊎◌, false, OnOk, OnErr, IfErr, IfSome, IfNone};
 ghost use Rattle.job_table.specs.Order.{IsHead, IsNextReleased, NothingReady, NothingWaiting};
-ghost use Rattle.die_log.specs.Start.{Start};
-ghost use Rattle.die_log.specs.Opening.{IsQuiet};
-ghost use Rattle.slot_core.specs.Renewals.{IsNext, MayBeRenewed, RefusesRenewal, renewed_core};
+ghost use Rattle.die_log.specs.Model.Start.{Start};
+ghost use Rattle.die_log.specs.Model.Opening.{IsQuiet};
+ghost use Rattle.slot_core.specs.Renewals.{IsNextCarried, MayBeRenewed, RefusesRenewal, renewed_core};
 
 use crate::die_core::DieCore;
 use event_log::EventLog;
@@ -22,7 +22,8 @@ pub enum RenewalRefusal {
     /// A job or collection is neither done nor waived. This is its number: of those that are released the one with the
     /// least key, or else the one that is released next.
     NotQuiet { job: u32 },
-    /// A block was erased more than 4,293,918,718 times, so its count might not suffice for a life more: the first such.
+    /// A block was erased more than 4,293,918,718 times, so its count might not suffice for a life more: the first
+    /// such.
     WornOut { block: u32 },
 }
 
@@ -58,9 +59,9 @@ fn next_in(table: &mut JobTable, present: u32) -> Option<JobNo>
 }
 
 impl<N: Nand> DieCore<N> {
-    /// Starts the log anew at a quiet moment, one at which all that was accepted is done or was waived: `now` is 0 again,
-    /// and numbers begin at 0. The device, the pages, the accounts, the erases of the blocks and the reserved slots stay.
-    /// It takes no memory, and keeps that of the log so far; it looks at no page.
+    /// Starts the log anew at a quiet moment, one at which all that was accepted is done or was waived: `now` is 0
+    /// again, and numbers begin at 0. The device, the pages, the accounts, the erases of the blocks and the reserved
+    /// slots stay. It takes no memory, and keeps that of the log so far; it looks at no page.
     ///
     /// Refused with the first cause that stands, as [`RenewalRefusal`] lists them; nothing changes then.
     pub fn renew(&mut self) -> Result<(), RenewalRefusal>
@@ -74,8 +75,9 @@ impl<N: Nand> DieCore<N> {
         Ok(())
     }
 
-    /// Why the die isn't renewed, if it isn't.
-    pub(crate) fn may_renew(&mut self) -> Result<(), RenewalRefusal>
+    /// Whether the die may be renewed, and else why not: what [`renew`](DieCore::renew) would answer now. Nothing that a
+    /// caller sees changes; the queue of released jobs is brought up to the present slot.
+    pub fn may_renew(&mut self) -> Result<(), RenewalRefusal>
         ensures may { OnOk result (MayBeRenewed self.old) }
         ensures refused { IfErr result (RefusesRenewal self.old) }
         ensures unchanged { self.new ≡ self.old }
@@ -96,7 +98,7 @@ impl<N: Nand> DieCore<N> {
     fn next_job(&mut self) -> Option<JobNo>
         requires runs { self.old.stopped ≡ false }
         ensures same { self.new ≡ self.old }
-        ensures next { IfSome result (IsNext self.old.start.plan self.old.log) }
+        ensures next { IfSome result (IsNextCarried self.old.start.plan self.old.log) }
         ensures quiet { IfNone result (IsQuiet self.old.start self.old.log) }
     {
         next_in(&mut self.table, self.present)

@@ -2,9 +2,9 @@
 
 ghost use Rattle.std.specs.Prelude.{◌≡◌, [], false, IfOk, IfErr, OnOk};
 ghost use Rattle.die_checkpoint.specs.Fits.{Fits};
-ghost use Rattle.flash_volume.specs.Resumed.{IsAsLeft};
-ghost use Rattle.die_log.specs.Start.{Start};
-ghost use Rattle.die_log.specs.Opening.{renewed};
+ghost use Rattle.flash_volume.specs.Checkpoints.{IsAsLeft};
+ghost use Rattle.die_log.specs.Model.Start.{Start};
+ghost use Rattle.die_log.specs.Model.Opening.{renewed_start};
 ghost use Rattle.slot_core.specs.Renewals.{MayBeRenewed};
 ghost use Rattle.slot_core.specs.Resumed.{checkpoint_of, resumed_start, RefusesCheckpoint, RefusesResume};
 
@@ -33,8 +33,8 @@ pub enum CheckpointRefusal {
 pub enum ResumeRefusal {
     /// The device is of another shape than the plan.
     OtherDevice,
-    /// The checkpoint doesn't fit the plan, or there is no memory: the first cause, in the order of [`CheckpointFault`]. With
-    /// `NoMemory` all in front of it holds.
+    /// The checkpoint doesn't fit the plan, or there is no memory: the first cause, in the order of
+    /// [`CheckpointFault`]. With `NoMemory` all in front of it holds.
     Unfit { fault: CheckpointFault },
 }
 
@@ -54,19 +54,19 @@ fn start_by<N: Nand>(_plan: &DiePlan, _device: &N, _checkpoint: &Checkpoint) -> 
 }
 
 impl<N: Nand> DieCore<N> {
-    /// What stands at a quiet moment, one at which all that was accepted is done or was waived: where each page lies, by
-    /// block its programmed pages and its erases, the spare pages, and the balances. The die stays as it is.
+    /// What stands at a quiet moment, one at which all that was accepted is done or was waived: where each page lies,
+    /// by block its programmed pages and its erases, the spare pages, and the balances. The die stays as it is.
     ///
-    /// [`resume`](DieCore::resume) goes on from there as [`renew`](DieCore::renew) would have: the checkpoint fits the plan, the
-    /// device is as it says, and the start that it makes is that of the renewed log.
+    /// [`resume`](DieCore::resume) goes on from there as [`renew`](DieCore::renew) would have: the checkpoint fits the
+    /// plan, the device is as it says, and the start that it makes is that of the renewed log.
     ///
     /// Refused as `renew` is, where and with what it is refused; else with `NoMemory`, where there is none.
     pub fn checkpoint(&mut self, alloc: Global) -> Result<Checkpoint, CheckpointRefusal>
-        ensures ok { IfOk result (λ taken. taken ≡ checkpoint_of (renewed self.old.start self.old.log)) }
+        ensures ok { IfOk result (λ taken. taken ≡ checkpoint_of (renewed_start self.old.start self.old.log)) }
         ensures fits { IfOk result (λ taken. Fits self.old.start.plan taken) }
         ensures left { IfOk result (λ taken. IsAsLeft taken (N.blocks self.old.device) (N.failures self.old.device)) }
         ensures goes_on { IfOk result (λ taken. resumed_start self.old.start.plan taken (N.blocks self.old.device)
-            ≡ renewed self.old.start self.old.log) }
+            ≡ renewed_start self.old.start self.old.log) }
         ensures may { OnOk result (MayBeRenewed self.old) }
         ensures refused { IfErr result (RefusesCheckpoint self.old) }
         ensures unchanged { self.new ≡ self.old }
@@ -80,11 +80,11 @@ impl<N: Nand> DieCore<N> {
     /// What stands on a die that may be renewed.
     fn take_checkpoint(&self, alloc: Global) -> Result<Checkpoint, CheckpointRefusal>
         requires may { MayBeRenewed self.now }
-        ensures ok { IfOk result (λ taken. taken ≡ checkpoint_of (renewed self.now.start self.now.log)) }
+        ensures ok { IfOk result (λ taken. taken ≡ checkpoint_of (renewed_start self.now.start self.now.log)) }
         ensures fits { IfOk result (λ taken. Fits self.now.start.plan taken) }
         ensures left { IfOk result (λ taken. IsAsLeft taken (N.blocks self.now.device) (N.failures self.now.device)) }
         ensures goes_on { IfOk result (λ taken. resumed_start self.now.start.plan taken (N.blocks self.now.device)
-            ≡ renewed self.now.start self.now.log) }
+            ≡ renewed_start self.now.start self.now.log) }
         ensures refused { IfErr result (λ refusal. refusal ≡ CheckpointRefusal.NoMemory) }
     {
         match self.volume.checkpoint(alloc) {
@@ -100,15 +100,17 @@ impl<N: Nand> DieCore<N> {
         self.volume.into_device()
     }
 
-    /// A die that goes on from a checkpoint, over a device as it was left: at slot 0, with an empty log. Its pages are what the
-    /// device holds where the checkpoint has them; a page that lies nowhere is blank. No call of the device is made.
+    /// A die that goes on from a checkpoint, over a device as it was left: at slot 0, with an empty log. Its pages are
+    /// what the device holds where the checkpoint has them; a page that lies nowhere is blank. No call of the device is
+    /// made.
     ///
-    /// That the device is of the plan's shape is tested, and so is all of the checkpoint. That the device is as a checkpoint
-    /// that fits says is the caller's to know, since a device can't be asked: so many pages of each block are programmed, it was
-    /// erased so often, no block is in erase, and no call has failed. What the pages hold may be anything.
+    /// That the device is of the plan's shape is tested, and so is all of the checkpoint. That the device is as a
+    /// checkpoint that fits says is the caller's to know, since a device can't be asked: so many pages of each block
+    /// are programmed, it was erased so often, no block is in erase, and no call has failed. What the pages hold may be
+    /// anything.
     ///
-    /// Refused with the first cause that stands, as [`ResumeRefusal`] lists them; the device is handed back then, and the plan is
-    /// given up.
+    /// Refused with the first cause that stands, as [`ResumeRefusal`] lists them; the device is handed back then, and
+    /// the plan is given up.
     pub fn resume(
         alloc: Global,
         plan: DiePlan,

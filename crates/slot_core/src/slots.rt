@@ -6,24 +6,24 @@ ghost use Rattle.event_log.specs.Growth.{AllFit};
 ghost use Rattle.job_table.specs.Order.{NothingReady};
 ghost use Rattle.job_table.specs.Jobs.{JobRecord, is_read};
 ghost use Rattle.job_table.specs.Table.{work_at};
-ghost use Rattle.die_log.specs.Log.{Log};
-ghost use Rattle.die_log.specs.Start.{Start, over};
-ghost use Rattle.die_log.specs.Answers.{answer};
-ghost use Rattle.die_log.specs.Needed.{needed_call};
+ghost use Rattle.die_log.specs.Model.Log.{Log};
+ghost use Rattle.die_log.specs.Model.Start.{Start, over};
+ghost use Rattle.die_log.specs.Model.Answers.{answer};
+ghost use Rattle.die_log.specs.Model.NeededCalls.{needed_call};
 ghost use Rattle.slot_core.specs.Needs.{MakesCall};
 ghost use Rattle.slot_core.specs.Core.{with_entry};
 ghost use Rattle.flash_volume.specs.Faults.{FailsWithDevice};
-ghost use Rattle.slot_core.specs.Calls.{HasCarriedOut, HasRefusedSlot};
+ghost use Rattle.slot_core.specs.Calls.{IsCall, reply_as};
 ghost use Rattle.slot_core.specs.Device.{flash_of};
-ghost use Rattle.slot_core.specs.Kept.{Keeps};
-ghost use Rattle.slot_core.specs.Told.{log_of};
-ghost use Rattle.slot_core.specs.Slotted.{InSlot, HasTurn, idle_reply};
-ghost use Rattle.slot_core.specs.Reserved.{open_collections};
+ghost use Rattle.slot_core.specs.Agreement.{AgreeWithLog};
+ghost use Rattle.slot_core.specs.TableLog.{log_of};
+ghost use Rattle.slot_core.specs.WithinSlot.{InSlot, IsHeadInSlot, idle_reply};
+ghost use Rattle.slot_core.specs.ReservedSlots.{open_collections};
 
 use crate::die_core::DieCore;
-use crate::notes::{deed_of, finished, new_reply, note_turn};
+use crate::head_steps::{begin, take_step};
+use crate::notes::{deed_of, finished, new_reply, note_step};
 use crate::slot_note::SlotNote;
-use crate::turns::{begin, take_turn};
 use event_log::{Deed, EventLog};
 use flash_die::Nand;
 use flash_volume::Volume;
@@ -32,8 +32,8 @@ use log_start::LogStart;
 use slot_types::{Event, JobNo, MAX_SLOT, Refusal, Reply, SlotReply, Waived, WaivedList};
 use std::alloc::Global;
 
-/// Waives the collections that come first and needn't begin, and answers who has the slot: the job or collection with
-/// the least key of those that are left. A collection that has not begun takes its victim.
+/// Waives the collections that come first and needn't begin, into `told`, and answers the head: the job or collection
+/// with the least key of those that are left. A head that is a collection which has not begun takes its victim.
 fn choose<N: Nand>(
     volume: &mut Volume<N>,
     table: &mut JobTable,
@@ -45,7 +45,7 @@ fn choose<N: Nand>(
     requires within { InSlot (over volume.old.accounts.plan from.0) from.1 present told.old (record table.old { clock = present })
         (flash_of N.blocks volume.old) }
     requires clock { table.old.clock ≤ present }
-    ensures turn { IfSome result (HasTurn (over volume.new.accounts.plan from.0) from.1 present told.new table.new (flash_of N.blocks volume.new)) }
+    ensures turn { IfSome result (IsHeadInSlot (over volume.new.accounts.plan from.0) from.1 present told.new table.new (flash_of N.blocks volume.new)) }
     ensures idle { IfNone result (InSlot (over volume.new.accounts.plan from.0) from.1 present told.new table.new (flash_of N.blocks volume.new)
         × NothingReady table.new) }
     ensures closed { open_collections table.new.jobs + length told.new ≤ open_collections table.old.jobs + length told.old }
@@ -71,7 +71,9 @@ fn choose<N: Nand>(
     }
 }
 
-/// Carries out the present slot of a die that isn't stopped, in room that was made. It takes no memory.
+/// Carries out the present slot of a die that isn't stopped, in room that was made, and fills the reply: first the
+/// waivers, then the head's step, which goes into the table and the log. It takes no memory. Clauses say all by the log
+/// so far and its start, which is `from` and `_start`: the fields alone show neither.
 fn carry_out<N: Nand>(
     volume: &mut Volume<N>,
     table: &mut JobTable,
@@ -89,9 +91,9 @@ fn carry_out<N: Nand>(
     requires clock { table.old.clock ≤ present }
     requires entry { 0 < events.old.room }
     requires waivers { open_collections table.old.jobs ≤ events.old.waiver_room }
-    requires kept { Keeps (over volume.old.accounts.plan from.0) from.1 present table.old volume.old.failed (flash_of N.blocks volume.old) }
+    requires kept { AgreeWithLog (over volume.old.accounts.plan from.0) from.1 present table.old volume.old.failed (flash_of N.blocks volume.old) }
     requires unfilled { reply.old ≡ idle_reply present [] }
-    ensures kept { OnOk result (Keeps (over volume.new.accounts.plan from.0) (log_of table.new events.new.notes) (present + 1) table.new volume.new.failed
+    ensures kept { OnOk result (AgreeWithLog (over volume.new.accounts.plan from.0) (log_of table.new events.new.notes) (present + 1) table.new volume.new.failed
         (flash_of N.blocks volume.new)) }
     ensures answered { OnOk result (answer (over volume.old.accounts.plan from.0) from.1 Event.Slot ≡ Reply.Slot reply.new) }
     ensures logged { OnOk result (log_of table.new events.new.notes ≡ with_entry caller Event.Slot (Reply.Slot reply.new) from.1) }
@@ -99,7 +101,7 @@ fn carry_out<N: Nand>(
     ensures fails { FailsWithDevice N.failures N.never_fails result volume.old volume.new }
     ensures log_stays { OnErr result (log_of table.new events.new.notes ≡ log_of table.old events.old.notes) }
     ensures fit { AllFit table.new.jobs events.new.notes }
-    ensures still_kept { OnErr result (Keeps (over volume.new.accounts.plan from.0) (log_of table.new events.new.notes) present table.new
+    ensures still_kept { OnErr result (AgreeWithLog (over volume.new.accounts.plan from.0) (log_of table.new events.new.notes) present table.new
         volume.new.failed (flash_of N.blocks volume.new)) }
     ensures room { events.old.room ≤ events.new.room + 1 }
     ensures waiver_room { open_collections table.new.jobs ≤ events.new.waiver_room }
@@ -113,7 +115,7 @@ fn carry_out<N: Nand>(
     };
     let place = work_of(table, number);
     let turn = match table.job(number) {
-        Some(job) => take_turn(volume, &job),
+        Some(job) => take_step(volume, &job),
         None => unreachable!(),
     };
     match turn {
@@ -122,7 +124,7 @@ fn carry_out<N: Nand>(
             Err(refusal)
         }
         Ok(turn) => {
-            note_turn(table, number, turn, present + 1);
+            note_step(table, number, turn, present + 1);
             let deed = deed_of(number, place, turn);
             events.push_reserved(caller, deed, reply.waived.as_slice());
             reply.ran = Some((number, turn.act));
@@ -145,15 +147,12 @@ fn work_of(table: &JobTable, number: JobNo) -> u32
 }
 
 impl<N: Nand> DieCore<N> {
-    // Carries out the present slot, and fills the reply that is given. So no reply is moved.
-    fn fill_slot(&mut self, caller: u32, reply: &mut SlotReply) -> Result<(), Refusal>
+    /// As [`slot`](DieCore::slot), into a reply as [`new_reply`](crate::new_reply) makes it, so that no reply is moved. Where
+    /// the slot is refused the reply is of no use any more.
+    pub fn fill_slot(&mut self, caller: u32, reply: &mut SlotReply) -> Result<(), Refusal>
         requires unfilled { reply.old ≡ idle_reply 0 [] }
-        ensures stopped { (result ≡ Err Refusal.DieStopped) ↔ (self.old.stopped ≡ true) }
-        ensures carried_out { OnOk result (HasCarriedOut caller reply.new self.old self.new) }
-        ensures refused { IfErr result (λ refusal. HasRefusedSlot N.never_fails refusal self.old self.new) }
-        ensures fault { (result ≡ Err Refusal.DeviceFault) ↔ (N.failures self.new.device ≡ N.failures self.old.device + 1) }
-        ensures calls { MakesCall N.ends N.failures (needed_call self.old.start self.old.log) result self.old.device self.new.device }
-        ensures plan { self.new.start ≡ self.old.start }
+        ensures { IsCall N.ends N.failures N.never_fails caller Event.Slot (reply_as (λ _. Reply.Slot reply.new) result) self.old
+            self.new }
     {
         if self.volume.failed() {
             return Err(Refusal::DieStopped);
@@ -184,25 +183,21 @@ impl<N: Nand> DieCore<N> {
         }
     }
 
-    /// Carries out the present slot. Of what is released and neither done nor waived, the head has the earliest due, of
-    /// equal ones the smallest number. While the head is a collection that has not begun and at least `alpha` pages are
-    /// spare, it is waived, and the next one is the head. The head does one act; without one the slot is idle.
+    /// Carries out the present slot. Of what is released and neither done nor waived, the head has the earliest
+    /// deadline, of equal ones the smallest number. While the head is a collection that has not begun and at least
+    /// `alpha` pages are spare, it is waived, and the next one is the head. The head does one act; without one the slot
+    /// is idle.
     ///
-    /// The refusals, in this order: `DieStopped`, where a fault has stopped the die; `ClockEnd`, where the present slot is
-    /// 1,048,576; `NoMemory`, never while slots are reserved; these change nothing. `DeviceFault`, exactly where a call of
-    /// the device failed: the die is stopped from then on, and its log stays, without this slot's waivers.
+    /// The refusals, in this order: `DieStopped`, where a fault has stopped the die; `ClockEnd`, where the present slot
+    /// is 1,048,576; `NoMemory`, never while slots are reserved; these change nothing. `DeviceFault`, exactly where a
+    /// call of the device failed: the die is stopped from then on, and its log stays, without this slot's waivers.
     ///
-    /// It makes the one call of the device that its act needs, and no other: none where it is idle, trims a page or reads
-    /// one that lies nowhere.
+    /// It makes the one call of the device that its act needs, and no other: none where it is idle, trims a page or
+    /// reads one that lies nowhere.
     ///
     /// While slots are reserved it takes no memory, and where it is answered one of them is used up.
     pub fn slot(&mut self, alloc: Global, caller: u32) -> Result<SlotReply, Refusal>
-        ensures stopped { (result ≡ Err Refusal.DieStopped) ↔ (self.old.stopped ≡ true) }
-        ensures carried_out { IfOk result (λ reply. HasCarriedOut caller reply self.old self.new) }
-        ensures refused { IfErr result (λ refusal. HasRefusedSlot N.never_fails refusal self.old self.new) }
-        ensures fault { (result ≡ Err Refusal.DeviceFault) ↔ (N.failures self.new.device ≡ N.failures self.old.device + 1) }
-        ensures calls { MakesCall N.ends N.failures (needed_call self.old.start self.old.log) result self.old.device self.new.device }
-        ensures plan { self.new.start ≡ self.old.start }
+        ensures { IsCall N.ends N.failures N.never_fails caller Event.Slot (reply_as Reply.Slot result) self.old self.new }
     {
         let mut reply = new_reply(alloc);
         match self.fill_slot(caller, &mut reply) {
@@ -213,12 +208,7 @@ impl<N: Nand> DieCore<N> {
 
     /// As `slot`, and hands back no more than the slot's number.
     pub fn note_slot(&mut self, alloc: Global, caller: u32) -> Result<SlotNote, Refusal>
-        ensures stopped { (result ≡ Err Refusal.DieStopped) ↔ (self.old.stopped ≡ true) }
-        ensures carried_out { IfOk result (λ reply. HasCarriedOut caller reply self.old self.new) }
-        ensures refused { IfErr result (λ refusal. HasRefusedSlot N.never_fails refusal self.old self.new) }
-        ensures fault { (result ≡ Err Refusal.DeviceFault) ↔ (N.failures self.new.device ≡ N.failures self.old.device + 1) }
-        ensures calls { MakesCall N.ends N.failures (needed_call self.old.start self.old.log) result self.old.device self.new.device }
-        ensures plan { self.new.start ≡ self.old.start }
+        ensures { IsCall N.ends N.failures N.never_fails caller Event.Slot (reply_as Reply.Slot result) self.old self.new }
     {
         let mut reply = new_reply(alloc);
         match self.fill_slot(caller, &mut reply) {

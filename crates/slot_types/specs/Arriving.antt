@@ -7,9 +7,9 @@ abbrev pub arrives_by : {A : Type 0} → (A → ℕ) → ℕ → A → Bool
 arrives_by at slot x = nat_le (at x) slot
 
 -- the elements in front that arrive by a slot
-abbrev pub arrived : {A : Type 0} → (A → ℕ) → ℕ → List A → List A
-arrived at slot xs = take_while (arrives_by at slot) xs
+abbrev pub arrivals_by : {A : Type 0} → (A → ℕ) → ℕ → List A → List A
+arrivals_by at slot xs = take_while (arrives_by at slot) xs
 
--- the elements behind these
-abbrev pub coming : {A : Type 0} → (A → ℕ) → ℕ → List A → List A
-coming at slot xs = drop (prefix_len (arrives_by at slot) xs) xs
+-- the elements after these
+abbrev pub arrivals_after : {A : Type 0} → (A → ℕ) → ℕ → List A → List A
+arrivals_after at slot xs = drop (prefix_len (arrives_by at slot) xs) xs

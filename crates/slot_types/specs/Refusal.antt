@@ -33,6 +33,6 @@ number_of WriteFault = 22
 number_of PassesFull = 23
 number_of (PassesOut out) = 24
 
--- if a call was refused, it was for want of memory alone
+-- if a call was refused, it was out of memory alone
 abbrev pub FailsForMemory : {A : Type 0} → Result A Refusal → Type 0
 FailsForMemory result = IfErr result (λ refusal. refusal ≡ NoMemory)

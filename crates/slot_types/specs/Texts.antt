@@ -1,4 +1,4 @@
--- How a refusal is told.
+-- How a refusal is reported.
 use Rattle.std.specs.Prelude.{ℕ, List, ◌++◌, codes, decimal}
 use Rattle.slot_types.specs.declared.refusals.Cause.{Cause}
 use Rattle.slot_types.specs.declared.refusals.Cause.TheVariants.{TooLong, NotToml, ExtraKey, MissingKey, WrongKind, BadVersion, TooManyRows}

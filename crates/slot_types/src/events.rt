@@ -22,14 +22,14 @@ pub type OpList = Items<Op>;
 /// What may happen on a die.
 #[derive(Clone, PartialEq, Eq, Debug, Drop)]
 pub enum Event {
-    /// A job arrives, to run from slot `release` on and to be done by `due`.
+    /// A job arrives, to run from slot `release` on, with the deadline `due`.
     Submit {
         task: TaskNo,
         release: u32,
         due: u32,
         ops: OpList,
     },
-    /// A collection arrives for a task.
+    /// A collection arrives for a task, likewise.
     Collect {
         task: TaskNo,
         release: u32,
@@ -45,14 +45,14 @@ pub struct JobHead {
     /// Whether it is a collection.
     pub collects: bool,
     pub task: TaskNo,
-    /// The slot from which on it may run.
+    /// The slot from which on it may run, from the present one on.
     pub release: u32,
-    /// The slot before which it is to be done.
+    /// Its deadline: the slot before which it is to be done, above its release and at most 1,048,576.
     pub due: u32,
 }
 
 impl JobHead {
-    /// The event that it arrives by, with its operations. A collection lets them go.
+    /// The event that it arrives by, with its operations. A collection frees them.
     pub fn with_ops(self, ops: OpList) -> Event
         ensures { result ≡ arrival_of self ops }
     {

@@ -3,7 +3,9 @@
 ghost use Rattle.std.specs.Prelude.{◌≡◌, ◌∷◌, ◌++◌, ◌==◌, [], length, OnOk, OnErr, slice_get, option_copied};
 ghost use Rattle.std.specs.Cmp.Lexicographic.{pointwise, lists_per, lists_equiv};
 ghost use Rattle.std.specs.List.{AllZip};
+ghost use Rattle.slot_types.specs.Refusal.{FailsForMemory};
 
+use crate::refusals::Refusal;
 use std::alloc::{AllocError, Global};
 use std::fmt;
 use std::fmt::{Debug, Formatter, Write};
@@ -80,17 +82,17 @@ impl<T> Items<T> {
 }
 
 impl<T: Drop> Items<T> {
-    /// Adds an item at the end. Without memory for it the list stays as it was, and the item is let go: the answer is then
-    /// std's `AllocError`, its only fault, of which `?` makes `NoMemory` where a [`Refusal`](crate::Refusal) is answered.
-    pub fn push(&mut self, item: T) -> Result<(), AllocError>
+    /// Adds an item at the end. Without memory for it (`NoMemory`) the list stays as it was, and the item is freed.
+    pub fn push(&mut self, item: T) -> Result<(), Refusal>
         ensures ok { OnOk result (self.new ≡ self.old ++ item ∷ []) }
+        ensures refused { FailsForMemory result }
         ensures err { OnErr result (self.new ≡ self.old) }
     {
         self.items.push(item)?;
         Ok(())
     }
 
-    /// Lets all items go, and keeps their memory.
+    /// Frees all items, and keeps their memory.
     pub fn clear(&mut self)
         ensures { self.new ≡ [] }
     {

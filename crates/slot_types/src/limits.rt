@@ -27,7 +27,7 @@ pub const MAX_OPS: u32 = 64;
 /// The most jobs and collections that a die accepts.
 pub const MAX_JOBS: u32 = 65_536;
 
-/// The last present slot that a die reaches, and the last due that it accepts.
+/// The last present slot that a die reaches, and the last deadline that it accepts.
 pub const MAX_SLOT: u32 = 1_048_576;
 
 /// The most passes that are made for a die.

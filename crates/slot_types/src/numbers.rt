@@ -2,7 +2,7 @@
 
 use std::marker::Model;
 
-/// The number of a job or of a collection on its die: 0, 1, 2, .. in order of acceptance.
+/// The number of a job or of a collection on its die: 0, 1, 2, .. to at most 65,535, in order of acceptance.
 #[derive(Clone, Copy, PartialEq, Eq, PartialOrd, Ord, Default, Debug, Drop)]
 pub struct JobNo(pub u32);
 
@@ -16,7 +16,7 @@ impl Model for JobNo {
     ghost inverse = { λ n. record { 0 = n } };
 }
 
-/// The number of a task on its die, from 0.
+/// The number of a task on its die, from 0 to at most 15.
 #[derive(Clone, Copy, PartialEq, Eq, PartialOrd, Ord, Debug, Drop)]
 pub struct TaskNo(pub u32);
 

@@ -31,17 +31,17 @@ impl Shape {
     }
 }
 
-/// By task the most free pages that it may own tokens for.
+/// By task, of which there are 1 to 16, the most free pages that it may own tokens for: at least 1.
 pub type Caps = Items<u32>;
 
 /// What a task asks for. All times are in slots.
 #[derive(Clone, Copy, PartialEq, Eq, Debug, Drop)]
 pub struct TaskTimes {
-    /// A job of the task comes at most once in so many slots, and has as long to be done.
+    /// A job of the task comes at most once in so many slots, 1 to 1,048,576, and has as long to be done.
     pub period: u32,
-    /// A collection comes at each multiple of this, and has as long to be done.
+    /// A collection comes at each multiple of this, 1 to 1,048,576, and has as long to be done.
     pub collect_period: u32,
-    /// The most operations of a job.
+    /// The most operations of a job: 1 to 64.
     pub work: u32,
     /// The most writes among these.
     pub writes: u32,
@@ -53,7 +53,8 @@ pub type TimesList = Items<TaskTimes>;
 /// What the tasks of a die ask for.
 #[derive(Clone, PartialEq, Eq, Debug, Drop)]
 pub struct Times {
-    /// A number of slots that is a multiple of all periods. The load is counted for so many.
+    /// The hyperperiod: a multiple of all periods, 1 to 1,048,576. The demand is what all tasks ask for in so many
+    /// slots.
     pub common: u32,
     pub tasks: TimesList,
 }
@@ -62,9 +63,9 @@ pub struct Times {
 #[derive(Clone, PartialEq, Eq, Debug, Drop)]
 pub struct DiePlan {
     pub shape: Shape,
-    /// How many logical pages it keeps.
+    /// How many logical pages it keeps: at least 1.
     pub logical: u32,
-    /// The most pages that a collection gives its task.
+    /// The most pages that a collection gives its task: 1 to the pages of a block.
     pub alpha: u32,
     pub caps: Caps,
     /// When the tasks ask, and for how much; none where the plan doesn't say.

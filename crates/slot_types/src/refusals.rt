@@ -4,7 +4,7 @@ ghost use Rattle.std.specs.Prelude.{◌≡◌, Some};
 ghost use Rattle.slot_types.specs.Refusal.{number_of};
 ghost use Rattle.slot_types.specs.Texts.{cause_text, refusal_text};
 
-use std::alloc::AllocError;
+use std::alloc::{AllocError, AllocFailed};
 use std::fmt;
 use std::fmt::{Display, Formatter, Write};
 
@@ -47,7 +47,8 @@ pub enum Refusal {
     NoMemory,
     /// Blocks, pages, erase slots or dies out of their limits, or a device of another shape.
     BadShape,
-    /// Any other number of a plan out of its limits, the plan's bound not met, or another number of devices than dies.
+    /// Any other number of a plan out of its limits, the plan's bound not met, the test of its times not passed, or
+    /// another number of devices than dies.
     BadPlan,
     UnknownDie,
     UnknownTask,
@@ -59,7 +60,7 @@ pub enum Refusal {
     BadPage { page: u32 },
     /// A release below the present slot.
     ReleasePast { now: u32 },
-    /// A due that isn't above its release, or is above 1,048,576.
+    /// A deadline that isn't above its release, or is above 1,048,576.
     BadDue,
     /// 65,536 jobs and collections were accepted.
     JobsFull,
@@ -188,5 +189,16 @@ impl Display for Refusal {
             Refusal::PassesFull => f.write_str("PassesFull"),
             Refusal::PassesOut { out } => write!(f, "PassesOut {out}"),
         }
+    }
+}
+
+impl<T: Drop> From<AllocFailed<T>> for Refusal {
+    ghost use Rattle.std.specs.Prelude.{◌≡◌};
+    ghost use Rattle.slot_types.specs.declared.refusals.Refusal.TheVariants.{NoMemory};
+
+    ghost from_gives = { λ _ refusal. refusal ≡ NoMemory };
+
+    fn from(_: AllocFailed<T>) -> Self {
+        Refusal::NoMemory
     }
 }

@@ -3,7 +3,9 @@
 ghost use Rattle.std.specs.Prelude.{◌≡◌, ◌<◌, ◌∷◌, ◌++◌, ◌==◌, [], length, IsOk, OnOk, OnErr, slice_get, option_copied};
 ghost use Rattle.std.specs.Cmp.Lexicographic.{pointwise, lists_per, lists_equiv};
 ghost use Rattle.std.specs.List.{AllZip};
+ghost use Rattle.slot_types.specs.Refusal.{FailsForMemory};
 
+use crate::refusals::Refusal;
 use smallvec::SmallVec;
 use std::alloc::{AllocError, Global};
 use std::default::MadeWith;
@@ -79,10 +81,11 @@ impl<T: MadeWith<Global> + Drop> ShortItems<T> {
         }
     }
 
-    /// Adds an item at the end. With fewer than sixteen items this takes no memory. Without memory for more of them the
-    /// list stays as it was, and the item is let go.
-    pub fn push(&mut self, item: T) -> Result<(), AllocError>
+    /// Adds an item at the end. With fewer than sixteen items this takes no memory. Without memory for more of them
+    /// (`NoMemory`) the list stays as it was, and the item is freed.
+    pub fn push(&mut self, item: T) -> Result<(), Refusal>
         ensures ok { OnOk result (self.new ≡ self.old ++ item ∷ []) }
+        ensures refused { FailsForMemory result }
         ensures err { OnErr result (self.new ≡ self.old) }
         ensures within { length self.old < 16 → IsOk result }
     {

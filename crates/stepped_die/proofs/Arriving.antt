@@ -18,18 +18,18 @@ use Rattle.slot_types.specs.declared.replies.Reply.TheVariants as replies
 use Rattle.slot_types.specs.declared.replies.Reply.TheVariants.{Taken}
 use Rattle.slot_types.specs.declared.replies.Waived.{Waived}
 use Rattle.slot_types.specs.Operations.{writes}
-use Rattle.plan_rules.specs.Accounts.{Accounts, owned_of, given_of, admitted, waived}
+use Rattle.plan_rules.specs.Accounts.{Accounts, owned_of, given_of, accounts_after_admit, accounts_after_waiver}
 use Rattle.plan_rules.proofs.Owned.{admitted_owned, waived_others}
-use Rattle.die_log.specs.Start.{Start}
-use Rattle.die_log.specs.Log.{Log, Job, jobs, now, acts, work}
-use Rattle.die_log.specs.Flash.{cells, block_at, is_closed, ran_by}
-use Rattle.die_log.specs.Work.{ready, is_ready, least, victim_of}
-use Rattle.die_log.specs.Accounts.{accounts}
-use Rattle.die_log.specs.Answers.{Choice, choice, choice_among, chosen, weighed, with_waiver, without, is_waivable, answer, answer_by}
-use Rattle.die_log.specs.Answers.{accepted, refusals, refusal_of, is_running, is_collected, is_block, goes_before, victim, block_for}
-use Rattle.die_log.specs.Answers.{act_for, act_of_op, collect_act, buffer_after, reply_with, slot_reply, IsExact, IsAccepted}
-use Rattle.die_log.specs.Needed.{call_by, needed_call}
-use Rattle.die_log.specs.Opening.{IsOpening}
+use Rattle.die_log.specs.Model.Start.{Start}
+use Rattle.die_log.specs.Model.Log.{Log, Job, jobs, now, acts, work}
+use Rattle.die_log.specs.Model.Flash.{cells, block_at, is_closed, ran_by}
+use Rattle.die_log.specs.Model.Work.{ready, is_ready, least, victim_of}
+use Rattle.die_log.specs.Model.Accounts.{accounts}
+use Rattle.die_log.specs.Model.Answers.{Choice, choice, choice_among, choice_by_head, head_or_waiver, with_waiver, without, is_waivable, answer, answer_by}
+use Rattle.die_log.specs.Model.Answers.{reply_if_accepted, refusals, refusal_of, is_running, is_collected, is_block, goes_before, victim, block_for}
+use Rattle.die_log.specs.Model.Answers.{act_for, act_of_op, collect_act, buffer_after, reply_with, slot_reply, IsExact, IsAccepted}
+use Rattle.die_log.specs.Model.NeededCalls.{call_by, needed_call}
+use Rattle.die_log.specs.Model.Opening.{IsOpening}
 use Rattle.die_log.proofs.Collecting.{no_acts}
 use Rattle.die_log.proofs.Legal.Exact.{stands_well}
 use Rattle.die_log.proofs.Legality.{none_stands, taken_answer}
@@ -55,7 +55,7 @@ past_all xs task value past =
     get_or_past (slice_set xs task value) task 0 (omega (arith, past, length-set xs task value)) ∙ sym (get_or_past xs task 0 past)
 
 -- what the task itself owns after a waiver
-waived_own : (a b : Accounts) (task : ℕ) → Alike a b → owned_of (waived a task) task ≡ owned_of (waived b task) task
+waived_own : (a b : Accounts) (task : ℕ) → Alike a b → owned_of (accounts_after_waiver a task) task ≡ owned_of (accounts_after_waiver b task) task
 waived_own a b task h =
     elim (cases_lt task (length a.balances)) [
       | inl below ↦ omega (
@@ -73,15 +73,15 @@ waived_own a b task h =
       )
     ]
 
-waived_alike : (a b : Accounts) (task : ℕ) → Alike a b → Alike (waived a task) (waived b task)
+waived_alike : (a b : Accounts) (task : ℕ) → Alike a b → Alike (accounts_after_waiver a task) (accounts_after_waiver b task)
 waived_alike a b task h = record {
   plan = h.plan;
   spare = omega (arith, h.spare, given_alike a b task h);
   len = length-set a.balances task (get_or a.balances task 0 + given_of a task) ∙ h.len
       ∙ sym (length-set b.balances task (get_or b.balances task 0 + given_of b task));
   owned = λ other. elim (cases_eq other task) [
-    | inl same ↦ ap (λ (t : ℕ). owned_of (waived a task) t) same ∙ waived_own a b task h
-        ∙ ap (λ (t : ℕ). owned_of (waived b task) t) (sym same)
+    | inl same ↦ ap (λ (t : ℕ). owned_of (accounts_after_waiver a task) t) same ∙ waived_own a b task h
+        ∙ ap (λ (t : ℕ). owned_of (accounts_after_waiver b task) t) (sym same)
     | inr apart ↦ waived_others a task other apart ∙ h.owned other ∙ sym (waived_others b task other apart)
   ];
 }
@@ -98,19 +98,19 @@ module _ (plan : DiePlan) (past later : Log) (works : (number : ℕ) → work nu
       ∙ ap (λ (n : ℕ). j.collects && (work j.number past == 0) && nat_le plan.alpha n) h.spare
 
   weighed_alike : (a b : Accounts) (waiting : List Job) (f g : Accounts → List Job → Choice) (j : Job) (v : Bool)
-      → ((x y : Accounts) (rest : List Job) → Alike x y → f x rest ≡ g y rest) → Alike a b → weighed a waiting f j v ≡ weighed b waiting g j v
+      → ((x y : Accounts) (rest : List Job) → Alike x y → f x rest ≡ g y rest) → Alike a b → head_or_waiver a waiting f j v ≡ head_or_waiver b waiting g j v
   weighed_alike a b waiting f g j true same h =
-      ap (λ (n : ℕ). with_waiver (record { number = j.number; given = n }) (f (waived a j.task) (without j waiting))) (given_alike a b j.task h)
+      ap (λ (n : ℕ). with_waiver (record { number = j.number; given = n }) (f (accounts_after_waiver a j.task) (without j waiting))) (given_alike a b j.task h)
       ∙ ap (λ (c : Choice). with_waiver (record { number = j.number; given = given_of b j.task }) c)
-      (same (waived a j.task) (waived b j.task) (without j waiting) (waived_alike a b j.task h))
+      (same (accounts_after_waiver a j.task) (accounts_after_waiver b j.task) (without j waiting) (waived_alike a b j.task h))
   weighed_alike a b waiting f g j false same h = refl
 
   chosen_alike : (a b : Accounts) (waiting : List Job) (f g : Accounts → List Job → Choice) (o : Option Job)
       → ((x y : Accounts) (rest : List Job) → Alike x y → f x rest ≡ g y rest) → Alike a b
-      → chosen plan later a waiting f o ≡ chosen plan past b waiting g o
+      → choice_by_head plan later a waiting f o ≡ choice_by_head plan past b waiting g o
   chosen_alike a b waiting f g None same h = refl
   chosen_alike a b waiting f g (Some j) same h =
-      ap (weighed a waiting f j) (waivable_alike a b j h) ∙ weighed_alike a b waiting f g j (is_waivable plan past b j) same h
+      ap (head_or_waiver a waiting f j) (waivable_alike a b j h) ∙ weighed_alike a b waiting f g j (is_waivable plan past b j) same h
 
   choice_alike : (turns : ℕ) (a b : Accounts) (waiting : List Job) → Alike a b
       → choice_among plan later turns a waiting ≡ choice_among plan past turns b waiting
@@ -192,7 +192,7 @@ module _ (start : Start) (past : Log) (caller : ℕ) (event : Event) (number : �
   reply_same ws None = refl
   reply_same ws (Some h) = ap (reply_with start.plan past ws h) (act_same h)
 
-  accepted_same : accepted start later events.Slot ≡ accepted start past events.Slot
+  accepted_same : reply_if_accepted start later events.Slot ≡ reply_if_accepted start past events.Slot
   accepted_same =
       ap (λ (c : Choice). replies.Slot (slot_reply start later c.waived c.head)) choice_same
       ∙ ap replies.Slot (reply_same (choice start past).waived (choice start past).head)
@@ -226,7 +226,7 @@ enough have need h = grind (arith, nat_tests)
 -- an accepted job moves tokens of its task, which owns as many as before
 admitted_alike : (start : Start) (past : Log) (task : ℕ) (ops : List Op) → IsOpening start → IsExact start past
     → task < length start.plan.caps → writes ops ≤ slice_index (accounts start past).balances task
-    → Alike (admitted (accounts start past) task (writes ops)) (accounts start past)
+    → Alike (accounts_after_admit (accounts start past) task (writes ops)) (accounts start past)
 admitted_alike start past task ops opens exact task_is have =
     let a = accounts start past in
     let agree = (stands_well start opens past exact).1.true_accounts.agree in
@@ -239,7 +239,7 @@ admitted_alike start past task ops opens exact task_is have =
     }
 
 taken_is : (start : Start) (past : Log) (event : Event) (number : ℕ) → answer start past event ≡ Taken number
-    → (refusal_of start past event ≡ None) × (answer start past event ≡ accepted start past event)
+    → (refusal_of start past event ≡ None) × (answer start past event ≡ reply_if_accepted start past event)
 taken_is start past event number e = taken_answer start past event (subst IsAccepted (sym e) tt)
 
 alike_self : (a : Accounts) → Alike a a

@@ -1,36 +1,37 @@
--- What becomes of a slot that has begun: it is carried out, or it fails, and an arrival behind it leaves it as it is.
-use Rattle.std.proofs.Common.{◌≡◌, ℕ, ◌+◌, ◌<◌, Bool, true, false, Option, Some, None, Ok, Err, refl, sym, ap, subst, ◌∙◌, inl, inr}
-use Rattle.std.specs.Prelude.{◌⊎◌, Result, IfSome, IfOk, IfErr}
+-- What becomes of a slot that has begun: it is carried out, or it fails, and an arrival after it leaves it as it is.
+use Rattle.std.proofs.Common.{◌≡◌, ℕ, ◌+◌, ◌<◌, Bool, true, false, Option, Some, None, Ok, Err, refl, sym, ap, subst, ◌∙◌, inl, inr, arith}
+use Rattle.std.specs.Prelude.{Result, IfSome}
 use Rattle.std.proofs.lemmas.Bool.{true≢false, cases_lt}
 use Rattle.slot_types.specs.declared.pages.PageData.{PageData}
+use Rattle.slot_types.specs.Arrivals.{IsArrival}
 use Rattle.slot_types.specs.declared.events.Event.{Event}
 use Rattle.slot_types.specs.declared.events.Event.TheVariants as events
 use Rattle.slot_types.specs.declared.refusals.Refusal.{Refusal}
-use Rattle.slot_types.specs.declared.refusals.Refusal.TheVariants.{DeviceFault}
 use Rattle.slot_types.specs.declared.replies.SlotReply.{SlotReply}
-use Rattle.slot_types.specs.declared.replies.Reply.{Reply}
 use Rattle.slot_types.specs.declared.replies.Reply.TheVariants as replies
 use Rattle.flash_die.specs.declared.nand.NandCall.{NandCall}
 use Rattle.flash_die.specs.declared.nand.NandCall.TheVariants as needs
-use Rattle.flash_die.specs.Faulty.{Faulty, EndsAsTold, armed_of}
+use Rattle.flash_die.specs.Faulty.{Faulty, EndsAsTold, armed_device}
 use Rattle.flash_die.specs.Memory.{Memory}
-use Rattle.die_log.specs.Log.{now}
-use Rattle.die_log.specs.Answers.{answer, accepted, IsAccepted}
-use Rattle.die_log.specs.Needed.{needed_call}
-use Rattle.die_log.specs.Promised.{KeepsPromises}
-use Rattle.die_log.specs.Start.{Start}
+use Rattle.die_log.specs.Model.Log.{now}
+use Rattle.die_log.specs.Model.Answers.{answer, reply_if_accepted}
+use Rattle.die_log.specs.Model.NeededCalls.{needed_call}
+use Rattle.die_log.specs.Results.Promises.{KeepsPromises}
 use Rattle.die_log.proofs.Legality.{accepted_answer}
-use Rattle.slot_core.specs.Calls.{HasTaken, HasRefusedArrival, HasCarriedOut, HasRefusedSlot, RefusedBy}
+use Rattle.slot_core.specs.Calls.{HasEntered, FindsFault, RefusesCall, IsCall, reply_as}
 use Rattle.slot_core.specs.Core.{Core}
-use Rattle.slot_core.specs.Needs.{Made, MadeAndFailed, MakesCall}
+use Rattle.slot_core.specs.Needs.{IsOnlyCall, MadeAndFailed}
+use Rattle.slot_core.proofs.Calling.{has_entered, arrival_stays}
 use Rattle.slot_core.proofs.Slotting.{slot_unrefused}
 use Rattle.stepped_die.specs.declared.calls.Begun.{Begun}
 use Rattle.stepped_die.specs.declared.calls.Call.{Call}
 use Rattle.stepped_die.specs.declared.mirror.MirrorNand.{MirrorNand}
+use Rattle.stepped_die.specs.declared.refusals.StepRefusal.{StepRefusal}
+use Rattle.stepped_die.specs.declared.refusals.StepRefusal.TheVariants as refuses
 use Rattle.stepped_die.specs.Arrivals.{WaitsBehind}
 use Rattle.stepped_die.specs.Steps.{HasEnded, HasFailed, HoldsBack}
 use Rattle.stepped_die.specs.Stepped.{Stepped, IsPresent, IsStepped, mirror_of}
-use Rattle.stepped_die.specs.Told.{DoesWell, IsDone, Changes, told_by}
+use Rattle.stepped_die.specs.DeviceCalls.{DoesWell, IsDone, Changes, told_by}
 use Rattle.stepped_die.proofs.Arriving.{arrival_leaves}
 
 abbrev pub Mirror : Type 0
@@ -47,26 +48,20 @@ failures f = 0 + f.failed
 
 -- Refusals
 
-not_refused : (start : Start) (r : Reply) (refusal : Refusal) → (s : SlotReply) → r ≡ replies.Slot s → r ≡ replies.Refused refusal → ⊥
-not_refused start r refusal s is e = absurd (cc)
+not_refused : (s : SlotReply) (r : Refusal) → replies.Slot s ≡ replies.Refused r → ⊥
+not_refused s r is = absurd cc
 
 -- the log accepts the slot, so it is refused for a fault alone
 pub refused_for_fault : (before after : Core Mirror) (begun : Begun) (r : Refusal) → before.stopped ≡ false → IsPresent before begun
-    → HasRefusedSlot false r before after → r ≡ DeviceFault
-refused_for_fault before after begun r runs h refused = by_cause (refused.cause runs)
+    → RefusesCall events.Slot r before after → FindsFault events.Slot r before after
+refused_for_fault before after begun r runs h (inl own) = absurd (not_refused _ r (sym accepts ∙ own.answered))
   where
-    accepts : answer before.start before.log events.Slot ≡ accepted before.start before.log events.Slot
+    accepts : answer before.start before.log events.Slot ≡ reply_if_accepted before.start before.log events.Slot
     accepts = accepted_answer before.start before.log events.Slot
         (slot_unrefused before.start before.log (now before.log) refl h.few)
-
-    by_log : RefusedBy before.start before.log events.Slot r → ⊥
-    by_log (inl is) = not_refused before.start (answer before.start before.log events.Slot) r _ accepts is
-    by_log (inr full) = refused.memory h.reserved full.1
-
-    by_cause : RefusedBy before.start before.log events.Slot r
-        ⊎ (IsAccepted (answer before.start before.log events.Slot) × (r ≡ DeviceFault)) → r ≡ DeviceFault
-    by_cause (inl is) = absurd (by_log is)
-    by_cause (inr fault) = fault.1
+refused_for_fault before after begun r runs h (inr (inl memory)) = absurd (omega (arith, h.reserved, memory.unreserved refl))
+refused_for_fault before after begun r runs h (inr (inr (inl fault))) = fault
+refused_for_fault before after begun r runs h (inr (inr (inr stopped))) = absurd (true≢false (sym stopped.was_stopped ∙ runs))
 
 -- a mirror that passes its calls on has no fault
 no_fault : (needed : Option NandCall) (before after : Mirror) → before.armed ≡ false → MadeAndFailed ends needed before after → ⊥
@@ -74,15 +69,14 @@ no_fault needed before after passes m = true≢false (sym ((m.ended.free passes)
 
 -- so a slot that has begun is carried out
 pub not_refused_here : (before after : Core Mirror) (begun : Begun) (r : Refusal) → before.stopped ≡ false → before.device.armed ≡ false
-    → IsPresent before begun → HasRefusedSlot false r before after
-    → MakesCall {A = SlotReply} ends failures (needed_call before.start before.log) (Err r) before.device after.device → ⊥
-not_refused_here before after begun r runs passes h refused makes =
+    → IsPresent before begun → IsCall ends failures false begun.caller events.Slot (Err r) before after → ⊥
+not_refused_here before after begun r runs passes h call =
     no_fault (needed_call before.start before.log) before.device after.device passes
-    (makes.fault (refused_for_fault before after begun r runs h refused))
+    (call.device.failed (ap Err (refused_for_fault before after begun r runs h call.ended).refusal_is))
 
 -- an armed mirror carries out no call
 made_armed : (needed : Option NandCall) (before after : Mirror) → before.armed ≡ true → (needed ≡ None → ⊥)
-    → Made ends needed true before after → ⊥
+    → IsOnlyCall ends needed true before after → ⊥
 made_armed None before after armed some m = some refl
 made_armed (Some call) before after armed some m = true≢false ((m.told armed).fails)
 
@@ -94,38 +88,41 @@ undone_is_call device needed call ok bytes is undone none =
 
 pub not_carried_out : (before after : Core Mirror) (begun : Begun) (reply : SlotReply) (ok : Bool) (bytes : PageData)
     → before.device.armed ≡ true → IsPresent before begun → ¬ IsDone begun.call ok bytes
-    → MakesCall {A = SlotReply} ends failures (needed_call before.start before.log) (Ok reply) before.device after.device → ⊥
-not_carried_out before after begun reply ok bytes armed h undone makes =
+    → IsCall ends failures false begun.caller events.Slot (Ok (replies.Slot reply)) before after → ⊥
+not_carried_out before after begun reply ok bytes armed h undone call =
     made_armed (needed_call before.start before.log) before.device after.device armed
-    (undone_is_call (mirror_of before) (needed_call before.start before.log) begun.call ok bytes h.call_is undone) makes.made
+    (undone_is_call (mirror_of before) (needed_call before.start before.log) begun.call ok bytes h.call_is undone) call.device.made
 
--- What was told was made
+-- What was asked was made
 
-changes_by : (needed : Option NandCall) (before after : Mirror) → before.armed ≡ false → Made ends needed true before after
+changes_by : (needed : Option NandCall) (before after : Mirror) → before.armed ≡ false → IsOnlyCall ends needed true before after
     → Changes before.inner.memory (told_by before.inner.memory needed) after.inner.memory
 changes_by None before after passes m = ap (λ (d : Mirror). d.inner.memory) m
 changes_by (Some (needs.Read place)) before after passes m = ((m.free passes).inner.does, refl)
 changes_by (Some (needs.Program place bytes)) before after passes m = (m.free passes).inner.does
 changes_by (Some (needs.EraseSlot block)) before after passes m = ((m.free passes).inner.does, refl)
 
-passes_by : (needed : Option NandCall) (before after : Mirror) → before.armed ≡ false → Made ends needed true before after → after.armed
+passes_by : (needed : Option NandCall) (before after : Mirror) → before.armed ≡ false → IsOnlyCall ends needed true before after → after.armed
     ≡ false
 passes_by None before after passes m = ap (λ (d : Mirror). d.armed) m ∙ passes
 passes_by (Some call) before after passes m = (m.free passes).armed ∙ passes
 
 pub called : (before after : Core Mirror) (begun : Begun) (reply : SlotReply) → before.device.armed ≡ false → IsPresent before begun
-    → MakesCall {A = SlotReply} ends failures (needed_call before.start before.log) (Ok reply) before.device after.device
+    → IsCall ends failures false begun.caller events.Slot (Ok (replies.Slot reply)) before after
     → Changes (mirror_of before) begun.call (mirror_of after) × (after.device.armed ≡ false)
-called before after begun reply passes h makes = (
+called before after begun reply passes h call = (
   subst (λ (c : Option Call). Changes (mirror_of before) c (mirror_of after)) (sym h.call_is)
-      (changes_by (needed_call before.start before.log) before.device after.device passes makes.made),
-  passes_by (needed_call before.start before.log) before.device after.device passes makes.made,
+      (changes_by (needed_call before.start before.log) before.device after.device passes call.device.made),
+  passes_by (needed_call before.start before.log) before.device after.device passes call.device.made,
 )
 
 -- Arrivals
 
+pub die_is : {T : Type 0} (r s : Refusal) → ◌≡◌ {A = Result T StepRefusal} (Err (refuses.Die r)) (Err (refuses.Die s)) → r ≡ s
+die_is r s e = cc
+
 present_stays : (before : Core Mirror) (caller : ℕ) (event : Event) (number : ℕ) (begun : Begun) (after : Core Mirror)
-    → KeepsPromises before.start before.log → HasTaken caller event number before after → WaitsBehind (now before.log) event
+    → KeepsPromises before.start before.log → HasEntered caller event number before after → WaitsBehind (now before.log) event
     → IsPresent before begun → IsPresent after begun
 present_stays before caller event number begun after keeps taken behind h =
     let same = (arrival_leaves before.start before.log caller event number keeps.opens keeps.exact taken.answered behind).1 in
@@ -137,16 +134,16 @@ present_stays before caller event number begun after keeps taken behind h =
     })
 
 begun_stays : (o : Option Begun) (before : Core Mirror) (caller : ℕ) (event : Event) (number : ℕ) (after : Core Mirror)
-    → KeepsPromises before.start before.log → HasTaken caller event number before after
+    → KeepsPromises before.start before.log → HasEntered caller event number before after
     → IfSome o (λ b. WaitsBehind b.slot event) → IfSome o (IsPresent before) → IfSome o (IsPresent after)
 begun_stays None before caller event number after keeps taken behind h = tt
 begun_stays (Some b) before caller event number after keeps taken behind h =
     present_stays before caller event number b after keeps taken
     (subst (λ (n : ℕ). WaitsBehind n event) h.slot_is behind) h
 
--- a die goes on with its slot, whatever arrives behind it
+-- a die goes on with its slot, whatever arrives after it
 pub arrival_keeps : (die : Stepped) (caller : ℕ) (event : Event) (number : ℕ) (after : Core Mirror)
-    → IsStepped die → KeepsPromises die.core.start die.core.log → HasTaken caller event number die.core after
+    → IsStepped die → KeepsPromises die.core.start die.core.log → HasEntered caller event number die.core after
     → IfSome die.begun (λ b. WaitsBehind b.slot event) → IsStepped (record die { core = after })
 arrival_keeps die caller event number after h keeps taken behind = record {
   passes = λ runs. ap (λ (c : Core Mirror). c.device.armed) taken.logged ∙ h.passes (sym stopped ∙ runs);
@@ -172,21 +169,23 @@ none_held before begun release held is h e =
 
 -- whether it was accepted or not
 pub answer_keeps : (core : Core Mirror) (begun : Option Begun) (caller : ℕ) (event : Event) (after : Core Mirror) (r : Result ℕ Refusal)
-    → IsStepped (record { core = core; begun = begun }) → KeepsPromises core.start core.log
-    → IfOk r (λ number. HasTaken caller event number core after) → IfErr r (λ refusal. HasRefusedArrival event refusal core after)
+    → IsStepped (record { core = core; begun = begun }) → KeepsPromises core.start core.log → IsArrival event
+    → IsCall ends failures false caller event (reply_as replies.Taken r) core after
     → IfSome begun (λ b. WaitsBehind b.slot event) → IsStepped (record { core = after; begun = begun })
-answer_keeps core begun caller event after (Ok number) h keeps taken refused behind =
-    arrival_keeps (record { core = core; begun = begun }) caller event number after h keeps taken behind
-answer_keeps core begun caller event after (Err refusal) h keeps taken refused behind =
-    subst (λ (c : Core Mirror). IsStepped (record { core = c; begun = begun })) (sym refused.unchanged) h
+answer_keeps core begun caller event after (Ok number) h keeps arrives call behind =
+    arrival_keeps (record { core = core; begun = begun }) caller event number after h keeps
+    (has_entered ends failures false caller event core after number arrives call) behind
+answer_keeps core begun caller event after (Err refusal) h keeps arrives call behind =
+    subst (λ (c : Core Mirror). IsStepped (record { core = c; begun = begun }))
+    (sym (arrival_stays ends failures false caller event core after refusal arrives call)) h
 
 -- The end of a slot
 
 pub present_of : (core : Core Mirror) (o : Option Begun) (begun : Begun) → o ≡ Some begun → IfSome o (IsPresent core) → IsPresent core begun
 present_of core o begun is h = subst (λ (x : Option Begun). IfSome x (IsPresent core)) is h
 
--- an arming changes nothing of what was told
-pub armed_present : (before armed : Core Mirror) (begun : Begun) → armed ≡ record before { device = armed_of before.device }
+-- an arming changes nothing of what was asked
+pub armed_present : (before armed : Core Mirror) (begun : Begun) → armed ≡ record before { device = armed_device before.device }
     → IsPresent before begun → IsPresent armed begun
 armed_present before armed begun is h = subst (λ (c : Core Mirror). IsPresent c begun) (sym is) (record {
   slot_is = h.slot_is;
@@ -197,24 +196,23 @@ armed_present before armed begun is h = subst (λ (c : Core Mirror). IsPresent c
 
 pub ended_is : (ok : Bool) (bytes : PageData) (reply : SlotReply) (before : Stepped) (begun : Begun) (after : Core Mirror)
     → before.begun ≡ Some begun → before.core.device.armed ≡ false → IsPresent before.core begun → IsDone begun.call ok bytes
-    → HasCarriedOut begun.caller reply before.core after
-    → MakesCall {A = SlotReply} ends failures (needed_call before.core.start before.core.log) (Ok reply) before.core.device after.device
-    → after.start ≡ before.core.start → HasEnded ok bytes reply before (record { core = after; begun = None })
-ended_is ok bytes reply before begun after held passes h done carried makes starts = record {
+    → IsCall ends failures false begun.caller events.Slot (Ok (replies.Slot reply)) before.core after
+    → HasEnded ok bytes reply before (record { core = after; begun = None })
+ended_is ok bytes reply before begun after held passes h done call = record {
   begun = begun;
   held = held;
   done = done;
-  carried = carried;
-  called = (called before.core after begun reply passes h makes).0;
-  start_stays = starts;
+  carried = call.ended;
+  called = (called before.core after begun reply passes h call).0;
+  start_stays = call.start_stays;
   idle = refl;
 }
 
 pub ended_keeps : (before after : Core Mirror) (begun : Begun) (reply : SlotReply) → before.device.armed ≡ false → IsPresent before begun
-    → MakesCall {A = SlotReply} ends failures (needed_call before.start before.log) (Ok reply) before.device after.device
-    → HasCarriedOut begun.caller reply before after → IsStepped (record { core = after; begun = None })
-ended_keeps before after begun reply passes h makes carried = record {
-  passes = λ runs. (called before after begun reply passes h makes).1;
+    → IsCall ends failures false begun.caller events.Slot (Ok (replies.Slot reply)) before after
+    → IsStepped (record { core = after; begun = None })
+ended_keeps before after begun reply passes h call = record {
+  passes = λ runs. (called before after begun reply passes h call).1;
   none = λ stops. refl;
   present = tt;
 }
@@ -227,17 +225,19 @@ failed_keeps after stops = record {
 }
 
 pub failed_is : (ok : Bool) (bytes : PageData) (before : Stepped) (begun : Begun) (armed after : Core Mirror) (r : Refusal)
-    → before.begun ≡ Some begun → ¬ IsDone begun.call ok bytes → armed ≡ record before.core { device = armed_of before.core.device }
-    → before.core.stopped ≡ false → IsPresent before.core begun → HasRefusedSlot false r armed after → after.start ≡ armed.start
+    → before.begun ≡ Some begun → ¬ IsDone begun.call ok bytes → armed ≡ record before.core { device = armed_device before.core.device }
+    → before.core.stopped ≡ false → IsPresent before.core begun → IsCall ends failures false begun.caller events.Slot (Err r) armed after
     → HasFailed ok bytes before (record { core = after; begun = None })
-failed_is ok bytes before begun armed after r held undone is runs h refused starts = record {
-  begun = begun;
-  held = held;
-  undone = undone;
-  stops = refused.stops (refused_for_fault armed after begun r (ap (λ (c : Core Mirror). c.stopped) is ∙ runs)
-      (armed_present before.core armed begun is h) refused);
-  log_stays = refused.log_stays ∙ ap (λ (c : Core Mirror). c.log) is;
-  start_stays = starts ∙ ap (λ (c : Core Mirror). c.start) is;
-  reserve_stays = refused.reserve_stays ∙ ap (λ (c : Core Mirror). c.reserved) is;
-  idle = refl;
-}
+failed_is ok bytes before begun armed after r held undone is runs h call =
+    let fault = refused_for_fault armed after begun r (ap (λ (c : Core Mirror). c.stopped) is ∙ runs)
+    (armed_present before.core armed begun is h) call.ended in
+    record {
+      begun = begun;
+      held = held;
+      undone = undone;
+      stops = fault.stops;
+      log_stays = fault.log_stays ∙ ap (λ (c : Core Mirror). c.log) is;
+      start_stays = call.start_stays ∙ ap (λ (c : Core Mirror). c.start) is;
+      reserve_stays = fault.reserve_stays ∙ ap (λ (c : Core Mirror). c.reserved) is;
+      idle = refl;
+    }

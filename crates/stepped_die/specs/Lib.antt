@@ -1,4 +1,5 @@
 pub mod Arrivals
-pub mod Told
+pub mod DeviceCalls
+pub mod Names
 pub mod Stepped
 pub mod Steps

@@ -3,12 +3,12 @@ use Rattle.std.specs.Prelude.{◌≡◌, ◌<◌, true, false, Option, None, IfS
 use Rattle.slot_types.specs.declared.limits.TheConstants.{MAX_SLOT}
 use Rattle.flash_die.specs.Faulty.{Faulty}
 use Rattle.flash_die.specs.Memory.{Memory}
-use Rattle.die_log.specs.Log.{now}
-use Rattle.die_log.specs.Needed.{needed_call}
+use Rattle.die_log.specs.Model.Log.{now}
+use Rattle.die_log.specs.Model.NeededCalls.{needed_call}
 use Rattle.slot_core.specs.Core.{Core}
 use Rattle.stepped_die.specs.declared.calls.Begun.{Begun}
 use Rattle.stepped_die.specs.declared.mirror.MirrorNand.{MirrorNand}
-use Rattle.stepped_die.specs.Told.{told_by}
+use Rattle.stepped_die.specs.DeviceCalls.{told_by}
 
 -- the die, over a mirror whose next call fails when it is to; and the slot that has begun
 pub record Stepped : Type 0 where
@@ -19,7 +19,8 @@ pub record Stepped : Type 0 where
 abbrev pub mirror_of : Core (Faulty MirrorNand) → Memory
 mirror_of core = core.device.inner.memory
 
--- the slot that has begun is the log's present one, and what was told is the one call that it needs; memory is reserved for it
+-- the slot that has begun is the log's present one, and what was asked is the one call that it needs; memory is
+-- reserved for it
 pub record IsPresent (core : Core (Faulty MirrorNand)) (begun : Begun) : Type 0 where
   pub slot_is : begun.slot ≡ now core.log
   pub few : now core.log < MAX_SLOT

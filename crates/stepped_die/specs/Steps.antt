@@ -3,17 +3,24 @@ use Rattle.std.specs.Prelude.{◌≡◌, ◌≤◌, ℕ, Bool, true, false, Opti
 use Rattle.slot_types.specs.declared.plans.DiePlan.{DiePlan}
 use Rattle.slot_types.specs.declared.pages.PageData.{PageData}
 use Rattle.slot_types.specs.declared.events.Event.{Event}
+use Rattle.slot_types.specs.declared.limits.TheConstants.{MAX_SLOT}
+use Rattle.slot_types.specs.declared.refusals.Refusal.TheVariants.{DieStopped, ClockEnd, NoMemory}
+use Rattle.slot_types.specs.declared.events.Event.TheVariants as events
+use Rattle.slot_types.specs.declared.replies.Reply.TheVariants.{Slot}
 use Rattle.slot_types.specs.declared.replies.SlotReply.{SlotReply}
-use Rattle.die_log.specs.Log.{now}
-use Rattle.die_log.specs.Needed.{needed_call}
-use Rattle.die_log.specs.Start.{fresh}
-use Rattle.slot_core.specs.Calls.{HasCarriedOut, HasRefusedArrival}
+use Rattle.die_log.specs.Model.Log.{now}
+use Rattle.die_log.specs.Model.NeededCalls.{needed_call}
+use Rattle.die_log.specs.Model.Start.{fresh}
+use Rattle.slot_core.specs.Calls.{IsAnswered, RefusesCall}
 use Rattle.slot_core.specs.NextSlot.{next_slot}
+use Rattle.slot_core.specs.Renewals.{RefusesRenewal}
 use Rattle.stepped_die.specs.declared.calls.Begun.{Begun}
 use Rattle.stepped_die.specs.declared.refusals.StepRefusal.{StepRefusal}
 use Rattle.stepped_die.specs.declared.refusals.StepRefusal.TheVariants as refuses
+use Rattle.stepped_die.specs.declared.refusals.StepRenewalRefusal.{StepRenewalRefusal}
+use Rattle.stepped_die.specs.declared.refusals.StepRenewalRefusal.TheVariants as unrenewed
 use Rattle.stepped_die.specs.Stepped.{Stepped, mirror_of}
-use Rattle.stepped_die.specs.Told.{IsDone, Changes, told_by}
+use Rattle.stepped_die.specs.DeviceCalls.{IsDone, Changes, told_by}
 
 -- a die on which nothing was done
 pub record IsNew (plan : DiePlan) (die : Stepped) : Type 0 where
@@ -23,8 +30,8 @@ pub record IsNew (plan : DiePlan) (die : Stepped) : Type 0 where
   pub log : die.core.log ≡ []
   pub idle : die.begun ≡ None
 
--- A slot has begun: it is the log's present one, and what is told is the one call that it needs, and for whom. Memory is reserved for
--- it, and nothing else has changed: it isn't in the log.
+-- A slot has begun: it is the log's present one, and what is reported is the one call that it needs, and for whom.
+-- Memory is reserved for it, and nothing else has changed: it isn't in the log.
 pub record HasBegun (caller : ℕ) (begun : Begun) (before after : Stepped) : Type 0 where
   pub runs : before.core.stopped ≡ false
   pub first : before.begun ≡ None
@@ -39,19 +46,19 @@ pub record HasBegun (caller : ℕ) (begun : Begun) (before after : Stepped) : Ty
     begun = Some begun;
   }
 
--- A slot has ended: the device did what it was told, and the slot is the log's next entry. The mirror has had the call that was told, and
--- no other.
+-- A slot has ended: the device did what it was asked, and the slot is the log's next entry. The mirror has had that
+-- call, and no other.
 pub record HasEnded (ok : Bool) (bytes : PageData) (reply : SlotReply) (before after : Stepped) : Type 0 where
   pub begun : Begun
   pub held : before.begun ≡ Some begun
   pub done : IsDone begun.call ok bytes
-  pub carried : HasCarriedOut begun.caller reply before.core after.core
+  pub carried : IsAnswered begun.caller events.Slot (Slot reply) before.core after.core
   pub called : Changes (mirror_of before.core) begun.call (mirror_of after.core)
   pub start_stays : after.core.start ≡ before.core.start
   pub idle : after.begun ≡ None
 
--- A slot has failed: the device didn't do what it was told, or a read gave other bytes than its cell was programmed with. The die is
--- stopped, and its log is that before the slot.
+-- A slot has failed: the device didn't do what it was asked, or a read gave other bytes than its cell was programmed
+-- with. The die is stopped, and its log is that before the slot.
 pub record HasFailed (ok : Bool) (bytes : PageData) (before after : Stepped) : Type 0 where
   pub begun : Begun
   pub held : before.begun ≡ Some begun
@@ -66,8 +73,23 @@ pub record HasFailed (ok : Bool) (bytes : PageData) (before after : Stepped) : T
 abbrev pub HoldsBack : ℕ → Option Begun → Type 0
 HoldsBack release begun = IsSome begun × IfSome begun (λ b. release ≤ b.slot)
 
--- Why an arrival is refused: as a slot has begun that isn't below its release; or as the die refuses it, by the log without that slot.
+-- Why an arrival is refused: as a slot has begun that isn't below its release; or as the die refuses it, by the log
+-- without that slot.
 abbrev pub RefusesArrival : ℕ → Event → Stepped → Stepped → StepRefusal → Type 0
-RefusesArrival release event before after (refuses.Die refusal) = HasRefusedArrival event refusal before.core after.core
+RefusesArrival release event before after (refuses.Die refusal) = RefusesCall event refusal before.core after.core
 RefusesArrival release event before after refuses.Begun = (before.core.stopped ≡ false) × HoldsBack release before.begun
 RefusesArrival release event before after refuses.NotBegun = ⊥
+
+-- why the log isn't started anew: as the die refuses it, or as a slot has begun
+abbrev pub RefusesRenewing : Stepped → StepRenewalRefusal → Type 0
+RefusesRenewing die (unrenewed.Die refusal) = RefusesRenewal die.core refusal
+RefusesRenewing die unrenewed.Begun = (die.core.stopped ≡ false) × IsSome die.begun
+
+-- Why a slot isn't begun: a fault has stopped the die; else one has begun; else the present slot is the last; else there is no memory, which
+-- slots that are reserved don't need.
+abbrev pub RefusesBeginning : Stepped → StepRefusal → Type 0
+RefusesBeginning die (refuses.Die DieStopped) = die.core.stopped ≡ true
+RefusesBeginning die refuses.Begun = (die.core.stopped ≡ false) × IsSome die.begun
+RefusesBeginning die (refuses.Die ClockEnd) = (die.core.stopped ≡ false) × (MAX_SLOT ≤ now die.core.log)
+RefusesBeginning die (refuses.Die NoMemory) = (die.core.stopped ≡ false) × (die.core.reserved ≡ 0)
+RefusesBeginning die _ = ⊥

@@ -1,4 +1,4 @@
-//! What a device is told to do.
+//! What a device is asked to do.
 
 use slot_core::NextAct;
 use slot_types::{JobNo, PageData, Place};

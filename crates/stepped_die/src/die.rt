@@ -1,15 +1,14 @@
 //! A die whose slots are begun and ended.
 
-ghost use Rattle.std.specs.Prelude.{◌≡◌, ◌≢◌, ◌⊎◌, ◌↔◌, ◌≤◌, true, false, None, Some, max, IsSome, IfOk, IfErr, OnOk, OnErr};
-ghost use Rattle.slot_types.specs.declared.limits.TheConstants.{MAX_SLOT};
+ghost use Rattle.std.specs.Prelude.{◌≡◌, ◌≢◌, ◌⊎◌, ◌↔◌, ◌≤◌, [], true, false, None, Some, max, IsSome, IfOk, IfErr, OnOk, OnErr};
 ghost use Rattle.slot_types.specs.declared.refusals.Refusal.{Refusal};
 ghost use Rattle.slot_types.specs.declared.events.Event.TheVariants as events;
 ghost use Rattle.slot_types.specs.Refusal.{FailsForMemory};
-ghost use Rattle.die_log.specs.Log.{now};
-ghost use Rattle.slot_core.specs.Calls.{HasTaken};
+ghost use Rattle.slot_core.specs.Calls.{HasEntered};
+ghost use Rattle.slot_core.specs.WithinSlot.{idle_reply};
 ghost use Rattle.slot_core.specs.Renewals.{MayBeRenewed, renewed_core};
 ghost use Rattle.stepped_die.specs.Steps.{HoldsBack};
-ghost use Rattle.stepped_die.specs.Told.{IsDone, told_by};
+ghost use Rattle.stepped_die.specs.DeviceCalls.{IsDone, told_by};
 
 use crate::calls::{Begun, Call};
 use crate::mirror::MirrorNand;
@@ -26,8 +25,8 @@ use std::marker::Model;
 /// Contracts see the die, and the slot that has begun.
 #[derive(Drop)]
 pub struct SteppedDie {
-    core: DieCore<FaultNand<MirrorNand>>,
-    begun: Option<Begun>,
+    pub(crate) core: DieCore<FaultNand<MirrorNand>>,
+    pub(crate) begun: Option<Begun>,
 }
 
 impl Model for SteppedDie {
@@ -41,12 +40,12 @@ impl Model for SteppedDie {
 }
 
 impl SteppedDie {
-    ghost use Rattle.stepped_die.specs.Steps.{IsNew, HasBegun, HasEnded, HasFailed, RefusesArrival};
+    ghost use Rattle.stepped_die.specs.Steps.{IsNew, HasBegun, HasEnded, HasFailed, RefusesArrival, RefusesBeginning, RefusesRenewing};
 
     /// A die on which nothing was done, over a device that is erased.
     ///
-    /// `BadShape` where the plan's shape is out of its limits; else `BadPlan` where the plan does not meet its bound; else
-    /// `NoMemory`.
+    /// `BadShape` where the plan's shape is out of its limits; else `BadPlan` where the plan does not meet its bound;
+    /// else `NoMemory`.
     pub fn new(alloc: Global, plan: DiePlan) -> Result<SteppedDie, Refusal>
         ensures ok { IfOk result (IsNew plan) }
     {
@@ -67,11 +66,11 @@ impl SteppedDie {
         }
     }
 
-    /// Accepts a job, as [`DieCore::submit_lent`]; also while a slot has begun, where its release is above that slot: it is
-    /// answered by the log without that slot, and stands before it.
+    /// Accepts a job, as [`DieCore::submit_lent`]; also while a slot has begun, where its release is above that slot:
+    /// it is answered by the log without that slot, and stands before it.
     ///
-    /// Refused with `DieStopped` where a fault has stopped the die; else `Begun` where a slot has begun that isn't below the
-    /// release; else as the die refuses it. Every refusal changes nothing.
+    /// Refused with `DieStopped` where a fault has stopped the die; else `Begun` where a slot has begun that isn't
+    /// below the release; else as the die refuses it. Every refusal changes nothing.
     pub fn submit(
         &mut self,
         alloc: Global,
@@ -82,7 +81,7 @@ impl SteppedDie {
         ops: &[Op],
     ) -> Result<JobNo, StepRefusal>
         ensures stopped { (result ≡ Err (StepRefusal.Die Refusal.DieStopped)) ↔ (self.old.core.stopped ≡ true) }
-        ensures taken { IfOk result (λ number. HasTaken caller (events.Submit task release due ops.now) number self.old.core
+        ensures taken { IfOk result (λ number. HasEntered caller (events.Submit task release due ops.now) number self.old.core
             self.new.core) }
         ensures begun { self.new.begun ≡ self.old.begun }
         ensures cause { IfErr result (RefusesArrival release (events.Submit task release due ops.now) self.old self.new) }
@@ -104,11 +103,11 @@ impl SteppedDie {
         }
     }
 
-    /// Accepts a collection, as [`DieCore::collect`]; also while a slot has begun, where its release is above that slot: it
-    /// is answered by the log without that slot, and stands before it.
+    /// Accepts a collection, as [`DieCore::collect`]; also while a slot has begun, where its release is above that
+    /// slot: it is answered by the log without that slot, and stands before it.
     ///
-    /// Refused with `DieStopped` where a fault has stopped the die; else `Begun` where a slot has begun that isn't below the
-    /// release; else as the die refuses it. Every refusal changes nothing.
+    /// Refused with `DieStopped` where a fault has stopped the die; else `Begun` where a slot has begun that isn't
+    /// below the release; else as the die refuses it. Every refusal changes nothing.
     pub fn collect(
         &mut self,
         alloc: Global,
@@ -118,7 +117,7 @@ impl SteppedDie {
         due: u32,
     ) -> Result<JobNo, StepRefusal>
         ensures stopped { (result ≡ Err (StepRefusal.Die Refusal.DieStopped)) ↔ (self.old.core.stopped ≡ true) }
-        ensures taken { IfOk result (λ number. HasTaken caller (events.Collect task release due) number self.old.core
+        ensures taken { IfOk result (λ number. HasEntered caller (events.Collect task release due) number self.old.core
             self.new.core) }
         ensures begun { self.new.begun ≡ self.old.begun }
         ensures cause { IfErr result (RefusesArrival release (events.Collect task release due) self.old self.new) }
@@ -137,8 +136,8 @@ impl SteppedDie {
         }
     }
 
-    /// Begins the present slot, and tells the one call of the device that it needs, and for whom. Nothing is entered into
-    /// the log; memory is reserved for the slot, so that its end needs none.
+    /// Begins the present slot, and answers the one call of the device that it needs, and for whom. Nothing is entered
+    /// into the log; memory is reserved for the slot, so that its end needs none.
     ///
     /// Refused, where nothing changes, with `DieStopped` where a fault has stopped the die; `Begun` where a slot has
     /// begun; `ClockEnd` where the present slot is 1,048,576; `NoMemory`, never while slots are reserved.
@@ -147,7 +146,7 @@ impl SteppedDie {
         ensures twice { self.old.core.stopped ≡ false → ((result ≡ Err StepRefusal.Begun) ↔ IsSome self.old.begun) }
         ensures begun { IfOk result (λ begun. HasBegun caller begun self.old self.new) }
         ensures refused { OnErr result (self.new ≡ self.old) }
-        ensures clock { result ≡ Err (StepRefusal.Die Refusal.ClockEnd) → MAX_SLOT ≤ now self.old.core.log }
+        ensures cause { IfErr result (RefusesBeginning self.old) }
     {
         if self.core.is_stopped() {
             return Err(StepRefusal::Die(Refusal::DieStopped));
@@ -169,21 +168,23 @@ impl SteppedDie {
         Ok(begun_by(caller, slot, call, next.ran))
     }
 
-    /// Ends the slot that has begun: whether the device did what it was told, and the bytes that it read, if it read a
-    /// cell. A read that gave other bytes than its cell was programmed with is a fault.
+    /// Ends the slot that has begun: whether the device did what it was asked, and the bytes that it read, if it read a
+    /// cell. A read that gave other bytes than its cell was programmed with is a fault. What the slot did goes into a
+    /// reply as [`new_reply`](slot_core::new_reply) makes it; where the slot is refused the reply is of no use any more.
     ///
-    /// Refused with `DieStopped` where a fault has stopped the die, and `NotBegun` where no slot has begun; these change
-    /// nothing. `DeviceFault` where the device failed, or a read gave other bytes: the die is stopped from then on, and its
-    /// log stays, without this slot and its waivers. There is no other refusal, for want of memory neither.
+    /// Refused with `DieStopped` where a fault has stopped the die, and `NotBegun` where no slot has begun; these
+    /// change nothing. `DeviceFault` where the device failed, or a read gave other bytes: the die is stopped from then
+    /// on, and its log stays, without this slot and its waivers. There is no other refusal, out of memory neither.
     pub fn end(
         &mut self,
-        alloc: Global,
         ok: bool,
         bytes: PageData,
-    ) -> Result<SlotReply, StepRefusal>
+        reply: &mut SlotReply,
+    ) -> Result<(), StepRefusal>
+        requires unfilled { reply.old ≡ idle_reply 0 [] }
         ensures stopped { (result ≡ Err (StepRefusal.Die Refusal.DieStopped)) ↔ (self.old.core.stopped ≡ true) }
         ensures idle { self.old.core.stopped ≡ false → ((result ≡ Err StepRefusal.NotBegun) ↔ (self.old.begun ≡ None)) }
-        ensures ended { IfOk result (λ reply. HasEnded ok bytes reply self.old self.new) }
+        ensures ended { OnOk result (HasEnded ok bytes reply.new self.old self.new) }
         ensures failed { result ≡ Err (StepRefusal.Die Refusal.DeviceFault) → HasFailed ok bytes self.old self.new }
         ensures refused { IfErr result (λ refusal. (refusal ≡ StepRefusal.Die Refusal.DeviceFault)
             ⊎ (((refusal ≡ StepRefusal.Die Refusal.DieStopped) ⊎ (refusal ≡ StepRefusal.NotBegun)) × (self.new ≡ self.old))) }
@@ -196,17 +197,17 @@ impl SteppedDie {
             None => return Err(StepRefusal::NotBegun),
         };
         if is_done(begun.call, ok, bytes) {
-            match self.core.slot(alloc, begun.caller) {
-                Ok(reply) => {
+            match self.core.fill_slot(begun.caller, reply) {
+                Ok(()) => {
                     self.begun = None;
-                    Ok(reply)
+                    Ok(())
                 }
                 Err(_) => unreachable!(),
             }
         } else {
             self.core.fail_next();
-            match self.core.slot(alloc, begun.caller) {
-                Ok(_) => unreachable!(),
+            match self.core.fill_slot(begun.caller, reply) {
+                Ok(()) => unreachable!(),
                 Err(_) => {
                     self.begun = None;
                     Err(StepRefusal::Die(Refusal::DeviceFault))
@@ -228,10 +229,11 @@ impl SteppedDie {
         self.core.reserve(slots)
     }
 
-    /// Starts the log anew at a quiet moment, as [`DieCore::renew`]. `DieStopped` where a fault has stopped the die; else
-    /// `Begun` where a slot has begun. Every refusal changes nothing.
+    /// Starts the log anew at a quiet moment, as [`DieCore::renew`]. `DieStopped` where a fault has stopped the die;
+    /// else `Begun` where a slot has begun. Every refusal changes nothing.
     pub fn renew(&mut self) -> Result<(), StepRenewalRefusal>
         ensures ok { OnOk result ((self.new ≡ record self.old { core = renewed_core self.old.core }) × MayBeRenewed self.old.core) }
+        ensures cause { IfErr result (RefusesRenewing self.old) }
         ensures unchanged { OnErr result (self.new ≡ self.old) }
     {
         if self.core.is_stopped() {
@@ -254,7 +256,7 @@ impl SteppedDie {
     }
 }
 
-/// What a driver is told of the call that a slot needs.
+/// What a driver is reported of the call that a slot needs.
 fn told_by(device: &FaultNand<MirrorNand>, call: Option<NandCall>) -> Option<Call>
     ensures { result ≡ told_by device.now.inner.memory call }
 {
@@ -284,7 +286,7 @@ fn begun_by(caller: u32, slot: u32, call: Option<Call>, runs: Option<(JobNo, Nex
     }
 }
 
-/// Whether the device did what it was told, and a read gave the bytes that the cell was programmed with.
+/// Whether the device did what it was asked, and a read gave the bytes that the cell was programmed with.
 fn is_done(call: Option<Call>, ok: bool, bytes: PageData) -> bool
     ensures { (result ≡ true) ↔ IsDone call ok bytes }
 {

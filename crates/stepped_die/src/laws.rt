@@ -1,14 +1,14 @@
-//! Why jobs and collections may arrive while a slot has begun: a law, told by a function that does nothing.
+//! Why jobs and collections may arrive while a slot has begun: a law, which is a function that does nothing.
 
 ghost use Rattle.std.specs.Prelude.{◌≡◌, ℕ};
 ghost use Rattle.slot_types.specs.declared.events.Event.{Event};
 ghost use Rattle.slot_types.specs.declared.replies.Reply.{Reply};
 ghost use Rattle.slot_core.specs.Core.{with_entry};
-ghost use Rattle.die_log.specs.Log.{Log, now};
-ghost use Rattle.die_log.specs.Answers.{answer, IsExact};
-ghost use Rattle.die_log.specs.Needed.{needed_call};
-ghost use Rattle.die_log.specs.Opening.{IsOpening};
-ghost use Rattle.die_log.specs.Start.{Start};
+ghost use Rattle.die_log.specs.Model.Log.{Log, now};
+ghost use Rattle.die_log.specs.Model.Answers.{answer, IsExact};
+ghost use Rattle.die_log.specs.Model.NeededCalls.{needed_call};
+ghost use Rattle.die_log.specs.Model.Opening.{IsOpening};
+ghost use Rattle.die_log.specs.Model.Start.{Start};
 ghost use Rattle.stepped_die.specs.Arrivals.{WaitsBehind};
 
 /// A job or collection that is accepted with a release above the present slot leaves what that slot is answered, and

@@ -1,4 +1,4 @@
-//! A die whose slots are begun and ended: `begin` tells the one call of the device that the present slot needs, the
+//! A die whose slots are begun and ended: `begin` answers the one call of the device that the present slot needs, the
 //! driver does it, and `end` takes what the device answered. A slot whose call failed is not in the log.
 #![tactic(auto)]
 
@@ -7,9 +7,11 @@ pub mod die;
 pub mod laws;
 pub mod mirror;
 pub mod refusals;
+pub mod resumptions;
 
 pub use calls::{Begun, Call};
 pub use die::SteppedDie;
 pub use laws::arrivals_leave_the_slot;
 pub use mirror::MirrorNand;
-pub use refusals::{StepRefusal, StepRenewalRefusal};
+pub use refusals::{StepCheckpointRefusal, StepRefusal, StepRenewalRefusal};
+pub use resumptions::NamedCheckpoint;

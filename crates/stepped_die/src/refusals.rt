@@ -1,6 +1,6 @@
 //! Why a call of a die with two steps is refused.
 
-use slot_core::RenewalRefusal;
+use slot_core::{CheckpointRefusal, RenewalRefusal};
 use slot_types::Refusal;
 
 /// Why a call is refused.
@@ -19,6 +19,15 @@ pub enum StepRefusal {
 pub enum StepRenewalRefusal {
     /// As a die refuses it.
     Die(RenewalRefusal),
+    /// A slot has begun and is to be ended first.
+    Begun,
+}
+
+/// Why no checkpoint is taken.
+#[derive(Clone, Copy, PartialEq, Eq, Debug, Drop)]
+pub enum StepCheckpointRefusal {
+    /// As a die refuses it.
+    Die(CheckpointRefusal),
     /// A slot has begun and is to be ended first.
     Begun,
 }

@@ -1,4 +1,4 @@
--- Rows that keep to their die's plan are not refused but for want of memory, and nothing is late.
+-- Rows that keep to their die's plan are not refused but out of memory, and nothing is late.
 use Rattle.std.proofs.Common.{◌≡◌, ◌⊎◌, ℕ, zero, suc, ◌+◌, ◌<◌, ℤ, Bool, true, false, List, [], ◌∷◌, ◌++◌, map, length, Option, Some, None}
 use Rattle.std.proofs.Common.{refl, ap, sym, subst, ◌∙◌, append_assoc, inl, inr, arith, slice_get}
 use Rattle.std.specs.Prelude.{All, pos, ◌≤ℤ◌}
@@ -20,10 +20,10 @@ use Rattle.slot_types.specs.declared.replies.Waived.{Waived}
 use Rattle.plan_rules.specs.Bound.{MeetsBound}
 use Rattle.plan_rules.specs.Times.{Passes}
 use Rattle.plan_rules.specs.Keeping.{KeepsPlan}
-use Rattle.die_log.specs.Log.{Log, jobs, work}
-use Rattle.die_log.specs.Work.{is_done}
-use Rattle.die_log.specs.Answers.{refusal_of, answer, IsAccepted, IsExact}
-use Rattle.die_log.specs.Planned.{told, AreEntered, IsInTime}
+use Rattle.die_log.specs.Model.Log.{Log, jobs, work}
+use Rattle.die_log.specs.Model.Work.{is_done}
+use Rattle.die_log.specs.Model.Answers.{refusal_of, answer, IsAccepted, IsExact}
+use Rattle.die_log.specs.Results.InTime.{events_of_log, AreEntered, IsInTime}
 use Rattle.die_log.proofs.Legality.{accepted_answer}
 use Rattle.die_log.proofs.Planned.InTime.{planned_in_time}
 use Rattle.die_log.proofs.Standing.Longer.{contained}
@@ -37,24 +37,24 @@ use Rattle.script_texts.specs.declared.script_rows.ScriptItem.{ScriptItem}
 use Rattle.report_texts.specs.ReportText.{report_text}
 use Rattle.report_texts.specs.TextSoFar.{TextSoFar}
 use Rattle.task_script.specs.DieReports.{row_by, report_row_of}
-use Rattle.task_script.specs.DieRuns.{Call, Row, Slot, DieRun, Accepts, Ends, IsRun, Runs, end_of, fresh_run}
+use Rattle.task_script.specs.DieRuns.{ScriptCall, Row, Slot, DieRun, Accepts, Ends, IsScriptRun, MakesCalls, end_of, fresh_run}
 use Rattle.task_script.specs.Feeds.{AllArrive, feed_of}
-use Rattle.task_script.specs.PlannedRuns.{event_of, events_of, KeepsItsPlan, IsOnTime, AreTakenUntilMemory, GoesAsPlanned, AreAsPlanned}
+use Rattle.task_script.specs.PlannedRuns.{event_of, events_of_rows, RowsKeepPlan, IsOnTime, AreTakenUntilMemory, RowsGoAsPlanned, AreAsPlanned}
 use Rattle.task_script.specs.PlannedRuns.{RunsAsPlanned}
 use Rattle.task_script.specs.TextRuns.{AreRuns, RanScript, RunsText}
 use Rattle.task_script.specs.declared.run_counts.RowEnd.{RowEnd}
 use Rattle.task_script.specs.declared.run_counts.RunCount.{RunCount}
 use Rattle.task_script.proofs.EachCall.{IsCallOf, each_call}
 use Rattle.task_script.proofs.Gathering.{runs_text}
-use Rattle.die_log.specs.Start.{fresh}
+use Rattle.die_log.specs.Model.Start.{fresh}
 use Rattle.die_log.proofs.Openings.{fresh_opens, fresh_stocked}
 
 -- Logs
 
--- the event of an entry is told behind those before it
-told_more : (past log : Log) (event : Event) (reply : Reply) (rest : List Event) → log ≡ with_entry 0 event reply past → told past ++ event
-    ∷ rest ≡ told log ++ rest
-told_more past log event reply rest is = sym (append_assoc (told past) (event ∷ []) rest) ∙ ap (λ (l : Log). told l ++ rest) (sym is)
+-- the event of an entry comes after those before it
+told_more : (past log : Log) (event : Event) (reply : Reply) (rest : List Event) → log ≡ with_entry 0 event reply past → events_of_log past ++ event
+    ∷ rest ≡ events_of_log log ++ rest
+told_more past log event reply rest is = sym (append_assoc (events_of_log past) (event ∷ []) rest) ∙ ap (λ (l : Log). events_of_log l ++ rest) (sym is)
 
 accepts_exact : (plan : DiePlan) (past log : Log) (event : Event) → Accepts plan past event log → IsExact (fresh plan) past → IsExact (fresh plan) log
 accepts_exact plan past log event h exact = subst (IsExact (fresh plan)) (sym h.1) (exact, refl, h.0)
@@ -66,8 +66,8 @@ not_refused plan past event refusal none is = subst IsAccepted (sym (accepted_an
 
 -- Runs
 
--- what became of the calls is told behind what became of those before them
-ends_more : (plan : DiePlan) (before after : DieRun) (calls : List Call) → Runs plan before calls after → (more : List RowEnd)
+-- what became of the calls stands after what became of those before them
+ends_more : (plan : DiePlan) (before after : DieRun) (calls : List ScriptCall) → MakesCalls plan before calls after → (more : List RowEnd)
     × (after.ends ≡ before.ends ++ more)
 ends_more plan before after [] h = ([], ap (λ (r : DieRun). r.ends) h ∙ sym (append-nil before.ends))
 ends_more plan before after (Row item ∷ calls) h =
@@ -79,9 +79,9 @@ ends_more plan before after (Slot ∷ calls) h =
     (m.0, m.1 ∙ ap (λ l. l ++ m.0) h.1.1)
 
 module _ (plan : DiePlan) (times : Times) (bound : MeetsBound plan) (passes : Passes plan times) where
-  -- a row that keeps the plan is refused for want of memory alone
+  -- a row that keeps the plan is refused out of memory alone
   by_memory : (past : Log) (event : Event) (rest : List Event) (refusal : Refusal) → IsExact (fresh plan) past
-      → KeepsPlan plan times (told past ++ event ∷ rest) → RefusedBy (fresh plan) past event refusal → refusal ≡ NoMemory
+      → KeepsPlan plan times (events_of_log past ++ event ∷ rest) → RefusedBy (fresh plan) past event refusal → refusal ≡ NoMemory
   by_memory past event rest refusal exact keeps (inl own) = absurd
       (not_refused plan past event refusal (unrefused (fresh plan) times (fresh_opens plan bound) passes (fresh_stocked plan times) past event rest exact keeps) own)
   by_memory past event rest refusal exact keeps (inr memory) = memory.1
@@ -90,8 +90,8 @@ module _ (plan : DiePlan) (times : Times) (bound : MeetsBound plan) (passes : Pa
   abbrev TakenBehind : List RowEnd → List RowEnd → Type 0
   TakenBehind before after = (more : List RowEnd) × (after ≡ before ++ more) × AreTakenUntilMemory more
 
-  taken_from : (before after : DieRun) (calls : List Call) → IsExact (fresh plan) before.log
-      → KeepsPlan plan times (told before.log ++ map event_of calls) → Runs plan before calls after → TakenBehind before.ends after.ends
+  taken_from : (before after : DieRun) (calls : List ScriptCall) → IsExact (fresh plan) before.log
+      → KeepsPlan plan times (events_of_log before.log ++ map event_of calls) → MakesCalls plan before calls after → TakenBehind before.ends after.ends
   taken_from before after [] exact keeps h = ([], ap (λ (r : DieRun). r.ends) h ∙ sym (append-nil before.ends), tt)
   taken_from before after (Slot ∷ calls) exact keeps h =
       let m = taken_from h.0 after calls (accepts_exact plan before.log h.0.log events.Slot h.1.0 exact)
@@ -100,7 +100,7 @@ module _ (plan : DiePlan) (times : Times) (bound : MeetsBound plan) (passes : Pa
       (m.0, m.1 ∙ ap (λ l. l ++ m.0) h.1.1, m.2)
   taken_from before after (Row item ∷ calls) exact keeps h = by_end (λ e k. taken_from h.0 after calls e k h.2) h.1.0 h.1.1 h.1.2
     where
-      by_end : (IsExact (fresh plan) h.0.log → KeepsPlan plan times (told h.0.log ++ map event_of calls) → TakenBehind h.0.ends after.ends)
+      by_end : (IsExact (fresh plan) h.0.log → KeepsPlan plan times (events_of_log h.0.log ++ map event_of calls) → TakenBehind h.0.ends after.ends)
           → (refusal : Option Refusal) → Ends plan before.log item.event refusal h.0.log → h.0.ends ≡ before.ends ++ end_of item refusal
           ∷ [] → TakenBehind before.ends after.ends
       by_end rest None taken ends =
@@ -119,8 +119,8 @@ module _ (plan : DiePlan) (times : Times) (bound : MeetsBound plan) (passes : Pa
           )
 
 -- the log of a run is what its events leave
-entered_from : (plan : DiePlan) (before after : DieRun) (calls : List Call) → AllByRecursion (IsCallOf (λ item. IsArrival item.event)) calls
-    → Runs plan before calls after → AreEntered (map event_of calls) before.log after.log
+entered_from : (plan : DiePlan) (before after : DieRun) (calls : List ScriptCall) → AllByRecursion (IsCallOf (λ item. IsArrival item.event)) calls
+    → MakesCalls plan before calls after → AreEntered (map event_of calls) before.log after.log
 entered_from plan before after [] arrive h = ap (λ (r : DieRun). r.log) h
 entered_from plan before after (Slot ∷ calls) arrive h =
     (h.0.log, inl (0, answer (fresh plan) before.log events.Slot, h.1.0.1), entered_from plan h.0 after calls arrive.1 h.2)
@@ -155,11 +155,11 @@ rows_on_time plan log in_time =
 -- All together
 
 pub as_planned : (plan : DiePlan) (slots : ℕ) (items : List ScriptItem) (run : DieRun) → MeetsBound plan → AllArrive slots items
-    → KeepsItsPlan plan slots items → IsRun plan slots items run → GoesAsPlanned plan run
+    → RowsKeepPlan plan slots items → IsScriptRun plan slots items run → RowsGoAsPlanned plan run
 as_planned plan slots items run bound arrive k is =
     let asked = each_call (λ item. IsArrival item.event) 0 slots items (all_events items (recursion_from_All (Arrives slots) items arrive))
     in
-    let in_time = planned_in_time (fresh plan) k.times (fresh_opens plan bound) k.passes (events_of slots items) k.keeps [] run.log is.exact
+    let in_time = planned_in_time (fresh plan) k.times (fresh_opens plan bound) k.passes (events_of_rows slots items) k.keeps [] run.log is.exact
     (entered_from plan fresh_run run _ asked is.ran) in
     let taken = taken_from plan k.times bound k.passes fresh_run run _ tt k.keeps is.ran in
     record {

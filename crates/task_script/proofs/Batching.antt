@@ -1,9 +1,12 @@
 -- The dies of a store that run their rows in batches: where they begin, one batch more, and what is known of them at the end.
-use Rattle.std.proofs.Common.{◌≡◌, ℕ, zero, suc, ◌+◌, ◌<◌, ◌≤◌, max, Bool, true, List, [], ◌∷◌, ◌++◌, refl, ap, sym, ◌∙◌}
+use Rattle.std.proofs.Common.{◌≡◌, ℕ, suc, ◌+◌, ◌^◌, ◌<◌, ◌≤◌, max, Bool, true, List, [], ◌∷◌, ◌++◌, refl, ap, sym, ◌∙◌}
 use Rattle.std.proofs.Common.{subst, length, map}
-use Rattle.std.proofs.Common.{get_or, replicate, arith, All, Option, Some, None, Ok, Err, append_assoc, inl, inr}
+use Rattle.std.proofs.Common.{get_or, replicate, arith, All, Option, None, Ok, Err, inl, inr}
 use Rattle.std.specs.Prelude.{IfSome, option_map}
-use Rattle.std.specs.List.{AllByRecursion, AllZip, filter}
+use Rattle.std.specs.List.{AllByRecursion}
+use Rattle.std.proofs.lemmas.List.{length-map}
+use Rattle.std.proofs.lemmas.List.Folds.{sum_by-replicate}
+use Rattle.std.proofs.lemmas.List.Sums.{get_or-le-sum_by, sum_by-cons}
 use Rattle.std.proofs.lemmas.List.Elements.{All-append, All-from_recursion, All-get_or, All-map, All-nil, All-same, All-weaker}
 use Rattle.std.proofs.lemmas.List.Elements.{filter-append}
 use Rattle.std.proofs.lemmas.List.Elements.{recursion_from_All}
@@ -11,12 +14,11 @@ use Rattle.slot_types.specs.Arrivals.{IsArrival}
 use Rattle.slot_types.specs.declared.plans.DiePlan.{DiePlan}
 use Rattle.slot_types.specs.declared.refusals.Refusal.{Refusal}
 use Rattle.plan_rules.specs.Bound.{MeetsBound}
-use Rattle.turn_lock.specs.Views.{first_view, IsSamePass}
-use Rattle.slot_core.specs.Core.{Core}
+use Rattle.turn_lock.specs.Views.{first_view}
 use Rattle.die_service.specs.Passes.{DieView}
 use Rattle.die_service.specs.Runs as run
 use Rattle.die_service.specs.Runs.{HaveRun}
-use Rattle.die_service.specs.Stores.{DiePass, IsClosed}
+use Rattle.die_service.specs.Stores.{DiePass}
 use Rattle.die_service.specs.declared.batches.Batch.{Batch}
 use Rattle.die_service.specs.declared.ends.DieEnd.{DieEnd}
 use Rattle.die_service.specs.declared.feeds.Arrival.{Arrival}
@@ -25,14 +27,17 @@ use Rattle.script_texts.specs.AskedPages.{RowHasPages, RowsHavePages}
 use Rattle.script_texts.specs.Script.{Script, script_of}
 use Rattle.script_texts.specs.declared.script_rows.ScriptItem.{ScriptItem}
 use Rattle.task_script.proofs.BatchRuns.{begins, goes_on}
+use Rattle.task_script.proofs.Counting.{rows_of_batch}
 use Rattle.task_script.proofs.Dealing.{is_of}
 use Rattle.task_script.proofs.ReadSoFar.{read_none, read_on, read_to_end, fault_on, known_by}
 use Rattle.task_script.specs.Batches.{HasComeTo, HaveComeTo, RanRows, after_batch, batches_of, end_slot, fresh_progress, kept_of}
-use Rattle.task_script.specs.Batches.{progress_after, latest}
-use Rattle.task_script.specs.Feeds.{AllArrive, AreInTime, AreItemsOf, FailsIn, HasReadRows, IsDealt, IsReadTo, RefusesScript, feed_of}
+use Rattle.task_script.specs.Batches.{progress_after, latest_slot, rows_counted, rows_kept}
+use Rattle.task_script.specs.Feeds.{AllArrive, AreInTime, AreItemsOf, FailsIn, HasReadRows, IsDealt, IsReadTo, RefusesScript, feed_of, rows_dealt}
 use Rattle.task_script.specs.RowEnds.{arrival_of, arrivals_of, lines_of}
+use Rattle.task_script.specs.RunCounts.{rows_in}
+use Rattle.task_script.specs.declared.batches.KeptRows.{KeptRows}
 use Rattle.task_script.specs.declared.batches.Progress.{Progress}
-use Rattle.die_log.specs.Start.{fresh}
+use Rattle.die_log.specs.Model.Start.{fresh}
 
 -- a die carried out all its slots
 abbrev pub IsWhole : DieEnd → Type 0
@@ -70,7 +75,7 @@ all_go_on until old new number [] [] [] [] [] [] same are arrive come ran none =
 all_go_on until old new number (plan ∷ plans) (items ∷ rows) (p ∷ ps) (at ∷ before) (end ∷ ends) (q ∷ qs) same are arrive come ran none =
     let here : number + 0 ≡ number = omega arith in
     let all : new number ≡ old number ++ items = ap new (sym here) ∙ (are 0 (omega arith) ∙ ap (λ (n : ℕ). old n ++ items) here) in (
-      subst (λ (xs : List ScriptItem). HasComeTo plan xs (max (latest xs) until) q
+      subst (λ (xs : List ScriptItem). HasComeTo plan xs (max (latest_slot xs) until) q
           (after_batch at (record { end = end_slot until at.clock items; lines = lines_of items }) end)) (sym all)
           (goes_on plan (old number) items until p q at end come.0 ran.1 ran.0 none.0 arrive.0),
       all_go_on until old new (number + 1) plans rows ps before ends qs (omega (arith, same)) (joined_later number old new items rows are)
@@ -108,6 +113,59 @@ ends_length never [] (p ∷ ps) ends qs ran = absurd ran
 ends_length never (batch ∷ batches) [] ends qs ran = absurd ran
 ends_length never (batch ∷ batches) (p ∷ ps) [] qs ran = absurd ran
 ends_length never (batch ∷ batches) (p ∷ ps) (end ∷ ends) [] ran = absurd ran
+
+-- the rows of batches are those of the dies
+pub rows_are_kept : (until : ℕ) (progress : List Progress) (rows : List (List ScriptItem)) → length progress ≡ length rows
+    → rows_kept (kept_of until progress rows) ≡ rows_dealt rows
+rows_are_kept until [] [] same = refl
+rows_are_kept until [] (items ∷ rows) same = absurd (omega (arith, same))
+rows_are_kept until (at ∷ progress) [] same = absurd (omega (arith, same))
+rows_are_kept until (at ∷ progress) (items ∷ rows) same =
+    omega (
+      arith,
+      sum_by-cons (λ (k : KeptRows). length k.lines) (record { end = end_slot until at.clock items; lines = lines_of items })
+          (kept_of until progress rows),
+      sum_by-cons (λ (xs : List ScriptItem). length xs) items rows,
+      length-map items (λ (item : ScriptItem). item.line),
+      rows_are_kept until progress rows (omega (arith, same)),
+    )
+
+-- and all of them are counted
+pub rows_after : (progress : List Progress) (kept : List KeptRows) (ends : List DieEnd) → length kept ≡ length progress
+    → length ends ≡ length progress → rows_counted (progress_after progress kept ends) ≡ rows_counted progress + rows_kept kept
+rows_after [] [] [] k e = refl
+rows_after [] [] (end ∷ ends) k e = absurd (omega (arith, e))
+rows_after [] (x ∷ kept) ends k e = absurd (omega (arith, k))
+rows_after (at ∷ progress) [] ends k e = absurd (omega (arith, k))
+rows_after (at ∷ progress) (x ∷ kept) [] k e = absurd (omega (arith, e))
+rows_after (at ∷ progress) (x ∷ kept) (end ∷ ends) k e =
+    omega (
+      arith,
+      sum_by-cons (λ (p : Progress). rows_in p.count) (after_batch at x end) (progress_after progress kept ends),
+      sum_by-cons (λ (p : Progress). rows_in p.count) at progress,
+      sum_by-cons (λ (r : KeptRows). length r.lines) x kept,
+      rows_of_batch at.count x.lines end.refused,
+      rows_after progress kept ends (omega (arith, k)) (omega (arith, e)),
+    )
+
+-- those of one die are few enough to be counted, where those of all are
+pub rows_here : (progress : List Progress) (kept : List KeptRows) (die : ℕ) (at : Progress) (k : KeptRows) → die < length progress
+    → die < length kept → at ≡ get_or progress die at → k ≡ get_or kept die k → rows_counted progress + rows_kept kept < 2 ^ 64
+    → rows_in at.count + length k.lines < 2 ^ 64
+rows_here progress kept die at k below kept_below at_is k_is few =
+    omega (
+      arith,
+      few,
+      get_or-le-sum_by (λ (p : Progress). rows_in p.count) progress die at below,
+      get_or-le-sum_by (λ (r : KeptRows). length r.lines) kept die k kept_below,
+      ap (λ (p : Progress). rows_in p.count) at_is,
+      ap (λ (r : KeptRows). length r.lines) k_is,
+    )
+
+-- at the beginning none is
+pub none_counted : (dies : ℕ) (progress : List Progress) → progress ≡ replicate dies fresh_progress → rows_counted progress ≤ 0
+none_counted dies progress is =
+    omega (arith, ap rows_counted is, sum_by-replicate (λ (p : Progress). rows_in p.count) dies fresh_progress)
 
 rows_arrive : (items : List ScriptItem) → All (λ item. IsArrival item.event) items → run.AllArrive (arrivals_of items)
 rows_arrive items h = All-map (λ (arrival : Arrival). IsArrival arrival.event) arrival_of items h

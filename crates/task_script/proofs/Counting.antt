@@ -1,16 +1,16 @@
--- Counts of rows: row by row, and one behind the other.
-use Rattle.std.proofs.Common.{◌≡◌, ℕ, ◌+◌, ◌<◌, ◌≤◌, nat_lt, Bool, true, false, cond, List, [], ◌∷◌, ◌++◌, refl, ap, sym, ◌∙◌, drop, get_or}
+-- Counts of rows: row by row, and one after the other.
+use Rattle.std.proofs.Common.{◌≡◌, ℕ, suc, ◌+◌, ◌<◌, nat_lt, Bool, true, false, cond, List, [], ◌∷◌, ◌++◌, refl, ap, sym, ◌∙◌, drop, get_or}
 use Rattle.std.proofs.Common.{length, arith, Option, Some, None, ◌==◌}
-use Rattle.std.specs.Prelude.{count_by, if◌then◌else◌}
+use Rattle.std.specs.Prelude.{count_by, if◌then◌else◌, is_none, is_some}
 use Rattle.std.proofs.lemmas.Bool.{ltb-true, ltb-false, lt-ltb, le-ltb}
-use Rattle.std.proofs.lemmas.List.{drop_more, drop_all}
+use Rattle.std.proofs.lemmas.List.{drop_more}
 use Rattle.std.proofs.lemmas.List.Sums.{sum_by-cons}
 use Rattle.slot_types.specs.Refusal.{number_of}
 use Rattle.slot_types.specs.declared.refusals.Refusal.{Refusal}
 use Rattle.die_service.specs.declared.ends.RefusedEvent.{RefusedEvent}
 use Rattle.task_script.specs.RowEnds.{ends_from, row_end, taken_at}
-use Rattle.task_script.specs.RunCounts.{count_of, counted_with, counted_behind, first_behind, first_by, first_refused, joined, joined_first}
-use Rattle.task_script.specs.RunCounts.{or_earlier, was_accepted, was_refused}
+use Rattle.task_script.specs.RunCounts.{count_of, counted_with, counted_behind, first_behind, first_by, first_refused, sum_of_counts, joined_first}
+use Rattle.task_script.specs.RunCounts.{or_earlier, rows_in, was_accepted, was_refused}
 use Rattle.task_script.specs.declared.run_counts.RowEnd.{RowEnd}
 use Rattle.task_script.specs.declared.run_counts.RunCount.{RunCount}
 
@@ -97,9 +97,9 @@ row_more place line lines refused later refusal count count2 all below at is res
     ∙ (ap (counted_behind count) (sym (taken_is place line (drop (place + 1) lines) refused))
     ∙ (ap (λ (xs : List ℕ). counted_behind count (ends_from place xs refused)) (sym here) ∙ so_far)))
 
--- Rows behind others
+-- Rows after others
 
--- rows are counted behind others
+-- rows are counted after others
 pub counts_more : (xs ys : List RowEnd) → counted_behind (count_of xs) ys ≡ count_of (xs ++ ys)
 counts_more xs ys = ap (λ (c : RunCount). counted_behind c ys) (sym (counted_is xs))
     ∙ (sym (counted_in_parts (count_of []) xs ys) ∙ counted_is (xs ++ ys))
@@ -146,8 +146,8 @@ first_joined f (y ∷ ys) = first_joined (first_by y.line y.refusal f) ys
     ∙ (first_joins y.line y.refusal f (first_behind None ys)
     ∙ ap (joined_first f) (sym (first_joined (first_by y.line y.refusal None) ys)))
 
--- the counts of rows and of those behind them
-pub counts_join : (xs ys : List RowEnd) → joined (count_of xs) (count_of ys) ≡ count_of (xs ++ ys)
+-- the counts of rows and of those after them
+pub counts_join : (xs ys : List RowEnd) → sum_of_counts (count_of xs) (count_of ys) ≡ count_of (xs ++ ys)
 counts_join xs ys =
     (λ i. record {
       accepted = count_by was_accepted xs + count_by was_accepted ys;
@@ -155,3 +155,32 @@ counts_join xs ys =
       first = sym (first_joined (first_refused xs) ys) i;
     })
     ∙ (sym (counted_from (count_of xs) ys) ∙ counts_more xs ys)
+
+-- How many rows are counted
+
+one_of_both : (refusal : Option Refusal) → (if is_none refusal then 1 else 0) + (if is_some refusal then 1 else 0) ≡ 1
+one_of_both None = refl
+one_of_both (Some r) = refl
+
+with_one : (count : RunCount) (end : RowEnd) → rows_in (counted_with count end) ≡ rows_in count + 1
+with_one count end = omega (arith, one_of_both end.refusal)
+
+-- one row more is counted
+pub one_row_more : (count count2 : RunCount) (line n place : ℕ) (refusal : Option Refusal)
+    → count2 ≡ counted_with count (row_end line refusal) → rows_in count ≡ n + place → rows_in count2 ≡ n + (place + 1)
+one_row_more count count2 line n place refusal added so_far =
+    omega (arith, ap rows_in added, with_one count (row_end line refusal), so_far)
+
+rows_behind : (count : RunCount) (ends : List RowEnd) → rows_in (counted_behind count ends) ≡ rows_in count + length ends
+rows_behind count [] = omega arith
+rows_behind count (end ∷ ends) = omega (arith, rows_behind (counted_with count end) ends, with_one count end)
+
+length-ends : (place : ℕ) (lines : List ℕ) (refused : List RefusedEvent) → length (ends_from place lines refused) ≡ length lines
+length-ends place [] refused = refl
+length-ends place (line ∷ lines) refused =
+    ap length (taken_is place line lines refused) ∙ ap suc (length-ends (place + 1) lines (taken_at place refused).1)
+
+-- the rows of a batch are counted
+pub rows_of_batch : (count : RunCount) (lines : List ℕ) (refused : List RefusedEvent)
+    → rows_in (counted_behind count (ends_from 0 lines refused)) ≡ rows_in count + length lines
+rows_of_batch count lines refused = omega (arith, rows_behind count (ends_from 0 lines refused), length-ends 0 lines refused)

@@ -1,12 +1,14 @@
 -- How the rows of a script are dealt to their dies.
-use Rattle.std.proofs.Common.{◌≡◌, ℕ, ◌+◌, ◌<◌, ◌==◌, ◌⊎◌, Bool, true, false, cond, List, [], ◌∷◌, ◌++◌, refl, ap, sym, ◌∙◌, subst, length}
-use Rattle.std.proofs.Common.{filter, replicate, get_or, arith, inl, inr, Option, Some, None, Ok, Err}
+use Rattle.std.proofs.Common.{◌≡◌, ℕ, ◌+◌, ◌<◌, ◌≤◌, ◌==◌, Bool, true, false, cond, List, [], ◌∷◌, ◌++◌, refl, ap, sym, ◌∙◌, subst, length}
+use Rattle.std.proofs.Common.{filter, replicate, get_or, length-append, arith, Option, Some, None, Ok, Err}
 use Rattle.std.proofs.lemmas.Bool.{eq-eqb, eqb-true, false≢true}
 use Rattle.std.proofs.lemmas.List.{append-nil, length-set, length-replicate, get_or-replicate, get_or-set_same, get_or-set_other}
 use Rattle.std.proofs.lemmas.List.{get_or_default, replicate-append-replicate}
 use Rattle.std.specs.Prelude.{All}
 use Rattle.std.proofs.lemmas.List.Elements.{All-get_or, All-nil, All-push, All-replicate, All-same, All-set, All-weaker, filter-append}
 use Rattle.std.proofs.lemmas.List.Elements.{filter_passes}
+use Rattle.std.proofs.lemmas.List.Folds.{sum_by-replicate}
+use Rattle.std.proofs.lemmas.List.Sums.{sum_by-set}
 use Rattle.std.proofs.Math.ListN.{set}
 use Rattle.slot_types.specs.declared.refusals.Refusal.{Refusal}
 use Rattle.script_texts.specs.AskedPages.{RowHasPages, RowsHavePages}
@@ -14,7 +16,7 @@ use Rattle.script_texts.specs.Arrivals.{Arrives, IsRowFor}
 use Rattle.script_texts.specs.Script.{Script, Yields}
 use Rattle.script_texts.specs.declared.script_rows.ScriptItem.{ScriptItem}
 use Rattle.task_script.proofs.ReadSoFar.{read_none, read_more, read_all, read_end, read_fault}
-use Rattle.task_script.specs.Feeds.{AllArrive, FailsIn, feed_of, IsDealt, IsReadTo, HasDealt, HasReadRows}
+use Rattle.task_script.specs.Feeds.{AllArrive, FailsIn, feed_of, IsDealt, HasDealt, HasReadRows, rows_dealt}
 
 -- Feeds
 
@@ -129,3 +131,23 @@ dealt_own whole left dies slots feeds item old row at h =
     All-same (λ (row : ScriptItem). row.die ≡ item.die) old (feed_of h.0 item.die) is
     (All-weaker (λ (row : ScriptItem). is_of item.die row ≡ true) (λ row. row.die ≡ item.die)
     (λ (row : ScriptItem) same. eqb-true row.die item.die same) (feed_of h.0 item.die) (filter_passes (is_of item.die) h.0))
+
+-- How many rows are dealt
+
+pub few_none : (dies : ℕ) (feeds : List (List ScriptItem)) → feeds ≡ replicate dies [] → rows_dealt feeds ≤ 0
+few_none dies feeds is =
+    omega (arith, ap rows_dealt is, sum_by-replicate (λ (xs : List ScriptItem). length xs) dies [])
+
+pub few_more : (whole left : Option Script) (dies slots : ℕ) (feeds feeds2 : List (List ScriptItem)) (item : ScriptItem)
+    (old feed : List ScriptItem) (n : ℕ) → IsRowFor dies slots item → old ≡ get_or feeds item.die old → feed ≡ old ++ item ∷ []
+    → feeds2 ≡ set feeds item.die feed → HasDealt whole left dies slots feeds → rows_dealt feeds ≤ n → rows_dealt feeds2 ≤ n + 1
+few_more whole left dies slots feeds feeds2 item old feed n row at grown is h few =
+    omega (
+      arith,
+      ap rows_dealt is,
+      sum_by-set (λ (xs : List ScriptItem). length xs) feeds item.die feed old (omega (arith, row.0, h.2.all)),
+      ap (λ (xs : List ScriptItem). length xs) at,
+      ap (λ (xs : List ScriptItem). length xs) grown,
+      length-append old (item ∷ []),
+      few,
+    )

@@ -7,16 +7,16 @@ use Rattle.slot_types.specs.declared.events.Event.{Event}
 use Rattle.slot_types.specs.declared.events.Event.TheVariants as events
 use Rattle.slot_types.specs.declared.replies.Reply.{Reply}
 use Rattle.slot_types.specs.declared.replies.Reply.TheVariants as replies
-use Rattle.die_log.specs.Log.{Log, Job, jobs, job_at, with_taken}
-use Rattle.die_log.specs.Legal.{IsLegal, IsNumbered}
-use Rattle.die_log.specs.Standing.{AreNumbered}
+use Rattle.die_log.specs.Model.Log.{Log, Job, jobs, job_at, with_taken}
+use Rattle.die_log.specs.Results.Legal.{IsLegal, IsNumbered}
+use Rattle.die_log.specs.Invariants.RunningCollections.{AreNumbered}
 use Rattle.die_log.proofs.Standing.Longer.{numbered_push, number_at}
 use Rattle.slot_core.specs.Summaries.{JobSummary, summary_of, summary_at}
 use Rattle.report_texts.specs.declared.reports.ReportRow.{ReportRow}
 use Rattle.report_texts.specs.TextSoFar.{TextSoFar, row_added, rows_added}
 use Rattle.report_texts.proofs.TextParts.{rows_push}
 use Rattle.task_script.specs.DieReports.{row_as, report_row_of, report_rows_of}
-use Rattle.die_log.specs.Start.{Start}
+use Rattle.die_log.specs.Model.Start.{Start}
 
 -- Numbers
 

@@ -15,27 +15,27 @@ use Rattle.slot_types.specs.declared.replies.Waived.{Waived}
 use Rattle.plan_rules.specs.Accounts.{Accounts, given_of}
 use Rattle.plan_rules.specs.Accounts as moves
 use Rattle.plan_rules.specs.Bound.{MeetsBound}
-use Rattle.die_log.specs.Log.{Log, Job, jobs, job_at, now, carried, with_slot, with_waived, act_of, acts, waived, work}
-use Rattle.die_log.specs.Flash.{ran_by}
-use Rattle.die_log.specs.Work.{are_all, is_done, is_erase, completion, ended_by}
-use Rattle.die_log.specs.Accounts.{accounts, after_waivers}
-use Rattle.die_log.specs.Answers.{IsExact}
-use Rattle.die_log.specs.Legal.{IsLegal, IsLegalReply, AreWaivers}
-use Rattle.die_log.specs.Limits.{IsWithinLimits}
+use Rattle.die_log.specs.Model.Log.{Log, Job, jobs, job_at, now, carried_slots, with_slot, with_waived, act_of, acts, waived_collections, work}
+use Rattle.die_log.specs.Model.Flash.{ran_by}
+use Rattle.die_log.specs.Model.Work.{are_all, is_done, is_erase, completion, ended_by}
+use Rattle.die_log.specs.Model.Accounts.{accounts, after_waivers}
+use Rattle.die_log.specs.Model.Answers.{IsExact}
+use Rattle.die_log.specs.Results.Legal.{IsLegal, IsLegalReply, AreWaivers}
+use Rattle.die_log.specs.Results.Limits.{IsWithinLimits}
 use Rattle.die_log.proofs.AccountsPlan.{accounts_plan, waivers_plan}
 use Rattle.die_log.proofs.Choices.{OfSome}
 use Rattle.die_log.proofs.Known.{all_append}
 use Rattle.die_log.proofs.Legal.Exact.{has_slots}
 use Rattle.die_log.proofs.Limits.{few_found, keeps_limits}
-use Rattle.slot_core.specs.Records.{bytes_read, gift_by, gift_of, given, given_by, reads_of, waiver_among}
-use Rattle.die_log.specs.Start.{fresh}
+use Rattle.slot_core.specs.Records.{bytes_read, gift_by, gift_of, pages_given, given_by, reads_of, waiver_among}
+use Rattle.die_log.specs.Model.Start.{fresh}
 
 -- Completions
 
 before_end : (past : Log) (reply : Reply) (act : Option Act) (earlier n : ℕ) → act_of n (ran_by reply) ≡ act → earlier ≤ now past
-    → ended_by act earlier (now past) ≤ length (with_slot reply (carried past))
-before_end past (replies.Slot s) None earlier n e h = omega (arith, h, length_push (carried past) s.ran)
-before_end past (replies.Slot s) (Some act) earlier n e h = omega (arith, length_push (carried past) s.ran)
+    → ended_by act earlier (now past) ≤ length (with_slot reply (carried_slots past))
+before_end past (replies.Slot s) None earlier n e h = omega (arith, h, length_push (carried_slots past) s.ran)
+before_end past (replies.Slot s) (Some act) earlier n e h = omega (arith, length_push (carried_slots past) s.ran)
 before_end past (replies.Taken number) None earlier n e h = h
 before_end past (replies.Taken number) (Some act) earlier n e h = absurd cc
 before_end past (replies.Refused refusal) None earlier n e h = h
@@ -112,9 +112,9 @@ given_by_few plan past (replies.Slot s) number earlier h = gift_by_few plan past
 given_by_few plan past (replies.Taken n) number earlier h = h
 given_by_few plan past (replies.Refused refusal) number earlier h = h
 
-pub done_gives_few : (plan : DiePlan) (number : ℕ) (log : Log) → given (fresh plan) number log ≤ plan.alpha
+pub done_gives_few : (plan : DiePlan) (number : ℕ) (log : Log) → pages_given (fresh plan) number log ≤ plan.alpha
 done_gives_few plan number [] = omega arith
-done_gives_few plan number (e ∷ past) = given_by_few plan past e.reply number (given (fresh plan) number past) (done_gives_few plan number past)
+done_gives_few plan number (e ∷ past) = given_by_few plan past e.reply number (pages_given (fresh plan) number past) (done_gives_few plan number past)
 
 -- What waived collections give
 
@@ -125,16 +125,16 @@ waivers_few : (plan : DiePlan) (past : Log) (earlier : List Waived) (a : Account
     → AreWaivers plan past earlier a ws → AllByRecursion (GivesFew plan) ws
 waivers_few plan past earlier a [] e h = tt
 waivers_few plan past earlier a (w ∷ ws) e h =
-    (omega (arith, h.1.gives, given_plan plan a h.0.task e), waivers_few plan past (earlier ++ w ∷ []) (moves.waived a h.0.task) ws e h.2)
+    (omega (arith, h.1.gives, given_plan plan a h.0.task e), waivers_few plan past (earlier ++ w ∷ []) (moves.accounts_after_waiver a h.0.task) ws e h.2)
 
-reply_few : (plan : DiePlan) (past : Log) (reply : Reply) → IsLegalReply (fresh plan) past reply → AllByRecursion (GivesFew plan) (waived past)
-    → AllByRecursion (GivesFew plan) (with_waived reply (waived past))
-reply_few plan past (replies.Slot s) h k = all_append (GivesFew plan) (waived past) s.waived k
-    (waivers_few plan past (waived past) (accounts (fresh plan) past) s.waived (accounts_plan (fresh plan) past) h.0)
+reply_few : (plan : DiePlan) (past : Log) (reply : Reply) → IsLegalReply (fresh plan) past reply → AllByRecursion (GivesFew plan) (waived_collections past)
+    → AllByRecursion (GivesFew plan) (with_waived reply (waived_collections past))
+reply_few plan past (replies.Slot s) h k = all_append (GivesFew plan) (waived_collections past) s.waived k
+    (waivers_few plan past (waived_collections past) (accounts (fresh plan) past) s.waived (accounts_plan (fresh plan) past) h.0)
 reply_few plan past (replies.Taken n) h k = k
 reply_few plan past (replies.Refused refusal) h k = k
 
-all_few : (plan : DiePlan) (log : Log) → IsLegal (fresh plan) log → AllByRecursion (GivesFew plan) (waived log)
+all_few : (plan : DiePlan) (log : Log) → IsLegal (fresh plan) log → AllByRecursion (GivesFew plan) (waived_collections log)
 all_few plan [] h = tt
 all_few plan (e ∷ past) h = reply_few plan past e.reply h.1.slot (all_few plan past h.0)
 
@@ -149,5 +149,5 @@ among_few plan number (w ∷ ws) h = by_number (w.number == number) (among_few p
     by_number false later = later
 
 pub waived_gives_few : (plan : DiePlan) (log : Log) (number : ℕ) → IsLegal (fresh plan) log
-    → OfSome (λ (w : Waived). w.given ≤ plan.alpha) (waiver_among number (waived log))
-waived_gives_few plan log number legal = among_few plan number (waived log) (all_few plan log legal)
+    → OfSome (λ (w : Waived). w.given ≤ plan.alpha) (waiver_among number (waived_collections log))
+waived_gives_few plan log number legal = among_few plan number (waived_collections log) (all_few plan log legal)

@@ -17,13 +17,13 @@ use Rattle.slot_types.specs.declared.events.Event.{Event}
 use Rattle.slot_types.specs.declared.events.Event.TheVariants as events
 use Rattle.slot_types.specs.declared.replies.Waived.{Waived}
 use Rattle.plan_rules.specs.Bound.{MeetsBound}
-use Rattle.die_log.specs.Log.{Log, Job, Carried, jobs, job_at, carried, act_of, acts, work}
-use Rattle.die_log.specs.Flash.{Cells, blank_page, cells, contents, valid_pages, written}
-use Rattle.die_log.specs.Work.{is_ready, ready}
-use Rattle.die_log.specs.Accounts.{accounts}
-use Rattle.die_log.specs.Answers.{IsExact, accepted, act_for, act_of_op, block_for, buffer_after, choice, collect_act, is_placed_in}
-use Rattle.die_log.specs.Answers.{read_or_erase, refusals, reply_with, slot_reply}
-use Rattle.die_log.specs.Standing.{AreNumbered}
+use Rattle.die_log.specs.Model.Log.{Log, Job, Carried, jobs, job_at, carried_slots, act_of, acts, work}
+use Rattle.die_log.specs.Model.Flash.{Cells, blank_page, cells, contents, valid_pages, contents_after}
+use Rattle.die_log.specs.Model.Work.{is_ready, ready}
+use Rattle.die_log.specs.Model.Accounts.{accounts}
+use Rattle.die_log.specs.Model.Answers.{IsExact, reply_if_accepted, act_for, act_of_op, block_for, buffer_after, choice, collect_act, is_placed_in}
+use Rattle.die_log.specs.Model.Answers.{read_or_erase, refusals, reply_with, slot_reply}
+use Rattle.die_log.specs.Invariants.RunningCollections.{AreNumbered}
 use Rattle.die_log.proofs.Choices.{Names, OfSome, all_kept, names_waiting}
 use Rattle.die_log.proofs.Known.{all_append}
 use Rattle.die_log.proofs.Legality.{entry, exact_induction}
@@ -34,7 +34,7 @@ use Rattle.slot_core.specs.Records.{reads_of}
 use Rattle.script_texts.specs.AskedPages.{WritesPage}
 use Rattle.text_base.specs.Pages.{IsPage}
 use Rattle.task_script.specs.LogPages.{EntryHasPages, HasPages}
-use Rattle.die_log.specs.Start.{fresh}
+use Rattle.die_log.specs.Model.Start.{fresh}
 use Rattle.die_log.proofs.Openings.{fresh_opens}
 
 -- Lists
@@ -101,7 +101,7 @@ HasJobPages j = AllByRecursion WritesPage j.ops
 record KeepsPages (plan : DiePlan) (log : Log) : Type 0 where
   held : AllByRecursion IsPage (contents (fresh plan) log)
   asked : AllByRecursion HasJobPages (jobs log)
-  ran : AllByRecursion (HasRunPages (jobs log)) (carried log)
+  ran : AllByRecursion (HasRunPages (jobs log)) (carried_slots log)
 
 -- One slot
 
@@ -156,7 +156,7 @@ slot_ran plan past ws (Some j) k h = head_ran plan past ws j (act_for (fresh pla
 
 -- what a slot wrote is a page
 held_after : (js : List Job) (c : Carried) (pages : List PageData) → HasRunPages js c → AllByRecursion IsPage pages
-    → AllByRecursion IsPage (written c pages)
+    → AllByRecursion IsPage (contents_after c pages)
 held_after js None pages h k = k
 held_after js (Some (n, does.Read page bytes)) pages h k = k
 held_after js (Some (n, does.Write page bytes)) pages h k = all_set IsPage pages page bytes k h.2
@@ -181,7 +181,7 @@ heads plan past bound exact k =
     (all_known past (λ i j at. omega (arith, number_at 0 (jobs past) i j (numbered plan past bound exact) at))) k.asked
 
 slot_kept : (plan : DiePlan) (past : Log) (caller : ℕ) → MeetsBound plan → IsExact (fresh plan) past → KeepsPages plan past
-    → KeepsPages plan (entry caller events.Slot (accepted (fresh plan) past events.Slot) ∷ past)
+    → KeepsPages plan (entry caller events.Slot (reply_if_accepted (fresh plan) past events.Slot) ∷ past)
 slot_kept plan past caller bound exact k =
     let c = choice (fresh plan) past in
     let ran = (slot_reply (fresh plan) past c.waived c.head).ran in
@@ -192,7 +192,7 @@ slot_kept plan past caller bound exact k =
     record {
       held = held_after (jobs past) ran (contents (fresh plan) past) good k.held;
       asked = k.asked;
-      ran = all_append (HasRunPages (jobs past)) (carried past) (ran ∷ []) k.ran (good, tt);
+      ran = all_append (HasRunPages (jobs past)) (carried_slots past) (ran ∷ []) k.ran (good, tt);
     }
 
 abbrev pub AreAsked : Log → Type 0
@@ -206,14 +206,14 @@ pages_kept plan bound = exact_induction (fresh plan) (λ log. AreAsked log → K
 
     step : (past : Log) (caller : ℕ) (event : Event) → IsExact (fresh plan) past → (AreAsked past → KeepsPages plan past)
         → AllByRecursion (λ c. c.0 ≡ false) (refusals (fresh plan) past event)
-        → AreAsked (entry caller event (accepted (fresh plan) past event) ∷ past)
-        → KeepsPages plan (entry caller event (accepted (fresh plan) past event) ∷ past)
+        → AreAsked (entry caller event (reply_if_accepted (fresh plan) past event) ∷ past)
+        → KeepsPages plan (entry caller event (reply_if_accepted (fresh plan) past event) ∷ past)
     step past caller (events.Submit task release due ops) exact h none asked =
         let k = h asked.1 in
         record {
           held = k.held;
           asked = all_append HasJobPages (jobs past) (_ ∷ []) k.asked (recursion_from_All WritesPage ops asked.0, tt);
-          ran = runs_later (jobs past) (_ ∷ []) (carried past) k.ran;
+          ran = runs_later (jobs past) (_ ∷ []) (carried_slots past) k.ran;
         }
     step past caller (events.Collect task release due) exact h none asked =
         let k = h asked.1 in
@@ -221,7 +221,7 @@ pages_kept plan bound = exact_induction (fresh plan) (λ log. AreAsked log → K
           held = k.held;
           asked = all_append HasJobPages (jobs past) (_ ∷ []) k.asked (tt, tt);
           ran = runs_later (jobs past) (_ ∷ [])
-              (carried past) k.ran;
+              (carried_slots past) k.ran;
         }
     step past caller events.Slot exact h none asked = slot_kept plan past caller bound exact (h asked.1)
 
@@ -253,7 +253,7 @@ acts_pages : (plan : DiePlan) (log : Log) (j : Job) → MeetsBound plan → IsEx
     → AllByRecursion (HasActPages j.collects) (acts j.number log)
 acts_pages plan log j bound exact asked stands =
     let k = pages_kept plan bound log exact (recursion_from_All EntryHasPages log asked) in
-    own_acts (jobs log) j.number j (carried log) (stands_at (jobs log) j (numbered plan log bound exact) stands) k.ran
+    own_acts (jobs log) j.number j (carried_slots log) (stands_at (jobs log) j (numbered plan log bound exact) stands) k.ran
 
 read_pages : (collects : Bool) (own : List Act) → AllByRecursion (HasActPages collects) own → AllByRecursion IsPage (reads_of own)
 read_pages collects [] h = tt

@@ -11,16 +11,16 @@ use Rattle.slot_types.specs.declared.pages.PageData.{PageData}
 use Rattle.slot_types.specs.declared.replies.Waived.{Waived}
 use Rattle.plan_rules.specs.Bound.{MeetsBound}
 use Rattle.late_cert.specs.Schedule.{lateness_of}
-use Rattle.die_log.specs.Log.{Log, Job, jobs, acts, waived, work}
-use Rattle.die_log.specs.Work.{is_done, completion}
-use Rattle.die_log.specs.Answers.{IsExact}
-use Rattle.die_log.specs.Standing.{AreNumbered}
+use Rattle.die_log.specs.Model.Log.{Log, Job, jobs, acts, waived_collections, work}
+use Rattle.die_log.specs.Model.Work.{is_done, completion}
+use Rattle.die_log.specs.Model.Answers.{IsExact}
+use Rattle.die_log.specs.Invariants.RunningCollections.{AreNumbered}
 use Rattle.die_log.proofs.Choices.{OfSome}
 use Rattle.die_log.proofs.Legal.Exact.{stands_well}
 use Rattle.die_log.proofs.Limits.{few_work, keeps_limits}
 use Rattle.slot_types.specs.declared.events.JobHead.{JobHead}
 use Rattle.slot_core.specs.Outcomes.{outcome_by}
-use Rattle.slot_core.specs.Records.{given, reads_of, waiver_among}
+use Rattle.slot_core.specs.Records.{pages_given, reads_of, waiver_among}
 use Rattle.report_texts.specs.ReportRows.{has_outcome, is_done as is_done_row, is_late, is_placed, is_sound, is_timed}
 use Rattle.report_texts.specs.WellFormed.{AreDies, AreRows, IsDie, IsReport, IsRow, on_die}
 use Rattle.text_base.specs.Pages.{IsPage}
@@ -36,7 +36,7 @@ use Rattle.task_script.specs.TextRuns.{reports_from}
 use Rattle.task_script.proofs.ExactNumbers.{completed_by_now, done_gives_few, done_worked, few_reads, waived_gives_few}
 use Rattle.task_script.proofs.ExactPages.{collections_read_nothing, reads_are_pages}
 use Rattle.task_script.proofs.ExactWorst.{contained_all, has_cert, number_small}
-use Rattle.die_log.specs.Start.{fresh}
+use Rattle.die_log.specs.Model.Start.{fresh}
 use Rattle.die_log.proofs.Openings.{fresh_opens}
 
 -- Rows
@@ -170,7 +170,7 @@ job_placed plan log die j bound exact small stands =
 
 job_ended : (plan : DiePlan) (log : Log) (j : Job) → MeetsBound plan → IsExact (fresh plan) log → HasPages log → Contains (jobs log) j
     → is_done plan log j ≡ true
-    → IsEnded j.collects (work j.number log) (completion j.number log) (given (fresh plan) j.number log) (reads_of (acts j.number log))
+    → IsEnded j.collects (work j.number log) (completion j.number log) (pages_given (fresh plan) j.number log) (reads_of (acts j.number log))
 job_ended plan log j bound exact asked stands done = record {
   worked = omega (arith, done_worked plan log j bound exact stands done);
   ended = omega (arith, completed_by_now j.number log, (keeps_limits (fresh plan) log exact).slots);
@@ -183,10 +183,10 @@ job_ended plan log j bound exact asked stands done = record {
 job_row : (plan : DiePlan) (log : Log) (die : ℕ) (j : Job) → MeetsBound plan → IsExact (fresh plan) log → HasPages log → die < 8
     → Contains (jobs log) j → IsRow die j.number (report_row_of (fresh plan) log j)
 job_row plan log die j bound exact asked small stands =
-    row_good j.collects die j.number j.task j.release j.due (work j.number log) (waiver_among j.number (waived log)) (is_done plan log j)
-    (completion j.number log) (given (fresh plan) j.number log) (reads_of (acts j.number log))
+    row_good j.collects die j.number j.task j.release j.due (work j.number log) (waiver_among j.number (waived_collections log)) (is_done plan log j)
+    (completion j.number log) (pages_given (fresh plan) j.number log) (reads_of (acts j.number log))
     (job_placed plan log die j bound exact small stands)
-    (some_other (λ (w : Waived). w.given ≤ plan.alpha) (λ (w : Waived). w.given < 2 ^ 32) (waiver_among j.number (waived log))
+    (some_other (λ (w : Waived). w.given ≤ plan.alpha) (λ (w : Waived). w.given < 2 ^ 32) (waiver_among j.number (waived_collections log))
     (λ w few. omega (arith, few, alpha_small plan bound))
     (waived_gives_few plan log j.number (stands_well (fresh plan) (fresh_opens plan bound) log exact).1.legal))
     (job_ended plan log j bound exact asked stands)

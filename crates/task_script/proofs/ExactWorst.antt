@@ -16,11 +16,11 @@ use Rattle.late_cert.specs.declared.certificates.Certificate.{Certificate}
 use Rattle.late_cert.specs.Bound.{is_listed}
 use Rattle.late_cert.specs.Rows.{is_done_in}
 use Rattle.late_cert.specs.Rows.{is_done as is_done_row}
-use Rattle.die_log.specs.Log.{Log, Job, jobs, acts, waived, work, is_waived}
-use Rattle.die_log.specs.Work.{is_done, is_worse, completion, lateness_of, worst}
-use Rattle.die_log.specs.Answers.{IsExact}
-use Rattle.die_log.specs.Rows.{rows, row_for, certificate, certificate_for, IsCertified}
-use Rattle.die_log.specs.Standing.{AreNumbered}
+use Rattle.die_log.specs.Model.Log.{Log, Job, jobs, acts, waived_collections, work, is_waived}
+use Rattle.die_log.specs.Model.Work.{is_done, is_worse, completion, lateness_of, worst}
+use Rattle.die_log.specs.Model.Answers.{IsExact}
+use Rattle.die_log.specs.Model.Rows.{rows, row_for, certificate, certificate_for, IsCertified}
+use Rattle.die_log.specs.Invariants.RunningCollections.{AreNumbered}
 use Rattle.die_log.proofs.Legal.Exact.{stands_well}
 use Rattle.die_log.proofs.Limits.{keeps_limits}
 use Rattle.die_log.proofs.Least.Certificates.{worst_certified}
@@ -29,15 +29,15 @@ use Rattle.die_log.proofs.Least.Worst.{worst_is}
 use Rattle.die_log.proofs.Standing.Longer.{stands_at}
 use Rattle.slot_types.specs.declared.events.JobHead.{JobHead}
 use Rattle.slot_core.specs.Outcomes.{outcome_by, head_of}
-use Rattle.slot_core.specs.Records.{waiver_among, given, reads_of}
+use Rattle.slot_core.specs.Records.{waiver_among, pages_given, reads_of}
 use Rattle.slot_core.proofs.Worsts.{waiver_stands}
 use Rattle.report_texts.specs.WellFormed.{HasCert, IsCert}
-use Rattle.report_texts.specs.Worst.{finish_of, worse, worst_from, worst_of}
+use Rattle.report_texts.specs.Worst.{finish_of, worse_finish, worst_from, worst_of}
 use Rattle.report_texts.specs.Worst as report
 use Rattle.report_texts.specs.declared.report_certs.Finish.{Finish}
 use Rattle.task_script.specs.DieReports.{report_row_of, report_rows_of, row_by}
 use Rattle.task_script.proofs.ExactNumbers.{completed_by_now, done_worked}
-use Rattle.die_log.specs.Start.{fresh}
+use Rattle.die_log.specs.Model.Start.{fresh}
 use Rattle.die_log.proofs.Openings.{fresh_opens}
 
 -- What is done
@@ -75,9 +75,9 @@ IsUnwaived plan log j = is_done plan log j ≡ true → is_waived log j.number �
 finish_is : (plan : DiePlan) (log : Log) (j : Job) → IsUnwaived plan log j → finish_of (report_row_of (fresh plan) log j)
     ≡ cond (is_done plan log j) (Some (finish_in log j)) None
 finish_is plan log j apart =
-    finish_by j.number (work j.number log) (head_of j) (waiver_among j.number (waived log)) (is_done plan log j) (completion j.number log)
-    (lateness_of log j) (given (fresh plan) j.number log) (reads_of (acts j.number log))
-    (λ done. waiver_stands j.number (waived log) ∙ apart done)
+    finish_by j.number (work j.number log) (head_of j) (waiver_among j.number (waived_collections log)) (is_done plan log j) (completion j.number log)
+    (lateness_of log j) (pages_given (fresh plan) j.number log) (reads_of (acts j.number log))
+    (λ done. waiver_stands j.number (waived_collections log) ∙ apart done)
 
 -- The worse of two
 
@@ -123,7 +123,7 @@ worst_on : (plan : DiePlan) (log : Log) (k : ℕ) (js : List Job) (best : Job) �
     ≡ Some (finish_in log (fold (worse_of log) best (filter (is_done plan log) js)))
 worst_on plan log k [] best n lt h = refl
 worst_on plan log k (j ∷ js) best n lt h =
-    ap (λ (o : Option Finish). worst_from (worse (Some (finish_in log best)) o) (map (report_row_of (fresh plan) log) js))
+    ap (λ (o : Option Finish). worst_from (worse_finish (Some (finish_in log best)) o) (map (report_row_of (fresh plan) log) js))
     (finish_is plan log j h.0)
     ∙ by_done (is_done plan log j) (λ b below. worst_on plan log (k + 1) js b n.1 below h.1)
   where
@@ -138,7 +138,7 @@ worst_on plan log k (j ∷ js) best n lt h =
     by_worse false again = again best (omega (arith, lt))
 
     by_done : (b : Bool) → ((i : Job) → i.number < k + 1 → IsWorstOn i (filter (is_done plan log) js))
-        → worst_from (worse (Some (finish_in log best)) (finish_of_done log j b)) (map (report_row_of (fresh plan) log) js)
+        → worst_from (worse_finish (Some (finish_in log best)) (finish_of_done log j b)) (map (report_row_of (fresh plan) log) js)
         ≡ Some (finish_in log (fold (worse_of log) best (cond b (j ∷ filter (is_done plan log) js) (filter (is_done plan log) js))))
     by_done false again = again best (omega (arith, lt))
     by_done true again =
@@ -150,12 +150,12 @@ worst_new : (plan : DiePlan) (log : Log) (k : ℕ) (js : List Job) → AreNumber
     → worst_of (map (report_row_of (fresh plan) log) js) ≡ option_map (finish_in log) (reduce (worse_of log) (filter (is_done plan log) js))
 worst_new plan log k [] n h = refl
 worst_new plan log k (j ∷ js) n h =
-    ap (λ (o : Option Finish). worst_from (worse None o) (map (report_row_of (fresh plan) log) js)) (finish_is plan log j h.0)
+    ap (λ (o : Option Finish). worst_from (worse_finish None o) (map (report_row_of (fresh plan) log) js)) (finish_is plan log j h.0)
     ∙ by_done (is_done plan log j) (worst_new plan log (k + 1) js n.1 h.1)
   where
     by_done : (b : Bool) → worst_of (map (report_row_of (fresh plan) log) js)
         ≡ option_map (finish_in log) (reduce (worse_of log) (filter (is_done plan log) js))
-        → worst_from (worse None (finish_of_done log j b)) (map (report_row_of (fresh plan) log) js)
+        → worst_from (worse_finish None (finish_of_done log j b)) (map (report_row_of (fresh plan) log) js)
         ≡ option_map (finish_in log) (reduce (worse_of log) (cond b (j ∷ filter (is_done plan log) js) (filter (is_done plan log) js)))
     by_done false again = again
     by_done true again = worst_on plan log (k + 1) js j n.1 (omega (arith, n.0)) h.1

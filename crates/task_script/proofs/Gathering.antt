@@ -10,14 +10,14 @@ use Rattle.std.proofs.lemmas.List.{append-nil}
 use Rattle.std.proofs.lemmas.List.Elements.{recursion_from_All}
 use Rattle.slot_types.specs.declared.plans.DiePlan.{DiePlan}
 use Rattle.slot_core.specs.Core.{Core}
-use Rattle.die_service.specs.Stores.{DiePass, IsClosed}
+use Rattle.die_service.specs.Stores.{DiePass, IsClosedWith}
 use Rattle.report_texts.specs.ReportText.{report_text}
 use Rattle.script_texts.specs.Arrivals.{Arrives}
 use Rattle.script_texts.specs.Script.{Script, script_of}
 use Rattle.script_texts.specs.declared.script_rows.ScriptItem.{ScriptItem}
-use Rattle.die_log.specs.Log.{Log, Job, jobs}
-use Rattle.die_log.specs.Rows.{certificate, certificate_for}
-use Rattle.die_log.specs.Work.{is_done, is_worse}
+use Rattle.die_log.specs.Model.Log.{Log, Job, jobs}
+use Rattle.die_log.specs.Model.Rows.{certificate, certificate_for}
+use Rattle.die_log.specs.Model.Work.{is_done, is_worse}
 use Rattle.late_cert.specs.declared.certificates.Certificate.{Certificate}
 use Rattle.report_texts.specs.TextSoFar.{TextSoFar, die_added, text_so_far}
 use Rattle.report_texts.proofs.TextParts.{text_more}
@@ -26,17 +26,17 @@ use Rattle.report_texts.specs.declared.reports.ReportRow.{ReportRow}
 use Rattle.task_script.proofs.BatchRuns.{closed_run, die_start}
 use Rattle.task_script.proofs.Batching.{SoFar, come_more, in_time_more, items_are}
 use Rattle.task_script.proofs.Counting.{counts_join}
-use Rattle.task_script.specs.Batches.{Closes, RanRows, HasComeTo, HaveComeTo, joined_behind, joined_counts, latest}
+use Rattle.task_script.specs.Batches.{Closes, RanRows, HasComeTo, HaveComeTo, joined_behind, latest_slot}
 use Rattle.task_script.specs.DieReports.{die_report_of, report_row_of, report_rows_of}
 use Rattle.task_script.specs.DieRuns.{DieRun, run_at}
 use Rattle.task_script.specs.Feeds.{AreInTime, AreItemsOf, HasReadRows, feed_of}
-use Rattle.task_script.specs.RunCounts.{count_of, joined}
+use Rattle.task_script.specs.RunCounts.{count_of, sum_of_counts}
 use Rattle.task_script.specs.TextRuns.{AreRuns, RanScript, RunsText, ends_of, reports_from, with_rows}
 use Rattle.task_script.specs.StoreRuns.{reports_of}
 use Rattle.task_script.specs.declared.batches.Progress.{Progress}
 use Rattle.task_script.specs.declared.run_counts.RowEnd.{RowEnd}
 use Rattle.task_script.specs.declared.run_counts.RunCount.{RunCount}
-use Rattle.die_log.specs.Start.{Start, fresh}
+use Rattle.die_log.specs.Model.Start.{Start, fresh}
 
 -- Texts
 
@@ -104,7 +104,7 @@ none_left (x ∷ left) e = absurd (omega (arith, e))
 
 -- The runs of dies that were closed
 
--- a record of the runs of dies that were closed: their reports, and their rows, behind others, are counted
+-- a record of the runs of dies that were closed: their reports, and their rows, after others, are counted
 record GatheredRuns {N : Type 0} (slots number : ℕ) (feed : ℕ → List ScriptItem) (plans : List DiePlan) (progress : List Progress)
     (dies : List (Core N)) : Type 0 where
   pub runs : List DieRun
@@ -114,8 +114,8 @@ record GatheredRuns {N : Type 0} (slots number : ℕ) (feed : ℕ → List Scrip
 
 gathered : {N : Type 0} (slots number : ℕ) (feed : ℕ → List ScriptItem) (plans : List DiePlan) (ps : List DiePass)
     (progress : List Progress) (dies : List (Core N))
-    → ((k : ℕ) → k < length plans → latest (feed (number + k)) ≤ slots)
-    → HaveComeTo slots feed number plans ps progress → AllZip IsClosed ps dies → GatheredRuns slots number feed plans progress dies
+    → ((k : ℕ) → k < length plans → latest_slot (feed (number + k)) ≤ slots)
+    → HaveComeTo slots feed number plans ps progress → AllZip IsClosedWith ps dies → GatheredRuns slots number feed plans progress dies
 gathered slots number feed [] [] [] [] in_time come closed = record {
   runs = [];
   ran = tt;
@@ -124,11 +124,11 @@ gathered slots number feed [] [] [] [] in_time come closed = record {
 }
 gathered slots number feed (plan ∷ plans) (p ∷ ps) (at ∷ progress) (die ∷ dies) in_time come closed =
     let here : number + 0 ≡ number = omega arith in
-    let due : latest (feed number) ≤ slots = subst (λ (n : ℕ). latest (feed n) ≤ slots) here (in_time 0 (omega arith)) in
-    let all : max (latest (feed number)) slots ≡ slots = omega (arith, due) in
+    let due : latest_slot (feed number) ≤ slots = subst (λ (n : ℕ). latest_slot (feed n) ≤ slots) here (in_time 0 (omega arith)) in
+    let all : max (latest_slot (feed number)) slots ≡ slots = omega (arith, due) in
     let h : HasComeTo plan (feed number) slots p at = subst (λ (n : ℕ). HasComeTo plan (feed number) n p at) all come.0 in
     let rest = gathered slots (number + 1) feed plans ps progress dies
-    (λ k below. subst (λ (n : ℕ). latest (feed n) ≤ slots) (let on : number + suc k ≡ number + 1 + k = omega arith in on)
+    (λ k below. subst (λ (n : ℕ). latest_slot (feed n) ≤ slots) (let on : number + suc k ≡ number + 1 + k = omega arith in on)
     (in_time (suc k) (omega (arith, below)))) come.1 closed.1 in
     let ran = run_at die.log h.ends in record {
       runs = ran ∷ rest.runs;
@@ -136,7 +136,7 @@ gathered slots number feed (plan ∷ plans) (p ∷ ps) (at ∷ progress) (die �
       reported = ap (λ (x : Start). with_rows (die_report_of x die.log number) (reports_of (number + 1) dies))
           (die_start plan (feed number) slots p at die h closed.0)
           ∙ ap (with_rows (die_report_of (fresh plan) die.log number)) rest.reported;
-      counted = λ before. ap (λ (c : RunCount). joined_behind (joined (count_of before) c) progress) h.counted
+      counted = λ before. ap (λ (c : RunCount). joined_behind (sum_of_counts (count_of before) c) progress) h.counted
           ∙ (ap (λ (c : RunCount). joined_behind c progress) (counts_join before h.ends)
           ∙ (rest.counted (before ++ h.ends) ∙ ap count_of (append_assoc before h.ends (ends_of rest.runs))));
     }
@@ -147,13 +147,13 @@ gathered slots number feed (plan ∷ plans) [] progress dies in_time come closed
 gathered slots number feed (plan ∷ plans) (p ∷ ps) [] dies in_time come closed = absurd come
 gathered slots number feed (plan ∷ plans) (p ∷ ps) (at ∷ progress) [] in_time come closed = absurd closed
 
-pub closed_length : {N : Type 0} (ps : List DiePass) (dies : List (Core N)) → AllZip IsClosed ps dies → length dies ≡ length ps
+pub closed_length : {N : Type 0} (ps : List DiePass) (dies : List (Core N)) → AllZip IsClosedWith ps dies → length dies ≡ length ps
 closed_length [] [] closed = refl
 closed_length [] (die ∷ dies) closed = absurd closed
 closed_length (p ∷ ps) [] closed = absurd closed
 closed_length (p ∷ ps) (die ∷ dies) closed = ap suc (closed_length ps dies closed.1)
 
-latest_within : (slots : ℕ) (items : List ScriptItem) → AllByRecursion (Arrives slots) items → latest items ≤ slots
+latest_within : (slots : ℕ) (items : List ScriptItem) → AllByRecursion (Arrives slots) items → latest_slot items ≤ slots
 latest_within slots [] arrive = omega arith
 latest_within slots (item ∷ items) arrive = let rest = latest_within slots items arrive.1 in omega (arith, rest, arrive.0.0)
 
@@ -188,7 +188,7 @@ runs_text text plans slots told count old new r written = record {
   written = subst (λ (report : List DieReport). Appends old new (report_text report)) r.ran.reported written;
 }
 
--- the text of the reports, and the count, where no row of the script is left behind these, which were run
+-- the text of the reports, and the count, where no row of the script is left after these, which were run
 pub script_ran : (text : Option (List ℕ)) (left new : Option Script) (plans : List DiePlan) (slots : ℕ) (ps qs : List DiePass)
     (before after : List Progress) (rows : List (List ScriptItem))
     (s : SoFar 0 (option_map (script_of (length plans) slots) text) left plans slots ps before)

@@ -6,7 +6,7 @@ use Rattle.std.proofs.lemmas.List.Elements.{recursion_from_All}
 use Rattle.die_service.specs.declared.feeds.Arrival.{Arrival}
 use Rattle.script_texts.specs.declared.script_rows.ScriptItem.{ScriptItem}
 use Rattle.task_script.proofs.BatchCalls.{latest_more}
-use Rattle.task_script.specs.Batches.{latest}
+use Rattle.task_script.specs.Batches.{latest_slot}
 use Rattle.task_script.specs.RowEnds.{arrival_of, arrivals_of, lines_of, rows_of}
 
 pub arrivals_back : (die : ℕ) (lines : List ℕ) (feed : List Arrival) → length lines ≡ length feed → feed
@@ -56,10 +56,10 @@ rows_more old item lines lines2 feed feed2 same lines_are feed_is own =
 -- there is a line for each, and the last one is known
 pub rows_kept : (old : ℕ) (item : ScriptItem) (lines lines2 : List ℕ) (feed feed2 : List Arrival) (last last2 : ℕ)
     → length lines ≡ length feed → lines2 ≡ lines ++ item.line ∷ [] → feed2 ≡ feed ++ arrival_of item ∷ []
-    → All (λ (row : ScriptItem). row.die ≡ item.die) (rows_of old lines feed) → last ≡ latest (rows_of old lines feed)
-    → last2 ≡ max last item.at → (length lines2 ≡ length feed2) × (last2 ≡ latest (rows_of item.die lines2 feed2))
+    → All (λ (row : ScriptItem). row.die ≡ item.die) (rows_of old lines feed) → last ≡ latest_slot (rows_of old lines feed)
+    → last2 ≡ max last item.at → (length lines2 ≡ length feed2) × (last2 ≡ latest_slot (rows_of item.die lines2 feed2))
 rows_kept old item lines lines2 feed feed2 last last2 same lines_are feed_is own last_is last2_is =
-    let rows = ap latest (rows_more old item lines lines2 feed feed2 same lines_are feed_is own)
+    let rows = ap latest_slot (rows_more old item lines lines2 feed feed2 same lines_are feed_is own)
     ∙ latest_more (rows_of old lines feed) (item ∷ []) in (
       omega (
         arith,

@@ -1,6 +1,6 @@
--- Stores in memory: why none is refused but for want of memory.
+-- Stores in memory: why none is refused but out of memory.
 use Rattle.std.proofs.Common.{◌≡◌, ℕ, suc, ◌≤◌, ◌⊎◌, inl, inr, List, [], ◌∷◌, refl, ap, sym, ◌∙◌, subst, length, map, All, Ok, Err}
-use Rattle.std.proofs.Common.{Result, arith}
+use Rattle.std.proofs.Common.{Result}
 use Rattle.std.specs.Prelude.{◌↔◌, IfErr}
 use Rattle.std.proofs.lemmas.List.Elements.{All-map, All-weaker, All-same}
 use Rattle.slot_types.specs.declared.plans.DiePlan.{DiePlan}
@@ -9,7 +9,7 @@ use Rattle.slot_types.specs.declared.refusals.Refusal.TheVariants.{BadShape, Bad
 use Rattle.plan_rules.specs.Bound.{MeetsBound, IsShape}
 use Rattle.flash_die.specs.Flash.{IsFresh}
 use Rattle.flash_die.specs.Memory.{Memory, fresh_memory}
-use Rattle.die_service.specs.Stores.{Fit, IsShaped, IsServed}
+use Rattle.die_service.specs.Stores.{Fit, IsShaped, HasUsablePlans}
 
 fit_own : (plans : List DiePlan) → Fit plans (map (λ (m : Memory). m.shape) (map (λ (plan : DiePlan). fresh_memory plan.shape) plans))
 fit_own [] = tt
@@ -31,7 +31,7 @@ pub refused_for_memory : {T : Type 0} (plans copies : List DiePlan) (nands : Lis
     ≤ length plans → length plans ≤ 8 → All MeetsBound plans
     → copies ≡ plans → nands ≡ map (λ (plan : DiePlan). fresh_memory plan.shape) plans → devices ≡ length nands
     → ((result ≡ Err BadShape) ↔ ¬ IsShaped copies (map (λ (m : Memory). m.shape) nands))
-    → ((result ≡ Err BadPlan) ↔ (IsShaped copies (map (λ (m : Memory). m.shape) nands) × ¬ IsServed copies devices))
+    → ((result ≡ Err BadPlan) ↔ (IsShaped copies (map (λ (m : Memory). m.shape) nands) × ¬ HasUsablePlans copies devices))
     → IfErr result (λ r. (r ≡ BadShape) ⊎ (r ≡ BadPlan) ⊎ (r ≡ NoMemory)) → IfErr result (λ r. r ≡ NoMemory)
 refused_for_memory plans copies nands devices result some few bound same are len shape plan why =
     let fresh : List Memory = map (λ (plan : DiePlan). fresh_memory plan.shape) plans in
@@ -43,9 +43,9 @@ refused_for_memory plans copies nands devices result some few bound same are len
           = fit_own plans;
     } in
     let one : devices ≡ length plans = len ∙ (ap length are ∙ fresh_length plans) in
-    only_memory (IsShaped copies (map (λ (m : Memory). m.shape) nands)) (IsServed copies devices) result
+    only_memory (IsShaped copies (map (λ (m : Memory). m.shape) nands)) (HasUsablePlans copies devices) result
     (subst (λ (x : List DiePlan × List Memory). IsShaped x.0 (map (λ (m : Memory). m.shape) x.1)) (λ i. (sym same i, sym are i)) shaped)
-    (subst (λ (x : List DiePlan). IsServed x devices) (sym same) (record { one_each = one; bound = bound }))
+    (subst (λ (x : List DiePlan). HasUsablePlans x devices) (sym same) (record { one_each = one; bound = bound }))
     shape plan why
 
 pub all_fresh : (plans : List DiePlan) (nands : List Memory) → nands ≡ map (λ (plan : DiePlan). fresh_memory plan.shape) plans

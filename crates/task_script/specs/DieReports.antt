@@ -1,8 +1,8 @@
 -- The report of a die, read off its log.
 use Rattle.std.specs.Prelude.{ℕ, ℤ, Bool, true, false, List, [], map, Option, Some, None}
 use Rattle.slot_types.specs.declared.pages.PageData.{PageData}
-use Rattle.die_log.specs.Log.{Log, Job, jobs}
-use Rattle.die_log.specs.Rows.{certificate}
+use Rattle.die_log.specs.Model.Log.{Log, Job, jobs}
+use Rattle.die_log.specs.Model.Rows.{certificate}
 use Rattle.slot_types.specs.declared.events.JobHead.{JobHead}
 use Rattle.slot_core.specs.declared.outcomes.Outcome.{Outcome}
 use Rattle.slot_core.specs.declared.outcomes.Outcome.TheVariants as outcomes
@@ -11,7 +11,7 @@ use Rattle.report_texts.specs.declared.reports.DieReport.{DieReport}
 use Rattle.report_texts.specs.declared.reports.ReportRow.{ReportRow}
 use Rattle.report_texts.specs.declared.reports.RowKind.{RowKind}
 use Rattle.report_texts.specs.declared.reports.RowKind.TheVariants as kind
-use Rattle.die_log.specs.Start.{Start}
+use Rattle.die_log.specs.Model.Start.{Start}
 
 abbrev pub kind_of : Bool → RowKind
 kind_of true = kind.Collect

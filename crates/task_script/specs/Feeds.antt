@@ -1,6 +1,6 @@
 -- The rows of a script, by die.
 use Rattle.std.specs.Prelude.{◌≡◌, ◌==◌, ◌⊎◌, ⊤, ℕ, ◌<◌, Bool, true, List, [], ◌++◌, All, filter, length}
-use Rattle.std.specs.Prelude.{get_or, Option, Some, None, IfSome}
+use Rattle.std.specs.Prelude.{get_or, sum_by, Option, Some, None, IfSome}
 use Rattle.std.specs.Prelude.{Ok, Err}
 use Rattle.slot_types.specs.declared.refusals.Refusal.{Refusal}
 use Rattle.script_texts.specs.Arrivals.{Arrives}
@@ -27,6 +27,10 @@ pub record IsDealt (dies slots : ℕ) (items : List ScriptItem) (feeds : List (L
 -- the items of the script, where its text is known
 abbrev pub AreItemsOf : Option (List ℕ) → ℕ → ℕ → List ScriptItem → Type 0
 AreItemsOf text dies slots items = IfSome text (λ bytes. script_of dies slots bytes ≡ Ok items)
+
+-- how many rows these are, of all dies
+abbrev pub rows_dealt : List (List ScriptItem) → ℕ
+rows_dealt feeds = sum_by (λ (items : List ScriptItem). length items) feeds
 
 -- memory ran out, or the reader failed; or the script has this fault
 abbrev pub RefusesScript : Option (List ℕ) → ℕ → ℕ → Refusal → Type 0

@@ -14,11 +14,11 @@ pub use Rattle.text_base.specs.Readings
 pub use Rattle.plan_texts.specs.PlanText
 pub use Rattle.plan_texts.specs.Stores
 pub use Rattle.script_texts.specs.Script
-pub use Rattle.script_texts.specs.Left
+pub use Rattle.script_texts.specs.ScriptLeft
 pub use Rattle.script_texts.specs.Arrivals
 pub use Rattle.script_texts.specs.AskedPages
 pub use Rattle.report_texts.specs.JobRows
-pub use Rattle.report_texts.specs.Numbered
+pub use Rattle.report_texts.specs.Numbering
 pub use Rattle.report_texts.specs.ReportOf
 pub use Rattle.report_texts.specs.ReportText
 pub use Rattle.report_texts.specs.WellFormed

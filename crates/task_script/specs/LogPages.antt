@@ -1,7 +1,7 @@
 -- The bytes that the jobs of a log were asked to write are pages.
 use Rattle.std.specs.Prelude.{All}
 use Rattle.slot_types.specs.declared.replies.Entry.{Entry}
-use Rattle.die_log.specs.Log.{Log}
+use Rattle.die_log.specs.Model.Log.{Log}
 use Rattle.script_texts.specs.AskedPages.{AsksPages}
 
 -- what an entry asks to write are pages

@@ -7,44 +7,44 @@ use Rattle.slot_types.specs.declared.plans.Times.{Times}
 use Rattle.slot_types.specs.declared.refusals.Refusal.TheVariants.{NoMemory}
 use Rattle.plan_rules.specs.Times.{Passes}
 use Rattle.plan_rules.specs.Keeping.{KeepsPlan}
-use Rattle.die_log.specs.Planned.{IsInTime}
+use Rattle.die_log.specs.Results.InTime.{IsInTime}
 use Rattle.script_texts.specs.declared.script_rows.ScriptItem.{ScriptItem}
 use Rattle.report_texts.specs.declared.reports.ReportRow.{ReportRow}
 use Rattle.task_script.specs.DieReports.{report_rows_of}
-use Rattle.task_script.specs.DieRuns.{Call, Row, Slot, DieRun, calls_of}
+use Rattle.task_script.specs.DieRuns.{ScriptCall, Row, Slot, DieRun, calls_of}
 use Rattle.task_script.specs.Feeds.{feed_of}
 use Rattle.task_script.specs.TextRuns.{RunsText}
 use Rattle.task_script.specs.declared.run_counts.RowEnd.{RowEnd}
 use Rattle.task_script.specs.declared.run_counts.RunCount.{RunCount}
-use Rattle.die_log.specs.Start.{fresh}
+use Rattle.die_log.specs.Model.Start.{fresh}
 
 -- the event of a call
-abbrev pub event_of : Call → Event
+abbrev pub event_of : ScriptCall → Event
 event_of (Row item) = item.event
 event_of Slot = events.Slot
 
 -- the events of a run of so many slots with these rows, in their order
-abbrev pub events_of : ℕ → List ScriptItem → List Event
-events_of slots items = map event_of (calls_of slots items)
+abbrev pub events_of_rows : ℕ → List ScriptItem → List Event
+events_of_rows slots items = map event_of (calls_of slots items)
 
 -- the rows of a die keep its plan, with times that pass their test
-pub record KeepsItsPlan (plan : DiePlan) (slots : ℕ) (items : List ScriptItem) : Type 0 where
+pub record RowsKeepPlan (plan : DiePlan) (slots : ℕ) (items : List ScriptItem) : Type 0 where
   pub times : Times
   pub passes : Passes plan times
-  pub keeps : KeepsPlan plan times (events_of slots items)
+  pub keeps : KeepsPlan plan times (events_of_rows slots items)
 
 -- a row of a report has no lateness above 0
 abbrev pub IsOnTime : ReportRow → Type 0
 IsOnTime row = IfSome row.lateness (λ lateness. lateness ≤ℤ pos 0)
 
--- none of these rows was refused, up to one for want of memory, behind which nothing is said
+-- none of these rows was refused, up to one out of memory, after which nothing is said
 abbrev pub AreTakenUntilMemory : List RowEnd → Type 0
 AreTakenUntilMemory [] = ⊤
 AreTakenUntilMemory (end ∷ ends) = ((end.refusal ≡ None) × AreTakenUntilMemory ends) ⊎ (end.refusal ≡ Some NoMemory)
 
--- what a die did is in time, so no row of its report is late, and no row was refused but for want of memory, or behind one
+-- what a die did is in time, so no row of its report is late, and no row was refused but out of memory, or after one
 -- that was
-pub record GoesAsPlanned (plan : DiePlan) (run : DieRun) : Type 0 where
+pub record RowsGoAsPlanned (plan : DiePlan) (run : DieRun) : Type 0 where
   pub in_time : IsInTime plan run.log
   pub on_time : All IsOnTime (report_rows_of (fresh plan) run.log)
   pub taken : AreTakenUntilMemory run.ends
@@ -53,7 +53,7 @@ pub record GoesAsPlanned (plan : DiePlan) (run : DieRun) : Type 0 where
 abbrev pub AreAsPlanned : ℕ → (ℕ → List ScriptItem) → ℕ → List DiePlan → List DieRun → Type 0
 AreAsPlanned slots feed die [] [] = ⊤
 AreAsPlanned slots feed die (plan ∷ plans) (run ∷ runs) =
-    (KeepsItsPlan plan slots (feed die) → GoesAsPlanned plan run) × AreAsPlanned slots feed (die + 1) plans runs
+    (RowsKeepPlan plan slots (feed die) → RowsGoAsPlanned plan run) × AreAsPlanned slots feed (die + 1) plans runs
 AreAsPlanned slots feed die _ _ = ⊥
 
 -- each die of the store ran its rows of the script, and those whose rows keep their plan went as planned

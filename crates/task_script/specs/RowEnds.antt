@@ -32,7 +32,7 @@ ends_from place (line ∷ lines) (r ∷ refused) =
     if r.place == place then row_end line (Some r.refused.refusal) ∷ ends_from (place + 1) lines refused
     else row_end line None ∷ ends_from (place + 1) lines (r ∷ refused)
 
--- why the event of a place was refused, if the first of these was it, and those behind it
+-- why the event of a place was refused, if the first of these was it, and those after it
 abbrev pub taken_at : ℕ → List RefusedEvent → Option Refusal × List RefusedEvent
 taken_at place [] = (None, [])
 taken_at place (r ∷ refused) = if r.place == place then (Some r.refused.refusal, refused) else (None, r ∷ refused)

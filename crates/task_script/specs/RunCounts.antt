@@ -20,7 +20,8 @@ abbrev pub first_by : ℕ → Option Refusal → Option (ℕ × ℕ) → Option 
 first_by line None first = first
 first_by line (Some refusal) first = or_earlier line refusal first
 
--- of these rows and a refused one before them the refused one of the smallest record: its record and the refusal's number
+-- of these rows and a refused one before them the refused one of the smallest record: its record and the refusal's
+-- number
 abbrev pub first_behind : Option (ℕ × ℕ) → List RowEnd → Option (ℕ × ℕ)
 first_behind first [] = first
 first_behind first (end ∷ ends) = first_behind (first_by end.line end.refusal first) ends
@@ -32,19 +33,23 @@ first_refused ends = first_behind None ends
 abbrev pub count_of : List RowEnd → RunCount
 count_of ends = record { accepted = count_by was_accepted ends; refused = count_by was_refused ends; first = first_refused ends }
 
--- the first refused row, of those of some rows and of other rows behind them
+-- the first refused row, of those of some rows and of other rows after them
 abbrev pub joined_first : Option (ℕ × ℕ) → Option (ℕ × ℕ) → Option (ℕ × ℕ)
 joined_first first None = first
 joined_first None (Some second) = Some second
 joined_first (Some first) (Some second) = if nat_lt second.0 first.0 then Some second else Some first
 
--- the rows of two counts, those of the second behind those of the first
-abbrev pub joined : RunCount → RunCount → RunCount
-joined count more = record {
+-- the rows of two counts, those of the second after those of the first
+abbrev pub sum_of_counts : RunCount → RunCount → RunCount
+sum_of_counts count more = record {
   accepted = count.accepted + more.accepted;
   refused = count.refused + more.refused;
   first = joined_first count.first more.first;
 }
+
+-- how many rows were counted
+abbrev pub rows_in : RunCount → ℕ
+rows_in count = count.accepted + count.refused
 
 -- Row by row
 

@@ -10,17 +10,17 @@ use Rattle.report_texts.specs.TextSoFar.{TextSoFar, text_so_far}
 use Rattle.script_texts.specs.declared.script_rows.ScriptItem.{ScriptItem}
 use Rattle.report_texts.specs.declared.reports.DieReport.{DieReport}
 use Rattle.task_script.specs.DieReports.{die_report_of}
-use Rattle.task_script.specs.DieRuns.{DieRun, IsRun}
+use Rattle.task_script.specs.DieRuns.{DieRun, IsScriptRun}
 use Rattle.task_script.specs.Feeds.{AreInTime, AreItemsOf, RefusesScript, feed_of}
 use Rattle.task_script.specs.RunCounts.{count_of}
 use Rattle.task_script.specs.declared.run_counts.RowEnd.{RowEnd}
 use Rattle.task_script.specs.declared.run_counts.RunCount.{RunCount}
-use Rattle.die_log.specs.Start.{fresh}
+use Rattle.die_log.specs.Model.Start.{fresh}
 
 -- by die, from this number on, a run of its rows
 abbrev pub AreRuns : ℕ → (ℕ → List ScriptItem) → ℕ → List DiePlan → List DieRun → Type 0
 AreRuns slots feed die [] [] = ⊤
-AreRuns slots feed die (plan ∷ plans) (run ∷ runs) = IsRun plan slots (feed die) run × AreRuns slots feed (die + 1) plans runs
+AreRuns slots feed die (plan ∷ plans) (run ∷ runs) = IsScriptRun plan slots (feed die) run × AreRuns slots feed (die + 1) plans runs
 AreRuns slots feed die _ _ = ⊥
 
 -- a die without rows has no report
@@ -36,9 +36,8 @@ reports_from die _ _ = []
 abbrev pub ends_of : List DieRun → List RowEnd
 ends_of runs = flat_map (λ (run : DieRun). run.ends) runs
 
--- each die of the store ran all its slots with its rows of the script, what those write are pages, the rows are counted, and what is
--- written is the
--- report of the dies' exact logs
+-- each die of the store ran all its slots with its rows of the script, what those write are pages, the rows are
+-- counted, and what is written is the report of the dies' exact logs
 pub record RunsText (text : Option (List ℕ)) (plans : List DiePlan) (slots : ℕ) (count : RunCount) (old new : Option (List ℕ)) : Type 0
   where
     pub items : List ScriptItem
@@ -56,7 +55,7 @@ RefusesText text dies slots refusal = RefusesScript text dies slots refusal ⊎ 
 -- While the dies run
 
 -- these dies ran, these are their reports, and so many of their rows were accepted and refused
-pub record HaveRun (slots : ℕ) (feed : ℕ → List ScriptItem) (plans : List DiePlan) (report : List DieReport) (count : RunCount) : Type 0
+pub record DiesHaveRun (slots : ℕ) (feed : ℕ → List ScriptItem) (plans : List DiePlan) (report : List DieReport) (count : RunCount) : Type 0
   where
     pub runs : List DieRun
     pub ran : AreRuns slots feed 0 plans runs
@@ -69,5 +68,5 @@ pub record RanScript (text : Option (List ℕ)) (plans : List DiePlan) (slots : 
   pub script : AreItemsOf text (length plans) slots items
   pub in_time : AreInTime (length plans) slots items
   pub report : List DieReport
-  pub ran : HaveRun slots (feed_of items) plans report count
+  pub ran : DiesHaveRun slots (feed_of items) plans report count
   pub told_is : told ≡ text_so_far report

@@ -1,11 +1,12 @@
 //! Rows of a script that are run on dies in memory, a batch of each die at a time.
 
-ghost use Rattle.std.specs.Prelude.{◌≡◌, ◌≤◌, length, map, replicate, All, IfOk, OnOk};
+ghost use Rattle.std.specs.Prelude.{◌≡◌, ◌+◌, ◌<◌, ◌≤◌, ◌^◌, length, map, replicate, All, IfOk, OnOk};
 ghost use Rattle.slot_types.specs.Arrivals.{IsArrival};
 ghost use Rattle.slot_types.specs.Refusal.{FailsForMemory};
-ghost use Rattle.task_script.specs.Batches.{RanRows, batches_of, fresh_progress, kept_of, progress_after};
+ghost use Rattle.task_script.specs.Batches.{RanRows, batches_of, fresh_progress, kept_of, progress_after, rows_counted, rows_kept};
+ghost use Rattle.task_script.specs.Feeds.{rows_dealt};
 ghost use Rattle.task_script.specs.RowEnds.{ends_from, taken_at};
-ghost use Rattle.task_script.specs.RunCounts.{counted_behind};
+ghost use Rattle.task_script.specs.RunCounts.{counted_behind, rows_in};
 
 use crate::rows::{DieRows, Lines};
 use crate::run_counts::{RowEnd, RunCount};
@@ -28,7 +29,7 @@ pub struct Progress {
 /// What is kept of a batch while it runs.
 #[derive(Drop)]
 pub struct KeptRows {
-    /// The slot behind its last one.
+    /// The slot after its last one.
     pub end: u32,
     /// The lines of its rows.
     pub lines: Lines,
@@ -45,10 +46,7 @@ pub fn no_progress(alloc: Global, dies: usize) -> Result<Vec<Progress>, Refusal>
     };
     let mut progress = Vec::new(alloc);
     for _ in 0..dies {
-        match progress.push(fresh) {
-            Ok(()) => {}
-            Err(_) => return Err(Refusal::NoMemory),
-        }
+        progress.push(fresh)?;
     }
     Ok(progress)
 }
@@ -88,7 +86,7 @@ fn make_batches(
     Ok((batches, kept))
 }
 
-/// Why the event of a place was refused, if it was, and the refused events behind it.
+/// Why the event of a place was refused, if it was, and the refused events after it.
 fn take_refused(refused: &[RefusedEvent], place: usize) -> (Option<Refusal>, &[RefusedEvent])
     ensures refusal { result.0 ≡ (taken_at place refused.now).0 }
     ensures rest { result.1.now ≡ (taken_at place refused.now).1 }
@@ -100,18 +98,17 @@ fn take_refused(refused: &[RefusedEvent], place: usize) -> (Option<Refusal>, &[R
 }
 
 /// Counts the rows with these lines, by the events that were refused.
-fn add_rows(lines: &[u32], refused: &[RefusedEvent], count: &mut RunCount) -> Result<(), Refusal>
-    ensures ok { OnOk result (count.new ≡ counted_behind count.old (ends_from 0 lines.now refused.now)) }
-    ensures refused { FailsForMemory result }
+fn add_rows(lines: &[u32], refused: &[RefusedEvent], count: &mut RunCount)
+    requires few { rows_in count.old + length lines.now < 2 ^ 64 }
+    ensures { count.new ≡ counted_behind count.old (ends_from 0 lines.now refused.now) }
 {
     let mut rest = refused;
     for place in 0..lines.len() {
         let (refusal, later) = take_refused(rest, place);
         let line = lines[place];
-        count.add(RowEnd { line, refusal })?;
+        count.add(RowEnd { line, refusal });
         rest = later;
     }
-    Ok(())
 }
 
 /// Whether each die carried out all its slots. The only refusal is NoMemory: within a die's life a slot of a device in
@@ -129,7 +126,7 @@ fn none_stopped(ends: &[DieEnd]) -> Result<(), Refusal>
     Ok(())
 }
 
-/// How far dies have come behind a batch of each, whose rows are counted.
+/// How far dies have come after a batch of each, whose rows are counted.
 fn go_on(
     alloc: Global,
     progress: &[Progress],
@@ -138,6 +135,7 @@ fn go_on(
 ) -> Result<Vec<Progress>, Refusal>
     requires kept { length kept.now ≡ length progress.now }
     requires ends { length ends.now ≡ length progress.now }
+    requires few { rows_counted progress.now + rows_kept kept.now < 2 ^ 64 }
     ensures ok { IfOk result (λ made. made.items ≡ progress_after progress.now kept.now ends.now) }
     ensures refused { FailsForMemory result }
 {
@@ -145,18 +143,16 @@ fn go_on(
     for die in 0..progress.len() {
         let mut count = progress[die].count;
         let refused = ends[die].refused.as_slice();
-        add_rows(kept[die].lines.as_slice(), refused, &mut count)?;
+        add_rows(kept[die].lines.as_slice(), refused, &mut count);
         let clock = kept[die].end;
-        match made.push(Progress { clock, count }) {
-            Ok(()) => {}
-            Err(_) => return Err(Refusal::NoMemory),
-        }
+        made.push(Progress { clock, count })?;
     }
     Ok(made)
 }
 
-/// Runs these rows on their dies, by so many workers, each die up to its last row, but not less than up to slot `until`. The
-/// only refusal is NoMemory, behind which nothing is said of the dies.
+/// Runs these rows on their dies, by so many workers, each die up to its last row, but not less than up to slot
+/// `until`. All rows so far are few enough to be counted. The only refusal is NoMemory, after which nothing is said of
+/// the dies.
 pub fn run_rows<R: Threads + Wait + Sync>(
     rt: &R,
     alloc: Global,
@@ -171,7 +167,9 @@ pub fn run_rows<R: Threads + Wait + Sync>(
     requires rows { length rows.items ≡ length store.now }
     requires progress { length progress.old.items ≡ length store.now }
     requires arrive { All (λ items. All (λ item. IsArrival item.event) items) rows.items }
+    requires few { rows_counted progress.old.items + rows_dealt rows.items < 2 ^ 64 }
     requires workers { (1 ≤ workers) × (workers ≤ 16) }
+    ensures counted { OnOk result (rows_counted progress.new.items ≡ rows_counted progress.old.items + rows_dealt rows.items) }
     ensures ran { OnOk result (RanRows until rows.items passes.old.items progress.old.items passes.new.items progress.new.items) }
     ensures own { map (λ pass. pass.lock) passes.new.items ≡ store.now }
     ensures refused { FailsForMemory result }

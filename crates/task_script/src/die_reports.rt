@@ -64,7 +64,7 @@ fn numbers_of(die: u32, number: JobNo, job: &Job) -> RowNumbers
     }
 }
 
-/// Adds the row of a job, which tells what its reads gave once it is done.
+/// Adds the row of a job, which has what its reads gave once it is done.
 fn add_job(text: &mut ReportText, die: u32, number: JobNo, job: &Job) -> Result<(), Refusal>
     ensures ok { OnOk result (text.new ≡ row_added die (row_as number (summary_in job.now)) text.old) }
     ensures refused { FailsForMemory result }

@@ -1,9 +1,9 @@
 //! The rows of a script, by die.
 
-ghost use Rattle.std.specs.Prelude.{◌≡◌, ℕ, Option, [], length, replicate, IfOk, IfErr};
+ghost use Rattle.std.specs.Prelude.{◌≡◌, ◌≤◌, ℕ, Option, [], length, replicate, IfOk, IfErr};
 ghost use Rattle.slot_types.specs.Refusal.{FailsForMemory};
-ghost use Rattle.script_texts.specs.Left.{dies_of, script_left, slots_of};
-ghost use Rattle.task_script.specs.Feeds.{FailsIn, HasReadRows};
+ghost use Rattle.script_texts.specs.ScriptLeft.{dies_of, script_left, slots_of};
+ghost use Rattle.task_script.specs.Feeds.{FailsIn, HasReadRows, rows_dealt};
 
 use crate::rows::DieRows;
 use script_texts::ScriptReader;
@@ -11,10 +11,10 @@ use slot_types::{OpList, Refusal};
 use std::alloc::Global;
 use std::io::Read;
 
-/// How many rows are read before they are run, at most. No contract depends on it.
+/// How many rows are read before they are run, at most.
 const BATCH_ROWS: u32 = 16_384;
 
-/// Behind how many operations no further row is read before these are run. No contract depends on it.
+/// After how many operations no further row is read before these are run. No contract depends on it.
 const BATCH_OPS: usize = 65_536;
 
 /// The rows that were read from a script, by die.
@@ -32,16 +32,13 @@ fn no_rows(alloc: Global, dies: usize) -> Result<Vec<DieRows>, Refusal>
 {
     let mut rows = Vec::new(alloc);
     for _ in 0..dies {
-        match rows.push(DieRows::new(alloc)) {
-            Ok(()) => {}
-            Err(_) => return Err(Refusal::NoMemory),
-        }
+        rows.push(DieRows::new(alloc))?;
     }
     Ok(rows)
 }
 
-/// By die the next rows of a script for so many dies, as many as are run at a time, or all that are left. Their operations
-/// are read into the list of the caller's.
+/// By die the next rows of a script for so many dies, as many as are run at a time, or all that are left: 16,384 at
+/// most. Their operations are read into the list of the caller's.
 pub fn read_rows<R: Read>(
     alloc: Global,
     script: &mut ScriptReader<R>,
@@ -51,6 +48,7 @@ pub fn read_rows<R: Read>(
     requires dies { dies_of script.old ≡ dies }
     ensures rows { IfOk result (λ rows. HasReadRows (script_left R.remaining script.old) (script_left R.remaining script.new) dies
         (slots_of script.old) rows.dies.items rows.ended) }
+    ensures few { IfOk result (λ rows. rows_dealt rows.dies.items ≤ 16384) }
     ensures refused { IfErr result (FailsIn (script_left R.remaining script.old)) }
     ensures dies { dies_of script.new ≡ dies_of script.old }
     ensures slots { slots_of script.new ≡ slots_of script.old }

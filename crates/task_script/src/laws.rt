@@ -7,15 +7,15 @@ ghost use Rattle.report_texts.specs.ReportOf.{report_of};
 ghost use Rattle.report_texts.specs.ReportText.{report_text};
 ghost use Rattle.report_texts.specs.WellFormed.{IsReport};
 ghost use Rattle.script_texts.specs.declared.script_rows.ScriptItem.{ScriptItem};
-ghost use Rattle.task_script.specs.DieRuns.{DieRun, IsRun};
+ghost use Rattle.task_script.specs.DieRuns.{DieRun, IsScriptRun};
 ghost use Rattle.task_script.specs.ExactRuns.{AreExact};
 ghost use Rattle.task_script.specs.Feeds.{AllArrive};
-ghost use Rattle.task_script.specs.PlannedRuns.{GoesAsPlanned, KeepsItsPlan};
+ghost use Rattle.task_script.specs.PlannedRuns.{RowsGoAsPlanned, RowsKeepPlan};
 ghost use Rattle.task_script.specs.TextRuns.{RunsText, reports_from};
 ghost use Rattle.task_script.specs.declared.run_counts.RunCount.{RunCount};
 
-/// The report of the exact logs of at most eight dies meets the conditions of reading, so it is read back from its text.
-/// The plan of each die meets its bound, and its jobs were asked to write pages of sixteen bytes.
+/// The report of the exact logs of at most eight dies meets the conditions of reading, so it is read back from its
+/// text. The plan of each die meets its bound, and its jobs were asked to write pages of sixteen bytes.
 pub fn exact_reports_come_back()
     ensures formed { (plans : List DiePlan) (runs : List DieRun) → length plans ≤ 8 → AreExact plans runs
         → IsReport (reports_from 0 plans runs) }
@@ -31,10 +31,10 @@ pub fn run_reports_come_back()
         report_of (report_text (reports_from 0 plans ran.runs)) ≡ Ok (reports_from 0 plans ran.runs) }
 {}
 
-/// Where the rows of a die keep its plan, with times that pass their test, its run goes as planned: all that is due by the
-/// end is done or was waived, no row of its report has a lateness above 0, and no row is refused but for want of memory,
-/// or behind one that was.
+/// Where the rows of a die keep its plan, with times that pass their test, its run goes as planned: all that is due by
+/// the end is done or was waived, no row of its report has a lateness above 0, and no row is refused but out of memory,
+/// or after one that was.
 pub fn planned_runs_go_as_planned()
     ensures { (plan : DiePlan) (slots : ℕ) (items : List ScriptItem) (run : DieRun) → MeetsBound plan →
-        AllArrive slots items → KeepsItsPlan plan slots items → IsRun plan slots items run → GoesAsPlanned plan run }
+        AllArrive slots items → RowsKeepPlan plan slots items → IsScriptRun plan slots items run → RowsGoAsPlanned plan run }
 {}

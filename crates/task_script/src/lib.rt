@@ -11,6 +11,7 @@ mod run_counts;
 mod stores;
 mod text_runs;
 
+pub use die_reports::add_die;
 pub use laws::{exact_reports_come_back, planned_runs_go_as_planned, run_reports_come_back};
 pub use plan_texts::read_plan;
 pub use report_texts::{

@@ -2,7 +2,7 @@
 
 ghost use Rattle.std.specs.Prelude.{◌≡◌, ◌∷◌, ◌++◌, [], All, OnOk};
 ghost use Rattle.slot_types.specs.Refusal.{FailsForMemory};
-ghost use Rattle.task_script.specs.Batches.{latest};
+ghost use Rattle.task_script.specs.Batches.{latest_slot};
 ghost use Rattle.task_script.specs.RowEnds.{arrivals_of, lines_of};
 ghost use Rattle.script_texts.specs.Heads.{row_of};
 
@@ -36,7 +36,7 @@ impl Model for DieRows {
 
     ghost view = { λ r. rows_of r.die r.lines.items r.feed };
 
-    ghost invariant = { λ r. (length r.lines.items ≡ length r.feed) × (r.latest ≡ batches.latest (rows_of r.die r.lines.items r.feed)) };
+    ghost invariant = { λ r. (length r.lines.items ≡ length r.feed) × (r.latest ≡ batches.latest_slot (rows_of r.die r.lines.items r.feed)) };
 }
 
 impl DieRows {
@@ -52,8 +52,8 @@ impl DieRows {
         }
     }
 
-    /// Adds a row of the same die, of its head and its operations; a collection leaves them aside. The only refusal is for
-    /// want of memory.
+    /// Adds a row of the same die, of its head and its operations; a collection leaves them aside. The only refusal is
+    /// for lack of memory.
     pub fn add(&mut self, head: &RowHead, ops: &[Op]) -> Result<(), Refusal>
         requires one_die { All (λ row. row.die ≡ head.now.die) self.old }
         ensures ok { OnOk result (self.new ≡ self.old ++ row_of head.now ops.now ∷ []) }
@@ -69,7 +69,7 @@ impl DieRows {
 
     /// The greatest slot by which a row comes, 0 where there is none.
     pub fn latest(&self) -> u32
-        ensures { result ≡ latest self.now }
+        ensures { result ≡ latest_slot self.now }
     {
         self.latest
     }

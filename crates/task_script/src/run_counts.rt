@@ -1,8 +1,7 @@
 //! What became of the rows of a script, and their counts.
 
-ghost use Rattle.std.specs.Prelude.{◌≡◌, ◌+◌, [], IfOk, OnOk};
-ghost use Rattle.slot_types.specs.Refusal.{FailsForMemory};
-ghost use Rattle.task_script.specs.RunCounts.{count_of, counted_with, first_by, joined, joined_first};
+ghost use Rattle.std.specs.Prelude.{◌≡◌, ◌+◌, ◌<◌, ◌^◌, []};
+ghost use Rattle.task_script.specs.RunCounts.{count_of, counted_with, first_by, rows_in, sum_of_counts, joined_first};
 
 use slot_types::Refusal;
 
@@ -20,7 +19,8 @@ pub struct RowEnd {
 pub struct RunCount {
     pub accepted: u64,
     pub refused: u64,
-    /// Of the refused row of the smallest record the record's number, the header being 1, and the number of the refusal.
+    /// Of the refused row of the smallest record the record's number, the header being 1, and the number of the
+    /// refusal.
     pub first: Option<(u32, u8)>,
 }
 
@@ -48,14 +48,6 @@ fn joined_first(first: Option<(u32, u8)>, second: Option<(u32, u8)>) -> Option<(
     }
 }
 
-/// A count with more rows, or none where there are more than can be counted.
-fn sum(count: u64, more: u64) -> Result<u64, Refusal>
-    ensures ok { IfOk result (λ all. all ≡ count + more) }
-    ensures refused { FailsForMemory result }
-{
-    count.checked_add(more).ok_or(Refusal::NoMemory)
-}
-
 impl RunCount {
     /// No row was counted.
     pub fn none() -> RunCount
@@ -68,27 +60,25 @@ impl RunCount {
         }
     }
 
-    /// Counts a row. `NoMemory` only where there are more rows than 64 bits count.
-    pub(crate) fn add(&mut self, end: RowEnd) -> Result<(), Refusal>
-        ensures ok { OnOk result (self.new ≡ counted_with self.old end) }
-        ensures refused { FailsForMemory result }
+    /// Counts a row.
+    pub(crate) fn add(&mut self, end: RowEnd)
+        requires few { rows_in self.old + 1 < 2 ^ 64 }
+        ensures { self.new ≡ counted_with self.old end }
     {
         match end.refusal {
-            None => self.accepted = sum(self.accepted, 1)?,
-            Some(_) => self.refused = sum(self.refused, 1)?,
+            None => self.accepted += 1,
+            Some(_) => self.refused += 1,
         }
         self.first = first_by(&end, self.first);
-        Ok(())
     }
 
-    /// Counts the rows of another count behind these. `NoMemory` only where there are more rows than 64 bits count.
-    pub(crate) fn add_all(&mut self, more: &RunCount) -> Result<(), Refusal>
-        ensures ok { OnOk result (self.new ≡ joined self.old more.now) }
-        ensures refused { FailsForMemory result }
+    /// Counts the rows of another count after these.
+    pub(crate) fn add_all(&mut self, more: &RunCount)
+        requires few { rows_in self.old + rows_in more.now < 2 ^ 64 }
+        ensures { self.new ≡ sum_of_counts self.old more.now }
     {
-        self.accepted = sum(self.accepted, more.accepted)?;
-        self.refused = sum(self.refused, more.refused)?;
+        self.accepted += more.accepted;
+        self.refused += more.refused;
         self.first = joined_first(self.first, more.first);
-        Ok(())
     }
 }

@@ -4,7 +4,7 @@ ghost use Rattle.std.specs.Prelude.{◌≡◌, ◌≤◌, length, map, All, IfOk
 ghost use Rattle.slot_types.specs.Refusal.{FailsForMemory};
 ghost use Rattle.plan_rules.specs.Bound.{MeetsBound};
 ghost use Rattle.flash_die.specs.Memory.{fresh_memory};
-ghost use Rattle.die_log.specs.Start.{fresh};
+ghost use Rattle.die_log.specs.Model.Start.{fresh};
 ghost use Rattle.turn_lock.specs.Views.{first_view};
 
 use die_service::{DiePass, Store};
@@ -17,13 +17,11 @@ fn times_copy(alloc: Global, times: &Times) -> Result<Times, Refusal>
     ensures ok { IfOk result (λ copy. copy ≡ times.now) }
     ensures refused { FailsForMemory result }
 {
-    match Vec::from_slice(alloc, times.tasks.as_slice()) {
-        Ok(tasks) => Ok(Times {
-            common: times.common,
-            tasks: TimesList::from_vec(tasks),
-        }),
-        Err(_) => Err(Refusal::NoMemory),
-    }
+    let tasks = Vec::from_slice(alloc, times.tasks.as_slice())?;
+    Ok(Times {
+        common: times.common,
+        tasks: TimesList::from_vec(tasks),
+    })
 }
 
 /// A copy of a plan, with its times if it has any.
@@ -35,16 +33,14 @@ fn plan_copy(alloc: Global, plan: &DiePlan) -> Result<DiePlan, Refusal>
         Some(times) => Some(times_copy(alloc, times)?),
         None => None,
     };
-    match Vec::from_slice(alloc, plan.caps.as_slice()) {
-        Ok(caps) => Ok(DiePlan {
-            shape: plan.shape,
-            logical: plan.logical,
-            alpha: plan.alpha,
-            caps: Caps::from_vec(caps),
-            times,
-        }),
-        Err(_) => Err(Refusal::NoMemory),
-    }
+    let caps = Vec::from_slice(alloc, plan.caps.as_slice())?;
+    Ok(DiePlan {
+        shape: plan.shape,
+        logical: plan.logical,
+        alpha: plan.alpha,
+        caps: Caps::from_vec(caps),
+        times,
+    })
 }
 
 /// A copy of plans.
@@ -72,10 +68,7 @@ fn devices(alloc: Global, plans: &[DiePlan]) -> Result<Vec<MemoryNand>, Refusal>
             Ok(nand) => nand,
             Err(_) => return Err(Refusal::NoMemory),
         };
-        match nands.push(nand) {
-            Ok(()) => {}
-            Err(_) => return Err(Refusal::NoMemory),
-        }
+        nands.push(nand)?;
     }
     Ok(nands)
 }

@@ -1,10 +1,10 @@
 //! Scripts that are run on the dies of a store.
 
-ghost use Rattle.std.specs.Prelude.{◌≡◌, ◌≤◌, ℕ, None, All, length, map, true, IfOk, IfErr, OnErr, OnOk};
+ghost use Rattle.std.specs.Prelude.{◌≡◌, ◌<◌, ◌≤◌, ◌^◌, ℕ, None, All, length, map, true, IfOk, IfErr, OnErr, OnOk};
 ghost use Rattle.slot_types.specs.Refusal.{FailsForMemory};
 ghost use Rattle.plan_rules.specs.Bound.{MeetsBound};
 ghost use Rattle.report_texts.specs.TextSoFar.{die_added, text_so_far};
-ghost use Rattle.task_script.specs.Batches.{Closes, joined_counts};
+ghost use Rattle.task_script.specs.Batches.{Closes, joined_counts, rows_counted};
 ghost use Rattle.task_script.specs.DieReports.{die_report_of};
 ghost use Rattle.task_script.specs.PlannedRuns.{RunsAsPlanned, RunsSo};
 ghost use Rattle.task_script.specs.StoreRuns.{reports_of};
@@ -57,6 +57,7 @@ fn gather(
 ) -> Result<RanStore, Refusal>
     requires few { length dies.items ≤ 8 }
     requires progress { length progress.now ≡ length dies.items }
+    requires counted { rows_counted progress.now < 2 ^ 64 }
     ensures text { IfOk result (λ ran. ran.text ≡ text_so_far (reports_of 0 dies.items)) }
     ensures count { IfOk result (λ ran. ran.count ≡ joined_counts progress.now) }
     ensures refused { FailsForMemory result }
@@ -71,7 +72,7 @@ fn gather(
         let Some((at, later)) = progress.split_first() else {
             unreachable!()
         };
-        ran.count.add_all(&at.count)?;
+        ran.count.add_all(&at.count);
         add_last(alloc, &mut ran.text, number, die)?;
         number += 1;
         progress = later;
@@ -90,6 +91,7 @@ fn finish<R: Wait>(
     requires own { map (λ pass. pass.lock) passes.items ≡ store }
     requires few { length passes.items ≤ 8 }
     requires progress { length progress.now ≡ length passes.items }
+    requires counted { rows_counted progress.now < 2 ^ 64 }
     requires sole { All (λ pass. pass.view.sole ≡ true) passes.items }
     ensures closed { IfOk result (λ ran. Closes passes.items progress.now ran.text ran.count) }
     ensures refused { FailsForMemory result }
@@ -100,8 +102,8 @@ fn finish<R: Wait>(
     }
 }
 
-/// Runs a script on fresh dies in memory, whose rows are read and run by turns, so that no more of the script is kept than
-/// one batch of rows.
+/// Runs a script on fresh dies in memory, whose rows are read and run batch by batch, so that no more of the script is
+/// kept than one batch of rows.
 fn run_script<R: Threads + Wait + Sync, S: Read + Drop>(
     rt: &R,
     alloc: Global,
@@ -122,7 +124,7 @@ fn run_script<R: Threads + Wait + Sync, S: Read + Drop>(
     let mut reader = ScriptReader::new(alloc, script, plan, slots)?;
     // The operations of all rows are read into this one list.
     let mut ops = OpList::new(alloc);
-    for _ in 0..u64::MAX {
+    for _ in 0..u32::MAX {
         let rows = read_rows(alloc, &mut reader, &mut ops, plan.len())?;
         if rows.ended {
             run_rows(
@@ -148,24 +150,25 @@ fn run_script<R: Threads + Wait + Sync, S: Read + Drop>(
             workers,
         )?;
     }
-    // No script has so many rows.
+    // No script has so many rows: each record has a number of its own below 2^32, and a batch has a row.
     Err(Refusal::ReadFault)
 }
 
-/// Runs a script on a store of 1 to 8 dies in memory by 1 to 16 workers, and writes the report of what became of it. Each
-/// die carries out so many slots, from 0 to 1,048,576. A row comes before the slot of its `at`, those of one die in their
-/// order, and those whose `at` is the number of slots come after the last one. A row that its die refuses is no event, and
-/// doesn't stop the run; it is counted.
+/// Runs a script on a store of 1 to 8 dies in memory by 1 to 16 workers, and writes the report of what became of it.
+/// Each die carries out so many slots, from 0 to 1,048,576. A row comes before the slot of its `at`, those of one die
+/// in their order, and those whose `at` is the number of slots come after the last one. A row that its die refuses is
+/// no event, and doesn't stop the run; it is counted.
 ///
 /// What is written is proved to be the report read off the exact logs of the accepted rows and the slots, whatever the
 /// number of workers. May wait for the workers.
 ///
-/// So is this: on a die whose rows keep its plan, with times that pass their test, no lateness in the report is above 0,
-/// and no row is refused but for want of memory, or behind one that was.
+/// So is this: on a die whose rows keep its plan, with times that pass their test, no lateness in the report is above
+/// 0, and no row is refused but out of memory, or after one that was.
 ///
-/// Rows are read and run by turns, so that the script is never kept whole: what is kept of it are the rows of a batch.
+/// Rows are read and run batch by batch, so that the script is never kept whole: what is kept of it are the rows of a
+/// batch.
 ///
-/// It ends with the first fault of the script, as [`ScriptReader`](crate::ScriptReader) tells it; with `ReadFault`; or
+/// It ends with the first fault of the script, as [`ScriptReader`](crate::ScriptReader) says it; with `ReadFault`; or
 /// with `NoMemory`. Nothing is written before the whole script was read and run, and nothing with these. `WriteFault`
 /// comes where the writer fails: a front of the report was then written that isn't the whole.
 pub fn run_text<R: Threads + Wait + Sync, S: Read + Drop, W: Write>(

@@ -1,4 +1,4 @@
--- A mark behind a text, which no read gives, and the records that are read of it.
+-- A mark after a text, which no read gives, and the records that are read of it.
 use Rattle.std.proofs.Common.{◌≡◌, ℕ, ◌<◌, ◌≤◌, ◌==◌, ◌-◌, ◌+◌, List, [], ◌∷◌, ◌++◌, Bool, true, false, Option, Some, None, length, take}
 use Rattle.std.proofs.Common.{length-append, refl, sym, ap, subst, ◌∙◌, append_assoc, arith, ◌⊎◌, inl, inr}
 use Rattle.std.specs.Prelude.{All, ◌&&◌, is_some, nat_le, not, option_map, if◌then◌else◌}
@@ -19,7 +19,7 @@ use Rattle.csv.specs.declared.parser.Terminator.TheVariants as term
 use Rattle.csv.proofs.ReadFacts.{prepend-nil}
 use Rattle.text_base.specs.Bounded.{text_left}
 use Rattle.text_base.specs.declared.bounded.Bounded.{Bounded}
-use Rattle.text_base.specs.Marked.{is_marked, is_within, last_of, marked, unmarked}
+use Rattle.text_base.specs.Marks.{is_marked, is_within, last_of, with_mark, without_mark}
 use Rattle.text_base.specs.CsvRecords.{Fields}
 use Rattle.text_base.specs.CsvRecordsLeft.{is_between}
 
@@ -45,12 +45,12 @@ pub marked-snoc : (xs : List ℕ) → is_marked (xs ++ 256 ∷ []) ≡ true
 unfolding last_of
 marked-snoc xs = rw (last-append 0 256 xs []) refl
 
-pub unmarked-snoc : (xs : List ℕ) → unmarked (xs ++ 256 ∷ []) ≡ xs
+pub unmarked-snoc : (xs : List ℕ) → without_mark (xs ++ 256 ∷ []) ≡ xs
 unmarked-snoc xs =
     let len : length (xs ++ 256 ∷ []) - 1 ≡ length xs = omega (arith, length-append xs (256 ∷ [])) in
     rw (marked-snoc xs, len) (take-append_seam xs (256 ∷ []))
 
-pub unmarked-plain : (xs : List ℕ) → is_marked xs ≡ false → unmarked xs ≡ xs
+pub unmarked-plain : (xs : List ℕ) → is_marked xs ≡ false → without_mark xs ≡ xs
 unmarked-plain xs plain = rw plain refl
 
 snoc-of : (c : ℕ) (rest : List ℕ) → last_of c rest ≡ 256 → (xs : List ℕ) × (c ∷ rest ≡ xs ++ 256 ∷ [])
@@ -60,7 +60,7 @@ snoc-of c (d ∷ rest) e =
     let r = snoc-of d rest e in
     (c ∷ r.0, ap (λ xs. c ∷ xs) r.1)
 
--- a text has no mark, or is another one with a mark behind it
+-- a text has no mark, or is another one with a mark after it
 pub marked-cases : (text : List ℕ) → (is_marked text ≡ false) ⊎ ((xs : List ℕ) × (text ≡ xs ++ 256 ∷ []))
 unfolding last_of
 marked-cases [] = inl refl
@@ -81,7 +81,7 @@ front-marked front (c ∷ rest) plain = rw (last-append 0 c front rest) refl
 
 -- bytes are taken off the front of a text and off its bound
 pub marked-front : (bound n : ℕ) (front rest : List ℕ) → length front ≡ n → n ≤ bound → is_marked front ≡ false
-    → marked bound (front ++ rest) ≡ front ++ marked (bound - n) rest
+    → with_mark bound (front ++ rest) ≡ front ++ with_mark (bound - n) rest
 marked-front bound n front rest len few plain =
     let same : is_within bound (front ++ rest) ≡ is_within (bound - n) rest = within in
     elim (cases_Bool (is_within (bound - n) rest)) [
@@ -95,7 +95,7 @@ marked-front bound n front rest len few plain =
         let le : nat_le (n + length rest) bound ≡ nat_le (length rest) (bound - n) = grind (arith) in
         rw (total, le, front-marked front rest plain) refl
 
-pub marked-nil : (bound : ℕ) → marked bound [] ≡ []
+pub marked-nil : (bound : ℕ) → with_mark bound [] ≡ []
 unfolding last_of
 marked-nil bound =
     let le : nat_le 0 bound ≡ true = grind (arith) in
@@ -116,15 +116,15 @@ consumes-none (Some text) = refl
 -- a read within the bound gives what the reader underneath gives, and the end where that is at its end
 pub read-marked : (bound n : ℕ) (old new : Option (List ℕ)) (front : List ℕ) → Consumes old new front → (n ≡ 0 → IsAtEnd new)
     → length front ≡ n → n ≤ bound → is_marked front ≡ false
-    → Consumes (option_map (marked bound) old) (option_map (marked (bound - n)) (if n == 0 then Some [] else new)) front
-    × (n ≡ 0 → IsAtEnd (option_map (marked (bound - n)) (if n == 0 then Some [] else new)))
+    → Consumes (option_map (with_mark bound) old) (option_map (with_mark (bound - n)) (if n == 0 then Some [] else new)) front
+    × (n ≡ 0 → IsAtEnd (option_map (with_mark (bound - n)) (if n == 0 then Some [] else new)))
 read-marked bound n old new front taken end len few plain = (consumed old new taken end, λ zero. rw zero (marked-nil (bound - 0)))
   where
-    at_end : (text : List ℕ) → n ≡ 0 → text ≡ [] → marked bound (front ++ text) ≡ front ++ marked (bound - n) []
+    at_end : (text : List ℕ) → n ≡ 0 → text ≡ [] → with_mark bound (front ++ text) ≡ front ++ with_mark (bound - n) []
     at_end text zero none = rw none (marked-front bound n front [] len few plain)
 
     consumed : (old new : Option (List ℕ)) → Consumes old new front → (n ≡ 0 → IsAtEnd new)
-        → Consumes (option_map (marked bound) old) (option_map (marked (bound - n)) (if n == 0 then Some [] else new)) front
+        → Consumes (option_map (with_mark bound) old) (option_map (with_mark (bound - n)) (if n == 0 then Some [] else new)) front
     consumed None new taken end = tt
     consumed (Some text) None taken end = absurd taken
     consumed (Some text) (Some rest) taken end = elim (cases_Bool (n == 0)) [
@@ -134,7 +134,7 @@ read-marked bound n old new front taken end len few plain = (consumed old new ta
 
 -- a read past the bound that gives nothing shows that the text ended there
 pub end-marked : (bound : ℕ) (old new : Option (List ℕ)) (front : List ℕ) → front ≡ [] → Consumes old new front → IsAtEnd new
-    → Consumes (option_map (marked bound) old) (Some (marked bound [])) []
+    → Consumes (option_map (with_mark bound) old) (Some (with_mark bound [])) []
 end-marked bound None new front none taken end = tt
 end-marked bound (Some text) None front none taken end = absurd taken
 end-marked bound (Some text) (Some rest) front none taken end = rw (taken, none, end) refl
@@ -175,9 +175,9 @@ strip-snoc (a ∷ b ∷ c ∷ rest) = elim (cases_Bool (is_bom a b c)) [
   | inr other ↦ rw (strip-if false a b c rest other, strip-if false a b c (rest ++ 256 ∷ []) other) refl
 ]
 
--- what a bounded text has behind its byte order mark
-pub begun : (bound : ℕ) (text : List ℕ) → (unmarked (strip_bom (marked bound text)) ≡ strip_bom text)
-    × (not (is_marked (strip_bom (marked bound text))) ≡ is_within bound text)
+-- what a bounded text has after its byte order mark
+pub begun : (bound : ℕ) (text : List ℕ) → (without_mark (strip_bom (with_mark bound text)) ≡ strip_bom text)
+    × (not (is_marked (strip_bom (with_mark bound text))) ≡ is_within bound text)
 begun bound text = elim (cases_Bool (is_within bound text)) [
   | inl within ↦
       let plain = strip-plain text (and-not _ _ within) in
@@ -313,7 +313,7 @@ next-between s fields field (c ∷ rest) p e = elim (cases_Bool (is_end (step de
       (field_after (step default_config s c).1 c field) rest p (rw more at e)
 ]
 
--- a text without a mark has none behind its first record
+-- a text without a mark has none after its first record
 pub next-plain : (s : State) (fields : Fields) (field text : List ℕ) (p : Read) → next_record default_config s fields field text ≡ Some p
     → is_marked text ≡ false → is_marked p.2 ≡ false
 unfolding next_record last_of

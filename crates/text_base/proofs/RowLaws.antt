@@ -11,7 +11,7 @@ use Rattle.csv.specs.declared.parser.State.TheVariants as st
 use Rattle.csv.specs.declared.reader.Reader.{Reader}
 use Rattle.csv.proofs.ReadFacts.{rows-more, rows-end}
 use Rattle.text_base.specs.Bounded.{bounded_remaining}
-use Rattle.text_base.specs.Marked.{is_marked, is_within, marked}
+use Rattle.text_base.specs.Marks.{is_marked, is_within, with_mark}
 use Rattle.text_base.specs.CsvRecords.{Fields, rows_from, rows_of, TakesRow}
 use Rattle.text_base.specs.CsvRecordsLeft.{KeepsFit, fits_left, is_between, marked_left, rows_left}
 use Rattle.text_base.specs.declared.bounded.Bounded.{Bounded}
@@ -43,7 +43,7 @@ record-taken rem a b f y plain known read =
     let (p, next, same, there) = r.2 in
     (p, next, same, there.0, r.1 ∙ ap Some (sym there.1))
 
--- its records are that one and those behind it
+-- its records are that one and those after it
 rows-taken : (s s2 : State) (f : Fields) (text rest : List ℕ) → next_record default_config s [] [] text ≡ Some (f, s2, rest)
     → rows_from s [] [] text ≡ f ∷ rows_from s2 [] [] rest
 rows-taken s s2 f text rest next = rows-next s [] [] text ∙ rw next refl
@@ -141,7 +141,7 @@ rows-read rem a b found f plain read bytes = elim (cases_Bool (is_between (reade
 -- the records of a text, and whether it fits its bound, where nothing was read yet
 pub begins : (most : ℕ) {R : Type 0} (rem : R → Option (List ℕ)) (r : Reader (Bounded R)) (text : Option (List ℕ))
     → reader_state r ≡ st.StartRecord
-    → source_of (bounded_remaining rem) r ≡ option_map strip_bom (option_map (marked most) text)
+    → source_of (bounded_remaining rem) r ≡ option_map strip_bom (option_map (with_mark most) text)
     → (rows_left rem r ≡ option_map rows_of text) × (fits_left rem r ≡ option_map (is_within most) text)
 unfolding rows_left fits_left
 begins most rem r None start source = rw (start, source) (refl, refl)

@@ -15,7 +15,7 @@ use Rattle.hex.specs.Hex.{decode_sized, is_hex_digit}
 use Rattle.hex.specs.declared.error.FromHexError.{FromHexError}
 use Rattle.slot_types.specs.declared.pages.PageData.{PageData}
 use Rattle.text_base.specs.Number.{HasDigits, number_from, number_of}
-use Rattle.text_base.specs.Words.{IsFirst, StartsWith, all_of, behind, words_of}
+use Rattle.text_base.specs.Words.{IsFirstWord, StartsWith, all_of, behind, words_of}
 use Rattle.text_base.specs.Pages.{page_of, page_or}
 
 abbrev pub NoSpace : ℕ → Type 0
@@ -48,7 +48,7 @@ unfolding number_from
 digits-more text i value inside digit has = λ rest. rw (take_more text i 0 inside, append_assoc) (has (slice_index text i ∷ rest)
     ∙ rw digit refl)
 
--- the digits of a number, and what stands behind them
+-- the digits of a number, and what stands after them
 pub number-starts : (text : List ℕ) (digits value : ℕ) → 0 < digits → digits ≤ 10 → digits ≤ length text → HasDigits text digits value
     → value < 4294967296
     → StartsWith number_of text value (drop digits text)
@@ -102,7 +102,7 @@ word-split text front (Some rest) parts whole = rw parts (slice_split_at (λ b. 
 
 pub first-starts : {A : Type 0} (read : List ℕ → Option A) (text : List ℕ) (x : A) (rest : Option (List ℕ))
     → StartsWith read text x (behind rest)
-    → IsFirst read text x (words_of rest)
+    → IsFirstWord read text x (words_of rest)
 first-starts read text x rest s = record { word = s.front; parts = word-split text s.front rest s.parts s.whole; says = sym s.says }
 
 pub first-shorter : {A B : Type 0} (read : List ℕ → Option A) (text : List ℕ) (x : A) (f : B → List ℕ) (rest : Option B)

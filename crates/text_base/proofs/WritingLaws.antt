@@ -25,7 +25,7 @@ up-to-part a b c text left (front, parts, took) some kept =
     let seam : take (length front) text ≡ front = ap (take (length front)) parts ∙ take-append_seam front left in
     (length front, omega (arith, some, size, length-append front left), subst (Appends a c) (sym seam) (Appends-kept a b c front took kept))
 
--- what holds behind an error holds of any result
+-- what holds after an error holds of any result
 pub on-error : {A E : Type 0} (r : Result A E) (P : Type 0) → P → OnErr r P
 on-error (Ok x) P p = tt
 on-error (Err e) P p = p

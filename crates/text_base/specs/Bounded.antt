@@ -1,7 +1,7 @@
 -- What a bounded reader has left.
 use Rattle.std.specs.Prelude.{ℕ, List, [], ◌∷◌, Option, Some, None, option_map, if◌then◌else◌}
 use Rattle.std.specs.Io.KnownBytes.{prepend_known}
-use Rattle.text_base.specs.Marked.{marked}
+use Rattle.text_base.specs.Marks.{with_mark}
 use Rattle.text_base.specs.declared.bounded.Bounded.{Bounded}
 
 -- the byte that was read past the bound, which is not given
@@ -13,6 +13,6 @@ kept_bytes (Some b) = b ∷ []
 abbrev pub text_left : {R : Type 0} → (R → Option (List ℕ)) → Bounded R → Option (List ℕ)
 text_left rem b = if b.ended then Some [] else prepend_known (kept_bytes b.past) (rem b.inner)
 
--- what is left for reads: the same, with a mark behind it where it goes on past the bound
+-- what is left for reads: the same, with a mark after it where it goes on past the bound
 abbrev pub bounded_remaining : {R : Type 0} → (R → Option (List ℕ)) → Bounded R → Option (List ℕ)
-bounded_remaining rem b = option_map (marked b.room) (text_left rem b)
+bounded_remaining rem b = option_map (with_mark b.room) (text_left rem b)

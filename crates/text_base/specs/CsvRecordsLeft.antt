@@ -5,7 +5,7 @@ use Rattle.csv.specs.declared.parser.State.{State}
 use Rattle.csv.specs.declared.parser.State.TheVariants as st
 use Rattle.csv.specs.declared.reader.Reader.{Reader}
 use Rattle.text_base.specs.Bounded.{bounded_remaining}
-use Rattle.text_base.specs.Marked.{is_marked, unmarked}
+use Rattle.text_base.specs.Marks.{is_marked, without_mark}
 use Rattle.text_base.specs.CsvRecords.{Fields, rows_from}
 use Rattle.text_base.specs.declared.bounded.Bounded.{Bounded}
 
@@ -26,7 +26,7 @@ marked_left rem r = if is_between (reader_state r) then source_of (bounded_remai
 
 -- the records that it has left, also those past the bound, where its bytes are known
 unfoldable pub rows_left : {R : Type 0} → (R → Option (List ℕ)) → Reader (Bounded R) → Option (List Fields)
-rows_left rem r = option_map (λ text. rows_from (reader_state r) [] [] (unmarked text)) (marked_left rem r)
+rows_left rem r = option_map (λ text. rows_from (reader_state r) [] [] (without_mark text)) (marked_left rem r)
 
 -- whether they end within the bound, where its bytes are known
 unfoldable pub fits_left : {R : Type 0} → (R → Option (List ℕ)) → Reader (Bounded R) → Option Bool

@@ -5,7 +5,7 @@ pub mod Words
 pub mod Pages
 pub mod PageStarts
 pub mod Ops
-pub mod Marked
+pub mod Marks
 pub mod Bounded
 pub mod Plain
 pub mod CsvRecords

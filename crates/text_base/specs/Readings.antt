@@ -14,8 +14,8 @@ abbrev pub Shows : {X Y : Type 0} → (X → Y) → Result X Refusal → Result 
 Shows view (Ok x) read = read ≡ Ok (view x)
 Shows view (Err e) read = (e ≡ NoMemory) ⊎ (read ≡ Err e)
 
-abbrev pub Gives : {X : Type 0} → Result X Refusal → Result X Refusal → Type 0
-Gives result read = Shows (λ x. x) result read
+abbrev pub GivesReading : {X : Type 0} → Result X Refusal → Result X Refusal → Type 0
+GivesReading result read = Shows (λ x. x) result read
 
 -- a refusal that is no fault of a text: memory ran out, or the reader failed
 abbrev pub IsOutside : Refusal → Type 0

@@ -29,12 +29,12 @@ list_of read (b ∷ bytes) = all_of read (slice_split (λ c. c == 32) (b ∷ byt
 abbrev pub if_whole : {A : Type 0} → Bool → List A → Option (List A)
 if_whole whole items = if whole then Some items else None
 
--- what stands behind a word: nothing, or a space and more
+-- what stands after a word: nothing, or a space and more
 abbrev pub behind : Option (List ℕ) → List ℕ
 behind None = []
 behind (Some rest) = 32 ∷ rest
 
--- a text begins with bytes that say this, no space among them, and the rest stands behind them
+-- a text begins with bytes that say this, no space among them, and the rest stands after them
 pub record StartsWith {A : Type 0} (read : List ℕ → Option A) (text : List ℕ) (x : A) (rest : List ℕ) : Type 0 where
   pub front : List ℕ
   pub parts : text ≡ front ++ rest
@@ -42,7 +42,7 @@ pub record StartsWith {A : Type 0} (read : List ℕ → Option A) (text : List �
   pub whole : All (λ b. (b == 32) ≡ false) front
 
 -- the first word of a text says this, and these words follow it
-pub record IsFirst {A : Type 0} (read : List ℕ → Option A) (text : List ℕ) (x : A) (more : List (List ℕ)) : Type 0 where
+pub record IsFirstWord {A : Type 0} (read : List ℕ → Option A) (text : List ℕ) (x : A) (more : List (List ℕ)) : Type 0 where
   pub word : List ℕ
   pub parts : slice_split (λ b. b == 32) text ≡ word ∷ more
   pub says : Some x ≡ read word

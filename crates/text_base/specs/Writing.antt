@@ -10,7 +10,7 @@ AppendsPart old new text = (n : ℕ) × (n < length text) × Appends old new (ta
 abbrev pub AppendsUpTo : Option (List ℕ) → Option (List ℕ) → List ℕ → List ℕ → Type 0
 AppendsUpTo old new text left = (front : List ℕ) × (text ≡ front ++ left) × Appends old new front
 
--- of what prints so behind nothing a front was written, and not the whole
+-- of what prints so after nothing a front was written, and not the whole
 abbrev pub InPart : (Option (List ℕ) → Option (List ℕ) → Type 0) → Option (List ℕ) → Option (List ℕ) → Type 0
 InPart prints old new = (whole : List ℕ) × prints (Some []) (Some whole) × AppendsPart old new whole
 

@@ -4,7 +4,7 @@ ghost use Rattle.std.specs.Prelude.{◌≡◌, ◌<◌, ◌^◌, option_map};
 ghost use Rattle.std.specs.Io.{ReadsAtMost};
 ghost use Rattle.std.specs.Io.KnownBytes.{ReadConsumes};
 ghost use Rattle.text_base.specs.Bounded.{bounded_remaining};
-ghost use Rattle.text_base.specs.Marked.{marked};
+ghost use Rattle.text_base.specs.Marks.{with_mark};
 
 use crate::calls::read_again;
 use std::io;
@@ -16,8 +16,8 @@ pub const MAX_BYTES: usize = 67_108_864;
 /// The most calls that a text is read with, those among them that are interrupted.
 pub const MAX_CALLS: usize = 67_108_865;
 
-/// A reader that fails where a text goes on past `MAX_BYTES`, or at a call past `MAX_CALLS`. A call that is interrupted is
-/// made again.
+/// A reader that fails where a text goes on past `MAX_BYTES`, or at a call past `MAX_CALLS`. A call that is interrupted
+/// is made again.
 #[derive(Drop)]
 pub struct Bounded<R> {
     inner: R,
@@ -29,7 +29,7 @@ pub struct Bounded<R> {
 
 impl<R: Read> Bounded<R> {
     pub fn new(inner: R) -> Bounded<R>
-        ensures { bounded_remaining R.remaining result ≡ option_map (marked 67108864) (R.remaining inner) }
+        ensures { bounded_remaining R.remaining result ≡ option_map (with_mark 67108864) (R.remaining inner) }
     {
         Bounded {
             inner,
@@ -43,7 +43,7 @@ impl<R: Read> Bounded<R> {
     /// A reader that fails where a text goes on past so many bytes, or at a call past one more than that.
     pub fn up_to(inner: R, most: usize) -> Bounded<R>
         requires { most < 2 ^ 32 }
-        ensures { bounded_remaining R.remaining result ≡ option_map (marked most) (R.remaining inner) }
+        ensures { bounded_remaining R.remaining result ≡ option_map (with_mark most) (R.remaining inner) }
     {
         Bounded {
             inner,

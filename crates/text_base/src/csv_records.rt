@@ -7,7 +7,7 @@ ghost use Rattle.text_base.specs.Fields.{has_text};
 ghost use Rattle.text_base.specs.Fields.{field_or};
 ghost use Rattle.text_base.specs.Plain.{IsPlain};
 ghost use Rattle.text_base.specs.Readings.{IsOutside};
-ghost use Rattle.text_base.specs.Marked.{is_within};
+ghost use Rattle.text_base.specs.Marks.{is_within};
 ghost use Rattle.text_base.specs.CsvRecords.{TakesRow, rows_of};
 ghost use Rattle.text_base.specs.CsvRecordsLeft.{KeepsFit, fits_left, rows_left};
 
@@ -42,8 +42,8 @@ pub fn rows_up_to<R: Read>(alloc: Global, reader: R, most: usize) -> Reader<Boun
         .from_reader(alloc, Bounded::up_to(reader, most))
 }
 
-/// What a failing read is told as. An error of the reader's own is ReadFault, whatever it says of itself; NoMemory is
-/// csv's own want of memory for a record.
+/// What a failing read is reported as. An error of the reader's own is ReadFault, whatever it says of itself; NoMemory
+/// is csv's own lack of memory for a record.
 fn fault(error: &csv::Error) -> Refusal
     ensures outside { IsOutside result }
     ensures own { is_io (error_kind error.now) ≡ true → result ≡ Refusal.ReadFault }
@@ -54,7 +54,7 @@ fn fault(error: &csv::Error) -> Refusal
     }
 }
 
-/// Does nothing, but tells a proof that a slice of bytes has nothing but bytes: the mark behind a text is none.
+/// Does nothing, but shows to a proof that a slice of bytes has nothing but bytes: the mark after a text is none.
 fn check_bytes(text: &[u8])
     ensures { All (λ b. b < 256) text.now }
 {}

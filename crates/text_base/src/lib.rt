@@ -1,5 +1,5 @@
-//! What the texts of plans, scripts and reports share: readers within a bound, records of csv, numbers, pages and lists of
-//! words, and a writer that says whether it wrote the whole.
+//! What the texts of plans, scripts and reports share: readers within a bound, records of csv, numbers, pages and lists
+//! of words, and a writer that says whether it wrote the whole.
 #![tactic(auto)]
 
 mod bounded;

@@ -22,7 +22,7 @@ pub fn number(field: &[u8]) -> Option<u32>
     u32::try_from(value).ok()
 }
 
-/// The number of so many digits at the front of a text, of this value, and what stands behind them.
+/// The number of so many digits at the front of a text, of this value, and what stands after them.
 fn number_and_rest(text: &[u8], digits: usize, value: u64) -> Option<(u32, &[u8])>
     requires few { digits ≤ 10 }
     requires inside { digits ≤ length text.now }
@@ -38,7 +38,7 @@ fn number_and_rest(text: &[u8], digits: usize, value: u64) -> Option<(u32, &[u8]
     Some((value as u32, &text[digits..]))
 }
 
-/// The number that the digits at the front of a text write, and what stands behind them.
+/// The number that the digits at the front of a text write, and what stands after them.
 #[tactic(auto, unfolding(crate::specs::Number::number_from))]
 pub fn leading_number(text: &[u8]) -> Option<(u32, &[u8])>
     ensures { IfSome result (λ found. StartsWith number_of text.now found.0 found.1.now) }

@@ -43,7 +43,7 @@ pub fn op(word: &[u8]) -> Option<Op>
     None
 }
 
-/// A read at the front of a text, behind its letter, and what stands behind it.
+/// A read at the front of a text, after its letter, and what stands after it.
 fn leading_read(text: &[u8]) -> Option<(Op, &[u8])>
     ensures { IfSome result (λ found. StartsWith op_of (82 ∷ text.now) found.0 found.1.now) }
 {
@@ -51,7 +51,7 @@ fn leading_read(text: &[u8]) -> Option<(Op, &[u8])>
     Some((Op::Read(page), rest))
 }
 
-/// A write at the front of a text, behind its letter, and what stands behind it.
+/// A write at the front of a text, after its letter, and what stands after it.
 fn leading_write(text: &[u8]) -> Option<(Op, &[u8])>
     ensures { IfSome result (λ found. StartsWith op_of (87 ∷ text.now) found.0 found.1.now) }
 {
@@ -64,7 +64,7 @@ fn leading_write(text: &[u8]) -> Option<(Op, &[u8])>
     Some((Op::Write(target, bytes), rest))
 }
 
-/// A trim at the front of a text, behind its letter, and what stands behind it.
+/// A trim at the front of a text, after its letter, and what stands after it.
 fn leading_trim(text: &[u8]) -> Option<(Op, &[u8])>
     ensures { IfSome result (λ found. StartsWith op_of (84 ∷ text.now) found.0 found.1.now) }
 {
@@ -72,7 +72,7 @@ fn leading_trim(text: &[u8]) -> Option<(Op, &[u8])>
     Some((Op::Trim(page), rest))
 }
 
-/// An operation at the front of a text, and what stands behind it.
+/// An operation at the front of a text, and what stands after it.
 pub fn leading_op(text: &[u8]) -> Option<(Op, &[u8])>
     ensures { IfSome result (λ found. StartsWith op_of text.now found.0 found.1.now) }
 {

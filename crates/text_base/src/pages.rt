@@ -63,7 +63,7 @@ pub fn page(digits: &[u8]) -> Option<PageData>
     }
 }
 
-/// The page that the first 32 bytes of a text write, and what stands behind them.
+/// The page that the first 32 bytes of a text write, and what stands after them.
 pub fn leading_page(text: &[u8]) -> Option<(PageData, &[u8])>
     ensures { IfSome result (λ found. StartsWith page_of text.now found.0 found.1.now) }
 {
@@ -74,8 +74,8 @@ pub fn leading_page(text: &[u8]) -> Option<(PageData, &[u8])>
     Some((page, &text[32..]))
 }
 
-/// The greatest value of 32 digits, 255 where a byte is none. Each is looked at by itself, one behind the other, so that a
-/// machine may take sixteen at once.
+/// The greatest value of 32 digits, 255 where a byte is none. Each is looked at by itself, one after the other, so that
+/// a machine may take sixteen at once.
 fn greatest_value(digits: &[u8]) -> u8
     requires { length digits.now ≡ 32 }
     ensures { AreUpTo result digits.now 32 }
@@ -87,7 +87,7 @@ fn greatest_value(digits: &[u8]) -> u8
     most
 }
 
-/// What stands behind a page, where the first 32 bytes of a text write one. The page isn't made.
+/// What stands after a page, where the first 32 bytes of a text write one. The page isn't made.
 pub fn behind_page(text: &[u8]) -> Option<&[u8]>
     ensures { IfSome result (λ rest. BeginsWithPage text.now rest.now) }
 {

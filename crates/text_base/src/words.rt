@@ -2,17 +2,18 @@
 
 ghost use Rattle.std.specs.Prelude.{◌≡◌, ◌∷◌, [], ◌==◌, ◌<◌, List, ℕ, Option, IfOk, IfSome, MatchOption, None, length, option_map};
 ghost use Rattle.std.specs.List.{position, slice_split};
+ghost use Rattle.slot_types.specs.Refusal.{FailsForMemory};
 ghost use Rattle.text_base.specs.Number.{number_of};
 ghost use Rattle.text_base.specs.Ops.{op_of};
-ghost use Rattle.text_base.specs.Words.{IsFirst, StartsWith, all_of, behind, if_whole, list_of, words_of};
+ghost use Rattle.text_base.specs.Words.{IsFirstWord, StartsWith, all_of, behind, if_whole, list_of, words_of};
 ghost use Rattle.text_base.specs.Pages.{page_of};
 ghost use Rattle.text_base.specs.PageStarts.{BeginsWithPage, FirstIsPage};
 
 use crate::numbers::{leading_number, number};
 use crate::ops::{leading_op, op};
 use crate::pages::{behind_page, leading_page, page};
-use slot_types::{Items, JobNo, Op, PageData};
-use std::alloc::{AllocError, Global};
+use slot_types::{Items, JobNo, Op, PageData, Refusal};
+use std::alloc::Global;
 
 /// What a word may say.
 pub trait Word: Sized {
@@ -22,7 +23,7 @@ pub trait Word: Sized {
     fn read(word: &[u8]) -> Option<Self>
         ensures { result ≡ word_of word.now };
 
-    /// What a word at the front of a text says, and what stands behind it. None says nothing: some words are left
+    /// What a word at the front of a text says, and what stands after it. None says nothing: some words are left
     /// to [`read`](Word::read).
     fn start(text: &[u8]) -> Option<(Self, &[u8])>
         ensures { IfSome result (λ found. StartsWith word_of text.now found.0 found.1.now) };
@@ -75,7 +76,7 @@ fn space_in(text: &[u8]) -> Option<usize>
     text.iter().position(|b| *b == b' ')
 }
 
-/// The first word, and what stands after the space behind it.
+/// The first word, and what stands after the space after it.
 fn cut(text: &[u8]) -> (&[u8], Option<&[u8]>)
     ensures parts { slice_split (λ b. b == 32) text.now ≡ result.0.now ∷ words_of (option_map (λ rest. rest.now) result.1) }
     ensures shorter { IfSome result.1 (λ rest. length rest.now < length text.now) }
@@ -86,7 +87,7 @@ fn cut(text: &[u8]) -> (&[u8], Option<&[u8]>)
     }
 }
 
-/// What stands behind a word: nothing, or a space and more.
+/// What stands after a word: nothing, or a space and more.
 fn behind(left: &[u8]) -> Option<Option<&[u8]>>
     ensures { IfSome result (λ rest. left.now ≡ behind (option_map (λ text. text.now) rest)) }
 {
@@ -100,7 +101,7 @@ fn behind(left: &[u8]) -> Option<Option<&[u8]>>
     }
 }
 
-/// What the first word of a text says in one pass, and what stands after the space behind it. None says nothing.
+/// What the first word of a text says in one pass, and what stands after the space after it. None says nothing.
 fn quick_word<T: Word + Drop>(text: &[u8]) -> Option<(T, Option<&[u8]>)>
     ensures { IfSome result (λ found. StartsWith T.word_of text.now found.0 (behind (option_map (λ text. text.now) found.1))) }
 {
@@ -109,10 +110,10 @@ fn quick_word<T: Word + Drop>(text: &[u8]) -> Option<(T, Option<&[u8]>)>
     Some((item, rest))
 }
 
-/// What the first word of a text says, cut off first, and what stands after the space behind it.
+/// What the first word of a text says, cut off first, and what stands after the space after it.
 fn cut_word<T: Word + Drop>(text: &[u8]) -> Option<(T, Option<&[u8]>)>
     ensures word { MatchOption result (all_of T.word_of (slice_split (λ b. b == 32) text.now) ≡ None)
-        (λ found. IsFirst T.word_of text.now found.0 (words_of (option_map (λ rest. rest.now) found.1))) }
+        (λ found. IsFirstWord T.word_of text.now found.0 (words_of (option_map (λ rest. rest.now) found.1))) }
     ensures shorter { IfSome result (λ found. IfSome found.1 (λ rest. length rest.now < length text.now)) }
 {
     let (word, rest) = cut(text);
@@ -122,10 +123,10 @@ fn cut_word<T: Word + Drop>(text: &[u8]) -> Option<(T, Option<&[u8]>)>
     }
 }
 
-/// What the first word of a text says, and what stands after the space behind it.
+/// What the first word of a text says, and what stands after the space after it.
 fn first_word<T: Word + Drop>(text: &[u8]) -> Option<(T, Option<&[u8]>)>
     ensures word { MatchOption result (all_of T.word_of (slice_split (λ b. b == 32) text.now) ≡ None)
-        (λ found. IsFirst T.word_of text.now found.0 (words_of (option_map (λ rest. rest.now) found.1))) }
+        (λ found. IsFirstWord T.word_of text.now found.0 (words_of (option_map (λ rest. rest.now) found.1))) }
     ensures shorter { IfSome result (λ found. IfSome found.1 (λ rest. length rest.now < length text.now)) }
 {
     match quick_word(text) {
@@ -135,9 +136,10 @@ fn first_word<T: Word + Drop>(text: &[u8]) -> Option<(T, Option<&[u8]>)>
 }
 
 /// Adds what the words of a text say, up to one that says nothing, and answers whether there is none.
-fn put_all<T: Word + Drop>(items: &mut Items<T>, text: &[u8]) -> Result<bool, AllocError>
+fn put_all<T: Word + Drop>(items: &mut Items<T>, text: &[u8]) -> Result<bool, Refusal>
     requires { items.old ≡ [] }
-    ensures { IfOk result (λ whole. if_whole whole items.new ≡ all_of T.word_of (slice_split (λ b. b == 32) text.now)) }
+    ensures ok { IfOk result (λ whole. if_whole whole items.new ≡ all_of T.word_of (slice_split (λ b. b == 32) text.now)) }
+    ensures refused { FailsForMemory result }
 {
     let mut left = Some(text);
     while let Some(text) = left {
@@ -154,8 +156,9 @@ fn put_all<T: Word + Drop>(items: &mut Items<T>, text: &[u8]) -> Result<bool, Al
 
 /// Puts what the words of a field say in place of other items, in their memory, and answers whether all of them say
 /// something. An empty field has none.
-pub fn put_list<T: Word + Drop>(items: &mut Items<T>, field: &[u8]) -> Result<bool, AllocError>
-    ensures { IfOk result (λ whole. if_whole whole items.new ≡ list_of T.word_of field.now) }
+pub fn put_list<T: Word + Drop>(items: &mut Items<T>, field: &[u8]) -> Result<bool, Refusal>
+    ensures ok { IfOk result (λ whole. if_whole whole items.new ≡ list_of T.word_of field.now) }
+    ensures refused { FailsForMemory result }
 {
     items.clear();
     if field.is_empty() {
@@ -165,15 +168,16 @@ pub fn put_list<T: Word + Drop>(items: &mut Items<T>, field: &[u8]) -> Result<bo
 }
 
 /// What the words of a field say, if all of them say something. An empty field has none.
-pub fn list<T: Word + Drop>(alloc: Global, field: &[u8]) -> Result<Option<Items<T>>, AllocError>
-    ensures { IfOk result (λ found. found ≡ list_of T.word_of field.now) }
+pub fn list<T: Word + Drop>(alloc: Global, field: &[u8]) -> Result<Option<Items<T>>, Refusal>
+    ensures ok { IfOk result (λ found. found ≡ list_of T.word_of field.now) }
+    ensures refused { FailsForMemory result }
 {
     let mut items = Items::new(alloc);
     let whole = put_list(&mut items, field)?;
     Ok(if whole { Some(items) } else { None })
 }
 
-/// What stands behind the page at the front of a text and the space there, where 32 plain digits write it. None says
+/// What stands after the page at the front of a text and the space there, where 32 plain digits write it. None says
 /// nothing.
 fn quick_rest(text: &[u8]) -> Option<Option<&[u8]>>
     ensures { IfSome result (λ rest. BeginsWithPage text.now (behind (option_map (λ text. text.now) rest))) }
@@ -182,7 +186,7 @@ fn quick_rest(text: &[u8]) -> Option<Option<&[u8]>>
     behind(left)
 }
 
-/// What stands behind the first word of a text and the space there, if that word is a page.
+/// What stands after the first word of a text and the space there, if that word is a page.
 fn skip_page(text: &[u8]) -> Option<Option<&[u8]>>
     ensures word { MatchOption result (all_of page_of (slice_split (λ b. b == 32) text.now) ≡ None)
         (λ rest. FirstIsPage text.now (words_of (option_map (λ rest. rest.now) rest))) }

@@ -31,7 +31,7 @@ fn write_some<'a, W: Write>(writer: &mut W, text: &'a [u8]) -> Result<&'a [u8], 
 /// Writes a text by as many calls of its writer as it takes. Each goes on where the one before it stopped, and one that
 /// is interrupted is made again.
 ///
-/// WriteFault comes where a call fails or takes nothing, or behind so many calls as the text has bytes and 1,048,576
+/// WriteFault comes where a call fails or takes nothing, or after so many calls as the text has bytes and 1,048,576
 /// more. A front of the text was then written that isn't the whole. The writer isn't flushed.
 pub fn write_whole<W: Write>(writer: &mut W, text: &[u8]) -> Result<(), Refusal>
     ensures whole { OnOk result (Appends (W.contents writer.old) (W.contents writer.new) text.now) }

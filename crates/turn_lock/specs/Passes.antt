@@ -9,7 +9,7 @@ use Rattle.turn_lock.specs.Views.{numbers_of, left_part, right_part, joined_view
 
 module _ {E R A : Type 0} where
   -- the pass has seen what others did since: no entry of its own, nor of a pass that was joined into it
-  pub record Grown (fits : A → List (Entry E R) → Type 0) (v w : View E R A) : Type 0 where
+  pub record SeesMore (fits : A → List (Entry E R) → Type 0) (v w : View E R A) : Type 0 where
     pub more : List (Entry E R)
     pub made : ℕ
     pub topic : A
@@ -23,16 +23,16 @@ module _ {E R A : Type 0} where
 
   abbrev pub Answers : {Q S : Type 0} (fits : A → List (Entry E R) → Type 0) (tells : A → List (Entry E R) → Q → S → Type 0) → View E R A
       → Q → S → View E R A → Type 0
-  Answers fits tells v query answer w = (g : Grown fits v w) × tells g.topic w.seen query answer
+  Answers fits tells v query answer w = (g : SeesMore fits v w) × tells g.topic w.seen query answer
 
   abbrev pub Refuses : (fits : A → List (Entry E R) → Type 0) (gives : A → List (Entry E R) → ℕ → E → R → Type 0) → View E R A → E → R
       → View E R A → Type 0
-  Refuses fits gives v event reply w = (g : Grown fits v w) × gives g.topic w.seen v.number event reply
+  Refuses fits gives v event reply w = (g : SeesMore fits v w) × gives g.topic w.seen v.number event reply
 
   -- what was seen grows by what others did, and then by this call
   abbrev pub Accepts : (fits : A → List (Entry E R) → Type 0) (gives : A → List (Entry E R) → ℕ → E → R → Type 0) → View E R A → E → R
       → View E R A → Type 0
-  Accepts fits gives v event reply w = (u : View E R A) × (g : Grown fits v u)
+  Accepts fits gives v event reply w = (u : View E R A) × (g : SeesMore fits v u)
       × (w ≡ record u { seen = u.seen ++ entry v.number event reply ∷ [] }) × gives g.topic u.seen v.number event reply
       × fits g.topic w.seen
 
@@ -43,15 +43,15 @@ module _ {E R A : Type 0} where
 
   -- a pass was made by this turn, with the next number
   abbrev pub Parts : (fits : A → List (Entry E R) → Type 0) → View E R A → View E R A → View E R A → Type 0
-  Parts fits v w given = (u : View E R A) × Grown fits v u × (u.made < 65536) × (w ≡ left_part u) × (given ≡ right_part u)
+  Parts fits v w given = (u : View E R A) × SeesMore fits v u × (u.made < 65536) × (w ≡ left_part u) × (given ≡ right_part u)
 
   -- the passes made are the most
   abbrev pub IsFull : (fits : A → List (Entry E R) → Type 0) → View E R A → View E R A → Type 0
-  IsFull fits v w = Grown fits v w × (w.made ≡ 65536)
+  IsFull fits v w = SeesMore fits v w × (w.made ≡ 65536)
 
-  -- The longer of what both had seen, of which both are beginnings, and the numbers of both, each once. Of each of these numbers there are
-  -- just the entries that its own pass had seen
-  pub record Joined (v other w : View E R A) : Type 0 where
+  -- The longer of what both had seen, of which both are beginnings, and the numbers of both, each once. Of each of
+  -- these numbers there are just the entries that its own pass had seen
+  pub record IsJoined (v other w : View E R A) : Type 0 where
     pub view_is : w ≡ joined_view v other
     pub first : StartsWith w.seen v.seen
     pub second : StartsWith w.seen other.seen
@@ -62,7 +62,7 @@ module _ {E R A : Type 0} where
   -- so many passes are neither this one nor joined into it; where there are none, the pass had seen all entries.
   -- There are none where the pass knew that no other is left
   abbrev pub IsOut : (fits : A → List (Entry E R) → Type 0) → View E R A → ℕ → View E R A → Type 0
-  IsOut fits v out w = Grown fits v w × (out + 1 + length w.joined ≡ w.made) × (out ≡ 0 → w.sole ≡ true) × (out ≡ 0 → w.seen ≡ v.seen)
+  IsOut fits v out w = SeesMore fits v w × (out + 1 + length w.joined ≡ w.made) × (out ≡ 0 → w.sole ≡ true) × (out ≡ 0 → w.seen ≡ v.seen)
       × (v.sole ≡ true → out ≡ 0)
 
   -- the lock stays open: so many passes are out, and some are

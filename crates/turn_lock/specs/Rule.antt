@@ -1,6 +1,5 @@
--- The rule of the lock's table, which holds between any two steps.
--- Word 0 is twice the number of entries, and 1 more while a pass has the turn. Slot 0 has the book, and the count of passes made, while no
--- pass has the turn.
+-- The rule of the lock's table, which holds between any two steps. Word 0 is twice the number of entries, and 1 more
+-- while a pass has the turn. Slot 0 has the book, and the count of passes made, while no pass has the turn.
 use Rattle.std.specs.Prelude.{◌≡◌, ℕ, ◌+◌, ◌*◌, ◌<◌, ◌≤◌, true, List, [], ◌∷◌, ◌++◌, length, Option, Some, None}
 use mathlib.Core.Option.{some}
 use mathlib.Core.Option as maybe
@@ -13,8 +12,8 @@ use Rattle.turn_lock.specs.Log.{times, once_below, total, calls_by, GrowsWithout
 use Rattle.turn_lock.specs.Views.{numbers_of}
 
 module _ {E R A : Type 0} where
-  -- what the pass of seat `id` knows, where these are the entries and the count of passes made. The bit is 1 while the seat `holder` has
-  -- the turn
+  -- what the pass of seat `id` knows, where these are the entries and the count of passes made. The bit is 1 while the
+  -- seat `holder` has the turn
   pub record Knows (fits : A → List (Entry E R) → Type 0) (log : List (Entry E R)) (count : ℕ) (about : A) (bit holder id : ℕ)
       (v : View E R A) : Type 0 where
     pub about_is : v.live ≡ true → v.about ≡ Some about
@@ -35,8 +34,9 @@ module _ {E R A B : Type 0} (log : B → List (Entry E R)) (about : B → A) whe
   abbrev pub AtHome : List (Entry E R) → ℕ → A → List (maybe.Option (Option (Kept B))) → Type 0
   AtHome es count a homes = (k : Kept B) × (homes ≡ some (Some k) ∷ []) × (log k.book ≡ es) × (k.made ≡ count) × (about k.book ≡ a)
 
-  -- Each number below the count stands in one view, once (`parted`, `sized`), and no entry has another number (`named`).
-  pub record Ruled (fits : A → List (Entry E R) → Type 0) (s : State (Option (Kept B)) (View E R A)) : Type 0 where
+  -- Each number below the count stands in one view, once (`parted`, `sized`), and no entry has another number
+  -- (`named`).
+  pub record KeepsRule (fits : A → List (Entry E R) → Type 0) (s : State (Option (Kept B)) (View E R A)) : Type 0 where
     pub entries : List (Entry E R)
     pub count : ℕ
     pub topic : A

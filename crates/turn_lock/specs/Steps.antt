@@ -30,8 +30,8 @@ module _ {E R A : Type 0} where
   abbrev pub AddsOneAtMost : View E R A → List (Entry E R) → Type 0
   AddsOneAtMost v es = (more : List (Entry E R)) × (es ≡ v.seen ++ more) × (length more ≤ 1) × OnlyBy v.number more
 
-  -- a look that shows, after a join, that the longer of what both had seen is the shorter and then nothing by the pass that had seen that,
-  -- and that no number stands twice; what the pass has seen fits
+  -- a look that shows, after a join, that the longer of what both had seen is the shorter and then nothing by the pass
+  -- that had seen that, and that no number stands twice; what the pass has seen fits
   abbrev pub compared : {S : Type 0} → (A → List (Entry E R) → Type 0) → Step S → Me S (View E R A) → ℕ → Me S (View E R A) → Type 0
   compared fits st m r m' =
       (m' ≡ m) × GrowsWithout m.0.behind m.0.shorter_seen m.0.longer_seen

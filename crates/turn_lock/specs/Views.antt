@@ -6,13 +6,13 @@ use Rattle.turn_lock.specs.declared.view.View.{View}
 use Rattle.turn_lock.specs.Log.{times, longer, shorter}
 
 -- a pass, as clauses see it: which lock it is of, and what it knows
-pub record Known (E R A : Type 0) : Type 0 where
+pub record PassView (E R A : Type 0) : Type 0 where
   pub lock : TableId
   pub view : View E R A
 
 module _ {E R A : Type 0} where
   -- the pass of the same lock, with the same numbers
-  abbrev pub IsSamePass : Known E R A → Known E R A → Type 0
+  abbrev pub IsSamePass : PassView E R A → PassView E R A → Type 0
   IsSamePass p q = (q.lock ≡ p.lock) × (q.view.number ≡ p.view.number) × (q.view.joined ≡ p.view.joined) × (q.view.about ≡ p.view.about)
 
   -- the numbers of a pass, its own and those that were joined into it: none once it is spent

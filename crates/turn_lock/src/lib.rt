@@ -5,10 +5,10 @@
 //! lent. The clauses speak of what a pass knows, its [`View`]: the entries that it has seen are always the first of the
 //! book's list, and of its own calls they are all.
 //!
-//! `look` and `join_pass` don't wait. `apply`, `note`, `ask`, `split_pass`, `out` and `close` may wait for the turn, and
-//! nothing is claimed of how long: a take that is lost is tried again, after a yield while another pass has the turn.
-//! No call but `new` takes memory, beyond what the book itself does: a [`Vacancy`] has all of a lock's, and takes the book
-//! when it is there.
+//! `look` and `join_pass` don't wait. `apply`, `note`, `ask`, `split_pass`, `out` and `close` may wait for the turn,
+//! and nothing is claimed of how long: a take that is lost is tried again, after a yield while another pass has the
+//! turn. No call but `new` takes memory, beyond what the book itself does: a [`Vacancy`] has all of a lock's, and takes
+//! the book when it is there.
 #![tactic(auto)]
 
 mod book;

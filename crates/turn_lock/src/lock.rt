@@ -4,7 +4,7 @@ ghost use Rattle.slot_types.specs.Refusal.{FailsForMemory};
 ghost use Rattle.slot_types.specs.declared.refusals.Refusal.TheVariants.{NoMemory, PassesFull};
 ghost use Rattle.turn_lock.specs.Log.{entry, calls_by, AllBy};
 ghost use Rattle.turn_lock.specs.Views.{first_view, IsLive, IsSamePass};
-ghost use Rattle.turn_lock.specs.Passes.{Grown, Answers, Replies, Parts, IsFull, Joined, IsOut, Closes, StaysOpen};
+ghost use Rattle.turn_lock.specs.Passes.{SeesMore, Answers, Replies, Parts, IsFull, IsJoined, IsOut, Closes, StaysOpen};
 
 use crate::book::Book;
 use crate::noting::NotingBook;
@@ -46,7 +46,8 @@ impl<B: Book> Model for Turned<B> {
 }
 
 impl<B: Book> Turned<B> {
-    /// Puts a book without entries behind a lock, and makes the first pass, whose number is 0. No other pass is left then.
+    /// Puts a book without entries behind a lock, and makes the first pass, whose number is 0. No other pass is left
+    /// then.
     ///
     /// `NoMemory` where memory is refused; the book is then dropped.
     pub fn new(alloc: Global, book: B) -> Result<(Turned<B>, Pass<B>), Refusal>
@@ -64,7 +65,7 @@ impl<B: Book> Turned<B> {
     pub fn look(&self, pass: &mut Pass<B>) -> u64
         requires { pass.old.lock ≡ self.now }
         ensures same { IsSamePass pass.old pass.new }
-        ensures grown { Grown B.fits pass.old.view pass.new.view }
+        ensures grown { SeesMore B.fits pass.old.view pass.new.view }
         ensures length { result ≡ length pass.new.view.seen }
         // no entry of the pass's own is added
         ensures own { let own = calls_by pass.old.view.number in own pass.new.view.seen ≡ own pass.old.view.seen }
@@ -144,7 +145,7 @@ impl<B: Book> Turned<B> {
         requires own { pass.old.lock ≡ self.now }
         requires other { other.lock ≡ self.now }
         ensures same { pass.new.lock ≡ pass.old.lock }
-        ensures joined { Joined pass.old.view other.view pass.new.view }
+        ensures joined { IsJoined pass.old.view other.view pass.new.view }
     {
         let Pass {
             number: _,
@@ -205,8 +206,8 @@ impl<B: Book> Turned<B> {
 }
 
 impl<B: NotingBook> Turned<B> {
-    /// As `apply`, of an event whose parts are lent, and hands back no more than the book's note of the reply. May wait for
-    /// the turn.
+    /// As `apply`, of an event whose parts are lent, and hands back no more than the book's note of the reply. May wait
+    /// for the turn.
     pub fn note<R: Wait>(
         &self,
         rt: &R,

@@ -18,9 +18,9 @@ pub struct Pass<B: Book> {
 
 impl<B: Book> Model for Pass<B> {
     ghost use Rattle.std.specs.Prelude.{◌≡◌, ◌%◌, true, false, [], length};
-    ghost use Rattle.turn_lock.specs.Views.{Known, CountsOwn, SeesFitting};
+    ghost use Rattle.turn_lock.specs.Views.{PassView, CountsOwn, SeesFitting};
 
-    ghost Value = { Known B.Event B.Reply B.About };
+    ghost Value = { PassView B.Event B.Reply B.About };
 
     ghost view = { λ p. record { lock = p.seat.table_id; view = p.seat.me.0 } };
 

@@ -38,8 +38,8 @@ impl<B: Book> Model for Vacancy<B> {
 }
 
 impl<B: Book> Vacancy<B> {
-    /// A lock for a book like this one, which has no entries. The lock doesn't have the book yet, but all the memory that it
-    /// needs for it. `NoMemory` where memory is refused.
+    /// A lock for a book like this one, which has no entries. The lock doesn't have the book yet, but all the memory
+    /// that it needs for it. `NoMemory` where memory is refused.
     pub fn new(alloc: Global, book: &B) -> Result<Vacancy<B>, Refusal>
         requires empty { B.log book.now ≡ [] }
         ensures about { IfOk result (λ made. made ≡ Some (B.about book.now)) }
@@ -57,8 +57,8 @@ impl<B: Book> Vacancy<B> {
         }
     }
 
-    /// Puts the book behind the lock, and makes the first pass, whose number is 0. No other pass is left then. It takes no
-    /// memory.
+    /// Puts the book behind the lock, and makes the first pass, whose number is 0. No other pass is left then. It takes
+    /// no memory.
     pub fn fill(self, book: B) -> (Turned<B>, Pass<B>)
         requires about { self ≡ Some (B.about book) }
         requires empty { B.log book ≡ [] }

@@ -2,7 +2,7 @@
 use Rattle.std.proofs.Common.{◌≡◌, ℕ, ◌+◌, List, Option, Some, None, refl, arith}
 use Rattle.victim_pick.specs.Candidates.{count_of, HasNone}
 use Rattle.victim_pick.specs.Ties.{AreEmpty}
-use Rattle.victim_pick.specs.Sound.{IsWithin}
+use Rattle.victim_pick.specs.SoundVictims.{IsWithin}
 
 -- what isn't counted by any number isn't counted
 uncounted : (o : Option ℕ) → ((count : ℕ) → o ≡ Some count → ⊥) → o ≡ None

@@ -9,7 +9,7 @@ use Rattle.victim_pick.proofs.Setting.{set_at-other, length-set_at, length-set_f
 use Rattle.victim_pick.proofs.Highest.{one_above, highest_stays, highest_next}
 use Rattle.victim_pick.proofs.Coming.{places_of}
 
--- the links and the block that leaves, with the ones before it and behind it
+-- the links and the block that leaves, with the ones before it and after it
 record IsLeaving (pages : ℕ) (counts firsts nexts befores : List (Option ℕ)) (count block : ℕ) (before next : Option ℕ) : Type 0 where
   are : AreLinked pages counts firsts nexts befores
   counted : count_of counts block ≡ Some count
@@ -23,7 +23,7 @@ before_told pages counts firsts nexts befores count block before next leaving =
     subst (λ (o : Option ℕ). IsBefore counts firsts nexts count block o) (sym leaving.before_is)
     (leaving.are.befores_are block count leaving.counted)
 
--- and the one behind it is the highest below it
+-- and the one after it is the highest below it
 next_highest : (pages : ℕ) (counts firsts nexts befores : List (Option ℕ)) (count block : ℕ) (before next : Option ℕ)
     → (leaving : IsLeaving pages counts firsts nexts befores count block before next)
     → IsHighest counts leaving.are.place count (leaving.are.place block) next
@@ -138,7 +138,7 @@ nexts_left pages counts firsts nexts befores count block x c before next leaving
           (leaving.are.nexts_are x c counted))
     ]
 
--- the one before the block is before the one behind it now
+-- the one before the block is before the one after it now
 before_next : (counts firsts nexts : List (Option ℕ)) (count block y : ℕ) (before next : Option ℕ) → count < length firsts
     → length nexts ≡ length counts → ((p : ℕ) → count_of counts p ≡ Some count → get_or nexts p None ≡ Some block → p ≢ block)
     → IsBefore counts firsts nexts count block before → next ≡ Some y

@@ -10,7 +10,7 @@ pub record HasMade (blocks pages : ℕ) (made : Result Candidates Refusal) : Typ
   pub err : FailsForMemory made
 
 -- the least was taken
-pub record HasTaken (before : Candidates) (taken : Option ℕ) (after : Candidates) : Type 0 where
+pub record HasTakenLeast (before : Candidates) (taken : Option ℕ) (after : Candidates) : Type 0 where
   pub none : IsNone taken ↔ HasNone before.counts
   pub least : IfSome taken (IsLeast before.counts before.erases)
   pub rest : after ≡ record before { counts = without taken before.counts; erases = without taken before.erases }

@@ -16,9 +16,9 @@ abbrev pub erases_of : List (Option ℕ) → ℕ → ℕ
 erases_of erases block = unwrap_or (slice_index_or erases block None) 0
 
 -- one valid page less
-abbrev pub lowered : Option ℕ → Option ℕ
-lowered None = None
-lowered (Some valid) = Some (valid - 1)
+abbrev pub one_page_less : Option ℕ → Option ℕ
+one_page_less None = None
+one_page_less (Some valid) = Some (valid - 1)
 
 -- no block is a candidate
 abbrev pub HasNone : List (Option ℕ) → Type 0

@@ -2,5 +2,5 @@ pub mod Candidates
 pub mod Ties
 pub mod Links
 pub mod Lists
-pub mod Sound
+pub mod SoundVictims
 pub mod Calls

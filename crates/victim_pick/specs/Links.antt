@@ -3,7 +3,7 @@ use Rattle.std.specs.Prelude.{◌≡◌, ℕ, ◌+◌, ◌^◌, ◌<◌, ◌≤�
 use Rattle.victim_pick.specs.Candidates.{count_of}
 
 -- the largest count, and by block the count whose list it is in
-pub record Counted : Type 0 where
+pub record CountLists : Type 0 where
   pub pages : ℕ
   pub counts : List (Option ℕ)
 
@@ -24,7 +24,8 @@ pub record IsHighest (counts : List (Option ℕ)) (place : ℕ → ℕ) (count l
   pub highest : (other : ℕ) → count_of counts other ≡ Some count → place other < limit
       → (block : ℕ) × (found ≡ Some block) × (place other ≤ place block)
 
--- this one is before a block in the list of a count: the block is its next one. Before the first of a list there is none
+-- this one is before a block in the list of a count: the block is its next one. Before the first of a list there is
+-- none
 abbrev pub IsBefore : List (Option ℕ) → List (Option ℕ) → List (Option ℕ) → ℕ → ℕ → Option ℕ → Type 0
 IsBefore counts firsts nexts count block None = slice_index_or firsts count None ≡ Some block
 IsBefore counts firsts nexts count block (Some before) = (count_of counts before ≡ Some count)

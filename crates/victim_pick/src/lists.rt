@@ -20,7 +20,7 @@ pub struct Lists {
     counts: Vec<Option<u32>>,
     /// By count the first block of its list.
     firsts: Vec<Option<u32>>,
-    /// By block the one behind it in its list.
+    /// By block the one after it in its list.
     nexts: Vec<Option<u32>>,
     /// By block the one before it in its list.
     befores: Vec<Option<u32>>,
@@ -28,9 +28,9 @@ pub struct Lists {
 }
 
 impl Model for Lists {
-    ghost use Rattle.victim_pick.specs.Links.{Counted};
+    ghost use Rattle.victim_pick.specs.Links.{CountLists};
 
-    ghost Value = { Counted };
+    ghost Value = { CountLists };
 
     ghost use Rattle.victim_pick.specs.Lists.{counted_of, IsLinked};
 

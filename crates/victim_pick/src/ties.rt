@@ -1,4 +1,5 @@
-//! Of blocks with equally many valid pages the one that goes first: that with the fewest erases, then the smallest number.
+//! Of blocks with equally many valid pages the one that goes first: that with the fewest erases, then the smallest
+//! number.
 
 ghost use Rattle.std.specs.Prelude.{◌≡◌};
 ghost use Rattle.victim_pick.specs.Candidates.{erases_of};

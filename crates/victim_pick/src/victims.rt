@@ -3,7 +3,7 @@
 ghost use Rattle.std.specs.Prelude.{◌≡◌, ◌-◌, ◌<◌, ◌≤◌, ◌↔◌, Some, None, length, replicate, slice_set};
 ghost use Rattle.std.specs.Prelude.{IsNone, IsSomeAnd, IfOk, IfSome};
 ghost use Rattle.slot_types.specs.Refusal.{FailsForMemory};
-ghost use Rattle.victim_pick.specs.Candidates.{count_of, lowered, HasNone, IsLeast, without};
+ghost use Rattle.victim_pick.specs.Candidates.{count_of, one_page_less, HasNone, IsLeast, without};
 
 use crate::lists::Lists;
 use slot_types::Refusal;
@@ -15,8 +15,8 @@ use std::marker::Model;
 ///
 /// The candidates of each count are a list of their own, linked by block numbers, in vectors that `new` makes: no other
 /// call takes memory. `close`, `lower` and `count` take constant time, whatever block they name. `take_least` walks the
-/// counts from the least that it remembers up to the one that it answers, which is one step for each valid page at most,
-/// and then the list of that one count; so does `least`.
+/// counts from the least that it remembers up to the one that it answers, which is one step for each valid page at
+/// most, and then the list of that one count; so does `least`.
 #[derive(Drop)]
 pub struct Victims {
     /// By count the candidates that have it.
@@ -32,11 +32,11 @@ impl Model for Victims {
 
     ghost Value = { Candidates };
 
-    ghost use Rattle.victim_pick.specs.Sound.{candidates_of, IsSound};
+    ghost use Rattle.victim_pick.specs.SoundVictims.{candidates_of, AreSoundVictims};
 
     ghost view = { candidates_of };
 
-    ghost invariant = { IsSound };
+    ghost invariant = { AreSoundVictims };
 }
 
 impl Victims {
@@ -72,7 +72,7 @@ impl Victims {
     /// Counts one valid page less in a candidate that has some.
     pub fn lower(&mut self, block: u32)
         requires { IsSomeAnd (count_of self.old.counts block) (λ valid. 0 < valid) }
-        ensures { self.new ≡ record self.old { counts = slice_set self.old.counts block (lowered (count_of self.old.counts block)) } }
+        ensures { self.new ≡ record self.old { counts = slice_set self.old.counts block (one_page_less (count_of self.old.counts block)) } }
     {
         if let Some(valid) = self.count(block) {
             self.lists.remove(valid, block);
@@ -88,8 +88,8 @@ impl Victims {
         self.lists.count(block)
     }
 
-    /// The candidate with the fewest valid pages, of equal ones that with the fewest erases, of these that of the smallest
-    /// number: the one that `take_least` would take away. It walks as far as that.
+    /// The candidate with the fewest valid pages, of equal ones that with the fewest erases, of these that of the
+    /// smallest number: the one that `take_least` would take away. It walks as far as that.
     pub fn least(&self) -> Option<u32>
         ensures none { IsNone result ↔ HasNone self.now.counts }
         ensures least { IfSome result (IsLeast self.now.counts self.now.erases) }
@@ -98,8 +98,8 @@ impl Victims {
         Some(block)
     }
 
-    /// Takes away the candidate with the fewest valid pages, of equal ones that with the fewest erases, of these that of
-    /// the smallest number.
+    /// Takes away the candidate with the fewest valid pages, of equal ones that with the fewest erases, of these that
+    /// of the smallest number.
     pub fn take_least(&mut self) -> Option<u32>
         ensures none { IsNone result ↔ HasNone self.old.counts }
         ensures least { IfSome result (IsLeast self.old.counts self.old.erases) }

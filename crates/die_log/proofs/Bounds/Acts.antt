@@ -11,12 +11,12 @@ use Rattle.slot_types.specs.declared.plans.DiePlan.{DiePlan}
 use Rattle.slot_types.specs.declared.pages.Place.{Place}
 use Rattle.slot_types.specs.declared.acts.Act.{Act}
 use Rattle.slot_types.specs.declared.acts.Act.TheVariants as does
-use Rattle.die_log.specs.Log.{Job}
-use Rattle.die_log.specs.Flash.{Cells, block_at, block_of_page, open_block, valid, programmed, programmed_in, cells_after}
-use Rattle.die_log.specs.Work.{is_erase, is_copy_program}
-use Rattle.die_log.specs.Answers.{buffer_after, is_placed_in, is_block}
-use Rattle.die_log.specs.Sound.{AreSound, IsClosed, MayRead, MayProgram, MayEraseSlot}
-use Rattle.die_log.specs.Held.{reserve_full}
+use Rattle.die_log.specs.Model.Log.{Job}
+use Rattle.die_log.specs.Model.Flash.{Cells, block_at, block_of_page, open_block, valid, cells_after_program, cells_after_program_in, cells_after}
+use Rattle.die_log.specs.Model.Work.{is_erase, is_copy_program}
+use Rattle.die_log.specs.Model.Answers.{buffer_after, is_placed_in, is_block}
+use Rattle.die_log.specs.Invariants.SoundCells.{AreSoundCells, IsClosed, MayRead, MayProgram, MayEraseSlot}
+use Rattle.die_log.specs.Invariants.TrueAccounts.{reserve_full}
 use Rattle.die_log.proofs.Cells.Collections.{last_push, is_block_says}
 use Rattle.die_log.proofs.Cells.Steps.{open_is}
 use Rattle.die_log.proofs.Standing.Quiet.{runs_with, runs_says}
@@ -59,10 +59,10 @@ kept_place c page p b new apart = ap (λ (o : Option Place). is_block b (option_
     (get_or-set_other c.places page p new None apart)
 
 -- a program of a page takes it out of a closed block, or leaves what is in the buffer there
-program_in_buffer : (plan : DiePlan) (c : Cells) (page b : ℕ) (buffer o : Option ℕ) → 0 < plan.shape.pages → AreSound plan c
+program_in_buffer : (plan : DiePlan) (c : Cells) (page b : ℕ) (buffer o : Option ℕ) → 0 < plan.shape.pages → AreSoundCells plan c
     → IsClosed plan c b → open_block plan c ≡ o
-    → valid (programmed_in page o c) b + one_if (is_placed_in c b buffer)
-    ≤ valid c b + one_if (is_placed_in (programmed_in page o c) b buffer)
+    → valid (cells_after_program_in page o c) b + one_if (is_placed_in c b buffer)
+    ≤ valid c b + one_if (is_placed_in (cells_after_program_in page o c) b buffer)
 program_in_buffer plan c page b buffer None pages s closed e = omega arith
 program_in_buffer plan c page b None (Some o) pages s closed e = omega (arith, program_by plan c page b (Some o) pages s closed e)
 program_in_buffer plan c page b (Some p) (Some o) pages s closed e = elim (cases_eq p page) [
@@ -116,19 +116,19 @@ with_fits plan c d j own block h less = record {
 
 -- an act of another keeps what a collection is bounded by, as its block is closed while it runs
 pub other_bounded : (plan : DiePlan) (c : Cells) (j : Job) (own : List Act) (block : Option ℕ) (n : ℕ) (act : Act) → 0 < plan.shape.pages
-    → AreSound plan c
+    → AreSoundCells plan c
     → ((b : ℕ) → runs_with plan j own ≡ true → block ≡ Some b → IsClosed plan c b) → IsBounded plan c j own block
     → IsBounded plan (cells_after plan (Some (n, act)) c) j own block
 other_bounded plan c j own block n (does.Read page bytes) pages s closed h = h
 other_bounded plan c j own block n (does.Write page bytes) pages s closed h =
-    with_fits plan c (programmed plan page c) j own block h
+    with_fits plan c (cells_after_program plan page c) j own block h
     (λ b runs is. program_in_buffer plan c page b (buffer_after (last_or None own)) (open_block plan c) pages s (closed b runs is) refl)
 other_bounded plan c j own block n (does.Trim page) pages s closed h =
     with_fits plan c (record c { places = slice_set c.places page None }) j own block h
     (λ b runs is. trim_in_buffer c page b (buffer_after (last_or None own)))
 other_bounded plan c j own block n (does.CopyRead page) pages s closed h = h
 other_bounded plan c j own block n (does.CopyProgram page) pages s closed h =
-    with_fits plan c (programmed plan page c) j own block h
+    with_fits plan c (cells_after_program plan page c) j own block h
     (λ b runs is. program_in_buffer plan c page b (buffer_after (last_or None own)) (open_block plan c) pages s (closed b runs is) refl)
 other_bounded plan c j own block n (does.Erase b) pages s closed h = with_fits plan c (cells_after plan (Some (n, does.Erase b)) c) j own
     block h (λ a runs is. omega arith)
@@ -209,13 +209,13 @@ at_most_one false = omega arith
 
 -- one page is programmed elsewhere
 pub own_copy : (plan : DiePlan) (c : Cells) (j : Job) (own : List Act) (block : Option ℕ) (fresh : ℕ → Bool) (b page o : ℕ) → 0
-    < plan.shape.pages → AreSound plan c → IsClosed plan c b → open_block plan c ≡ Some o
+    < plan.shape.pages → AreSoundCells plan c → IsClosed plan c b → open_block plan c ≡ Some o
     → IsBounded plan c j own block → MayProgram c own fresh b page → count_by is_copy_program own < reserve_full plan
     → count_by is_copy_read own + valid c b ≤ reserve_full plan + in_buffer c own b
-    → IsBounded plan (programmed_in page (Some o) c) j (own ++ does.CopyProgram page ∷ []) (Some b)
+    → IsBounded plan (cells_after_program_in page (Some o) c) j (own ++ does.CopyProgram page ∷ []) (Some b)
 own_copy plan c j own block fresh b page o pages s closed e h may few fits =
     let act : Act = does.CopyProgram page in
-    let d : Cells = programmed_in page (Some o) c in
+    let d : Cells = cells_after_program_in page (Some o) c in
     let at = placed_at c page b (placed_test c page b may.placed) in
     let less : valid d b + 1 ≤ valid c b = set_less c.places page b at.place (Some (record { block = o; page = (block_at c o).filled }))
     at.stands at.inside (other_block plan c o b (open_is plan c o pages s e) closed) in

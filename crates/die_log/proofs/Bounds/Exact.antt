@@ -14,14 +14,14 @@ use Rattle.slot_types.specs.declared.events.Event.TheVariants as events
 use Rattle.slot_types.specs.declared.replies.Entry.{Entry}
 use Rattle.slot_types.specs.declared.replies.Reply.TheVariants as replies
 use Rattle.slot_types.specs.declared.replies.Waived.{Waived}
-use Rattle.die_log.specs.Log.{Log, Job, jobs, acts, act_of, work, waived}
-use Rattle.die_log.specs.Flash.{Cells, cells, cells_after, programmed_in, ran_by, valid}
-use Rattle.die_log.specs.Work.{is_done, is_copy_program, victim_of, shown_by}
-use Rattle.die_log.specs.Accounts.{accounts, after_waivers}
-use Rattle.die_log.specs.Answers.{IsExact, accepted, choice, is_waivable, slot_reply, reply_with, act_for}
-use Rattle.die_log.specs.Legal.{changed_since, FindsFree}
-use Rattle.die_log.specs.Sound.{MayDo}
-use Rattle.die_log.specs.Held.{reserve_full}
+use Rattle.die_log.specs.Model.Log.{Log, Job, jobs, acts, act_of, work, waived_collections}
+use Rattle.die_log.specs.Model.Flash.{Cells, cells, cells_after, cells_after_program_in, ran_by, valid}
+use Rattle.die_log.specs.Model.Work.{is_done, is_copy_program, victim_of, shown_by}
+use Rattle.die_log.specs.Model.Accounts.{accounts, after_waivers}
+use Rattle.die_log.specs.Model.Answers.{IsExact, reply_if_accepted, choice, is_waivable, slot_reply, reply_with, act_for}
+use Rattle.die_log.specs.Results.Legal.{changed_since, FindsFree}
+use Rattle.die_log.specs.Invariants.SoundCells.{MayDo}
+use Rattle.die_log.specs.Invariants.TrueAccounts.{reserve_full}
 use Rattle.die_log.proofs.Legality.{entry, exact_induction}
 use Rattle.die_log.proofs.Collecting.{no_acts}
 use Rattle.die_log.proofs.Choices.{OfSome}
@@ -35,8 +35,8 @@ use Rattle.die_log.proofs.Tokens.Waivers.{Waits}
 use Rattle.die_log.proofs.Tokens.Slots.{IsTurn}
 use Rattle.die_log.proofs.Tokens.Few.{MayShow, still_few}
 use Rattle.die_log.proofs.Bounds.Acts.{is_copy_read, in_buffer, IsBounded, idle_bounded, other_bounded, own_read, own_copy, own_erase}
-use Rattle.die_log.specs.Start.{Start}
-use Rattle.die_log.specs.Opening.{IsOpening}
+use Rattle.die_log.specs.Model.Start.{Start}
+use Rattle.die_log.specs.Model.Opening.{IsOpening}
 
 -- each collection of a log
 abbrev pub AreBounded : Start → Log → Type 0
@@ -126,7 +126,7 @@ own_bounded start past j (does.CopyProgram page) b m k undone may few h =
     let o = opens start.plan (cells start past) m.finds in
     let copies = (well_served start past m.bound m.well).few_copies j page (stands_at (jobs past) j m.well.0.numbered m.waiting.0)
     m.waiting.1 m.does_it in
-    subst (λ x. IsBounded start.plan (programmed_in page x (cells start past)) j (acts j.number past ++ does.CopyProgram page ∷ []) (Some b))
+    subst (λ x. IsBounded start.plan (cells_after_program_in page x (cells start past)) j (acts j.number past ++ does.CopyProgram page ∷ []) (Some b))
     (sym o.1)
     (own_copy start.plan (cells start past) j (acts j.number past) (victim_of start j.number past) (λ p. changed_since j.number p past) b page o.0
     pages sound k.collecting.closed o.1 h may copies (by_case k.shown))
@@ -199,7 +199,7 @@ idle_slot start e past ran js same h j stands kind =
 
 slot_act : (start : Start) (past : Log) (caller : ℕ) (j : Job) (o : Option Act) → IsOpening start → StandsWell start past
     → IsWaiting start.plan past j → act_for start past j ≡ o → FindsBy start past (reply_with start.plan past (choice start past).waived j o).ran
-    → Waits start.plan past (waived past ++ (choice start past).waived) j
+    → Waits start.plan past (waived_collections past ++ (choice start past).waived) j
     → is_waivable start.plan past (after_waivers past (choice start past).waived (accounts start past)) j ≡ false
     → AreBounded start past → AreBounded start (entry caller events.Slot (replies.Slot (reply_with start.plan past (choice start past).waived j o))
     ∷ past)
@@ -213,7 +213,7 @@ slot_act start past caller j (Some act) bound well waiting e finds w unwaivable 
 
 slot_head : (start : Start) (past : Log) (caller : ℕ) (o : Option Job) → IsOpening start → StandsWell start past
     → OfSome (IsWaiting start.plan past) o → FindsBy start past (slot_reply start past (choice start past).waived o).ran
-    → MatchOption o (Unit {0}) (λ j. Waits start.plan past (waived past ++ (choice start past).waived) j)
+    → MatchOption o (Unit {0}) (λ j. Waits start.plan past (waived_collections past ++ (choice start past).waived) j)
     → MatchOption o (Unit {0}) (λ j. is_waivable start.plan past (after_waivers past (choice start past).waived (accounts start past)) j
     ≡ false)
     → AreBounded start past → AreBounded start (entry caller events.Slot (replies.Slot (slot_reply start past (choice start past).waived o))
@@ -225,12 +225,12 @@ slot_head start past caller (Some j) bound well waiting finds w unwaivable h = s
 
 -- an accepted event keeps the collections bounded
 keeps_bounded : (start : Start) (past : Log) (caller : ℕ) (event : Event) → IsOpening start → IsExact start past → AreBounded start past
-    → AreBounded start (entry caller event (accepted start past event) ∷ past)
+    → AreBounded start (entry caller event (reply_if_accepted start past event) ∷ past)
 keeps_bounded start past caller (events.Submit task release due ops) bound exact h = taken_bounded start
-    (entry caller (events.Submit task release due ops) (accepted start past (events.Submit task release due ops))) past _ exact refl refl
+    (entry caller (events.Submit task release due ops) (reply_if_accepted start past (events.Submit task release due ops))) past _ exact refl refl
     refl refl h
 keeps_bounded start past caller (events.Collect task release due) bound exact h = taken_bounded start
-    (entry caller (events.Collect task release due) (accepted start past (events.Collect task release due))) past _ exact refl refl refl refl
+    (entry caller (events.Collect task release due) (reply_if_accepted start past (events.Collect task release due))) past _ exact refl refl refl refl
     h
 keeps_bounded start past caller events.Slot bound exact h =
     let well = stands_well start bound past exact in

@@ -6,8 +6,8 @@ use Rattle.std.proofs.lemmas.Option.{none-some}
 use Rattle.slot_types.specs.Places.{place_of}
 use Rattle.slot_types.specs.declared.plans.DiePlan.{DiePlan}
 use Rattle.slot_types.specs.declared.pages.Place.{Place}
-use Rattle.die_log.specs.Flash.{Cells, Block, free_block, block_at, block_of_page}
-use Rattle.die_log.specs.Sound.{IsOpen, IsClosed, IsUnplaced, AreSound, IsProgram, IsTrim, IsEraseSlot}
+use Rattle.die_log.specs.Model.Flash.{Cells, Block, free_block, block_at, block_of_page}
+use Rattle.die_log.specs.Invariants.SoundCells.{IsOpen, IsClosed, IsUnplaced, AreSoundCells, IsProgram, IsTrim, IsEraseSlot}
 
 -- a page is placed in a block
 pub in_block : (c : Cells) (page b : ℕ) (q : Place) → place_of c.places page ≡ Some q → q.block ≡ b → block_of_page c page ≡ Some b
@@ -23,7 +23,7 @@ of_block c page b e = placed_by (place_of c.places page) b e
 -- Programs
 
 -- the block with room isn't in erase
-pub open_idle : (plan : DiePlan) (c : Cells) (b : ℕ) → AreSound plan c → (block_at c b).filled < plan.shape.pages → (block_at c b).erasing
+pub open_idle : (plan : DiePlan) (c : Cells) (b : ℕ) → AreSoundCells plan c → (block_at c b).filled < plan.shape.pages → (block_at c b).erasing
     ≡ 0
 open_idle plan c b s room = by_count ((block_at c b).erasing) refl
   where
@@ -48,25 +48,25 @@ filled_more : (plan : DiePlan) (page b : ℕ) (c d : Cells) → IsProgram plan p
 filled_more plan page b c d w a (inl e) = rw e (omega (arith, w.filled))
 filled_more plan page b c d w a (inr other) = rw (w.others a other) (omega arith)
 
-within_more : (plan : DiePlan) (page b : ℕ) (c d : Cells) → AreSound plan c → IsProgram plan page b c d → (a : ℕ) → (a ≡ b) ⊎ (a ≡ b → ⊥)
+within_more : (plan : DiePlan) (page b : ℕ) (c d : Cells) → AreSoundCells plan c → IsProgram plan page b c d → (a : ℕ) → (a ≡ b) ⊎ (a ≡ b → ⊥)
     → (block_at d a).filled ≤ plan.shape.pages
 within_more plan page b c d s w a (inl e) = rw e (omega (arith, w.filled, w.room))
 within_more plan page b c d s w a (inr other) = rw (w.others a other) (s.within a)
 
-placed_more : (plan : DiePlan) (page b : ℕ) (c d : Cells) → AreSound plan c → IsProgram plan page b c d → (p : ℕ) (q : Place)
+placed_more : (plan : DiePlan) (page b : ℕ) (c d : Cells) → AreSoundCells plan c → IsProgram plan page b c d → (p : ℕ) (q : Place)
     → ((p ≡ page) × (q.block ≡ b) × (q.page ≡ (block_at c b).filled)) ⊎ ((p ≢ page) × (place_of c.places p ≡ Some q)) → q.page
     < (block_at d q.block).filled
 placed_more plan page b c d s w p q (inl h) = rw h.1 (omega (arith, w.filled, h.2))
 placed_more plan page b c d s w p q (inr h) = omega (arith, s.placed p q h.1, filled_more plan page b c d w q.block (cases_eq q.block b))
 
 -- a new place is above all that its block had
-above_old : (plan : DiePlan) (c : Cells) (p b k : ℕ) (q : Place) → AreSound plan c → place_of c.places p ≡ Some q → q.block ≡ b → q.page
+above_old : (plan : DiePlan) (c : Cells) (p b k : ℕ) (q : Place) → AreSoundCells plan c → place_of c.places p ≡ Some q → q.block ≡ b → q.page
     ≡ (block_at c b).filled → ⊥
 above_old plan c p b k q s e is at =
     let lt : q.page < (block_at c b).filled = subst (λ (x : ℕ). q.page < (block_at c x).filled) is (s.placed p q e) in
     omega arith
 
-apart_more : (plan : DiePlan) (page b : ℕ) (c : Cells) → AreSound plan c → (p o : ℕ) (q r : Place)
+apart_more : (plan : DiePlan) (page b : ℕ) (c : Cells) → AreSoundCells plan c → (p o : ℕ) (q r : Place)
     → ((p ≡ page) × (q.block ≡ b) × (q.page ≡ (block_at c b).filled)) ⊎ ((p ≢ page) × (place_of c.places p ≡ Some q))
     → ((o ≡ page) × (r.block ≡ b) × (r.page ≡ (block_at c b).filled)) ⊎ ((o ≢ page) × (place_of c.places o ≡ Some r))
     → q.block ≡ r.block → q.page ≡ r.page → p ≡ o
@@ -80,7 +80,7 @@ opened_is : (plan : DiePlan) (page b : ℕ) (c d : Cells) → IsProgram plan pag
 opened_is plan page b c d w a h (inl e) = e
 opened_is plan page b c d w a h (inr other) = w.alone a (rw (w.others a other) at h)
 
-erasing_more : (plan : DiePlan) (page b : ℕ) (c d : Cells) → AreSound plan c → IsProgram plan page b c d → (a : ℕ) → 0
+erasing_more : (plan : DiePlan) (page b : ℕ) (c d : Cells) → AreSoundCells plan c → IsProgram plan page b c d → (a : ℕ) → 0
     < (block_at d a).erasing → (a ≡ b) ⊎ (a ≡ b → ⊥)
     → ((block_at d a).erasing < plan.shape.erase_slots) × IsClosed plan d a × IsUnplaced d a
 erasing_more plan page b c d s w a h (inl e) =
@@ -92,7 +92,7 @@ erasing_more plan page b c d s w a h (inr other) =
     (rw same old.0, rw same old.1, λ p e. old.2 p (program_stays plan page b c d w a p other e).1)
 
 -- a program keeps cells sound
-pub program_sound : (plan : DiePlan) (page b : ℕ) (c d : Cells) → AreSound plan c → IsProgram plan page b c d → AreSound plan d
+pub program_sound : (plan : DiePlan) (page b : ℕ) (c d : Cells) → AreSoundCells plan c → IsProgram plan page b c d → AreSoundCells plan d
 program_sound plan page b c d s w = record {
   blocks = w.blocks ∙ s.blocks;
   places = w.places ∙ s.places;
@@ -119,7 +119,7 @@ pub trimmed_block : (page : ℕ) (c d : Cells) → IsTrim page c d → (a : ℕ)
 trimmed_block page c d w a = ap (λ (bs : List Block). get_or bs a free_block) w.blocks
 
 -- a trim keeps cells sound
-pub trim_sound : (plan : DiePlan) (page : ℕ) (c d : Cells) → AreSound plan c → IsTrim page c d → AreSound plan d
+pub trim_sound : (plan : DiePlan) (page : ℕ) (c d : Cells) → AreSoundCells plan c → IsTrim page c d → AreSoundCells plan d
 trim_sound plan page c d s w = record {
   blocks = ap length w.blocks ∙ s.blocks;
   places = w.places ∙ s.places;
@@ -147,13 +147,13 @@ erase_places plan b c d w p = ap (λ (ps : List (Option Place)). place_of ps p) 
 pub erase_stays : (plan : DiePlan) (b : ℕ) (c d : Cells) → IsEraseSlot plan b c d → (p : ℕ) → block_of_page d p ≡ block_of_page c p
 erase_stays plan b c d w p = ap (option_map (λ (r : Place). r.block)) (erase_places plan b c d w p)
 
-erased_within : (plan : DiePlan) (b : ℕ) (c d : Cells) → AreSound plan c → IsEraseSlot plan b c d → (a : ℕ) → Slot plan b c d → (a ≡ b)
+erased_within : (plan : DiePlan) (b : ℕ) (c d : Cells) → AreSoundCells plan c → IsEraseSlot plan b c d → (a : ℕ) → Slot plan b c d → (a ≡ b)
     ⊎ (a ≡ b → ⊥) → (block_at d a).filled ≤ plan.shape.pages
 erased_within plan b c d s w a (inl h) (inl e) = rw e (omega (arith, h.1))
 erased_within plan b c d s w a (inr h) (inl e) = rw e (omega (arith, h.1, s.within b))
 erased_within plan b c d s w a h (inr other) = rw (w.others a other) (s.within a)
 
-erased_placed : (plan : DiePlan) (b : ℕ) (c d : Cells) → AreSound plan c → IsUnplaced c b → IsEraseSlot plan b c d → (p : ℕ) (q : Place)
+erased_placed : (plan : DiePlan) (b : ℕ) (c d : Cells) → AreSoundCells plan c → IsUnplaced c b → IsEraseSlot plan b c d → (p : ℕ) (q : Place)
     → place_of c.places p ≡ Some q
     → (q.block ≡ b) ⊎ (q.block ≡ b → ⊥) → q.page < (block_at d q.block).filled
 erased_placed plan b c d s none w p q e (inl is) = absurd (none p (in_block c p b q e is))
@@ -168,7 +168,7 @@ erased_open plan b c d closed w a h (inr k) (inl e) = let here : IsOpen plan d b
     (omega (arith, here.1, k.1, closed))
 erased_open plan b c d closed w a h k (inr other) = rw (w.others a other) at h
 
-erased_erasing : (plan : DiePlan) (b : ℕ) (c d : Cells) → AreSound plan c → IsClosed plan c b → IsUnplaced c b → IsEraseSlot plan b c d
+erased_erasing : (plan : DiePlan) (b : ℕ) (c d : Cells) → AreSoundCells plan c → IsClosed plan c b → IsUnplaced c b → IsEraseSlot plan b c d
     → (a : ℕ) → 0 < (block_at d a).erasing
     → Slot plan b c d → (block_at c b).erasing < plan.shape.erase_slots → (a ≡ b) ⊎ (a ≡ b → ⊥)
     → ((block_at d a).erasing < plan.shape.erase_slots) × IsClosed plan d a × IsUnplaced d a
@@ -184,7 +184,7 @@ erased_erasing plan b c d s closed none w a h k lt (inr other) =
     (rw same old.0, rw same old.1, λ p x. old.2 p (sym (erase_stays plan b c d w p) ∙ x))
 
 -- a block whose erase runs, or hasn't begun, has an erase slot left
-pub erase_left : (plan : DiePlan) (c : Cells) (b : ℕ) → 0 < plan.shape.erase_slots → AreSound plan c → (block_at c b).erasing
+pub erase_left : (plan : DiePlan) (c : Cells) (b : ℕ) → 0 < plan.shape.erase_slots → AreSoundCells plan c → (block_at c b).erasing
     < plan.shape.erase_slots
 erase_left plan c b more s = by_eq (cases_eq ((block_at c b).erasing) 0)
   where
@@ -193,8 +193,8 @@ erase_left plan c b more s = by_eq (cases_eq ((block_at c b).erasing) 0)
     by_eq (inr e) = (s.erasing b (omega arith)).0
 
 -- a slot of the erase of a closed block, in which no page is placed, keeps cells sound
-pub erase_sound : (plan : DiePlan) (b : ℕ) (c d : Cells) → 0 < plan.shape.erase_slots → AreSound plan c → IsClosed plan c b → IsUnplaced c b
-    → IsEraseSlot plan b c d → AreSound plan d
+pub erase_sound : (plan : DiePlan) (b : ℕ) (c d : Cells) → 0 < plan.shape.erase_slots → AreSoundCells plan c → IsClosed plan c b → IsUnplaced c b
+    → IsEraseSlot plan b c d → AreSoundCells plan d
 erase_sound plan b c d more s closed none w = record {
   blocks = w.blocks ∙ s.blocks;
   places = ap length w.places ∙ s.places;

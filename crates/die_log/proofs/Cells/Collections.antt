@@ -10,11 +10,11 @@ use Rattle.std.proofs.lemmas.Bool.{true≢false, false_from_ne_true, eqb-true, e
 use Rattle.slot_types.specs.declared.plans.DiePlan.{DiePlan}
 use Rattle.slot_types.specs.declared.acts.Act.{Act}
 use Rattle.slot_types.specs.declared.acts.Act.TheVariants as does
-use Rattle.die_log.specs.Flash.{Cells, Block, block_at, block_of_page, valid, valid_pages}
-use Rattle.die_log.specs.Work.{is_erase}
-use Rattle.die_log.specs.Answers.{buffer_after, is_block, is_placed_in, read_or_erase, collect_act}
-use Rattle.die_log.specs.Legal.{is_change_of}
-use Rattle.die_log.specs.Sound.{IsClosed, AreSound, IsProgram, IsEraseSlot, IsStep, IsCollecting, MayDo}
+use Rattle.die_log.specs.Model.Flash.{Cells, Block, block_at, block_of_page, valid, valid_pages}
+use Rattle.die_log.specs.Model.Work.{is_erase}
+use Rattle.die_log.specs.Model.Answers.{buffer_after, is_block, is_placed_in, read_or_erase, collect_act}
+use Rattle.die_log.specs.Results.Legal.{is_change_of}
+use Rattle.die_log.specs.Invariants.SoundCells.{IsClosed, AreSoundCells, IsProgram, IsEraseSlot, IsCellStep, IsCollecting, MayDo}
 use Rattle.die_log.proofs.Cells.Acts.{program_stays, trim_stays, trimmed_block, erase_stays, erase_left}
 use Rattle.die_log.proofs.Cells.Valid.{valid_is, unplaced_is, valid_placed}
 
@@ -49,7 +49,7 @@ not_written page p before other h = by_test (page == p) (ne_eqb page p (λ e. ot
 
 -- the act of another keeps a running collection
 pub other_step : (plan : DiePlan) (act : Act) (c d : Cells) (own : List Act) (fresh : ℕ → Bool) (b : ℕ) → IsCollecting plan c own fresh b
-    → (act ≡ does.Erase b → ⊥) → IsStep plan act c d
+    → (act ≡ does.Erase b → ⊥) → IsCellStep plan act c d
     → IsCollecting plan d own (λ p. is_change_of p act || fresh p) b
 other_step plan (does.Read page bytes) c d own fresh b k differs w = keeps_collecting plan c d own fresh fresh b k
     (ap (λ (x : Cells). block_at x b) w) (λ p e. (sym (ap (λ (x : Cells). block_of_page x p) w) ∙ e, λ n. n))
@@ -121,7 +121,7 @@ not_erase_end plan b c d own w is differs = by_case w.slot
 
 -- an act of its own keeps a collection that it doesn't end
 pub own_step : (plan : DiePlan) (act : Act) (c d : Cells) (own : List Act) (fresh newer : ℕ → Bool) (b : ℕ)
-    → IsCollecting plan c own fresh b → MayDo plan c own fresh b act → IsStep plan act c d
+    → IsCollecting plan c own fresh b → MayDo plan c own fresh b act → IsCellStep plan act c d
     → count_by is_erase (own ++ act ∷ []) ≢ plan.shape.erase_slots → ((p : ℕ) → newer p ≡ false)
     → IsCollecting plan d (own ++ act ∷ []) newer b
 own_step plan (does.Read page bytes) c d own fresh newer b k may w differs never = absurd may
@@ -193,7 +193,7 @@ block_is b None h = absurd cc
 block_is b (Some v) h = eq-eqb v b (same_Some v b h)
 
 read_or_erase_may : (plan : DiePlan) (c : Cells) (own : List Act) (fresh : ℕ → Bool) (b : ℕ) (pages : List ℕ) → 0 < plan.shape.erase_slots
-    → AreSound plan c → IsCollecting plan c own fresh b
+    → AreSoundCells plan c → IsCollecting plan c own fresh b
     → ((p : ℕ) → Contains own (does.CopyRead p) → block_of_page c p ≡ Some b → ⊥) → valid_pages plan c b ≡ pages
     → MayDo plan c own fresh b (read_or_erase b pages)
 read_or_erase_may plan c own fresh b [] more s k left e =
@@ -217,7 +217,7 @@ read_or_erase_may plan c own fresh b (page ∷ pages) more s k left e =
     by_count (suc n) is placed = absurd ((s.erasing b (omega (arith, k.erases))).2 page placed)
 
 act_may : (plan : DiePlan) (c : Cells) (own : List Act) (fresh : ℕ → Bool) (b : ℕ) (o : Option ℕ) → 0 < plan.shape.erase_slots
-    → AreSound plan c → IsCollecting plan c own fresh b
+    → AreSoundCells plan c → IsCollecting plan c own fresh b
     → buffer_after (last_or None own) ≡ o → (t : Bool) → is_placed_in c b o ≡ t → (act : Act)
     → cond t (Some (does.CopyProgram (unwrap_or o 0))) (Some (read_or_erase b (valid_pages plan c b))) ≡ Some act
     → MayDo plan c own fresh b act
@@ -238,7 +238,7 @@ act_may plan c own fresh b o more s k buffer false test act e =
 
 -- what a collection does next, it may do
 pub next_may : (plan : DiePlan) (c : Cells) (own : List Act) (fresh : ℕ → Bool) (b : ℕ) (act : Act) → 0 < plan.shape.erase_slots
-    → AreSound plan c → IsCollecting plan c own fresh b
+    → AreSoundCells plan c → IsCollecting plan c own fresh b
     → collect_act plan c (buffer_after (last_or None own)) (Some b) ≡ Some act → MayDo plan c own fresh b act
 next_may plan c own fresh b act more s k e =
     act_may plan c own fresh b (buffer_after (last_or None own)) more s k refl (is_placed_in c b (buffer_after (last_or None own))) refl act

@@ -5,8 +5,8 @@ use Rattle.std.proofs.lemmas.List.Sums.{sum_by-set}
 use Rattle.std.proofs.lemmas.Bool.{cases_lt, ne_eqb}
 use Rattle.slot_types.specs.declared.plans.DiePlan.{DiePlan}
 use Rattle.slot_types.specs.declared.acts.Act.TheVariants as does
-use Rattle.die_log.specs.Flash.{Cells, Block, free_block, block_at, programmed_in, programmed, free_in, erased_once, cells_after}
-use Rattle.die_log.specs.Sound.{IsClosed, AreSound}
+use Rattle.die_log.specs.Model.Flash.{Cells, Block, free_block, block_at, cells_after_program_in, cells_after_program, free_in, block_after_erase_slot, cells_after}
+use Rattle.die_log.specs.Invariants.SoundCells.{IsClosed, AreSoundCells}
 use Rattle.die_log.proofs.Cells.Acts.{open_idle}
 use Rattle.die_log.proofs.Cells.Steps.{opens, open_is, within_blocks}
 
@@ -24,19 +24,19 @@ changed plan c b s lt = sum_by-set (free_in plan) c.blocks b s free_block lt
 
 open_free : (plan : DiePlan) (page b : ℕ) (c : Cells) → b < length c.blocks → (block_at c b).filled < plan.shape.pages
     → (block_at c b).erasing ≡ 0
-    → sum_by (free_in plan) (programmed_in page (Some b) c).blocks + 1 ≡ sum_by (free_in plan) c.blocks
+    → sum_by (free_in plan) (cells_after_program_in page (Some b) c).blocks + 1 ≡ sum_by (free_in plan) c.blocks
 open_free plan page b c lt room idle =
     let s : Block = block_at c b in
     let after : Block = record s { filled = s.filled + 1 } in
     omega (arith, changed plan c b after lt, free_idle plan s idle, free_idle plan after idle)
 
 -- a program takes one free page
-pub program_free : (plan : DiePlan) (page : ℕ) (c : Cells) → 0 < plan.shape.pages → AreSound plan c → 0 < sum_by (free_in plan) c.blocks
-    → sum_by (free_in plan) (programmed plan page c).blocks + 1 ≡ sum_by (free_in plan) c.blocks
+pub program_free : (plan : DiePlan) (page : ℕ) (c : Cells) → 0 < plan.shape.pages → AreSoundCells plan c → 0 < sum_by (free_in plan) c.blocks
+    → sum_by (free_in plan) (cells_after_program plan page c).blocks + 1 ≡ sum_by (free_in plan) c.blocks
 program_free plan page c more s free =
     let o = opens plan c free in
     let k = open_is plan c o.0 more s o.1 in
-    subst (λ x. sum_by (free_in plan) (programmed_in page x c).blocks + 1 ≡ sum_by (free_in plan) c.blocks) (sym o.1)
+    subst (λ x. sum_by (free_in plan) (cells_after_program_in page x c).blocks + 1 ≡ sum_by (free_in plan) c.blocks) (sym o.1)
     (open_free plan page o.0 c k.stands k.room (open_idle plan c o.0 s k.room))
 
 closed_none : (plan : DiePlan) (s : Block) → s.filled ≡ plan.shape.pages → free_in plan s ≡ 0
@@ -61,7 +61,7 @@ erase_free plan n b c more closed =
     let s : Block = block_at c b in
     omega (
       arith,
-      changed plan c b (erased_once plan s) lt,
+      changed plan c b (block_after_erase_slot plan s) lt,
       closed_none plan s closed,
       erased_free plan s
           (s.erasing + 1 == plan.shape.erase_slots) closed,

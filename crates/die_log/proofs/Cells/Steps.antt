@@ -13,9 +13,9 @@ use Rattle.slot_types.specs.declared.plans.DiePlan.{DiePlan}
 use Rattle.slot_types.specs.declared.acts.Act.{Act}
 use Rattle.slot_types.specs.declared.acts.Act.TheVariants as does
 use Rattle.slot_types.specs.declared.pages.Place.{Place}
-use Rattle.die_log.specs.Flash.{Cells, Block, free_block, block_at, is_open, first_of, open_block, programmed_in, programmed, free_in}
-use Rattle.die_log.specs.Flash.{erased_once, cells_after, fresh_cells}
-use Rattle.die_log.specs.Sound.{IsOpen, IsClosed, IsUnplaced, AreSound, IsProgram, IsTrim, IsEraseSlot, TakesNext, IsStep, HasRoom}
+use Rattle.die_log.specs.Model.Flash.{Cells, Block, free_block, block_at, is_open, first_of, open_block, cells_after_program_in, cells_after_program, free_in}
+use Rattle.die_log.specs.Model.Flash.{block_after_erase_slot, cells_after, fresh_cells}
+use Rattle.die_log.specs.Invariants.SoundCells.{IsOpen, IsClosed, IsUnplaced, AreSoundCells, IsProgram, IsTrim, IsEraseSlot, TakesNext, IsCellStep, HasFreePage}
 use Rattle.die_log.proofs.Cells.Acts.{program_sound, trim_sound, erase_sound}
 
 -- Places of lists
@@ -66,7 +66,7 @@ moved_to page b c p q e (inr other) h = inr (other, sym (get_or-set_other c.plac
 -- a block that has room, and but for which none is open, may be programmed
 pub program_is : (plan : DiePlan) (page b : ℕ) (c : Cells) → b < length c.blocks → (block_at c b).filled < plan.shape.pages
     → ((a : ℕ) → IsOpen plan c a → a ≡ b)
-    → IsProgram plan page b c (programmed_in page (Some b) c)
+    → IsProgram plan page b c (cells_after_program_in page (Some b) c)
 program_is plan page b c lt room alone = record {
   blocks = length-set c.blocks b _;
   places = length-set c.places page _;
@@ -101,7 +101,7 @@ opened_found plan c a h e =
     let passes : is_open plan (block_at c a) ≡ true = test_is plan (block_at c a) h.0 h.1 in
     true≢false (sym passes ∙ fails)
 
-open_by : (plan : DiePlan) (c : Cells) (b : ℕ) (o f : Option ℕ) → 0 < plan.shape.pages → AreSound plan c → position (is_open plan) c.blocks
+open_by : (plan : DiePlan) (c : Cells) (b : ℕ) (o f : Option ℕ) → 0 < plan.shape.pages → AreSoundCells plan c → position (is_open plan) c.blocks
     ≡ o → position (λ s. s.filled == 0) c.blocks ≡ f
     → first_of o f ≡ Some b → TakesNext plan c b
 open_by plan c b (Some a) f more s e g h =
@@ -114,7 +114,7 @@ open_by plan c b None f more s e g h =
     let zero : (block_at c b).filled ≡ 0 = eqb-true (block_at c b).filled 0 k.1 in
     record { stands = k.0; room = omega arith; alone = λ x p. absurd (opened_found plan c x p e) }
 
-pub open_is : (plan : DiePlan) (c : Cells) (b : ℕ) → 0 < plan.shape.pages → AreSound plan c → open_block plan c ≡ Some b
+pub open_is : (plan : DiePlan) (c : Cells) (b : ℕ) → 0 < plan.shape.pages → AreSoundCells plan c → open_block plan c ≡ Some b
     → TakesNext plan c b
 open_is plan c b more s h = open_by plan c b (position (is_open plan) c.blocks) (position (λ x. x.filled == 0) c.blocks) more s refl refl h
 
@@ -160,12 +160,12 @@ opens plan c h =
 -- Steps
 
 pub erase_slot_is : (plan : DiePlan) (b : ℕ) (c : Cells) → b < length c.blocks
-    → IsEraseSlot plan b c (record c { blocks = slice_set c.blocks b (erased_once plan (block_at c b)) })
+    → IsEraseSlot plan b c (record c { blocks = slice_set c.blocks b (block_after_erase_slot plan (block_at c b)) })
 erase_slot_is plan b c lt = record {
   blocks = length-set c.blocks b _;
   places = refl;
   others = λ a other. get_or-set_other c.blocks b a _ free_block other;
-  slot = subst (Slot (block_at c b)) (sym (get_or-set_same c.blocks b (erased_once plan (block_at c b)) free_block lt))
+  slot = subst (Slot (block_at c b)) (sym (get_or-set_same c.blocks b (block_after_erase_slot plan (block_at c b)) free_block lt))
       (by_test (block_at c b) ((block_at c b).erasing + 1 == plan.shape.erase_slots) refl);
 }
   where
@@ -178,13 +178,13 @@ erase_slot_is plan b c lt = record {
     by_test s true e = inl (eqb-true (s.erasing + 1) plan.shape.erase_slots e, refl, refl)
     by_test s false e = inr (eqb-false (s.erasing + 1) plan.shape.erase_slots e, refl, refl)
 
-program_step : (plan : DiePlan) (page : ℕ) (c : Cells) → 0 < plan.shape.pages → AreSound plan c → 0 < sum_by (free_in plan) c.blocks
-    → (b : ℕ) × IsProgram plan page b c (programmed plan page c)
+program_step : (plan : DiePlan) (page : ℕ) (c : Cells) → 0 < plan.shape.pages → AreSoundCells plan c → 0 < sum_by (free_in plan) c.blocks
+    → (b : ℕ) × IsProgram plan page b c (cells_after_program plan page c)
 program_step plan page c more s free =
     let o = opens plan c free in
     let k = open_is plan c o.0 more s o.1 in (
       o.0,
-      subst (λ (x : Option ℕ). IsProgram plan page o.0 c (programmed_in page x c)) (sym o.1)
+      subst (λ (x : Option ℕ). IsProgram plan page o.0 c (cells_after_program_in page x c)) (sym o.1)
           (program_is plan page o.0 c k.stands k.room k.alone),
     )
 
@@ -214,9 +214,9 @@ trim_is page c = record {
 }
 
 -- a program needs a free page, and an erase slot a closed block
-pub step_is : (plan : DiePlan) (n : ℕ) (act : Act) (c : Cells) → 0 < plan.shape.pages → AreSound plan c → HasRoom plan c act
+pub step_is : (plan : DiePlan) (n : ℕ) (act : Act) (c : Cells) → 0 < plan.shape.pages → AreSoundCells plan c → HasFreePage plan c act
     → ((b : ℕ) → act ≡ does.Erase b → IsClosed plan c b)
-    → IsStep plan act c (cells_after plan (Some (n, act)) c)
+    → IsCellStep plan act c (cells_after plan (Some (n, act)) c)
 step_is plan n (does.Read page bytes) c more s room closed = refl
 step_is plan n (does.Write page bytes) c more s room closed = program_step plan page c more s room
 step_is plan n (does.Trim page) c more s room closed = trim_is page c
@@ -227,12 +227,12 @@ step_is plan n (does.Erase b) c more s room closed =
     erase_slot_is plan b c (within_blocks plan c b (omega arith) (cases_lt b (length c.blocks)))
 
 -- a step keeps cells sound, if an erase slot is of a closed block in which no page is placed
-pub step_sound : (plan : DiePlan) (act : Act) (c d : Cells) → 0 < plan.shape.erase_slots → AreSound plan c
-    → ((b : ℕ) → act ≡ does.Erase b → IsClosed plan c b × IsUnplaced c b) → IsStep plan act c d → AreSound plan d
-step_sound plan (does.Read page bytes) c d more s ok w = subst (AreSound plan) (sym w) s
+pub step_sound : (plan : DiePlan) (act : Act) (c d : Cells) → 0 < plan.shape.erase_slots → AreSoundCells plan c
+    → ((b : ℕ) → act ≡ does.Erase b → IsClosed plan c b × IsUnplaced c b) → IsCellStep plan act c d → AreSoundCells plan d
+step_sound plan (does.Read page bytes) c d more s ok w = subst (AreSoundCells plan) (sym w) s
 step_sound plan (does.Write page bytes) c d more s ok w = program_sound plan page w.0 c d s w.1
 step_sound plan (does.Trim page) c d more s ok w = trim_sound plan page c d s w
-step_sound plan (does.CopyRead page) c d more s ok w = subst (AreSound plan) (sym w) s
+step_sound plan (does.CopyRead page) c d more s ok w = subst (AreSoundCells plan) (sym w) s
 step_sound plan (does.CopyProgram page) c d more s ok w = program_sound plan page w.0 c d s w.1
 step_sound plan (does.Erase b) c d more s ok w = let h = ok b refl in erase_sound plan b c d more s h.0 h.1 w
 
@@ -248,7 +248,7 @@ fresh_place zero a = refl
 fresh_place (suc n) zero = refl
 fresh_place (suc n) (suc a) = fresh_place n a
 
-pub fresh_sound : (plan : DiePlan) → AreSound plan (fresh_cells plan)
+pub fresh_sound : (plan : DiePlan) → AreSoundCells plan (fresh_cells plan)
 fresh_sound plan = record {
   blocks = length-replicate plan.shape.blocks free_block;
   places = length-replicate plan.logical nowhere;

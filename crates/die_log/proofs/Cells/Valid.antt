@@ -10,8 +10,8 @@ use Rattle.std.proofs.lemmas.Bool.Decides.{nat_tests}
 use Rattle.slot_types.specs.Places.{is_in, is_at}
 use Rattle.slot_types.specs.declared.plans.DiePlan.{DiePlan}
 use Rattle.slot_types.specs.declared.pages.Place.{Place}
-use Rattle.die_log.specs.Flash.{Cells, block_of_page, valid, valid_pages}
-use Rattle.die_log.specs.Sound.{IsUnplaced, AreSound}
+use Rattle.die_log.specs.Model.Flash.{Cells, block_of_page, valid, valid_pages}
+use Rattle.die_log.specs.Invariants.SoundCells.{IsUnplaced, AreSoundCells}
 use Rattle.die_log.proofs.Cells.Acts.{in_block, of_block}
 use Rattle.die_log.proofs.Cells.Steps.{no_position}
 use Rattle.std.proofs.lemmas.List.{get_or_past}
@@ -123,7 +123,7 @@ at_says b cell None h = absurd cc
 at_says b cell (Some q) h = let k = and_parts (q.block == b) (q.page == cell) h in
     (q, refl, eqb-true q.block b k.0, eqb-true q.page cell k.1)
 
-one_at : (plan : DiePlan) (c : Cells) (b cell : ℕ) → AreSound plan c → (i k : ℕ) → i < length c.places → k < length c.places
+one_at : (plan : DiePlan) (c : Cells) (b cell : ℕ) → AreSoundCells plan c → (i k : ℕ) → i < length c.places → k < length c.places
     → in_cell b cell (get_or c.places i None) ≡ true → in_cell b cell (get_or c.places k None) ≡ true → i ≡ k
 one_at plan c b cell s i k x y h g =
     let m = at_says b cell (get_or c.places i None) h in
@@ -136,7 +136,7 @@ from_whole plan b None h = refl
 from_whole plan b (Some q) h = let lt : q.page < plan.shape.pages = h q refl in grind (arith, nat_tests)
 
 -- as many pages are placed in a block as its cells hold placed pages
-pub valid_is : (plan : DiePlan) (c : Cells) (b : ℕ) → AreSound plan c → length (valid_pages plan c b) ≡ valid c b
+pub valid_is : (plan : DiePlan) (c : Cells) (b : ℕ) → AreSoundCells plan c → length (valid_pages plan c b) ≡ valid c b
 valid_is plan c b s =
     pages_from b c.places (λ cell. found_is (in_cell b cell) None c.places (one_at plan c b cell s)) 0 plan.shape.pages
     ∙ count_same (is_from b 0 plan.shape.pages) (is_in b) None c.places

@@ -13,15 +13,15 @@ use Rattle.slot_types.specs.declared.replies.Waived.{Waived}
 use Rattle.slot_types.specs.declared.replies.Entry.{Entry}
 use Rattle.late_cert.specs.declared.rows.JobRow.{JobRow}
 use Rattle.late_cert.specs.Rows.{row_of, number_in, is_done_in, is_known, is_done, release_of, due_of}
-use Rattle.late_cert.specs.Stretch.{is_within, key_at_most}
+use Rattle.late_cert.specs.BusyInterval.{is_within, key_at_most}
 use Rattle.late_cert.specs.Moments.{CarriesSlot}
-use Rattle.die_log.specs.Log.{Log, Job, Carried, jobs, carried, now, waived, act_of, acts, is_waived}
-use Rattle.die_log.specs.Flash.{ran_by}
-use Rattle.die_log.specs.Work.{are_all, is_ready, goes_first, completion}
-use Rattle.die_log.specs.Work as status
-use Rattle.die_log.specs.Legal.{is_among, NothingWaits}
-use Rattle.die_log.specs.Standing.{AreNumbered}
-use Rattle.die_log.specs.Rows.{row_for, rows, carried_numbers}
+use Rattle.die_log.specs.Model.Log.{Log, Job, Carried, jobs, carried_slots, now, waived_collections, act_of, acts, is_waived}
+use Rattle.die_log.specs.Model.Flash.{ran_by}
+use Rattle.die_log.specs.Model.Work.{are_all, is_ready, goes_first, completion}
+use Rattle.die_log.specs.Model.Work as status
+use Rattle.die_log.specs.Results.Legal.{is_among, NothingWaits}
+use Rattle.die_log.specs.Invariants.RunningCollections.{AreNumbered}
+use Rattle.die_log.specs.Model.Rows.{row_for, rows, carried_numbers}
 use Rattle.die_log.proofs.Standing.Longer.{act_own, act_other, acts_stay, acts_grow, contained, number_at}
 use Rattle.die_log.proofs.Tokens.Waivers.{Waits}
 use Rattle.die_log.proofs.Tokens.Slots.{slot_entry}
@@ -74,10 +74,10 @@ ready_if plan past i released undone unwaived =
 
 -- below, `gone` are those waived before the slot, or in it
 abbrev pub gone_by : Log → List Waived → ℕ → Bool
-gone_by past ws n = is_among n (waived past ++ ws)
+gone_by past ws n = is_among n (waived_collections past ++ ws)
 
 parts_of_gone : (past : Log) (ws : List Waived) (n : ℕ) → gone_by past ws n ≡ false → (is_waived past n ≡ false) × (is_among n ws ≡ false)
-parts_of_gone past ws n h = or_parts (is_waived past n) (is_among n ws) (sym (list_any-append (λ w. w.number == n) (waived past) ws) ∙ h)
+parts_of_gone past ws n h = or_parts (is_waived past n) (is_among n ws) (sym (list_any-append (λ w. w.number == n) (waived_collections past) ws) ∙ h)
 
 -- a known row is of a job that was not waived
 record IsOf (plan : DiePlan) (past : Log) (ws : List Waived) (k : ℕ) : Type 0 where
@@ -128,7 +128,7 @@ abbrev Now : Log → ℕ
 Now past = length (carried_numbers past)
 
 now_is : (past : Log) → Now past ≡ now past
-now_is past = length-map (carried past) (λ c. option_map (λ ran. ran.0) c)
+now_is past = length-map (carried_slots past) (λ c. option_map (λ ran. ran.0) c)
 
 abbrev pub after_waivers_rows : DiePlan → Log → List Waived → List JobRow
 after_waivers_rows plan past ws = rows_by (row_for plan past) (gone_by past ws) (jobs past)
@@ -163,7 +163,7 @@ carries_nothing plan past caller slot ws finished numbered nobody =
 
 -- the row of the head, before its slot and after it
 head_row : (plan : DiePlan) (past : Log) (ws : List Waived) (row : Job → JobRow) (j : Job) (k : ℕ) → ((i : Job) → (row i).number ≡ i.number)
-    → AreNumbered 0 (jobs past) → Waits plan past (waived past ++ ws) j → k ≡ j.number
+    → AreNumbered 0 (jobs past) → Waits plan past (waived_collections past ++ ws) j → k ≡ j.number
     → row_of (rows_by row (gone_by past ws) (jobs past)) k ≡ Some (row j)
 head_row plan past ws row j k named numbered w is =
     let stands : slice_get (jobs past) k ≡ Some j = ap (slice_get (jobs past)) is ∙ w.known in
@@ -172,7 +172,7 @@ head_row plan past ws row j k named numbered w is =
     ∙ (ap (λ (b : Bool). row_in row b (slice_get (jobs past) k)) stays ∙ ap (row_in row false) stands)
 
 carried_row : (plan : DiePlan) (past : Log) (caller slot : ℕ) (ws : List Waived) (finished : Option ℕ) (j : Job) (act : Act) (k : ℕ)
-    → AreNumbered 0 (jobs past) → Waits plan past (waived past ++ ws) j → k ≡ j.number
+    → AreNumbered 0 (jobs past) → Waits plan past (waived_collections past ++ ws) j → k ≡ j.number
     → IsCarried (after_waivers_rows plan past ws) (rows plan (slot_entry caller slot ws (Some (j.number, act)) finished ∷ past)) (Now past)
     (Some j.number) k
 carried_row plan past caller slot ws finished j act k numbered w is =
@@ -198,7 +198,7 @@ carried_row plan past caller slot ws finished j act k numbered w is =
     }
 
 pub carries_head : (plan : DiePlan) (past : Log) (caller slot : ℕ) (ws : List Waived) (finished : Option ℕ) (j : Job) (act : Act)
-    → AreNumbered 0 (jobs past) → Waits plan past (waived past ++ ws) j
+    → AreNumbered 0 (jobs past) → Waits plan past (waived_collections past ++ ws) j
     → ((i : Job) → Contains (jobs past) i → is_ready plan past i ≡ true → is_among i.number ws ≡ false → goes_first i j ≡ false)
     → CarriesSlot (after_waivers_rows plan past ws) (rows plan (slot_entry caller slot ws (Some (j.number, act)) finished ∷ past))
     (carried_numbers past) (Some j.number)
@@ -235,6 +235,6 @@ carries_head plan past caller slot ws finished j act numbered w first =
         ∙ (ap (λ (n : ℕ). key_at_most j.due j.number f.job.due n) (sym number) ∙ behind)))
 
 -- the slots with one more
-pub carried_more : (past : Log) (ran : Carried) → map (λ c. option_map (λ r. r.0) c) (carried past ++ ran ∷ []) ≡ carried_numbers past
+pub carried_more : (past : Log) (ran : Carried) → map (λ c. option_map (λ r. r.0) c) (carried_slots past ++ ran ∷ []) ≡ carried_numbers past
     ++ option_map (λ r. r.0) ran ∷ []
-carried_more past ran = map-append (λ c. option_map (λ r. r.0) c) (carried past) (ran ∷ [])
+carried_more past ran = map-append (λ c. option_map (λ r. r.0) c) (carried_slots past) (ran ∷ [])

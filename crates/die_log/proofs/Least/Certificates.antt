@@ -14,15 +14,15 @@ use Rattle.late_cert.specs.declared.certificates.Certificate.{Certificate}
 use Rattle.late_cert.specs.Schedule.{Slots}
 use Rattle.late_cert.specs.Rows.{row_of, is_done_in, number_in, completion_of}
 use Rattle.late_cert.specs.Rows.{is_done as is_done_row}
-use Rattle.late_cert.specs.Stretch.{CarriesLeastKeys, start_of, jobs_of}
-use Rattle.late_cert.specs.Build.{stretch_of, IsOwn}
+use Rattle.late_cert.specs.BusyInterval.{CarriesLeastKeys, start_of, jobs_of}
+use Rattle.late_cert.specs.Build.{busy_interval_of, IsOwn}
 use Rattle.late_cert.proofs.Window.{stretch-is}
 use Rattle.late_cert.proofs.Least.{stretch-certifies}
 use Rattle.late_cert.proofs.OneStretch.{certificate_of-done}
-use Rattle.die_log.specs.Log.{Log, Job, jobs, work, is_waived}
-use Rattle.die_log.specs.Work.{are_all, is_done, is_worse, worst, completion}
-use Rattle.die_log.specs.Answers.{IsExact, accepted, refusals}
-use Rattle.die_log.specs.Rows.{row_for, rows, carried_numbers, certificate, certificate_for, IsCertified}
+use Rattle.die_log.specs.Model.Log.{Log, Job, jobs, work, is_waived}
+use Rattle.die_log.specs.Model.Work.{are_all, is_done, is_worse, worst, completion}
+use Rattle.die_log.specs.Model.Answers.{IsExact, reply_if_accepted, refusals}
+use Rattle.die_log.specs.Model.Rows.{row_for, rows, carried_numbers, certificate, certificate_for, IsCertified}
 use Rattle.die_log.proofs.Legality.{entry, exact_induction}
 use Rattle.die_log.proofs.Known.{all_append}
 use Rattle.die_log.proofs.Choices.{OfSome}
@@ -31,8 +31,8 @@ use Rattle.die_log.proofs.Legal.Exact.{stands_well, has_slots}
 use Rattle.die_log.proofs.Least.Lookups.{row_in, row_at}
 use Rattle.die_log.proofs.Least.Worst.{worst_stands}
 use Rattle.die_log.proofs.Least.Exact.{no_operations, least_keys}
-use Rattle.die_log.specs.Start.{Start}
-use Rattle.die_log.specs.Opening.{IsOpening}
+use Rattle.die_log.specs.Model.Start.{Start}
+use Rattle.die_log.specs.Model.Opening.{IsOpening}
 
 -- What is done was carried
 
@@ -45,7 +45,7 @@ all_begin start more = exact_induction start (λ log. AllByRecursion (Begins sta
   where
     step : (past : Log) (caller : ℕ) (event : Event) → IsExact start past → AllByRecursion (Begins start.plan) (jobs past)
         → AllByRecursion (λ c. c.0 ≡ false) (refusals start past event)
-        → AllByRecursion (Begins start.plan) (jobs (entry caller event (accepted start past event) ∷ past))
+        → AllByRecursion (Begins start.plan) (jobs (entry caller event (reply_if_accepted start past event) ∷ past))
     step past caller (events.Submit task release due ops) exact h none = all_append (Begins start.plan) (jobs past) (_ ∷ []) h
         (no_operations ops none.1.0, tt)
     step past caller (events.Collect task release due) exact h none = all_append (Begins start.plan) (jobs past) (_ ∷ []) h
@@ -86,7 +86,7 @@ done_with true j n w e = refl
 done_with false j n w e = absurd cc
 
 certificate_own : (rows : List JobRow) (carried : Slots) → CarriesLeastKeys rows carried → (k : ℕ) → is_done_row rows k ≡ true
-    → IsOwn rows carried k (stretch_of rows carried k)
+    → IsOwn rows carried k (busy_interval_of rows carried k)
 certificate_own rows carried keys k done =
     let stretch = stretch-is rows carried k (completion_of rows k) keys.rising in record {
       done = done;
@@ -107,7 +107,7 @@ done_certified start log j bound exact stands done =
     let row = row_stands start log j bound exact stands (done_unwaived start log j bound exact stands done) in
     let done_row = ap is_done_in row ∙ done_with (is_done start.plan log j) j (completion j.number log) (work j.number log) done in
     let is = certificate_of-done (rows start.plan log) (carried_numbers log) keys j.number done_row in (
-      stretch_of (rows start.plan log) (carried_numbers log) j.number,
+      busy_interval_of (rows start.plan log) (carried_numbers log) j.number,
       is,
       record {
         own = certificate_own (rows start.plan log) (carried_numbers log) keys j.number done_row;

@@ -14,15 +14,15 @@ use Rattle.slot_types.specs.declared.replies.Reply.TheVariants as replies
 use Rattle.slot_types.specs.declared.replies.Waived.{Waived}
 use Rattle.late_cert.specs.declared.rows.JobRow.{JobRow}
 use Rattle.late_cert.specs.Schedule.{IsLeastLate}
-use Rattle.late_cert.specs.Stretch.{CarriesLeastKeys}
+use Rattle.late_cert.specs.BusyInterval.{CarriesLeastKeys}
 use Rattle.late_cert.proofs.Moments.{nothing-carried, slot-keeps}
 use Rattle.late_cert.proofs.Least.{least-late}
-use Rattle.die_log.specs.Log.{Log, Job, jobs, now, waived}
-use Rattle.die_log.specs.Work.{is_ready, goes_first}
-use Rattle.die_log.specs.Accounts.{accounts}
-use Rattle.die_log.specs.Answers.{IsExact, accepted, refusals, choice, slot_reply, reply_with, act_for}
-use Rattle.die_log.specs.Legal.{is_among}
-use Rattle.die_log.specs.Rows.{rows, carried_numbers}
+use Rattle.die_log.specs.Model.Log.{Log, Job, jobs, now, waived_collections}
+use Rattle.die_log.specs.Model.Work.{is_ready, goes_first}
+use Rattle.die_log.specs.Model.Accounts.{accounts}
+use Rattle.die_log.specs.Model.Answers.{IsExact, reply_if_accepted, refusals, choice, slot_reply, reply_with, act_for}
+use Rattle.die_log.specs.Results.Legal.{is_among}
+use Rattle.die_log.specs.Model.Rows.{rows, carried_numbers}
 use Rattle.die_log.proofs.Exact.{moment_exact}
 use Rattle.die_log.proofs.Legality.{entry, in_time, exact_induction}
 use Rattle.die_log.proofs.Choices.{OfSome}
@@ -35,8 +35,8 @@ use Rattle.die_log.proofs.Tokens.Waivers.{Waits}
 use Rattle.die_log.proofs.Least.Taking.{taken_keeps}
 use Rattle.die_log.proofs.Least.Waiving.{waivers_keep}
 use Rattle.die_log.proofs.Least.Carrying.{after_waivers_rows, carries_nothing, carries_head, carried_more}
-use Rattle.die_log.specs.Start.{Start}
-use Rattle.die_log.specs.Opening.{IsOpening}
+use Rattle.die_log.specs.Model.Start.{Start}
+use Rattle.die_log.specs.Model.Opening.{IsOpening}
 
 -- the rows and the slots of a log, where each slot carried a least key
 abbrev pub HasLeastKeys : DiePlan → Log → Type 0
@@ -56,7 +56,7 @@ first_of_ready start past j head i stands is_ready_now unwaived = by_case (all_p
     by_case (inr behind) = subst (NotBefore i) head behind
 
 slot_act : (start : Start) (past : Log) (caller : ℕ) (j : Job) (o : Option Act) (act : Act) → StandsWell start past
-    → Waits start.plan past (waived past ++ (choice start past).waived) j → (choice start past).head ≡ Some j → o ≡ Some act
+    → Waits start.plan past (waived_collections past ++ (choice start past).waived) j → (choice start past).head ≡ Some j → o ≡ Some act
     → CarriesLeastKeys (rows_after start past) (carried_numbers past)
     → HasLeastKeys start.plan (entry caller events.Slot (replies.Slot (reply_with start.plan past (choice start past).waived j o)) ∷ past)
 slot_act start past caller j None act h w head e keys = absurd (none-some act e)
@@ -71,7 +71,7 @@ slot_act start past caller j (Some a) act h w head e keys =
     )
 
 slot_head : (start : Start) (past : Log) (caller : ℕ) (o : Option Job) → StandsWell start past → FindsVictim start past
-    → (choice start past).head ≡ o → MatchOption o (Unit {0}) (λ j. Waits start.plan past (waived past ++ (choice start past).waived) j)
+    → (choice start past).head ≡ o → MatchOption o (Unit {0}) (λ j. Waits start.plan past (waived_collections past ++ (choice start past).waived) j)
     → OfSome (IsWaiting start.plan past) o → CarriesLeastKeys (rows_after start past) (carried_numbers past)
     → HasLeastKeys start.plan (entry caller events.Slot (replies.Slot (slot_reply start past (choice start past).waived o)) ∷ past)
 slot_head start past caller None h finds head w waiting keys =
@@ -86,11 +86,11 @@ slot_head start past caller (Some j) h finds head w waiting keys =
     slot_act start past caller j (act_for start past j) a.0 h w head a.1 keys
 
 slot_keeps : (start : Start) (past : Log) (caller : ℕ) → IsOpening start → StandsWell start past → HasLeastKeys start.plan past
-    → HasLeastKeys start.plan (entry caller events.Slot (accepted start past events.Slot) ∷ past)
+    → HasLeastKeys start.plan (entry caller events.Slot (reply_if_accepted start past events.Slot) ∷ past)
 slot_keeps start past caller bound h keys =
     let c = chosen_is start past (well_served start past bound h) in
     slot_head start past caller (choice start past).head h (finds_victim start past bound h) refl c.head (waits start past).head
-    (waivers_keep start.plan past (waived past) (choice start past).waived (accounts start past) (carried_numbers past) (has_slots start.plan bound.bound)
+    (waivers_keep start.plan past (waived_collections past) (choice start past).waived (accounts start past) (carried_numbers past) (has_slots start.plan bound.bound)
     h.0.numbered c.waivers keys)
 
 pub no_operations : (ops : List Op) → (length ops == 0) ≡ false → (0 == length ops) ≡ false
@@ -99,7 +99,7 @@ no_operations ops h = ne_eqb 0 (length ops) (λ e. eqb-false (length ops) 0 h (s
 -- an accepted event keeps least keys
 keeps_least : (start : Start) (past : Log) (caller : ℕ) (event : Event) → IsOpening start → IsExact start past → StandsWell start past
     → AllByRecursion (λ c. c.0 ≡ false) (refusals start past event)
-    → HasLeastKeys start.plan past → HasLeastKeys start.plan (entry caller event (accepted start past event) ∷ past)
+    → HasLeastKeys start.plan past → HasLeastKeys start.plan (entry caller event (reply_if_accepted start past event) ∷ past)
 keeps_least start past caller (events.Submit task release due ops) bound exact h none keys =
     taken_keeps start past _ exact h.0.numbered refl (no_operations ops none.1.0)
     (in_time start past (events.Submit task release due ops) none).0 keys

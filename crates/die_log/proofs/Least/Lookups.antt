@@ -5,8 +5,8 @@ use Rattle.std.specs.List.Sorted.{IsStrictlyIncreasing}
 use Rattle.std.proofs.lemmas.Bool.{eq-eqb, ne_eqb}
 use Rattle.late_cert.specs.declared.rows.JobRow.{JobRow}
 use Rattle.late_cert.specs.Rows.{RowsRise, row_of}
-use Rattle.die_log.specs.Log.{Job}
-use Rattle.die_log.specs.Standing.{AreNumbered}
+use Rattle.die_log.specs.Model.Log.{Job}
+use Rattle.die_log.specs.Invariants.RunningCollections.{AreNumbered}
 
 -- below, `row` gives the row of a job, under its number, and `gone` tells whether a number was waived
 

@@ -5,7 +5,7 @@ use Rattle.std.proofs.lemmas.Bool.{true≢false, eq-eqb, ne_eqb}
 use Rattle.late_cert.specs.declared.rows.JobRow.{JobRow}
 use Rattle.late_cert.specs.Schedule.{Slots, is_named}
 use Rattle.late_cert.specs.Rows.{RowsRise, row_of, number_in, is_done_in, is_known, is_done, release_of, due_of, work_of, completion_of}
-use Rattle.late_cert.specs.Stretch.{is_within}
+use Rattle.late_cert.specs.BusyInterval.{is_within}
 use Rattle.late_cert.specs.Moments.{AcceptsJob, WaivesJob, CarriesSlot}
 
 abbrev nothing : Option JobRow

@@ -7,18 +7,18 @@ use Rattle.std.proofs.lemmas.Option.{slice_get_past}
 use Rattle.slot_types.specs.declared.plans.DiePlan.{DiePlan}
 use Rattle.slot_types.specs.declared.acts.Act.{Act}
 use Rattle.late_cert.specs.declared.rows.JobRow.{JobRow}
-use Rattle.late_cert.specs.Stretch.{CarriesLeastKeys}
+use Rattle.late_cert.specs.BusyInterval.{CarriesLeastKeys}
 use Rattle.late_cert.proofs.Moments.{accepts-keeps}
-use Rattle.die_log.specs.Log.{Log, Job, jobs, carried, now, acts, is_waived}
-use Rattle.die_log.specs.Work.{are_all, completion}
-use Rattle.die_log.specs.Answers.{IsExact}
-use Rattle.die_log.specs.Standing.{AreNumbered}
-use Rattle.die_log.specs.Rows.{row_for, rows, carried_numbers}
+use Rattle.die_log.specs.Model.Log.{Log, Job, jobs, carried_slots, now, acts, is_waived}
+use Rattle.die_log.specs.Model.Work.{are_all, completion}
+use Rattle.die_log.specs.Model.Answers.{IsExact}
+use Rattle.die_log.specs.Invariants.RunningCollections.{AreNumbered}
+use Rattle.die_log.specs.Model.Rows.{row_for, rows, carried_numbers}
 use Rattle.die_log.proofs.Collecting.{no_acts, not_waived}
 use Rattle.die_log.proofs.Standing.Longer.{numbered_push, at_end, elsewhere}
 use Rattle.die_log.proofs.Least.Lookups.{rows_by, row_in, Named, rows_rise, row_at}
 use Rattle.die_log.proofs.Least.Steps.{IsNew, IsKept, accepts_by}
-use Rattle.die_log.specs.Start.{Start}
+use Rattle.die_log.specs.Model.Start.{Start}
 
 -- a new number, which wasn't waived, at the end of the jobs
 adds_row : (row : Job → JobRow) (gone : ℕ → Bool) (js : List Job) (new : Job) (k : ℕ) → Named row → AreNumbered 0 js → new.number
@@ -60,5 +60,5 @@ taken_keeps start past new exact numbered number undone later keys =
     (λ k. adds_row row (is_waived past) (jobs past) new k (λ j. refl) numbered number (not_waived start past exact))
     (without_completion start.plan new (acts new.number past) (completion new.number past) own undone)
     (ap (λ (l : List Act). length l) own)
-    (omega (arith, later, length-map (carried past) (λ c. option_map (λ ran. ran.0) c)))
+    (omega (arith, later, length-map (carried_slots past) (λ c. option_map (λ ran. ran.0) c)))
     )

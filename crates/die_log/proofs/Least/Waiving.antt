@@ -11,13 +11,13 @@ use Rattle.plan_rules.specs.Accounts as moves
 use Rattle.late_cert.specs.declared.rows.JobRow.{JobRow}
 use Rattle.late_cert.specs.Schedule.{Slots}
 use Rattle.late_cert.specs.Rows.{row_of, is_done_in, number_in}
-use Rattle.late_cert.specs.Stretch.{CarriesLeastKeys}
+use Rattle.late_cert.specs.BusyInterval.{CarriesLeastKeys}
 use Rattle.late_cert.proofs.Moments.{waives-keeps}
-use Rattle.die_log.specs.Log.{Log, Job, jobs, acts, work}
-use Rattle.die_log.specs.Work.{are_all, completion}
-use Rattle.die_log.specs.Legal.{is_among, IsWaiver, AreWaivers}
-use Rattle.die_log.specs.Standing.{AreNumbered}
-use Rattle.die_log.specs.Rows.{row_for}
+use Rattle.die_log.specs.Model.Log.{Log, Job, jobs, acts, work}
+use Rattle.die_log.specs.Model.Work.{are_all, completion}
+use Rattle.die_log.specs.Results.Legal.{is_among, IsWaiver, AreWaivers}
+use Rattle.die_log.specs.Invariants.RunningCollections.{AreNumbered}
+use Rattle.die_log.specs.Model.Rows.{row_for}
 use Rattle.die_log.proofs.Tokens.Slots.{empty_if}
 use Rattle.die_log.proofs.Least.Lookups.{rows_by, row_in, Named, rows_rise, row_at}
 use Rattle.die_log.proofs.Least.Steps.{IsGone, IsKept, waives_by}
@@ -103,6 +103,6 @@ waivers_keep plan past earlier [] a cs more numbered h keys =
     subst (λ l. CarriesLeastKeys (rows_by (row_for plan past) (λ n. is_among n l) (jobs past)) cs) (sym (append-nil earlier)) keys
 waivers_keep plan past earlier (w ∷ ws) a cs more numbered (j, is, rest) keys =
     subst (λ l. CarriesLeastKeys (rows_by (row_for plan past) (λ n. is_among n l) (jobs past)) cs) (append_assoc earlier (w ∷ []) ws) (
-    waivers_keep plan past (earlier ++ w ∷ []) ws (moves.waived a j.task) cs more numbered rest
+    waivers_keep plan past (earlier ++ w ∷ []) ws (moves.accounts_after_waiver a j.task) cs more numbered rest
     (waiver_keeps plan past earlier a j w cs more numbered is keys)
     )

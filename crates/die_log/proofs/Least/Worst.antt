@@ -7,13 +7,13 @@ use Rattle.std.specs.List.{AllByRecursion, reduce}
 use Rattle.std.proofs.lemmas.Bool.Decides.{nat_tests}
 use Rattle.std.proofs.lemmas.List.Elements.{All-contains, All-from_recursion, All-contains_itself, recursion_from_All}
 use Rattle.slot_types.specs.declared.plans.DiePlan.{DiePlan}
-use Rattle.die_log.specs.Log.{Log, Job, jobs}
-use Rattle.die_log.specs.Work.{is_done, is_worse, worst, completion, IsWorst}
+use Rattle.die_log.specs.Model.Log.{Log, Job, jobs}
+use Rattle.die_log.specs.Model.Work.{is_done, is_worse, worst, completion, IsWorst}
 use Rattle.die_log.proofs.Choices.{OfSome}
 use Rattle.die_log.proofs.Standing.Longer.{kept_both, best_all}
 use Rattle.die_log.proofs.Legal.Runs.{kept_in}
 
--- below, a job by its completion, its due and its number
+-- below, a job by its completion, its deadline and its number
 
 abbrev worse : ℕ → ℕ → ℕ → ℕ → ℕ → ℕ → Bool
 worse c d n c' d' n' =
@@ -43,7 +43,7 @@ behind_if c d n c' d' n' h = record {
       not_worse_number c d n c' d' n' h;
 }
 
--- of two one is behind the other
+-- of two one is after the other
 turned_late : (c d n c' d' n' : ℕ) → worse c d n c' d' n' ≡ true → c' + d ≤ c + d'
 turned_late c d n c' d' n' h = grind (arith, nat_tests)
 

@@ -12,21 +12,21 @@ use Rattle.slot_types.specs.declared.acts.Act.TheVariants as does
 use Rattle.slot_types.specs.declared.events.Op.{Op}
 use Rattle.slot_types.specs.declared.events.Op.TheVariants as asks
 use Rattle.slot_types.specs.declared.replies.Waived.{Waived}
-use Rattle.die_log.specs.Log.{Log, Job, jobs, now, acts, work, waived, is_waived}
-use Rattle.die_log.specs.Flash.{cells}
-use Rattle.die_log.specs.Work.{is_done, least}
+use Rattle.die_log.specs.Model.Log.{Log, Job, jobs, now, acts, work, waived_collections, is_waived}
+use Rattle.die_log.specs.Model.Flash.{cells}
+use Rattle.die_log.specs.Model.Work.{is_done, least}
 use Rattle.plan_rules.specs.Accounts.{Accounts, given_of}
 use Rattle.plan_rules.specs.Accounts as moves
-use Rattle.die_log.specs.Answers.{Choice, is_running, is_waivable, without, weighed, chosen, choice_among, act_for, act_of_op}
-use Rattle.die_log.specs.Legal.{Does, IsNextOperation, IsCollectAct, IsNextCollectAct, MayErase, changed_since, is_among, TellsContent}
-use Rattle.die_log.specs.Legal.{FindsFree, IsLegalAct}
-use Rattle.die_log.specs.Sound.{MayDo, MayEraseSlot}
-use Rattle.die_log.specs.Standing.{Runs, Stands}
+use Rattle.die_log.specs.Model.Answers.{Choice, is_running, is_waivable, without, head_or_waiver, choice_by_head, choice_among, act_for, act_of_op}
+use Rattle.die_log.specs.Results.Legal.{Does, IsNextOperation, IsCollectAct, IsNextCollectAct, MayErase, changed_since, is_among, TellsContent}
+use Rattle.die_log.specs.Results.Legal.{FindsFree, IsLegalAct}
+use Rattle.die_log.specs.Invariants.SoundCells.{MayDo, MayEraseSlot}
+use Rattle.die_log.specs.Invariants.RunningCollections.{RunsOnBlock, KeepsJobsAndCells}
 use Rattle.die_log.proofs.Choices.{OfSome, names_waiting}
 use Rattle.die_log.proofs.Standing.Longer.{stands_at, kept_both, IsWaiting}
 use Rattle.die_log.proofs.Standing.Actors.{IsBegun, runs_from, act_shows, job_act, collection_may}
 use Rattle.die_log.proofs.Standing.Kept.{waiting_undone}
-use Rattle.die_log.specs.Start.{Start}
+use Rattle.die_log.specs.Model.Start.{Start}
 
 -- Operations
 
@@ -46,19 +46,19 @@ some_in : (xs : List Act) (x : Act) → Contains xs x → 0 < length xs
 some_in xs x h = omega (arith, h.1)
 
 -- who erased a slot of the block and isn't done runs on it
-erased_runs : (start : Start) (past : Log) (i : Job) (b : ℕ) → Stands start past → Contains (jobs past) i
-    → Contains (acts i.number past) (does.Erase b) → is_done start.plan past i ≡ false → Runs start past i b
+erased_runs : (start : Start) (past : Log) (i : Job) (b : ℕ) → KeepsJobsAndCells start past → Contains (jobs past) i
+    → Contains (acts i.number past) (does.Erase b) → is_done start.plan past i ≡ false → RunsOnBlock start past i b
 erased_runs start past i b s stands h undone = by_kind i.collects refl
   where
-    by_kind : (t : Bool) → i.collects ≡ t → Runs start past i b
+    by_kind : (t : Bool) → i.collects ≡ t → RunsOnBlock start past i b
     by_kind false kind = absurd ((s.of_jobs i stands kind).unerased b h)
     by_kind true kind =
         let running : is_running start.plan past i ≡ true = runs_from start.plan i (acts i.number past)
         (record { collects = kind; begun = some_in (acts i.number past) (does.Erase b) h; undone = undone }) in
         let r = s.collects.shown i stands running in
-        subst (Runs start past i) (sym ((s.collects.collecting i r.0 r.1).of_own b h)) r.1
+        subst (RunsOnBlock start past i) (sym ((s.collects.collecting i r.0 r.1).of_own b h)) r.1
 
-erase_may : (start : Start) (past : Log) (j : Job) (b block : ℕ) → Stands start past → IsBegun start past j b
+erase_may : (start : Start) (past : Log) (j : Job) (b block : ℕ) → KeepsJobsAndCells start past → IsBegun start past j b
     → MayEraseSlot start.plan (cells start past) (acts j.number past) b block → MayErase start past j.number b block
 erase_may start past j b block s k may = record {
   own = may.same;
@@ -73,7 +73,7 @@ erase_may start past j b block s k may = record {
     by_done i stands other h true e = refl
     by_done i stands other h false e = absurd (other (k.apart i (erased_runs start past i b s stands h e)))
 
-pub may_legal : (start : Start) (past : Log) (j : Job) (b : ℕ) (act : Act) → Stands start past → IsBegun start past j b
+pub may_legal : (start : Start) (past : Log) (j : Job) (b : ℕ) (act : Act) → KeepsJobsAndCells start past → IsBegun start past j b
     → MayDo start.plan (cells start past) (acts j.number past) (λ p. changed_since j.number p past) b act
     → IsCollectAct start past j.number b act × TellsContent start past act
 may_legal start past j b (does.Read page bytes) s k may = absurd may
@@ -112,44 +112,44 @@ apart_of : (j : Job) (o : Option Job) → OfSome (λ i. Unit {0} × (not (i.numb
 apart_of j None h = tt
 apart_of j (Some i) h = other_number i j h.1
 
-unwaived_weighed : (plan : DiePlan) (past : Log) (turns : ℕ) (a : Accounts) (waiting : List Job) (j : Job) (b : Bool)
-    → ((a' : Accounts) (rest : List Job) → OfSome (NotWaived (choice_among plan past turns a' rest))
-    (choice_among plan past turns a' rest).head)
-    → OfSome (NotWaived (weighed a waiting (choice_among plan past turns) j b)) (weighed a waiting (choice_among plan past turns) j b).head
-unwaived_weighed plan past turns a waiting j false ih = refl
-unwaived_weighed plan past turns a waiting j true ih =
-    let a2 : Accounts = moves.waived a j.task in
-    let rest : Choice = choice_among plan past turns a2 (without j waiting) in
-    let names = names_waiting (λ (i : Job). Unit {0} × (not (i.number == j.number) ≡ true)) plan past turns a2 (without j waiting)
+unwaived_weighed : (plan : DiePlan) (past : Log) (rounds : ℕ) (a : Accounts) (waiting : List Job) (j : Job) (b : Bool)
+    → ((a' : Accounts) (rest : List Job) → OfSome (NotWaived (choice_among plan past rounds a' rest))
+    (choice_among plan past rounds a' rest).head)
+    → OfSome (NotWaived (head_or_waiver a waiting (choice_among plan past rounds) j b)) (head_or_waiver a waiting (choice_among plan past rounds) j b).head
+unwaived_weighed plan past rounds a waiting j false ih = refl
+unwaived_weighed plan past rounds a waiting j true ih =
+    let a2 : Accounts = moves.accounts_after_waiver a j.task in
+    let rest : Choice = choice_among plan past rounds a2 (without j waiting) in
+    let names = names_waiting (λ (i : Job). Unit {0} × (not (i.number == j.number) ≡ true)) plan past rounds a2 (without j waiting)
     (kept_both (λ (i : Job). Unit {0}) (λ i. not (i.number == j.number)) waiting (all_jobs waiting)) in
     head_apart (record { number = j.number; given = given_of a j.task }) rest.waived rest.head (ih a2 (without j waiting))
     (apart_of j rest.head names.head)
 
-unwaived_chosen : (plan : DiePlan) (past : Log) (turns : ℕ) (a : Accounts) (waiting : List Job) (o : Option Job)
-    → ((a' : Accounts) (rest : List Job) → OfSome (NotWaived (choice_among plan past turns a' rest))
-    (choice_among plan past turns a' rest).head)
-    → OfSome (NotWaived (chosen plan past a waiting (choice_among plan past turns) o))
-    (chosen plan past a waiting (choice_among plan past turns) o).head
-unwaived_chosen plan past turns a waiting None ih = tt
-unwaived_chosen plan past turns a waiting (Some j) ih = unwaived_weighed plan past turns a waiting j (is_waivable plan past a j) ih
+unwaived_chosen : (plan : DiePlan) (past : Log) (rounds : ℕ) (a : Accounts) (waiting : List Job) (o : Option Job)
+    → ((a' : Accounts) (rest : List Job) → OfSome (NotWaived (choice_among plan past rounds a' rest))
+    (choice_among plan past rounds a' rest).head)
+    → OfSome (NotWaived (choice_by_head plan past a waiting (choice_among plan past rounds) o))
+    (choice_by_head plan past a waiting (choice_among plan past rounds) o).head
+unwaived_chosen plan past rounds a waiting None ih = tt
+unwaived_chosen plan past rounds a waiting (Some j) ih = unwaived_weighed plan past rounds a waiting j (is_waivable plan past a j) ih
 
 -- a head isn't waived in its slot
-pub head_unwaived : (plan : DiePlan) (past : Log) (turns : ℕ) (a : Accounts) (waiting : List Job)
-    → OfSome (NotWaived (choice_among plan past turns a waiting)) (choice_among plan past turns a waiting).head
+pub head_unwaived : (plan : DiePlan) (past : Log) (rounds : ℕ) (a : Accounts) (waiting : List Job)
+    → OfSome (NotWaived (choice_among plan past rounds a waiting)) (choice_among plan past rounds a waiting).head
 head_unwaived plan past zero a waiting = tt
-head_unwaived plan past (suc turns) a waiting = unwaived_chosen plan past turns a waiting (least waiting) (head_unwaived plan past turns)
+head_unwaived plan past (suc rounds) a waiting = unwaived_chosen plan past rounds a waiting (least waiting) (head_unwaived plan past rounds)
 
 -- The head's act
 
 -- the head's act is legal, if it finds the free page that it needs
-pub head_legal : (start : Start) (past : Log) (ws : List Waived) (j : Job) (act : Act) → 0 < start.plan.shape.erase_slots → Stands start past
+pub head_legal : (start : Start) (past : Log) (ws : List Waived) (j : Job) (act : Act) → 0 < start.plan.shape.erase_slots → KeepsJobsAndCells start past
     → IsWaiting start.plan past j → is_among j.number ws ≡ false → act_for start past j ≡ Some act → FindsFree start past act
-    → IsLegalAct start past (waived past ++ ws) j j.number act
+    → IsLegalAct start past (waived_collections past ++ ws) j j.number act
 head_legal start past ws j act more s w unwaived e finds = record {
   known = stands_at (jobs past) j s.numbered w.0;
   released = leb-true j.release (now past) (and_parts _ _ (and_parts _ _ w.1).0).0;
   undone = undone;
-  unwaived = list_any-append (λ x. x.number == j.number) (waived past) ws
+  unwaived = list_any-append (λ x. x.number == j.number) (waived_collections past) ws
       ∙ or_from (is_waived past j.number) (is_among j.number ws) (not-true (is_waived past j.number) (and_parts _ _ w.1).1) unwaived;
   next = (by_kind j.collects refl).0;
   tells = (by_kind j.collects refl).1;

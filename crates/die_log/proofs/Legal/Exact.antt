@@ -10,18 +10,18 @@ use Rattle.slot_types.specs.declared.acts.Act.TheVariants as does
 use Rattle.slot_types.specs.declared.events.Event.{Event}
 use Rattle.slot_types.specs.declared.events.Event.TheVariants as events
 use Rattle.plan_rules.specs.Bound.{MeetsBound}
-use Rattle.die_log.specs.Log.{Log, Job, jobs, job_at, acts, work, waived, is_waived}
-use Rattle.die_log.specs.Flash.{cells, block_at, ran_by, valid}
-use Rattle.die_log.specs.Work.{is_erase, is_done, is_ready, victim_of}
-use Rattle.die_log.specs.Accounts.{accounts, after_waivers}
-use Rattle.die_log.specs.Answers.{IsExact, accepted, refusals, act_for, is_running, choice, is_waivable, victim}
-use Rattle.die_log.specs.Legal.{IsLegal}
-use Rattle.die_log.specs.Sound.{IsClosed}
-use Rattle.die_log.specs.Standing.{Stands}
+use Rattle.die_log.specs.Model.Log.{Log, Job, jobs, job_at, acts, work, waived_collections, is_waived}
+use Rattle.die_log.specs.Model.Flash.{cells, block_at, ran_by, valid}
+use Rattle.die_log.specs.Model.Work.{is_erase, is_done, is_ready, victim_of}
+use Rattle.die_log.specs.Model.Accounts.{accounts, after_waivers}
+use Rattle.die_log.specs.Model.Answers.{IsExact, reply_if_accepted, refusals, act_for, is_running, choice, is_waivable, victim}
+use Rattle.die_log.specs.Results.Legal.{IsLegal}
+use Rattle.die_log.specs.Invariants.SoundCells.{IsClosed}
+use Rattle.die_log.specs.Invariants.RunningCollections.{KeepsJobsAndCells}
 use Rattle.die_log.proofs.Standing.Finds.{FindsBy, FindsVictim}
 use Rattle.die_log.proofs.Tokens.Waivers.{Waits, IsChosen}
-use Rattle.die_log.specs.Held.{is_pending, reserve_full, AreTrue}
-use Rattle.die_log.specs.Well.{FewCopies, IsWell}
+use Rattle.die_log.specs.Invariants.TrueAccounts.{is_pending, reserve_full, AreTrueAccounts}
+use Rattle.die_log.specs.Invariants.TrueAndLegal.{FewCopies, IsTrueAndLegal}
 use Rattle.die_log.proofs.Legality.{entry, exact_induction}
 use Rattle.die_log.proofs.Standing.Longer.{number_at, contained, no_victim}
 use Rattle.die_log.proofs.Standing.Actors.{runs_from, job_erases_not, op_act, job_act, collection_may}
@@ -33,12 +33,12 @@ use Rattle.die_log.proofs.Tokens.Waivers.{choice_is}
 use Rattle.die_log.proofs.Tokens.Begins.{fresh_finds}
 use Rattle.die_log.proofs.Tokens.Whole.{all_known, keeps_slot, keeps, owed_is_free}
 use Rattle.die_log.proofs.Tokens.Wells.{copies_fit, keeps_few}
-use Rattle.die_log.specs.Start.{Start}
-use Rattle.die_log.specs.Opening.{IsOpening}
+use Rattle.die_log.specs.Model.Start.{Start}
+use Rattle.die_log.specs.Model.Opening.{IsOpening}
 
 -- What stands serves the accounts
 
-pub erases_own : (start : Start) (past : Log) (j : Job) (b : ℕ) → 0 < start.plan.shape.erase_slots → Stands start past → job_at past j.number ≡ Some j
+pub erases_own : (start : Start) (past : Log) (j : Job) (b : ℕ) → 0 < start.plan.shape.erase_slots → KeepsJobsAndCells start past → job_at past j.number ≡ Some j
     → is_ready start.plan past j ≡ true → act_for start past j ≡ Some (does.Erase b)
     → IsClosed start.plan (cells start past) b × ((block_at (cells start past) b).erasing ≡ count_by is_erase (acts j.number past))
 erases_own start past j b more s known ready e = by_kind j.collects refl
@@ -60,7 +60,7 @@ pub victim_begun : (start : Start) (n b : ℕ) (past : Log) (own : List Act) →
 victim_begun start n b past [] e shows = absurd (none-some b (sym (no_victim start n past e) ∙ shows))
 victim_begun start n b past (x ∷ own) e shows = omega arith
 
-victim_closed : (start : Start) (past : Log) (j : Job) (b : ℕ) → Stands start past → job_at past j.number ≡ Some j
+victim_closed : (start : Start) (past : Log) (j : Job) (b : ℕ) → KeepsJobsAndCells start past → job_at past j.number ≡ Some j
     → is_pending start.plan (λ n. acts n past) (is_waived past) j ≡ true → victim_of start j.number past ≡ Some b
     → IsClosed start.plan (cells start past) b
 victim_closed start past j b s known is shows =
@@ -73,7 +73,7 @@ victim_closed start past j b s known is shows =
     }) in
     (s.collects.collecting j b (record { stands = contained (jobs past) j.number j known; running = running; victim = shows })).closed
 
-serves : (start : Start) (past : Log) → 0 < start.plan.shape.erase_slots → Stands start past → FewCopies start past → CellsServe start past
+serves : (start : Start) (past : Log) → 0 < start.plan.shape.erase_slots → KeepsJobsAndCells start past → FewCopies start past → CellsServe start past
 serves start past more s few = record {
   numbered = λ k j e. omega (arith, number_at 0 (jobs past) k j s.numbered e);
   sound = s.collects.sound;
@@ -86,7 +86,7 @@ serves start past more s few = record {
 
 -- jobs, cells and collections stand, the accounts come to what the log says, and the log is legal
 abbrev pub StandsWell : Start → Log → Type 0
-StandsWell start log = Stands start log × IsWell start log
+StandsWell start log = KeepsJobsAndCells start log × IsTrueAndLegal start log
 
 pub has_pages : (plan : DiePlan) → MeetsBound plan → 0 < plan.shape.pages
 has_pages plan bound = omega (arith, bound.shape.some_pages)
@@ -99,12 +99,12 @@ well_served start past bound h = serves start past (has_slots start.plan bound.b
 
 -- a slot's choice waives by the rules, and its head waits
 pub chosen_is : (start : Start) (past : Log) → CellsServe start past
-    → IsChosen start.plan past (waived past) (accounts start past) (choice start past)
+    → IsChosen start.plan past (waived_collections past) (accounts start past) (choice start past)
 chosen_is start past c = choice_is start past (all_known past c.numbered)
 
 -- what an accepted event carries finds its free page
 pub event_finds : (start : Start) (past : Log) (event : Event) → IsOpening start → StandsWell start past
-    → FindsBy start past (ran_by (accepted start past event))
+    → FindsBy start past (ran_by (reply_if_accepted start past event))
 event_finds start past (events.Submit task release due ops) bound h = tt
 event_finds start past (events.Collect task release due) bound h = tt
 event_finds start past events.Slot bound h = (keeps_slot start past 0 bound h.1.true_accounts (well_served start past bound h)).1
@@ -116,8 +116,8 @@ pub finds_few : (start : Start) (past : Log) → IsOpening start → StandsWell 
 finds_few start past bound h j head is fresh =
     let served = well_served start past bound h in
     let c = chosen_is start past served in
-    let waits : Waits start.plan past (waived past ++ (choice start past).waived) j = subst
-    (λ (o : Option Job). MatchOption o (Unit {0}) (λ i. Waits start.plan past (waived past ++ (choice start past).waived) i)) head c.head in
+    let waits : Waits start.plan past (waived_collections past ++ (choice start past).waived) j = subst
+    (λ (o : Option Job). MatchOption o (Unit {0}) (λ i. Waits start.plan past (waived_collections past ++ (choice start past).waived) i)) head c.head in
     let unwaivable : is_waivable start.plan past (after_waivers past (choice start past).waived (accounts start past)) j ≡ false =
     subst (λ (o : Option Job). MatchOption o (Unit {0}) (λ i. is_waivable start.plan past
     (after_waivers past (choice start past).waived (accounts start past)) i ≡ false)) head c.unwaivable in
@@ -129,11 +129,11 @@ finds_victim start past bound h j head is fresh = let v = finds_few start past b
 -- an accepted event keeps both
 keeps_both : (start : Start) (past : Log) (caller : ℕ) (event : Event) → IsOpening start → IsExact start past → StandsWell start past
     → AllByRecursion (λ c. c.0 ≡ false) (refusals start past event)
-    → StandsWell start (entry caller event (accepted start past event) ∷ past)
+    → StandsWell start (entry caller event (reply_if_accepted start past event) ∷ past)
 keeps_both start past caller event bound exact h none =
     let c : CellsServe start past = well_served start past bound h in
     let finds = event_finds start past event bound h in
-    let after : AreTrue start (entry caller event (accepted start past event) ∷ past) = keeps start past caller event bound exact
+    let after : AreTrueAccounts start (entry caller event (reply_if_accepted start past event) ∷ past) = keeps start past caller event bound exact
     h.1.true_accounts c none in (
       accepted_stands start past caller event (has_pages start.plan bound.bound) (has_slots start.plan bound.bound) exact finds h.0,
       record {
@@ -143,7 +143,7 @@ keeps_both start past caller event bound exact h none =
           h.1.legal,
           entry_legal start past caller event (has_slots start.plan bound.bound) h.0 none (finds_victim start past bound h) finds
               (chosen_is start past c).waivers
-              (owed_is_free start (entry caller event (accepted start past event) ∷ past) after),
+              (owed_is_free start (entry caller event (reply_if_accepted start past event) ∷ past) after),
         );
       },
     )

@@ -13,14 +13,14 @@ use Rattle.slot_types.specs.declared.events.Op.TheVariants as asks
 use Rattle.slot_types.specs.declared.events.Event.{Event}
 use Rattle.slot_types.specs.declared.events.Event.TheVariants as events
 use Rattle.slot_types.specs.declared.replies.Waived.{Waived}
-use Rattle.die_log.specs.Log.{Log, Job, jobs, acts, work, waived}
-use Rattle.die_log.specs.Flash.{ran_by, Cells, cells, free}
-use Rattle.die_log.specs.Work.{are_all, is_done, is_ready, ready, victim_of, owed}
-use Rattle.die_log.specs.Accounts.{accounts}
-use Rattle.die_log.specs.Answers.{Choice, choice, accepted, victim, block_for, buffer_after, is_placed_in, collect_act, act_of_op, act_for}
-use Rattle.die_log.specs.Answers.{reply_with, slot_reply, refusals}
-use Rattle.die_log.specs.Legal.{is_among, NothingWaits, AreWaivers, IsLegalRun, IsLegalReply, IsLegalEntry}
-use Rattle.die_log.specs.Standing.{KeepsToOps, Stands}
+use Rattle.die_log.specs.Model.Log.{Log, Job, jobs, acts, work, waived_collections}
+use Rattle.die_log.specs.Model.Flash.{ran_by, Cells, cells, free}
+use Rattle.die_log.specs.Model.Work.{are_all, is_done, is_ready, ready, victim_of, owed}
+use Rattle.die_log.specs.Model.Accounts.{accounts}
+use Rattle.die_log.specs.Model.Answers.{Choice, choice, reply_if_accepted, victim, block_for, buffer_after, is_placed_in, collect_act, act_of_op, act_for}
+use Rattle.die_log.specs.Model.Answers.{reply_with, slot_reply, refusals}
+use Rattle.die_log.specs.Results.Legal.{is_among, NothingWaits, AreWaivers, IsLegalRun, IsLegalReply, IsLegalEntry}
+use Rattle.die_log.specs.Invariants.RunningCollections.{KeepsToOps, KeepsJobsAndCells}
 use Rattle.die_log.proofs.Standing.Finds.{FindsBy, FindsVictim}
 use Rattle.die_log.proofs.Choices.{OfSome}
 use Rattle.die_log.proofs.Heads.{IsPassed, NotBefore, all_passed}
@@ -31,7 +31,7 @@ use Rattle.die_log.proofs.Standing.Longer.{IsWaiting, waits}
 use Rattle.die_log.proofs.Standing.Actors.{runs_from}
 use Rattle.die_log.proofs.Standing.Kept.{waiting_undone}
 use Rattle.die_log.proofs.Legal.Acts.{head_unwaived, head_legal}
-use Rattle.die_log.specs.Start.{Start}
+use Rattle.die_log.specs.Model.Start.{Start}
 
 -- The head acts
 
@@ -64,7 +64,7 @@ operation_left plan past j k kind undone =
     less m n le differs = grind arith
 
 -- the head acts, if a collection that begins finds a victim
-pub head_has_act : (start : Start) (past : Log) (j : Job) → Stands start past → IsWaiting start.plan past j
+pub head_has_act : (start : Start) (past : Log) (j : Job) → KeepsJobsAndCells start past → IsWaiting start.plan past j
     → (j.collects ≡ true → work j.number past ≡ 0 → (b : ℕ) × (victim start past ≡ Some b)) → (act : Act) × (act_for start past j ≡ Some act)
 head_has_act start past j s w finds = by_kind j.collects refl
   where
@@ -127,13 +127,13 @@ nothing_waits start past none j stands is_ready_now = passed_none (choice start 
     (all_passed_ready start past j stands is_ready_now)
 
 run_by_act : (start : Start) (past : Log) (ws : List Waived) (j : Job) (o : Option Act) (act : Act) → 0 < start.plan.shape.erase_slots
-    → Stands start past → IsWaiting start.plan past j → is_among j.number ws ≡ false
+    → KeepsJobsAndCells start past → IsWaiting start.plan past j → is_among j.number ws ≡ false
     → act_for start past j ≡ o → o ≡ Some act → FindsBy start past (reply_with start.plan past ws j o).ran
     → IsLegalRun start past ws (reply_with start.plan past ws j o).ran
 run_by_act start past ws j None act more s w unwaived e some finds = absurd cc
 run_by_act start past ws j (Some a) act more s w unwaived e some finds = (j, head_legal start past ws j a more s w unwaived e finds)
 
-run_by_head : (start : Start) (past : Log) (ws : List Waived) (o : Option Job) → 0 < start.plan.shape.erase_slots → Stands start past
+run_by_head : (start : Start) (past : Log) (ws : List Waived) (o : Option Job) → 0 < start.plan.shape.erase_slots → KeepsJobsAndCells start past
     → OfSome (IsWaiting start.plan past) o → OfSome (λ j. is_among j.number ws ≡ false) o
     → (o ≡ None → NothingWaits start.plan past ws) → ((j : Job) → o ≡ Some j → j.collects ≡ true → work j.number past ≡ 0 → (b : ℕ)
     × (victim start past ≡ Some b))
@@ -144,7 +144,7 @@ run_by_head start past ws (Some j) more s w unwaived idle victims finds =
     run_by_act start past ws j (act_for start past j) a.0 more s w unwaived refl a.1 finds
 
 -- what a slot carries is legal: an act of the head, or nothing where nothing waits
-pub run_legal : (start : Start) (past : Log) → 0 < start.plan.shape.erase_slots → Stands start past → FindsVictim start past
+pub run_legal : (start : Start) (past : Log) → 0 < start.plan.shape.erase_slots → KeepsJobsAndCells start past → FindsVictim start past
     → FindsBy start past (slot_reply start past (choice start past).waived (choice start past).head).ran
     → IsLegalRun start past (choice start past).waived (slot_reply start past (choice start past).waived (choice start past).head).ran
 run_legal start past more s victims finds =
@@ -154,26 +154,26 @@ run_legal start past more s victims finds =
 
 -- Entries
 
-reply_legal : (start : Start) (past : Log) (event : Event) → 0 < start.plan.shape.erase_slots → Stands start past → FindsVictim start past
-    → FindsBy start past (ran_by (accepted start past event))
-    → AreWaivers start.plan past (waived past) (accounts start past) (choice start past).waived → IsLegalReply start past (accepted start past event)
+reply_legal : (start : Start) (past : Log) (event : Event) → 0 < start.plan.shape.erase_slots → KeepsJobsAndCells start past → FindsVictim start past
+    → FindsBy start past (ran_by (reply_if_accepted start past event))
+    → AreWaivers start.plan past (waived_collections past) (accounts start past) (choice start past).waived → IsLegalReply start past (reply_if_accepted start past event)
 reply_legal start past (events.Submit task release due ops) more s victims finds waivers = tt
 reply_legal start past (events.Collect task release due) more s victims finds waivers = tt
 reply_legal start past events.Slot more s victims finds waivers =
     let same : (slot_reply start past (choice start past).waived (choice start past).head).waived
     ≡ (choice start past).waived = waived_is start past (choice start past).waived (choice start past).head in
     let ran = (slot_reply start past (choice start past).waived (choice start past).head).ran in (
-      subst (AreWaivers start.plan past (waived past) (accounts start past)) (sym same) waivers,
+      subst (AreWaivers start.plan past (waived_collections past) (accounts start past)) (sym same) waivers,
       subst (λ (ws : List Waived). IsLegalRun start past ws ran) (sym same) (run_legal start past more s victims finds),
     )
 
 -- an accepted event makes a legal entry, by what the accounts still owe: waivers, victims, free pages and room
-pub entry_legal : (start : Start) (past : Log) (caller : ℕ) (event : Event) → 0 < start.plan.shape.erase_slots → Stands start past
+pub entry_legal : (start : Start) (past : Log) (caller : ℕ) (event : Event) → 0 < start.plan.shape.erase_slots → KeepsJobsAndCells start past
     → AllByRecursion (λ c. c.0 ≡ false) (refusals start past event)
-    → FindsVictim start past → FindsBy start past (ran_by (accepted start past event))
-    → AreWaivers start.plan past (waived past) (accounts start past) (choice start past).waived
-    → owed (entry caller event (accepted start past event) ∷ past) ≤ free start (entry caller event (accepted start past event) ∷ past)
-    → IsLegalEntry start past (entry caller event (accepted start past event))
+    → FindsVictim start past → FindsBy start past (ran_by (reply_if_accepted start past event))
+    → AreWaivers start.plan past (waived_collections past) (accounts start past) (choice start past).waived
+    → owed (entry caller event (reply_if_accepted start past event) ∷ past) ≤ free start (entry caller event (reply_if_accepted start past event) ∷ past)
+    → IsLegalEntry start past (entry caller event (reply_if_accepted start past event))
 entry_legal start past caller event more s none victims finds waivers room = record {
   numbered = numbered start past event;
   in_time = in_time start past event none;

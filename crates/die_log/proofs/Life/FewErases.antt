@@ -13,14 +13,14 @@ use Rattle.slot_types.specs.declared.events.Event.TheVariants as events
 use Rattle.slot_types.specs.declared.replies.Reply.{Reply}
 use Rattle.slot_types.specs.declared.replies.Reply.TheVariants as replies
 use Rattle.slot_types.specs.declared.replies.Waived.{Waived}
-use Rattle.die_log.specs.Log.{Log, Job, Carried, jobs, now, acts, waived}
-use Rattle.die_log.specs.Start.{Start}
-use Rattle.die_log.specs.Work.{are_all, is_done, is_erase}
-use Rattle.die_log.specs.Flash.{block_at}
-use Rattle.die_log.specs.Answers.{IsExact, accepted, refusals, choice, slot_reply, reply_with, act_for}
-use Rattle.die_log.specs.Opening.{IsOpening}
-use Rattle.die_log.specs.Lives.{Lives, start_after, AreLives, ends_erase, erases_block, erases_in, ends_some_erase, carries_erase}
-use Rattle.die_log.specs.Lives.{all_erases_in, collections_taken}
+use Rattle.die_log.specs.Model.Log.{Log, Job, Carried, jobs, now, acts, waived_collections}
+use Rattle.die_log.specs.Model.Start.{Start}
+use Rattle.die_log.specs.Model.Work.{are_all, is_done, is_erase}
+use Rattle.die_log.specs.Model.Flash.{block_at}
+use Rattle.die_log.specs.Model.Answers.{IsExact, reply_if_accepted, refusals, choice, slot_reply, reply_with, act_for}
+use Rattle.die_log.specs.Model.Opening.{IsOpening}
+use Rattle.die_log.specs.Model.Lives.{Lives, start_after, AreLives, ends_erase, erases_block, erases_in, ends_some_erase, carries_erase}
+use Rattle.die_log.specs.Model.Lives.{all_erases_in, collections_taken}
 use Rattle.die_log.proofs.Legality.{entry, exact_induction}
 use Rattle.die_log.proofs.Legal.Exact.{StandsWell, stands_well, well_served, chosen_is}
 use Rattle.die_log.proofs.Limits.{keeps_limits}
@@ -165,13 +165,13 @@ few_over start bound = exact_induction start (λ log. all_erases_in log ≤ over
   where
     step : (past : Log) (caller : ℕ) (event : Event) → IsExact start past → all_erases_in past ≤ over_in start past
         → AllByRecursion (λ c. c.0 ≡ false) (refusals start past event)
-        → all_erases_in (entry caller event (accepted start past event) ∷ past)
-        ≤ over_in start (entry caller event (accepted start past event) ∷ past)
+        → all_erases_in (entry caller event (reply_if_accepted start past event) ∷ past)
+        ≤ over_in start (entry caller event (reply_if_accepted start past event) ∷ past)
     step past caller (events.Submit task release due ops) exact ih none = omega (
       arith,
       ih,
       sum_by-cons (λ e. one_if (ends_some_erase e.reply)) (entry caller (events.Submit task release due ops)
-          (accepted start past (events.Submit task release due ops))) past,
+          (reply_if_accepted start past (events.Submit task release due ops))) past,
       push_over start past (record {
         number = length (jobs past);
         collects = false;
@@ -185,7 +185,7 @@ few_over start bound = exact_induction start (λ log. all_erases_in log ≤ over
       arith,
       ih,
       sum_by-cons (λ e. one_if (ends_some_erase e.reply)) (entry caller (events.Collect task release due)
-          (accepted start past (events.Collect task release due))) past,
+          (reply_if_accepted start past (events.Collect task release due))) past,
       push_over start past (record {
         number = length (jobs past);
         collects = true;
@@ -202,8 +202,8 @@ few_over start bound = exact_induction start (λ log. all_erases_in log ≤ over
           arith,
           ih,
           head_over start past caller (choice start past).waived (choice start past).head h
-              (waived past ++ (choice start past).waived) c.head,
-          sum_by-cons (λ e. one_if (ends_some_erase e.reply)) (entry caller events.Slot (accepted start past events.Slot)) past,
+              (waived_collections past ++ (choice start past).waived) c.head,
+          sum_by-cons (λ e. one_if (ends_some_erase e.reply)) (entry caller events.Slot (reply_if_accepted start past events.Slot)) past,
         )
 
 one_of_both : (b c : Bool) → one_if (b && c) ≤ one_if b

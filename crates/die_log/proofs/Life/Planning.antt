@@ -8,14 +8,14 @@ use Rattle.slot_types.specs.declared.replies.Reply.{Reply}
 use Rattle.slot_types.specs.declared.replies.Reply.TheVariants as replies
 use Rattle.plan_rules.specs.Times.{times_of, Passes}
 use Rattle.plan_rules.specs.Keeping.{arrivals, slots, KeepsPlan}
-use Rattle.die_log.specs.Log.{Log}
-use Rattle.die_log.specs.Start.{Start}
-use Rattle.die_log.specs.Answers.{IsExact, IsAccepted, answer, with_answer, after_call, run}
-use Rattle.die_log.specs.Opening.{IsOpening, IsQuiet, renewed}
-use Rattle.die_log.specs.Planned.{told, AreAccepted, IsAtPeriodEnd}
-use Rattle.die_log.specs.Supply.{AreStocked}
-use Rattle.die_log.specs.Lives.{Lives, start_after, HaveEnded}
-use Rattle.die_log.specs.PlannedLives.{Calls, events_of, lives_of, EndPeriods, KeepPlans, IsServedInTime, AreServedInTime}
+use Rattle.die_log.specs.Model.Log.{Log}
+use Rattle.die_log.specs.Model.Start.{Start}
+use Rattle.die_log.specs.Model.Answers.{IsExact, IsAccepted, answer, with_answer, after_call, run}
+use Rattle.die_log.specs.Model.Opening.{IsOpening, IsQuiet, renewed_start}
+use Rattle.die_log.specs.Results.InTime.{events_of_log, AreAccepted, IsAtPeriodEnd}
+use Rattle.die_log.specs.Results.Supply.{AreStocked}
+use Rattle.die_log.specs.Model.Lives.{Lives, start_after, HaveEnded}
+use Rattle.die_log.specs.Results.PlannedLives.{Calls, events_of_calls, lives_of, EndPeriods, KeepPlans, IsServedInTime, AreServedInTime}
 use Rattle.die_log.proofs.Planned.Running.{run_in_time}
 use Rattle.die_log.proofs.Restocking.{goes_on}
 use Rattle.die_log.proofs.Runs.{run_exact}
@@ -25,35 +25,35 @@ use Rattle.die_log.proofs.Life.Starting.{plan_same, ended_opens}
 
 -- A run's log has its events
 
-told_with : (past : Log) (caller : ℕ) (event : Event) (r : Reply) → IsAccepted r → told (with_answer caller event r past) ≡ told past ++ event ∷ []
+told_with : (past : Log) (caller : ℕ) (event : Event) (r : Reply) → IsAccepted r → events_of_log (with_answer caller event r past) ≡ events_of_log past ++ event ∷ []
 told_with past caller event (replies.Taken number) h = refl
 told_with past caller event (replies.Slot s) h = refl
 told_with past caller event (replies.Refused refusal) h = absurd h
 
 run_told : (start : Start) (past : Log) (calls : Calls) → AreAccepted start past calls
-    → told (run start past calls) ≡ told past ++ events_of calls
-run_told start past [] h = sym (append-nil (told past))
+    → events_of_log (run start past calls) ≡ events_of_log past ++ events_of_calls calls
+run_told start past [] h = sym (append-nil (events_of_log past))
 run_told start past (call ∷ calls) h =
     run_told start (after_call start past call) calls h.1
-    ∙ (ap (λ l. l ++ events_of calls) (told_with past call.0 call.1 (answer start past call.1) h.0)
-    ∙ append_assoc (told past) (call.1 ∷ []) (events_of calls))
+    ∙ (ap (λ l. l ++ events_of_calls calls) (told_with past call.0 call.1 (answer start past call.1) h.0)
+    ∙ append_assoc (events_of_log past) (call.1 ∷ []) (events_of_calls calls))
 
 -- One log
 
-period_end : (plan : DiePlan) (times : Times) (log : Log) → Follows plan times log → EndPeriods plan times (told log)
+period_end : (plan : DiePlan) (times : Times) (log : Log) → Follows plan times log → EndPeriods plan times (events_of_log log)
     → IsAtPeriodEnd plan times log
 period_end plan times log f ends = record {
   due_by_now = λ j stands. omega (
     arith,
-    of_job plan times log (λ a. a.due ≤ slots (told log)) f
-        (recursion_from_All (λ a. a.due ≤ slots (told log)) (arrivals 0 (told log)) ends.due) j stands,
+    of_job plan times log (λ a. a.due ≤ slots (events_of_log log)) f
+        (recursion_from_All (λ a. a.due ≤ slots (events_of_log log)) (arrivals 0 (events_of_log log)) ends.due) j stands,
     f.clock,
   );
   multiple = λ task lt. sym (ap (λ n. n % (times_of times task).collect_period) f.clock) ∙ ends.multiple task lt;
 }
 
 module _ (start : Start) (times : Times) (bound : IsOpening start) (passes : Passes start.plan times) (stocked : AreStocked start times)
-    (calls : Calls) (keeps : KeepsPlan start.plan times (events_of calls)) where
+    (calls : Calls) (keeps : KeepsPlan start.plan times (events_of_calls calls)) where
   pub served : IsServedInTime start calls
   served = record {
     accepted = run_accepted start times bound passes stocked [] calls tt keeps;
@@ -63,12 +63,12 @@ module _ (start : Start) (times : Times) (bound : IsOpening start) (passes : Pas
   pub exact_run : IsExact start (run start [] calls)
   exact_run = run_exact start [] calls tt
 
-  pub renews : EndPeriods start.plan times (events_of calls)
-      → IsQuiet start (run start [] calls) × AreStocked (renewed start (run start [] calls)) times
+  pub renews : EndPeriods start.plan times (events_of_calls calls)
+      → IsQuiet start (run start [] calls) × AreStocked (renewed_start start (run start [] calls)) times
   renews ends =
-      let same : told (run start [] calls) ≡ events_of calls = run_told start [] calls served.accepted in
-      let kept : KeepsPlan start.plan times (told (run start [] calls) ++ []) =
-      subst (KeepsPlan start.plan times) (sym (append-nil (told (run start [] calls)) ∙ same)) keeps in
+      let same : events_of_log (run start [] calls) ≡ events_of_calls calls = run_told start [] calls served.accepted in
+      let kept : KeepsPlan start.plan times (events_of_log (run start [] calls) ++ []) =
+      subst (KeepsPlan start.plan times) (sym (append-nil (events_of_log (run start [] calls)) ∙ same)) keeps in
       goes_on start times bound passes stocked (run start [] calls) [] exact_run kept
       (period_end start.plan times (run start [] calls) (follows start times (run start [] calls) exact_run [] kept)
       (subst (EndPeriods start.plan times) (sym same) ends))
@@ -93,18 +93,18 @@ module _ (first : Start) (times : Times) (opens : IsOpening first) (passes : Pas
       let before : GoOn first times earlier = lives_go_on earlier keep.0 in
       let lives : Lives = lives_of first earlier in
       let start : Start = start_after first lives in
-      let kept = next_keeps lives (events_of calls) keep.1 in
+      let kept = next_keeps lives (events_of_calls calls) keep.1 in
       let q = renews start times (ended_opens first opens lives before.ended) (next_passes lives) before.stocked calls kept
-      (subst (λ p. EndPeriods p times (events_of calls)) (sym (plan_same first lives)) keep.2) in
+      (subst (λ p. EndPeriods p times (events_of_calls calls)) (sym (plan_same first lives)) keep.2) in
       record { ended = (before.ended, run_exact start [] calls tt, q.0); stocked = q.1 }
 
-  pub next_served : (all : List Calls) → KeepPlans first.plan times all → (calls : Calls) → KeepsPlan first.plan times (events_of calls)
+  pub next_served : (all : List Calls) → KeepPlans first.plan times all → (calls : Calls) → KeepsPlan first.plan times (events_of_calls calls)
       → IsServedInTime (start_after first (lives_of first all)) calls
   next_served all keep calls keeps =
       let before : GoOn first times all = lives_go_on all keep in
       let lives : Lives = lives_of first all in
       served (start_after first lives) times (ended_opens first opens lives before.ended) (next_passes lives) before.stocked calls
-      (next_keeps lives (events_of calls) keeps)
+      (next_keeps lives (events_of_calls calls) keeps)
 
   pub all_served : (all : List Calls) → KeepPlans first.plan times all → AreServedInTime first all
   all_served [] keep = tt

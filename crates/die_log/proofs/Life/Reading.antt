@@ -17,15 +17,15 @@ use Rattle.slot_types.specs.declared.replies.Reply.TheVariants as replies
 use Rattle.slot_types.specs.declared.replies.SlotReply.{SlotReply}
 use Rattle.slot_types.specs.declared.replies.Waived.{Waived}
 use Rattle.slot_types.specs.Operations.{page_of}
-use Rattle.die_log.specs.Log.{Log, Job, Carried, jobs, carried, with_slot, waived, work}
-use Rattle.die_log.specs.Flash.{contents, content, written, ran_by}
-use Rattle.die_log.specs.Start.{Start, blank_page}
-use Rattle.die_log.specs.Answers.{IsExact}
-use Rattle.die_log.specs.Legal.{Does, IsNextOperation, IsNextCollectAct, IsLegalAct}
-use Rattle.die_log.specs.Limits.{IsWithinLimits}
-use Rattle.die_log.specs.Opening.{IsOpening}
-use Rattle.die_log.specs.Promised.{HasSlot}
-use Rattle.die_log.specs.Lives.{Lives, start_after, AreLives, HasLife, all_carried, content_left_on, last_content}
+use Rattle.die_log.specs.Model.Log.{Log, Job, Carried, jobs, carried_slots, with_slot, waived_collections, work}
+use Rattle.die_log.specs.Model.Flash.{contents, content, contents_after, ran_by}
+use Rattle.die_log.specs.Model.Start.{Start, blank_page}
+use Rattle.die_log.specs.Model.Answers.{IsExact}
+use Rattle.die_log.specs.Results.Legal.{Does, IsNextOperation, IsNextCollectAct, IsLegalAct}
+use Rattle.die_log.specs.Results.Limits.{IsWithinLimits}
+use Rattle.die_log.specs.Model.Opening.{IsOpening}
+use Rattle.die_log.specs.Results.Promises.{HasSlot}
+use Rattle.die_log.specs.Model.Lives.{Lives, start_after, AreLives, HasLife, all_carried, content_left_on, last_content}
 use Rattle.die_log.proofs.Exact.{moment_exact}
 use Rattle.die_log.proofs.Legal.Exact.{exact_legal}
 use Rattle.die_log.proofs.Limits.{keeps_limits}
@@ -74,7 +74,7 @@ set_left pages page p bytes lt = elim (cases_eq p page) [
 ]
 
 act_left : (page : ℕ) (ran : Carried) (pages : List PageData) → page < length pages
-    → page_in (written ran pages) page ≡ unwrap_or (content_left_on page ran) (page_in pages page)
+    → page_in (contents_after ran pages) page ≡ unwrap_or (content_left_on page ran) (page_in pages page)
 act_left page None pages lt = refl
 act_left page (Some (n, does.Read p bytes)) pages lt = refl
 act_left page (Some (n, does.Write p bytes)) pages lt = set_left pages page p bytes lt
@@ -98,12 +98,12 @@ slot_left page (replies.Slot s) cs d =
     ∙ last_one (content_left_on page s.ran) (last_of (filter_map (content_left_on page) cs) d))
 
 log_left : (start : Start) (log : Log) (page : ℕ) → page < length start.contents
-    → content start log page ≡ last_of (filter_map (content_left_on page) (carried log)) (page_in start.contents page)
+    → content start log page ≡ last_of (filter_map (content_left_on page) (carried_slots log)) (page_in start.contents page)
 log_left start [] page lt = refl
 log_left start (e ∷ past) page lt =
     act_left page (ran_by e.reply) (contents start past) (omega (arith, lt, contents_len start past))
     ∙ (ap (λ d. unwrap_or (content_left_on page (ran_by e.reply)) d) (log_left start past page lt)
-    ∙ sym (slot_left page e.reply (carried past) (page_in start.contents page)))
+    ∙ sym (slot_left page e.reply (carried_slots past) (page_in start.contents page)))
 
 -- All lives
 
@@ -117,11 +117,11 @@ pub starts_as_left : (first : Start) (lives : Lives) (page : ℕ) → page < len
 starts_as_left first [] page lt = refl
 starts_as_left first (log ∷ earlier) page lt =
     log_left (start_after first earlier) log page (omega (arith, lt, first_len first earlier))
-    ∙ (ap (λ d. last_of (filter_map (content_left_on page) (carried log)) d) (starts_as_left first earlier page lt)
-    ∙ (sym (last_joined (filter_map (content_left_on page) (all_carried earlier)) (filter_map (content_left_on page) (carried log))
+    ∙ (ap (λ d. last_of (filter_map (content_left_on page) (carried_slots log)) d) (starts_as_left first earlier page lt)
+    ∙ (sym (last_joined (filter_map (content_left_on page) (all_carried earlier)) (filter_map (content_left_on page) (carried_slots log))
     (page_in first.contents page))
     ∙ sym (ap (λ (l : List PageData). last_of l (page_in first.contents page))
-    (filter_map-append (content_left_on page) (all_carried earlier) (carried log)))))
+    (filter_map-append (content_left_on page) (all_carried earlier) (carried_slots log)))))
 
 -- Reads
 
@@ -166,7 +166,7 @@ reads_as_left first opens lives h log earlier has s past number page bytes slot 
     let legal = legal_act start log s past number (does.Read page bytes) (exact_legal start bound log exact) slot ran in
     let within : page < length first.contents = omega (
       arith,
-      read_within start past number page bytes (waived past ++ s.waived) legal.0 here.0 legal.1,
+      read_within start past number page bytes (waived_collections past ++ s.waived) legal.0 here.0 legal.1,
       ap (λ (p : DiePlan). p.logical) (plan_same first earlier),
       opens.pages,
     ) in

@@ -1,11 +1,11 @@
 -- Each of a die's lives is an exact log from an opening.
 use Rattle.std.proofs.Common.{◌≡◌, [], ◌∷◌, ◌++◌, refl, subst}
-use Rattle.die_log.specs.Log.{Log}
-use Rattle.die_log.specs.Start.{Start}
-use Rattle.die_log.specs.Answers.{IsExact}
-use Rattle.die_log.specs.Opening.{IsOpening}
-use Rattle.die_log.specs.Promised.{KeepsPromises}
-use Rattle.die_log.specs.Lives.{Lives, start_after, HaveEnded, AreLives, HasLife}
+use Rattle.die_log.specs.Model.Log.{Log}
+use Rattle.die_log.specs.Model.Start.{Start}
+use Rattle.die_log.specs.Model.Answers.{IsExact}
+use Rattle.die_log.specs.Model.Opening.{IsOpening}
+use Rattle.die_log.specs.Results.Promises.{KeepsPromises}
+use Rattle.die_log.specs.Model.Lives.{Lives, start_after, HaveEnded, AreLives, HasLife}
 use Rattle.die_log.proofs.Promises.{keeps_promises}
 use Rattle.die_log.proofs.Renewal.{renewed_opens}
 

@@ -9,18 +9,18 @@ use Rattle.slot_types.specs.declared.plans.DiePlan.{DiePlan}
 use Rattle.late_cert.specs.declared.rows.JobRow.{JobRow}
 use Rattle.late_cert.specs.Schedule.{IsLeastLate}
 use Rattle.late_cert.specs.Rows.{row_of, is_known, is_done_in}
-use Rattle.late_cert.specs.Stretch.{CarriesLeastKeys}
-use Rattle.late_cert.specs.Joined.{row_after, slot_after, joined_rows, AreOver}
+use Rattle.late_cert.specs.BusyInterval.{CarriesLeastKeys}
+use Rattle.late_cert.specs.JoinedRows.{row_after, slot_after, joined_rows, AreOver}
 use Rattle.late_cert.proofs.Joined.{keys-joined, over-joined, joined-first, joined-later}
 use Rattle.late_cert.proofs.Least.{least-late}
 use Rattle.late_cert.proofs.Moments.{nothing-carried}
-use Rattle.die_log.specs.Log.{Log, Job, jobs, now, carried, is_waived}
-use Rattle.die_log.specs.Start.{Start}
-use Rattle.die_log.specs.Work.{is_done, completion}
-use Rattle.die_log.specs.Answers.{IsExact}
-use Rattle.die_log.specs.Opening.{IsOpening, IsQuiet}
-use Rattle.die_log.specs.Rows.{rows, row_for, carried_numbers}
-use Rattle.die_log.specs.Lives.{Lives, start_after, HaveEnded, AreLives, HasLife, all_slots, all_jobs, rows_of_all, numbers_of_all}
+use Rattle.die_log.specs.Model.Log.{Log, Job, jobs, now, carried_slots, is_waived}
+use Rattle.die_log.specs.Model.Start.{Start}
+use Rattle.die_log.specs.Model.Work.{is_done, completion}
+use Rattle.die_log.specs.Model.Answers.{IsExact}
+use Rattle.die_log.specs.Model.Opening.{IsOpening, IsQuiet}
+use Rattle.die_log.specs.Model.Rows.{rows, row_for, carried_numbers}
+use Rattle.die_log.specs.Model.Lives.{Lives, start_after, HaveEnded, AreLives, HasLife, all_slots, all_jobs, rows_of_all, numbers_of_all}
 use Rattle.die_log.proofs.Exact.{moment_exact}
 use Rattle.die_log.proofs.Least.Exact.{least_keys}
 use Rattle.die_log.proofs.Least.Lookups.{row_in, row_at}
@@ -68,7 +68,7 @@ slots_counted (log ∷ earlier) = omega (
   arith,
   length-append (numbers_of_all earlier) (map (slot_after (all_jobs earlier)) (carried_numbers log)),
   length-map (carried_numbers log) (slot_after (all_jobs earlier)),
-  length-map (carried log) (λ c. option_map (λ ran. ran.0) c),
+  length-map (carried_slots log) (λ c. option_map (λ ran. ran.0) c),
   slots_counted earlier,
   sum_by-cons now log earlier,
 )

@@ -12,13 +12,13 @@ use Rattle.slot_types.specs.declared.events.Event.TheVariants as events
 use Rattle.slot_types.specs.declared.replies.Reply.TheVariants as replies
 use Rattle.slot_types.specs.declared.replies.SlotReply.{SlotReply}
 use Rattle.slot_types.specs.declared.replies.Waived.{Waived}
-use Rattle.die_log.specs.Log.{Log, Job, acts, waived, work}
-use Rattle.die_log.specs.Flash.{Cells, Block, cells, cells_after, block_at, free_block, programmed_in, open_block, erased_once}
-use Rattle.die_log.specs.Start.{Start}
-use Rattle.die_log.specs.Work.{are_all}
-use Rattle.die_log.specs.Answers.{IsExact, accepted, refusals, choice, slot_reply, reply_with, act_for}
-use Rattle.die_log.specs.Opening.{IsOpening}
-use Rattle.die_log.specs.Lives.{Lives, start_after, AreLives, HaveEnded, ends_erase, erases_in}
+use Rattle.die_log.specs.Model.Log.{Log, Job, acts, waived_collections, work}
+use Rattle.die_log.specs.Model.Flash.{Cells, Block, cells, cells_after, block_at, free_block, cells_after_program_in, open_block, block_after_erase_slot}
+use Rattle.die_log.specs.Model.Start.{Start}
+use Rattle.die_log.specs.Model.Work.{are_all}
+use Rattle.die_log.specs.Model.Answers.{IsExact, reply_if_accepted, refusals, choice, slot_reply, reply_with, act_for}
+use Rattle.die_log.specs.Model.Opening.{IsOpening}
+use Rattle.die_log.specs.Model.Lives.{Lives, start_after, AreLives, HaveEnded, ends_erase, erases_in}
 use Rattle.die_log.proofs.Legality.{entry, exact_induction}
 use Rattle.die_log.proofs.Cells.Steps.{within_blocks}
 use Rattle.die_log.proofs.Legal.Exact.{StandsWell, stands_well, well_served, chosen_is, erases_own, has_pages, has_slots}
@@ -42,7 +42,7 @@ set_same blocks b a s e = elim (cases_lt b (length blocks)) [
   | inr past ↦ ap (λ (bs : List Block). (get_or bs a free_block).erases) (set_past blocks b s past)
 ]
 
-programs_keep : (page : ℕ) (o : Option ℕ) (c : Cells) (a : ℕ) → (block_at (programmed_in page o c) a).erases ≡ (block_at c a).erases
+programs_keep : (page : ℕ) (o : Option ℕ) (c : Cells) (a : ℕ) → (block_at (cells_after_program_in page o c) a).erases ≡ (block_at c a).erases
 programs_keep page None c a = refl
 programs_keep page (Some b) c a = set_same c.blocks b a (record (block_at c b) { filled = (block_at c b).filled + 1 }) refl
 
@@ -101,8 +101,8 @@ erase_counts start past ws j block b bound h ws' waits e =
       | inl same ↦
           let here : (block_at (cells_after start.plan (Some (j.number, does.Erase block)) c) b).erases
           ≡ s.erases + one_if (s.erasing + 1 == start.plan.shape.erase_slots) =
-          ap (λ k. (get_or (set c.blocks block (erased_once start.plan s)) k free_block).erases) same
-          ∙ (ap (λ (x : Block). x.erases) (get_or-set_same c.blocks block (erased_once start.plan s) free_block within)
+          ap (λ k. (get_or (set c.blocks block (block_after_erase_slot start.plan s)) k free_block).erases) same
+          ∙ (ap (λ (x : Block). x.erases) (get_or-set_same c.blocks block (block_after_erase_slot start.plan s) free_block within)
           ∙ erased_counts s start.plan.shape.erase_slots (s.erasing + 1 == start.plan.shape.erase_slots) refl) in
           let counted : one_if (ends_erase b (replies.Slot (reply_with start.plan past ws j (Some (does.Erase block)))))
           ≡ one_if (s.erasing + 1 == start.plan.shape.erase_slots) =
@@ -111,7 +111,7 @@ erase_counts start past ws j block b bound h ws' waits e =
           ∙ both (s.erasing + 1 == start.plan.shape.erase_slots)) in
           omega (arith, here, counted, ap (λ k. (block_at c k).erases) same)
       | inr apart ↦
-          let here = ap (λ (x : Block). x.erases) (get_or-set_other c.blocks block b (erased_once start.plan s) free_block apart) in
+          let here = ap (λ (x : Block). x.erases) (get_or-set_other c.blocks block b (block_after_erase_slot start.plan s) free_block apart) in
           let counted : one_if (ends_erase b (replies.Slot (reply_with start.plan past ws j (Some (does.Erase block))))) ≡ 0 =
           ap {B = ℕ} (λ t. one_if (is_some (reply_with start.plan past ws j (Some (does.Erase block))).finished && t))
           (ne_eqb block b (λ x. apart (sym x)))
@@ -150,18 +150,18 @@ erases_counted start bound = exact_induction start Q (λ b. omega arith) step
     Q log = (b : ℕ) → (block_at (cells start log) b).erases ≡ (block_at start.cells b).erases + erases_in b log
 
     step : (past : Log) (caller : ℕ) (event : Event) → IsExact start past → Q past
-        → AllByRecursion (λ c. c.0 ≡ false) (refusals start past event) → Q (entry caller event (accepted start past event) ∷ past)
+        → AllByRecursion (λ c. c.0 ≡ false) (refusals start past event) → Q (entry caller event (reply_if_accepted start past event) ∷ past)
     step past caller (events.Submit task release due ops) exact ih none b = omega (
       arith,
       ih b,
       sum_by-cons (λ e. one_if (ends_erase b e.reply)) (entry caller (events.Submit task release due ops)
-          (accepted start past (events.Submit task release due ops))) past,
+          (reply_if_accepted start past (events.Submit task release due ops))) past,
     )
     step past caller (events.Collect task release due) exact ih none b = omega (
       arith,
       ih b,
       sum_by-cons (λ e. one_if (ends_erase b e.reply)) (entry caller (events.Collect task release due)
-          (accepted start past (events.Collect task release due))) past,
+          (reply_if_accepted start past (events.Collect task release due))) past,
     )
     step past caller events.Slot exact ih none b =
         let h = stands_well start bound past exact in
@@ -170,8 +170,8 @@ erases_counted start bound = exact_induction start Q (λ b. omega arith) step
           arith,
           ih b,
           head_counts start past (choice start past).waived (choice start past).head b bound h
-              (waived past ++ (choice start past).waived) c.head,
-          sum_by-cons (λ e. one_if (ends_erase b e.reply)) (entry caller events.Slot (accepted start past events.Slot)) past,
+              (waived_collections past ++ (choice start past).waived) c.head,
+          sum_by-cons (λ e. one_if (ends_erase b e.reply)) (entry caller events.Slot (reply_if_accepted start past events.Slot)) past,
         )
 
 -- All lives

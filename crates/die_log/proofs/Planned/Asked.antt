@@ -10,7 +10,7 @@ use Rattle.slot_types.specs.declared.plans.Times.{Times}
 use Rattle.plan_rules.specs.Times.{times_of, collection_work, Passes}
 use Rattle.plan_rules.proofs.Demands.{taken_by, load_fits}
 use Rattle.plan_rules.proofs.Windows as windows
-use Rattle.die_log.specs.Log.{Log, Job, jobs}
+use Rattle.die_log.specs.Model.Log.{Log, Job, jobs}
 use Rattle.die_log.proofs.Planned.Entered.{IsSpaced, IsAsked, release_of, due_of, is_job_of, is_collection_of}
 
 -- the slots that a job or a collection takes at most

@@ -9,8 +9,8 @@ use Rattle.std.proofs.lemmas.Option.{none-some}
 use Rattle.std.proofs.lemmas.List.Sums.{sum_by-cons}
 use Rattle.slot_types.specs.declared.acts.Act.{Act}
 use Rattle.late_cert.specs.Schedule.{Slots, slot_at, is_named, work_in}
-use Rattle.die_log.specs.Log.{Log, Job, Carried, carried, act_of, work}
-use Rattle.die_log.specs.Rows.{carried_numbers}
+use Rattle.die_log.specs.Model.Log.{Log, Job, Carried, carried_slots, act_of, work}
+use Rattle.die_log.specs.Model.Rows.{carried_numbers}
 
 count_cons : (p : Option ℕ → Bool) (o : Option ℕ) (f : Slots) → count_by p (o ∷ f) ≡ cond (p o) 1 0 + count_by p f
 count_cons p o f = sum_by-cons (λ y. cond (p y) 1 0) o f
@@ -39,7 +39,7 @@ filled p (o ∷ f) (suc start) (suc end) le pass =
           (λ t a b. pass (suc t) (omega (arith, a)) (omega (arith, b))),
     )
 
--- a slot at the end or behind it is not counted below the end
+-- a slot at the end or after it is not counted below the end
 pub one_behind : (n : ℕ) (f : Slots) (end t : ℕ) → end ≤ t → slot_at f t ≡ Some n → work_in (take end f) n < work_in f n
 one_behind n [] end t le e = absurd (none-some n e)
 one_behind n (o ∷ f) zero zero le e = omega (
@@ -130,7 +130,7 @@ with_act false true act rest e = absurd (true≢false e)
 with_act false false act rest e = omega arith
 
 pub work_carried : (n : ℕ) (log : Log) → work_in (carried_numbers log) n ≡ work n log
-work_carried n log = by_slot (carried log)
+work_carried n log = by_slot (carried_slots log)
   where
     by_slot : (cs : List Carried) → count_by (is_named n) (map (λ c. option_map (λ ran. ran.0) c) cs)
         ≡ length (filter_map (λ c. act_of n c) cs)

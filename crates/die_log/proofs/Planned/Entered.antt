@@ -15,17 +15,17 @@ use Rattle.slot_types.specs.declared.replies.Reply.{Reply}
 use Rattle.slot_types.specs.declared.replies.Reply.TheVariants as replies
 use Rattle.slot_types.specs.declared.plans.Times.{Times}
 use Rattle.plan_rules.specs.Times.{times_of}
-use Rattle.plan_rules.specs.Keeping.{Arrival, arrivals, slots, IsPlanned, IsPlannedJob, IsPlannedCollection, KeepsPlan}
+use Rattle.plan_rules.specs.Keeping.{TaskArrival, arrivals, slots, IsPlanned, IsPlannedJob, IsPlannedCollection, KeepsPlan}
 use Rattle.plan_rules.proofs.Windows as windows
 use Rattle.plan_rules.proofs.Arriving as arriving
-use Rattle.die_log.specs.Log.{Log, Job, with_taken, jobs, carried, now}
-use Rattle.die_log.specs.Answers.{accepted, IsAccepted, IsExact, choice, slot_reply}
-use Rattle.die_log.specs.Planned.{Adds, AreEntered}
+use Rattle.die_log.specs.Model.Log.{Log, Job, with_taken, jobs, carried_slots, now}
+use Rattle.die_log.specs.Model.Answers.{reply_if_accepted, IsAccepted, IsExact, choice, slot_reply}
+use Rattle.die_log.specs.Results.InTime.{Adds, AreEntered}
 use Rattle.die_log.proofs.Legality.{entry, taken_answer}
-use Rattle.die_log.specs.Start.{Start}
+use Rattle.die_log.specs.Model.Start.{Start}
 
 -- the arrival is this job
-record IsOf (a : Arrival) (j : Job) : Type 0 where
+record IsOf (a : TaskArrival) (j : Job) : Type 0 where
   collects : j.collects ≡ a.collects
   task : j.task ≡ a.task
   release : j.release ≡ a.release
@@ -33,19 +33,19 @@ record IsOf (a : Arrival) (j : Job) : Type 0 where
   ops : j.ops ≡ a.ops
 
 -- the jobs are some of the arrivals, in their order
-abbrev IsAmong : List Arrival → List Job → Type 0
+abbrev IsAmong : List TaskArrival → List Job → Type 0
 IsAmong came [] = Unit {0}
 IsAmong [] (j ∷ js) = ⊥
 IsAmong (a ∷ came) (j ∷ js) = (IsOf a j × IsAmong came js) ⊎ IsAmong came (j ∷ js)
 
-refused : (a : Arrival) (came : List Arrival) (js : List Job) → IsAmong came js → IsAmong (a ∷ came) js
+refused : (a : TaskArrival) (came : List TaskArrival) (js : List Job) → IsAmong came js → IsAmong (a ∷ came) js
 refused a came [] h = tt
 refused a came (j ∷ js) h = inr h
 
 -- Along the events
 
 entry_answer : (start : Start) (caller : ℕ) (event : Event) (reply : Reply) (past : Log) → IsExact start (entry caller event reply ∷ past)
-    → reply ≡ accepted start past event
+    → reply ≡ reply_if_accepted start past event
 entry_answer start caller event reply past h = h.1 ∙ (taken_answer start past event (subst IsAccepted h.1 h.2)).1
 
 entered_next : (start : Start) (event : Event) (past next : Log) → Adds event past next ⊎ (IsArrival event × (next ≡ past))
@@ -59,16 +59,16 @@ entered_exact start [] past log h exact = subst (IsExact start) h exact
 entered_exact start (event ∷ rest) past log h exact = entered_next start event past h.0 h.1 (entered_exact start rest h.0 log h.2 exact)
 
 -- new jobs, among those that came
-abbrev IsLonger : Log → List Arrival → Log → Type 0
+abbrev IsLonger : Log → List TaskArrival → Log → Type 0
 IsLonger past came log = (new : List Job) × (jobs log ≡ jobs past ++ new) × IsAmong came new
 
-with_one : (past log : Log) (came : List Arrival) (a : Arrival) (j : Job) → IsOf a j → (new : List Job) → jobs log ≡ (jobs past ++ j ∷ [])
+with_one : (past log : Log) (came : List TaskArrival) (a : TaskArrival) (j : Job) → IsOf a j → (new : List Job) → jobs log ≡ (jobs past ++ j ∷ [])
     ++ new → IsAmong came new → IsLonger past (a ∷ came) log
 with_one past log came a j of new is among = (j ∷ new, is ∙ append_assoc (jobs past) (j ∷ []) new, inl (of, among))
 
 entered_by : (start : Start) (caller : ℕ) (event : Event) (rest : List Event) (past log : Log)
-    → IsLonger (entry caller event (accepted start past event) ∷ past)
-    (arrivals (now (entry caller event (accepted start past event) ∷ past)) rest) log
+    → IsLonger (entry caller event (reply_if_accepted start past event) ∷ past)
+    (arrivals (now (entry caller event (reply_if_accepted start past event) ∷ past)) rest) log
     → IsLonger past (arrivals (now past) (event ∷ rest)) log
 entered_by start caller (events.Submit task release due ops) rest past log h =
     with_one past log (arrivals (now past) rest) _ _ (record { collects = refl; task = refl; release = refl; due = refl; ops = refl }) h.0
@@ -78,7 +78,7 @@ entered_by start caller (events.Collect task release due) rest past log h =
     h.1 h.2
 entered_by start caller events.Slot rest past log h =
     let c = choice start past in
-    (h.0, h.1, subst (λ n. IsAmong (arrivals n rest) h.0) (length_push (carried past) (slot_reply start past c.waived c.head).ran) h.2)
+    (h.0, h.1, subst (λ n. IsAmong (arrivals n rest) h.0) (length_push (carried_slots past) (slot_reply start past c.waived c.head).ran) h.2)
 
 not_entered : (event : Event) (rest : List Event) (past log : Log) → IsArrival event → IsLonger past (arrivals (now past) rest) log
     → IsLonger past (arrivals (now past) (event ∷ rest)) log
@@ -90,7 +90,7 @@ entered_one : (start : Start) (event : Event) (rest : List Event) (past next log
     ⊎ (IsArrival event × (next ≡ past)) → IsExact start next
     → IsLonger next (arrivals (now next) rest) log → IsLonger past (arrivals (now past) (event ∷ rest)) log
 entered_one start event rest past next log (inl adds) exact h =
-    let is : next ≡ entry adds.0 event (accepted start past event) ∷ past =
+    let is : next ≡ entry adds.0 event (reply_if_accepted start past event) ∷ past =
     adds.2 ∙ ap (λ r. entry adds.0 event r ∷ past) (entry_answer start adds.0 event adds.1 past (subst (IsExact start) adds.2 exact)) in
     entered_by start adds.0 event rest past log (subst (λ l. IsLonger l (arrivals (now l) rest) log) is h)
 entered_one start event rest past next log (inr stays) exact h =
@@ -104,8 +104,8 @@ entered start (event ∷ rest) past log h exact =
 
 -- What jobs have of arrivals
 
-all_of : (P : Arrival → Type 0) (Q : Job → Type 0) → ((a : Arrival) (j : Job) → IsOf a j → P a → Q j)
-    → (came : List Arrival) (js : List Job) → IsAmong came js → AllByRecursion P came → AllByRecursion Q js
+all_of : (P : TaskArrival → Type 0) (Q : Job → Type 0) → ((a : TaskArrival) (j : Job) → IsOf a j → P a → Q j)
+    → (came : List TaskArrival) (js : List Job) → IsAmong came js → AllByRecursion P came → AllByRecursion Q js
 all_of P Q f came [] among h = tt
 all_of P Q f [] (j ∷ js) among h = absurd among
 all_of P Q f (a ∷ came) (j ∷ js) (inl same) h = (f a j same.0 h.0, all_of P Q f came js same.1 h.1)
@@ -117,16 +117,16 @@ release_of j = j.release
 abbrev pub due_of : Job → ℕ
 due_of j = j.due
 
-module _ (test : Arrival → Bool) (chosen : Job → Bool) (same_test : (a : Arrival) (j : Job) → IsOf a j → chosen j ≡ true → test a ≡ true)
+module _ (test : TaskArrival → Bool) (chosen : Job → Bool) (same_test : (a : TaskArrival) (j : Job) → IsOf a j → chosen j ≡ true → test a ≡ true)
     (period : ℕ) where
-  apart_of : (came : List Arrival) (js : List Job) → IsAmong came js → windows.AreApart arriving.release_of arriving.due_of test period came
+  apart_of : (came : List TaskArrival) (js : List Job) → IsAmong came js → windows.AreApart arriving.release_of arriving.due_of test period came
       → windows.AreApart release_of due_of chosen period js
   apart_of came [] among h = tt
   apart_of [] (j ∷ js) among h = absurd among
   apart_of (a ∷ came) (j ∷ js) (inr skipped) h = apart_of came (j ∷ js) skipped h.1
   apart_of (a ∷ came) (j ∷ js) (inl same) h = (first, apart_of came js same.1 h.1)
     where
-      behind : (test a ≡ true) → (b : Arrival) (i : Job) → IsOf b i → (test b ≡ true → a.release + period ≤ b.release) → chosen i ≡ true
+      behind : (test a ≡ true) → (b : TaskArrival) (i : Job) → IsOf b i → (test b ≡ true → a.release + period ≤ b.release) → chosen i ≡ true
           → j.release + period ≤ i.release
       behind mine b i of later is = omega (arith, later (same_test b i of is), of.release, same.0.release)
 
@@ -147,10 +147,10 @@ is_job_of task j = not j.collects && (j.task == task)
 abbrev pub is_collection_of : ℕ → Job → Bool
 is_collection_of task j = j.collects && (j.task == task)
 
-job_test : (task : ℕ) (a : Arrival) (j : Job) → IsOf a j → is_job_of task j ≡ true → arriving.is_job_of task a ≡ true
+job_test : (task : ℕ) (a : TaskArrival) (j : Job) → IsOf a j → is_job_of task j ≡ true → arriving.is_job_of task a ≡ true
 job_test task a j of h = ap (λ b. not b && (a.task == task)) (sym of.collects) ∙ (ap (λ n. not j.collects && (n == task)) (sym of.task) ∙ h)
 
-collection_test : (task : ℕ) (a : Arrival) (j : Job) → IsOf a j → is_collection_of task j ≡ true → arriving.is_collection_of task a ≡ true
+collection_test : (task : ℕ) (a : TaskArrival) (j : Job) → IsOf a j → is_collection_of task j ≡ true → arriving.is_collection_of task a ≡ true
 collection_test task a j of h = ap (λ b. b && (a.task == task)) (sym of.collects) ∙ (ap (λ n. j.collects && (n == task)) (sym of.task) ∙ h)
 
 -- a task of the plan; and a job has no more operations than its task may ask for
@@ -158,7 +158,7 @@ pub record IsAsked (plan : DiePlan) (times : Times) (j : Job) : Type 0 where
   pub task : j.task < length plan.caps
   pub few : j.collects ≡ false → length j.ops ≤ (times_of times j.task).work
 
-asked_by : (plan : DiePlan) (times : Times) (end : ℕ) (a : Arrival) (j : Job) (b : Bool) → IsOf a j → a.collects ≡ b
+asked_by : (plan : DiePlan) (times : Times) (end : ℕ) (a : TaskArrival) (j : Job) (b : Bool) → IsOf a j → a.collects ≡ b
     → MatchBool b (IsPlannedCollection plan times end a) (IsPlannedJob plan times a) → IsAsked plan times j
 asked_by plan times end a j true of kind h = record {
   task = omega (arith, h.task, of.task);
@@ -170,7 +170,7 @@ asked_by plan times end a j false of kind h = record {
   few = λ job. omega (arith, h.few, ap (λ (ops : List Op). length ops) of.ops, ap (λ (i : ℕ). (times_of times i).work) of.task);
 }
 
-asked_of : (plan : DiePlan) (times : Times) (end : ℕ) (a : Arrival) (j : Job) → IsOf a j → IsPlanned plan times end a → IsAsked plan times j
+asked_of : (plan : DiePlan) (times : Times) (end : ℕ) (a : TaskArrival) (j : Job) → IsOf a j → IsPlanned plan times end a → IsAsked plan times j
 asked_of plan times end a j of h = asked_by plan times end a j a.collects of refl h
 
 -- the jobs of a log: each is asked for, and those of a task, and its collections, are a period apart

@@ -1,4 +1,5 @@
--- Under a passing plan each slot up to a due would be needed for other work, were a job late; but there is less of it.
+-- Under a passing plan each slot up to a deadline would be needed for other work, were a job late; but there is less of
+-- it.
 use Rattle.std.proofs.Common.{◌≡◌, ℕ, suc, ◌-◌, ◌<◌, ◌≤◌, ◌==◌, ◌&&◌, nat_le, Bool, true, false, cond, List, [], ◌∷◌, ◌++◌, length, take}
 use Rattle.std.proofs.Common.{Option, Some, None, is_some, unwrap_or, option_map, count_by, refl, sym, ap, subst, ◌∙◌, inl, inr, arith}
 use Rattle.std.proofs.Common.{slice_get, pos, ◌-ℤ◌, ◌≤ℤ◌}
@@ -18,17 +19,17 @@ use Rattle.plan_rules.specs.Keeping.{KeepsPlan}
 use Rattle.late_cert.specs.Schedule.{slot_at, is_named, work_in, completion_in}
 use Rattle.late_cert.specs.Rows.{row_of, number_in, is_done_in, is_known, release_of, due_of, completion_of}
 use Rattle.late_cert.specs.Rows as of_rows
-use Rattle.late_cert.specs.Stretch.{is_within, IsStretch, CarriesLeastKeys, start_of, jobs_of}
+use Rattle.late_cert.specs.BusyInterval.{is_within, IsBusyInterval, CarriesLeastKeys, start_of, jobs_of}
 use Rattle.late_cert.proofs.Counting.{slot-at-end}
 use Rattle.late_cert.proofs.Binds.{end-le-length}
 use Rattle.late_cert.proofs.Keys.{within-true, named-some}
 use Rattle.late_cert.proofs.Window.{stretch-is}
 use Rattle.late_cert.proofs.Least.{stretch-carries}
-use Rattle.die_log.specs.Log.{Log, Job, jobs, carried, now, acts, work, is_waived}
-use Rattle.die_log.specs.Work.{is_erase, are_all, is_done, completion}
-use Rattle.die_log.specs.Answers.{IsExact}
-use Rattle.die_log.specs.Rows.{row_for, rows, carried_numbers}
-use Rattle.die_log.specs.Planned.{AreEntered, IsInTime}
+use Rattle.die_log.specs.Model.Log.{Log, Job, jobs, carried_slots, now, acts, work, is_waived}
+use Rattle.die_log.specs.Model.Work.{is_erase, are_all, is_done, completion}
+use Rattle.die_log.specs.Model.Answers.{IsExact}
+use Rattle.die_log.specs.Model.Rows.{row_for, rows, carried_numbers}
+use Rattle.die_log.specs.Results.InTime.{AreEntered, IsInTime}
 use Rattle.die_log.proofs.Exact.{moment_exact}
 use Rattle.die_log.proofs.Standing.Longer.{contained, any_contained, number_at}
 use Rattle.die_log.proofs.Legal.Exact.{stands_well}
@@ -39,8 +40,8 @@ use Rattle.die_log.proofs.Bounds.Exact.{are_bounded, bounded_work}
 use Rattle.die_log.proofs.Planned.Entered.{IsSpaced, IsAsked, spaced, spaced_before}
 use Rattle.die_log.proofs.Planned.Asked.{most_of, is_in_window, asked_in, asked_fits}
 use Rattle.die_log.proofs.Planned.Carrying.{filled, one_behind, carries_one, count_carried, sum_by_less, work_carried}
-use Rattle.die_log.specs.Start.{Start}
-use Rattle.die_log.specs.Opening.{IsOpening}
+use Rattle.die_log.specs.Model.Start.{Start}
+use Rattle.die_log.specs.Model.Opening.{IsOpening}
 
 -- Work
 
@@ -128,7 +129,7 @@ done_if false n = refl
 
 -- A late job
 
--- a job or collection that wasn't waived, is due by now, and isn't done by its due
+-- a job or collection that wasn't waived, is due by now, and isn't done by its deadline
 record IsLate (start : Start) (log : Log) (j : Job) : Type 0 where
   stands : Contains (jobs log) j
   unwaived : is_waived log j.number ≡ false
@@ -141,7 +142,7 @@ module _ (start : Start) (times : Times) (log : Log) (bound : IsOpening start) (
   keys = least_keys start bound log exact
 
   long_enough : j.due ≤ length (carried_numbers log)
-  long_enough = omega (arith, late.due_by_now, length-map (carried log) (λ c. option_map (λ ran. ran.0) c))
+  long_enough = omega (arith, late.due_by_now, length-map (carried_slots log) (λ c. option_map (λ ran. ran.0) c))
 
   row : row_of (rows start.plan log) j.number ≡ Some (row_for start.plan log j)
   row = row_stands start log j bound exact late.stands late.unwaived
@@ -159,11 +160,11 @@ module _ (start : Start) (times : Times) (log : Log) (bound : IsOpening start) (
   completion_is done = ap (number_in (λ r. unwrap_or r.completion 0)) row
       ∙ completion_if (is_done start.plan log j) (completion j.number log) done
 
-  -- the slots before the due that carried nothing but keys up to that of the job
+  -- the slots before the deadline that carried nothing but keys up to that of the job
   abbrev since : ℕ
   since = start_of (rows start.plan log) (carried_numbers log) j.number j.due
 
-  stretch : IsStretch (rows start.plan log) (carried_numbers log) j.number since j.due (jobs_of (rows start.plan log) (carried_numbers log) since j.due)
+  stretch : IsBusyInterval (rows start.plan log) (carried_numbers log) j.number since j.due (jobs_of (rows start.plan log) (carried_numbers log) since j.due)
   stretch = stretch-is (rows start.plan log) (carried_numbers log) j.number j.due keys.rising
 
   -- from the release on the job itself waited
@@ -181,7 +182,7 @@ module _ (start : Start) (times : Times) (log : Log) (bound : IsOpening start) (
     | inr not_after ↦ not_after
   ]
 
-  -- each slot of the stretch carried what was released in it and is due by then
+  -- each slot of the busy interval carried what was released in it and is due by then
   each_slot : (t : ℕ) → since ≤ t → t < j.due → carries_one (is_in_window since j.due) (jobs log) (slot_at (carried_numbers log) t) ≡ true
   each_slot t from below =
       let w = within-true (rows start.plan log) j.number (slot_at (carried_numbers log) t) (stretch.carries t from below) in
@@ -195,7 +196,7 @@ module _ (start : Start) (times : Times) (log : Log) (bound : IsOpening start) (
       (and_from (nat_le since i.job.release) (nat_le i.job.due j.due) (le-leb since i.job.release released) (le-leb i.job.due j.due due_by))
       (ap (is_named i.job.number) w.carries ∙ eq-eqb i.job.number w.number i.number))
 
-  -- the slots that a job or collection had before the due
+  -- the slots that a job or collection had before the deadline
   abbrev had : Job → ℕ
   had i = work_in (take j.due (carried_numbers log)) i.number
 
@@ -203,7 +204,7 @@ module _ (start : Start) (times : Times) (log : Log) (bound : IsOpening start) (
   had_within i = omega (arith, sum_by-take-le (λ o. cond (is_named i.number o) 1 0) (carried_numbers log) j.due, work_carried i.number log)
 
   module _ (spacing : IsSpaced start.plan times log) where
-    -- the job itself had fewer slots before its due than it may take
+    -- the job itself had fewer slots before its deadline than it may take
     missed : had j < most_of start.plan times j
     missed = elim (cases_Bool (is_done start.plan log j)) [
       | inl done ↦ (
@@ -271,7 +272,7 @@ ended_by_now start log j bound exact stands done =
       is,
       keys.completes j.number done_row,
       end-le-length (is_named j.number) (carried_numbers log),
-      length-map (carried log)
+      length-map (carried_slots log)
           (λ c. option_map (λ ran. ran.0) c),
     )
 

@@ -14,13 +14,13 @@ use Rattle.slot_types.specs.declared.refusals.Refusal.TheVariants as because
 use Rattle.slot_types.specs.declared.plans.Times.{Times}
 use Rattle.plan_rules.specs.Times.{Passes}
 use Rattle.plan_rules.specs.Keeping.{is_slot, slots, KeepsPlan}
-use Rattle.die_log.specs.Log.{Log, carried, now}
-use Rattle.die_log.specs.Answers.{refusal_of, first_standing, answer, answer_by, choice, slot_reply, with_answer, after_call, run}
-use Rattle.die_log.specs.Planned.{Adds, AreEntered, IsInTime}
+use Rattle.die_log.specs.Model.Log.{Log, carried_slots, now}
+use Rattle.die_log.specs.Model.Answers.{refusal_of, first_that_holds, answer, answer_by, choice, slot_reply, with_answer, after_call, run}
+use Rattle.die_log.specs.Results.InTime.{Adds, AreEntered, IsInTime}
 use Rattle.die_log.proofs.Runs.{run_exact}
 use Rattle.die_log.proofs.Planned.InTime.{planned_in_time}
-use Rattle.die_log.specs.Start.{Start}
-use Rattle.die_log.specs.Opening.{IsOpening}
+use Rattle.die_log.specs.Model.Start.{Start}
+use Rattle.die_log.specs.Model.Opening.{IsOpening}
 
 abbrev one_if : Bool → ℕ
 one_if b = cond b 1 0
@@ -38,14 +38,14 @@ by_answer start caller (events.Collect task release due) past None on_time = rec
 by_answer start caller (events.Collect task release due) past (Some r) on_time = record { adds = inr (tt, refl); slot = omega arith }
 by_answer start caller events.Slot past None on_time =
     let c = choice start past in
-    record { adds = inl (caller, _, refl); slot = omega (arith, length_push (carried past) (slot_reply start past c.waived c.head).ran) }
+    record { adds = inl (caller, _, refl); slot = omega (arith, length_push (carried_slots past) (slot_reply start past c.waived c.head).ran) }
 by_answer start caller events.Slot past (Some r) on_time = absurd (none-some r (sym (on_time refl)))
 
 -- no slot is refused before the last one
 pub slot_open : (start : Start) (past : Log) → now past < MAX_SLOT → refusal_of start past events.Slot ≡ None
 slot_open start past lt = elim (cases_Bool (nat_le MAX_SLOT (now past))) [
   | inl over ↦ absurd (omega (arith, lt, leb-true MAX_SLOT (now past) over))
-  | inr left ↦ ap (λ (b : Bool). first_standing ((b, because.ClockEnd) ∷ [])) left
+  | inr left ↦ ap (λ (b : Bool). first_that_holds ((b, because.ClockEnd) ∷ [])) left
 ]
 
 slot_answered : (start : Start) (event : Event) (past : Log) → (is_slot event ≡ true → now past < MAX_SLOT) → is_slot event ≡ true

@@ -13,21 +13,21 @@ use Rattle.slot_types.specs.declared.acts.Act.TheVariants as does
 use Rattle.slot_types.specs.declared.events.Op.{Op}
 use Rattle.slot_types.specs.declared.events.Op.TheVariants as asks
 use Rattle.slot_types.specs.declared.replies.Entry.{Entry}
-use Rattle.die_log.specs.Log.{Log, Job, Carried, jobs, act_of, acts, work}
-use Rattle.die_log.specs.Flash.{ran_by, Cells, cells, cells_after, block_at, is_closed}
-use Rattle.die_log.specs.Work.{are_all, is_done, is_erase, victim_of, shown_by, block_shown}
-use Rattle.die_log.specs.Answers.{is_running, is_block, is_collected, candidates, victim, block_for, buffer_after, collect_act, act_of_op}
-use Rattle.die_log.specs.Answers.{act_for}
-use Rattle.die_log.specs.Legal.{changed_since, changed_by, FindsFree}
-use Rattle.die_log.specs.Sound.{IsClosed, IsUnplaced, AreSound, IsCollecting, IsEraseSlot, IsStep, HasRoom, MayDo}
-use Rattle.die_log.specs.Standing.{AreNumbered, Runs, Collects}
+use Rattle.die_log.specs.Model.Log.{Log, Job, Carried, jobs, act_of, acts, work}
+use Rattle.die_log.specs.Model.Flash.{ran_by, Cells, cells, cells_after, block_at, is_closed}
+use Rattle.die_log.specs.Model.Work.{are_all, is_done, is_erase, victim_of, shown_by, block_shown}
+use Rattle.die_log.specs.Model.Answers.{is_running, is_block, is_collected, candidates, victim, block_for, buffer_after, collect_act, act_of_op}
+use Rattle.die_log.specs.Model.Answers.{act_for}
+use Rattle.die_log.specs.Results.Legal.{changed_since, changed_by, FindsFree}
+use Rattle.die_log.specs.Invariants.SoundCells.{IsClosed, IsUnplaced, AreSoundCells, IsCollecting, IsEraseSlot, IsCellStep, HasFreePage, MayDo}
+use Rattle.die_log.specs.Invariants.RunningCollections.{AreNumbered, RunsOnBlock, KeepsCollections}
 use Rattle.die_log.proofs.Choices.{OfSome}
 use Rattle.die_log.proofs.Cells.Steps.{step_is, step_sound}
 use Rattle.die_log.proofs.Cells.Collections.{begins_collecting, own_step, next_may}
 use Rattle.die_log.proofs.Standing.Longer.{act_own, acts_grow, no_victim, kept_both, best_all, any_contained}
 use Rattle.die_log.proofs.Standing.Quiet.{runs_with, RunsWith, runs_says, collecting_as}
 use Rattle.die_log.proofs.Standing.Acting.{IsActor, acted}
-use Rattle.die_log.specs.Start.{Start}
+use Rattle.die_log.specs.Model.Start.{Start}
 
 -- Which block a collection has
 
@@ -35,8 +35,8 @@ use Rattle.die_log.specs.Start.{Start}
 pub record IsBegun (start : Start) (past : Log) (j : Job) (b : ℕ) : Type 0 where
   pub collecting : IsCollecting start.plan (cells start past) (acts j.number past) (λ p. changed_since j.number p past) b
   pub shown : (victim_of start j.number past ≡ Some b) ⊎ (acts j.number past ≡ [])
-  pub apart : (i : Job) → Runs start past i b → i.number ≡ j.number
-  pub same : (a : ℕ) → Runs start past j a → a ≡ b
+  pub apart : (i : Job) → RunsOnBlock start past i b → i.number ≡ j.number
+  pub same : (a : ℕ) → RunsOnBlock start past j a → a ≡ b
 
 all_any : (xs : List ℕ) → AllByRecursion (λ (x : ℕ). Unit {0}) xs
 all_any [] = tt
@@ -57,7 +57,7 @@ block_is b None h = absurd cc
 block_is b (Some v) h = eq-eqb v b (same_Some v b h)
 
 -- a block on which somebody runs is collected
-pub runs_collected : (start : Start) (past : Log) (i : Job) (b : ℕ) → Runs start past i b → is_collected start past b ≡ true
+pub runs_collected : (start : Start) (past : Log) (i : Job) (b : ℕ) → RunsOnBlock start past i b → is_collected start past b ≡ true
 runs_collected start past i b r =
     any_contained (λ j. is_running start.plan past j && is_block b (victim_of start j.number past)) (jobs past) i r.stands
     (and_from (is_running start.plan past i) (is_block b (victim_of start i.number past)) r.running
@@ -77,7 +77,7 @@ runs_from plan j own h =
     (and_from j.collects (nat_lt 0 (length own)) h.collects (lt-ltb 0 (length own) h.begun))
     (not_from_false (are_all plan j own) h.undone)
 
-begun_by : (start : Start) (past : Log) (j : Job) (b : ℕ) → Collects start past → Contains (jobs past) j → j.collects ≡ true
+begun_by : (start : Start) (past : Log) (j : Job) (b : ℕ) → KeepsCollections start past → Contains (jobs past) j → j.collects ≡ true
     → is_done start.plan past j ≡ false
     → (t : Bool) → (length (acts j.number past) == 0) ≡ t → cond t (victim start past) (victim_of start j.number past) ≡ Some b
     → IsBegun start past j b
@@ -99,7 +99,7 @@ begun_by start past j b k stands collects undone true zero_test e =
     idle (suc n) is not_collected = let o = k.owned b (omega arith) in absurd
         (true≢false (sym (runs_collected start past o.0 b o.1) ∙ not_collected))
 begun_by start past j b k stands collects undone false zero_test e =
-    let runs : Runs start past j b = record {
+    let runs : RunsOnBlock start past j b = record {
       stands = stands;
       running = runs_from start.plan j (acts j.number past) (record {
         collects = collects;
@@ -116,7 +116,7 @@ begun_by start past j b k stands collects undone false zero_test e =
     }
 
 -- the block for a collection that isn't done
-pub begun : (start : Start) (past : Log) (j : Job) (b : ℕ) → Collects start past → Contains (jobs past) j → j.collects ≡ true
+pub begun : (start : Start) (past : Log) (j : Job) (b : ℕ) → KeepsCollections start past → Contains (jobs past) j → j.collects ≡ true
     → is_done start.plan past j ≡ false → block_for start past j ≡ Some b → IsBegun start past j b
 begun start past j b k stands collects undone e = begun_by start past j b k stands collects undone (length (acts j.number past) == 0) refl e
 
@@ -176,9 +176,9 @@ erases_push own a = sum_by_push (λ x. cond (is_erase x) 1 0) own (does.Erase a)
 -- a collection acts as one may
 pub collection_actor : (start : Start) (e : Entry) (past : Log) (j : Job) (act : Act) (b : ℕ) → ran_by e.reply ≡ Some (j.number, act)
     → j.collects ≡ true
-    → AreSound start.plan (cells start past) → IsBegun start past j b
+    → AreSoundCells start.plan (cells start past) → IsBegun start past j b
     → MayDo start.plan (cells start past) (acts j.number past) (λ p. changed_since j.number p past) b act
-    → IsStep start.plan act (cells start past) (cells start (e ∷ past))
+    → IsCellStep start.plan act (cells start past) (cells start (e ∷ past))
     → IsActor start e past j act
 collection_actor start e past j act b ran collects sound k may step = record {
   mine = λ r. (
@@ -189,9 +189,9 @@ collection_actor start e past j act b ran collects sound k may step = record {
         (λ p. changed_since j.number p (e ∷ past)) b k.collecting may step (undone r) never),
     k.apart,
   );
-  others = λ i a r other is. other (k.apart i (subst (λ (x : ℕ). Runs start past i x) (erased a is).0 r));
+  others = λ i a r other is. other (k.apart i (subst (λ (x : ℕ). RunsOnBlock start past i x) (erased a is).0 r));
   erasing = λ a is h. (
-    running a (subst (λ (x : Act). IsStep start.plan x (cells start past) (cells start (e ∷ past))) is step) is h,
+    running a (subst (λ (x : Act). IsCellStep start.plan x (cells start past) (cells start (e ∷ past))) is step) is h,
     shows
         ∙ ap Some (sym (erased a is).0),
   );
@@ -290,7 +290,7 @@ job_actor start e past j act is_job h = record {
 
 -- Steps of logs
 
-pub room_of : (start : Start) (past : Log) (act : Act) → FindsFree start past act → HasRoom start.plan (cells start past) act
+pub room_of : (start : Start) (past : Log) (act : Act) → FindsFree start past act → HasFreePage start.plan (cells start past) act
 room_of start past (does.Read page bytes) h = tt
 room_of start past (does.Write page bytes) h = h
 room_of start past (does.Trim page) h = tt
@@ -303,8 +303,8 @@ pub block_some : (plan : DiePlan) (c : Cells) (buffer o : Option ℕ) (act : Act
 block_some plan c buffer None act e = absurd cc
 block_some plan c buffer (Some b) act e = (b, refl)
 
--- a collection that has its turn has a block, and does what it may
-pub collection_may : (start : Start) (past : Log) (j : Job) (act : Act) → 0 < start.plan.shape.erase_slots → Collects start past
+-- a collection that is the head has a block, and does what it may
+pub collection_may : (start : Start) (past : Log) (j : Job) (act : Act) → 0 < start.plan.shape.erase_slots → KeepsCollections start past
     → Contains (jobs past) j → j.collects ≡ true → is_done start.plan past j ≡ false → act_for start past j ≡ Some act
     → (b : ℕ) × IsBegun start past j b × MayDo start.plan (cells start past) (acts j.number past) (λ p. changed_since j.number p past) b act
 collection_may start past j act more k stands collects undone e =
@@ -332,7 +332,7 @@ job_act start past j act is_job e =
 pub head_acted : (start : Start) (e : Entry) (past : Log) (j : Job) (act : Act) → 0 < start.plan.shape.pages → 0 < start.plan.shape.erase_slots
     → ran_by e.reply ≡ Some (j.number, act) → jobs (e ∷ past) ≡ jobs past
     → AreNumbered 0 (jobs past) → Contains (jobs past) j → is_done start.plan past j ≡ false → act_for start past j ≡ Some act
-    → FindsFree start past act → Collects start past → Collects start (e ∷ past)
+    → FindsFree start past act → KeepsCollections start past → KeepsCollections start (e ∷ past)
 head_acted start e past j act pages more ran same numbered stands undone is finds k = by_kind j.collects refl
   where
     number : ℕ
@@ -341,14 +341,14 @@ head_acted start e past j act pages more ran same numbered stands undone is find
     after : cells start (e ∷ past) ≡ cells_after start.plan (Some (number, act)) (cells start past)
     after = ap (λ (c : Carried). cells_after start.plan c (cells start past)) ran
 
-    step : ((b : ℕ) → act ≡ does.Erase b → IsClosed start.plan (cells start past) b) → IsStep start.plan act (cells start past) (cells start (e ∷ past))
-    step closed = subst (IsStep start.plan act (cells start past)) (sym after)
+    step : ((b : ℕ) → act ≡ does.Erase b → IsClosed start.plan (cells start past) b) → IsCellStep start.plan act (cells start past) (cells start (e ∷ past))
+    step closed = subst (IsCellStep start.plan act (cells start past)) (sym after)
         (step_is start.plan number act (cells start past) pages k.sound (room_of start past act finds) closed)
 
-    by_kind : (t : Bool) → j.collects ≡ t → Collects start (e ∷ past)
+    by_kind : (t : Bool) → j.collects ≡ t → KeepsCollections start (e ∷ past)
     by_kind false kind =
         let h : IsJobAct act = op_act start past (slice_get j.ops (work j.number past)) act (job_act start past j act kind is) in
-        let w : IsStep start.plan act (cells start past) (cells start (e ∷ past)) = step (λ b x. absurd (job_erases_not act h b x)) in
+        let w : IsCellStep start.plan act (cells start past) (cells start (e ∷ past)) = step (λ b x. absurd (job_erases_not act h b x)) in
         acted start e past j act ran same numbered stands k
         (step_sound start.plan act (cells start past) (cells start (e ∷ past)) more k.sound (λ b x. absurd (job_erases_not act h b x)) w) w
         (job_actor start e past j act kind h)
@@ -356,7 +356,7 @@ head_acted start e past j act pages more ran same numbered stands undone is find
         let m = collection_may start past j act more k stands kind undone is in
         let erased : (a : ℕ) → act ≡ does.Erase a → (a ≡ m.0) × IsClosed start.plan (cells start past) a × IsUnplaced (cells start past) a =
         λ a x. may_erase start.plan (cells start past) (acts j.number past) (λ p. changed_since j.number p past) m.0 act m.2 a x in
-        let w : IsStep start.plan act (cells start past) (cells start (e ∷ past)) = step (λ a x. (erased a x).1) in
+        let w : IsCellStep start.plan act (cells start past) (cells start (e ∷ past)) = step (λ a x. (erased a x).1) in
         acted start e past j act ran same numbered stands k
         (step_sound start.plan act (cells start past) (cells start (e ∷ past)) more k.sound (λ a x. ((erased a x).1, (erased a x).2)) w) w
         (collection_actor start e past j act m.0 ran kind k.sound m.1 m.2 w)

@@ -1,9 +1,9 @@
--- What the cells of a die want of its accounts, behind a log.
+-- What the cells of a die need of its accounts, after a log.
 use Rattle.std.proofs.Common.{◌≡◌, ℕ, true, Some, None}
-use Rattle.die_log.specs.Log.{Log, Job, Carried, work}
-use Rattle.die_log.specs.Answers.{choice, victim}
-use Rattle.die_log.specs.Legal.{FindsFree}
-use Rattle.die_log.specs.Start.{Start}
+use Rattle.die_log.specs.Model.Log.{Log, Job, Carried, work}
+use Rattle.die_log.specs.Model.Answers.{choice, victim}
+use Rattle.die_log.specs.Results.Legal.{FindsFree}
+use Rattle.die_log.specs.Model.Start.{Start}
 
 -- what a slot carries finds a free page where it programs one
 abbrev pub FindsBy : Start → Log → Carried → Type 0

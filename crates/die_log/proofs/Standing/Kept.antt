@@ -15,21 +15,21 @@ use Rattle.slot_types.specs.declared.events.Event.TheVariants as events
 use Rattle.slot_types.specs.declared.replies.Reply.TheVariants as replies
 use Rattle.slot_types.specs.declared.replies.Entry.{Entry}
 use Rattle.slot_types.specs.declared.replies.Waived.{Waived}
-use Rattle.die_log.specs.Log.{Log, Job, jobs, act_of, acts, work}
-use Rattle.die_log.specs.Flash.{ran_by}
-use Rattle.die_log.specs.Work.{is_done, is_ready}
-use Rattle.die_log.specs.Answers.{is_running, accepted, act_for, act_of_op, reply_with, slot_reply, choice, IsExact}
-use Rattle.die_log.specs.Legal.{FindsFree}
-use Rattle.die_log.specs.Standing.{AreNumbered, KeepsToOps, Stands}
+use Rattle.die_log.specs.Model.Log.{Log, Job, jobs, act_of, acts, work}
+use Rattle.die_log.specs.Model.Flash.{ran_by}
+use Rattle.die_log.specs.Model.Work.{is_done, is_ready}
+use Rattle.die_log.specs.Model.Answers.{is_running, reply_if_accepted, act_for, act_of_op, reply_with, slot_reply, choice, IsExact}
+use Rattle.die_log.specs.Results.Legal.{FindsFree}
+use Rattle.die_log.specs.Invariants.RunningCollections.{AreNumbered, KeepsToOps, KeepsJobsAndCells}
 use Rattle.die_log.proofs.Standing.Finds.{FindsBy}
 use Rattle.die_log.proofs.Choices.{OfSome}
 use Rattle.die_log.proofs.Legality.{entry}
 use Rattle.die_log.proofs.Collecting.{no_acts}
-use Rattle.die_log.specs.Opening.{IsOpening}
+use Rattle.die_log.specs.Model.Opening.{IsOpening}
 use Rattle.die_log.proofs.Standing.Longer.{numbered_push, same_job, acts_stay, acts_grow, act_other, act_own, IsWaiting, waits}
 use Rattle.die_log.proofs.Standing.Quiet.{runs_says, quiet}
 use Rattle.die_log.proofs.Standing.Actors.{IsJobAct, job_erases_not, op_act, job_act, head_acted}
-use Rattle.die_log.specs.Start.{Start}
+use Rattle.die_log.specs.Model.Start.{Start}
 
 pub waiting_undone : (plan : DiePlan) (past : Log) (j : Job) → is_ready plan past j ≡ true → is_done plan past j ≡ false
 waiting_undone plan past j h = not-true (is_done plan past j) (and_parts _ _ (and_parts _ _ h).0).1
@@ -72,8 +72,8 @@ keeps_more start e past j act grown is k =
 -- Entries
 
 -- an entry that carried nothing and brought nobody
-quiet_stands : (start : Start) (e : Entry) (past : Log) → ran_by e.reply ≡ None → jobs (e ∷ past) ≡ jobs past → Stands start past
-    → Stands start (e ∷ past)
+quiet_stands : (start : Start) (e : Entry) (past : Log) → ran_by e.reply ≡ None → jobs (e ∷ past) ≡ jobs past → KeepsJobsAndCells start past
+    → KeepsJobsAndCells start (e ∷ past)
 quiet_stands start e past none same s = record {
   numbered = subst (AreNumbered 0) (sym same) s.numbered;
   of_jobs = λ j h kind. keeps_same (e ∷ past) past j (acts_stay j.number e past (ap (act_of j.number) none))
@@ -84,7 +84,7 @@ quiet_stands start e past none same s = record {
 
 -- an entry that brought a job or a collection
 taken_stands : (start : Start) (e : Entry) (past : Log) (new : Job) → ran_by e.reply ≡ None → jobs (e ∷ past) ≡ jobs past ++ new ∷ []
-    → new.number ≡ length (jobs past) → acts (length (jobs past)) past ≡ [] → Stands start past → Stands start (e ∷ past)
+    → new.number ≡ length (jobs past) → acts (length (jobs past)) past ≡ [] → KeepsJobsAndCells start past → KeepsJobsAndCells start (e ∷ past)
 taken_stands start e past new none same is nil s = record {
   numbered = subst (AreNumbered 0) (sym same) (numbered_push 0 (jobs past) new s.numbered (omega arith));
   of_jobs = λ j h kind. job_by_case j kind (Contains-push_cases (jobs past) new j (subst (λ (js : List Job). Contains js j) same h));
@@ -111,8 +111,8 @@ taken_stands start e past new none same is nil s = record {
 -- an entry that carried the head's act
 acted_stands : (start : Start) (e : Entry) (past : Log) (j : Job) (act : Act) → 0 < start.plan.shape.pages → 0 < start.plan.shape.erase_slots
     → ran_by e.reply ≡ Some (j.number, act) → jobs (e ∷ past) ≡ jobs past
-    → Contains (jobs past) j → is_done start.plan past j ≡ false → act_for start past j ≡ Some act → FindsFree start past act → Stands start past
-    → Stands start (e ∷ past)
+    → Contains (jobs past) j → is_done start.plan past j ≡ false → act_for start past j ≡ Some act → FindsFree start past act → KeepsJobsAndCells start past
+    → KeepsJobsAndCells start (e ∷ past)
 acted_stands start e past j act pages more ran same stands undone is finds s = record {
   numbered = subst (AreNumbered 0) (sym same) s.numbered;
   of_jobs = λ i h kind. by_case i (subst (λ (js : List Job). Contains js i) same h) kind (cases_eq i.number j.number);
@@ -135,7 +135,7 @@ acted_stands start e past j act pages more ran same stands undone is finds s = r
 nobody_in : {P : Type 0} (j : Job) → Contains [] j → P
 nobody_in j h = absurd (omega (arith, h.1))
 
-pub fresh_stands : (start : Start) → IsOpening start → Stands start []
+pub fresh_stands : (start : Start) → IsOpening start → KeepsJobsAndCells start []
 fresh_stands start bound = record {
   numbered = tt;
   of_jobs = λ j h kind. nobody_in j h;
@@ -150,8 +150,8 @@ fresh_stands start bound = record {
 
 slot_act : (start : Start) (past : Log) (caller : ℕ) (ws : List Waived) (j : Job) (o : Option Act) → 0 < start.plan.shape.pages → 0
     < start.plan.shape.erase_slots → IsWaiting start.plan past j → act_for start past j ≡ o
-    → FindsBy start past (reply_with start.plan past ws j o).ran → Stands start past
-    → Stands start (entry caller events.Slot (replies.Slot (reply_with start.plan past ws j o)) ∷ past)
+    → FindsBy start past (reply_with start.plan past ws j o).ran → KeepsJobsAndCells start past
+    → KeepsJobsAndCells start (entry caller events.Slot (replies.Slot (reply_with start.plan past ws j o)) ∷ past)
 slot_act start past caller ws j None pages more w e finds s = quiet_stands start
     (entry caller events.Slot (replies.Slot (reply_with start.plan past ws j None))) past refl refl s
 slot_act start past caller ws j (Some act) pages more w e finds s =
@@ -160,21 +160,21 @@ slot_act start past caller ws j (Some act) pages more w e finds s =
 
 slot_head : (start : Start) (past : Log) (caller : ℕ) (ws : List Waived) (o : Option Job) → 0 < start.plan.shape.pages → 0
     < start.plan.shape.erase_slots → OfSome (IsWaiting start.plan past) o
-    → FindsBy start past (slot_reply start past ws o).ran → Stands start past
-    → Stands start (entry caller events.Slot (replies.Slot (slot_reply start past ws o)) ∷ past)
+    → FindsBy start past (slot_reply start past ws o).ran → KeepsJobsAndCells start past
+    → KeepsJobsAndCells start (entry caller events.Slot (replies.Slot (slot_reply start past ws o)) ∷ past)
 slot_head start past caller ws None pages more w finds s = quiet_stands start
     (entry caller events.Slot (replies.Slot (slot_reply start past ws None))) past refl refl s
 slot_head start past caller ws (Some j) pages more w finds s = slot_act start past caller ws j (act_for start past j) pages more w refl finds s
 
 -- one accepted event keeps what stands
 pub accepted_stands : (start : Start) (past : Log) (caller : ℕ) (event : Event) → 0 < start.plan.shape.pages → 0 < start.plan.shape.erase_slots
-    → IsExact start past → FindsBy start past (ran_by (accepted start past event)) → Stands start past
-    → Stands start (entry caller event (accepted start past event) ∷ past)
+    → IsExact start past → FindsBy start past (ran_by (reply_if_accepted start past event)) → KeepsJobsAndCells start past
+    → KeepsJobsAndCells start (entry caller event (reply_if_accepted start past event) ∷ past)
 accepted_stands start past caller (events.Submit task release due ops) pages more x finds s =
-    taken_stands start (entry caller (events.Submit task release due ops) (accepted start past (events.Submit task release due ops))) past _
+    taken_stands start (entry caller (events.Submit task release due ops) (reply_if_accepted start past (events.Submit task release due ops))) past _
     refl refl refl (no_acts start past x) s
 accepted_stands start past caller (events.Collect task release due) pages more x finds s =
-    taken_stands start (entry caller (events.Collect task release due) (accepted start past (events.Collect task release due))) past _ refl
+    taken_stands start (entry caller (events.Collect task release due) (reply_if_accepted start past (events.Collect task release due))) past _ refl
     refl refl (no_acts start past x) s
 accepted_stands start past caller events.Slot pages more x finds s = slot_head start past caller (choice start past).waived
     (choice start past).head pages more (waits start past).head finds s

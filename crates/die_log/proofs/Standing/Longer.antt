@@ -12,14 +12,14 @@ use Rattle.slot_types.specs.declared.acts.Act.{Act}
 use Rattle.slot_types.specs.declared.replies.Reply.{Reply}
 use Rattle.slot_types.specs.declared.replies.Reply.TheVariants as replies
 use Rattle.slot_types.specs.declared.replies.Entry.{Entry}
-use Rattle.die_log.specs.Log.{Log, Job, Carried, jobs, carried, act_of, acts, with_slot}
-use Rattle.die_log.specs.Flash.{ran_by}
-use Rattle.die_log.specs.Work.{is_ready, ready, victim_of, shown_by}
-use Rattle.die_log.specs.Accounts.{accounts}
-use Rattle.die_log.specs.Answers.{choice}
-use Rattle.die_log.specs.Standing.{AreNumbered}
+use Rattle.die_log.specs.Model.Log.{Log, Job, Carried, jobs, carried_slots, act_of, acts, with_slot}
+use Rattle.die_log.specs.Model.Flash.{ran_by}
+use Rattle.die_log.specs.Model.Work.{is_ready, ready, victim_of, shown_by}
+use Rattle.die_log.specs.Model.Accounts.{accounts}
+use Rattle.die_log.specs.Model.Answers.{choice}
+use Rattle.die_log.specs.Invariants.RunningCollections.{AreNumbered}
 use Rattle.die_log.proofs.Choices.{OfSome, Names, names_waiting}
-use Rattle.die_log.specs.Start.{Start}
+use Rattle.die_log.specs.Model.Start.{Start}
 
 -- Numbers
 
@@ -74,7 +74,7 @@ acts_by n (replies.Refused refusal) cs = sym (append-nil (filter_map (λ c. act_
 
 -- the acts of one number after one more entry
 pub acts_more : (n : ℕ) (e : Entry) (past : Log) → acts n (e ∷ past) ≡ acts n past ++ cons_option (act_of n (ran_by e.reply)) []
-acts_more n e past = acts_by n e.reply (carried past)
+acts_more n e past = acts_by n e.reply (carried_slots past)
 
 pub act_other : (n m : ℕ) (act : Act) → n ≢ m → act_of m (Some (n, act)) ≡ None
 act_other n m act other = rw (ne_eqb n m other) refl

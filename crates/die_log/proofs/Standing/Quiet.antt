@@ -7,17 +7,17 @@ use Rattle.slot_types.specs.declared.plans.DiePlan.{DiePlan}
 use Rattle.slot_types.specs.declared.acts.Act.{Act}
 use Rattle.slot_types.specs.declared.acts.Act.TheVariants as does
 use Rattle.slot_types.specs.declared.replies.Entry.{Entry}
-use Rattle.die_log.specs.Log.{Log, Job, Carried, jobs, act_of, acts}
-use Rattle.die_log.specs.Flash.{ran_by, Cells, cells, cells_after, Block, block_at}
-use Rattle.die_log.specs.Work.{are_all}
-use Rattle.die_log.specs.Answers.{is_running}
-use Rattle.die_log.specs.Legal.{changed_since, changed_by, is_change_of}
-use Rattle.die_log.specs.Sound.{AreSound, IsCollecting, IsStep, IsProgram}
-use Rattle.die_log.specs.Standing.{Runs, Collects}
+use Rattle.die_log.specs.Model.Log.{Log, Job, Carried, jobs, act_of, acts}
+use Rattle.die_log.specs.Model.Flash.{ran_by, Cells, cells, cells_after, Block, block_at}
+use Rattle.die_log.specs.Model.Work.{are_all}
+use Rattle.die_log.specs.Model.Answers.{is_running}
+use Rattle.die_log.specs.Results.Legal.{changed_since, changed_by, is_change_of}
+use Rattle.die_log.specs.Invariants.SoundCells.{AreSoundCells, IsCollecting, IsCellStep, IsProgram}
+use Rattle.die_log.specs.Invariants.RunningCollections.{RunsOnBlock, KeepsCollections}
 use Rattle.die_log.proofs.Cells.Acts.{trimmed_block}
 use Rattle.die_log.proofs.Cells.Collections.{keeps_collecting, other_step}
 use Rattle.die_log.proofs.Standing.Longer.{acts_stay, victim_stays, act_other}
-use Rattle.die_log.specs.Start.{Start}
+use Rattle.die_log.specs.Model.Start.{Start}
 
 -- begun and not done, by the acts
 abbrev pub runs_with : DiePlan → Job → List Act → Bool
@@ -40,7 +40,7 @@ running_stays plan e past j h = ap (runs_with plan j) (acts_stay j.number e past
 
 -- who had no act runs as before
 pub runs_later : (start : Start) (e : Entry) (past : Log) (j : Job) (b : ℕ) → act_of j.number (ran_by e.reply) ≡ None
-    → Contains (jobs (e ∷ past)) j → Runs start past j b → Runs start (e ∷ past) j b
+    → Contains (jobs (e ∷ past)) j → RunsOnBlock start past j b → RunsOnBlock start (e ∷ past) j b
 runs_later start e past j b h in_jobs r = record {
   stands = in_jobs;
   running = running_stays start.plan e past j h ∙ r.running;
@@ -48,7 +48,7 @@ runs_later start e past j b h in_jobs r = record {
 }
 
 pub runs_before : (start : Start) (e : Entry) (past : Log) (j : Job) (b : ℕ) → act_of j.number (ran_by e.reply) ≡ None
-    → Contains (jobs past) j → Runs start (e ∷ past) j b → Runs start past j b
+    → Contains (jobs past) j → RunsOnBlock start (e ∷ past) j b → RunsOnBlock start past j b
 runs_before start e past j b h in_jobs r = record {
   stands = in_jobs;
   running = sym (running_stays start.plan e past j h) ∙ r.running;
@@ -67,13 +67,13 @@ written_none n p r before e = ap (λ (c : Carried). changed_by c n p before) e
 no_act : (n : ℕ) (r : Carried) → r ≡ None → act_of n r ≡ None
 no_act n r e = ap (act_of n) e
 
--- an entry that carried nothing, behind which nobody runs that didn't before
+-- an entry that carried nothing, after which nobody runs that didn't before
 pub quiet : (start : Start) (e : Entry) (past : Log) → ran_by e.reply ≡ None
     → ((j : Job) → Contains (jobs past) j → Contains (jobs (e ∷ past)) j)
     → ((j : Job) → Contains (jobs (e ∷ past)) j → is_running start.plan (e ∷ past) j ≡ true → Contains (jobs past) j)
-    → Collects start past → Collects start (e ∷ past)
+    → KeepsCollections start past → KeepsCollections start (e ∷ past)
 quiet start e past none later before k = record {
-  sound = subst (AreSound start.plan) (sym same) k.sound;
+  sound = subst (AreSoundCells start.plan) (sym same) k.sound;
   shown = λ j h r. let old = k.shown j (before j h r) (sym (running_stays start.plan e past j (no_act j.number _ none)) ∙ r) in
       (old.0, runs_later start e past j old.0 (no_act j.number _ none) h old.1);
   collecting = λ j b r.
@@ -91,10 +91,10 @@ quiet start e past none later before k = record {
     same : cells start (e ∷ past) ≡ cells start past
     same = ap (λ (r : Carried). cells_after start.plan r (cells start past)) none
 
-    back : (j : Job) (b : ℕ) → Runs start (e ∷ past) j b → Runs start past j b
+    back : (j : Job) (b : ℕ) → RunsOnBlock start (e ∷ past) j b → RunsOnBlock start past j b
     back j b r = runs_before start e past j b (no_act j.number _ none) (before j r.stands r.running) r
 
--- Others, behind an act
+-- Others, after an act
 
 written_other : (n m p : ℕ) (act : Act) (before : Bool) → n ≢ m → changed_by (Some (n, act)) m p before ≡ (is_change_of p act || before)
 written_other n m p act before other = rw (ne_eqb n m other) refl
@@ -102,7 +102,7 @@ written_other n m p act before other = rw (ne_eqb n m other) refl
 -- another's act keeps who collects another block
 pub others_collect : (start : Start) (e : Entry) (past : Log) (n : ℕ) (act : Act) (d : Cells) (j : Job) (b : ℕ) → ran_by e.reply
     ≡ Some (n, act) → n ≢ j.number → (act ≡ does.Erase b → ⊥)
-    → IsStep start.plan act (cells start past) d → IsCollecting start.plan (cells start past) (acts j.number past) (λ p. changed_since j.number p past) b
+    → IsCellStep start.plan act (cells start past) d → IsCollecting start.plan (cells start past) (acts j.number past) (λ p. changed_since j.number p past) b
     → IsCollecting start.plan d (acts j.number (e ∷ past)) (λ p. changed_since j.number p (e ∷ past)) b
 others_collect start e past n act d j b ran other not_erased step k =
     collecting_as start.plan d (acts j.number past) (acts j.number (e ∷ past)) (λ p. is_change_of p act || changed_since j.number p past)
@@ -118,7 +118,7 @@ program_erasing plan page o c d b w (inl e) = rw e w.erasing
 program_erasing plan page o c d b w (inr other) = ap (λ (s : Block). s.erasing) (w.others b other)
 
 -- an act that erases no slot of a block leaves its count
-pub erasing_kept : (plan : DiePlan) (act : Act) (c d : Cells) (b : ℕ) → (act ≡ does.Erase b → ⊥) → IsStep plan act c d
+pub erasing_kept : (plan : DiePlan) (act : Act) (c d : Cells) (b : ℕ) → (act ≡ does.Erase b → ⊥) → IsCellStep plan act c d
     → (block_at d b).erasing ≡ (block_at c b).erasing
 erasing_kept plan (does.Read page bytes) c d b not_erased step = ap (λ (x : Cells). (block_at x b).erasing) step
 erasing_kept plan (does.Write page bytes) c d b not_erased step = program_erasing plan page step.0 c d b step.1 (cases_eq b step.0)

@@ -11,10 +11,10 @@ use Rattle.plan_rules.specs.Times.{times_of, Passes}
 use Rattle.plan_rules.specs.Keeping.{KeepsPlan}
 use Rattle.slot_types.specs.Operations.{writes}
 use Rattle.plan_rules.proofs.Moments.{next_job, task_sustained, task_times}
-use Rattle.die_log.specs.Log.{Log, jobs, now}
-use Rattle.die_log.specs.Answers.{IsExact, accepted, refusals, balance}
-use Rattle.die_log.specs.Planned.{IsInTime, told}
-use Rattle.die_log.specs.Supply.{balance_of, hold_of, collections_of, pending_at, IsSupplied, AreStocked}
+use Rattle.die_log.specs.Model.Log.{Log, jobs, now}
+use Rattle.die_log.specs.Model.Answers.{IsExact, reply_if_accepted, refusals, balance}
+use Rattle.die_log.specs.Results.InTime.{IsInTime, events_of_log}
+use Rattle.die_log.specs.Results.Supply.{balance_of, hold_of, collections_of, pending_at, IsSupplied, AreStocked}
 use Rattle.die_log.proofs.Legality.{entry, exact_induction}
 use Rattle.die_log.proofs.Limits.{keeps_limits}
 use Rattle.die_log.proofs.Legal.Exact.{stands_well, well_served, has_slots}
@@ -25,8 +25,8 @@ use Rattle.die_log.proofs.Supply.Waived.{waives_collections}
 use Rattle.die_log.proofs.Supply.Held.{hold_none}
 use Rattle.die_log.proofs.Supply.Following.{Follows, one_further, follows, few_collections, jobs_due, closed_by}
 use Rattle.die_log.proofs.Supply.RunningOn.{never_late}
-use Rattle.die_log.specs.Start.{Start}
-use Rattle.die_log.specs.Opening.{IsOpening}
+use Rattle.die_log.specs.Model.Start.{Start}
+use Rattle.die_log.specs.Model.Opening.{IsOpening}
 
 -- a task is supplied at the times of the plan
 abbrev pub IsSuppliedBy : Start → Times → Log → ℕ → Type 0
@@ -47,32 +47,32 @@ at_start start times bound stocked task lt =
 -- what a job finds when it comes: nothing is held for those before it, which are due
 pub nothing_held : (start : Start) (times : Times) (past : Log) (rest : List Event) (task release due : ℕ) (ops : List Op)
     → IsOpening start → IsExact start past → IsInTime start.plan past → Follows start.plan times past
-    → KeepsPlan start.plan times (told past ++ events.Submit task release due ops ∷ rest) → hold_of start past task ≡ 0
+    → KeepsPlan start.plan times (events_of_log past ++ events.Submit task release due ops ∷ rest) → hold_of start past task ≡ 0
 nothing_held start times past rest task release due ops bound exact in_time f keeps =
     let both = stands_well start bound past exact in
-    let n = next_job start.plan times (told past) rest task release due ops keeps in
+    let n = next_job start.plan times (events_of_log past) rest task release due ops keeps in
     hold_none start past task both.1.true_accounts n.planned.task (well_served start past bound both).numbered
     (waives_collections start bound past exact) in_time (jobs_due start.plan times past rest task release due ops f keeps)
 
 pub supplied : (start : Start) (times : Times) → IsOpening start → Passes start.plan times → AreStocked start times → (log : Log) → IsExact start log → (rest : List Event)
-    → KeepsPlan start.plan times (told log ++ rest) → AreSupplied start times log
+    → KeepsPlan start.plan times (events_of_log log ++ rest) → AreSupplied start times log
 supplied start times bound passes stocked = exact_induction start Q (λ rest keeps. at_start start times bound stocked) step
   where
     Q : Log → Type 0
-    Q log = (rest : List Event) → KeepsPlan start.plan times (told log ++ rest) → AreSupplied start times log
+    Q log = (rest : List Event) → KeepsPlan start.plan times (events_of_log log ++ rest) → AreSupplied start times log
 
     step : (past : Log) (caller : ℕ) (event : Event) → IsExact start past → Q past
-        → AllByRecursion (λ c. c.0 ≡ false) (refusals start past event) → Q (entry caller event (accepted start past event) ∷ past)
+        → AllByRecursion (λ c. c.0 ≡ false) (refusals start past event) → Q (entry caller event (reply_if_accepted start past event) ∷ past)
     step past caller (events.Submit task release due ops) exact ih none rest keeps = λ t lt.
         let event : Event = events.Submit task release due ops in
         let k = one_further start.plan times past event rest keeps in
         let before = ih (event ∷ rest) k in
         let f = follows start times past exact (event ∷ rest) k in
-        let n = next_job start.plan times (told past) rest task release due ops k in
+        let n = next_job start.plan times (events_of_log past) rest task release due ops k in
         let h = (stands_well start bound past exact).1.true_accounts in
         let has : writes ops ≤ balance start past task = ltb-false (balance start past task) (writes ops) none.1.1.1.1.1.1.1.0 in
         elim (cases_eq t task) [
-          | inl same ↦ subst (IsSuppliedBy start times (entry caller event (accepted start past event) ∷ past)) (sym same) (
+          | inl same ↦ subst (IsSuppliedBy start times (entry caller event (reply_if_accepted start past event) ∷ past)) (sym same) (
               submit_supplied start (times_of times task).period (times_of times task).collect_period (times_of times task).writes past
               caller task release due ops h n.planned.task has n.planned.few_writes
               (nothing_held start times past rest task release due ops bound exact
@@ -101,11 +101,11 @@ supplied start times bound passes stocked = exact_induction start Q (λ rest kee
 -- so the balance of a task covers its next job
 pub covers_next : (start : Start) (times : Times) → IsOpening start → Passes start.plan times → AreStocked start times
     → (past : Log) (rest : List Event) (task release due : ℕ) (ops : List Op) → IsExact start past
-    → KeepsPlan start.plan times (told past ++ events.Submit task release due ops ∷ rest) → writes ops ≤ balance_of start past task
+    → KeepsPlan start.plan times (events_of_log past ++ events.Submit task release due ops ∷ rest) → writes ops ≤ balance_of start past task
 covers_next start times bound passes stocked past rest task release due ops exact keeps =
     let event : Event = events.Submit task release due ops in
     let t : TaskTimes = times_of times task in
-    let n = next_job start.plan times (told past) rest task release due ops keeps in
+    let n = next_job start.plan times (events_of_log past) rest task release due ops keeps in
     let f = follows start times past exact (event ∷ rest) keeps in
     let s = task_sustained start.plan times task passes n.planned.task in
     let in_time : IsInTime start.plan past = never_late start times bound passes past exact (event ∷ rest) keeps in

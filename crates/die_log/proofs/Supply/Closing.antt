@@ -8,12 +8,12 @@ use Rattle.slot_types.specs.declared.plans.DiePlan.{DiePlan}
 use Rattle.slot_types.specs.declared.acts.Act.{Act}
 use Rattle.slot_types.specs.declared.acts.Act.TheVariants as does
 use Rattle.slot_types.specs.declared.replies.Waived.{Waived}
-use Rattle.plan_rules.specs.Accounts.{Accounts, settled}
-use Rattle.die_log.specs.Log.{Log, Job, job_at, jobs, acts, waived, is_waived}
-use Rattle.die_log.specs.Work.{are_all, is_copy_program}
-use Rattle.die_log.specs.Accounts.{accounts, after_act, after_waivers}
-use Rattle.die_log.specs.Legal.{is_among, AreWaivers}
-use Rattle.die_log.specs.Held.{is_pending, pending_of, IsTaken, AreTrue}
+use Rattle.plan_rules.specs.Accounts.{Accounts, accounts_after_collection}
+use Rattle.die_log.specs.Model.Log.{Log, Job, job_at, jobs, acts, waived_collections, is_waived}
+use Rattle.die_log.specs.Model.Work.{are_all, is_copy_program}
+use Rattle.die_log.specs.Model.Accounts.{accounts, after_act, after_waivers}
+use Rattle.die_log.specs.Results.Legal.{is_among, AreWaivers}
+use Rattle.die_log.specs.Invariants.TrueAccounts.{is_pending, pending_of, HasTaskAndOps, AreTrueAccounts}
 use Rattle.die_log.proofs.Tokens.Given.{CellsServe}
 use Rattle.die_log.proofs.Tokens.Sums.{one_if, some_pass, all_at}
 use Rattle.die_log.proofs.Tokens.Doing.{act_kind, IsCollectionAct, IsJobAct}
@@ -22,7 +22,7 @@ use Rattle.die_log.proofs.Tokens.Slots.{slot_entry, slot_waives, idle_acts, ran_
 use Rattle.die_log.proofs.Tokens.Turns.{turn_log, stays_pending}
 use Rattle.die_log.proofs.Supply.Gains.{Gains, Fits, agree_fits, gains_then, then_gains, waivers_rise, act_rises, waivers_gain, waivers_fit}
 use Rattle.die_log.proofs.Supply.Gains.{settled_gains}
-use Rattle.die_log.specs.Start.{Start}
+use Rattle.die_log.specs.Model.Start.{Start}
 
 -- Counting
 
@@ -94,8 +94,8 @@ collects_if true d g h = refl
 collects_if false d g h = absurd cc
 
 -- a slot without an act
-pub idle_gains : (start : Start) (past : Log) (caller slot : ℕ) (ws : List Waived) (finished : Option ℕ) (t : ℕ) → AreTrue start past
-    → CellsServe start past → AreWaivers start.plan past (waived past) (accounts start past) ws
+pub idle_gains : (start : Start) (past : Log) (caller slot : ℕ) (ws : List Waived) (finished : Option ℕ) (t : ℕ) → AreTrueAccounts start past
+    → CellsServe start past → AreWaivers start.plan past (waived_collections past) (accounts start past) ws
     → 1 ≤ pending_of start.plan (λ n. acts n past) (is_waived past) (jobs past) t
     → pending_of start.plan (λ n. acts n (slot_entry caller slot ws None finished ∷ past))
     (is_waived (slot_entry caller slot ws None finished ∷ past)) (jobs past) t ≤ 0
@@ -108,7 +108,7 @@ idle_gains start past caller slot ws finished t h c are some none =
     let j : Job = r.0 in
     let is : is_among j.number ws ≡ true = closed_waived start.plan own own' (is_waived past) (is_waived log) (λ n. is_among n ws) (jobs past) t j
     (slot_waives start caller slot ws None finished past c.numbered are) (idle_acts caller slot ws finished past j.number) r.1 in
-    let within : j.task < length start.plan.caps = (all_at (IsTaken start.plan) (jobs past) j.number j h.taken r.1.known).task in
+    let within : j.task < length start.plan.caps = (all_at (HasTaskAndOps start.plan) (jobs past) j.number j h.taken r.1.known).task in
     subst (Gains start.plan (accounts start past) (after_waivers past ws (accounts start past))) r.1.task
     (waivers_gain start.plan past ws (accounts start past) j (agree_fits start.plan (accounts start past) _ _ _ _ h.agree) r.1.known within is)
 
@@ -134,7 +134,7 @@ settles start past ws j (does.CopyRead page) h kind all (inr k) a f = absurd
 settles start past ws j (does.CopyProgram page) h kind all (inr k) a f = absurd
     (true≢false (sym all ∙ stays_pending start past ws j (does.CopyProgram page) h kind refl))
 settles start past ws j (does.Erase block) h kind all (inr k) a f =
-    subst (λ (b : Bool). Gains start.plan a (cond b (settled a j.task (count_by is_copy_program (acts j.number past))) a) j.task) (sym all)
+    subst (λ (b : Bool). Gains start.plan a (cond b (accounts_after_collection a j.task (count_by is_copy_program (acts j.number past))) a) j.task) (sym all)
     (settled_gains start.plan a j.task (count_by is_copy_program (acts j.number past)) f (of_job start past ws j (does.Erase block) h).task)
 
 -- a slot with an act
@@ -174,7 +174,7 @@ turn_gains start past caller slot ws finished j act t h some none =
           let is : is_among i.number ws ≡ true = closed_waived start.plan own own' (is_waived past) (is_waived log) (λ n. is_among n ws)
           (jobs past) t i (slot_waives start caller slot ws (Some (j.number, act)) finished past h.serve.numbered h.waivers)
           (more.other i.number apart) r.1 in
-          let within : i.task < length start.plan.caps = (all_at (IsTaken start.plan) (jobs past) i.number i h.true_before.taken r.1.known).task in
+          let within : i.task < length start.plan.caps = (all_at (HasTaskAndOps start.plan) (jobs past) i.number i h.true_before.taken r.1.known).task in
           subst (Gains start.plan a (after_act start.plan (job_at past j.number) (acts j.number past) act b)) r.1.task (
           gains_then start.plan a b (after_act start.plan (job_at past j.number) (acts j.number past) act b) i.task
           (waivers_gain start.plan past ws a i fits r.1.known within is)

@@ -8,14 +8,14 @@ use Rattle.slot_types.specs.declared.plans.DiePlan.{DiePlan}
 use Rattle.slot_types.specs.declared.acts.Act.{Act}
 use Rattle.slot_types.specs.declared.acts.Act.TheVariants as does
 use Rattle.slot_types.specs.declared.replies.Waived.{Waived}
-use Rattle.plan_rules.specs.Accounts.{Accounts, owned_of, given_of, settled}
+use Rattle.plan_rules.specs.Accounts.{Accounts, owned_of, given_of, accounts_after_collection}
 use Rattle.plan_rules.specs.Accounts as moves
 use Rattle.plan_rules.proofs.Owned.{given_owned, waived_others}
-use Rattle.die_log.specs.Log.{Log, Job, job_at}
-use Rattle.die_log.specs.Work.{are_all, is_copy_program}
-use Rattle.die_log.specs.Accounts.{after_act, after_waiver, after_waivers}
-use Rattle.die_log.specs.Legal.{is_among}
-use Rattle.die_log.specs.Held.{Agree}
+use Rattle.die_log.specs.Model.Log.{Log, Job, job_at}
+use Rattle.die_log.specs.Model.Work.{are_all, is_copy_program}
+use Rattle.die_log.specs.Model.Accounts.{after_act, after_waiver, after_waivers}
+use Rattle.die_log.specs.Results.Legal.{is_among}
+use Rattle.die_log.specs.Invariants.TrueAccounts.{AccountsAgree}
 use Rattle.die_log.proofs.Tokens.Amounts.{added, taken, added_at, length_added}
 
 -- a task has as much in its balance, or more, and holds as much, or less
@@ -82,7 +82,7 @@ waivers_rise past (w ∷ ws) a t =
     let b : Accounts = after_waiver (job_at past w.number) a in
     rises_then a b (after_waivers past ws b) t (waived_rises (job_at past w.number) a t) (waivers_rise past ws b t)
 
-settled_rises : (a : Accounts) (task copied : ℕ) (is_over : Bool) (t : ℕ) → Rises a (cond is_over (settled a task copied) a) t
+settled_rises : (a : Accounts) (task copied : ℕ) (is_over : Bool) (t : ℕ) → Rises a (cond is_over (accounts_after_collection a task copied) a) t
 settled_rises a task copied true t = record { balance = added_more a.balances task (given_of a task) t; hold = omega arith }
 settled_rises a task copied false t = stays a t
 
@@ -105,7 +105,7 @@ pub record Fits (plan : DiePlan) (a : Accounts) : Type 0 where
   pub balances_len : length a.balances ≡ length plan.caps
   pub owned : (task : ℕ) → owned_of a task ≤ get_or plan.caps task 0
 
-pub agree_fits : (plan : DiePlan) (a : Accounts) (held lent : ℕ → ℕ) (owed free : ℕ) → Agree plan a held lent owed free → Fits plan a
+pub agree_fits : (plan : DiePlan) (a : Accounts) (held lent : ℕ → ℕ) (owed free : ℕ) → AccountsAgree plan a held lent owed free → Fits plan a
 agree_fits plan a held lent owed free g = record { plan_is = g.plan_is; balances_len = g.balances_len; owned = g.owned }
 
 -- what is given brings what the task owns to its cap, or alpha pages higher
@@ -129,21 +129,21 @@ given_gain plan a task f h =
     ]
 
 pub waived_gains : (plan : DiePlan) (a : Accounts) (task : ℕ) → Fits plan a → task < length plan.caps
-    → Gains plan a (moves.waived a task) task
+    → Gains plan a (moves.accounts_after_waiver a task) task
 waived_gains plan a task f h = record {
   rises = record { balance = added_more a.balances task (given_of a task) task; hold = omega arith };
   gain = given_gain plan a task f h;
 }
 
 pub settled_gains : (plan : DiePlan) (a : Accounts) (task copied : ℕ) → Fits plan a → task < length plan.caps
-    → Gains plan a (settled a task copied) task
+    → Gains plan a (accounts_after_collection a task copied) task
 settled_gains plan a task copied f h = record {
   rises = record
       { balance = added_more a.balances task (given_of a task) task; hold = omega arith };
   gain = given_gain plan a task f h;
 }
 
-waived_fits : (plan : DiePlan) (a : Accounts) (task : ℕ) → Fits plan a → Fits plan (moves.waived a task)
+waived_fits : (plan : DiePlan) (a : Accounts) (task : ℕ) → Fits plan a → Fits plan (moves.accounts_after_waiver a task)
 waived_fits plan a task f = record {
   plan_is = f.plan_is;
   balances_len = length_added a.balances task (given_of a task) ∙ f.balances_len;
@@ -154,7 +154,7 @@ waived_fits plan a task f = record {
       ];
 }
   where
-    own : owned_of (moves.waived a task) task ≤ get_or plan.caps task 0
+    own : owned_of (moves.accounts_after_waiver a task) task ≤ get_or plan.caps task 0
     own = elim (cases_lt task (length a.balances)) [
       | inl below ↦ omega (arith, grown plan a task f below)
       | inr past ↦ omega (
@@ -181,10 +181,10 @@ waivers_gain plan past [] a j f known within is = absurd cc
 waivers_gain plan past (w ∷ ws) a j f known within is = elim (or_cases (w.number == j.number) (is_among j.number ws) is) [
   | inl here ↦
       let at : job_at past w.number ≡ Some j = ap (job_at past) (eqb-true w.number j.number here) ∙ known in
-      let next : after_waiver (job_at past w.number) a ≡ moves.waived a j.task = ap (λ o. after_waiver o a) at in
+      let next : after_waiver (job_at past w.number) a ≡ moves.accounts_after_waiver a j.task = ap (λ o. after_waiver o a) at in
       subst (λ (b : Accounts). Gains plan a (after_waivers past ws b) j.task) (sym next)
-      (gains_then plan a (moves.waived a j.task) (after_waivers past ws (moves.waived a j.task)) j.task
-      (waived_gains plan a j.task f within) (waivers_rise past ws (moves.waived a j.task) j.task))
+      (gains_then plan a (moves.accounts_after_waiver a j.task) (after_waivers past ws (moves.accounts_after_waiver a j.task)) j.task
+      (waived_gains plan a j.task f within) (waivers_rise past ws (moves.accounts_after_waiver a j.task) j.task))
   | inr later ↦
       let b : Accounts = after_waiver (job_at past w.number) a in
       then_gains plan a b (after_waivers past ws b) j.task (waived_rises (job_at past w.number) a j.task)

@@ -9,17 +9,17 @@ use Rattle.std.proofs.lemmas.Option.{same_Some}
 use Rattle.slot_types.specs.declared.plans.DiePlan.{DiePlan}
 use Rattle.slot_types.specs.declared.acts.Act.{Act}
 use Rattle.slot_types.specs.declared.events.Op.{Op}
-use Rattle.die_log.specs.Log.{Log, Job, jobs, job_at, now, acts, is_waived}
+use Rattle.die_log.specs.Model.Log.{Log, Job, jobs, job_at, now, acts, is_waived}
 use Rattle.slot_types.specs.Operations.{writes}
-use Rattle.die_log.specs.Work.{are_all, is_done, is_erase}
-use Rattle.die_log.specs.Held.{at_task, left_of, is_pending, IsTaken, AreTrue}
-use Rattle.die_log.specs.Planned.{IsInTime}
-use Rattle.die_log.specs.Supply.{hold_of, pending_at, AreDueBy}
+use Rattle.die_log.specs.Model.Work.{are_all, is_done, is_erase}
+use Rattle.die_log.specs.Invariants.TrueAccounts.{at_task, left_of, is_pending, HasTaskAndOps, AreTrueAccounts}
+use Rattle.die_log.specs.Results.InTime.{IsInTime}
+use Rattle.die_log.specs.Results.Supply.{hold_of, pending_at, AreDueBy}
 use Rattle.die_log.proofs.Tokens.Sums.{one_if, all_at}
 use Rattle.die_log.proofs.Tokens.Amounts.{at_other}
 use Rattle.die_log.proofs.Tokens.Taking.{at_none}
 use Rattle.die_log.proofs.Standing.Longer.{contained}
-use Rattle.die_log.specs.Start.{Start}
+use Rattle.die_log.specs.Model.Start.{Start}
 
 pub sum_zero : {X : Type 0} (f : X → ℕ) (xs : List X) → ((k : ℕ) (x : X) → slice_get xs k ≡ Some x → f x ≡ 0) → sum_by f xs ≡ 0
 sum_zero f [] h = refl
@@ -39,7 +39,7 @@ all_done plan j own kind is = by_kind j.collects kind is
     by_kind false k h = eqb-true (length own) (length j.ops) h
 
 -- all jobs of a task that are due are done, so it holds nothing for them
-pub hold_none : (start : Start) (log : Log) (t : ℕ) → AreTrue start log → t < length start.plan.caps
+pub hold_none : (start : Start) (log : Log) (t : ℕ) → AreTrueAccounts start log → t < length start.plan.caps
     → ((k : ℕ) (j : Job) → job_at log k ≡ Some j → j.number ≡ k)
     → ((number : ℕ) → is_waived log number ≡ true → (j : Job) × (job_at log number ≡ Some j) × (j.collects ≡ true))
     → IsInTime start.plan log → AreDueBy (jobs log) t (now log) → hold_of start log t ≡ 0
@@ -57,7 +57,7 @@ hold_none start log t h lt numbered collections in_time due_by =
 
     left : (k : ℕ) (j : Job) → slice_get (jobs log) k ≡ Some j → j.task ≡ t → (b : Bool) → j.collects ≡ b → left_of (λ n. acts n log) j ≡ 0
     left k j e task true kind =
-        let ops : j.ops ≡ [] = (all_at (IsTaken start.plan) (jobs log) k j h.taken e).none kind in
+        let ops : j.ops ≡ [] = (all_at (HasTaskAndOps start.plan) (jobs log) k j h.taken e).none kind in
         ap (λ (l : List Op). writes (drop (length (acts j.number log)) l)) ops ∙ none_left (length (acts j.number log)) [] (omega arith)
     left k j e task false kind = job_left k j e task kind
 

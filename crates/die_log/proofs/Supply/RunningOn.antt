@@ -1,4 +1,4 @@
--- A moment of events that keep a plan lies behind a whole log of such events: those that are left are made after it,
+-- A moment of events that keep a plan lies after a whole log of such events: those that are left are made after it,
 -- refused or not. So what holds at each moment of such logs holds at it.
 use Rattle.std.proofs.Common.{◌≡◌, ◌+◌, ◌≤◌, List, [], ◌∷◌, ◌++◌, Option, Some, None, refl, sym, subst, ◌∙◌, inl, inr, arith, append_assoc}
 use Rattle.std.proofs.lemmas.List.{length_push}
@@ -12,17 +12,17 @@ use Rattle.slot_types.specs.declared.plans.Times.{Times}
 use Rattle.plan_rules.specs.Times.{Passes}
 use Rattle.plan_rules.specs.Keeping.{slots, KeepsPlan}
 use Rattle.plan_rules.proofs.Moments.{slots_append}
-use Rattle.die_log.specs.Log.{Log, carried, now}
-use Rattle.die_log.specs.Answers.{accepted, refusal_of, choice, slot_reply, IsAccepted, IsExact}
-use Rattle.die_log.specs.Planned.{AreEntered, IsInTime, told}
+use Rattle.die_log.specs.Model.Log.{Log, carried_slots, now}
+use Rattle.die_log.specs.Model.Answers.{reply_if_accepted, refusal_of, choice, slot_reply, IsAccepted, IsExact}
+use Rattle.die_log.specs.Results.InTime.{AreEntered, IsInTime, events_of_log}
 use Rattle.die_log.proofs.Legality.{entry, accepted_answer}
 use Rattle.die_log.proofs.Planned.InTime.{planned_in_time}
 use Rattle.die_log.proofs.Planned.Running.{slot_open}
 use Rattle.die_log.proofs.Supply.Following.{follows}
-use Rattle.die_log.specs.Start.{Start}
-use Rattle.die_log.specs.Opening.{IsOpening}
+use Rattle.die_log.specs.Model.Start.{Start}
+use Rattle.die_log.specs.Model.Opening.{IsOpening}
 
--- a log that these events leave behind `past`
+-- a log that these events leave after `past`
 pub record RunsOn (start : Start) (past : Log) (rest : List Event) : Type 0 where
   pub log : Log
   pub later : Log
@@ -55,16 +55,16 @@ without_entry start past event rest is r = record {
 
 -- an event that is accepted
 accepted_on : (start : Start) (past : Log) (event : Event) (rest : List Event) → refusal_of start past event ≡ None
-    → IsAccepted (accepted start past event) → IsExact start past
-    → (IsExact start (entry 0 event (accepted start past event) ∷ past) → RunsOn start (entry 0 event (accepted start past event) ∷ past) rest)
+    → IsAccepted (reply_if_accepted start past event) → IsExact start past
+    → (IsExact start (entry 0 event (reply_if_accepted start past event) ∷ past) → RunsOn start (entry 0 event (reply_if_accepted start past event) ∷ past) rest)
     → RunsOn start past (event ∷ rest)
-accepted_on start past event rest none takes exact further = with_entry start past event rest (accepted start past event)
+accepted_on start past event rest none takes exact further = with_entry start past event rest (reply_if_accepted start past event)
     (further (exact, sym (accepted_answer start past event none), takes))
 
 -- a job or a collection, refused or not
 arrival_on : (start : Start) (past : Log) (event : Event) (rest : List Event) (o : Option Refusal) → IsArrival event
-    → IsAccepted (accepted start past event) → refusal_of start past event ≡ o → IsExact start past
-    → (IsExact start (entry 0 event (accepted start past event) ∷ past) → RunsOn start (entry 0 event (accepted start past event) ∷ past) rest)
+    → IsAccepted (reply_if_accepted start past event) → refusal_of start past event ≡ o → IsExact start past
+    → (IsExact start (entry 0 event (reply_if_accepted start past event) ∷ past) → RunsOn start (entry 0 event (reply_if_accepted start past event) ∷ past) rest)
     → RunsOn start past rest → RunsOn start past (event ∷ rest)
 arrival_on start past event rest None is takes e exact further stays = accepted_on start past event rest e takes exact further
 arrival_on start past event rest (Some refusal) is takes e exact further stays = without_entry start past event rest is stays
@@ -76,17 +76,17 @@ runs_on start past (events.Submit task release due ops ∷ rest) exact le =
     let event : Event = events.Submit task release due ops in
     let fits : now past + slots rest ≤ MAX_SLOT = omega (arith, le, slots_append (event ∷ []) rest) in
     arrival_on start past event rest (refusal_of start past event) tt tt refl exact
-    (λ next. runs_on start (entry 0 event (accepted start past event) ∷ past) rest next fits) (runs_on start past rest exact fits)
+    (λ next. runs_on start (entry 0 event (reply_if_accepted start past event) ∷ past) rest next fits) (runs_on start past rest exact fits)
 runs_on start past (events.Collect task release due ∷ rest) exact le =
     let event : Event = events.Collect task release due in
     let fits : now past + slots rest ≤ MAX_SLOT = omega (arith, le, slots_append (event ∷ []) rest) in
     arrival_on start past event rest (refusal_of start past event) tt tt refl exact
-    (λ next. runs_on start (entry 0 event (accepted start past event) ∷ past) rest next fits) (runs_on start past rest exact fits)
+    (λ next. runs_on start (entry 0 event (reply_if_accepted start past event) ∷ past) rest next fits) (runs_on start past rest exact fits)
 runs_on start past (events.Slot ∷ rest) exact le =
     let one = slots_append (events.Slot ∷ []) rest in
-    let later = length_push (carried past) (slot_reply start past (choice start past).waived (choice start past).head).ran in
+    let later = length_push (carried_slots past) (slot_reply start past (choice start past).waived (choice start past).head).ran in
     accepted_on start past events.Slot rest (slot_open start past (omega (arith, le, one))) tt exact
-    (λ next. runs_on start (entry 0 events.Slot (accepted start past events.Slot) ∷ past) rest next (omega (arith, le, one, later)))
+    (λ next. runs_on start (entry 0 events.Slot (reply_if_accepted start past events.Slot) ∷ past) rest next (omega (arith, le, one, later)))
 
 -- What was entered
 
@@ -95,9 +95,9 @@ entered_append [] ys a b c h k = subst (λ l. AreEntered ys l c) h k
 entered_append (x ∷ xs) ys a b c h k = (h.0, h.1, entered_append xs ys h.0 b c h.2 k)
 
 -- a log's own events leave it
-entered_told : (log : Log) → AreEntered (told log) [] log
+entered_told : (log : Log) → AreEntered (events_of_log log) [] log
 entered_told [] = refl
-entered_told (e ∷ past) = entered_append (told past) (e.event ∷ []) [] past (e ∷ past) (entered_told past) (
+entered_told (e ∷ past) = entered_append (events_of_log past) (e.event ∷ []) [] past (e ∷ past) (entered_told past) (
   e
       ∷ past,
   inl (e.caller, e.reply, refl),
@@ -106,9 +106,9 @@ entered_told (e ∷ past) = entered_append (told past) (e.event ∷ []) [] past 
 
 -- so nothing is late at a moment that events reach unrefused which keep a passing plan
 pub never_late : (start : Start) (times : Times) → IsOpening start → Passes start.plan times → (moment : Log) → IsExact start moment
-    → (rest : List Event) → KeepsPlan start.plan times (told moment ++ rest) → IsInTime start.plan moment
+    → (rest : List Event) → KeepsPlan start.plan times (events_of_log moment ++ rest) → IsInTime start.plan moment
 never_late start times bound passes moment exact rest keeps =
     let f = follows start times moment exact rest keeps in
-    let r = runs_on start moment rest exact (omega (arith, keeps.few_slots, slots_append (told moment) rest, f.clock)) in
-    planned_in_time start times bound passes (told moment ++ rest) keeps r.later moment (subst (IsExact start) r.is r.exact)
-    (subst (AreEntered (told moment ++ rest) []) r.is (entered_append (told moment) rest [] moment r.log (entered_told moment) r.entered))
+    let r = runs_on start moment rest exact (omega (arith, keeps.few_slots, slots_append (events_of_log moment) rest, f.clock)) in
+    planned_in_time start times bound passes (events_of_log moment ++ rest) keeps r.later moment (subst (IsExact start) r.is r.exact)
+    (subst (AreEntered (events_of_log moment ++ rest) []) r.is (entered_append (events_of_log moment) rest [] moment r.log (entered_told moment) r.entered))

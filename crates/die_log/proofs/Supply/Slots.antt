@@ -7,12 +7,12 @@ use Rattle.slot_types.specs.declared.events.Event.TheVariants as events
 use Rattle.slot_types.specs.declared.replies.Reply.TheVariants as replies
 use Rattle.slot_types.specs.declared.replies.Waived.{Waived}
 use Rattle.plan_rules.specs.Accounts.{Accounts}
-use Rattle.die_log.specs.Log.{Log, Job, jobs, job_at, now, carried, acts, waived}
-use Rattle.die_log.specs.Accounts.{accounts, after_act, after_waivers}
-use Rattle.die_log.specs.Answers.{accepted, choice, slot_reply, reply_with, act_for}
-use Rattle.die_log.specs.Legal.{AreWaivers}
-use Rattle.die_log.specs.Held.{AreTrue}
-use Rattle.die_log.specs.Supply.{balance_of, hold_of, collections_of, pending_at, IsSupplied}
+use Rattle.die_log.specs.Model.Log.{Log, Job, jobs, job_at, now, carried_slots, acts, waived_collections}
+use Rattle.die_log.specs.Model.Accounts.{accounts, after_act, after_waivers}
+use Rattle.die_log.specs.Model.Answers.{reply_if_accepted, choice, slot_reply, reply_with, act_for}
+use Rattle.die_log.specs.Results.Legal.{AreWaivers}
+use Rattle.die_log.specs.Invariants.TrueAccounts.{AreTrueAccounts}
+use Rattle.die_log.specs.Results.Supply.{balance_of, hold_of, collections_of, pending_at, IsSupplied}
 use Rattle.die_log.proofs.Legality.{entry}
 use Rattle.die_log.proofs.Tokens.Given.{CellsServe}
 use Rattle.die_log.proofs.Tokens.Waivers.{Waits, choice_is}
@@ -21,24 +21,24 @@ use Rattle.die_log.proofs.Tokens.Whole.{all_known}
 use Rattle.die_log.proofs.Supply.Gains.{Rises, Gains, rises_then, waivers_rise, act_rises}
 use Rattle.die_log.proofs.Supply.Closing.{idle_gains, turn_gains}
 use Rattle.die_log.proofs.Supply.Amounts.{kept, given, filled}
-use Rattle.die_log.specs.Start.{Start}
+use Rattle.die_log.specs.Model.Start.{Start}
 
 -- the task's balance isn't less, nor its hold more; and where its pending collection was closed, it gained
 pub record Leaves (start : Start) (past log : Log) (task : ℕ) : Type 0 where
   pub rises : Rises (accounts start past) (accounts start log) task
   pub gains : 1 ≤ pending_at start.plan past task → pending_at start.plan log task ≤ 0 → Gains start.plan (accounts start past) (accounts start log) task
 
-leaves_idle : (start : Start) (past : Log) (caller slot : ℕ) (ws : List Waived) (finished : Option ℕ) (t : ℕ) → AreTrue start past
-    → CellsServe start past → AreWaivers start.plan past (waived past) (accounts start past) ws
+leaves_idle : (start : Start) (past : Log) (caller slot : ℕ) (ws : List Waived) (finished : Option ℕ) (t : ℕ) → AreTrueAccounts start past
+    → CellsServe start past → AreWaivers start.plan past (waived_collections past) (accounts start past) ws
     → Leaves start past (slot_entry caller slot ws None finished ∷ past) t
 leaves_idle start past caller slot ws finished t h c are = record {
   rises = waivers_rise past ws (accounts start past) t;
   gains = idle_gains start past caller slot ws finished t h c are;
 }
 
-leaves_act : (start : Start) (past : Log) (caller : ℕ) (ws : List Waived) (j : Job) (o : Option Act) (t : ℕ) → AreTrue start past
-    → CellsServe start past → AreWaivers start.plan past (waived past) (accounts start past) ws
-    → Waits start.plan past (waived past ++ ws) j → act_for start past j ≡ o
+leaves_act : (start : Start) (past : Log) (caller : ℕ) (ws : List Waived) (j : Job) (o : Option Act) (t : ℕ) → AreTrueAccounts start past
+    → CellsServe start past → AreWaivers start.plan past (waived_collections past) (accounts start past) ws
+    → Waits start.plan past (waived_collections past ++ ws) j → act_for start past j ≡ o
     → Leaves start past (entry caller events.Slot (replies.Slot (reply_with start.plan past ws j o)) ∷ past) t
 leaves_act start past caller ws j None t h c are waits e = leaves_idle start past caller (now past) ws None t h c are
 leaves_act start past caller ws j (Some act) t h c are waits e =
@@ -51,28 +51,28 @@ leaves_act start past caller ws j (Some act) t h c are waits e =
           (record { true_before = h; serve = c; waivers = are; waits = waits; does_it = e });
     }
 
-leaves_head : (start : Start) (past : Log) (caller : ℕ) (ws : List Waived) (o : Option Job) (t : ℕ) → AreTrue start past
-    → CellsServe start past → AreWaivers start.plan past (waived past) (accounts start past) ws
-    → MatchOption o (Unit {0}) (λ j. Waits start.plan past (waived past ++ ws) j)
+leaves_head : (start : Start) (past : Log) (caller : ℕ) (ws : List Waived) (o : Option Job) (t : ℕ) → AreTrueAccounts start past
+    → CellsServe start past → AreWaivers start.plan past (waived_collections past) (accounts start past) ws
+    → MatchOption o (Unit {0}) (λ j. Waits start.plan past (waived_collections past ++ ws) j)
     → Leaves start past (entry caller events.Slot (replies.Slot (slot_reply start past ws o)) ∷ past) t
 leaves_head start past caller ws None t h c are waits = leaves_idle start past caller (now past) ws None t h c are
 leaves_head start past caller ws (Some j) t h c are waits = leaves_act start past caller ws j (act_for start past j) t h c are waits refl
 
-pub slot_leaves : (start : Start) (past : Log) (caller : ℕ) (t : ℕ) → AreTrue start past → CellsServe start past
-    → Leaves start past (entry caller events.Slot (accepted start past events.Slot) ∷ past) t
+pub slot_leaves : (start : Start) (past : Log) (caller : ℕ) (t : ℕ) → AreTrueAccounts start past → CellsServe start past
+    → Leaves start past (entry caller events.Slot (reply_if_accepted start past events.Slot) ∷ past) t
 slot_leaves start past caller t h c =
     let is = choice_is start past (all_known past c.numbered) in
     leaves_head start past caller (choice start past).waived (choice start past).head t h c is.waivers is.head
 
 -- a slot keeps a task supplied of which not too many collections have come: a gift of alpha pages makes up for the
 -- collection that is closed, and one that fills up to the cap leaves nothing to make up for
-pub slot_supplied : (start : Start) (p q w : ℕ) (past : Log) (caller : ℕ) (t : ℕ) → AreTrue start past → CellsServe start past → w * q
+pub slot_supplied : (start : Start) (p q w : ℕ) (past : Log) (caller : ℕ) (t : ℕ) → AreTrueAccounts start past → CellsServe start past → w * q
     ≤ start.plan.alpha * p → q * collections_of (jobs past) t ≤ now past + q
-    → IsSupplied start p q w past t → IsSupplied start p q w (entry caller events.Slot (accepted start past events.Slot) ∷ past) t
+    → IsSupplied start p q w past t → IsSupplied start p q w (entry caller events.Slot (reply_if_accepted start past events.Slot) ∷ past) t
 slot_supplied start p q w past caller t h c regained few s =
-    let log : Log = entry caller events.Slot (accepted start past events.Slot) ∷ past in
+    let log : Log = entry caller events.Slot (reply_if_accepted start past events.Slot) ∷ past in
     let l = slot_leaves start past caller t h c in
-    let later : now log ≡ now past + 1 = length_push (carried past)
+    let later : now log ≡ now past + 1 = length_push (carried_slots past)
     (slot_reply start past (choice start past).waived (choice start past).head).ran in
     let one : pending_at start.plan past t ≤ 1 = h.one_each t in
     record {

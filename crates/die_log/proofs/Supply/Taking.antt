@@ -8,19 +8,19 @@ use Rattle.slot_types.specs.declared.acts.Act.{Act}
 use Rattle.slot_types.specs.declared.events.Op.{Op}
 use Rattle.slot_types.specs.declared.events.Event.TheVariants as events
 use Rattle.plan_rules.specs.Accounts.{Accounts}
-use Rattle.die_log.specs.Log.{Log, Job, jobs, now, acts, is_waived}
+use Rattle.die_log.specs.Model.Log.{Log, Job, jobs, now, acts, is_waived}
 use Rattle.slot_types.specs.Operations.{writes}
-use Rattle.die_log.specs.Work.{are_all}
-use Rattle.die_log.specs.Accounts.{accounts}
-use Rattle.die_log.specs.Answers.{IsExact, accepted}
-use Rattle.die_log.specs.Held.{is_pending, AreTrue}
-use Rattle.die_log.specs.Supply.{balance_of, hold_of, collections_of, pending_at, AreDueBy, IsSupplied}
+use Rattle.die_log.specs.Model.Work.{are_all}
+use Rattle.die_log.specs.Model.Accounts.{accounts}
+use Rattle.die_log.specs.Model.Answers.{IsExact, reply_if_accepted}
+use Rattle.die_log.specs.Invariants.TrueAccounts.{is_pending, AreTrueAccounts}
+use Rattle.die_log.specs.Results.Supply.{balance_of, hold_of, collections_of, pending_at, AreDueBy, IsSupplied}
 use Rattle.die_log.proofs.Legality.{entry}
 use Rattle.die_log.proofs.Collecting.{no_acts, not_waived}
 use Rattle.die_log.proofs.Tokens.Amounts.{at_itself, at_other, added_at, taken_at}
 use Rattle.die_log.proofs.Tokens.Sums.{one_if}
 use Rattle.die_log.proofs.Supply.Amounts.{kept, taken, opened}
-use Rattle.die_log.specs.Start.{Start}
+use Rattle.die_log.specs.Model.Start.{Start}
 
 -- the jobs before the last one are due by the slot by which all are
 fewer_due : (js : List Job) (j : Job) (t slot : ℕ) → AreDueBy (js ++ j ∷ []) t slot → AreDueBy js t slot
@@ -53,7 +53,7 @@ same_collections past task release due ops t = omega (
 )
 
 same_pending : (start : Start) (past : Log) (caller task release due : ℕ) (ops : List Op) (t : ℕ)
-    → pending_at start.plan (entry caller (events.Submit task release due ops) (accepted start past (events.Submit task release due ops)) ∷ past) t
+    → pending_at start.plan (entry caller (events.Submit task release due ops) (reply_if_accepted start past (events.Submit task release due ops)) ∷ past) t
     ≡ pending_at start.plan past t
 same_pending start past caller task release due ops t =
     omega (
@@ -65,11 +65,11 @@ same_pending start past caller task release due ops t =
 
 -- a job of another task
 pub other_submit_supplied : (start : Start) (p q w : ℕ) (past : Log) (caller task release due : ℕ) (ops : List Op) (t : ℕ)
-    → AreTrue start past → task < length start.plan.caps → writes ops ≤ balance_of start past task
+    → AreTrueAccounts start past → task < length start.plan.caps → writes ops ≤ balance_of start past task
     → (t ≡ task → ⊥) → IsSupplied start p q w past t → IsSupplied start p q w
-    (entry caller (events.Submit task release due ops) (accepted start past (events.Submit task release due ops)) ∷ past) t
+    (entry caller (events.Submit task release due ops) (reply_if_accepted start past (events.Submit task release due ops)) ∷ past) t
 other_submit_supplied start p q w past caller task release due ops t h within has apart s =
-    let log : Log = entry caller (events.Submit task release due ops) (accepted start past (events.Submit task release due ops)) ∷ past in
+    let log : Log = entry caller (events.Submit task release due ops) (reply_if_accepted start past (events.Submit task release due ops)) ∷ past in
     let a : Accounts = accounts start past in
     let b : task < length a.balances = omega (arith, h.agree.balances_len, within) in
     let d : task < length a.holds = omega (arith, h.agree.holds_len, within) in
@@ -88,13 +88,13 @@ other_submit_supplied start p q w past caller task release due ops t h within ha
     }
 
 -- a job of the task itself, a period after its last one, when nothing is held any longer
-pub submit_supplied : (start : Start) (p q w : ℕ) (past : Log) (caller task release due : ℕ) (ops : List Op) → AreTrue start past → task
+pub submit_supplied : (start : Start) (p q w : ℕ) (past : Log) (caller task release due : ℕ) (ops : List Op) → AreTrueAccounts start past → task
     < length start.plan.caps → writes ops ≤ balance_of start past task
     → writes ops ≤ w → hold_of start past task ≡ 0 → AreDueBy (jobs past) task (now past) → due ≡ now past + p
     → IsSupplied start p q w past task → IsSupplied start p q w
-    (entry caller (events.Submit task release due ops) (accepted start past (events.Submit task release due ops)) ∷ past) task
+    (entry caller (events.Submit task release due ops) (reply_if_accepted start past (events.Submit task release due ops)) ∷ past) task
 submit_supplied start p q w past caller task release due ops h within has few none dues due_is s =
-    let log : Log = entry caller (events.Submit task release due ops) (accepted start past (events.Submit task release due ops)) ∷ past in
+    let log : Log = entry caller (events.Submit task release due ops) (reply_if_accepted start past (events.Submit task release due ops)) ∷ past in
     let a : Accounts = accounts start past in
     let b : task < length a.balances = omega (arith, h.agree.balances_len, within) in
     let d : task < length a.holds = omega (arith, h.agree.holds_len, within) in
@@ -149,9 +149,9 @@ with_true false = refl
 pub collect_supplied : (start : Start) (p q w : ℕ) (past : Log) (caller task release due : ℕ) (t : ℕ) → IsExact start past → 0
     < start.plan.shape.erase_slots
     → IsSupplied start p q w past t → IsSupplied start p q w
-    (entry caller (events.Collect task release due) (accepted start past (events.Collect task release due)) ∷ past) t
+    (entry caller (events.Collect task release due) (reply_if_accepted start past (events.Collect task release due)) ∷ past) t
 collect_supplied start p q w past caller task release due t exact some s =
-    let log : Log = entry caller (events.Collect task release due) (accepted start past (events.Collect task release due)) ∷ past in
+    let log : Log = entry caller (events.Collect task release due) (reply_if_accepted start past (events.Collect task release due)) ∷ past in
     let j : Job = collection_of past task release due in
     let count : collections_of (jobs past ++ j ∷ []) t ≡ collections_of (jobs past) t + one_if (task == t) = sum_by_push
     (λ i. one_if (i.collects && (i.task == t))) (jobs past) j in
@@ -170,11 +170,11 @@ collect_supplied start p q w past caller task release due t exact some s =
         → p * slice_index start.plan.caps t + w * q * collections_of (jobs past) t
         ≤ p * balance_of start past t + p * w + w * q + w * next + w * q * pending_at start.plan past t
         → collections_of (jobs past ++ collection_of past task release due ∷ []) t ≡ collections_of (jobs past) t + one_if b
-        → pending_at start.plan (entry caller (events.Collect task release due) (accepted start past (events.Collect task release due)) ∷ past) t
+        → pending_at start.plan (entry caller (events.Collect task release due) (reply_if_accepted start past (events.Collect task release due)) ∷ past) t
         ≡ pending_at start.plan past t + one_if b
         → p * slice_index start.plan.caps t + w * q * collections_of (jobs past ++ collection_of past task release due ∷ []) t
         ≤ p * balance_of start past t + p * w + w * q + w * next + w * q * pending_at start.plan
-        (entry caller (events.Collect task release due) (accepted start past (events.Collect task release due)) ∷ past) t
+        (entry caller (events.Collect task release due) (reply_if_accepted start past (events.Collect task release due)) ∷ past) t
     by_task true next before count pend =
         rw count (opened p w (w * q) (slice_index start.plan.caps t) (balance_of start past t) (collections_of (jobs past) t) next
         (pending_at start.plan past t) _ before (omega (arith, pend)))

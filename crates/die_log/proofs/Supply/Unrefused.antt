@@ -18,22 +18,22 @@ use Rattle.plan_rules.specs.Times.{times_of, Passes}
 use Rattle.plan_rules.specs.Keeping.{arrivals, KeepsPlan}
 use Rattle.plan_rules.proofs.Moments.{next_job, next_collection, next_slot, next_fits, at_multiple, task_times}
 use Rattle.slot_types.specs.Operations.{writes, page_of}
-use Rattle.die_log.specs.Log.{Log, Job, jobs, now, is_waived}
-use Rattle.die_log.specs.Work.{is_done, is_collecting}
-use Rattle.die_log.specs.Answers.{bad_page, first_standing, refusals, refusal_of, accepted, answer, IsAccepted, IsExact, with_answer}
-use Rattle.die_log.specs.Answers.{after_call}
-use Rattle.die_log.specs.Planned.{IsInTime, told, AreAccepted}
-use Rattle.die_log.specs.Supply.{collections_of, AreStocked}
+use Rattle.die_log.specs.Model.Log.{Log, Job, jobs, now, is_waived}
+use Rattle.die_log.specs.Model.Work.{is_done, is_collecting}
+use Rattle.die_log.specs.Model.Answers.{bad_page, first_that_holds, refusals, refusal_of, reply_if_accepted, answer, IsAccepted, IsExact, with_answer}
+use Rattle.die_log.specs.Model.Answers.{after_call}
+use Rattle.die_log.specs.Results.InTime.{IsInTime, events_of_log, AreAccepted}
+use Rattle.die_log.specs.Results.Supply.{collections_of, AreStocked}
 use Rattle.die_log.proofs.Legality.{entry, accepted_answer}
 use Rattle.die_log.proofs.Runs.{call_exact}
 use Rattle.die_log.proofs.Supply.Following.{Follows, arrival_of, follows, collections_are, collections_due}
 use Rattle.die_log.proofs.Supply.RunningOn.{never_late}
 use Rattle.die_log.proofs.Supply.Along.{covers_next}
-use Rattle.die_log.specs.Start.{Start}
-use Rattle.die_log.specs.Opening.{IsOpening}
+use Rattle.die_log.specs.Model.Start.{Start}
+use Rattle.die_log.specs.Model.Opening.{IsOpening}
 
 -- where each condition is false, none stands
-none_stand : (cs : List (Bool × Refusal)) → AllByRecursion (λ c. c.0 ≡ false) cs → first_standing cs ≡ None
+none_stand : (cs : List (Bool × Refusal)) → AllByRecursion (λ c. c.0 ≡ false) cs → first_that_holds cs ≡ None
 none_stand [] h = refl
 none_stand ((true, r) ∷ cs) h = absurd (true≢false h.0)
 none_stand ((false, r) ∷ cs) h = none_stand cs h.1
@@ -62,7 +62,7 @@ length_mapped : {X Y : Type 0} (f : X → Y) (xs : List X) → length (map f xs)
 length_mapped f [] = refl
 length_mapped f (x ∷ xs) = omega (arith, length_mapped f xs)
 
-few_jobs : (plan : DiePlan) (times : Times) (past : Log) → Follows plan times past → length (arrivals 0 (told past)) < MAX_JOBS
+few_jobs : (plan : DiePlan) (times : Times) (past : Log) → Follows plan times past → length (arrivals 0 (events_of_log past)) < MAX_JOBS
     → nat_le MAX_JOBS (length (jobs past)) ≡ false
 few_jobs plan times past f h = lt-leb MAX_JOBS (length (jobs past))
     (omega (arith, h, ap length f.came, length_mapped arrival_of (jobs past)))
@@ -98,10 +98,10 @@ not_busy plan times past task f lt in_time multiple = none_found (λ j. j.collec
 -- Events
 
 pub unrefused : (start : Start) (times : Times) → IsOpening start → Passes start.plan times → AreStocked start times → (past : Log) (event : Event) (rest : List Event)
-    → IsExact start past → KeepsPlan start.plan times (told past ++ event ∷ rest)
+    → IsExact start past → KeepsPlan start.plan times (events_of_log past ++ event ∷ rest)
     → refusal_of start past event ≡ None
 unrefused start times bound passes stocked past (events.Submit task release due ops) rest exact keeps =
-    let n = (next_job start.plan times (told past) rest task release due ops keeps).planned in
+    let n = (next_job start.plan times (events_of_log past) rest task release due ops keeps).planned in
     let f = follows start times past exact (events.Submit task release due ops ∷ rest) keeps in
     let t = task_times start.plan times task passes.timed n.task in
     none_stand (refusals start past (events.Submit task release due ops)) (
@@ -117,7 +117,7 @@ unrefused start times bound passes stocked past (events.Submit task release due 
               (
                 dates_fit release due (omega (arith, n.due, t.some_period)) n.due_limit,
                 (
-                  few_jobs start.plan times past f (next_fits start.plan times (told past) rest _ _ (events.Submit task release due ops) keeps refl),
+                  few_jobs start.plan times past f (next_fits start.plan times (events_of_log past) rest _ _ (events.Submit task release due ops) keeps refl),
                   (
                     not_above _ (writes ops) (covers_next start times bound passes stocked past rest task release due ops exact keeps),
                     tt,
@@ -130,12 +130,12 @@ unrefused start times bound passes stocked past (events.Submit task release due 
       ),
     )
 unrefused start times bound passes stocked past (events.Collect task release due) rest exact keeps =
-    let n = next_collection start.plan times (told past) rest task release due keeps in
+    let n = next_collection start.plan times (events_of_log past) rest task release due keeps in
     let f = follows start times past exact (events.Collect task release due ∷ rest) keeps in
     let t = task_times start.plan times task passes.timed n.task in
     let q : ℕ = (times_of times task).collect_period in
     let multiple : now past ≡ q * collections_of (jobs past) task = sym f.clock
-    ∙ ((at_multiple start.plan times (told past) rest task release due keeps (f.paced task n.task)).0
+    ∙ ((at_multiple start.plan times (events_of_log past) rest task release due keeps (f.paced task n.task)).0
     ∙ ap (λ m. q * m) (collections_are start.plan times past task f)) in
     none_stand (refusals start past (events.Collect task release due)) (
       lt-leb (length start.plan.caps) task n.task,
@@ -147,7 +147,7 @@ unrefused start times bound passes stocked past (events.Collect task release due
             not_busy start.plan times past task f n.task (never_late start times bound passes past exact (events.Collect task release due ∷ rest)
                 keeps) multiple,
             (
-              few_jobs start.plan times past f (next_fits start.plan times (told past) rest _ _ (events.Collect task release due) keeps refl),
+              few_jobs start.plan times past f (next_fits start.plan times (events_of_log past) rest _ _ (events.Collect task release due) keeps refl),
               tt,
             ),
           ),
@@ -158,32 +158,32 @@ unrefused start times bound passes stocked past events.Slot rest exact keeps =
     let f = follows start times past exact (events.Slot ∷ rest) keeps in
     none_stand (refusals start past events.Slot) (
       lt-leb MAX_SLOT (now past)
-          (omega (arith, next_slot start.plan times (told past) rest keeps, f.clock)),
+          (omega (arith, next_slot start.plan times (events_of_log past) rest keeps, f.clock)),
       tt,
     )
 
 -- Runs
 
 -- an accepted event is answered by no refusal, and is an entry of the log
-pub entered : (start : Start) (past : Log) (caller : ℕ) (event : Event) → IsAccepted (accepted start past event)
-    × (with_answer caller event (accepted start past event) past ≡ entry caller event (accepted start past event) ∷ past)
+pub entered : (start : Start) (past : Log) (caller : ℕ) (event : Event) → IsAccepted (reply_if_accepted start past event)
+    × (with_answer caller event (reply_if_accepted start past event) past ≡ entry caller event (reply_if_accepted start past event) ∷ past)
 entered start past caller (events.Submit task release due ops) = (tt, refl)
 entered start past caller (events.Collect task release due) = (tt, refl)
 entered start past caller events.Slot = (tt, refl)
 
 -- none of the events that keep the plan is refused, from any moment on
 pub run_accepted : (start : Start) (times : Times) → IsOpening start → Passes start.plan times → AreStocked start times → (past : Log) (calls : List (ℕ × Event))
-    → IsExact start past → KeepsPlan start.plan times (told past ++ map (λ call. call.1) calls)
+    → IsExact start past → KeepsPlan start.plan times (events_of_log past ++ map (λ call. call.1) calls)
     → AreAccepted start past calls
 run_accepted start times bound passes stocked past [] exact keeps = tt
 run_accepted start times bound passes stocked past (call ∷ calls) exact keeps =
-    let is : answer start past call.1 ≡ accepted start past call.1 = accepted_answer start past call.1
+    let is : answer start past call.1 ≡ reply_if_accepted start past call.1 = accepted_answer start past call.1
     (unrefused start times bound passes stocked past call.1 (map (λ c. c.1) calls) exact keeps) in
     let more = entered start past call.0 call.1 in
-    let next : after_call start past call ≡ entry call.0 call.1 (accepted start past call.1)
+    let next : after_call start past call ≡ entry call.0 call.1 (reply_if_accepted start past call.1)
     ∷ past = ap (λ r. with_answer call.0 call.1 r past) is ∙ more.1 in (
       subst IsAccepted (sym is) more.0,
       run_accepted start times bound passes stocked (after_call start past call) calls (call_exact start past call exact)
-          (subst (λ l. KeepsPlan start.plan times (told l ++ map (λ c. c.1) calls)) (sym next)
-          (subst (KeepsPlan start.plan times) (sym (append_assoc (told past) (call.1 ∷ []) (map (λ c. c.1) calls))) keeps)),
+          (subst (λ l. KeepsPlan start.plan times (events_of_log l ++ map (λ c. c.1) calls)) (sym next)
+          (subst (KeepsPlan start.plan times) (sym (append_assoc (events_of_log past) (call.1 ∷ []) (map (λ c. c.1) calls))) keeps)),
     )

@@ -4,7 +4,7 @@ use Rattle.std.proofs.Common.{inr, ap, refl, arith}
 use Rattle.std.proofs.lemmas.Bool.{cases_eq, eq-eqb, ne_eqb}
 use Rattle.std.proofs.lemmas.List.{length-set, get_or-set_same, get_or-set_other}
 use Rattle.std.proofs.lemmas.List.Sums.{sum_by-set, sum_by-cons, get_or-le-sum_by}
-use Rattle.die_log.specs.Held.{at_task}
+use Rattle.die_log.specs.Invariants.TrueAccounts.{at_task}
 
 abbrev pub added : List ℕ → ℕ → ℕ → List ℕ
 added amounts task n = slice_set amounts task (slice_index amounts task + n)

@@ -7,10 +7,10 @@ use Rattle.std.proofs.lemmas.List.Sums.{sum_by-drop_more}
 use Rattle.slot_types.specs.declared.plans.DiePlan.{DiePlan}
 use Rattle.slot_types.specs.declared.acts.Act.{Act}
 use Rattle.slot_types.specs.declared.events.Op.{Op}
-use Rattle.die_log.specs.Log.{Job}
+use Rattle.die_log.specs.Model.Log.{Job}
 use Rattle.slot_types.specs.Operations.{is_write, writes}
-use Rattle.die_log.specs.Work.{are_all, is_copy_program}
-use Rattle.die_log.specs.Held.{at_task, left_of, held_of, is_pending, lent_of, lent_to, pending_of}
+use Rattle.die_log.specs.Model.Work.{are_all, is_copy_program}
+use Rattle.die_log.specs.Invariants.TrueAccounts.{at_task, left_of, held_of, is_pending, lent_of, lent_to, pending_of}
 use Rattle.die_log.proofs.Tokens.Sums.{one_if, some_if, sum_at, le_at, held_at, lent_same, lent_at}
 
 -- Of all that waivers touch, no act was carried

@@ -10,9 +10,9 @@ use Rattle.slot_types.specs.declared.plans.DiePlan.{DiePlan}
 use Rattle.slot_types.specs.declared.pages.Place.{Place}
 use Rattle.slot_types.specs.declared.acts.Act.{Act}
 use Rattle.slot_types.specs.declared.acts.Act.TheVariants as does
-use Rattle.die_log.specs.Flash.{Cells, block_at, block_of_page, valid, valid_pages, programmed, programmed_in, open_block}
-use Rattle.die_log.specs.Answers.{collect_act, read_or_erase, is_placed_in, is_block}
-use Rattle.die_log.specs.Sound.{AreSound, TakesNext}
+use Rattle.die_log.specs.Model.Flash.{Cells, block_at, block_of_page, valid, valid_pages, cells_after_program, cells_after_program_in, open_block}
+use Rattle.die_log.specs.Model.Answers.{collect_act, read_or_erase, is_placed_in, is_block}
+use Rattle.die_log.specs.Invariants.SoundCells.{AreSoundCells, TakesNext}
 use Rattle.die_log.proofs.Tokens.Sums.{one_if, some_pass}
 use Rattle.die_log.proofs.Cells.Steps.{open_is}
 
@@ -35,21 +35,21 @@ set_less xs page b old new e was out =
 pub other_block : (plan : DiePlan) (c : Cells) (o b : ℕ) → TakesNext plan c o → (block_at c b).filled ≡ plan.shape.pages → (o == b) ≡ false
 other_block plan c o b at closed = ne_eqb o b (λ e. absurd (omega (arith, at.room, closed, ap (λ n. (block_at c n).filled) e)))
 
-pub program_by : (plan : DiePlan) (c : Cells) (page b : ℕ) (o : Option ℕ) → 0 < plan.shape.pages → AreSound plan c → (block_at c b).filled
-    ≡ plan.shape.pages → open_block plan c ≡ o → valid (programmed_in page o c) b ≤ valid c b
+pub program_by : (plan : DiePlan) (c : Cells) (page b : ℕ) (o : Option ℕ) → 0 < plan.shape.pages → AreSoundCells plan c → (block_at c b).filled
+    ≡ plan.shape.pages → open_block plan c ≡ o → valid (cells_after_program_in page o c) b ≤ valid c b
 program_by plan c page b None some whole closed e = omega arith
 program_by plan c page b (Some o) some whole closed e = set_fewer c.places page b
     (Some (record { block = o; page = (block_at c o).filled })) (other_block plan c o b (open_is plan c o some whole e) closed)
 
 -- a program places no page in a closed block
-pub program_elsewhere : (plan : DiePlan) (c : Cells) (page b : ℕ) → 0 < plan.shape.pages → AreSound plan c → (block_at c b).filled
-    ≡ plan.shape.pages → valid (programmed plan page c) b ≤ valid c b
+pub program_elsewhere : (plan : DiePlan) (c : Cells) (page b : ℕ) → 0 < plan.shape.pages → AreSoundCells plan c → (block_at c b).filled
+    ≡ plan.shape.pages → valid (cells_after_program plan page c) b ≤ valid c b
 program_elsewhere plan c page b some whole closed = program_by plan c page b (open_block plan c) some whole closed refl
 
 -- and takes its page out of it
-pub program_away : (plan : DiePlan) (c : Cells) (page b o : ℕ) (old : Option Place) → 0 < plan.shape.pages → AreSound plan c
+pub program_away : (plan : DiePlan) (c : Cells) (page b o : ℕ) (old : Option Place) → 0 < plan.shape.pages → AreSoundCells plan c
     → (block_at c b).filled ≡ plan.shape.pages → open_block plan c ≡ Some o
-    → slice_get c.places page ≡ Some old → is_in b old ≡ true → valid (programmed plan page c) b + 1 ≤ valid c b
+    → slice_get c.places page ≡ Some old → is_in b old ≡ true → valid (cells_after_program plan page c) b + 1 ≤ valid c b
 program_away plan c page b o old some whole closed e stands was =
     rw e (set_less c.places page b old (Some (record { block = o; page = (block_at c o).filled })) stands was
     (other_block plan c o b (open_is plan c o some whole e) closed))

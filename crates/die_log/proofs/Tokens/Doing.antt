@@ -7,11 +7,11 @@ use Rattle.slot_types.specs.declared.acts.Act.{Act}
 use Rattle.slot_types.specs.declared.acts.Act.TheVariants as does
 use Rattle.slot_types.specs.declared.events.Op.{Op}
 use Rattle.slot_types.specs.declared.events.Op.TheVariants as asks
-use Rattle.die_log.specs.Log.{Log, Job, acts, work}
-use Rattle.die_log.specs.Flash.{Cells, cells, valid_pages, content}
-use Rattle.die_log.specs.Answers.{act_for, act_of_op, collect_act, read_or_erase, is_placed_in, buffer_after, block_for}
-use Rattle.die_log.specs.Legal.{Does}
-use Rattle.die_log.specs.Start.{Start}
+use Rattle.die_log.specs.Model.Log.{Log, Job, acts, work}
+use Rattle.die_log.specs.Model.Flash.{Cells, cells, valid_pages, content}
+use Rattle.die_log.specs.Model.Answers.{act_for, act_of_op, collect_act, read_or_erase, is_placed_in, buffer_after, block_for}
+use Rattle.die_log.specs.Results.Legal.{Does}
+use Rattle.die_log.specs.Model.Start.{Start}
 
 -- an act of a collection
 abbrev pub IsOfCollection : Act → Type 0

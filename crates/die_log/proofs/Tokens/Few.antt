@@ -12,15 +12,15 @@ use Rattle.slot_types.specs.declared.pages.Place.{Place}
 use Rattle.slot_types.specs.declared.acts.Act.{Act}
 use Rattle.slot_types.specs.declared.acts.Act.TheVariants as does
 use Rattle.slot_types.specs.declared.replies.Waived.{Waived}
-use Rattle.die_log.specs.Log.{Log, Job, job_at, acts, act_of, is_waived, work}
-use Rattle.die_log.specs.Flash.{Cells, cells, valid, valid_pages, block_at}
-use Rattle.die_log.specs.Work.{are_all, is_ready, is_copy_program, victim_of, shown_by, block_shown}
-use Rattle.die_log.specs.Accounts.{accounts, after_waivers}
-use Rattle.die_log.specs.Held.{reserve_full}
-use Rattle.die_log.specs.Answers.{act_for, act_of_op, collect_act, read_or_erase, is_waivable, block_for, buffer_after, victim}
-use Rattle.die_log.specs.Legal.{is_among}
-use Rattle.die_log.specs.Well.{FewCopies}
-use Rattle.die_log.specs.Held.{is_pending, copied_of}
+use Rattle.die_log.specs.Model.Log.{Log, Job, job_at, acts, act_of, is_waived, work}
+use Rattle.die_log.specs.Model.Flash.{Cells, cells, valid, valid_pages, block_at}
+use Rattle.die_log.specs.Model.Work.{are_all, is_ready, is_copy_program, victim_of, shown_by, block_shown}
+use Rattle.die_log.specs.Model.Accounts.{accounts, after_waivers}
+use Rattle.die_log.specs.Invariants.TrueAccounts.{reserve_full}
+use Rattle.die_log.specs.Model.Answers.{act_for, act_of_op, collect_act, read_or_erase, is_waivable, block_for, buffer_after, victim}
+use Rattle.die_log.specs.Results.Legal.{is_among}
+use Rattle.die_log.specs.Invariants.TrueAndLegal.{FewCopies}
+use Rattle.die_log.specs.Invariants.TrueAccounts.{is_pending, copied_of}
 use Rattle.die_log.proofs.Tokens.Sums.{one_if}
 use Rattle.die_log.proofs.Tokens.Doing.{IsOfCollection, buffer_of, act_kind}
 use Rattle.die_log.proofs.Cells.Steps.{opens}
@@ -31,8 +31,8 @@ use Rattle.die_log.proofs.Tokens.Slots.{slot_waives, ran_acts, empty_if, IsTurn,
 use Rattle.die_log.proofs.Tokens.Turns.{turn_log, turn_copy}
 use Rattle.die_log.proofs.Tokens.Begins.{fresh_finds, is_pending_if}
 use Rattle.die_log.proofs.Tokens.Copying.{set_fewer, program_elsewhere, program_away, copy_is, IsPlacedAt, placed_at, some_valid}
-use Rattle.die_log.specs.Start.{Start}
-use Rattle.die_log.specs.Opening.{IsOpening}
+use Rattle.die_log.specs.Model.Start.{Start}
+use Rattle.die_log.specs.Model.Opening.{IsOpening}
 
 -- The act of a collection
 
@@ -179,7 +179,7 @@ still_few start past ws j act b' h m is shows = elim (cases_lt 0 (work j.number 
       subst (λ n. copied_of (λ n. acts n past) j + valid (cells start past) n ≤ reserve_full start.plan) same (omega (arith, nothing, v.2))
 ]
 
--- the collection that has its turn
+-- the collection that is the head
 few_own : (start : Start) (past : Log) (caller slot : ℕ) (ws : List Waived) (finished : Option ℕ) (j : Job) (act : Act) (b' : ℕ)
     → IsTurn start past ws j act → MayShow start past ws j → j.collects ≡ true → IsOfCollection act
     → shown_by start past (victim_of start j.number past) (Some act) ≡ Some b'

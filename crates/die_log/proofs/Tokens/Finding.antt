@@ -12,20 +12,20 @@ use Rattle.slot_types.specs.declared.acts.Act.{Act}
 use Rattle.plan_rules.specs.Bound.{fmax_of}
 use Rattle.plan_rules.specs.Blocks.{is_of}
 use Rattle.plan_rules.proofs.Spread.{choice}
-use Rattle.die_log.specs.Log.{Log, Job, jobs, job_at, acts, is_waived, work}
-use Rattle.die_log.specs.Flash.{Block, Cells, cells, block_at, free_block, free, free_in, is_closed, is_open, valid}
-use Rattle.die_log.specs.Work.{is_done, victim_of}
-use Rattle.die_log.specs.Held.{reserve_full}
-use Rattle.die_log.specs.Answers.{is_running, is_block, is_collected, candidates, victim}
-use Rattle.die_log.specs.Sound.{AreSound, IsOpen}
-use Rattle.die_log.specs.Held.{is_pending, AreTrue}
+use Rattle.die_log.specs.Model.Log.{Log, Job, jobs, job_at, acts, is_waived, work}
+use Rattle.die_log.specs.Model.Flash.{Block, Cells, cells, block_at, free_block, free, free_in, is_closed, is_open, valid}
+use Rattle.die_log.specs.Model.Work.{is_done, victim_of}
+use Rattle.die_log.specs.Invariants.TrueAccounts.{reserve_full}
+use Rattle.die_log.specs.Model.Answers.{is_running, is_block, is_collected, candidates, victim}
+use Rattle.die_log.specs.Invariants.SoundCells.{AreSoundCells, IsOpen}
+use Rattle.die_log.specs.Invariants.TrueAccounts.{is_pending, AreTrueAccounts}
 use Rattle.die_log.proofs.Tokens.Sums.{le_at, one_if}
 use Rattle.die_log.proofs.Tokens.Changes.{one_less}
 use Rattle.die_log.proofs.Cells.Steps.{no_position}
 use Rattle.die_log.proofs.Cells.FreePages.{free_idle, free_erasing}
 use Rattle.die_log.proofs.Tokens.Found.{first_with, finds_it, is_found, any_found, any_from, keeps_passing, least_le, range_at, sum_places}
-use Rattle.die_log.specs.Start.{Start}
-use Rattle.die_log.specs.Opening.{IsOpening}
+use Rattle.die_log.specs.Model.Start.{Start}
+use Rattle.die_log.specs.Model.Opening.{IsOpening}
 
 -- Running collections
 
@@ -37,7 +37,7 @@ no_work : (l : List Act) → l ≡ [] → 0 < length l → ⊥
 no_work l e h = omega (arith, h, ap (λ (x : List Act). length x) e)
 
 -- what runs is open
-running_pending : (start : Start) (past : Log) (j : Job) → AreTrue start past → is_running start.plan past j ≡ true
+running_pending : (start : Start) (past : Log) (j : Job) → AreTrueAccounts start past → is_running start.plan past j ≡ true
     → is_pending start.plan (λ n. acts n past) (is_waived past) j ≡ true
 running_pending start past j h is =
     let parts = and_parts (j.collects && nat_lt 0 (work j.number past)) (not (is_done start.plan past j)) is in
@@ -48,7 +48,7 @@ running_pending start past j h is =
     and_from (j.collects && not (is_done start.plan past j)) (not (is_waived past j.number))
     (and_from j.collects (not (is_done start.plan past j)) begun.0 parts.1) (not_from_false (is_waived past j.number) stays)
 
-few_run : (start : Start) (past : Log) (task : ℕ) → AreTrue start past → count_by (runs start.plan past task) (jobs past) ≤ 1
+few_run : (start : Start) (past : Log) (task : ℕ) → AreTrueAccounts start past → count_by (runs start.plan past task) (jobs past) ≤ 1
 few_run start past task h =
     omega (
       arith,
@@ -75,7 +75,7 @@ victim_at : (start : Start) (past : Log) (task : ℕ) → task < length start.pl
 victim_at start past task h = get_or-map-range_with_len (victim_by start past) 0 (length start.plan.caps) task task None h (omega arith)
 
 -- each running collection is in the list
-victim_listed : (start : Start) (past : Log) (k : ℕ) (j : Job) → AreTrue start past → slice_get (jobs past) k ≡ Some j
+victim_listed : (start : Start) (past : Log) (k : ℕ) (j : Job) → AreTrueAccounts start past → slice_get (jobs past) k ≡ Some j
     → is_running start.plan past j ≡ true → victim_by start past j.task ≡ victim_of start j.number past
 victim_listed start past k j h e is =
     ap (block_in start past) (finds_it (runs start.plan past j.task) (jobs past) k j (few_run start past j.task h) e
@@ -92,7 +92,7 @@ is_of_block b None e = e
 is_of_block b (Some v) e = e
 
 -- a block that is nobody's in the list is collected by nobody
-free_of : (start : Start) (past : Log) (b : ℕ) → AreTrue start past
+free_of : (start : Start) (past : Log) (b : ℕ) → AreTrueAccounts start past
     → ((j : Job) (k : ℕ) → slice_get (jobs past) k ≡ Some j → j.task < length start.plan.caps) → list_any (is_of b) (victims start past) ≡ false
     → is_collected start past b ≡ false
 free_of start past b h within none = false_from_ne_true (is_collected start past b) contradicts
@@ -108,7 +108,7 @@ free_of start past b h within none = false_from_ne_true (is_collected start past
         (in_victims start past f.0.task task_in) there) ∙ none)
 
 -- a collection that is open and has no act leaves its task without a running one
-none_runs : (start : Start) (past : Log) (j : Job) (o : Option Job) → AreTrue start past → job_at past j.number ≡ Some j
+none_runs : (start : Start) (past : Log) (j : Job) (o : Option Job) → AreTrueAccounts start past → job_at past j.number ≡ Some j
     → is_pending start.plan (λ n. acts n past) (is_waived past) j ≡ true → work j.number past ≡ 0
     → first_with (runs start.plan past j.task) (jobs past) ≡ o → block_in start past o ≡ None
 none_runs start past j None h known is fresh e = refl
@@ -145,7 +145,7 @@ opened_of plan c b h =
     let parts = and_parts (nat_lt 0 (block_at c b).filled) (nat_lt (block_at c b).filled plan.shape.pages) h in
     (ltb-true 0 (block_at c b).filled parts.0, ltb-true (block_at c b).filled plan.shape.pages parts.1)
 
-writing_is : (plan : DiePlan) (c : Cells) (b : ℕ) (o : Option ℕ) → AreSound plan c → b < length c.blocks → is_open plan (block_at c b)
+writing_is : (plan : DiePlan) (c : Cells) (b : ℕ) (o : Option ℕ) → AreSoundCells plan c → b < length c.blocks → is_open plan (block_at c b)
     ≡ true → opened plan c ≡ o → o ≡ Some b
 writing_is plan c b None are h is e =
     absurd (true≢false (sym is ∙ no_position (is_open plan) c.blocks e b free_block h))
@@ -167,14 +167,14 @@ other_free plan s e = elim (cases_eq s.erasing 0) [
   | inr busy ↦ inl (free_erasing plan s busy)
 ]
 
-one_open : (plan : DiePlan) (c : Cells) (b : ℕ) → AreSound plan c → b < plan.shape.blocks → (opened plan c ≡ Some b)
+one_open : (plan : DiePlan) (c : Cells) (b : ℕ) → AreSoundCells plan c → b < plan.shape.blocks → (opened plan c ≡ Some b)
     ⊎ ((free_at plan c b ≡ 0) ⊎ (plan.shape.pages ≤ free_at plan c b))
 one_open plan c b are h = elim (cases_Bool (is_open plan (block_at c b))) [
   | inl is ↦ inl (writing_is plan c b (opened plan c) are (omega (arith, h, are.blocks)) is refl)
   | inr no_part ↦ inr (other_free plan (block_at c b) no_part)
 ]
 
-closed_if : (plan : DiePlan) (c : Cells) (b : ℕ) → AreSound plan c → b < plan.shape.blocks → free_at plan c b ≡ 0
+closed_if : (plan : DiePlan) (c : Cells) (b : ℕ) → AreSoundCells plan c → b < plan.shape.blocks → free_at plan c b ≡ 0
     → is_closed plan (block_at c b) ≡ true
 closed_if plan c b are h e =
     let s : Block = block_at c b in
@@ -191,7 +191,7 @@ pub record IsTakable (start : Start) (past : Log) (b : ℕ) : Type 0 where
   pub few_valid : valid (cells start past) b ≤ reserve_full start.plan
 
 -- with few cells free, a collection that begins finds a block that it may take
-pub takable : (start : Start) (past : Log) (j : Job) → IsOpening start → AreTrue start past → AreSound start.plan (cells start past)
+pub takable : (start : Start) (past : Log) (j : Job) → IsOpening start → AreTrueAccounts start past → AreSoundCells start.plan (cells start past)
     → job_at past j.number ≡ Some j → is_pending start.plan (λ n. acts n past) (is_waived past) j ≡ true → work j.number past ≡ 0 → free start past
     ≤ fmax_of start.plan → ((i : Job) (k : ℕ) → slice_get (jobs past) k ≡ Some i → i.task < length start.plan.caps)
     → (b : ℕ) × IsTakable start past b

@@ -2,15 +2,15 @@
 use Rattle.std.proofs.Common.{◌≡◌, ℕ, ◌+◌, ◌<◌, ◌≤◌, length, get_or, inl, inr, ap, ◌∙◌, arith}
 use Rattle.std.proofs.lemmas.Bool.{cases_eq}
 use Rattle.slot_types.specs.declared.plans.DiePlan.{DiePlan}
-use Rattle.plan_rules.specs.Accounts.{Accounts, given_of, admitted, hold_spent, reserve_spent, settled, waived}
-use Rattle.die_log.specs.Held.{Agree, reserve_full}
-use Rattle.die_log.specs.Held.{at_task}
+use Rattle.plan_rules.specs.Accounts.{Accounts, given_of, accounts_after_admit, accounts_after_write, accounts_after_copy, accounts_after_collection, accounts_after_waiver}
+use Rattle.die_log.specs.Invariants.TrueAccounts.{AccountsAgree, reserve_full}
+use Rattle.die_log.specs.Invariants.TrueAccounts.{at_task}
 use Rattle.die_log.proofs.Tokens.Amounts.{added, at_itself, at_other, added_at, taken_at, sum_added, sum_taken, length_added, length_taken}
 
 -- the same accounts, with the same amounts otherwise said
 pub agree_same : (plan : DiePlan) (a : Accounts) (held lent held' lent' : ℕ → ℕ) (owed free owed' free' : ℕ)
-    → Agree plan a held lent owed free
-    → ((t : ℕ) → held t ≡ held' t) → ((t : ℕ) → lent t ≡ lent' t) → owed ≡ owed' → free ≡ free' → Agree plan a held' lent' owed' free'
+    → AccountsAgree plan a held lent owed free
+    → ((t : ℕ) → held t ≡ held' t) → ((t : ℕ) → lent t ≡ lent' t) → owed ≡ owed' → free ≡ free' → AccountsAgree plan a held' lent' owed' free'
 agree_same plan a held lent held' lent' owed free owed' free' g hs ls os fs = record {
   plan_is = g.plan_is;
   balances_len = g.balances_len;
@@ -24,9 +24,9 @@ agree_same plan a held lent held' lent' owed free owed' free' g hs ls os fs = re
 }
 
 -- a job is taken
-pub agree_admitted : (plan : DiePlan) (a : Accounts) (held lent held' : ℕ → ℕ) (owed free task w : ℕ) → Agree plan a held lent owed free
+pub agree_admitted : (plan : DiePlan) (a : Accounts) (held lent held' : ℕ → ℕ) (owed free task w : ℕ) → AccountsAgree plan a held lent owed free
     → task < length plan.caps → w ≤ get_or a.balances task 0 → ((t : ℕ) → held' t ≡ held t + at_task task w t)
-    → Agree plan (admitted a task w) held' lent (owed + w) free
+    → AccountsAgree plan (accounts_after_admit a task w) held' lent (owed + w) free
 agree_admitted plan a held lent held' owed free task w g h le hs =
     let b : task < length a.balances = omega (arith, g.balances_len) in
     let d : task < length a.holds = omega (arith, g.holds_len) in
@@ -44,9 +44,9 @@ agree_admitted plan a held lent held' owed free task w g h le hs =
 
 -- a write is carried
 pub agree_written : (plan : DiePlan) (a : Accounts) (held lent held' : ℕ → ℕ) (owed free task owed' free' : ℕ)
-    → Agree plan a held lent owed free
+    → AccountsAgree plan a held lent owed free
     → task < length plan.caps → ((t : ℕ) → held t ≡ held' t + at_task task 1 t) → owed ≡ owed' + 1 → free ≡ free' + 1
-    → Agree plan (hold_spent a task) held' lent owed' free'
+    → AccountsAgree plan (accounts_after_write a task) held' lent owed' free'
 agree_written plan a held lent held' owed free task owed' free' g h hs os fs =
     let d : task < length a.holds = omega (arith, g.holds_len) in
     let le : 1 ≤ get_or a.holds task 0 = omega (arith, g.holds_are task h, hs task, at_itself task 1) in
@@ -63,9 +63,9 @@ agree_written plan a held lent held' owed free task owed' free' g h hs os fs =
     }
 
 -- a copy is carried
-pub agree_copied : (plan : DiePlan) (a : Accounts) (held lent lent' : ℕ → ℕ) (owed free task free' : ℕ) → Agree plan a held lent owed free
+pub agree_copied : (plan : DiePlan) (a : Accounts) (held lent lent' : ℕ → ℕ) (owed free task free' : ℕ) → AccountsAgree plan a held lent owed free
     → task < length plan.caps → lent task < reserve_full plan → ((t : ℕ) → lent' t ≡ lent t + at_task task 1 t) → free ≡ free' + 1
-    → Agree plan (reserve_spent a task) held lent' owed free'
+    → AccountsAgree plan (accounts_after_copy a task) held lent' owed free'
 agree_copied plan a held lent lent' owed free task free' g h few ls fs =
     let d : task < length a.reserves = omega (arith, g.reserves_len) in
     let le : 1 ≤ get_or a.reserves task 0 = omega (arith, g.reserves_are task h) in
@@ -82,7 +82,7 @@ agree_copied plan a held lent lent' owed free task free' g h few ls fs =
     }
 
 -- what is given keeps to the cap
-gift_fits : (plan : DiePlan) (a : Accounts) (held lent : ℕ → ℕ) (owed free task : ℕ) → Agree plan a held lent owed free → task
+gift_fits : (plan : DiePlan) (a : Accounts) (held lent : ℕ → ℕ) (owed free task : ℕ) → AccountsAgree plan a held lent owed free → task
     < length plan.caps
     → (t : ℕ) → get_or (added a.balances task (given_of a task)) t 0 + get_or a.holds t 0 ≤ get_or plan.caps t 0
 gift_fits plan a held lent owed free task g h t =
@@ -100,8 +100,8 @@ gift_fits plan a held lent owed free task g h t =
     ]
 
 -- a collection is waived
-pub agree_waived : (plan : DiePlan) (a : Accounts) (held lent : ℕ → ℕ) (owed free task : ℕ) → Agree plan a held lent owed free
-    → task < length plan.caps → plan.alpha ≤ a.spare → Agree plan (waived a task) held lent owed free
+pub agree_waived : (plan : DiePlan) (a : Accounts) (held lent : ℕ → ℕ) (owed free task : ℕ) → AccountsAgree plan a held lent owed free
+    → task < length plan.caps → plan.alpha ≤ a.spare → AccountsAgree plan (accounts_after_waiver a task) held lent owed free
 agree_waived plan a held lent owed free task g h le =
     let b : task < length a.balances = omega (arith, g.balances_len) in
     record {
@@ -118,10 +118,10 @@ agree_waived plan a held lent owed free task g h le =
 
 -- a collection is done
 pub agree_settled : (plan : DiePlan) (a : Accounts) (held lent lent' : ℕ → ℕ) (owed free task copied free' : ℕ)
-    → Agree plan a held lent owed free
+    → AccountsAgree plan a held lent owed free
     → plan.alpha ≤ plan.shape.pages → task < length plan.caps → ((t : ℕ) → lent t ≡ lent' t + at_task task copied t) → free'
     ≡ free + plan.shape.pages
-    → Agree plan (settled a task copied) held lent' owed free'
+    → AccountsAgree plan (accounts_after_collection a task copied) held lent' owed free'
 agree_settled plan a held lent lent' owed free task copied free' g fits h ls fs =
     let b : task < length a.balances = omega (arith, g.balances_len) in
     let d : task < length a.reserves = omega (arith, g.reserves_len) in

@@ -5,13 +5,13 @@ use Rattle.std.proofs.lemmas.Bool.{cases_lt}
 use Rattle.std.proofs.lemmas.List.{length-replicate, get_or-replicate, get_or_past}
 use Rattle.slot_types.specs.declared.plans.DiePlan.{DiePlan}
 use Rattle.plan_rules.specs.Bound.{MeetsBound}
-use Rattle.die_log.specs.Flash.{free_in, free_block, fresh_cells}
-use Rattle.plan_rules.specs.Accounts.{opening}
+use Rattle.die_log.specs.Model.Flash.{free_in, free_block, fresh_cells}
+use Rattle.plan_rules.specs.Accounts.{opening_accounts}
 use Rattle.plan_rules.proofs.Totals.{room}
-use Rattle.die_log.specs.Held.{Agree, reserve_full}
-use Rattle.die_log.specs.Held.{AreTrue}
-use Rattle.die_log.specs.Start.{Start}
-use Rattle.die_log.specs.Opening.{IsOpening}
+use Rattle.die_log.specs.Invariants.TrueAccounts.{AccountsAgree, reserve_full}
+use Rattle.die_log.specs.Invariants.TrueAccounts.{AreTrueAccounts}
+use Rattle.die_log.specs.Model.Start.{Start}
+use Rattle.die_log.specs.Model.Opening.{IsOpening}
 
 abbrev pub zeros : ℕ → List ℕ
 zeros n = replicate n 0
@@ -25,7 +25,7 @@ none_at n i = elim (cases_lt i n) [
 all_free : (plan : DiePlan) → sum_by (free_in plan) (fresh_cells plan).blocks ≡ plan.shape.blocks * plan.shape.pages
 all_free plan = sum_by-replicate (free_in plan) plan.shape.blocks free_block ∙ ap (λ n. plan.shape.blocks * n) (omega arith)
 
-pub agree_opening : (plan : DiePlan) → MeetsBound plan → Agree plan (opening plan) (λ t. 0) (λ t. 0) 0 (sum_by (free_in plan) (fresh_cells plan).blocks)
+pub agree_opening : (plan : DiePlan) → MeetsBound plan → AccountsAgree plan (opening_accounts plan) (λ t. 0) (λ t. 0) 0 (sum_by (free_in plan) (fresh_cells plan).blocks)
 agree_opening plan bound =
     let tasks : ℕ = length plan.caps in
     record {
@@ -46,7 +46,7 @@ agree_opening plan bound =
       );
     }
 
-pub true_opening : (start : Start) → IsOpening start → AreTrue start []
+pub true_opening : (start : Start) → IsOpening start → AreTrueAccounts start []
 true_opening start bound = record {
   agree = bound.agree;
   taken = tt;

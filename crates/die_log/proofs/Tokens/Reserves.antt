@@ -2,20 +2,20 @@
 use Rattle.std.proofs.Common.{◌≡◌, ℕ, ◌+◌, ◌<◌, ◌≤◌, ◌==◌, ◌&&◌, true, length, get_or, Some, arith}
 use Rattle.slot_types.specs.declared.plans.DiePlan.{DiePlan}
 use Rattle.plan_rules.specs.Bound.{fmax_of}
-use Rattle.die_log.specs.Log.{Log, Job, jobs, job_at, acts, is_waived}
-use Rattle.die_log.specs.Work.{owed}
+use Rattle.die_log.specs.Model.Log.{Log, Job, jobs, job_at, acts, is_waived}
+use Rattle.die_log.specs.Model.Work.{owed}
 use Rattle.plan_rules.specs.Accounts.{Accounts}
-use Rattle.die_log.specs.Accounts.{accounts}
-use Rattle.die_log.specs.Held.{reserve_full}
-use Rattle.die_log.specs.Held.{Agree}
-use Rattle.die_log.specs.Held.{at_task, is_pending, copied_of, lent_of, pending_of, AreTrue}
+use Rattle.die_log.specs.Model.Accounts.{accounts}
+use Rattle.die_log.specs.Invariants.TrueAccounts.{reserve_full}
+use Rattle.die_log.specs.Invariants.TrueAccounts.{AccountsAgree}
+use Rattle.die_log.specs.Invariants.TrueAccounts.{at_task, is_pending, copied_of, lent_of, pending_of, AreTrueAccounts}
 use Rattle.die_log.proofs.Tokens.Sums.{sum_none, lent_alone, not_pending}
 use Rattle.die_log.proofs.Tokens.Amounts.{sum_le}
 use Rattle.plan_rules.proofs.Totals.{sums_le}
-use Rattle.die_log.specs.Start.{Start}
+use Rattle.die_log.specs.Model.Start.{Start}
 
 -- while a collection of a task is neither done nor waived, its collector's reserve lacks what it copied
-pub reserve_lacks : (start : Start) (log : Log) (j : Job) → AreTrue start log → job_at log j.number ≡ Some j → j.task < length start.plan.caps
+pub reserve_lacks : (start : Start) (log : Log) (j : Job) → AreTrueAccounts start log → job_at log j.number ≡ Some j → j.task < length start.plan.caps
     → is_pending start.plan (λ n. acts n log) (is_waived log) j ≡ true
     → get_or (accounts start log).reserves j.task 0 + copied_of (λ n. acts n log) j ≡ reserve_full start.plan
 reserve_lacks start log j h known within is =
@@ -27,7 +27,7 @@ reserve_lacks start log j h known within is =
     )
 
 -- and without one it is full
-pub reserve_is_full : (start : Start) (log : Log) (task : ℕ) → AreTrue start log → task < length start.plan.caps
+pub reserve_is_full : (start : Start) (log : Log) (task : ℕ) → AreTrueAccounts start log → task < length start.plan.caps
     → pending_of start.plan (λ n. acts n log) (is_waived log) (jobs log) task ≡ 0
     → get_or (accounts start log).reserves task 0 ≡ reserve_full start.plan
 reserve_is_full start log task h within none =
@@ -40,7 +40,7 @@ reserve_is_full start log task h within none =
     )
 
 -- while few pages are spare, few are free
-pub few_free : (plan : DiePlan) (a : Accounts) (held lent : ℕ → ℕ) (owed free : ℕ) → Agree plan a held lent owed free → a.spare < plan.alpha
+pub few_free : (plan : DiePlan) (a : Accounts) (held lent : ℕ → ℕ) (owed free : ℕ) → AccountsAgree plan a held lent owed free → a.spare < plan.alpha
     → free ≤ fmax_of plan
 few_free plan a held lent owed free g short =
     omega (

@@ -7,8 +7,8 @@ use Rattle.std.proofs.lemmas.Option.{same_Some}
 use Rattle.std.proofs.lemmas.List.Sums.{sum_by-cons}
 use Rattle.slot_types.specs.declared.plans.DiePlan.{DiePlan}
 use Rattle.slot_types.specs.declared.acts.Act.{Act}
-use Rattle.die_log.specs.Log.{Job}
-use Rattle.die_log.specs.Held.{at_task, left_of, held_of, is_pending, copied_of, lent_of, lent_to, pending_of}
+use Rattle.die_log.specs.Model.Log.{Job}
+use Rattle.die_log.specs.Invariants.TrueAccounts.{at_task, left_of, held_of, is_pending, copied_of, lent_of, lent_to, pending_of}
 
 pub sum_same : {X : Type 0} (f g : X → ℕ) (xs : List X) → ((k : ℕ) (y : X) → slice_get xs k ≡ Some y → f y ≡ g y) → sum_by f xs
     ≡ sum_by g xs

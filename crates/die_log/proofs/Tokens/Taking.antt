@@ -7,19 +7,19 @@ use Rattle.std.proofs.lemmas.List.Sums.{sum_by-cons, sum_by_push}
 use Rattle.slot_types.specs.declared.acts.Act.{Act}
 use Rattle.slot_types.specs.declared.events.Op.{Op}
 use Rattle.slot_types.specs.declared.events.Event.TheVariants as events
-use Rattle.die_log.specs.Log.{Log, Job, jobs, acts, is_waived}
-use Rattle.die_log.specs.Flash.{free}
+use Rattle.die_log.specs.Model.Log.{Log, Job, jobs, acts, is_waived}
+use Rattle.die_log.specs.Model.Flash.{free}
 use Rattle.slot_types.specs.Operations.{writes}
-use Rattle.die_log.specs.Work.{are_all, owed, is_copy_program}
-use Rattle.die_log.specs.Accounts.{accounts}
-use Rattle.die_log.specs.Answers.{IsExact, accepted, refusals, balance}
+use Rattle.die_log.specs.Model.Work.{are_all, owed, is_copy_program}
+use Rattle.die_log.specs.Model.Accounts.{accounts}
+use Rattle.die_log.specs.Model.Answers.{IsExact, reply_if_accepted, refusals, balance}
 use Rattle.die_log.proofs.Legality.{entry}
 use Rattle.die_log.proofs.Known.{all_append}
 use Rattle.die_log.proofs.Collecting.{no_acts}
-use Rattle.die_log.specs.Held.{at_task, left_of, held_of, is_pending, copied_of, lent_of, lent_to, pending_of, IsTaken, AreTrue}
+use Rattle.die_log.specs.Invariants.TrueAccounts.{at_task, left_of, held_of, is_pending, copied_of, lent_of, lent_to, pending_of, HasTaskAndOps, AreTrueAccounts}
 use Rattle.die_log.proofs.Tokens.Sums.{one_if, some_if}
 use Rattle.die_log.proofs.Tokens.Moves.{agree_same, agree_admitted}
-use Rattle.die_log.specs.Start.{Start}
+use Rattle.die_log.specs.Model.Start.{Start}
 
 -- where no test passes, none is counted
 none_counted : {X : Type 0} (p q : X → Bool) (xs : List X) → ((x : X) → p x ≡ false → q x ≡ false) → list_any p xs ≡ false → count_by q xs
@@ -56,9 +56,9 @@ at_most true false = omega arith
 at_most false c = omega arith
 
 pub keeps_submit : (start : Start) (past : Log) (caller : ℕ) (task : ℕ) (release due : ℕ) (ops : List Op) → IsExact start past
-    → AreTrue start past
+    → AreTrueAccounts start past
     → AllByRecursion (λ c. c.0 ≡ false) (refusals start past (events.Submit task release due ops))
-    → AreTrue start (entry caller (events.Submit task release due ops) (accepted start past (events.Submit task release due ops)) ∷ past)
+    → AreTrueAccounts start (entry caller (events.Submit task release due ops) (reply_if_accepted start past (events.Submit task release due ops)) ∷ past)
 keeps_submit start past caller task release due ops exact h refused =
     let own : ℕ → List Act = λ n. acts n past in
     let j : Job = record { number = length (jobs past); collects = false; task = task; release = release; due = due; ops = ops } in
@@ -77,7 +77,7 @@ keeps_submit start past caller task release due ops exact h refused =
           (λ t. omega (arith, sum_by_push (λ i. at_task i.task (lent_of start.plan own (is_waived past) i) t) (jobs past) j, at_none task t))
           (omega (arith, sum_by_push (λ i. left_of own i) (jobs past) j, left))
           refl;
-      taken = all_append (IsTaken start.plan) (jobs past) (j ∷ []) h.taken (record { task = within; none = λ e. absurd cc }, tt);
+      taken = all_append (HasTaskAndOps start.plan) (jobs past) (j ∷ []) h.taken (record { task = within; none = λ e. absurd cc }, tt);
       one_each = λ t. omega (
         arith,
         h.one_each t,
@@ -88,9 +88,9 @@ keeps_submit start past caller task release due ops exact h refused =
       idle_waived = h.idle_waived;
     }
 
-pub keeps_collect : (start : Start) (past : Log) (caller : ℕ) (task : ℕ) (release due : ℕ) → IsExact start past → AreTrue start past
+pub keeps_collect : (start : Start) (past : Log) (caller : ℕ) (task : ℕ) (release due : ℕ) → IsExact start past → AreTrueAccounts start past
     → AllByRecursion (λ c. c.0 ≡ false) (refusals start past (events.Collect task release due))
-    → AreTrue start (entry caller (events.Collect task release due) (accepted start past (events.Collect task release due)) ∷ past)
+    → AreTrueAccounts start (entry caller (events.Collect task release due) (reply_if_accepted start past (events.Collect task release due)) ∷ past)
 keeps_collect start past caller task release due exact h refused =
     let own : ℕ → List Act = λ n. acts n past in
     let gone : ℕ → Bool = is_waived past in
@@ -121,7 +121,7 @@ keeps_collect start past caller task release due exact h refused =
           ))
           (omega (arith, sum_by_push (λ i. left_of own i) (jobs past) j, left))
           refl;
-      taken = all_append (IsTaken start.plan) (jobs past) (j ∷ []) h.taken (record { task = within; none = λ e. refl }, tt);
+      taken = all_append (HasTaskAndOps start.plan) (jobs past) (j ∷ []) h.taken (record { task = within; none = λ e. refl }, tt);
       one_each = λ t. elim (cases_eq t task) [
         | inl e ↦ rw e (omega (
           arith,

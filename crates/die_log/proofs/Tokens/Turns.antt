@@ -10,15 +10,15 @@ use Rattle.slot_types.specs.declared.acts.Act.TheVariants as does
 use Rattle.slot_types.specs.declared.events.Op.{Op}
 use Rattle.slot_types.specs.declared.events.Op.TheVariants as asks
 use Rattle.slot_types.specs.declared.replies.Waived.{Waived}
-use Rattle.die_log.specs.Log.{Log, Job, jobs, acts, is_waived, work}
-use Rattle.die_log.specs.Flash.{cells, free, free_in, block_at, erased_once}
+use Rattle.die_log.specs.Model.Log.{Log, Job, jobs, acts, is_waived, work}
+use Rattle.die_log.specs.Model.Flash.{cells, free, free_in, block_at, block_after_erase_slot}
 use Rattle.slot_types.specs.Operations.{is_write}
-use Rattle.die_log.specs.Work.{are_all, is_erase, is_copy_program, owed}
-use Rattle.plan_rules.specs.Accounts.{Accounts, settled}
-use Rattle.die_log.specs.Accounts.{accounts, after_waivers}
-use Rattle.die_log.specs.Legal.{is_among, Does, FindsFree}
-use Rattle.die_log.specs.Held.{Agree, reserve_full}
-use Rattle.die_log.specs.Held.{at_task, left_of, held_of, copied_of, lent_of, lent_to, AreTrue}
+use Rattle.die_log.specs.Model.Work.{are_all, is_erase, is_copy_program, owed}
+use Rattle.plan_rules.specs.Accounts.{Accounts, accounts_after_collection}
+use Rattle.die_log.specs.Model.Accounts.{accounts, after_waivers}
+use Rattle.die_log.specs.Results.Legal.{is_among, Does, FindsFree}
+use Rattle.die_log.specs.Invariants.TrueAccounts.{AccountsAgree, reserve_full}
+use Rattle.die_log.specs.Invariants.TrueAccounts.{at_task, left_of, held_of, copied_of, lent_of, lent_to, AreTrueAccounts}
 use Rattle.die_log.proofs.Tokens.Amounts.{one_le_sum}
 use Rattle.die_log.proofs.Tokens.Sums.{one_if, some_if, lent_alone}
 use Rattle.die_log.proofs.Tokens.Moves.{agree_same, agree_written, agree_copied, agree_settled}
@@ -27,18 +27,18 @@ use Rattle.die_log.proofs.Cells.FreePages.{program_free, erase_free}
 use Rattle.die_log.proofs.Tokens.Taking.{at_none}
 use Rattle.die_log.proofs.Tokens.Changes.{held_after, owed_after, left_job, left_collection, lent_more, lent_less}
 use Rattle.die_log.proofs.Tokens.Slots.{slot_entry, slot_waives, ran_acts, IsTurn, is_undone, was_pending, before_act, of_job, from_act}
-use Rattle.die_log.specs.Start.{Start}
-use Rattle.die_log.specs.Opening.{IsOpening}
+use Rattle.die_log.specs.Model.Start.{Start}
+use Rattle.die_log.specs.Model.Opening.{IsOpening}
 
 abbrev pub turn_log : Log → ℕ → ℕ → List Waived → Option ℕ → Job → Act → Log
 turn_log past caller slot ws finished j act = slot_entry caller slot ws (Some (j.number, act)) finished ∷ past
 
 -- Free cells
 
-pub owed_fits : (start : Start) (a : Accounts) (held lent : ℕ → ℕ) (owed free : ℕ) → Agree start.plan a held lent owed free → owed ≤ free
+pub owed_fits : (start : Start) (a : Accounts) (held lent : ℕ → ℕ) (owed free : ℕ) → AccountsAgree start.plan a held lent owed free → owed ≤ free
 owed_fits start a held lent owed free g = omega (arith, g.owed_is, g.total_is)
 
-pub lent_fits : (start : Start) (a : Accounts) (held lent : ℕ → ℕ) (owed free task : ℕ) → Agree start.plan a held lent owed free → task
+pub lent_fits : (start : Start) (a : Accounts) (held lent : ℕ → ℕ) (owed free task : ℕ) → AccountsAgree start.plan a held lent owed free → task
     < length start.plan.caps → lent task < reserve_full start.plan → 0 < free
 lent_fits start a held lent owed free task g h few =
     omega (arith, g.total_is, g.reserves_are task h, few, one_le_sum a.reserves task (omega (arith, g.reserves_len, h)))
@@ -138,11 +138,11 @@ stays_pending start past ws j act h is copy =
 
 pub turn_read : (start : Start) (past : Log) (caller slot : ℕ) (ws : List Waived) (finished : Option ℕ) (j : Job) (page : ℕ)
     (bytes : PageData) → IsTurn start past ws j (does.Read page bytes) → IsJobAct past j (does.Read page bytes)
-    → AreTrue start (turn_log past caller slot ws finished j (does.Read page bytes))
+    → AreTrueAccounts start (turn_log past caller slot ws finished j (does.Read page bytes))
 turn_read start past caller slot ws finished j page bytes h k = by_op k.op k.next k.done
   where
     by_op : (op : Op) → slice_get j.ops (work j.number past) ≡ Some op → Does op (does.Read page bytes)
-        → AreTrue start (turn_log past caller slot ws finished j (does.Read page bytes))
+        → AreTrueAccounts start (turn_log past caller slot ws finished j (does.Read page bytes))
     by_op (asks.Write p b) e d = absurd d
     by_op (asks.Trim p) e d = absurd d
     by_op (asks.Read p) e d =
@@ -157,11 +157,11 @@ turn_read start past caller slot ws finished j page bytes h k = by_op k.op k.nex
 
 pub turn_write : (start : Start) (past : Log) (caller slot : ℕ) (ws : List Waived) (finished : Option ℕ) (j : Job) (page : ℕ)
     (bytes : PageData) → IsOpening start → IsTurn start past ws j (does.Write page bytes) → IsJobAct past j (does.Write page bytes)
-    → AreTrue start (turn_log past caller slot ws finished j (does.Write page bytes)) × (0 < free start past)
+    → AreTrueAccounts start (turn_log past caller slot ws finished j (does.Write page bytes)) × (0 < free start past)
 turn_write start past caller slot ws finished j page bytes bound h k = by_op k.op k.next k.done
   where
     by_op : (op : Op) → slice_get j.ops (work j.number past) ≡ Some op → Does op (does.Write page bytes)
-        → AreTrue start (turn_log past caller slot ws finished j (does.Write page bytes)) × (0 < free start past)
+        → AreTrueAccounts start (turn_log past caller slot ws finished j (does.Write page bytes)) × (0 < free start past)
     by_op (asks.Read p) e d = absurd d
     by_op (asks.Trim p) e d = absurd d
     by_op (asks.Write p b) e d =
@@ -186,11 +186,11 @@ turn_write start past caller slot ws finished j page bytes bound h k = by_op k.o
 
 pub turn_trim : (start : Start) (past : Log) (caller slot : ℕ) (ws : List Waived) (finished : Option ℕ) (j : Job) (page : ℕ)
     → IsTurn start past ws j (does.Trim page) → IsJobAct past j (does.Trim page)
-    → AreTrue start (turn_log past caller slot ws finished j (does.Trim page))
+    → AreTrueAccounts start (turn_log past caller slot ws finished j (does.Trim page))
 turn_trim start past caller slot ws finished j page h k = by_op k.op k.next k.done
   where
     by_op : (op : Op) → slice_get j.ops (work j.number past) ≡ Some op → Does op (does.Trim page)
-        → AreTrue start (turn_log past caller slot ws finished j (does.Trim page))
+        → AreTrueAccounts start (turn_log past caller slot ws finished j (does.Trim page))
     by_op (asks.Read p) e d = absurd d
     by_op (asks.Write p b) e d = absurd d
     by_op (asks.Trim p) e d =
@@ -205,7 +205,7 @@ turn_trim start past caller slot ws finished j page h k = by_op k.op k.next k.do
 
 pub turn_copy_read : (start : Start) (past : Log) (caller slot : ℕ) (ws : List Waived) (finished : Option ℕ) (j : Job) (page : ℕ)
     → IsTurn start past ws j (does.CopyRead page) → j.collects ≡ true
-    → AreTrue start (turn_log past caller slot ws finished j (does.CopyRead page))
+    → AreTrueAccounts start (turn_log past caller slot ws finished j (does.CopyRead page))
 turn_copy_read start past caller slot ws finished j page h is =
     let act : Act = does.CopyRead page in
     let log : Log = turn_log past caller slot ws finished j act in
@@ -229,7 +229,7 @@ turn_copy_read start past caller slot ws finished j page h is =
 
 pub turn_copy : (start : Start) (past : Log) (caller slot : ℕ) (ws : List Waived) (finished : Option ℕ) (j : Job) (page : ℕ)
     → IsOpening start → IsTurn start past ws j (does.CopyProgram page) → j.collects ≡ true
-    → AreTrue start (turn_log past caller slot ws finished j (does.CopyProgram page)) × (0 < free start past)
+    → AreTrueAccounts start (turn_log past caller slot ws finished j (does.CopyProgram page)) × (0 < free start past)
 turn_copy start past caller slot ws finished j page bound h is =
     let act : Act = does.CopyProgram page in
     let log : Log = turn_log past caller slot ws finished j act in
@@ -264,7 +264,7 @@ turn_copy start past caller slot ws finished j page bound h is =
 -- the last slot of its erase comes with the closing act
 erase_closes : (start : Start) (past : Log) (ws : List Waived) (j : Job) (b : ℕ) (is_over : Bool) → 0 < start.plan.shape.pages
     → IsTurn start past ws j (does.Erase b) → j.collects ≡ true → are_all start.plan j (acts j.number past ++ does.Erase b ∷ []) ≡ is_over
-    → sum_by (free_in start.plan) (set (cells start past).blocks b (erased_once start.plan (block_at (cells start past) b)))
+    → sum_by (free_in start.plan) (set (cells start past).blocks b (block_after_erase_slot start.plan (block_at (cells start past) b)))
     ≡ free start past + some_if is_over start.plan.shape.pages
 erase_closes start past ws j b is_over pages h is all =
     let own : List Act = acts j.number past in
@@ -280,13 +280,13 @@ erase_closes start past ws j b is_over pages h is all =
     )
 
 abbrev after_erase : DiePlan → Job → List Act → Accounts → Bool → Accounts
-after_erase plan j own a is_over = cond is_over (settled a j.task (count_by is_copy_program own)) a
+after_erase plan j own a is_over = cond is_over (accounts_after_collection a j.task (count_by is_copy_program own)) a
 
 erase_by : (start : Start) (past : Log) (caller slot : ℕ) (ws : List Waived) (finished : Option ℕ) (j : Job) (b : ℕ) (is_over : Bool)
     → IsOpening start → IsTurn start past ws j (does.Erase b) → j.collects ≡ true
     → are_all start.plan j (acts j.number past ++ does.Erase b ∷ []) ≡ is_over
     → (let log : Log = turn_log past caller slot ws finished j (does.Erase b) in
-    Agree start.plan (after_erase start.plan j (acts j.number past) (after_waivers past ws (accounts start past)) is_over)
+    AccountsAgree start.plan (after_erase start.plan j (acts j.number past) (after_waivers past ws (accounts start past)) is_over)
     (held_of (λ n. acts n log) (jobs past)) (lent_to start.plan (λ n. acts n log) (is_waived log) (jobs past)) (owed log) (free start log))
 erase_by start past caller slot ws finished j b true bound h is all =
     let act : Act = does.Erase b in
@@ -327,7 +327,7 @@ erase_by start past caller slot ws finished j b false bound h is all =
 
 pub turn_erase : (start : Start) (past : Log) (caller slot : ℕ) (ws : List Waived) (finished : Option ℕ) (j : Job) (b : ℕ)
     → IsOpening start → IsTurn start past ws j (does.Erase b) → j.collects ≡ true
-    → AreTrue start (turn_log past caller slot ws finished j (does.Erase b))
+    → AreTrueAccounts start (turn_log past caller slot ws finished j (does.Erase b))
 turn_erase start past caller slot ws finished j b bound h is =
     let log : Log = turn_log past caller slot ws finished j (does.Erase b) in
     from_act start past caller slot ws finished j (does.Erase b) h (
@@ -353,7 +353,7 @@ no_job_erase (asks.Trim p) block d = d
 -- a slot in which the head does an act keeps the accounts true, and finds a free cell where it programs
 pub keeps_act : (start : Start) (past : Log) (caller slot : ℕ) (ws : List Waived) (finished : Option ℕ) (j : Job) (act : Act)
     → IsOpening start → IsTurn start past ws j act → IsJobAct past j act ⊎ IsCollectionAct j act
-    → AreTrue start (turn_log past caller slot ws finished j act) × FindsFree start past act
+    → AreTrueAccounts start (turn_log past caller slot ws finished j act) × FindsFree start past act
 keeps_act start past caller slot ws finished j (does.Read page bytes) bound h (inl k) =
     (turn_read start past caller slot ws finished j page bytes h k, tt)
 keeps_act start past caller slot ws finished j (does.Read page bytes) bound h (inr k) = absurd k.kind

@@ -6,15 +6,15 @@ use Rattle.std.proofs.lemmas.Bool.{and_parts, leb-true, eqb-true, eqb-false, not
 use Rattle.std.proofs.lemmas.List.Folds.{list_any-append}
 use Rattle.slot_types.specs.declared.plans.DiePlan.{DiePlan}
 use Rattle.slot_types.specs.declared.replies.Waived.{Waived}
-use Rattle.die_log.specs.Log.{Log, Job, job_at, jobs, now, is_waived, work, waived}
-use Rattle.die_log.specs.Work.{is_ready, is_done, least, ready}
+use Rattle.die_log.specs.Model.Log.{Log, Job, job_at, jobs, now, is_waived, work, waived_collections}
+use Rattle.die_log.specs.Model.Work.{is_ready, is_done, least, ready}
 use Rattle.plan_rules.specs.Accounts.{Accounts, given_of}
 use Rattle.plan_rules.specs.Accounts as moves
-use Rattle.die_log.specs.Accounts.{accounts, after_waiver, after_waivers}
-use Rattle.die_log.specs.Answers.{Choice, choice, weighed, chosen, choice_among, is_waivable, without, with_waiver}
-use Rattle.die_log.specs.Legal.{is_among, IsWaiver, AreWaivers}
+use Rattle.die_log.specs.Model.Accounts.{accounts, after_waiver, after_waivers}
+use Rattle.die_log.specs.Model.Answers.{Choice, choice, head_or_waiver, choice_by_head, choice_among, is_waivable, without, with_waiver}
+use Rattle.die_log.specs.Results.Legal.{is_among, IsWaiver, AreWaivers}
 use Rattle.die_log.proofs.Choices.{OfSome, least_all}
-use Rattle.die_log.specs.Start.{Start}
+use Rattle.die_log.specs.Model.Start.{Start}
 
 -- it stands, is released, not done and not waived, nor among these waivers
 pub record Waits (plan : DiePlan) (past : Log) (ws : List Waived) (j : Job) : Type 0 where
@@ -22,8 +22,8 @@ pub record Waits (plan : DiePlan) (past : Log) (ws : List Waived) (j : Job) : Ty
   pub ready : is_ready plan past j ≡ true
   pub new : is_among j.number ws ≡ false
 
--- a choice behind these waivers: what it waives is waived by the rules, and its head waits and may not be waived with the accounts that are
--- then left
+-- a choice after these waivers: what it waives is waived by the rules, and its head waits and may not be waived with
+-- the accounts that are then left
 pub record IsChosen (plan : DiePlan) (past : Log) (earlier : List Waived) (a : Accounts) (c : Choice) : Type 0 where
   pub waivers : AreWaivers plan past earlier a c.waived
   pub head : MatchOption c.head (Unit {0}) (λ j. Waits plan past (earlier ++ c.waived) j)
@@ -76,13 +76,13 @@ is_waiver plan past earlier a j h is =
       gives = refl;
     }
 
-waived_job : (plan : DiePlan) (past : Log) (a : Accounts) (j : Job) (o : Option Job) → o ≡ Some j → after_waiver o a ≡ moves.waived a j.task
+waived_job : (plan : DiePlan) (past : Log) (a : Accounts) (j : Job) (o : Option Job) → o ≡ Some j → after_waiver o a ≡ moves.accounts_after_waiver a j.task
 waived_job plan past a j o e = ap (λ p. after_waiver p a) e
 
 -- one more waiver before a choice
 with_one : (plan : DiePlan) (past : Log) (earlier : List Waived) (a : Accounts) (j : Job) (c : Choice) → Waits plan past earlier j
     → is_waivable plan past a j ≡ true
-    → IsChosen plan past (earlier ++ waiver_of a j ∷ []) (moves.waived a j.task) c
+    → IsChosen plan past (earlier ++ waiver_of a j ∷ []) (moves.accounts_after_waiver a j.task) c
     → IsChosen plan past earlier a (with_waiver (waiver_of a j) c)
 with_one plan past earlier a j c h is rest = record {
   waivers = (j, is_waiver plan past earlier a j h is, rest.waivers);
@@ -97,10 +97,10 @@ by_test : (plan : DiePlan) (past : Log) (earlier : List Waived) (a : Accounts) (
     → is_waivable plan past a j ≡ b → Waits plan past earlier j → AllByRecursion (Waits plan past earlier) waiting
     → ((before : List Waived) (a' : Accounts) (rest : List Job) → AllByRecursion (Waits plan past before) rest
     → IsChosen plan past before a' (again a' rest))
-    → IsChosen plan past earlier a (weighed a waiting again j b)
+    → IsChosen plan past earlier a (head_or_waiver a waiting again j b)
 by_test plan past earlier a waiting again j true is p h ih =
-    with_one plan past earlier a j (again (moves.waived a j.task) (without j waiting)) p is (
-    ih (earlier ++ waiver_of a j ∷ []) (moves.waived a j.task) (without j waiting) (
+    with_one plan past earlier a j (again (moves.accounts_after_waiver a j.task) (without j waiting)) p is (
+    ih (earlier ++ waiver_of a j ∷ []) (moves.accounts_after_waiver a j.task) (without j waiting) (
     all_passing (Waits plan past earlier) (Waits plan past (earlier ++ waiver_of a j ∷ [])) (λ i. not (i.number == j.number)) waiting
     (still_waits plan past earlier a j) h
     )
@@ -113,21 +113,21 @@ by_least : (plan : DiePlan) (past : Log) (earlier : List Waived) (a : Accounts) 
     → OfSome (Waits plan past earlier) o → AllByRecursion (Waits plan past earlier) waiting
     → ((before : List Waived) (a' : Accounts) (rest : List Job) → AllByRecursion (Waits plan past before) rest
     → IsChosen plan past before a' (again a' rest))
-    → IsChosen plan past earlier a (chosen plan past a waiting again o)
+    → IsChosen plan past earlier a (choice_by_head plan past a waiting again o)
 by_least plan past earlier a waiting again None p h ih = record { waivers = tt; head = tt; unwaivable = tt }
 by_least plan past earlier a waiting again (Some j) p h ih = by_test plan past earlier a waiting again j (is_waivable plan past a j) refl p
     h ih
 
 -- among those that wait, a choice waives by the rules, and its head waits and may not be waived
-pub chosen_among : (plan : DiePlan) (past : Log) (turns : ℕ) (earlier : List Waived) (a : Accounts) (waiting : List Job)
-    → AllByRecursion (Waits plan past earlier) waiting → IsChosen plan past earlier a (choice_among plan past turns a waiting)
+pub chosen_among : (plan : DiePlan) (past : Log) (rounds : ℕ) (earlier : List Waived) (a : Accounts) (waiting : List Job)
+    → AllByRecursion (Waits plan past earlier) waiting → IsChosen plan past earlier a (choice_among plan past rounds a waiting)
 chosen_among plan past zero earlier a waiting h = record { waivers = tt; head = tt; unwaivable = tt }
-chosen_among plan past (suc turns) earlier a waiting h =
-    by_least plan past earlier a waiting (choice_among plan past turns) (least waiting) (least_all (Waits plan past earlier) waiting h) h
-    (chosen_among plan past turns)
+chosen_among plan past (suc rounds) earlier a waiting h =
+    by_least plan past earlier a waiting (choice_among plan past rounds) (least waiting) (least_all (Waits plan past earlier) waiting h) h
+    (chosen_among plan past rounds)
 
 ready_waits : (plan : DiePlan) (past : Log) (j : Job) → is_ready plan past j ≡ true → job_at past j.number ≡ Some j
-    → Waits plan past (waived past) j
+    → Waits plan past (waived_collections past) j
 ready_waits plan past j ready known = record {
   known = known;
   ready = ready;
@@ -137,9 +137,9 @@ ready_waits plan past j ready known = record {
 
 -- a slot's choice
 pub choice_is : (start : Start) (past : Log) → AllByRecursion (λ j. job_at past j.number ≡ Some j) (jobs past)
-    → IsChosen start.plan past (waived past) (accounts start past) (choice start past)
+    → IsChosen start.plan past (waived_collections past) (accounts start past) (choice start past)
 choice_is start past known =
-    chosen_among start.plan past _ (waived past) (accounts start past) (ready start.plan past) (
-    all_passing (λ j. job_at past j.number ≡ Some j) (Waits start.plan past (waived past)) (is_ready start.plan past) (jobs past)
+    chosen_among start.plan past _ (waived_collections past) (accounts start past) (ready start.plan past) (
+    all_passing (λ j. job_at past j.number ≡ Some j) (Waits start.plan past (waived_collections past)) (is_ready start.plan past) (jobs past)
     (ready_waits start.plan past) known
     )

@@ -9,19 +9,19 @@ use Rattle.slot_types.specs.declared.events.Event.{Event}
 use Rattle.slot_types.specs.declared.events.Event.TheVariants as events
 use Rattle.slot_types.specs.declared.replies.Reply.TheVariants as replies
 use Rattle.slot_types.specs.declared.replies.Waived.{Waived}
-use Rattle.die_log.specs.Log.{Log, Job, jobs, job_at, now, acts, waived, is_waived}
-use Rattle.die_log.specs.Flash.{cells, valid}
-use Rattle.die_log.specs.Work.{is_copy_program, victim_of, shown_by, is_ready}
-use Rattle.die_log.specs.Accounts.{accounts, after_waivers}
-use Rattle.die_log.specs.Held.{reserve_full}
-use Rattle.die_log.specs.Answers.{IsExact, accepted, choice, slot_reply, reply_with, act_for, is_waivable}
-use Rattle.die_log.specs.Legal.{AreWaivers, is_among}
+use Rattle.die_log.specs.Model.Log.{Log, Job, jobs, job_at, now, acts, waived_collections, is_waived}
+use Rattle.die_log.specs.Model.Flash.{cells, valid}
+use Rattle.die_log.specs.Model.Work.{is_copy_program, victim_of, shown_by, is_ready}
+use Rattle.die_log.specs.Model.Accounts.{accounts, after_waivers}
+use Rattle.die_log.specs.Invariants.TrueAccounts.{reserve_full}
+use Rattle.die_log.specs.Model.Answers.{IsExact, reply_if_accepted, choice, slot_reply, reply_with, act_for, is_waivable}
+use Rattle.die_log.specs.Results.Legal.{AreWaivers, is_among}
 use Rattle.die_log.proofs.Legality.{entry}
 use Rattle.die_log.proofs.Collecting.{no_acts}
 use Rattle.die_log.proofs.Tokens.Waivers.{Waits}
 use Rattle.die_log.proofs.Tokens.Given.{CellsServe}
-use Rattle.die_log.specs.Held.{is_pending, copied_of, AreTrue}
-use Rattle.die_log.specs.Well.{FewCopies}
+use Rattle.die_log.specs.Invariants.TrueAccounts.{is_pending, copied_of, AreTrueAccounts}
+use Rattle.die_log.specs.Invariants.TrueAndLegal.{FewCopies}
 use Rattle.die_log.proofs.Tokens.Waivers.{choice_is}
 use Rattle.die_log.proofs.Tokens.Doing.{act_kind}
 use Rattle.die_log.proofs.Tokens.Changes.{pending_other}
@@ -30,8 +30,8 @@ use Rattle.die_log.proofs.Tokens.Turns.{no_job_copy}
 use Rattle.die_log.proofs.Tokens.Whole.{all_known}
 use Rattle.die_log.proofs.Standing.Longer.{elsewhere, shown_none, no_victim}
 use Rattle.die_log.proofs.Tokens.Few.{few_now, few_turn}
-use Rattle.die_log.specs.Start.{Start}
-use Rattle.die_log.specs.Opening.{IsOpening}
+use Rattle.die_log.specs.Model.Start.{Start}
+use Rattle.die_log.specs.Model.Opening.{IsOpening}
 
 none_some : (o : Option ℕ) (b : ℕ) → o ≡ None → o ≡ Some b → ⊥
 none_some None b e h = absurd cc
@@ -54,7 +54,7 @@ few_taken start past new i b exact few e is shows =
     ]
 
 few_idle : (start : Start) (past : Log) (caller slot : ℕ) (ws : List Waived) (finished : Option ℕ) → CellsServe start past
-    → AreWaivers start.plan past (waived past) (accounts start past) ws → FewCopies start past
+    → AreWaivers start.plan past (waived_collections past) (accounts start past) ws → FewCopies start past
     → FewCopies start (slot_entry caller slot ws None finished ∷ past)
 few_idle start past caller slot ws finished c are few = record { few = each }
   where
@@ -73,9 +73,9 @@ few_idle start past caller slot ws finished c are few = record { few = each }
         in
         omega (arith, copied, few.few i b known was (sym (shown_none start past (victim_of start i.number past)) ∙ shows))
 
-few_act : (start : Start) (past : Log) (caller : ℕ) (ws : List Waived) (j : Job) (o : Option Act) → IsOpening start → AreTrue start past
+few_act : (start : Start) (past : Log) (caller : ℕ) (ws : List Waived) (j : Job) (o : Option Act) → IsOpening start → AreTrueAccounts start past
     → CellsServe start past → FewCopies start past
-    → AreWaivers start.plan past (waived past) (accounts start past) ws → Waits start.plan past (waived past ++ ws) j
+    → AreWaivers start.plan past (waived_collections past) (accounts start past) ws → Waits start.plan past (waived_collections past ++ ws) j
     → is_waivable start.plan past (after_waivers past ws (accounts start past)) j ≡ false → act_for start past j ≡ o
     → FewCopies start (entry caller events.Slot (replies.Slot (reply_with start.plan past ws j o)) ∷ past)
 few_act start past caller ws j None bound h c few are waits unwaivable e = few_idle start past caller (now past) ws None c are few
@@ -84,9 +84,9 @@ few_act start past caller ws j (Some act) bound h c few are waits unwaivable e =
     (record { true_before = h; serve = c; waivers = are; waits = waits; does_it = e })
     (record { bound = bound; few_before = few; unwaivable = unwaivable })
 
-few_head : (start : Start) (past : Log) (caller : ℕ) (ws : List Waived) (o : Option Job) → IsOpening start → AreTrue start past
+few_head : (start : Start) (past : Log) (caller : ℕ) (ws : List Waived) (o : Option Job) → IsOpening start → AreTrueAccounts start past
     → CellsServe start past → FewCopies start past
-    → AreWaivers start.plan past (waived past) (accounts start past) ws → MatchOption o (Unit {0}) (λ j. Waits start.plan past (waived past ++ ws) j)
+    → AreWaivers start.plan past (waived_collections past) (accounts start past) ws → MatchOption o (Unit {0}) (λ j. Waits start.plan past (waived_collections past ++ ws) j)
     → MatchOption o (Unit {0}) (λ j. is_waivable start.plan past (after_waivers past ws (accounts start past)) j ≡ false)
     → FewCopies start (entry caller events.Slot (replies.Slot (slot_reply start past ws o)) ∷ past)
 few_head start past caller ws None bound h c few are waits unwaivable = few_idle start past caller (now past) ws None c are few
@@ -94,9 +94,9 @@ few_head start past caller ws (Some j) bound h c few are waits unwaivable = few_
     are waits unwaivable refl
 
 -- an accepted event keeps the copies few
-pub keeps_few : (start : Start) (past : Log) (caller : ℕ) (event : Event) → IsOpening start → IsExact start past → AreTrue start past
+pub keeps_few : (start : Start) (past : Log) (caller : ℕ) (event : Event) → IsOpening start → IsExact start past → AreTrueAccounts start past
     → CellsServe start past → FewCopies start past
-    → FewCopies start (entry caller event (accepted start past event) ∷ past)
+    → FewCopies start (entry caller event (reply_if_accepted start past event) ∷ past)
 keeps_few start past caller (events.Submit task release due ops) bound exact h c few = record
     { few = λ i b. few_taken start past _ i b exact few }
 keeps_few start past caller (events.Collect task release due) bound exact h c few = record

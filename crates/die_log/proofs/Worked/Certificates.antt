@@ -1,8 +1,8 @@
 -- The certificates of worked rows, and of the filling history.
 use Rattle.std.proofs.Common.{◌≡◌, [], ◌∷◌, Some, None, replicate, refl}
-use Rattle.die_log.specs.Log.{Log}
-use Rattle.die_log.specs.Answers.{run, answer}
-use Rattle.die_log.specs.Rows.{rows, certificate}
+use Rattle.die_log.specs.Model.Log.{Log}
+use Rattle.die_log.specs.Model.Answers.{run, answer}
+use Rattle.die_log.specs.Model.Rows.{rows, certificate}
 use Rattle.die_log.proofs.Worked.Plans.{roomy, tight, slot}
 use Rattle.die_log.proofs.Worked.ReadSeesTheWrite as read_after_write
 use Rattle.die_log.proofs.Worked.EarlierDuePreempts as preempts

@@ -1,4 +1,4 @@
--- Behind the filling history a collection finds nothing spare: it copies a page and erases its block.
+-- After the filling history a collection finds nothing spare: it copies a page and erases its block.
 use Rattle.std.proofs.Common.{◌≡◌, ℕ, List, [], ◌∷◌, Some, refl, false, negsuc}
 use Rattle.std.specs.Prelude.{drop}
 use Rattle.slot_types.specs.declared.acts.Act.TheVariants as does
@@ -6,13 +6,13 @@ use Rattle.slot_types.specs.declared.events.Event.{Event}
 use Rattle.slot_types.specs.declared.events.Event.TheVariants.{Collect}
 use Rattle.slot_types.specs.declared.replies.Reply.TheVariants.{Taken}
 use Rattle.late_cert.specs.Schedule.{lateness_of}
-use Rattle.die_log.specs.Log.{Log, acts}
-use Rattle.die_log.specs.Flash.{cells, block_at, free}
-use Rattle.die_log.specs.Accounts.{accounts}
-use Rattle.die_log.specs.Work.{completion, victim_of}
-use Rattle.die_log.specs.Answers.{run, answer}
-use Rattle.die_log.specs.Legal.{changed_since}
-use Rattle.die_log.specs.Lives.{erases_in, all_erases_in, collections_taken}
+use Rattle.die_log.specs.Model.Log.{Log, acts}
+use Rattle.die_log.specs.Model.Flash.{cells, block_at, free}
+use Rattle.die_log.specs.Model.Accounts.{accounts}
+use Rattle.die_log.specs.Model.Work.{completion, victim_of}
+use Rattle.die_log.specs.Model.Answers.{run, answer}
+use Rattle.die_log.specs.Results.Legal.{changed_since}
+use Rattle.die_log.specs.Model.Lives.{erases_in, all_erases_in, collections_taken}
 use Rattle.die_log.proofs.Worked.Plans.{tight, amounts, collect, slot}
 use Rattle.die_log.proofs.Worked.FillingHistory.{full}
 

@@ -1,9 +1,9 @@
--- A later job with an earlier due preempts.
+-- A later job with an earlier deadline preempts.
 use Rattle.std.proofs.Common.{◌≡◌, [], ◌∷◌, Some, map, refl, negsuc}
 use Rattle.slot_types.specs.declared.events.Op.TheVariants.{Read}
-use Rattle.die_log.specs.Log.{Log, jobs}
-use Rattle.die_log.specs.Work.{lateness_of}
-use Rattle.die_log.specs.Answers.{run, answer}
+use Rattle.die_log.specs.Model.Log.{Log, jobs}
+use Rattle.die_log.specs.Model.Work.{lateness_of}
+use Rattle.die_log.specs.Model.Answers.{run, answer}
 use Rattle.die_log.proofs.Worked.Plans.{roomy, submit, slot, numbers, worst_of}
 
 abbrev pub history : Log

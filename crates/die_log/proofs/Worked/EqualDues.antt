@@ -1,8 +1,8 @@
 -- Of two jobs with one due the smaller number goes first, once it is released.
 use Rattle.std.proofs.Common.{◌≡◌, [], ◌∷◌, Some, refl, negsuc, pos}
 use Rattle.slot_types.specs.declared.events.Op.TheVariants.{Read}
-use Rattle.die_log.specs.Log.{Log}
-use Rattle.die_log.specs.Answers.{run, answer}
+use Rattle.die_log.specs.Model.Log.{Log}
+use Rattle.die_log.specs.Model.Answers.{run, answer}
 use Rattle.die_log.proofs.Worked.Plans.{roomy, submit, slot, numbers, worst_of}
 
 abbrev pub four : Log

@@ -1,11 +1,11 @@
--- A read with an earlier due breaks into an erase, which then goes on.
+-- A read with an earlier deadline breaks into an erase, which then goes on.
 use Rattle.std.proofs.Common.{◌≡◌, [], ◌∷◌, Some, map, drop, refl, negsuc}
 use Rattle.slot_types.specs.declared.acts.Act.TheVariants as does
 use Rattle.slot_types.specs.declared.events.Op.TheVariants.{Read}
 use Rattle.late_cert.specs.Schedule.{lateness_of}
-use Rattle.die_log.specs.Log.{Log, acts, work}
-use Rattle.die_log.specs.Work.{completion}
-use Rattle.die_log.specs.Answers.{run, answer}
+use Rattle.die_log.specs.Model.Log.{Log, acts, work}
+use Rattle.die_log.specs.Model.Work.{completion}
+use Rattle.die_log.specs.Model.Answers.{run, answer}
 use Rattle.die_log.proofs.Worked.Plans.{tight, submit, collect, slot, numbers, bytes}
 use Rattle.die_log.proofs.Worked.FillingHistory.{full}
 

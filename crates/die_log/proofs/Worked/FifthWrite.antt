@@ -3,7 +3,7 @@ use Rattle.std.proofs.Common.{◌≡◌, [], ◌∷◌, replicate, refl}
 use Rattle.slot_types.specs.declared.events.Event.TheVariants.{Submit}
 use Rattle.slot_types.specs.declared.replies.Reply.TheVariants.{Refused, Taken}
 use Rattle.slot_types.specs.declared.refusals.Refusal.TheVariants.{NoTokens}
-use Rattle.die_log.specs.Answers.{run, answer}
+use Rattle.die_log.specs.Model.Answers.{run, answer}
 use Rattle.die_log.proofs.Worked.Plans.{roomy, submit, put}
 
 five : answer roomy [] (Submit 0 0 9 (replicate 5 (put 1))) ≡ Refused (NoTokens 4 5)

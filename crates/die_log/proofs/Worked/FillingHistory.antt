@@ -1,11 +1,11 @@
 -- The filling history: jobs and waived collections until nothing is spare; and the same with one write less.
 use Rattle.std.proofs.Common.{◌≡◌, ℕ, ◌+◌, List, [], ◌∷◌, ◌++◌, map, Some, None, refl, pos}
 use Rattle.slot_types.specs.declared.events.Event.{Event}
-use Rattle.die_log.specs.Log.{Log, now, waived}
-use Rattle.die_log.specs.Flash.{cells, valid_pages, free}
-use Rattle.die_log.specs.Accounts.{accounts}
-use Rattle.die_log.specs.Work.{completion, owed}
-use Rattle.die_log.specs.Answers.{run, answer}
+use Rattle.die_log.specs.Model.Log.{Log, now, waived_collections}
+use Rattle.die_log.specs.Model.Flash.{cells, valid_pages, free}
+use Rattle.die_log.specs.Model.Accounts.{accounts}
+use Rattle.die_log.specs.Model.Work.{completion, owed}
+use Rattle.die_log.specs.Model.Answers.{run, answer}
 use Rattle.die_log.proofs.Worked.Plans.{tight, amounts, submit, collect, slot, put, numbers, worst_of, programs}
 
 -- a collection that is waived in its slot, and then more calls
@@ -36,7 +36,7 @@ carries : numbers full ≡ Some 0 ∷ Some 0 ∷ Some 0 ∷ Some 0 ∷ None ∷ 
 unfolding answer
 carries = refl
 
-gives : map {B = ℕ × ℕ} (λ w. (w.number, w.given)) (waived full) ≡ (1, 2) ∷ (3, 2) ∷ (5, 2) ∷ (7, 2) ∷ (9, 2) ∷ []
+gives : map {B = ℕ × ℕ} (λ w. (w.number, w.given)) (waived_collections full) ≡ (1, 2) ∷ (3, 2) ∷ (5, 2) ∷ (7, 2) ∷ (9, 2) ∷ []
 unfolding answer
 gives = refl
 

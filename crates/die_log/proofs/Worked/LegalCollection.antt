@@ -2,9 +2,9 @@
 use Rattle.std.proofs.Common.{[], rules}
 use Rattle.plan_rules.specs.Bound.{MeetsBound}
 use Rattle.late_cert.specs.Schedule.{IsLeastLate}
-use Rattle.die_log.specs.Legal.{IsLegal}
-use Rattle.die_log.specs.Rows.{rows, carried_numbers}
-use Rattle.die_log.specs.Answers.{IsExact}
+use Rattle.die_log.specs.Results.Legal.{IsLegal}
+use Rattle.die_log.specs.Model.Rows.{rows, carried_numbers}
+use Rattle.die_log.specs.Model.Answers.{IsExact}
 use Rattle.die_log.proofs.Openings.{fresh_opens}
 use Rattle.die_log.proofs.Runs.{run_exact}
 use Rattle.die_log.proofs.Legal.Exact.{exact_legal}

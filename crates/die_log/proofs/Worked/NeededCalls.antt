@@ -4,9 +4,9 @@ use Rattle.slot_types.specs.declared.pages.Place.{Place}
 use Rattle.slot_types.specs.declared.events.Op.TheVariants.{Read, Write, Trim}
 use Rattle.flash_die.specs.declared.nand.NandCall.{NandCall}
 use Rattle.flash_die.specs.declared.nand.NandCall.TheVariants as calls
-use Rattle.die_log.specs.Log.{Log}
-use Rattle.die_log.specs.Answers.{run, answer}
-use Rattle.die_log.specs.Needed.{needed_call}
+use Rattle.die_log.specs.Model.Log.{Log}
+use Rattle.die_log.specs.Model.Answers.{run, answer}
+use Rattle.die_log.specs.Model.NeededCalls.{needed_call}
 use Rattle.die_log.proofs.Worked.Plans.{roomy, tight, submit, collect, slot, put, bytes}
 use Rattle.die_log.proofs.Worked.FillingHistory.{full}
 use Rattle.die_log.proofs.Worked.CollectionCopies.{collected}
@@ -38,7 +38,7 @@ needs_none = refl
 
 -- Collections
 
--- it is waived; with a job behind it the job's call is needed
+-- it is waived; with a job after it the job's call is needed
 waived_alone : needed_call roomy (run roomy written (collect 1 2 ∷ [])) ≡ None
 unfolding answer
 waived_alone = refl
@@ -51,7 +51,7 @@ waived_before_a_job = refl
 abbrev before : ℕ → Log
 before n = drop n collected
 
--- it reads the victim's page, programs it behind the newest, and erases the victim
+-- it reads the victim's page, programs it after the newest, and erases the victim
 a_collection_copies_and_erases : map (λ (log : Log). needed_call tight log) (before 5 ∷ before 4 ∷ before 3 ∷ before 2 ∷ before 1 ∷ [])
     ≡ Some (calls.Read (at 1 0)) ∷ Some (calls.Program (at 3 2) (bytes 2)) ∷ Some (calls.EraseSlot 1) ∷ Some (calls.EraseSlot 1)
     ∷ Some (calls.EraseSlot 1) ∷ []

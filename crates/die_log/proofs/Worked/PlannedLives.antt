@@ -6,10 +6,10 @@ use Rattle.plan_rules.specs.Keeping.{arrivals, slots}
 use Rattle.plan_rules.specs.Times.{times_of}
 use Rattle.plan_rules.proofs.Worked.PlansWithTimes.{small, each_ten, passes}
 use Rattle.plan_rules.proofs.Worked.EventsThatKeep as came
-use Rattle.die_log.specs.Start.{fresh}
-use Rattle.die_log.specs.Answers.{answer}
-use Rattle.die_log.specs.Lives.{start_after, HaveEnded}
-use Rattle.die_log.specs.PlannedLives.{Calls, events_of, lives_of, EndPeriods, KeepPlans, AreServedInTime}
+use Rattle.die_log.specs.Model.Start.{fresh}
+use Rattle.die_log.specs.Model.Answers.{answer}
+use Rattle.die_log.specs.Model.Lives.{start_after, HaveEnded}
+use Rattle.die_log.specs.Results.PlannedLives.{Calls, events_of_calls, lives_of, EndPeriods, KeepPlans, AreServedInTime}
 use Rattle.die_log.proofs.Openings.{fresh_opens, fresh_stocked}
 use Rattle.die_log.proofs.Life.Planning.{lives_go_on, all_served}
 use Rattle.die_log.proofs.Worked.Plans.{amounts}
@@ -18,14 +18,14 @@ use Rattle.die_log.proofs.Worked.PlannedWork.{calls, bound}
 abbrev thrice : List Calls
 thrice = calls ∷ calls ∷ calls ∷ []
 
-ends : EndPeriods (small 6) (each_ten 2) (events_of calls)
+ends : EndPeriods (small 6) (each_ten 2) (events_of_calls calls)
 ends = record {
-  due = All-from_recursion (λ a. a.due ≤ slots (events_of calls)) (arrivals 0 (events_of calls))
+  due = All-from_recursion (λ a. a.due ≤ slots (events_of_calls calls)) (arrivals 0 (events_of_calls calls))
       (omega arith, (omega arith, (omega arith, tt)));
   multiple = at;
 }
   where
-    at : (task : ℕ) → task < 1 → slots (events_of calls) % (times_of (each_ten 2) task).collect_period ≡ 0
+    at : (task : ℕ) → task < 1 → slots (events_of_calls calls) % (times_of (each_ten 2) task).collect_period ≡ 0
     at zero lt = refl
     at (suc task) lt = absurd (omega (arith, lt))
 

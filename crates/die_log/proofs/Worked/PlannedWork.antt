@@ -1,19 +1,19 @@
 -- A collection and two jobs that keep to a plan with times: the collection is waived, and both jobs are done long before
--- their dues. The laws say so too, and that none of them is refused.
+-- their deadlines. The laws say so too, and that none of them is refused.
 use Rattle.std.proofs.Common.{◌≡◌, ℕ, ◌≤◌, [], ◌∷◌, List, map, refl, arith}
 use Rattle.std.proofs.lemmas.List.Elements.{All-from_recursion}
 use Rattle.slot_types.specs.declared.events.Op.TheVariants.{Read}
 use Rattle.slot_types.specs.declared.events.Event.{Event}
 use Rattle.plan_rules.specs.Bound.{MeetsBound}
-use Rattle.die_log.specs.Start.{fresh}
+use Rattle.die_log.specs.Model.Start.{fresh}
 use Rattle.die_log.proofs.Openings.{fresh_opens, fresh_stocked}
 use Rattle.plan_rules.proofs.Worked.PlansWithTimes.{small, each_ten, passes}
 use Rattle.plan_rules.proofs.Worked.EventsThatKeep as came
-use Rattle.die_log.specs.Log.{Log, now, waived}
-use Rattle.die_log.specs.Work.{completion}
-use Rattle.die_log.specs.Accounts.{accounts}
-use Rattle.die_log.specs.Answers.{run, answer}
-use Rattle.die_log.specs.Planned.{IsInTime, AreAccepted}
+use Rattle.die_log.specs.Model.Log.{Log, now, waived_collections}
+use Rattle.die_log.specs.Model.Work.{completion}
+use Rattle.die_log.specs.Model.Accounts.{accounts}
+use Rattle.die_log.specs.Model.Answers.{run, answer}
+use Rattle.die_log.specs.Results.InTime.{IsInTime, AreAccepted}
 use Rattle.die_log.proofs.Worked.Plans.{amounts}
 use Rattle.die_log.proofs.Planned.Running.{run_in_time}
 use Rattle.die_log.proofs.Supply.Unrefused.{run_accepted}
@@ -28,7 +28,7 @@ twenty : now history ≡ 20
 unfolding answer
 twenty = refl
 
-gives_nothing : waived history ≡ record { number = 0; given = 0 } ∷ []
+gives_nothing : waived_collections history ≡ record { number = 0; given = 0 } ∷ []
 unfolding answer
 gives_nothing = refl
 

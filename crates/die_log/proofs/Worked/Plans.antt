@@ -9,9 +9,9 @@ use Rattle.slot_types.specs.declared.events.Op.TheVariants.{Write}
 use Rattle.slot_types.specs.declared.events.Event.{Event}
 use Rattle.slot_types.specs.declared.events.Event.TheVariants.{Submit, Collect, Slot}
 use Rattle.plan_rules.specs.Accounts.{Accounts}
-use Rattle.die_log.specs.Start.{Start, fresh}
-use Rattle.die_log.specs.Log.{Log, Carried, carried}
-use Rattle.die_log.specs.Work.{lateness_of, worst}
+use Rattle.die_log.specs.Model.Start.{Start, fresh}
+use Rattle.die_log.specs.Model.Log.{Log, Carried, carried_slots}
+use Rattle.die_log.specs.Model.Work.{lateness_of, worst}
 
 -- a die with eight blocks for twelve pages
 abbrev pub roomy_plan : DiePlan
@@ -57,7 +57,7 @@ slot = (0, Slot)
 
 -- the numbers carried, by slot
 abbrev pub numbers : Log → List (Option ℕ)
-numbers log = map (λ c. option_map (λ r. r.0) c) (carried log)
+numbers log = map (λ c. option_map (λ r. r.0) c) (carried_slots log)
 
 -- the worst job and its lateness
 abbrev pub worst_of : DiePlan → Log → Option (ℕ × ℤ)
@@ -71,4 +71,4 @@ page_programmed _ = None
 
 -- the pages programmed, in order
 abbrev pub programs : Log → List ℕ
-programs log = filter_map page_programmed (carried log)
+programs log = filter_map page_programmed (carried_slots log)

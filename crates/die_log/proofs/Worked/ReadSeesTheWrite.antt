@@ -2,9 +2,9 @@
 use Rattle.std.proofs.Common.{◌≡◌, [], ◌∷◌, Some, map, refl, negsuc}
 use Rattle.slot_types.specs.declared.acts.Act.TheVariants as does
 use Rattle.slot_types.specs.declared.events.Op.TheVariants.{Read, Write}
-use Rattle.die_log.specs.Log.{Log, acts}
-use Rattle.die_log.specs.Work.{completion}
-use Rattle.die_log.specs.Answers.{run, answer}
+use Rattle.die_log.specs.Model.Log.{Log, acts}
+use Rattle.die_log.specs.Model.Work.{completion}
+use Rattle.die_log.specs.Model.Answers.{run, answer}
 use Rattle.die_log.proofs.Worked.Plans.{roomy, submit, slot, bytes, worst_of}
 
 abbrev pub history : Log

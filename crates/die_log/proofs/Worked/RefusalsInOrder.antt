@@ -6,8 +6,8 @@ use Rattle.slot_types.specs.declared.events.Event.{Event}
 use Rattle.slot_types.specs.declared.events.Event.TheVariants.{Submit}
 use Rattle.slot_types.specs.declared.replies.Reply.TheVariants.{Refused, Taken}
 use Rattle.slot_types.specs.declared.refusals.Refusal.TheVariants as because
-use Rattle.die_log.specs.Log.{Log}
-use Rattle.die_log.specs.Answers.{run, answer}
+use Rattle.die_log.specs.Model.Log.{Log}
+use Rattle.die_log.specs.Model.Answers.{run, answer}
 use Rattle.die_log.proofs.Worked.Plans.{roomy, slot, put}
 
 abbrev five_idle : Log

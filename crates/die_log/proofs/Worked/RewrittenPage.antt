@@ -3,12 +3,12 @@ use Rattle.std.proofs.Common.{◌≡◌, true, [], ◌∷◌, refl, negsuc}
 use Rattle.slot_types.specs.declared.acts.Act.TheVariants as does
 use Rattle.slot_types.specs.declared.events.Op.TheVariants.{Write}
 use Rattle.late_cert.specs.Schedule.{lateness_of}
-use Rattle.die_log.specs.Log.{Log, acts, work}
-use Rattle.die_log.specs.Flash.{free, content}
-use Rattle.die_log.specs.Accounts.{accounts}
-use Rattle.die_log.specs.Work.{completion}
-use Rattle.die_log.specs.Answers.{run, answer}
-use Rattle.die_log.specs.Legal.{changed_since}
+use Rattle.die_log.specs.Model.Log.{Log, acts, work}
+use Rattle.die_log.specs.Model.Flash.{free, content}
+use Rattle.die_log.specs.Model.Accounts.{accounts}
+use Rattle.die_log.specs.Model.Work.{completion}
+use Rattle.die_log.specs.Model.Answers.{run, answer}
+use Rattle.die_log.specs.Results.Legal.{changed_since}
 use Rattle.die_log.proofs.Worked.Plans.{tight, amounts, submit, collect, slot, bytes}
 use Rattle.die_log.proofs.Worked.FillingHistory.{one_less}
 

@@ -3,11 +3,11 @@ use Rattle.std.proofs.Common.{◌≡◌, [], ◌∷◌, None, map, refl, negsuc}
 use Rattle.slot_types.specs.declared.acts.Act.TheVariants as does
 use Rattle.slot_types.specs.declared.events.Op.TheVariants.{Read, Write, Trim}
 use Rattle.late_cert.specs.Schedule.{lateness_of}
-use Rattle.die_log.specs.Log.{Log, acts}
-use Rattle.die_log.specs.Flash.{cells, block_of_page, free}
-use Rattle.die_log.specs.Accounts.{accounts}
-use Rattle.die_log.specs.Work.{completion}
-use Rattle.die_log.specs.Answers.{run, answer}
+use Rattle.die_log.specs.Model.Log.{Log, acts}
+use Rattle.die_log.specs.Model.Flash.{cells, block_of_page, free}
+use Rattle.die_log.specs.Model.Accounts.{accounts}
+use Rattle.die_log.specs.Model.Work.{completion}
+use Rattle.die_log.specs.Model.Answers.{run, answer}
 use Rattle.die_log.proofs.Worked.Plans.{roomy, amounts, submit, slot, bytes}
 
 -- the write and the trim

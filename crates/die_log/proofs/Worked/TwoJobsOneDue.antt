@@ -1,9 +1,9 @@
 -- Two jobs with one due, of which one can't meet it.
 use Rattle.std.proofs.Common.{◌≡◌, [], ◌∷◌, Some, map, refl, pos}
 use Rattle.slot_types.specs.declared.events.Op.TheVariants.{Read}
-use Rattle.die_log.specs.Log.{Log}
-use Rattle.die_log.specs.Work.{completion}
-use Rattle.die_log.specs.Answers.{run, answer}
+use Rattle.die_log.specs.Model.Log.{Log}
+use Rattle.die_log.specs.Model.Work.{completion}
+use Rattle.die_log.specs.Model.Answers.{run, answer}
 use Rattle.die_log.proofs.Worked.Plans.{roomy, submit, slot, worst_of}
 
 abbrev pub history : Log

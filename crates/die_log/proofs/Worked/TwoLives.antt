@@ -7,13 +7,13 @@ use Rattle.std.proofs.lemmas.List.Elements.{All-contains, All-from_recursion}
 use Rattle.slot_types.specs.declared.acts.Act.TheVariants as does
 use Rattle.slot_types.specs.declared.events.Op.TheVariants.{Read, Write}
 use Rattle.plan_rules.specs.Bound.{MeetsBound}
-use Rattle.die_log.specs.Log.{Log, Job, jobs, acts, is_waived}
-use Rattle.die_log.specs.Accounts.{accounts}
-use Rattle.die_log.specs.Work.{is_done}
-use Rattle.die_log.specs.Answers.{run, answer}
-use Rattle.die_log.specs.Opening.{IsQuiet, renewed}
-use Rattle.die_log.specs.Lives.{Lives, start_after, HaveEnded, AreLives, last_content, rows_of_all, numbers_of_all}
-use Rattle.die_log.specs.PlannedLives.{Calls}
+use Rattle.die_log.specs.Model.Log.{Log, Job, jobs, acts, is_waived}
+use Rattle.die_log.specs.Model.Accounts.{accounts}
+use Rattle.die_log.specs.Model.Work.{is_done}
+use Rattle.die_log.specs.Model.Answers.{run, answer}
+use Rattle.die_log.specs.Model.Opening.{IsQuiet, renewed_start}
+use Rattle.die_log.specs.Model.Lives.{Lives, start_after, HaveEnded, AreLives, last_content, rows_of_all, numbers_of_all}
+use Rattle.die_log.specs.Results.PlannedLives.{Calls}
 use Rattle.die_log.proofs.Runs.{run_exact}
 use Rattle.die_log.proofs.Worked.Plans.{roomy, roomy_plan, amounts, submit, slot, bytes}
 
@@ -25,13 +25,13 @@ first_log = run roomy [] first_calls
 
 -- up to the slot of the read
 abbrev pub asked : Log
-asked = run (renewed roomy first_log) [] (submit 0 1 (Read 3 ∷ []) ∷ [])
+asked = run (renewed_start roomy first_log) [] (submit 0 1 (Read 3 ∷ []) ∷ [])
 
 abbrev second_calls : Calls
 second_calls = submit 0 1 (Read 3 ∷ []) ∷ slot ∷ []
 
 abbrev pub second_log : Log
-second_log = run (renewed roomy first_log) [] second_calls
+second_log = run (renewed_start roomy first_log) [] second_calls
 
 abbrev pub both : Lives
 both = second_log ∷ first_log ∷ []
@@ -97,4 +97,4 @@ pub ended : HaveEnded roomy (first_log ∷ [])
 ended = (tt, run_exact roomy [] first_calls tt, quiet)
 
 pub are_lives : AreLives roomy both
-are_lives = (ended, run_exact (renewed roomy first_log) [] second_calls tt)
+are_lives = (ended, run_exact (renewed_start roomy first_log) [] second_calls tt)

@@ -3,9 +3,9 @@ use Rattle.std.proofs.Common.{◌≡◌, [], ◌∷◌, None, refl}
 use Rattle.slot_types.specs.declared.events.Event.TheVariants.{Collect}
 use Rattle.slot_types.specs.declared.replies.Reply.TheVariants as replies
 use Rattle.slot_types.specs.declared.refusals.Refusal.TheVariants.{CollectorBusy}
-use Rattle.die_log.specs.Log.{Log, waived}
-use Rattle.die_log.specs.Accounts.{accounts}
-use Rattle.die_log.specs.Answers.{run, answer}
+use Rattle.die_log.specs.Model.Log.{Log, waived_collections}
+use Rattle.die_log.specs.Model.Accounts.{accounts}
+use Rattle.die_log.specs.Model.Answers.{run, answer}
 use Rattle.die_log.proofs.Worked.Plans.{roomy, amounts, collect, slot, numbers, worst_of}
 
 abbrev taken : Log
@@ -18,7 +18,7 @@ busy = refl
 abbrev history : Log
 history = run roomy taken (slot ∷ [])
 
-gives_nothing : waived history ≡ record { number = 0; given = 0 } ∷ []
+gives_nothing : waived_collections history ≡ record { number = 0; given = 0 } ∷ []
 unfolding answer
 gives_nothing = refl
 

@@ -1,13 +1,13 @@
--- Acts of a job that wasn't taken, before its release, behind its end, and out of the order of its operations; and one of a waived
--- collection.
+-- Acts of a job that wasn't taken, before its release, after its end, and out of the order of its operations; and one
+-- of a waived collection.
 use Rattle.std.proofs.Common.{◌≡◌, false, [], ◌∷◌, Some, refl, arith}
 use Rattle.std.proofs.lemmas.Option.{none-some}
 use Rattle.slot_types.specs.declared.acts.Act.TheVariants as does
 use Rattle.slot_types.specs.declared.events.Op.TheVariants.{Read, Write}
-use Rattle.die_log.specs.Log.{Log, Job, job_at}
-use Rattle.die_log.specs.Flash.{blank_page}
-use Rattle.die_log.specs.Answers.{run, answer}
-use Rattle.die_log.specs.Legal.{IsLegal}
+use Rattle.die_log.specs.Model.Log.{Log, Job, job_at}
+use Rattle.die_log.specs.Model.Flash.{blank_page}
+use Rattle.die_log.specs.Model.Answers.{run, answer}
+use Rattle.die_log.specs.Results.Legal.{IsLegal}
 use Rattle.die_log.proofs.Worked.Plans.{roomy, collect, submit, slot, bytes}
 use Rattle.die_log.proofs.Wrong.Entries.{ran, act_of_job}
 

@@ -9,10 +9,10 @@ use Rattle.slot_types.specs.declared.events.Op.TheVariants.{Read, Write, Trim}
 use Rattle.slot_types.specs.declared.events.Event.TheVariants.{Submit, Slot}
 use Rattle.slot_types.specs.declared.replies.Entry.{Entry}
 use Rattle.slot_types.specs.declared.replies.Reply.TheVariants as replies
-use Rattle.die_log.specs.Log.{Log, Job, job_at, waived, work}
-use Rattle.die_log.specs.Accounts.{accounts}
-use Rattle.die_log.specs.Legal.{IsLegal, IsLegalAct, IsWaiver, IsNextCollectAct, Does}
-use Rattle.die_log.specs.Start.{Start}
+use Rattle.die_log.specs.Model.Log.{Log, Job, job_at, waived_collections, work}
+use Rattle.die_log.specs.Model.Accounts.{accounts}
+use Rattle.die_log.specs.Results.Legal.{IsLegal, IsLegalAct, IsWaiver, IsNextCollectAct, Does}
+use Rattle.die_log.specs.Model.Start.{Start}
 
 abbrev pub idle : ℕ → Entry
 idle now = record { caller = 0; event = Slot; reply = replies.Slot (record { slot = now; waived = []; ran = None; finished = None }) }
@@ -39,18 +39,18 @@ taken release due ops number = record { caller = 0; event = Submit 0 release due
 
 -- the act is one of the job that its number names
 pub act_of_job : (start : Start) (past : Log) (now number : ℕ) (act : Act) (j : Job) → job_at past number ≡ Some j
-    → IsLegal start (ran now number act ∷ past) → IsLegalAct start past (waived past ++ []) j number act
+    → IsLegal start (ran now number act ∷ past) → IsLegalAct start past (waived_collections past ++ []) j number act
 act_of_job start past now number act j is h =
-    let a = h.1.slot.1.1 in subst (λ (i : Job). IsLegalAct start past (waived past ++ []) i number act)
+    let a = h.1.slot.1.1 in subst (λ (i : Job). IsLegalAct start past (waived_collections past ++ []) i number act)
     (same_Some h.1.slot.1.0 j (sym a.known ∙ is)) a
 
 -- the waiver is one of the collection that its number names
 pub waiver_of_job : (start : Start) (past : Log) (now number given : ℕ) (j : Job) → job_at past number ≡ Some j
     → IsLegal start (waives now number given ∷ past)
-    → IsWaiver start.plan past (waived past) (accounts start past) j (record { number = number; given = given })
+    → IsWaiver start.plan past (waived_collections past) (accounts start past) j (record { number = number; given = given })
 waiver_of_job start past now number given j is h =
     let w = h.1.slot.0.1 in
-    subst (λ (i : Job). IsWaiver start.plan past (waived past) (accounts start past) i (record { number = number; given = given }))
+    subst (λ (i : Job). IsWaiver start.plan past (waived_collections past) (accounts start past) i (record { number = number; given = given }))
     (same_Some h.1.slot.0.0 j (sym w.known ∙ is)) w
 
 -- no operation is done by an act of a collection

@@ -1,5 +1,5 @@
 -- An erase that a read broke into is ended with its next slot, the second of three. The entry that says so isn't exact,
--- and a slot that idles behind it isn't legal: the collection still waits.
+-- and a slot that idles after it isn't legal: the collection still waits.
 use Rattle.std.proofs.Common.{◌≡◌, ℕ, [], ◌∷◌, Option, Some, None, true, refl, ap, ◌∙◌, arith}
 use Rattle.slot_types.specs.declared.acts.Act.TheVariants as does
 use Rattle.slot_types.specs.declared.events.Event.TheVariants.{Slot}
@@ -7,9 +7,9 @@ use Rattle.slot_types.specs.declared.events.Op.TheVariants.{Read}
 use Rattle.slot_types.specs.declared.replies.Entry.{Entry}
 use Rattle.slot_types.specs.declared.replies.Reply.{Reply}
 use Rattle.slot_types.specs.declared.replies.Reply.TheVariants as replies
-use Rattle.die_log.specs.Log.{Log, Job}
-use Rattle.die_log.specs.Answers.{run, answer, IsExact}
-use Rattle.die_log.specs.Legal.{IsLegal}
+use Rattle.die_log.specs.Model.Log.{Log, Job}
+use Rattle.die_log.specs.Model.Answers.{run, answer, IsExact}
+use Rattle.die_log.specs.Results.Legal.{IsLegal}
 use Rattle.die_log.proofs.Worked.Plans.{tight, submit, collect, slot}
 use Rattle.die_log.proofs.Worked.FillingHistory.{full}
 use Rattle.die_log.proofs.Wrong.Entries.{idle}

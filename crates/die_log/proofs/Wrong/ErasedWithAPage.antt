@@ -1,10 +1,10 @@
 -- A collection erases its block with a page still placed in it.
 use Rattle.std.proofs.Common.{◌≡◌, [], ◌∷◌, refl, ap, sym, ◌∙◌}
 use Rattle.slot_types.specs.declared.acts.Act.TheVariants as does
-use Rattle.die_log.specs.Log.{Log}
-use Rattle.die_log.specs.Flash.{cells, valid}
-use Rattle.die_log.specs.Answers.{run, answer}
-use Rattle.die_log.specs.Legal.{IsLegal, IsNextCollectAct}
+use Rattle.die_log.specs.Model.Log.{Log}
+use Rattle.die_log.specs.Model.Flash.{cells, valid}
+use Rattle.die_log.specs.Model.Answers.{run, answer}
+use Rattle.die_log.specs.Results.Legal.{IsLegal, IsNextCollectAct}
 use Rattle.die_log.proofs.Worked.Plans.{tight, collect}
 use Rattle.die_log.proofs.Worked.FillingHistory.{full}
 use Rattle.die_log.proofs.Wrong.Entries.{ran, next_of}

@@ -1,9 +1,9 @@
 -- A read broke into an erase; the slot after it is idle, though the erase isn't done.
 use Rattle.std.proofs.Common.{[], ◌∷◌, true, refl, arith}
 use Rattle.slot_types.specs.declared.events.Op.TheVariants.{Read}
-use Rattle.die_log.specs.Log.{Log, Job}
-use Rattle.die_log.specs.Answers.{run, answer}
-use Rattle.die_log.specs.Legal.{IsLegal}
+use Rattle.die_log.specs.Model.Log.{Log, Job}
+use Rattle.die_log.specs.Model.Answers.{run, answer}
+use Rattle.die_log.specs.Results.Legal.{IsLegal}
 use Rattle.die_log.proofs.Worked.Plans.{tight, submit, collect, slot}
 use Rattle.die_log.proofs.Worked.FillingHistory.{full}
 use Rattle.die_log.proofs.Wrong.Entries.{idle}

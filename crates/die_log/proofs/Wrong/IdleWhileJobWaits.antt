@@ -1,9 +1,9 @@
 -- A die that idles while a job waits. Beside it the right log, which is legal.
 use Rattle.std.proofs.Common.{lit≤, false, [], ◌∷◌, refl, arith}
 use Rattle.slot_types.specs.declared.events.Op.TheVariants.{Read}
-use Rattle.die_log.specs.Log.{Log, Job}
-use Rattle.die_log.specs.Answers.{run, answer}
-use Rattle.die_log.specs.Legal.{IsLegal}
+use Rattle.die_log.specs.Model.Log.{Log, Job}
+use Rattle.die_log.specs.Model.Answers.{run, answer}
+use Rattle.die_log.specs.Results.Legal.{IsLegal}
 use Rattle.die_log.proofs.Worked.Plans.{roomy, submit, slot}
 use Rattle.die_log.proofs.Wrong.Entries.{idle}
 

@@ -1,9 +1,9 @@
 -- A job is accepted in slot 1 though its release was slot 0; and one whose due is not above its release.
 use Rattle.std.proofs.Common.{[], ◌∷◌, arith}
 use Rattle.slot_types.specs.declared.events.Op.TheVariants.{Read}
-use Rattle.die_log.specs.Log.{Log}
-use Rattle.die_log.specs.Answers.{run, answer}
-use Rattle.die_log.specs.Legal.{IsLegal}
+use Rattle.die_log.specs.Model.Log.{Log}
+use Rattle.die_log.specs.Model.Answers.{run, answer}
+use Rattle.die_log.specs.Results.Legal.{IsLegal}
 use Rattle.die_log.proofs.Worked.Plans.{roomy, slot}
 use Rattle.die_log.proofs.Wrong.Entries.{taken}
 

@@ -1,11 +1,11 @@
 -- A job of three writes is accepted on a die with two free pages; and what comes of it: its third program finds no free page.
 use Rattle.std.proofs.Common.{◌≡◌, [], ◌∷◌, refl, arith}
 use Rattle.slot_types.specs.declared.acts.Act.TheVariants as does
-use Rattle.die_log.specs.Log.{Log}
-use Rattle.die_log.specs.Flash.{free}
-use Rattle.die_log.specs.Work.{owed}
-use Rattle.die_log.specs.Answers.{answer}
-use Rattle.die_log.specs.Legal.{IsLegal}
+use Rattle.die_log.specs.Model.Log.{Log}
+use Rattle.die_log.specs.Model.Flash.{free}
+use Rattle.die_log.specs.Model.Work.{owed}
+use Rattle.die_log.specs.Model.Answers.{answer}
+use Rattle.die_log.specs.Results.Legal.{IsLegal}
 use Rattle.die_log.proofs.Worked.Plans.{tight, put, bytes}
 use Rattle.die_log.proofs.Worked.FillingHistory.{full}
 use Rattle.die_log.proofs.Wrong.Entries.{taken, ran}

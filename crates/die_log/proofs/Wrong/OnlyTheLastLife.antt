@@ -1,14 +1,14 @@
--- A law of reads over a die's lives that is told of the last one alone: what an earlier life wrote would be forgotten.
+-- A law of reads over a die's lives that speaks of the last one alone: what an earlier life wrote would be forgotten.
 use Rattle.std.proofs.Common.{◌≡◌, ℕ, [], ◌∷◌, Some, refl, ap, arith}
 use Rattle.slot_types.specs.declared.acts.Act.TheVariants as does
 use Rattle.slot_types.specs.declared.pages.PageData.{PageData}
 use Rattle.slot_types.specs.declared.replies.SlotReply.{SlotReply}
-use Rattle.die_log.specs.Log.{Log}
-use Rattle.die_log.specs.Start.{Start}
-use Rattle.die_log.specs.Answers.{answer}
-use Rattle.die_log.specs.Opening.{IsOpening}
-use Rattle.die_log.specs.Promised.{HasSlot}
-use Rattle.die_log.specs.Lives.{Lives, AreLives, HasLife, last_content}
+use Rattle.die_log.specs.Model.Log.{Log}
+use Rattle.die_log.specs.Model.Start.{Start}
+use Rattle.die_log.specs.Model.Answers.{answer}
+use Rattle.die_log.specs.Model.Opening.{IsOpening}
+use Rattle.die_log.specs.Results.Promises.{HasSlot}
+use Rattle.die_log.specs.Model.Lives.{Lives, AreLives, HasLife, last_content}
 use Rattle.die_log.proofs.Openings.{fresh_opens}
 use Rattle.die_log.proofs.Worked.Plans.{roomy, roomy_plan, bytes}
 use Rattle.die_log.proofs.Worked.TwoLives.{both, first_log, second_log, asked, bound, are_lives}

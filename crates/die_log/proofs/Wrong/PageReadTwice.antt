@@ -1,9 +1,9 @@
 -- A collection reads a page a second time, though it is still placed in its block.
 use Rattle.std.proofs.Common.{[], ◌∷◌, refl, arith}
 use Rattle.slot_types.specs.declared.acts.Act.TheVariants as does
-use Rattle.die_log.specs.Log.{Log}
-use Rattle.die_log.specs.Answers.{run, answer}
-use Rattle.die_log.specs.Legal.{IsLegal, IsNextCollectAct}
+use Rattle.die_log.specs.Model.Log.{Log}
+use Rattle.die_log.specs.Model.Answers.{run, answer}
+use Rattle.die_log.specs.Results.Legal.{IsLegal, IsNextCollectAct}
 use Rattle.die_log.proofs.Worked.Plans.{tight, collect, slot}
 use Rattle.die_log.proofs.Worked.FillingHistory.{full}
 use Rattle.die_log.proofs.Wrong.Entries.{ran, next_of}

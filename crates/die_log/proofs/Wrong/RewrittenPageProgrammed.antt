@@ -1,8 +1,8 @@
 -- A collection programs the page in its buffer, though a job rewrote the page since it was read.
 use Rattle.std.proofs.Common.{◌∷◌}
 use Rattle.slot_types.specs.declared.acts.Act.TheVariants as does
-use Rattle.die_log.specs.Answers.{answer}
-use Rattle.die_log.specs.Legal.{IsLegal, IsNextCollectAct}
+use Rattle.die_log.specs.Model.Answers.{answer}
+use Rattle.die_log.specs.Results.Legal.{IsLegal, IsNextCollectAct}
 use Rattle.die_log.proofs.Worked.Plans.{tight}
 use Rattle.die_log.proofs.Worked.RewrittenPage.{rewritten}
 use Rattle.die_log.proofs.Wrong.Entries.{ran, next_of}

@@ -3,10 +3,10 @@ use Rattle.std.proofs.Common.{◌≡◌, ℕ, [], ◌∷◌, slice_index, refl, 
 use Rattle.slot_types.specs.declared.acts.Act.TheVariants as does
 use Rattle.slot_types.specs.declared.events.Op.TheVariants.{Read, Write}
 use Rattle.slot_types.specs.declared.pages.PageData.{PageData}
-use Rattle.die_log.specs.Log.{Log}
-use Rattle.die_log.specs.Flash.{content, blank_page}
-use Rattle.die_log.specs.Answers.{run, answer}
-use Rattle.die_log.specs.Legal.{IsLegal}
+use Rattle.die_log.specs.Model.Log.{Log}
+use Rattle.die_log.specs.Model.Flash.{content, blank_page}
+use Rattle.die_log.specs.Model.Answers.{run, answer}
+use Rattle.die_log.specs.Results.Legal.{IsLegal}
 use Rattle.die_log.proofs.Worked.Plans.{roomy, submit, slot, bytes}
 use Rattle.die_log.proofs.Wrong.Entries.{ran}
 

@@ -1,21 +1,21 @@
 -- A life that begins with balances at the caps, after one in which a task wrote: more pages would be owned than are
 -- free.
 use Rattle.std.proofs.Common.{◌≡◌, refl, arith}
-use Rattle.plan_rules.specs.Accounts.{opening}
-use Rattle.die_log.specs.Start.{Start}
-use Rattle.die_log.specs.Answers.{answer}
-use Rattle.die_log.specs.Flash.{free}
-use Rattle.die_log.specs.Opening.{IsOpening, renewed}
+use Rattle.plan_rules.specs.Accounts.{opening_accounts}
+use Rattle.die_log.specs.Model.Start.{Start}
+use Rattle.die_log.specs.Model.Answers.{answer}
+use Rattle.die_log.specs.Model.Flash.{free}
+use Rattle.die_log.specs.Model.Opening.{IsOpening, renewed_start}
 use Rattle.die_log.proofs.Worked.Plans.{roomy, roomy_plan, amounts}
 use Rattle.die_log.proofs.Worked.TwoLives.{first_log}
 
 -- the balance at its cap, and the rest as it was
 abbrev given : Start
-given = record (renewed roomy first_log) { accounts = amounts roomy_plan 26 4 0 2 }
+given = record (renewed_start roomy first_log) { accounts = amounts roomy_plan 26 4 0 2 }
 
 -- all accounts as on a fresh die
 abbrev anew : Start
-anew = record (renewed roomy first_log) { accounts = opening roomy_plan }
+anew = record (renewed_start roomy first_log) { accounts = opening_accounts roomy_plan }
 
 frees : free roomy first_log ≡ 31
 unfolding answer

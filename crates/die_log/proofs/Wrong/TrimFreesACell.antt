@@ -1,11 +1,11 @@
 -- A trim frees the cell of its page at once: a job of three writes is accepted on a die that had two free pages.
 use Rattle.std.proofs.Common.{◌≡◌, [], ◌∷◌, refl, arith}
 use Rattle.slot_types.specs.declared.events.Op.TheVariants.{Trim}
-use Rattle.die_log.specs.Log.{Log}
-use Rattle.die_log.specs.Flash.{free}
-use Rattle.die_log.specs.Work.{owed}
-use Rattle.die_log.specs.Answers.{run, answer}
-use Rattle.die_log.specs.Legal.{IsLegal}
+use Rattle.die_log.specs.Model.Log.{Log}
+use Rattle.die_log.specs.Model.Flash.{free}
+use Rattle.die_log.specs.Model.Work.{owed}
+use Rattle.die_log.specs.Model.Answers.{run, answer}
+use Rattle.die_log.specs.Results.Legal.{IsLegal}
 use Rattle.die_log.proofs.Worked.Plans.{tight, submit, slot, put}
 use Rattle.die_log.proofs.Worked.FillingHistory.{full}
 use Rattle.die_log.proofs.Wrong.Entries.{taken}

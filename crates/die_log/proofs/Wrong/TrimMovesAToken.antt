@@ -1,10 +1,10 @@
--- A trim gives the token of its page's write back: the waiver behind it gives one page, where the task lacks two.
+-- A trim gives the token of its page's write back: the waiver after it gives one page, where the task lacks two.
 use Rattle.std.proofs.Common.{◌≡◌, true, [], ◌∷◌, Some, refl, arith}
 use Rattle.slot_types.specs.declared.events.Op.TheVariants.{Trim}
-use Rattle.die_log.specs.Log.{Log, Job, job_at}
-use Rattle.die_log.specs.Accounts.{accounts}
-use Rattle.die_log.specs.Answers.{run, answer}
-use Rattle.die_log.specs.Legal.{IsLegal}
+use Rattle.die_log.specs.Model.Log.{Log, Job, job_at}
+use Rattle.die_log.specs.Model.Accounts.{accounts}
+use Rattle.die_log.specs.Model.Answers.{run, answer}
+use Rattle.die_log.specs.Results.Legal.{IsLegal}
 use Rattle.plan_rules.specs.Accounts.{given_of}
 use Rattle.die_log.proofs.Worked.Plans.{roomy, collect, submit, slot, put}
 use Rattle.die_log.proofs.Wrong.Entries.{waives, waiver_of_job}

@@ -3,12 +3,12 @@ use Rattle.std.proofs.Common.{◌≡◌, [], ◌∷◌, None, set, get_or, refl,
 use Rattle.slot_types.specs.Places.{place_of}
 use Rattle.slot_types.specs.declared.acts.Act.TheVariants as does
 use Rattle.slot_types.specs.declared.events.Op.TheVariants.{Read}
-use Rattle.die_log.specs.Log.{Log}
-use Rattle.die_log.specs.Start.{Start, blank_page}
-use Rattle.die_log.specs.Flash.{cells, content, contents}
-use Rattle.die_log.specs.Answers.{run, answer}
-use Rattle.die_log.specs.Legal.{IsLegal}
-use Rattle.die_log.specs.Opening.{IsOpening, renewed}
+use Rattle.die_log.specs.Model.Log.{Log}
+use Rattle.die_log.specs.Model.Start.{Start, blank_page}
+use Rattle.die_log.specs.Model.Flash.{cells, content, contents}
+use Rattle.die_log.specs.Model.Answers.{run, answer}
+use Rattle.die_log.specs.Results.Legal.{IsLegal}
+use Rattle.die_log.specs.Model.Opening.{IsOpening, renewed_start}
 use Rattle.die_log.proofs.Worked.Plans.{roomy, submit, bytes}
 use Rattle.die_log.proofs.Worked.TrimmedPage.{trimmed}
 use Rattle.die_log.proofs.Wrong.Entries.{ran}
@@ -16,7 +16,7 @@ use Rattle.die_log.proofs.Wrong.StaleBytesRead.{first_byte}
 
 -- the trimmed page as it was written
 abbrev back : Start
-back = record (renewed roomy trimmed) { contents = set (contents roomy trimmed) 3 (bytes 17) }
+back = record (renewed_start roomy trimmed) { contents = set (contents roomy trimmed) 3 (bytes 17) }
 
 lies_nowhere : place_of (cells roomy trimmed).places 3 ≡ None
 unfolding answer
@@ -31,11 +31,11 @@ not_opening h = absurd (omega (arith, ap first_byte (h.blank 3 lies_nowhere), st
 
 -- in the next life
 abbrev asked : Log
-asked = run (renewed roomy trimmed) [] (submit 0 2 (Read 3 ∷ []) ∷ [])
+asked = run (renewed_start roomy trimmed) [] (submit 0 2 (Read 3 ∷ []) ∷ [])
 
-is_blank : first_byte (content (renewed roomy trimmed) asked 3) ≡ 255
+is_blank : first_byte (content (renewed_start roomy trimmed) asked 3) ≡ 255
 unfolding answer
 is_blank = refl
 
-not_legal : IsLegal (renewed roomy trimmed) (ran 0 0 (does.Read 3 (bytes 17)) ∷ asked) → ⊥
+not_legal : IsLegal (renewed_start roomy trimmed) (ran 0 0 (does.Read 3 (bytes 17)) ∷ asked) → ⊥
 not_legal h = absurd (omega (arith, ap first_byte h.1.slot.1.1.tells ∙ is_blank))

@@ -2,10 +2,10 @@
 use Rattle.std.proofs.Common.{◌≡◌, [], ◌∷◌, refl, ap, ◌∙◌, arith}
 use Rattle.slot_types.specs.declared.acts.Act.TheVariants as does
 use Rattle.slot_types.specs.declared.events.Op.TheVariants.{Read}
-use Rattle.die_log.specs.Log.{Log}
-use Rattle.die_log.specs.Flash.{content}
-use Rattle.die_log.specs.Answers.{run, answer}
-use Rattle.die_log.specs.Legal.{IsLegal}
+use Rattle.die_log.specs.Model.Log.{Log}
+use Rattle.die_log.specs.Model.Flash.{content}
+use Rattle.die_log.specs.Model.Answers.{run, answer}
+use Rattle.die_log.specs.Results.Legal.{IsLegal}
 use Rattle.die_log.proofs.Worked.Plans.{roomy, submit, bytes}
 use Rattle.die_log.proofs.Worked.TrimmedPage.{trimmed}
 use Rattle.die_log.proofs.Wrong.Entries.{ran}

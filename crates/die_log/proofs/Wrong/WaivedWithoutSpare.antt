@@ -3,9 +3,9 @@ use Rattle.std.proofs.Common.{[], ◌∷◌, None, arith}
 use Rattle.slot_types.specs.declared.events.Event.TheVariants.{Slot}
 use Rattle.slot_types.specs.declared.replies.Entry.{Entry}
 use Rattle.slot_types.specs.declared.replies.Reply.TheVariants as replies
-use Rattle.die_log.specs.Log.{Log}
-use Rattle.die_log.specs.Answers.{run, answer}
-use Rattle.die_log.specs.Legal.{IsLegal}
+use Rattle.die_log.specs.Model.Log.{Log}
+use Rattle.die_log.specs.Model.Answers.{run, answer}
+use Rattle.die_log.specs.Results.Legal.{IsLegal}
 use Rattle.die_log.proofs.Worked.Plans.{tight, collect}
 use Rattle.die_log.proofs.Worked.FillingHistory.{full}
 

@@ -1,9 +1,9 @@
 -- A waiver gives two pages to a task that lacks none to its cap; and one gives none to a task that lacks two.
 use Rattle.std.proofs.Common.{◌≡◌, true, [], ◌∷◌, Some, refl, arith}
-use Rattle.die_log.specs.Log.{Log, Job, job_at}
-use Rattle.die_log.specs.Accounts.{accounts}
-use Rattle.die_log.specs.Answers.{run, answer}
-use Rattle.die_log.specs.Legal.{IsLegal}
+use Rattle.die_log.specs.Model.Log.{Log, Job, job_at}
+use Rattle.die_log.specs.Model.Accounts.{accounts}
+use Rattle.die_log.specs.Model.Answers.{run, answer}
+use Rattle.die_log.specs.Results.Legal.{IsLegal}
 use Rattle.plan_rules.specs.Accounts.{given_of}
 use Rattle.die_log.proofs.Worked.Plans.{roomy, collect, submit, slot, put}
 use Rattle.die_log.proofs.Wrong.Entries.{waives, waiver_of_job}

@@ -1,16 +1,16 @@
--- A law of wear over a die's lives that is told of the last one alone: the erases of an earlier life would be lost.
+-- A law of wear over a die's lives that speaks of the last one alone: the erases of an earlier life would be lost.
 use Rattle.std.proofs.Common.{◌≡◌, ℕ, ◌+◌, ◌≤◌, [], ◌∷◌, ◌⊎◌, inl, inr, refl, arith}
 use Rattle.std.specs.Prelude.{IsTrue}
 use Rattle.std.specs.List.{AllByRecursion}
 use Rattle.std.proofs.lemmas.List.Elements.{All-contains, All-from_recursion}
 use Rattle.plan_rules.specs.Bound.{MeetsBound}
-use Rattle.die_log.specs.Log.{Log, Job, jobs, is_waived}
-use Rattle.die_log.specs.Flash.{block_at}
-use Rattle.die_log.specs.Work.{is_done}
-use Rattle.die_log.specs.Start.{Start}
-use Rattle.die_log.specs.Answers.{IsExact, answer}
-use Rattle.die_log.specs.Opening.{IsOpening, IsQuiet}
-use Rattle.die_log.specs.Lives.{Lives, start_after, AreLives, erases_in}
+use Rattle.die_log.specs.Model.Log.{Log, Job, jobs, is_waived}
+use Rattle.die_log.specs.Model.Flash.{block_at}
+use Rattle.die_log.specs.Model.Work.{is_done}
+use Rattle.die_log.specs.Model.Start.{Start}
+use Rattle.die_log.specs.Model.Answers.{IsExact, answer}
+use Rattle.die_log.specs.Model.Opening.{IsOpening, IsQuiet}
+use Rattle.die_log.specs.Model.Lives.{Lives, start_after, AreLives, erases_in}
 use Rattle.die_log.proofs.Openings.{fresh_opens}
 use Rattle.die_log.proofs.Runs.{run_exact}
 use Rattle.die_log.proofs.Worked.Plans.{tight, tight_plan}

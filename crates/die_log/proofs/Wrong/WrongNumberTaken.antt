@@ -1,7 +1,7 @@
 -- The first job is taken under number 1.
 use Rattle.std.proofs.Common.{[], ◌∷◌, arith}
 use Rattle.slot_types.specs.declared.events.Op.TheVariants.{Read}
-use Rattle.die_log.specs.Legal.{IsLegal}
+use Rattle.die_log.specs.Results.Legal.{IsLegal}
 use Rattle.die_log.proofs.Worked.Plans.{roomy}
 use Rattle.die_log.proofs.Wrong.Entries.{taken}
 

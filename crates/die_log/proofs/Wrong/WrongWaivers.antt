@@ -1,9 +1,9 @@
 -- A collection is waived before its release, or a second time; and a job is waived.
 use Rattle.std.proofs.Common.{◌≡◌, true, false, [], ◌∷◌, Some, refl, arith}
 use Rattle.slot_types.specs.declared.events.Op.TheVariants.{Read}
-use Rattle.die_log.specs.Log.{Log, Job, job_at}
-use Rattle.die_log.specs.Answers.{run, answer}
-use Rattle.die_log.specs.Legal.{IsLegal}
+use Rattle.die_log.specs.Model.Log.{Log, Job, job_at}
+use Rattle.die_log.specs.Model.Answers.{run, answer}
+use Rattle.die_log.specs.Results.Legal.{IsLegal}
 use Rattle.die_log.proofs.Worked.Plans.{roomy, collect, submit, slot}
 use Rattle.die_log.proofs.Wrong.Entries.{waives, waiver_of_job}
 

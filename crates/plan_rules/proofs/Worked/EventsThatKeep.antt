@@ -14,7 +14,7 @@ use Rattle.slot_types.specs.declared.events.Event.{Event}
 use Rattle.slot_types.specs.declared.events.Event.TheVariants.{Submit, Collect, Slot}
 use Rattle.plan_rules.specs.Times.{times_of}
 use Rattle.slot_types.specs.Operations.{page_of}
-use Rattle.plan_rules.specs.Keeping.{Arrival, arrivals, slots, IsPlanned, AreApart, is_collection_at, IsCollectSlot, KeepsPlan}
+use Rattle.plan_rules.specs.Keeping.{TaskArrival, arrivals, slots, IsPlanned, AreApart, is_collection_at, IsCollectSlot, KeepsPlan}
 use Rattle.plan_rules.proofs.Worked.PlansWithTimes.{small, each_ten, has_times}
 
 -- a collection and a job, and after so many slots a second job; twenty slots in all
@@ -23,7 +23,7 @@ history first wait =
     Collect 0 0 20 ∷ Submit 0 0 10 (first ∷ [])
     ∷ (replicate wait Slot ++ Submit 0 wait (wait + 10) (Write 1 (record { 0 = replicate 16 17 }) ∷ []) ∷ replicate (20 - wait) Slot)
 
-abbrev come : Op → ℕ → List Arrival
+abbrev come : Op → ℕ → List TaskArrival
 come first wait = arrivals 0 (history first wait)
 
 twenty : slots (history (Read 0) 10) ≡ 20
@@ -78,11 +78,11 @@ collected zero (suc slot) lt at = absurd (omega (arith, mod-eq_of_lt {n = suc sl
 collected (suc task) slot lt at = absurd (omega (arith, lt))
 
 -- of a list of two or more, each earlier with each later one
-abbrev ApartInTurn : List Arrival → Type 0
+abbrev ApartInTurn : List TaskArrival → Type 0
 ApartInTurn [] = Unit {0}
 ApartInTurn (a ∷ rest) = AllByRecursion (AreApart (each_ten 2) a) rest × ApartInTurn rest
 
-apart_by : (all : List Arrival) → ApartInTurn all → AllPairs (AreApart (each_ten 2)) all
+apart_by : (all : List TaskArrival) → ApartInTurn all → AllPairs (AreApart (each_ten 2)) all
 apart_by [] h = λ i j d lt below. absurd (omega (arith, below))
 apart_by (a ∷ rest) h =
     AllPairs-cons (AreApart (each_ten 2)) a rest (All-from_recursion (AreApart (each_ten 2) a) rest h.0) (apart_by rest h.1)

@@ -51,7 +51,7 @@ passes = record {
   fits = omega arith;
 }
 
--- with seven operations a job the load is more than the slots
+-- with seven operations a job the demand is more than the slots
 too_much : demand (small 6) (each_ten 7) ≡ 21
 too_much = refl
 

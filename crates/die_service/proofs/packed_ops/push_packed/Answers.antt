@@ -1,7 +1,7 @@
 use Rattle.std.proofs.Common.{arith, ◌∙◌}
 use Rattle.std.proofs.lemmas.Option.{slice_get-get_or}
 use Rattle.slot_types.specs.declared.events.Op.TheVariants.{Read}
-use Rattle.die_service.specs.PackedOps.{all_unpacked}
+use Rattle.die_service.specs.PackedOps.{unpacked_ops}
 use Rattle.die_service.proofs.Packing.{packed_more, unpacked_more}
 use Rattle.die_service.proofs.packed_ops.push_packed.Goals as goal
 
@@ -11,7 +11,7 @@ loop-op-preserved c =
     let packed = c.pack-packed.ensures in
     let pushed = c.push_reserved.ensures in
     record {
-      ops = unpacked_more (all_unpacked c.args.writes.now.items c.args.list.now.items) c.loop-op.writes.items
+      ops = unpacked_more (unpacked_ops c.args.writes.now.items c.args.list.now.items) c.loop-op.writes.items
           c.pack-packed.new.writes.items c.loop-op.list.items c.push_reserved.new.self.items c.pack-packed.result c.args.ops.now
           c.loop-op.op-index _ packed.goes_on pushed.items so_far.packed packed.op
           (slice_get-get_or c.args.ops.now c.loop-op.op-index (Read 0) c.loop-op-test.true) so_far.ops;

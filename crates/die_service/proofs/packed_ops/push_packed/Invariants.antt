@@ -1,11 +1,11 @@
 use Rattle.std.proofs.Common.{◌≡◌, ◌+◌, ◌≤◌, ◌++◌, length, take, vec_len, vec_capacity}
 use Rattle.std.specs.Prelude.{All}
-use Rattle.die_service.specs.PackedOps.{all_unpacked, IsPacked}
+use Rattle.die_service.specs.PackedOps.{unpacked_ops, IsPacked}
 use Rattle.die_service.proofs.packed_ops.push_packed.Given as goal
 
 abbrev pub invariant-loop-op : goal.invariant-loop-op
 invariant-loop-op l = record {
-  ops : all_unpacked l.writes.items l.list.items ≡ all_unpacked l.fn.writes.items l.fn.list.items ++ take l.op-index l.ops;
+  ops : unpacked_ops l.writes.items l.list.items ≡ unpacked_ops l.fn.writes.items l.fn.list.items ++ take l.op-index l.ops;
   packed : All (IsPacked (length l.writes.items)) l.list.items;
   len : vec_len l.list ≡ vec_len l.fn.list + l.op-index;
   room : vec_capacity l.list ≡ vec_capacity l.fn.list;

@@ -1,6 +1,6 @@
 use Rattle.std.proofs.Common.{◌≡◌, ◌≤◌, vec_len, vec_capacity, List, length, get_or, ap, sym, ◌∙◌, subst, rules, arith}
 use Rattle.atomic_table.specs.Seated.{TableId}
-use Rattle.die_service.specs.Drives.{Standing, Drives}
+use Rattle.die_service.specs.Drives.{WorkerState, Drives}
 use Rattle.die_service.proofs.LastPasses.{written}
 use Rattle.die_service.proofs.Gathering.{ready_at, drivers_length, have_run, same_locks}
 use Rattle.die_service.proofs.runs.run_batches.Goals as goal
@@ -46,8 +46,8 @@ returns-clause-ran g c =
     (ap (λ v. v.items) c.replace-taken.ensures.value) c.in_ok-courses.ensures.whole c.make_drivers-drivers.ensures
     g.N.Nand.never_fails xs zs c.as_mut_slice.ensures.value (same ∙ sym (ap length c.as_mut_slice.ensures.value))
     (λ i d below. let call = (c.for_each_mut.ensures i d below).1 in
-    subst (λ (s : Standing). Drives g.N.Nand.never_fails s (get_or zs i d)) call.argument_is
-    (subst (λ (t : Standing). Drives g.N.Nand.never_fails call.argument.now t) call.left call.call)) in
+    subst (λ (s : WorkerState). Drives g.N.Nand.never_fails s (get_or zs i d)) call.argument_is
+    (subst (λ (t : WorkerState). Drives g.N.Nand.never_fails call.argument.now t) call.left call.call)) in
     rw (c.into_ends.ensures.ends, c.into_ends.ensures.passes, whole) ran
 
 pub returns-clause-own : goal.returns-clause-own

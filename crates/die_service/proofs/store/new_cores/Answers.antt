@@ -3,14 +3,14 @@ use Rattle.std.proofs.lemmas.List.{append_assoc, length-append, map-append}
 use Rattle.std.proofs.lemmas.List.Elements.{All-push}
 use Rattle.std.specs.List.{AllZip}
 use Rattle.std.specs.Vec.Iter.{into_iter_items}
-use Rattle.die_log.specs.Start.{fresh}
-use Rattle.die_service.specs.Stores.{IsServed, IsAtStart}
+use Rattle.die_log.specs.Model.Start.{fresh}
+use Rattle.die_service.specs.Stores.{HasUsablePlans, IsAtStart}
 use Rattle.die_service.proofs.Making.{IsReady, all_ready, start_of}
 use Rattle.die_service.proofs.store.new_cores.Goals as goal
 
 pub loop-plan-init : goal.loop-plan-init
 loop-plan-init g c =
-    let served : IsServed c.args.plans.items (length c.args.nands.items) = search rules in record {
+    let served : HasUsablePlans c.args.plans.items (length c.args.nands.items) = search rules in record {
       can_next = tt;
       is_finite = tt;
       room = search rules;

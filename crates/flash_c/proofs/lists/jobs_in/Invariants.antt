@@ -1,5 +1,5 @@
 use Rattle.std.proofs.Common.{◌≡◌, map, take}
-use Rattle.flash_c.specs.Told.{number_in}
+use Rattle.flash_c.specs.Conversions.{number_in}
 use Rattle.flash_c.proofs.lists.jobs_in.Given as goal
 
 abbrev pub invariant-loop-job : goal.invariant-loop-job

@@ -1,5 +1,5 @@
 use Rattle.std.proofs.Common.{sym, ◌∙◌, arith}
-use Rattle.flash_c.specs.Told.{number_in}
+use Rattle.flash_c.specs.Conversions.{number_in}
 use Rattle.flash_c.proofs.Filling.{filled_none, filled_more, filled_all}
 use Rattle.flash_c.proofs.lists.put_jobs.Goals as goal
 

@@ -1,7 +1,7 @@
 use Rattle.std.proofs.Common.{◌≡◌, take}
-use Rattle.flash_c.specs.Lists.{filled}
-use Rattle.flash_c.specs.Told.{number_in}
+use Rattle.flash_c.specs.Lists.{array_with}
+use Rattle.flash_c.specs.Conversions.{number_in}
 use Rattle.flash_c.proofs.lists.put_jobs.Given as goal
 
 abbrev pub invariant-loop-i : goal.invariant-loop-i
-invariant-loop-i l = l.places ≡ filled number_in l.initial.places (take l.i l.jobs)
+invariant-loop-i l = l.places ≡ array_with number_in l.initial.places (take l.i l.jobs)

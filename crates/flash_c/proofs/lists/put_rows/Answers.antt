@@ -1,5 +1,5 @@
 use Rattle.std.proofs.Common.{sym, ap, ◌∙◌, arith}
-use Rattle.flash_c.specs.Told.{row_of}
+use Rattle.flash_c.specs.Conversions.{row_of}
 use Rattle.flash_c.proofs.Filling.{filled_none, filled_more, filled_all}
 use Rattle.flash_c.proofs.lists.put_rows.Goals as goal
 

@@ -1,5 +1,5 @@
 use Rattle.std.proofs.Common.{◌≡◌, map, take}
-use Rattle.flash_c.specs.Told.{row_in}
+use Rattle.flash_c.specs.Conversions.{row_in}
 use Rattle.flash_c.proofs.lists.rows_in.Given as goal
 
 abbrev pub invariant-loop-row : goal.invariant-loop-row

@@ -1,4 +1,4 @@
-use Rattle.flash_volume.specs.Resumed.{AreClosedBelow}
+use Rattle.flash_volume.specs.Checkpoints.{AreClosedBelow}
 use Rattle.flash_volume.proofs.tables.closed_blocks.Given as goal
 
 abbrev pub invariant-loop-block : goal.invariant-loop-block

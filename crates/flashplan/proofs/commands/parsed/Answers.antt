@@ -3,7 +3,7 @@ use Rattle.clap.specs.Words.{is_simple, is_simple_and_free, subcommand_of}
 use Rattle.clap.specs.Kinds.{HasKind}
 use Rattle.clap.specs.Faults.{fault_of}
 use Rattle.flashplan.specs.Syntax.{flashplan_app}
-use Rattle.flashplan.specs.Commands.{asked_by}
+use Rattle.flashplan.specs.Commands.{command_asked_by}
 use Rattle.flashplan.proofs.SimpleWords.{simple_words, free_words, fails_still}
 use Rattle.flashplan.proofs.commands.parsed.Goals as goal
 
@@ -17,7 +17,7 @@ returns-in_err-matches-clause-fault c =
 pub returns-clause-ok : goal.returns-clause-ok
 returns-clause-ok c =
     c.command_met.ensures.asked
-    ∙ ap asked_by ((c.in_ok-matches.ensures.ok.2 (ap is_simple c.requires ∙ simple_words)).1
+    ∙ ap command_asked_by ((c.in_ok-matches.ensures.ok.2 (ap is_simple c.requires ∙ simple_words)).1
     ∙ ap (λ a. subcommand_of a (map string_bytes c.args.words.now)) c.requires)
 
 pub returns-clause-fault : goal.returns-clause-fault

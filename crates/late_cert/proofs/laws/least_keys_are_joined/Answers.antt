@@ -1,6 +1,6 @@
 use Rattle.late_cert.proofs.Joined.{keys-joined, over-joined}
 use Rattle.late_cert.proofs.Least.{least-late}
-use Rattle.late_cert.specs.Joined.{joined_rows, joined_slots}
+use Rattle.late_cert.specs.JoinedRows.{joined_rows, joined_slots}
 use Rattle.std.proofs.Common.{length}
 use Rattle.late_cert.proofs.laws.least_keys_are_joined.Goals as goal
 

@@ -1,6 +1,6 @@
 use Rattle.std.proofs.Common.{◌≡◌, map, filter, take}
 use Rattle.late_cert.specs.declared.rows.JobRow.{JobRow}
-use Rattle.late_cert.specs.Stretch.{is_carried}
+use Rattle.late_cert.specs.BusyInterval.{is_carried}
 use Rattle.late_cert.proofs.stretches.marked.Given as goal
 
 abbrev pub invariant-loop-i : goal.invariant-loop-i

@@ -1,6 +1,6 @@
 use Rattle.std.proofs.Common.{◌≡◌, ◌-◌, ◌∙◌, ℕ, length, refl, sym, ap, arith}
 use Rattle.late_cert.specs.Schedule.{Slots}
-use Rattle.late_cert.specs.Stretch.{start_of}
+use Rattle.late_cert.specs.BusyInterval.{start_of}
 use Rattle.late_cert.proofs.Marks.{marks-start}
 use Rattle.late_cert.proofs.Runs.{prefix-whole}
 use Rattle.late_cert.proofs.Walking.{start-run, start-stays, marks-step, IsLastRun, last-run}

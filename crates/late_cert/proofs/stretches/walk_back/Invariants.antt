@@ -1,6 +1,6 @@
 use Rattle.std.proofs.Common.{◌≡◌, ◌≤◌, length, take}
 use Rattle.late_cert.specs.Runs.{slots_of}
-use Rattle.late_cert.specs.Stretch.{start_of}
+use Rattle.late_cert.specs.BusyInterval.{start_of}
 use Rattle.late_cert.specs.Build.{AreMarks}
 use Rattle.late_cert.proofs.stretches.walk_back.Given as goal
 

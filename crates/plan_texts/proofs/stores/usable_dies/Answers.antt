@@ -7,7 +7,7 @@ pub loop-die-preserved : goal.loop-die-preserved
 loop-die-preserved c =
     let plan = c.args.plan.now in
     let die = c.loop-die.die in
-    let same : c.in_ok-made.made ≡ die_of plan die = c.in_ok-made.ensures in
+    let same : c.in_ok-made.made ≡ die_of plan die = c.in_ok-made.ensures.ok in
     let next : 0 + die ≡ die = omega arith in
     let made : IsUsable c.in_ok-made.made = search rules in
     let usable : IsUsable (die_of plan die) = rw same at made in

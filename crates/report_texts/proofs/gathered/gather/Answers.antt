@@ -10,11 +10,11 @@ returns-clause-few c =
     let sound : is_sound c.in-Some.next ≡ true = row-sound (fields_of c.args.fields.now) c.in-Some.next (search rules) in
     let follows : may_follow c.args.gathered.now c.in-Some.next ≡ true = search rules in
     let both = within c.args.gathered.now c.in-Some.next sound follows in
-    λ _. rw c.in_ok-add.ensures both.0
+    λ _. rw c.in_ok-add.ensures.ok both.0
 
 pub returns-clause-bound : goal.returns-clause-bound
 returns-clause-bound c =
     let sound : is_sound c.in-Some.next ≡ true = row-sound (fields_of c.args.fields.now) c.in-Some.next (search rules) in
     let follows : may_follow c.args.gathered.now c.in-Some.next ≡ true = search rules in
     let both = within c.args.gathered.now c.in-Some.next sound follows in
-    λ _. rw c.in_ok-add.ensures both.1
+    λ _. rw c.in_ok-add.ensures.ok both.1

@@ -2,7 +2,7 @@ use Rattle.std.proofs.Common.{arith, subst, ◌<◌, ◌≤◌, ◌+◌, ◌∙�
 use Rattle.csv.specs.Records.{fields_of}
 use Rattle.report_texts.specs.RecordsLeft.{record_line}
 use Rattle.std.proofs.lemmas.List.Elements.{All-set}
-use Rattle.report_texts.specs.Numbered.{IsNumbered}
+use Rattle.report_texts.specs.Numbering.{IsNumbered}
 use Rattle.report_texts.specs.ReportOf.{certs_from}
 use Rattle.report_texts.specs.declared.reports.DieReport.{DieReport}
 use Rattle.report_texts.proofs.RecordLaws.{stays-then}

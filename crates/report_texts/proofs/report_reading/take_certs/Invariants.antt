@@ -1,7 +1,7 @@
 use Rattle.std.proofs.Common.{◌≡◌, length, take, drop}
 use Rattle.std.specs.Prelude.{option_map}
 use Rattle.report_texts.specs.RecordsLeft.{IsReady, Stays, record_line, records_fit, records_left}
-use Rattle.report_texts.specs.Numbered.{AreNumbered}
+use Rattle.report_texts.specs.Numbering.{AreNumbered}
 use Rattle.report_texts.specs.ReportOf.{certs_from}
 use Rattle.report_texts.proofs.ReadingLaws.{front_dies}
 use Rattle.report_texts.proofs.report_reading.take_certs.Given as goal

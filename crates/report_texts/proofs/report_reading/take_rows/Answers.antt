@@ -1,7 +1,7 @@
 use Rattle.std.proofs.Common.{sym, subst, Ok, Err}
 use Rattle.csv.specs.Records.{fields_of}
 use Rattle.report_texts.specs.RecordsLeft.{record_line}
-use Rattle.report_texts.specs.Numbered.{AreNumbered}
+use Rattle.report_texts.specs.Numbering.{AreNumbered}
 use Rattle.report_texts.specs.ReportOf.{rows_from}
 use Rattle.report_texts.proofs.RecordLaws.{reads-on, reads-outside, stays-then}
 use Rattle.report_texts.proofs.NumberLaws.{numbered-dies, numbered-more}
@@ -45,8 +45,8 @@ returns-clause-read g c =
     let rows = c.loop-fields.gathered in
     reads-on _ (rows_from rows (record_line records)) _ _ _ _ (Ok c.in_ok-dies.dies) c.loop-fields.invariant.read
     (rows-end rows c.in_ok-dies.dies (record_line records) records.found (fields_of records.fields) _ (sym c.in_default.ensures)
-    c.in_ok-dies.ensures)
+    c.in_ok-dies.ensures.ok)
 
 pub returns-clause-numbered : goal.returns-clause-numbered
-returns-clause-numbered g c = subst AreNumbered (sym c.in_ok-dies.ensures)
+returns-clause-numbered g c = subst AreNumbered (sym c.in_ok-dies.ensures.ok)
     (numbered-dies c.loop-fields.gathered c.loop-fields.invariant.numbered)

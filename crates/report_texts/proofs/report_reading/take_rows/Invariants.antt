@@ -1,6 +1,6 @@
 use Rattle.std.proofs.Common.{◌≤◌, ◌-◌, length}
 use Rattle.std.specs.Prelude.{option_map}
-use Rattle.report_texts.specs.Numbered.{GathersNumbered}
+use Rattle.report_texts.specs.Numbering.{GathersNumbered}
 use Rattle.report_texts.specs.Progress.{progress}
 use Rattle.report_texts.specs.RecordsLeft.{IsReady, Stays, record_line, records_fit, records_left}
 use Rattle.report_texts.specs.ReportOf.{no_rows, rows_from}

@@ -45,7 +45,7 @@ pub returns-clause-read : goal.returns-clause-read
 returns-clause-read g c =
     let records = c.loop-fields.records in
     work-end _ _ c.loop-fields.work c.in_ok-dies.dies (record_line records) records.found (fields_of records.fields) _
-    (sym c.in_default.ensures) c.in_ok-dies.ensures c.loop-fields.invariant.read
+    (sym c.in_default.ensures) c.in_ok-dies.ensures.ok c.loop-fields.invariant.read
 
 pub returns-clause-rise : goal.returns-clause-rise
-returns-clause-rise g c = work-rises c.loop-fields.work c.in_ok-dies.dies _ _ _ c.in_ok-dies.ensures c.loop-fields.invariant.read
+returns-clause-rise g c = work-rises c.loop-fields.work c.in_ok-dies.dies _ _ _ c.in_ok-dies.ensures.ok c.loop-fields.invariant.read

@@ -1,12 +1,12 @@
 use Rattle.std.proofs.Common.{sym, ◌∙◌}
 use Rattle.slot_core.proofs.Rowing.{rows_added, rows_passed, rows_past}
 use Rattle.slot_core.proofs.certificates.rows_in.Goals as goal
-use Rattle.slot_core.proofs.certificates.rows_in.Goals.{in-Some+in-Some-row_in+in-Ok, in-Some+in_default-row_in, in_default}
+use Rattle.slot_core.proofs.certificates.rows_in.Goals.{in-Some+in-Some-row_in+in_ok-push, in-Some+in_default-row_in, in_default}
 
 pub loop-number-preserved : goal.loop-number-preserved
 loop-number-preserved c =
     elim c.match-job.branch [
-      | in-Some+in-Some-row_in+in-Ok w ↦ w.rows-is ∙ (w.in-Ok.ensures.ok
+      | in-Some+in-Some-row_in+in_ok-push w ↦ w.rows-is ∙ (w.in_ok-push.ensures.ok
           ∙ rows_added _ _ _ _ _ w.in-Some.ensures (sym w.row_in.ensures ∙ w.in-Some-row_in.is) c.loop-number.invariant)
       | in-Some+in_default-row_in w ↦ w.rows-is ∙ rows_passed _ _ _ _ w.in-Some.ensures (sym w.row_in.ensures ∙ w.in_default-row_in.is)
           c.loop-number.invariant

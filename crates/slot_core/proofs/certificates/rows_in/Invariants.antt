@@ -1,5 +1,5 @@
 use Rattle.std.proofs.Common.{◌≡◌, take}
-use Rattle.slot_core.specs.Rowed.{rows_in}
+use Rattle.slot_core.specs.TableRows.{rows_in}
 use Rattle.slot_core.proofs.certificates.rows_in.Given as goal
 
 abbrev pub invariant-loop-number : goal.invariant-loop-number

@@ -5,7 +5,7 @@ use Rattle.plan_rules.specs.Accounts.{given_of}
 use Rattle.job_table.specs.Heads.{with_waived}
 use Rattle.job_table.specs.Order.{IsHead, NothingReady}
 use Rattle.job_table.specs.Table.{Table}
-use Rattle.slot_core.specs.Turns.{is_fresh}
+use Rattle.slot_core.specs.HeadSteps.{is_fresh}
 use Rattle.slot_core.proofs.Foreseeing.{Foresees, foresees_start, foresees_idle, foresees_fits, foresees_turn, foresees_first, foresees_waive}
 use Rattle.slot_core.proofs.Foreseeing.{foresees_there, foresees_task}
 use Rattle.slot_core.proofs.next_calls.look_ahead.Goals as goal
@@ -38,8 +38,8 @@ unreachable-requires g c =
     foresees_there t c.loop-number.told c.in-Some.number head
     (ap (λ (x : Table). slice_get x.jobs c.in-Some.number) (sym c.head_behind.ensures.clock) ∙ c.in-None.ensures)
 
-pub next_turn-requires-clause-fits : goal.next_turn-requires-clause-fits
-next_turn-requires-clause-fits g c =
+pub next_head_slot-requires-clause-fits : goal.next_head_slot-requires-clause-fits
+next_head_slot-requires-clause-fits g c =
     let t : Table = record c.loop-number.table { clock = c.args.present } in
     let f = c.loop-number.invariant.foresees in
     let head : IsHead (with_waived t c.loop-number.told) c.in-Some.number = subst (λ (ws : List Waived). IsHead (with_waived t ws) c.in-Some.number)
@@ -58,7 +58,7 @@ returns-then-not-is_fresh-clause-next g c =
     let at : slice_get t.jobs c.in-Some.number ≡ Some c.in-Some-job.job = ap (λ (x : Table). slice_get x.jobs c.in-Some.number)
     (sym c.head_behind.ensures.clock) ∙ c.in-Some-job.ensures in
     let unfresh : is_fresh c.in-Some-job.job ≡ false = sym c.is_fresh.ensures ∙ c.if-not-is_fresh.true in
-    foresees_turn g.from.0 g.N.Nand.blocks g.from.1 c.args.present c.loop-number.told t c.in-Some.number c.args.volume.now c.loop-number.spare c.in-Some-job.job c.next_turn.result f head at unfresh c.next_turn.ensures
+    foresees_turn g.from.0 g.N.Nand.blocks g.from.1 c.args.present c.loop-number.told t c.in-Some.number c.args.volume.now c.loop-number.spare c.in-Some-job.job c.next_head_slot.result f head at unfresh c.next_head_slot.ensures
 
 pub returns-then-spare-plan-clause-next : goal.returns-then-spare-plan-clause-next
 returns-then-spare-plan-clause-next g c =
@@ -69,8 +69,8 @@ returns-then-spare-plan-clause-next g c =
     let at : slice_get t.jobs c.in-Some.number ≡ Some c.in-Some-job.job = ap (λ (x : Table). slice_get x.jobs c.in-Some.number)
     (sym c.head_behind.ensures.clock) ∙ c.in-Some-job.ensures in
     let fresh : is_fresh c.in-Some-job.job ≡ true = sym c.is_fresh.ensures ∙ c.if-not-is_fresh.false in
-    foresees_first g.from.0 g.N.Nand.blocks g.from.1 c.args.present c.loop-number.told t c.in-Some.number c.args.volume.now c.loop-number.spare c.in-Some-job.job c.first_turn.result f head at fresh
-    (omega (arith, c.if-spare-plan.true, ap (λ p. p.alpha) c.plan.ensures)) c.first_turn.ensures
+    foresees_first g.from.0 g.N.Nand.blocks g.from.1 c.args.present c.loop-number.told t c.in-Some.number c.args.volume.now c.loop-number.spare c.in-Some-job.job c.first_head_slot.result f head at fresh
+    (omega (arith, c.if-spare-plan.true, ap (λ p. p.alpha) c.plan.ensures)) c.first_head_slot.ensures
 
 pub given-given-requires : goal.given-given-requires
 given-given-requires g c =

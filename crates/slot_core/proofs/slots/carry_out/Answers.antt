@@ -4,23 +4,23 @@ use Rattle.slot_types.specs.declared.plans.DiePlan.{DiePlan}
 use Rattle.slot_types.specs.declared.replies.SlotReply.{SlotReply}
 use Rattle.slot_types.specs.declared.replies.Waived.{Waived}
 use Rattle.job_table.specs.Jobs.{JobRecord}
-use Rattle.job_table.specs.Waivers.{AreWaived, WerePending, waived_in}
-use Rattle.die_log.specs.Answers.{answer}
+use Rattle.job_table.specs.Waivers.{AreWaived, WerePending, jobs_after_waivers}
+use Rattle.die_log.specs.Model.Answers.{answer}
 use Rattle.slot_core.specs.Device.{flash_of}
-use Rattle.slot_core.specs.Slotted.{InSlot}
+use Rattle.slot_core.specs.WithinSlot.{InSlot}
 use Rattle.slot_core.proofs.Slotting.{slot_starts, idle_kept, turn_kept, turn_reads, all_waived}
 use Rattle.event_log.proofs.Growing.{all_fit_stay}
-use Rattle.slot_core.specs.Told.{log_of}
+use Rattle.slot_core.specs.TableLog.{log_of}
 use Rattle.slot_core.proofs.Telling.{few_of, slot_grew, idle_told}
 use Rattle.slot_core.proofs.Noting.{turn_told}
 use Rattle.job_table.specs.Table.{Table, work_of}
-use Rattle.slot_core.specs.Records.{records}
-use Rattle.slot_core.specs.Reserved.{open_collections}
+use Rattle.slot_core.specs.Records.{job_records}
+use Rattle.slot_core.specs.ReservedSlots.{open_collections}
 use Rattle.slot_core.proofs.Reserving.{turn_opens_nothing}
 use Rattle.slot_core.proofs.Turning.{head_fits, work_fits}
 use Rattle.slot_core.proofs.Needing.{idle_makes, turn_makes, turn_fails}
 use Rattle.slot_core.proofs.slots.carry_out.Goals as goal
-use Rattle.die_log.specs.Start.{Start, over}
+use Rattle.die_log.specs.Model.Start.{Start, over}
 
 pub choose-requires : goal.choose-requires
 choose-requires g c κs within = (
@@ -86,10 +86,10 @@ returns-in_default-clause-answered g c =
     (ap (λ (r : SlotReply). record r { waived = c.choose.new.told }) c.requires.1.1.1.1.1.1.1.1.1)
     (returns-in_default-clause-logged g c)).1
 
--- A turn
+-- A step
 
-pub take_turn-turn-requires-clause-fits : goal.take_turn-turn-requires-clause-fits
-take_turn-turn-requires-clause-fits g c =
+pub take_step-turn-requires-clause-fits : goal.take_step-turn-requires-clause-fits
+take_step-turn-requires-clause-fits g c =
     head_fits g.from.0 g.N.Nand.blocks g.from.1 c.args.present c.choose.new.told c.choose.new.table c.in-Some.number c.choose.new.volume
     c.in-Some-job.job c.in-Some.ensures.turn c.in-Some-job.ensures
 
@@ -99,15 +99,15 @@ stop-requires g c =
     (all_waived (over c.choose.new.volume.accounts.plan g.from.0) g.from.1 c.args.present c.choose.new.told c.choose.new.table
     (flash_of g.N.Nand.blocks c.choose.new.volume) c.in-Some.number c.in-Some.ensures.turn)
 
-pub note_turn-requires-clause-room : goal.note_turn-requires-clause-room
-note_turn-requires-clause-room g c =
+pub note_step-requires-clause-room : goal.note_step-requires-clause-room
+note_step-requires-clause-room g c =
     work_fits (over c.choose.new.volume.accounts.plan g.from.0) g.from.1 c.args.present c.choose.new.told c.choose.new.table
     (flash_of g.N.Nand.blocks c.choose.new.volume) c.in-Some.number c.in-Some.ensures.turn
 
-pub note_turn-requires-clause-reads : goal.note_turn-requires-clause-reads
-note_turn-requires-clause-reads g c =
+pub note_step-requires-clause-reads : goal.note_step-requires-clause-reads
+note_step-requires-clause-reads g c =
     turn_reads g.from.0 g.N.Nand.blocks g.from.1 c.args.present c.choose.new.told c.choose.new.table c.in-Some.number c.choose.new.volume
-    c.take_turn-turn.new.volume c.in-Some-job.job c.in-Ok.turn c.in-Some.ensures.turn c.in-Some-job.ensures c.in-Ok.ensures.did
+    c.take_step-turn.new.volume c.in-Some-job.job c.in-Ok.turn c.in-Some.ensures.turn c.in-Some-job.ensures c.in-Ok.ensures.did
 
 pub push_reserved-requires-clause-few : goal.push_reserved-requires-clause-few
 push_reserved-requires-clause-few g c = few_of (over c.args.volume.now.accounts.plan g.from.0) c.args.table.now.jobs c.args.events.now.notes g.from.1
@@ -115,15 +115,15 @@ push_reserved-requires-clause-few g c = few_of (over c.args.volume.now.accounts.
 
 pub returns-in-Ok-clause-logged : goal.returns-in-Ok-clause-logged
 returns-in-Ok-clause-logged g c = (turn_told g.N.Nand.blocks c.args.table.now.jobs c.args.events.now.notes c.push_reserved.new.self.notes
-    g.from.1 c.args.caller c.args.present c.work_of-place.result c.choose.new.told c.choose.new.table c.note_turn.new.table c.in-Some.number
-    c.in-Some-job.job c.choose.new.volume c.take_turn-turn.new.volume c.in-Ok.turn c.deed_of-deed.result _
+    g.from.1 c.args.caller c.args.present c.work_of-place.result c.choose.new.told c.choose.new.table c.note_step.new.table c.in-Some.number
+    c.in-Some-job.job c.choose.new.volume c.take_step-turn.new.volume c.in-Ok.turn c.deed_of-deed.result _
     c.requires.1.1.0 c.requires.1.1.1.0
     (slot_grew g.from.0 c.args.volume.now.accounts.plan c.choose.new.volume.accounts.plan g.from.1 c.args.table.now.jobs c.choose.new.table.jobs
     c.choose.new.told c.in-Some.ensures.plan c.requires.1.1.1.1.1.1.1.1.0.jobs_are c.in-Some.ensures.turn.table.were)
     c.requires.1.1.1.1.1.1.1.1.0.now_is c.in-Some-job.ensures c.in-Ok.ensures.did
     (c.work_of-place.ensures.reads c.in-Some-job.job c.in-Some-job.ensures) (c.work_of-place.ensures.work
     ∙ ap work_of c.in-Some-job.ensures)
-    c.note_turn.ensures c.deed_of-deed.ensures (c.push_reserved.ensures.events
+    c.note_step.ensures c.deed_of-deed.ensures (c.push_reserved.ensures.events
     ∙ ap (λ (ws : List Waived). record { caller = c.args.caller; deed = c.deed_of-deed.result; waived = ws } ∷ c.args.events.now.notes)
     c.as_slice-in-Ok.ensures) (ap (λ (r : SlotReply). record r
     { waived = c.choose.new.told; ran = Some (c.in-Some.number, c.in-Ok.turn.act); finished = c.finished-reply.result })
@@ -133,15 +133,15 @@ returns-in-Ok-clause-logged g c = (turn_told g.N.Nand.blocks c.args.table.now.jo
 
 pub returns-in-Ok-clause-fit : goal.returns-in-Ok-clause-fit
 returns-in-Ok-clause-fit g c = (turn_told g.N.Nand.blocks c.args.table.now.jobs c.args.events.now.notes c.push_reserved.new.self.notes g.from.1
-    c.args.caller c.args.present c.work_of-place.result c.choose.new.told c.choose.new.table c.note_turn.new.table c.in-Some.number
-    c.in-Some-job.job c.choose.new.volume c.take_turn-turn.new.volume c.in-Ok.turn c.deed_of-deed.result _
+    c.args.caller c.args.present c.work_of-place.result c.choose.new.told c.choose.new.table c.note_step.new.table c.in-Some.number
+    c.in-Some-job.job c.choose.new.volume c.take_step-turn.new.volume c.in-Ok.turn c.deed_of-deed.result _
     c.requires.1.1.0 c.requires.1.1.1.0
     (slot_grew g.from.0 c.args.volume.now.accounts.plan c.choose.new.volume.accounts.plan g.from.1 c.args.table.now.jobs c.choose.new.table.jobs
     c.choose.new.told c.in-Some.ensures.plan c.requires.1.1.1.1.1.1.1.1.0.jobs_are c.in-Some.ensures.turn.table.were)
     c.requires.1.1.1.1.1.1.1.1.0.now_is c.in-Some-job.ensures c.in-Ok.ensures.did
     (c.work_of-place.ensures.reads c.in-Some-job.job c.in-Some-job.ensures) (c.work_of-place.ensures.work
     ∙ ap work_of c.in-Some-job.ensures)
-    c.note_turn.ensures c.deed_of-deed.ensures (c.push_reserved.ensures.events
+    c.note_step.ensures c.deed_of-deed.ensures (c.push_reserved.ensures.events
     ∙ ap (λ (ws : List Waived). record { caller = c.args.caller; deed = c.deed_of-deed.result; waived = ws } ∷ c.args.events.now.notes)
     c.as_slice-in-Ok.ensures) (ap (λ (r : SlotReply). record r
     { waived = c.choose.new.told; ran = Some (c.in-Some.number, c.in-Ok.turn.act); finished = c.finished-reply.result })
@@ -150,10 +150,10 @@ returns-in-Ok-clause-fit g c = (turn_told g.N.Nand.blocks c.args.table.now.jobs 
     c.finished-reply.ensures)).fits
 
 pub returns-in-Ok-clause-kept : goal.returns-in-Ok-clause-kept
-returns-in-Ok-clause-kept g c = (turn_kept g.from.0 g.N.Nand.blocks g.from.1 (log_of c.note_turn.new.table c.push_reserved.new.self.notes)
-    c.args.present c.args.caller c.choose.new.told c.choose.new.table c.note_turn.new.table c.in-Some.number c.choose.new.volume
-    c.take_turn-turn.new.volume c.in-Some-job.job c.in-Ok.turn _
-    c.in-Some.ensures.turn c.in-Some-job.ensures c.in-Ok.ensures.did c.in-Ok.ensures.plan c.in-Ok.ensures.fails.failed c.note_turn.ensures
+returns-in-Ok-clause-kept g c = (turn_kept g.from.0 g.N.Nand.blocks g.from.1 (log_of c.note_step.new.table c.push_reserved.new.self.notes)
+    c.args.present c.args.caller c.choose.new.told c.choose.new.table c.note_step.new.table c.in-Some.number c.choose.new.volume
+    c.take_step-turn.new.volume c.in-Some-job.job c.in-Ok.turn _
+    c.in-Some.ensures.turn c.in-Some-job.ensures c.in-Ok.ensures.did c.in-Ok.ensures.plan c.in-Ok.ensures.fails.failed c.note_step.ensures
     (ap (λ (r : SlotReply). record r {
       waived = c.choose.new.told;
       ran = Some (c.in-Some.number, c.in-Ok.turn.act);
@@ -170,10 +170,10 @@ returns-in-Ok-clause-kept g c = (turn_kept g.from.0 g.N.Nand.blocks g.from.1 (lo
 pub returns-in-Ok-clause-answered : goal.returns-in-Ok-clause-answered
 returns-in-Ok-clause-answered g c =
     ap (λ (p : DiePlan). answer (over p g.from.0) g.from.1 Slot) (sym c.in-Some.ensures.plan)
-    ∙ (turn_kept g.from.0 g.N.Nand.blocks g.from.1 (log_of c.note_turn.new.table c.push_reserved.new.self.notes) c.args.present c.args.caller
-    c.choose.new.told c.choose.new.table c.note_turn.new.table c.in-Some.number c.choose.new.volume c.take_turn-turn.new.volume
+    ∙ (turn_kept g.from.0 g.N.Nand.blocks g.from.1 (log_of c.note_step.new.table c.push_reserved.new.self.notes) c.args.present c.args.caller
+    c.choose.new.told c.choose.new.table c.note_step.new.table c.in-Some.number c.choose.new.volume c.take_step-turn.new.volume
     c.in-Some-job.job c.in-Ok.turn _
-    c.in-Some.ensures.turn c.in-Some-job.ensures c.in-Ok.ensures.did c.in-Ok.ensures.plan c.in-Ok.ensures.fails.failed c.note_turn.ensures
+    c.in-Some.ensures.turn c.in-Some-job.ensures c.in-Ok.ensures.did c.in-Ok.ensures.plan c.in-Ok.ensures.fails.failed c.note_step.ensures
     (ap (λ (r : SlotReply). record r {
       waived = c.choose.new.told;
       ran = Some (c.in-Some.number, c.in-Ok.turn.act);
@@ -232,20 +232,20 @@ returns-in-Ok-clause-waiver_room g c =
       c.push_reserved.ensures.waiver_room,
       ap (λ (ws : List Waived). length ws) c.as_slice-in-Ok.ensures,
       ap (λ (r : SlotReply). length r.waived) c.requires.1.1.1.1.1.1.1.1.1,
-      ap (λ (t : Table). open_collections t.jobs) c.note_turn.ensures,
+      ap (λ (t : Table). open_collections t.jobs) c.note_step.ensures,
       turn_opens_nothing c.choose.new.table c.in-Some.number c.in-Ok.turn (c.args.present + 1),
     )
 
 pub returns-in-Err-clause-waiver_room : goal.returns-in-Err-clause-waiver_room
 returns-in-Err-clause-waiver_room g c =
-    let taken_back : c.stop.new.self.jobs ≡ records (over c.choose.new.volume.accounts.plan g.from.0) g.from.1 = c.stop.ensures.as_before
-    (records (over c.choose.new.volume.accounts.plan g.from.0) g.from.1)
-    (subst (λ (ws : List Waived). WerePending (records (over c.choose.new.volume.accounts.plan g.from.0) g.from.1) ws) (sym c.as_slice-in-Err.ensures)
+    let taken_back : c.stop.new.self.jobs ≡ job_records (over c.choose.new.volume.accounts.plan g.from.0) g.from.1 = c.stop.ensures.as_before
+    (job_records (over c.choose.new.volume.accounts.plan g.from.0) g.from.1)
+    (subst (λ (ws : List Waived). WerePending (job_records (over c.choose.new.volume.accounts.plan g.from.0) g.from.1) ws) (sym c.as_slice-in-Err.ensures)
     c.in-Some.ensures.turn.table.were_pending)
-    (c.in-Some.ensures.turn.table.were ∙ ap (λ (ws : List Waived). waived_in (records (over c.choose.new.volume.accounts.plan g.from.0) g.from.1) ws)
+    (c.in-Some.ensures.turn.table.were ∙ ap (λ (ws : List Waived). jobs_after_waivers (job_records (over c.choose.new.volume.accounts.plan g.from.0) g.from.1) ws)
     (sym c.as_slice-in-Err.ensures)) in
     let same : c.stop.new.self.jobs ≡ c.args.table.now.jobs = taken_back
-    ∙ (ap (λ (p : DiePlan). records (over p g.from.0) g.from.1) c.in-Some.ensures.plan ∙ sym c.requires.1.1.1.1.1.1.1.1.0.jobs_are) in
+    ∙ (ap (λ (p : DiePlan). job_records (over p g.from.0) g.from.1) c.in-Some.ensures.plan ∙ sym c.requires.1.1.1.1.1.1.1.1.0.jobs_are) in
     omega (arith, c.requires.1.1.1.1.1.1.1.0, ap (λ (js : List JobRecord). open_collections js) same)
 
 -- The call of the device
@@ -257,12 +257,12 @@ returns-in_default-clause-calls g c = idle_makes g.from.0 g.N.Nand.blocks g.N.Na
 
 pub returns-in-Ok-clause-calls : goal.returns-in-Ok-clause-calls
 returns-in-Ok-clause-calls g c = turn_makes g.from.0 g.N.Nand.blocks g.N.Nand.ends g.N.Nand.failures g.from.1 c.args.present
-    c.choose.new.told c.choose.new.table c.in-Some.number c.args.volume.now c.choose.new.volume c.take_turn-turn.new.volume c.in-Some-job.job _
+    c.choose.new.told c.choose.new.table c.in-Some.number c.args.volume.now c.choose.new.volume c.take_step-turn.new.volume c.in-Some-job.job _
     c.in-Some.ensures.plan c.in-Some.ensures.device c.in-Some.ensures.turn c.in-Some-job.ensures c.in-Ok.ensures.makes
     c.in-Ok.ensures.fails.by_fault.well
 
 pub returns-in-Err-clause-calls : goal.returns-in-Err-clause-calls
 returns-in-Err-clause-calls g c = turn_fails g.from.0 g.N.Nand.blocks g.N.Nand.ends g.N.Nand.failures g.from.1 c.args.present
-    c.choose.new.told c.choose.new.table c.in-Some.number c.args.volume.now c.choose.new.volume c.take_turn-turn.new.volume c.in-Some-job.job
+    c.choose.new.told c.choose.new.table c.in-Some.number c.args.volume.now c.choose.new.volume c.take_step-turn.new.volume c.in-Some-job.job
     c.in-Err.refusal
     c.in-Some.ensures.plan c.in-Some.ensures.device c.in-Some.ensures.turn c.in-Some-job.ensures c.in-Err.ensures.makes

@@ -1,7 +1,7 @@
 use Rattle.std.proofs.Common.{List, [], ◌∷◌, refl, ap, ◌∙◌, length, length-append, arith}
 use Rattle.slot_types.specs.declared.replies.Waived.{Waived}
 use Rattle.job_table.specs.Table.{Table}
-use Rattle.slot_core.specs.Reserved.{open_collections}
+use Rattle.slot_core.specs.ReservedSlots.{open_collections}
 use Rattle.slot_core.proofs.Beginning.{begin_leaves, looks_idle, looks_fit, looks_turn, looks_waived, looks_few, looks_closed}
 use Rattle.slot_core.proofs.slots.choose.Goals as goal
 

@@ -1,9 +1,9 @@
 use Rattle.std.proofs.Common.{◌≡◌, ◌+◌, ◌-◌, ◌≤◌, false, length}
 use Rattle.slot_core.specs.Device.{flash_of}
-use Rattle.slot_core.specs.Slotted.{InSlot}
-use Rattle.slot_core.specs.Reserved.{open_collections}
+use Rattle.slot_core.specs.WithinSlot.{InSlot}
+use Rattle.slot_core.specs.ReservedSlots.{open_collections}
 use Rattle.slot_core.proofs.slots.choose.Given as goal
-use Rattle.die_log.specs.Start.{Start, over}
+use Rattle.die_log.specs.Model.Start.{Start, over}
 
 abbrev pub invariant-loop-number : goal.invariant-loop-number
 invariant-loop-number g l = record {

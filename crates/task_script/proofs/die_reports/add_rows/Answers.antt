@@ -1,4 +1,4 @@
-use Rattle.task_script.proofs.DieRows.{one_more, none_more}
+use Rattle.task_script.proofs.DieRows.{one_more}
 use Rattle.task_script.proofs.die_reports.add_rows.Goals as goal
 
 pub loop-number-preserved : goal.loop-number-preserved

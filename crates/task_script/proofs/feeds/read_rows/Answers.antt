@@ -1,6 +1,6 @@
-use Rattle.std.proofs.Common.{◌∙◌, refl}
+use Rattle.std.proofs.Common.{◌∙◌, refl, arith}
 use Rattle.script_texts.specs.Heads.{row_of}
-use Rattle.task_script.proofs.Dealing.{dealt_own, deals_none, deals_more, deals_all, deals_some, deals_fault}
+use Rattle.task_script.proofs.Dealing.{dealt_own, deals_none, deals_more, deals_all, deals_some, deals_fault, few_none, few_more}
 use Rattle.task_script.proofs.feeds.read_rows.Goals as goal
 
 pub loop-init : goal.loop-init
@@ -8,6 +8,7 @@ loop-init g c = record {
   dies = c.requires.dies;
   slots = refl;
   dealt = deals_none _ _ _ _ c.in_ok-rows.ensures.ok;
+  few = few_none _ _ c.in_ok-rows.ensures.ok;
 }
 
 pub returns-in-Ok-None-clause-rows : goal.returns-in-Ok-None-clause-rows
@@ -27,6 +28,21 @@ returns-then-len-left-clause-rows g c =
     (rw (c.loop.invariant.dies, c.loop.invariant.slots) at row) paged
     c.index_mut.ensures.value added refl step c.loop.invariant.dealt)
 
+pub returns-in-Ok-None-clause-few : goal.returns-in-Ok-None-clause-few
+returns-in-Ok-None-clause-few g c = omega (arith, c.loop.invariant.few)
+
+pub returns-clause-few : goal.returns-clause-few
+returns-clause-few g c = omega (arith, c.loop.invariant.few)
+
+pub returns-then-len-left-clause-few : goal.returns-then-len-left-clause-few
+returns-then-len-left-clause-few g c =
+    let row = rw c.in-Ok-Some.field-0-is at c.in-Ok-Some.ensures.row in
+    let added = rw c.as_slice.ensures at c.in-Ok.ensures.ok in
+    let few = few_more _ _ _ _ _ _ (row_of c.in-Ok-Some.head c.next_into.new.ops) _ _ _
+    (rw (c.loop.invariant.dies, c.loop.invariant.slots) at row)
+    c.index_mut.ensures.value added refl c.loop.invariant.dealt c.loop.invariant.few in
+    omega (arith, few)
+
 pub returns-in-Err-clause-refused : goal.returns-in-Err-clause-refused
 returns-in-Err-clause-refused g c = deals_fault _ _ _ _ _ _ c.in-Err.refusal c.in-Err.ensures.item c.loop.invariant.dealt
 
@@ -42,6 +58,9 @@ loop-preserved g c =
       dealt = deals_more _ _ _ _ _ _ _ (row_of c.in-Ok-Some.head c.next_into.new.ops) _ _
           (rw (c.loop.invariant.dies, c.loop.invariant.slots) at row) paged
           c.index_mut.ensures.value added refl step c.loop.invariant.dealt;
+      few = few_more _ _ _ _ _ _ (row_of c.in-Ok-Some.head c.next_into.new.ops) _ _ _
+          (rw (c.loop.invariant.dies, c.loop.invariant.slots) at row)
+          c.index_mut.ensures.value added refl c.loop.invariant.dealt c.loop.invariant.few;
     }
 
 pub add-requires : goal.add-requires

@@ -1,6 +1,9 @@
 use Rattle.std.proofs.Common.{rules, ◌≡◌, ◌++◌, ◌∷◌, [], ap, sym, ◌∙◌, append_assoc, arith, length, length-append}
 use Rattle.std.specs.Vec.Iter.{into_iter_items}
-use Rattle.task_script.specs.Batches.{joined_behind}
+use Rattle.std.proofs.lemmas.List.Sums.{sum_by-cons}
+use Rattle.task_script.specs.Batches.{joined_behind, rows_counted}
+use Rattle.task_script.specs.RunCounts.{rows_in}
+use Rattle.task_script.specs.declared.batches.Progress.{Progress}
 use Rattle.task_script.specs.StoreRuns.{reports_of}
 use Rattle.task_script.specs.declared.run_counts.RunCount.{RunCount}
 use Rattle.task_script.proofs.Gathering.{told_more}
@@ -19,6 +22,26 @@ loop-die-preserved c =
       text = told_more c.loop-die.number c.in-Some.die (into_iter_items c.next.new.self) c.loop-die.ran.text _
           (reports_of 0 c.args.dies.items) c.in_ok-add_last.ensures.ok (rw here at c.loop-die.invariant.text);
       left = omega (arith, ap length cut, ap length here, c.loop-die.invariant.left);
-      count = ap (λ (count : RunCount). joined_behind count c.in-Some-split_first.later.now) c.in_ok-add_all.ensures.ok
+      count = ap (λ (count : RunCount). joined_behind count c.in-Some-split_first.later.now) c.add_all.ensures
           ∙ (ap (joined_behind c.loop-die.ran.count) (sym cut) ∙ c.loop-die.invariant.count);
+      counted = omega (
+        arith,
+        ap rows_in c.add_all.ensures,
+        ap rows_counted cut,
+        sum_by-cons (λ (p : Progress). rows_in p.count) c.in-Some-split_first.at.now c.in-Some-split_first.later.now,
+        c.loop-die.invariant.counted,
+      );
+    }
+
+pub add_all-requires : goal.add_all-requires
+add_all-requires c =
+    let cut : c.loop-die.progress.now ≡ c.in-Some-split_first.at.now ∷ c.in-Some-split_first.later.now = search rules in
+    record {
+      few = omega (
+        arith,
+        c.requires.counted,
+        ap rows_counted cut,
+        sum_by-cons (λ (p : Progress). rows_in p.count) c.in-Some-split_first.at.now c.in-Some-split_first.later.now,
+        c.loop-die.invariant.counted,
+      );
     }

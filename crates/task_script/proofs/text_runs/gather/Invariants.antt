@@ -1,6 +1,7 @@
-use Rattle.std.proofs.Common.{◌≡◌, ◌++◌, length}
+use Rattle.std.proofs.Common.{◌≡◌, ◌+◌, ◌++◌, length}
 use Rattle.std.specs.Vec.Iter.{into_iter_items}
-use Rattle.task_script.specs.Batches.{joined_behind, joined_counts}
+use Rattle.task_script.specs.Batches.{joined_behind, joined_counts, rows_counted}
+use Rattle.task_script.specs.RunCounts.{rows_in}
 use Rattle.task_script.specs.StoreRuns.{reports_of}
 use Rattle.task_script.proofs.Gathering.{IsToldOf}
 use Rattle.task_script.proofs.text_runs.gather.Given as goal
@@ -14,4 +15,5 @@ invariant-loop-die l = record {
   text : IsToldOf l.ran.text (reports_of l.number (into_iter_items l.die-iterator)) (reports_of 0 l.fn.dies.items);
   left : length l.progress ≡ length (into_iter_items l.die-iterator);
   count : joined_behind l.ran.count l.progress ≡ joined_counts l.fn.progress;
+  counted : rows_in l.ran.count + rows_counted l.progress ≡ rows_counted l.fn.progress;
 }

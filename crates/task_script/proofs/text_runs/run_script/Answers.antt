@@ -1,7 +1,9 @@
-use Rattle.std.proofs.Common.{◌∙◌, refl, ap, length, arith}
+use Rattle.std.proofs.Common.{rules, ◌∙◌, refl, ap, length, arith}
 use Rattle.std.proofs.lemmas.List.{length-map}
 use Rattle.std.proofs.lemmas.List.Elements.{All-from_recursion}
-use Rattle.task_script.proofs.Batching.{all_sole, as_many, come_more, read_as, so_far_more, so_far_none}
+use Rattle.slot_types.specs.declared.refusals.Refusal.{Refusal}
+use Rattle.task_script.proofs.Batching.{all_sole, as_many, come_more, fails_by, none_counted, read_as, so_far_more, so_far_none}
+use Rattle.task_script.specs.Batches.{rows_counted}
 use Rattle.task_script.proofs.Gathering.{script_ran}
 use Rattle.task_script.proofs.Results.{ok_weaker}
 use Rattle.task_script.proofs.text_runs.run_script.Goals as goal
@@ -13,6 +15,7 @@ loop-init g c = record {
   slots = c.in_ok-reader.ensures.slots;
   so_far = so_far_none _ _ c.args.plan.now c.args.slots _ _ _ c.in_ok-reader.ensures.script
       (rw c.as_slice.ensures at c.in_ok-store.ensures.first) c.requires.bound c.in_ok-progress.ensures.ok c.len.ensures;
+  few = none_counted _ _ c.in_ok-progress.ensures.ok;
 }
 
 pub run_rows-requires-clause-rows : goal.run_rows-requires-clause-rows
@@ -94,4 +97,26 @@ loop-preserved g c =
       dies = c.in_ok-rows.ensures.dies ∙ c.loop.invariant.dies;
       slots = c.in_ok-rows.ensures.slots ∙ c.loop.invariant.slots;
       so_far = so_far_more 0 _ _ _ c.args.plan.now c.args.slots _ _ _ _ _ r.items s r.read r.dealt c.in_ok-run_rows-2.ensures.ran;
+      few = omega (arith, c.loop.invariant.few, c.in_ok-rows.ensures.few, c.in_ok-run_rows-2.ensures.counted);
     }
+
+pub run_rows-requires-clause-few : goal.run_rows-requires-clause-few
+run_rows-requires-clause-few g c κs within = omega (arith, c.loop.invariant.few, c.in_ok-rows.ensures.few)
+
+pub run_rows-requires-in-loop-clause-few : goal.run_rows-requires-in-loop-clause-few
+run_rows-requires-in-loop-clause-few g c κs within = omega (arith, c.loop.invariant.few, c.in_ok-rows.ensures.few)
+
+pub finish-requires-clause-counted : goal.finish-requires-clause-counted
+finish-requires-clause-counted g c =
+    omega (
+      arith,
+      c.loop.invariant.few,
+      c.in_ok-rows.ensures.few,
+      c.in_ok-run_rows.ensures.counted,
+      ap rows_counted c.deref.ensures.value,
+    )
+
+pub returns-in_err-rows-clause-refused : goal.returns-in_err-rows-clause-refused
+returns-in_err-rows-clause-refused g c =
+    let text = g.S.Read.remaining c.args.script in
+    search (rules, λ (e : Refusal). fails_by text _ (length c.args.plan.now) c.args.slots _ e c.loop.invariant.so_far.read)

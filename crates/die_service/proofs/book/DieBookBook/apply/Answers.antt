@@ -1,7 +1,7 @@
 use Rattle.std.proofs.Common.{◌≡◌, true, false, sym, ◌∙◌, ap, length}
 use Rattle.slot_core.specs.Core.{Core}
 use Rattle.die_service.proofs.Lists.{log_of_calls, length_of_calls}
-use Rattle.die_service.proofs.Replying.{may_refuse}
+use Rattle.slot_core.proofs.Calling.{may_refuse}
 use Rattle.die_service.proofs.book.DieBookBook.apply.Goals.{in-Ok, in-Err}
 use Rattle.die_service.proofs.book.DieBookBook.apply.Goals as goal
 
@@ -16,9 +16,9 @@ returns-clause-gives g c =
     ∙ ap (λ (k : Core g.row.N.Denot). length k.log) (c.deref.ensures ∙ (c.self.view_is ∙ sym same)) in
     elim c.match-perform.branch [
       | in-Ok w ↦ rw (w.result-is, log_of_calls c.args.self.now.log, ← same)
-          (w.in-Ok.ensures.accepted.answered, w.in-Ok.ensures.accepted.accepted)
+          (w.in-Ok.ensures.ended.answered, w.in-Ok.ensures.ended.accepted)
       | in-Err w ↦ rw (w.result-is, log_of_calls c.args.self.now.log, ← same) (
         entries ∙ sym (length_of_calls die.log),
-        may_refuse never c.args.event w.in-Err.refusal die c.perform.new.self runs w.in-Err.ensures.stopped w.in-Err.ensures.refused,
+        may_refuse g.N.Nand.ends g.N.Nand.failures never c.args.caller c.args.event die c.perform.new.self w.in-Err.refusal runs w.in-Err.ensures,
       )
     ]

@@ -2,7 +2,7 @@ use Rattle.std.proofs.Common.{◌≡◌, true, false, sym, ◌∙◌, ap, length
 use Rattle.slot_core.specs.Core.{Core}
 use Rattle.slot_core.specs.Events.{with_ops}
 use Rattle.die_service.proofs.Lists.{log_of_calls, length_of_calls}
-use Rattle.die_service.proofs.Replying.{may_refuse}
+use Rattle.slot_core.proofs.Calling.{may_refuse}
 use Rattle.die_service.proofs.book.DieBookNotingBook.note.Goals.{in-Ok, in-Err}
 use Rattle.die_service.proofs.book.DieBookNotingBook.note.Goals as goal
 
@@ -17,10 +17,9 @@ returns-clause-gives g c =
     ∙ ap (λ (k : Core g.row.N.Denot). length k.log) (c.deref.ensures ∙ (c.self.view_is ∙ sym same)) in
     elim c.match-note.branch [
       | in-Ok w ↦ rw (w.result-is, log_of_calls c.args.self.now.log, ← same)
-          (w.in-Ok.ensures.accepted.answered, w.in-Ok.ensures.accepted.accepted)
+          (w.in-Ok.ensures.ended.answered, w.in-Ok.ensures.ended.accepted)
       | in-Err w ↦ rw (w.result-is, log_of_calls c.args.self.now.log, ← same) (
         entries ∙ sym (length_of_calls die.log),
-        may_refuse never (with_ops c.args.head c.args.ops.now) w.in-Err.refusal die c.note.new.self runs w.in-Err.ensures.stopped
-            w.in-Err.ensures.refused,
+        may_refuse g.N.Nand.ends g.N.Nand.failures never c.args.caller (with_ops c.args.head c.args.ops.now) die c.note.new.self w.in-Err.refusal runs w.in-Err.ensures,
       )
     ]

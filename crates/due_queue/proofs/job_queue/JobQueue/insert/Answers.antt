@@ -1,6 +1,6 @@
 use Rattle.std.proofs.Common.{ap}
 use Rattle.due_queue.specs.Pairs.{is_pair_before}
-use Rattle.due_queue.specs.Queue.{Queue, inserted}
+use Rattle.due_queue.specs.Queue.{Queue, with_key}
 use Rattle.due_queue.proofs.Mapped.{map-inserted}
 use Rattle.due_queue.proofs.job_queue.JobQueue.insert.Goals as goal
 
@@ -12,4 +12,4 @@ returns-clause-keys g c =
           c.self.inside.pairs.keys,
       c.pair.ensures,
     )
-    (ap (λ (queue : Queue _). inserted g.K.JobKey.is_before c.args.key queue.keys) c.self.view_is)
+    (ap (λ (queue : Queue _). with_key g.K.JobKey.is_before c.args.key queue.keys) c.self.view_is)

@@ -2,7 +2,7 @@ use Rattle.std.proofs.Common.{ap, ◌∙◌, arith}
 use Rattle.std.specs.BinaryHeap.{heap_items}
 use Rattle.due_queue.specs.Pairs.{is_pair_before}
 use Rattle.due_queue.specs.Heaps.{pairs_in}
-use Rattle.due_queue.specs.Queue.{Queue, inserted}
+use Rattle.due_queue.specs.Queue.{Queue, with_key}
 use Rattle.due_queue.proofs.Orders.{pairs_strict}
 use Rattle.due_queue.proofs.Inserted.{rising-inserted}
 use Rattle.due_queue.proofs.Heaped.{pairs_in-IsPermutation}
@@ -23,4 +23,4 @@ invariant_of-self c =
 pub returns-clause-keys : goal.returns-clause-keys
 returns-clause-keys c =
     pairs_in-IsPermutation _ _ c.in-Ok.ensures.permutation
-    ∙ ap (λ (queue : Queue _). inserted is_pair_before c.args.pair queue.keys) c.self.view_is
+    ∙ ap (λ (queue : Queue _). with_key is_pair_before c.args.pair queue.keys) c.self.view_is

@@ -1,8 +1,8 @@
 use Rattle.std.proofs.Common.{◌≡◌, ◌+◌, ◌∷◌, [], ap, sym, ◌∙◌, length, arith, length-append}
 use Rattle.event_log.specs.declared.deeds.Deed.TheVariants.{Idle}
 use Rattle.event_log.specs.Notes.{Events}
-use Rattle.event_log.specs.Kept.{notes_in}
-use Rattle.event_log.proofs.Pushing.{GoesOnIdle, idle_goes_on, idle_push, stretches_push, length_of, before_later}
+use Rattle.event_log.specs.SoundLog.{notes_in}
+use Rattle.event_log.proofs.Pushing.{GoesOnIdle, idle_goes_on, idle_push, stretches_push, joins_idle, length_of, before_later}
 use Rattle.event_log.proofs.event_log.EventLog.push_idle.Goals as goal
 
 pub push_reserved-requires-clause-few : goal.push_reserved-requires-clause-few
@@ -77,6 +77,14 @@ invariant_of-self c =
               (notes_in c.self.inside.deeds.items c.self.inside.callers.items c.self.inside.waivers.items),
           (rw newest.none at on),
         ) (omega (arith, c.self.invariant.0.count_is));
+        kept_is = rw (
+          c.push_reserved.ensures.items,
+          c.push_reserved-then-goes_on.ensures.items,
+          pushed,
+          c.push_reserved.ensures.kept,
+          joins_idle (notes_in c.self.inside.deeds.items c.self.inside.callers.items c.self.inside.waivers.items) c.args.caller []
+              (rw newest.none at on),
+        ) (omega (arith, c.self.invariant.0.kept_is));
         waives_is = rw (c.push_reserved.ensures.items, c.push_reserved-then-goes_on.ensures.items, pushed)
             (c.self.invariant.0.waives_is ∙ newest.quiet);
       },

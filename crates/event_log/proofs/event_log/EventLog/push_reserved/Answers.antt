@@ -1,7 +1,8 @@
-use Rattle.std.proofs.Common.{◌∷◌, [], ap, sym, ◌∙◌, length, not, arith, length-append}
+use Rattle.std.proofs.Common.{◌+◌, ◌∷◌, [], ap, sym, ◌∙◌, length, not, arith, length-append}
 use Rattle.event_log.specs.Notes.{Events}
-use Rattle.event_log.specs.Kept.{notes_in}
-use Rattle.event_log.proofs.Pushing.{notes_push, stretches_push, few_stretches, length_of, before_push, is_none_is, same_some, second_of}
+use Rattle.event_log.specs.SoundLog.{notes_in}
+use Rattle.event_log.specs.Stretches.{new_stretches, kept_of}
+use Rattle.event_log.proofs.Pushing.{notes_push, stretches_push, joins_is, few_stretches, length_of, before_push, is_none_is, same_some, second_of}
 use Rattle.event_log.proofs.event_log.EventLog.push_reserved.Goals as goal
 
 pub stretches_with-self-inside-requires : goal.stretches_with-self-inside-requires
@@ -27,7 +28,7 @@ push_reserved-requires-clause-few c =
 
 pub push_reserved-requires-clause-like : goal.push_reserved-requires-clause-like
 push_reserved-requires-clause-like c =
-    λ both. c.is_last_deed-same_deed.ensures (second_of c.goes_on-goes_on.result c.is_last_deed-same_deed.result both)
+    λ both. c.is_last_deed-same_deed.ensures.0 (second_of c.goes_on-goes_on.result c.is_last_deed-same_deed.result both)
 
 pub push_reserved-requires-2-clause-few : goal.push_reserved-requires-2-clause-few
 push_reserved-requires-2-clause-few c =
@@ -87,6 +88,20 @@ invariant_of-self c =
         )
             (sym (stretches_push (record { caller = c.args.caller; deed = c.args.deed; waived = c.args.waived.now })
             (notes_in c.self.inside.deeds.items c.self.inside.callers.items c.self.inside.waivers.items)));
+        kept_is = rw (
+          c.push_reserved.ensures.items,
+          c.push_reserved-2.ensures.items,
+          c.note_waivers.ensures.noted,
+          events,
+          c.push_reserved.ensures.kept,
+          c.goes_on-goes_on.ensures,
+          c.self.invariant.0.kept_is,
+          ← c.self.view_is,
+        )
+            (ap (λ b. new_stretches b + kept_of (notes_in c.self.inside.deeds.items c.self.inside.callers.items c.self.inside.waivers.items))
+            (joins_is c.self.inside.deeds.items c.self.inside.callers.items c.self.inside.waivers.items
+            (record { caller = c.args.caller; deed = c.args.deed; waived = c.args.waived.now }) c.is_last_deed-same_deed.result
+            c.self.invariant.0.callers_are c.is_last_deed-same_deed.ensures.0 c.is_last_deed-same_deed.ensures.1));
         waives_is = rw (
           c.push_reserved.ensures.items,
           c.push_reserved-2.ensures.items,

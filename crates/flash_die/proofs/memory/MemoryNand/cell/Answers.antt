@@ -1,7 +1,7 @@
-use Rattle.std.proofs.Common.{◌+◌, ◌*◌, ◌≤◌, length, sym, ap, ◌∙◌, arith}
-use Rattle.flash_die.specs.Flash.{cell_at, blank}
+use Rattle.std.proofs.Common.{◌+◌, ◌*◌, ◌≤◌, length, sym, ap, ◌∙◌}
+use Rattle.flash_die.specs.Flash.{blank}
 use Rattle.flash_die.specs.MemoryView.{cells_of}
-use Rattle.flash_die.specs.Flash.{Block, block_at}
+use Rattle.flash_die.specs.Flash.{Block}
 use Rattle.std.proofs.Common.{get_or}
 use Rattle.flash_die.proofs.Laid.{read-laid}
 use Rattle.flash_die.proofs.Looking.{within, cell_in, cell_free, block_outside}

@@ -2,7 +2,7 @@ use Rattle.std.proofs.Common.{rules, arith, ◌≡◌, ◌<◌, ◌≤◌, ◌+�
 use Rattle.std.proofs.lemmas.List.{length-set}
 use Rattle.slot_types.specs.declared.pages.PageData.{PageData}
 use Rattle.slot_types.specs.declared.plans.Shape.{Shape}
-use Rattle.flash_die.specs.Memory.{IsMemory, blocks_of, laid}
+use Rattle.flash_die.specs.Memory.{IsMemory, blocks_of, cells_up_to}
 use Rattle.flash_die.specs.MemoryView.{cells_of}
 use Rattle.flash_die.proofs.Cut.{Fits, fits, blocks_programmed, memory_programmed}
 use Rattle.flash_die.proofs.Laid.{below-laid, length-laid, some-laid, write-laid}
@@ -18,11 +18,11 @@ next c =
     (rw (← c.self.view_is) at c.requires.next)
 
 -- the cells after the program
-written : (shape : Shape) (cells longer : List PageData) (at : ℕ) (bytes : PageData) → longer ≡ laid (at + 1) cells → at + 1
-    ≤ shape.blocks * shape.pages → length cells ≤ shape.blocks * shape.pages → laid (shape.blocks * shape.pages) (set longer at bytes)
-    ≡ set (laid (shape.blocks * shape.pages) cells) at bytes
+written : (shape : Shape) (cells longer : List PageData) (at : ℕ) (bytes : PageData) → longer ≡ cells_up_to (at + 1) cells → at + 1
+    ≤ shape.blocks * shape.pages → length cells ≤ shape.blocks * shape.pages → cells_up_to (shape.blocks * shape.pages) (set longer at bytes)
+    ≡ set (cells_up_to (shape.blocks * shape.pages) cells) at bytes
 written shape cells longer at bytes is few some =
-    ap (λ (l : List PageData). laid (shape.blocks * shape.pages) (set l at bytes)) is
+    ap (λ (l : List PageData). cells_up_to (shape.blocks * shape.pages) (set l at bytes)) is
     ∙ write-laid (shape.blocks * shape.pages) (at + 1) cells at bytes few (omega arith) some
 
 -- and one of the device
@@ -56,7 +56,7 @@ invariant_of-self c =
     let m = c.self.inside in
     let at = c.args.place.block * m.shape.pages + c.args.place.page in
     let here = (goal.at.invariant_of-self c).After-self in
-    let programmed : IsMemory m.shape (laid (m.shape.blocks * m.shape.pages) (set c.lay_down.new.cells.items at c.args.bytes))
+    let programmed : IsMemory m.shape (cells_up_to (m.shape.blocks * m.shape.pages) (set c.lay_down.new.cells.items at c.args.bytes))
     (set m.filled.items c.args.place.block (c.args.place.page + 1)) m.erasing.items m.erases.items = subst
     (λ (l : List PageData). IsMemory m.shape l (set m.filled.items c.args.place.block (c.args.place.page + 1)) m.erasing.items
     m.erases.items) (sym (written m.shape m.cells.items c.lay_down.new.cells.items at c.args.bytes c.lay_down.ensures.cells

@@ -2,7 +2,7 @@ use Rattle.std.proofs.Common.{◌≡◌, ℕ, ◌<◌, false, length, get_or, ma
 use Rattle.die_checkpoint.specs.Counts.{counts_at}
 use Rattle.flash_volume.specs.Array.{ArrayState}
 use Rattle.flash_volume.specs.Cells.{fills_of, erases_in}
-use Rattle.flash_volume.specs.Resumed.{counts_of}
+use Rattle.flash_volume.specs.Checkpoints.{counts_of}
 use Rattle.flash_volume.proofs.Resuming.{counts_made, if_ok_both}
 use Rattle.flash_volume.proofs.array.PageArray.counts.Goals as goal
 

@@ -1,7 +1,7 @@
 use Rattle.std.proofs.Common.{◌≡◌, ◌<◌, ◌+◌, ◌-◌, ◌∙◌, length, get_or, refl, sym, ap, arith, ℕ}
 use Rattle.std.proofs.lemmas.Grind.{common_steps}
 use Rattle.std.proofs.lemmas.Bool.{eqb-false, eqb-true}
-use Rattle.plan_rules.specs.Accounts.{settled}
+use Rattle.plan_rules.specs.Accounts.{accounts_after_collection}
 use Rattle.flash_die.specs.Flash.{block_at}
 use Rattle.flash_volume.proofs.Erasing.{unplaced_of, erased_last, erased_going}
 use Rattle.flash_volume.proofs.Running.{dropped}
@@ -91,7 +91,7 @@ returns-in-Ok-true-clause-did g c =
       last = rw (← sound.shape_is) (eqb-true ((block_at b c.args.collection.victim).erasing + 1) s.erase_slots
           (sym c.in-Ok-true.ensures.erased.last_is ∙ c.in-Ok-true.field-0-test));
       given = c.settle-given.ensures.given;
-      accounts = c.settle-given.ensures.moved ∙ ap (λ (n : ℕ). settled a c.args.task n) copied_is;
+      accounts = c.settle-given.ensures.moved ∙ ap (λ (n : ℕ). accounts_after_collection a c.args.task n) copied_is;
       running = rw c.task.view_is refl;
     }
     )

@@ -1,6 +1,6 @@
 use Rattle.std.proofs.Common.{◌+◌, ℕ, List, Some, vec_capacity, refl, sym, ap, ◌∙◌}
 use Rattle.job_table.specs.declared.rows.Row.{Row}
-use Rattle.job_table.specs.Jobs.{JobRecord, carried}
+use Rattle.job_table.specs.Jobs.{JobRecord, with_one_more_slot}
 use Rattle.job_table.specs.Table.{changed_at, reads_next_of}
 use Rattle.job_table.proofs.Laying.{few_set, row_read, job_there, row_carried, laid_kept, room_kept, jobs_set}
 use Rattle.job_table.proofs.flat_jobs.FlatJobs.carry.Goals as goal
@@ -27,6 +27,6 @@ returns c =
     let at_n = row_read c.self.inside.rows.items c.self.inside.ops c.self.inside.reads.items c.args.self.now c.number.inside.0 c.args.number
     row c.self.view_is c.number.view_is c.requires.there c.index_mut-row.ensures.value in
     jobs_set c.self.inside.rows.items c.self.inside.ops c.self.inside.reads.items c.number.inside.0 row (record row { work = row.work + 1 })
-    carried at_n refl
-    ∙ ap (λ (l : List JobRecord). changed_at l c.number.inside.0 carried) c.self.view_is
-    ∙ ap (λ (n : ℕ). changed_at c.args.self.now n carried) c.number.view_is
+    with_one_more_slot at_n refl
+    ∙ ap (λ (l : List JobRecord). changed_at l c.number.inside.0 with_one_more_slot) c.self.view_is
+    ∙ ap (λ (n : ℕ). changed_at c.args.self.now n with_one_more_slot) c.number.view_is

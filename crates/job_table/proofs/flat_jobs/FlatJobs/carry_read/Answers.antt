@@ -2,10 +2,10 @@ use Rattle.std.proofs.Common.{◌≡◌, ℕ, List, Some, length, replicate, vec
 use Rattle.std.proofs.lemmas.List.{length-replicate}
 use Rattle.slot_types.specs.declared.pages.PageData.{PageData}
 use Rattle.job_table.specs.declared.rows.Row.{Row}
-use Rattle.job_table.specs.Jobs.{JobRecord, carried, with_read}
+use Rattle.job_table.specs.Jobs.{JobRecord, with_one_more_slot, with_read}
 use Rattle.job_table.specs.Table.{changed_at, work_of}
 use Rattle.job_table.specs.Words.{blank}
-use Rattle.job_table.specs.Flat.{lacking, place_from}
+use Rattle.job_table.specs.Flat.{places_lacking, place_from}
 use Rattle.job_table.proofs.Reading.{next_few}
 use Rattle.job_table.proofs.Laying.{few_set, job_there, row_reading, made, place_there, laid_read, room_read, jobs_read}
 use Rattle.job_table.proofs.flat_jobs.FlatJobs.carry_read.Goals as goal
@@ -41,9 +41,9 @@ index_mut-requires c =
     let reading = row_reading c.self.inside.rows.items c.self.inside.ops c.self.inside.reads.items c.args.self.now c.number.inside.0
     c.args.number row c.self.view_is c.number.view_is c.requires.there c.index_mut-row.ensures.value c.requires.reads in
     let whole : vec_len c.self.inside.reads ≡ length c.self.inside.reads.items = search rules in
-    let more : List PageData = replicate (lacking c.self.inside.ops row) blank in
+    let more : List PageData = replicate (places_lacking c.self.inside.ops row) blank in
     let made = made c.self.inside.rows.items c.self.inside.ops c.self.inside.reads.items more c.number.inside.0
-    (vec_len c.self.inside.reads) row reading.there whole (length-replicate (lacking c.self.inside.ops row) blank) c.self.invariant.0 in
+    (vec_len c.self.inside.reads) row reading.there whole (length-replicate (places_lacking c.self.inside.ops row) blank) c.self.invariant.0 in
     let from : ℕ = place_from (vec_len c.self.inside.reads) row in
     let there = place_there c.self.inside.rows.items c.self.inside.ops c.self.inside.reads.items more c.number.inside.0 row from reading
     c.self.invariant.0 made in
@@ -57,16 +57,16 @@ invariant_of-self c =
     let reading = row_reading c.self.inside.rows.items c.self.inside.ops c.self.inside.reads.items c.args.self.now c.number.inside.0
     c.args.number row c.self.view_is c.number.view_is c.requires.there c.index_mut-row.ensures.value c.requires.reads in
     let whole : vec_len c.self.inside.reads ≡ length c.self.inside.reads.items = search rules in
-    let more : List PageData = replicate (lacking c.self.inside.ops row) blank in
+    let more : List PageData = replicate (places_lacking c.self.inside.ops row) blank in
     let made = made c.self.inside.rows.items c.self.inside.ops c.self.inside.reads.items more c.number.inside.0
-    (vec_len c.self.inside.reads) row reading.there whole (length-replicate (lacking c.self.inside.ops row) blank) c.self.invariant.0 in
+    (vec_len c.self.inside.reads) row reading.there whole (length-replicate (places_lacking c.self.inside.ops row) blank) c.self.invariant.0 in
     let from : ℕ = place_from (vec_len c.self.inside.reads) row in
     rw (c.make_places.ensures.row, c.make_places.ensures.places, c.make_places.ensures.capacity) (
       laid_read c.self.inside.rows.items c.self.inside.ops c.self.inside.reads.items more c.number.inside.0 row from c.args.bytes reading
           c.self.invariant.0 made,
       room_read c.self.inside.rows.items c.self.inside.ops c.self.inside.reads.items more c.self.inside.all_reads
           (vec_capacity c.self.inside.reads) c.number.inside.0 row from c.args.bytes reading.there
-          (length-replicate (lacking c.self.inside.ops row) blank) c.self.invariant.1,
+          (length-replicate (places_lacking c.self.inside.ops row) blank) c.self.invariant.1,
       few_set c.self.inside.rows.items c.self.inside.ops c.number.inside.0 _ c.self.invariant.2,
     )
 
@@ -76,12 +76,12 @@ returns c =
     let reading = row_reading c.self.inside.rows.items c.self.inside.ops c.self.inside.reads.items c.args.self.now c.number.inside.0
     c.args.number row c.self.view_is c.number.view_is c.requires.there c.index_mut-row.ensures.value c.requires.reads in
     let whole : vec_len c.self.inside.reads ≡ length c.self.inside.reads.items = search rules in
-    let more : List PageData = replicate (lacking c.self.inside.ops row) blank in
+    let more : List PageData = replicate (places_lacking c.self.inside.ops row) blank in
     let made = made c.self.inside.rows.items c.self.inside.ops c.self.inside.reads.items more c.number.inside.0
-    (vec_len c.self.inside.reads) row reading.there whole (length-replicate (lacking c.self.inside.ops row) blank) c.self.invariant.0 in
+    (vec_len c.self.inside.reads) row reading.there whole (length-replicate (places_lacking c.self.inside.ops row) blank) c.self.invariant.0 in
     let from : ℕ = place_from (vec_len c.self.inside.reads) row in
     rw (c.make_places.ensures.row, c.make_places.ensures.places)
     (jobs_read c.self.inside.rows.items c.self.inside.ops c.self.inside.reads.items more c.number.inside.0 row from c.args.bytes reading
     c.self.invariant.0 made
-    ∙ ap (λ (l : List JobRecord). changed_at l c.number.inside.0 (λ (job : JobRecord). with_read c.args.bytes (carried job))) c.self.view_is
-    ∙ ap (λ (n : ℕ). changed_at c.args.self.now n (λ (job : JobRecord). with_read c.args.bytes (carried job))) c.number.view_is)
+    ∙ ap (λ (l : List JobRecord). changed_at l c.number.inside.0 (λ (job : JobRecord). with_read c.args.bytes (with_one_more_slot job))) c.self.view_is
+    ∙ ap (λ (n : ℕ). changed_at c.args.self.now n (λ (job : JobRecord). with_read c.args.bytes (with_one_more_slot job))) c.number.view_is)

@@ -4,7 +4,7 @@ use Rattle.slot_types.specs.declared.events.Op.{Op}
 use Rattle.slot_types.specs.declared.pages.PageData.{PageData}
 use Rattle.job_table.specs.declared.rows.Row.{Row}
 use Rattle.job_table.specs.declared.stages.Stage.TheVariants as stages
-use Rattle.job_table.specs.Jobs.{JobRecord, accepted}
+use Rattle.job_table.specs.Jobs.{JobRecord, new_record}
 use Rattle.job_table.specs.Flat.{jobs_at}
 use Rattle.job_table.proofs.Laying.{IsBegun, laid_push, room_push, jobs_pushed}
 use Rattle.job_table.proofs.flat_jobs.FlatJobs.push.Goals as goal
@@ -86,7 +86,7 @@ returns-clause-ok c =
     ∙ ap (λ (l : List PageData). jobs_at (c.self.inside.ops ++ c.args.ops.now) l (c.self.inside.rows.items ++ row ∷ []))
     c.in_ok-reserve-2.ensures.items
     ∙ jobs_pushed c.self.inside.rows.items c.self.inside.ops c.args.ops.now c.self.inside.reads.items row begun c.self.invariant.0
-    ∙ ap (λ (l : List JobRecord). l ++ accepted c.args.collects c.args.task c.args.release c.args.due c.args.ops.now ∷ []) c.self.view_is
+    ∙ ap (λ (l : List JobRecord). l ++ new_record c.args.collects c.args.task c.args.release c.args.due c.args.ops.now ∷ []) c.self.view_is
 
 pub invariant_of-self : goal.invariant_of-self
 invariant_of-self c = grind (arith, common_steps)

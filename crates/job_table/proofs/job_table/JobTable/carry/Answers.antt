@@ -1,6 +1,6 @@
 use Rattle.std.proofs.Common.{refl, sym, subst}
 use Rattle.std.proofs.lemmas.Option.{slice_get_within}
-use Rattle.job_table.specs.Jobs.{carried}
+use Rattle.job_table.specs.Jobs.{with_one_more_slot}
 use Rattle.job_table.specs.Table.{Table}
 use Rattle.job_table.specs.Order.{IsHead}
 use Rattle.job_table.proofs.Changed.{viewed}
@@ -17,14 +17,14 @@ pub invariant_of-self : goal.invariant_of-self
 invariant_of-self c =
     let seen = subst (λ (t : Table). IsHead t c.args.number) (sym c.self.view_is) c.requires.head in
     rw c.carry.ensures
-    (quiet_sound c.self.inside.jobs c.args.number carried seen.head c.self.inside.clock c.self.inside.ended c.self.inside.collecting.items
+    (quiet_sound c.self.inside.jobs c.args.number with_one_more_slot seen.head c.self.inside.clock c.self.inside.ended c.self.inside.collecting.items
     c.self.inside.queues c.self.inside.worst
     carried_quiet seen.is_at (ready_pending c.self.inside.clock seen.head seen.ready) c.self.invariant)
 
 pub returns-clause-carried : goal.returns-clause-carried
-returns-clause-carried c = viewed _ _ _ _ _ carried c.self.view_is refl c.carry.ensures
+returns-clause-carried c = viewed _ _ _ _ _ with_one_more_slot c.self.view_is refl c.carry.ensures
 
 pub returns-clause-head : goal.returns-clause-head
 returns-clause-head c =
     subst (λ (t : Table). IsHead t c.args.number) (sym (returns-clause-carried c))
-    (head_goes_on c.args.self.now c.args.number carried carried_quiet c.requires.head)
+    (head_goes_on c.args.self.now c.args.number with_one_more_slot carried_quiet c.requires.head)

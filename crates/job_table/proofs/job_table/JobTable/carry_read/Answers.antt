@@ -1,6 +1,6 @@
 use Rattle.std.proofs.Common.{refl, sym, subst}
 use Rattle.std.proofs.lemmas.Option.{slice_get_within}
-use Rattle.job_table.specs.Jobs.{JobRecord, carried, with_read}
+use Rattle.job_table.specs.Jobs.{JobRecord, with_one_more_slot, with_read}
 use Rattle.job_table.specs.Table.{Table}
 use Rattle.job_table.specs.Order.{IsHead}
 use Rattle.job_table.proofs.Changed.{viewed}
@@ -17,16 +17,16 @@ pub invariant_of-self : goal.invariant_of-self
 invariant_of-self c =
     let seen = subst (λ (t : Table). IsHead t c.args.number) (sym c.self.view_is) c.requires.head in
     rw c.carry_read.ensures
-    (quiet_sound c.self.inside.jobs c.args.number (λ (job : JobRecord). with_read c.args.bytes (carried job)) seen.head c.self.inside.clock
+    (quiet_sound c.self.inside.jobs c.args.number (λ (job : JobRecord). with_read c.args.bytes (with_one_more_slot job)) seen.head c.self.inside.clock
     c.self.inside.ended c.self.inside.collecting.items c.self.inside.queues c.self.inside.worst
     (read_quiet c.args.bytes) seen.is_at (ready_pending c.self.inside.clock seen.head seen.ready) c.self.invariant)
 
 pub returns-clause-carried : goal.returns-clause-carried
-returns-clause-carried c = viewed _ _ _ _ _ (λ (job : JobRecord). with_read c.args.bytes (carried job)) c.self.view_is refl
+returns-clause-carried c = viewed _ _ _ _ _ (λ (job : JobRecord). with_read c.args.bytes (with_one_more_slot job)) c.self.view_is refl
     c.carry_read.ensures
 
 pub returns-clause-head : goal.returns-clause-head
 returns-clause-head c =
     subst (λ (t : Table). IsHead t c.args.number) (sym (returns-clause-carried c))
-    (head_goes_on c.args.self.now c.args.number (λ (job : JobRecord). with_read c.args.bytes (carried job)) (read_quiet c.args.bytes)
+    (head_goes_on c.args.self.now c.args.number (λ (job : JobRecord). with_read c.args.bytes (with_one_more_slot job)) (read_quiet c.args.bytes)
     c.requires.head)

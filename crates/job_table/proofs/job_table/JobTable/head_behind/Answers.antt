@@ -1,5 +1,5 @@
 use Rattle.std.proofs.Common.{◌≡◌, false, sym, ◌∙◌, ap, length, arith}
-use Rattle.job_table.specs.Kept.{IsRunning}
+use Rattle.job_table.specs.SoundTable.{QueuesAgree}
 use Rattle.job_table.specs.Table.{Table}
 use Rattle.job_table.proofs.Behind.{head_behind, none_behind}
 use Rattle.job_table.proofs.job_table.JobTable.head_behind.Goals as goal
@@ -9,7 +9,7 @@ pub returns-clause-head : goal.returns-clause-head
 returns-clause-head c =
     let i = c.self.inside in
     let old = c.self.invariant.running (ap (λ (t : Table). t.ended) c.self.view_is ∙ c.requires.running) in
-    let runs : IsRunning i.jobs c.args.now i.collecting.items c.release_by.new.self.waiting c.release_by.new.self.ready = record {
+    let runs : QueuesAgree i.jobs c.args.now i.collecting.items c.release_by.new.self.waiting c.release_by.new.self.ready = record {
       queued = c.release_by.ensures.queued;
       later = c.release_by.ensures.later;
       few_wait = omega (arith, c.release_by.ensures.fewer, old.few_wait);
@@ -29,7 +29,7 @@ pub returns-clause-idle : goal.returns-clause-idle
 returns-clause-idle c =
     let i = c.self.inside in
     let old = c.self.invariant.running (ap (λ (t : Table). t.ended) c.self.view_is ∙ c.requires.running) in
-    let runs : IsRunning i.jobs c.args.now i.collecting.items c.release_by.new.self.waiting c.release_by.new.self.ready = record {
+    let runs : QueuesAgree i.jobs c.args.now i.collecting.items c.release_by.new.self.waiting c.release_by.new.self.ready = record {
       queued = c.release_by.ensures.queued;
       later = c.release_by.ensures.later;
       few_wait = omega (arith, c.release_by.ensures.fewer, old.few_wait);

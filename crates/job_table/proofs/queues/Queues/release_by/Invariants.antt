@@ -1,5 +1,5 @@
 use Rattle.std.proofs.Common.{◌≤◌, length}
-use Rattle.job_table.specs.Queued.{AreQueued, IsRoomy}
+use Rattle.job_table.specs.QueuedKeys.{AreQueued, IsRoomy}
 use Rattle.job_table.proofs.queues.Queues.release_by.Given as goal
 
 abbrev pub invariant-loop-key : goal.invariant-loop-key

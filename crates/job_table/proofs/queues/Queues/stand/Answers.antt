@@ -1,5 +1,5 @@
 use Rattle.std.proofs.Common.{◌<◌, Contains, sym, subst}
-use Rattle.job_table.specs.Queued.{Lines}
+use Rattle.job_table.specs.QueuedKeys.{Lines}
 use Rattle.job_table.proofs.Roomy.{stand_roomy}
 use Rattle.job_table.proofs.queues.Queues.stand.Goals as goal
 

@@ -1,7 +1,7 @@
 use Rattle.std.proofs.Common.{◌≡◌, ◌*◌, ℕ, None, map, ap, length, refl, arith, ◌∙◌}
 use Rattle.std.specs.Prelude.{replicate}
 use Rattle.page_map.specs.Packing.{place_in}
-use Rattle.page_map.specs.Tables.{laid}
+use Rattle.page_map.specs.Tables.{entries_up_to}
 use Rattle.page_map.proofs.Blank.{tables_blank}
 use Rattle.page_map.proofs.Cells.{none_placed}
 use Rattle.page_map.proofs.Laid.{laid-none}
@@ -11,7 +11,7 @@ pub invariant_of-result : goal.invariant_of-result
 invariant_of-result c =
     let places = c.in_ok-with_capacity.field-0.items in
     let owners = c.in_ok-with_capacity-2.field-0.items in
-    let blank : map (place_in c.args.shape) (laid c.args.logical places) ≡ replicate c.args.logical None = ap
+    let blank : map (place_in c.args.shape) (entries_up_to c.args.logical places) ≡ replicate c.args.logical None = ap
     (map (place_in c.args.shape)) (laid-none ℕ c.args.logical places c.in_ok-with_capacity.ensures.items)
     ∙ none_placed c.args.shape c.args.logical in
     record {
@@ -34,7 +34,7 @@ invariant_of-result c =
 pub returns-clause-ok : goal.returns-clause-ok
 returns-clause-ok c =
     let places = c.in_ok-with_capacity.field-0.items in
-    let blank : map (place_in c.args.shape) (laid c.args.logical places) ≡ replicate c.args.logical None = ap
+    let blank : map (place_in c.args.shape) (entries_up_to c.args.logical places) ≡ replicate c.args.logical None = ap
     (map (place_in c.args.shape)) (laid-none ℕ c.args.logical places c.in_ok-with_capacity.ensures.items)
     ∙ none_placed c.args.shape c.args.logical in
     rw blank refl

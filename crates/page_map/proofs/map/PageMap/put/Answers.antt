@@ -5,7 +5,7 @@ use Rattle.slot_types.specs.declared.pages.Place.{Place}
 use Rattle.slot_types.specs.Places.{is_in}
 use Rattle.page_map.specs.Packing.{place_in}
 use Rattle.page_map.specs.Placing.{Placing, IsCell, cell_index}
-use Rattle.page_map.specs.Tables.{AreTables, laid, places_of, owners_of, cells_of}
+use Rattle.page_map.specs.Tables.{AreTables, entries_up_to, places_of, owners_of, cells_of}
 use Rattle.page_map.proofs.Cells.{length-placed, set-placed}
 use Rattle.page_map.proofs.Laid.{some-laid, write-laid}
 use Rattle.page_map.proofs.Moving.{tables_with, one_more_here, in_table}
@@ -13,10 +13,10 @@ use Rattle.page_map.proofs.map.PageMap.put.Goals as goal
 use Rattle.page_map.proofs.map.PageMap.put.Goals.{After-self}
 
 -- the entries after the write
-written : (count at some : ℕ) (entries longer : List (Option ℕ)) (entry : Option ℕ) → longer ≡ laid some entries → some ≤ count
-    → at < some → length entries ≤ count → laid count (set longer at entry) ≡ set (laid count entries) at entry
+written : (count at some : ℕ) (entries longer : List (Option ℕ)) (entry : Option ℕ) → longer ≡ entries_up_to some entries → some ≤ count
+    → at < some → length entries ≤ count → entries_up_to count (set longer at entry) ≡ set (entries_up_to count entries) at entry
 written count at some entries longer entry is few below entries_few =
-    ap (λ (l : List (Option ℕ)). laid count (set l at entry)) is ∙ write-laid count some entries at entry few below entries_few
+    ap (λ (l : List (Option ℕ)). entries_up_to count (set l at entry)) is ∙ write-laid count some entries at entry few below entries_few
 
 is_cell : (c : After-self) → IsCell c.self.inside.shape c.args.place
 is_cell c = rw (← c.self.view_is) at c.requires.place
@@ -33,9 +33,9 @@ of_logical c =
     omega (arith, is_page c, length-placed m.shape m.logical m.places.items c.self.invariant.some_places)
 
 -- the page's entry with its cell
-came : (c : After-self) (longer : List (Option ℕ)) (word : Option ℕ) → longer ≡ laid (c.args.page + 1) c.self.inside.places.items
+came : (c : After-self) (longer : List (Option ℕ)) (word : Option ℕ) → longer ≡ entries_up_to (c.args.page + 1) c.self.inside.places.items
     → place_in c.self.inside.shape word ≡ Some c.args.place
-    → map (place_in c.self.inside.shape) (laid c.self.inside.logical (set longer c.args.page word))
+    → map (place_in c.self.inside.shape) (entries_up_to c.self.inside.logical (set longer c.args.page word))
     ≡ set (places_of c.self.inside) c.args.page (Some c.args.place)
 came c longer word is tells =
     let m = c.self.inside in
@@ -83,13 +83,13 @@ invariant_of-self c =
     let read : c.index_mut-3.result.now ≡ get_or m.valid.items c.args.place.block 0 = get_or_read m.valid.items c.args.place.block
     c.index_mut-3.result.now in_valid c.index_mut-3.ensures.value 0 in
     let valid = set m.valid.items c.args.place.block (c.index_mut-3.result.now + 1) in
-    let longer : c.lay_down-2.new.entries.items ≡ laid (index + 1) m.owners.items = c.lay_down-2.ensures.entries
-    ∙ ap (λ (k : ℕ). laid (k + 1) m.owners.items) c.cell-index.ensures in
+    let longer : c.lay_down-2.new.entries.items ≡ entries_up_to (index + 1) m.owners.items = c.lay_down-2.ensures.entries
+    ∙ ap (λ (k : ℕ). entries_up_to (k + 1) m.owners.items) c.cell-index.ensures in
     let places : List (Option Place) = map (place_in m.shape)
-    (laid m.logical (set c.lay_down.new.entries.items c.args.page c.pack.result)) in
-    let owners : laid n (set c.lay_down-2.new.entries.items c.cell-index.result c.some.result)
+    (entries_up_to m.logical (set c.lay_down.new.entries.items c.args.page c.pack.result)) in
+    let owners : entries_up_to n (set c.lay_down-2.new.entries.items c.cell-index.result c.some.result)
     ≡ set (owners_of m) index (Some c.args.page) =
-    ap (λ (k : ℕ). laid n (set c.lay_down-2.new.entries.items k c.some.result)) c.cell-index.ensures
+    ap (λ (k : ℕ). entries_up_to n (set c.lay_down-2.new.entries.items k c.some.result)) c.cell-index.ensures
     ∙ written n index (index + 1) m.owners.items c.lay_down-2.new.entries.items c.some.result longer (of_map here) (omega arith)
     c.self.invariant.some_owners ∙ ap (λ (o : Option ℕ). set (owners_of m) index o) c.some.ensures in
     let tables : AreTables m.shape (set (places_of m) c.args.page (Some c.args.place)) (set (owners_of m) index (Some c.args.page)) valid =

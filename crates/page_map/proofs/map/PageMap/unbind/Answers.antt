@@ -3,7 +3,7 @@ use Rattle.std.proofs.lemmas.List.{get_or_read, length-set, set-get_or}
 use Rattle.slot_types.specs.declared.pages.Place.{Place}
 use Rattle.page_map.specs.Packing.{place_in}
 use Rattle.page_map.specs.Placing.{Placing, IsCell, cell_index}
-use Rattle.page_map.specs.Tables.{AreTables, laid, places_of, owners_of, cells_of}
+use Rattle.page_map.specs.Tables.{AreTables, entries_up_to, places_of, owners_of, cells_of}
 use Rattle.page_map.proofs.Cells.{found_below, set-placed}
 use Rattle.page_map.proofs.Owners.{owner_is}
 use Rattle.page_map.proofs.Laid.{laid_below, set-laid}
@@ -36,7 +36,7 @@ in_owners c =
 
 -- the page's entry without its cell
 left : (c : In-Some) (word : Option ℕ) → word ≡ None
-    → map (place_in c.self.inside.shape) (laid c.self.inside.logical (set c.self.inside.places.items c.args.page word))
+    → map (place_in c.self.inside.shape) (entries_up_to c.self.inside.logical (set c.self.inside.places.items c.args.page word))
     ≡ set (places_of c.self.inside) c.args.page None
 left c word none =
     let m = c.self.inside in
@@ -81,7 +81,7 @@ invariant_of-self c =
     let read : c.index_mut-in-Some-2.result.now ≡ get_or m.valid.items c.in-Some.place.block 0 = get_or_read m.valid.items
     c.in-Some.place.block c.index_mut-in-Some-2.result.now (in_valid here) c.index_mut-in-Some-2.ensures.value 0 in
     let valid = set m.valid.items c.in-Some.place.block (c.index_mut-in-Some-2.result.now - 1) in
-    let places : List (Option Place) = map (place_in m.shape) (laid m.logical (set m.places.items c.args.page c.none.result)) in
+    let places : List (Option Place) = map (place_in m.shape) (entries_up_to m.logical (set m.places.items c.args.page c.none.result)) in
     let tables : AreTables m.shape (set (places_of m) c.args.page None) (set (owners_of m) index None) valid = tables_without m.shape
     (places_of m) (owners_of m) m.valid.items c.args.page c.index_mut-in-Some-2.result.now c.in-Some.place c.self.invariant.tables
     (rw (← c.self.view_is) at c.requires) (lies here) read in
@@ -89,7 +89,7 @@ invariant_of-self c =
     (λ (l : List (Option Place)). AreTables m.shape l (set (owners_of m) index None) valid)
     (sym (left here c.none.result c.none.ensures)) tables in
     let below : c.cell.result < length m.owners.items = omega (arith, in_owners here, c.cell.ensures) in
-    let owners : laid n (set m.owners.items c.cell.result c.none-in-Some.result) ≡ set (owners_of m) index None = set-laid n m.owners.items
+    let owners : entries_up_to n (set m.owners.items c.cell.result c.none-in-Some.result) ≡ set (owners_of m) index None = set-laid n m.owners.items
     c.cell.result c.none-in-Some.result below ∙ ap (λ (k : ℕ). set (owners_of m) k c.none-in-Some.result) c.cell.ensures
     ∙ ap (λ (o : Option ℕ). set (owners_of m) index o) c.none-in-Some.ensures in
     record {

@@ -1,7 +1,7 @@
 use Rattle.std.proofs.Common.{◌≡◌, sym, ◌∙◌}
-use Rattle.die_log.specs.Opening.{IsOpening}
-use Rattle.die_log.specs.Answers.{IsExact}
-use Rattle.die_log.specs.Rows.{carried_numbers}
+use Rattle.die_log.specs.Model.Opening.{IsOpening}
+use Rattle.die_log.specs.Model.Answers.{IsExact}
+use Rattle.die_log.specs.Model.Rows.{carried_numbers}
 use Rattle.slot_core.proofs.Telling.{numbers_told}
 use Rattle.slot_core.proofs.Certifying.{ok_where, built_is, no_certificate, none_said, worst_said, holds_said, binds_said, some_done}
 use Rattle.slot_core.proofs.die_core.DieCore.certificate.Goals as goal

@@ -1,22 +1,29 @@
-use Rattle.std.proofs.Common.{◌≡◌, refl, None, sym, ◌∙◌, ap, inl, rules}
+use Rattle.std.proofs.Common.{◌≡◌, refl, None, false, sym, ◌∙◌, ap, rules}
 use Rattle.std.specs.Prelude.{IfOk}
 use Rattle.slot_types.specs.declared.events.Event.TheVariants.{Collect}
 use Rattle.slot_types.specs.declared.replies.Reply.TheVariants.{Taken}
-use Rattle.die_log.specs.Answers.{answer, refusal_of}
+use Rattle.die_log.specs.Model.Answers.{answer, refusal_of}
 use Rattle.die_log.proofs.Legality.{refused_answer}
 use Rattle.slot_core.specs.Core.{Core}
-use Rattle.slot_core.proofs.Keeping.{collecting_is, may_collect, collect_answered, collect_short, if_ok_both, if_err_both}
-use Rattle.slot_core.specs.Told.{log_of}
+use Rattle.slot_core.proofs.Calling.{stopped_refused, log_refused, memory_refused, entered, of_result}
+use Rattle.slot_core.proofs.Keeping.{collecting_is, may_collect, collect_answered, collect_accepts, if_ok_both, if_err_both}
+use Rattle.slot_core.specs.TableLog.{log_of}
 use Rattle.slot_core.proofs.Reserving.{collect_room}
 use Rattle.slot_core.proofs.Telling.{collect_enters, collect_logged, few_told}
 use Rattle.slot_core.proofs.die_core.DieCore.collect.Goals as goal
-use Rattle.die_log.specs.Start.{Start, over}
+use Rattle.die_log.specs.Model.Start.{Start, over}
 
-pub returns-in-Some-clause-refused : goal.returns-in-Some-clause-refused
-returns-in-Some-clause-refused g c = record {
-  cause = λ alive. inl (refused_answer _ _ _ _ (sym c.collect_refusal.ensures ∙ c.in-Some.is));
-  unchanged = search rules;
-}
+pub returns-then-failed : goal.returns-then-failed
+returns-then-failed g c =
+    stopped_refused g.N.Nand.ends g.N.Nand.failures g.N.Nand.never_fails c.args.caller
+    (Collect c.args.task c.args.release c.args.due) c.args.self.now _
+    (rw (← c.self.view_is) (sym c.failed.ensures ∙ c.if-failed.true)) (search rules)
+
+pub returns-in-Some : goal.returns-in-Some
+returns-in-Some g c =
+    log_refused g.N.Nand.ends g.N.Nand.failures g.N.Nand.never_fails c.args.caller (Collect c.args.task c.args.release c.args.due)
+    c.args.self.now _ c.in-Some.refusal (rw (← c.self.view_is) (sym c.failed.ensures ∙ c.if-failed.false))
+    (refused_answer _ _ _ _ (sym c.collect_refusal.ensures ∙ c.in-Some.is)) (search rules)
 
 pub enter_collection-requires-clause-single : goal.enter_collection-requires-clause-single
 enter_collection-requires-clause-single g c =
@@ -55,28 +62,29 @@ pub enter_collection-requires-clause-few_events : goal.enter_collection-requires
 enter_collection-requires-clause-few_events g c = few_told (over c.self.inside.volume.accounts.plan c.self.inside.start) c.self.inside.table.jobs
     c.self.inside.events.notes c.self.invariant.0.kept.exact c.self.invariant.0.fits
 
-pub returns-clause-taken : goal.returns-clause-taken
-returns-clause-taken g c =
+pub returns : goal.returns
+returns g c =
+    let runs : c.args.self.now.stopped ≡ false = rw (← c.self.view_is) (sym c.failed.ensures ∙ c.if-failed.false) in
     let none : refusal_of c.args.self.now.start c.args.self.now.log (Collect c.args.task c.args.release c.args.due) ≡ None =
     sym c.collect_refusal.ensures ∙ c.in-None.is in
     let answered : IfOk c.enter_collection.result (λ number. answer c.args.self.now.start c.args.self.now.log
     (Collect c.args.task c.args.release c.args.due) ≡ Taken number) =
     rw (← c.self.view_is) (collect_answered _ _ c.self.inside.table c.args.task c.args.release c.args.due c.enter_collection.result
     (rw (← c.self.view_is) at none) c.self.invariant.0.kept.jobs_are c.enter_collection.ensures.number) in
-    if_ok_both c.enter_collection.result _ _ _ answered
-    (collect_logged c.self.inside.table c.enter_collection.new.table c.self.inside.events.notes c.enter_collection.new.events.notes
-    c.args.caller c.args.task c.args.release c.args.due c.enter_collection.result
-    c.self.invariant.0.fits c.enter_collection.ensures.table c.enter_collection.ensures.number c.enter_collection.ensures.logged)
-    (λ number is tells. record { answered = is; logged = rw (tells, ← c.self.view_is) refl })
-
-pub returns-clause-refused : goal.returns-clause-refused
-returns-clause-refused g c =
     let stays = if_err_both c.enter_collection.result (λ _. c.enter_collection.new.table ≡ c.self.inside.table)
     (λ _. c.enter_collection.new.events.notes ≡ c.self.inside.events.notes)
     (λ _. (c.enter_collection.new.table ≡ c.self.inside.table) × (c.enter_collection.new.events.notes ≡ c.self.inside.events.notes))
     c.enter_collection.ensures.table_stays c.enter_collection.ensures.log_stays (λ refusal table log. (table, log)) in
-    if_err_both c.enter_collection.result _ _ _
-    (collect_short _ _ c.args.task c.args.release c.args.due c.enter_collection.result
-    (sym c.collect_refusal.ensures ∙ c.in-None.is) c.enter_collection.ensures.refused)
-    stays
-    (λ refusal short same. record { cause = λ alive. short; unchanged = rw (same.0, same.1, ← c.self.view_is) refl })
+    of_result g.N.Nand.ends g.N.Nand.failures g.N.Nand.never_fails c.args.caller (Collect c.args.task c.args.release c.args.due)
+    c.args.self.now _ c.enter_collection.result
+    (if_ok_both c.enter_collection.result _ _ _ answered
+    (collect_logged c.self.inside.table c.enter_collection.new.table c.self.inside.events.notes c.enter_collection.new.events.notes
+    c.args.caller c.args.task c.args.release c.args.due c.enter_collection.result
+    c.self.invariant.0.fits c.enter_collection.ensures.table c.enter_collection.ensures.number c.enter_collection.ensures.logged)
+    (λ number is tells. entered g.N.Nand.ends g.N.Nand.failures g.N.Nand.never_fails c.args.caller
+    (Collect c.args.task c.args.release c.args.due) c.args.self.now _ number tt runs
+    (record { answered = is; logged = rw (tells, ← c.self.view_is) refl })))
+    (if_err_both c.enter_collection.result _ _ _ c.enter_collection.ensures.refused stays
+    (λ refusal is same. memory_refused g.N.Nand.ends g.N.Nand.failures g.N.Nand.never_fails c.args.caller
+    (Collect c.args.task c.args.release c.args.due) c.args.self.now _ refusal runs (collect_accepts _ _ _ _ _ none) (λ slot. absurd cc) is
+    (rw (same.0, same.1, ← c.self.view_is) refl)))

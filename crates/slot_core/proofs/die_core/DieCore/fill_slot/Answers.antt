@@ -1,47 +1,42 @@
-use Rattle.std.proofs.Common.{inl, inr, refl, rules}
+use Rattle.std.proofs.Common.{sym, ◌∙◌, inl, inr, refl, rules, arith}
+use Rattle.slot_types.specs.declared.events.Event.TheVariants.{Slot}
+use Rattle.slot_types.specs.declared.replies.Reply.TheVariants.{Slot as Answered}
+use Rattle.slot_core.proofs.Calling.{stopped_refused, log_refused, memory_refused, used, none_left}
 use Rattle.slot_core.proofs.Slotting.{slot_refused, slot_accepts}
 use Rattle.slot_core.proofs.die_core.DieCore.fill_slot.Goals as goal
 
-pub returns-then-self-ge-MAX_SLOT-clause-refused :
-    goal.returns-then-self-ge-MAX_SLOT-clause-refused
-returns-then-self-ge-MAX_SLOT-clause-refused g c =
-    rw (← c.self.view_is) (record {
-      cause = λ alive. inl
-          (inl (slot_refused _ _ c.self.inside.present c.self.invariant.0.kept.now_is c.if-self-ge-MAX_SLOT.true));
-      never = λ yes is. absurd cc;
-      memory = λ some is. absurd cc;
-      stops = λ is. absurd cc;
-      unchanged = λ other. refl;
-      log_stays = refl;
-      reserve_stays = refl;
-    })
+pub returns-then-failed : goal.returns-then-failed
+returns-then-failed g c =
+    stopped_refused g.N.Nand.ends g.N.Nand.failures g.N.Nand.never_fails c.args.caller Slot c.args.self.now _
+    (rw (← c.self.view_is) (sym c.failed.ensures ∙ c.if-failed.true)) (search rules)
 
-pub returns-in-Err-clause-refused : goal.returns-in-Err-clause-refused
-returns-in-Err-clause-refused g c =
-    rw (← c.self.view_is) (record {
-      cause = λ alive. inl (inr (
-        slot_accepts _ _ c.self.inside.present c.self.invariant.0.kept.now_is c.if-self-ge-MAX_SLOT.false,
-        c.in-Err.ensures.refused,
-      ));
-      never = search rules;
-      memory = search rules;
-      stops = search rules;
-      unchanged = search rules;
-      log_stays = search rules;
-      reserve_stays = refl;
-    })
+pub returns-then-self-ge-MAX_SLOT : goal.returns-then-self-ge-MAX_SLOT
+returns-then-self-ge-MAX_SLOT g c =
+    rw (← c.self.view_is) (log_refused g.N.Nand.ends g.N.Nand.failures g.N.Nand.never_fails c.args.caller Slot _ _ _
+    (sym c.failed.ensures ∙ c.if-failed.false)
+    (slot_refused _ _ c.self.inside.present c.self.invariant.0.kept.now_is c.if-self-ge-MAX_SLOT.true) refl)
 
-pub returns-in-Err-carry_out-clause-refused : goal.returns-in-Err-carry_out-clause-refused
-returns-in-Err-carry_out-clause-refused g c =
+pub returns-in-Err : goal.returns-in-Err
+returns-in-Err g c =
+    rw (← c.self.view_is) (memory_refused g.N.Nand.ends g.N.Nand.failures g.N.Nand.never_fails c.args.caller Slot _ _ _
+    (sym c.failed.ensures ∙ c.if-failed.false)
+    (slot_accepts _ _ c.self.inside.present c.self.invariant.0.kept.now_is c.if-self-ge-MAX_SLOT.false)
+    (λ slot. none_left c.self.inside.reserved (λ some. let well = c.in-Err.ensures.succeeds (omega (arith, some, c.self.invariant.1.slots)) (omega arith) in
+    absurd cc)) c.in-Err.ensures.refused (search rules))
+
+pub returns-in-Err-carry_out : goal.returns-in-Err-carry_out
+returns-in-Err-carry_out g c =
     rw (← c.self.view_is) (record {
-      cause = λ alive. inr (
-        slot_accepts _ _ c.self.inside.present c.self.invariant.0.kept.now_is c.if-self-ge-MAX_SLOT.false,
-        c.in-Err-carry_out.ensures.fails.by_fault.fault,
-      );
-      never = search rules;
-      memory = search rules;
-      stops = search rules;
-      unchanged = search rules;
-      log_stays = search rules;
-      reserve_stays = refl;
+      ended = inr (inr (inl (record {
+        ran = sym c.failed.ensures ∙ c.if-failed.false;
+        slot = refl;
+        accepted = slot_accepts _ _ c.self.inside.present c.self.invariant.0.kept.now_is c.if-self-ge-MAX_SLOT.false;
+        refusal_is = c.in-Err-carry_out.ensures.fails.by_fault.fault;
+        stops = search rules;
+        log_stays = search rules;
+        reserve_stays = refl;
+      })));
+      start_stays = search rules;
+      device = rw (← c.reserve.ensures.events) (used g.N.Nand.ends g.N.Nand.failures g.N.Nand.never_fails _
+          (λ _. Answered c.carry_out.new.reply) _ _ _ c.in-Err-carry_out.ensures.calls c.in-Err-carry_out.ensures.fails.by_fault);
     })

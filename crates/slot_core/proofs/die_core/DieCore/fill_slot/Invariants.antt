@@ -1,4 +1,4 @@
-use Rattle.slot_core.specs.Told.{log_of}
+use Rattle.slot_core.specs.TableLog.{log_of}
 use Rattle.slot_core.proofs.die_core.DieCore.fill_slot.Given as goal
 
 abbrev pub ghost-carry_out : goal.ghost-carry_out

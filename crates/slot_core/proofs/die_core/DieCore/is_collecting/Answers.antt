@@ -1,8 +1,8 @@
 use Rattle.std.proofs.Common.{◌∙◌}
 use Rattle.slot_core.proofs.Keeping.{collecting_is}
-use Rattle.slot_core.specs.Told.{log_of}
+use Rattle.slot_core.specs.TableLog.{log_of}
 use Rattle.slot_core.proofs.die_core.DieCore.is_collecting.Goals as goal
-use Rattle.die_log.specs.Start.{Start, over}
+use Rattle.die_log.specs.Model.Start.{Start, over}
 
 pub returns : goal.returns
 returns g c = rw (← c.self.view_is) (c.is_collecting.ensures

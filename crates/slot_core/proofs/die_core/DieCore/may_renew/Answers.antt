@@ -1,10 +1,10 @@
 use Rattle.std.proofs.Common.{◌≡◌, ◌∙◌, ap, false, subst, sym}
-use Rattle.die_log.specs.Start.{over}
-use Rattle.die_log.specs.Opening.{CanBeErased, renewed}
+use Rattle.die_log.specs.Model.Start.{over}
+use Rattle.die_log.specs.Model.Opening.{CanBeErased, renewed_start}
 use Rattle.slot_core.specs.Core.{Core}
 use Rattle.slot_core.specs.Device.{flash_of}
 use Rattle.slot_core.specs.Renewals.{IsFirstWorn}
-use Rattle.slot_core.specs.Told.{log_of}
+use Rattle.slot_core.specs.TableLog.{log_of}
 use Rattle.slot_core.proofs.Renewing.{unworn_told, worn_told}
 use Rattle.slot_core.proofs.die_core.DieCore.may_renew.Goals as goal
 
@@ -31,7 +31,7 @@ returns-clause-may g c =
     record {
       runs = runs;
       quiet = c.in_default.ensures.quiet;
-      unworn = subst (λ (d : Core g.row.N.Denot). CanBeErased (renewed d.start d.log)) (c.self.view_is ∙ c.next_job.ensures.same)
+      unworn = subst (λ (d : Core g.row.N.Denot). CanBeErased (renewed_start d.start d.log)) (c.self.view_is ∙ c.next_job.ensures.same)
           (unworn_told (over f.volume.accounts.plan f.start) (log_of f.table f.events.notes) (flash_of g.N.Nand.blocks f.volume)
           (c.self.invariant.0.kept.flash alive) (sym c.first_worn.ensures ∙ c.in_default-first_worn.is));
     }

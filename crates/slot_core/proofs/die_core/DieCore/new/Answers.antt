@@ -3,8 +3,8 @@ use Rattle.std.proofs.lemmas.Grind.{common_steps}
 use Rattle.slot_types.specs.declared.plans.Shape.{Shape}
 use Rattle.flash_die.specs.Flash.{fresh_blocks}
 use Rattle.job_table.specs.Table.{Table, empty_table}
-use Rattle.slot_core.specs.Told.{log_of}
-use Rattle.slot_core.specs.Reserved.{open_collections}
+use Rattle.slot_core.specs.TableLog.{log_of}
+use Rattle.slot_core.specs.ReservedSlots.{open_collections}
 use Rattle.slot_core.proofs.Keeping.{keeps_start, err_where, bound_refusal, same_shape}
 use Rattle.slot_core.proofs.die_core.DieCore.new.Goals as goal
 

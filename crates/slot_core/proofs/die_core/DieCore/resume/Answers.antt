@@ -1,7 +1,7 @@
 use Rattle.std.proofs.Common.{◌≡◌, refl, sym, ◌∙◌, ap, arith}
 use Rattle.job_table.specs.Table.{Table, empty_table}
-use Rattle.slot_core.specs.Told.{log_of}
-use Rattle.slot_core.specs.Reserved.{open_collections}
+use Rattle.slot_core.specs.TableLog.{log_of}
+use Rattle.slot_core.specs.ReservedSlots.{open_collections}
 use Rattle.slot_core.proofs.Keeping.{same_shape}
 use Rattle.slot_core.proofs.Resuming.{keeps_resumed}
 use Rattle.slot_core.proofs.die_core.DieCore.resume.Goals as goal

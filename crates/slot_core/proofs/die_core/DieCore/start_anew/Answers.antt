@@ -1,10 +1,10 @@
 use Rattle.std.proofs.Common.{◌≡◌, length, refl, false, sym, subst, ◌∙◌, ap, arith}
 use Rattle.slot_types.specs.declared.plans.DiePlan.{DiePlan}
 use Rattle.job_table.specs.Table.{Table, empty_table}
-use Rattle.die_log.specs.Opening.{IsQuiet, CanBeErased, renewed}
+use Rattle.die_log.specs.Model.Opening.{IsQuiet, CanBeErased, renewed_start}
 use Rattle.slot_core.specs.Core.{Core}
-use Rattle.slot_core.specs.Told.{log_of}
-use Rattle.slot_core.specs.Reserved.{open_collections}
+use Rattle.slot_core.specs.TableLog.{log_of}
+use Rattle.slot_core.specs.ReservedSlots.{open_collections}
 use Rattle.slot_core.proofs.Renewing.{renewed_kept}
 use Rattle.slot_core.proofs.die_core.DieCore.start_anew.Goals as goal
 
@@ -17,7 +17,7 @@ invariant_of-self g c =
             c.self.invariant.0.kept
             (subst (λ (d : Core g.row.N.Denot). d.stopped ≡ false) (sym c.self.view_is) c.requires.may.runs)
             (subst (λ (d : Core g.row.N.Denot). IsQuiet d.start d.log) (sym c.self.view_is) c.requires.may.quiet)
-            (subst (λ (d : Core g.row.N.Denot). CanBeErased (renewed d.start d.log)) (sym c.self.view_is) c.requires.may.unworn)
+            (subst (λ (d : Core g.row.N.Denot). CanBeErased (renewed_start d.start d.log)) (sym c.self.view_is) c.requires.may.unworn)
             c.start_of-start.ensures (c.clear.ensures ∙ ap empty_table c.self.invariant.0.kept.tasks_are)
             (rw c.clear-2.ensures.events refl);
         fits = rw c.clear-2.ensures.events tt;

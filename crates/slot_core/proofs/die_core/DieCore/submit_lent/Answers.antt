@@ -1,34 +1,40 @@
-use Rattle.std.proofs.Common.{◌≡◌, refl, sym, ◌∙◌, ap, inl, inr, None, arith, rules}
+use Rattle.std.proofs.Common.{◌≡◌, refl, sym, ◌∙◌, ap, None, arith, rules}
 use Rattle.std.proofs.lemmas.Grind.{common_steps}
 use Rattle.slot_types.specs.declared.events.Event.TheVariants.{Submit}
 use Rattle.slot_types.specs.Operations.{writes}
-use Rattle.die_log.specs.Answers.{refusal_of}
+use Rattle.die_log.specs.Model.Answers.{refusal_of}
 use Rattle.die_log.proofs.Legality.{refused_answer}
 use Rattle.slot_core.specs.Core.{Core}
+use Rattle.slot_core.proofs.Calling.{stopped_refused, log_refused, memory_refused, entered}
 use Rattle.slot_core.proofs.Keeping.{submit_kept, submit_accepts, submit_taken, tokens_suffice, admit_made}
 use Rattle.job_table.specs.Table.{Table}
-use Rattle.slot_core.specs.Told.{log_of}
-use Rattle.slot_core.specs.Reserved.{open_collections}
+use Rattle.slot_core.specs.TableLog.{log_of}
+use Rattle.slot_core.specs.ReservedSlots.{open_collections}
 use Rattle.slot_core.proofs.Reserving.{open_job}
 use Rattle.slot_core.proofs.Fitting.{accepted_few, accepted_words}
 use Rattle.slot_core.proofs.Telling.{submit_tells, few_told}
 use Rattle.slot_core.proofs.die_core.DieCore.submit_lent.Goals as goal
-use Rattle.die_log.specs.Start.{Start, over}
+use Rattle.die_log.specs.Model.Start.{Start, over}
 
-pub returns-in-Some-clause-refused : goal.returns-in-Some-clause-refused
-returns-in-Some-clause-refused g c = record {
-  cause = λ alive. inl (refused_answer _ _ _ _ (sym c.submit_refusal.ensures ∙ c.in-Some.is));
-  unchanged = search rules;
-}
+pub returns-then-failed : goal.returns-then-failed
+returns-then-failed g c =
+    stopped_refused g.N.Nand.ends g.N.Nand.failures g.N.Nand.never_fails c.args.caller
+    (Submit c.args.task c.args.release c.args.due c.args.ops.now) c.args.self.now _
+    (rw (← c.self.view_is) (sym c.failed.ensures ∙ c.if-failed.true)) (search rules)
 
-pub returns-in-Err-clause-refused : goal.returns-in-Err-clause-refused
-returns-in-Err-clause-refused g c = record {
-  cause = λ alive. inr (
-    submit_accepts _ _ _ _ _ _ (sym c.submit_refusal.ensures ∙ c.in-None.is),
-    c.in-Err.ensures.refused,
-  );
-  unchanged = search rules;
-}
+pub returns-in-Some : goal.returns-in-Some
+returns-in-Some g c =
+    log_refused g.N.Nand.ends g.N.Nand.failures g.N.Nand.never_fails c.args.caller
+    (Submit c.args.task c.args.release c.args.due c.args.ops.now) c.args.self.now _ c.in-Some.refusal
+    (rw (← c.self.view_is) (sym c.failed.ensures ∙ c.if-failed.false))
+    (refused_answer _ _ _ _ (sym c.submit_refusal.ensures ∙ c.in-Some.is)) (search rules)
+
+pub returns-in-Err : goal.returns-in-Err
+returns-in-Err g c =
+    memory_refused g.N.Nand.ends g.N.Nand.failures g.N.Nand.never_fails c.args.caller
+    (Submit c.args.task c.args.release c.args.due c.args.ops.now) c.args.self.now _ c.in-Err.refusal
+    (rw (← c.self.view_is) (sym c.failed.ensures ∙ c.if-failed.false))
+    (submit_accepts _ _ _ _ _ _ (sym c.submit_refusal.ensures ∙ c.in-None.is)) (λ slot. absurd cc) c.in-Err.ensures.refused (search rules)
 
 pub invariant_of-self-in-Ok : goal.invariant_of-self-in-Ok
 invariant_of-self-in-Ok g c =
@@ -87,8 +93,8 @@ pub enter_job-requires-clause-few_events : goal.enter_job-requires-clause-few_ev
 enter_job-requires-clause-few_events g c = few_told (over c.self.inside.volume.accounts.plan c.self.inside.start) c.self.inside.table.jobs c.self.inside.events.notes
     c.self.invariant.0.kept.exact c.self.invariant.0.fits
 
-pub returns-in-Ok-clause-taken : goal.returns-in-Ok-clause-taken
-returns-in-Ok-clause-taken g c =
+pub returns-in-Ok : goal.returns-in-Ok
+returns-in-Ok g c =
     let f = c.self.inside in
     let none : refusal_of (over f.volume.accounts.plan c.self.inside.start) (log_of f.table f.events.notes)
     (Submit c.args.task c.args.release c.args.due c.args.ops.now) ≡ None =
@@ -101,38 +107,12 @@ returns-in-Ok-clause-taken g c =
     let tells = submit_tells f.table c.enter_job.new.table f.events.notes c.enter_job.new.events.notes c.args.caller c.in-Ok.number
     c.args.task c.args.release c.args.due c.args.ops.now c.in-Ok.ensures.table c.in-Ok.ensures.number c.in-Ok.ensures.logged
     c.self.invariant.0.fits in
-    record {
+    entered g.N.Nand.ends g.N.Nand.failures g.N.Nand.never_fails c.args.caller
+    (Submit c.args.task c.args.release c.args.due c.args.ops.now) c.args.self.now _ c.in-Ok.number tt (rw (← c.self.view_is) alive) (record {
       answered = rw (← c.self.view_is)
           (submit_taken _ _ f.table _ _ _ _ _ none c.self.invariant.0.kept.jobs_are c.in-Ok.ensures.number);
       logged = rw (tells.0, made, ← c.self.view_is) refl;
-    }
-
-pub returns-then-failed-clause-stopped : goal.returns-then-failed-clause-stopped
-returns-then-failed-clause-stopped g c = grind (arith, common_steps)
-
-pub returns-then-failed-clause-taken : goal.returns-then-failed-clause-taken
-returns-then-failed-clause-taken g c = grind (arith, common_steps)
-
-pub returns-then-failed-clause-refused : goal.returns-then-failed-clause-refused
-returns-then-failed-clause-refused g c = grind (arith, common_steps)
-
-pub returns-in-Some-clause-stopped : goal.returns-in-Some-clause-stopped
-returns-in-Some-clause-stopped g c = grind (arith, common_steps)
-
-pub returns-in-Some-clause-taken : goal.returns-in-Some-clause-taken
-returns-in-Some-clause-taken g c = grind (arith, common_steps)
+    })
 
 pub invariant_of-self : goal.invariant_of-self
 invariant_of-self g c = grind (arith, common_steps)
-
-pub returns-in-Err-clause-stopped : goal.returns-in-Err-clause-stopped
-returns-in-Err-clause-stopped g c = grind (arith, common_steps)
-
-pub returns-in-Err-clause-taken : goal.returns-in-Err-clause-taken
-returns-in-Err-clause-taken g c = grind (arith, common_steps)
-
-pub returns-in-Ok-clause-stopped : goal.returns-in-Ok-clause-stopped
-returns-in-Ok-clause-stopped g c = grind (arith, common_steps)
-
-pub returns-in-Ok-clause-refused : goal.returns-in-Ok-clause-refused
-returns-in-Ok-clause-refused g c = grind (arith, common_steps)

@@ -1,7 +1,0 @@
-//! What no clause says of the designer's tools: their texts.
-#![tactic(auto)]
-
-#[cfg(test)]
-mod explaining;
-#[cfg(test)]
-mod text_faults;

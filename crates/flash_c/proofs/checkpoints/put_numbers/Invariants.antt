@@ -1,0 +1,7 @@
+use Rattle.std.proofs.Common.{◌≡◌, take}
+use Rattle.flash_c.specs.Lists.{array_with}
+use Rattle.flash_c.specs.Conversions.{number_in}
+use Rattle.flash_c.proofs.checkpoints.put_numbers.Given as goal
+
+abbrev pub invariant-loop-i : goal.invariant-loop-i
+invariant-loop-i l = l.room ≡ array_with number_in l.initial.room (take l.i l.numbers)

@@ -1,9 +1,0 @@
-use Rattle.std.proofs.Common.{◌≡◌, ℕ, ◌<◌, ◌≤◌}
-use Rattle.plan_design.specs.Numbers.{WouldDo, with_number}
-use Rattle.plan_design.proofs.solving.least.Given as goal
-
-abbrev pub invariant-loop-n : goal.invariant-loop-n
-invariant-loop-n l = record {
-  same : (n : ℕ) → with_number l.which l.trial n ≡ with_number l.which l.fn.plan n;
-  none : (fewer : ℕ) → l.from ≤ fewer → fewer < l.n → ¬ WouldDo (with_number l.which l.fn.plan fewer);
-}

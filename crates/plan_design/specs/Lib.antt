@@ -1,4 +1,0 @@
-pub mod Trials
-pub mod Explained
-pub mod Commons
-pub mod Numbers

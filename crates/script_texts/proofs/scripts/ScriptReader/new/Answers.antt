@@ -1,0 +1,10 @@
+use Rattle.std.proofs.Common.{rules, length}
+use Rattle.script_texts.proofs.StepLaws.{whole-of}
+use Rattle.script_texts.proofs.scripts.ScriptReader.new.Goals as goal
+
+pub returns-clause-reading : goal.returns-clause-reading
+returns-clause-reading g c = search rules
+
+pub returns-clause-script : goal.returns-clause-script
+returns-clause-script g c =
+    whole-of (length c.args.plan.now) c.args.slots (g.R.Read.remaining c.args.reader) _ (returns-clause-reading g c)

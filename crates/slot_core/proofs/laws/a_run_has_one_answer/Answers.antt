@@ -1,0 +1,5 @@
+use Rattle.slot_core.proofs.OneAnswer.{one_run}
+use Rattle.slot_core.proofs.laws.a_run_has_one_answer.Goals as goal
+
+pub returns : goal.returns
+returns g c = one_run g.N.Nand.ends g.N.Nand.failures g.N.Nand.never_fails

@@ -1,0 +1,46 @@
+-- What a device is asked to do, and what that does to its blocks.
+use Rattle.std.specs.Prelude.{◌≡◌, ◌+◌, ◌==◌, Bool, true, Option, Some, None, ⊤}
+use Rattle.slot_types.specs.declared.pages.PageData.{PageData}
+use Rattle.flash_die.specs.Flash.{block_at, cell_at, blocks_after_program, blocks_after_erase_slot}
+use Rattle.flash_die.specs.Memory.{Memory}
+use Rattle.flash_die.specs.declared.nand.NandCall.{NandCall}
+use Rattle.flash_die.specs.declared.nand.NandCall.TheVariants as needs
+use Rattle.stepped_die.specs.declared.calls.Call.{Call}
+use Rattle.stepped_die.specs.declared.calls.Call.TheVariants as calls
+
+-- a call takes the device from these blocks to those
+abbrev pub Does : Memory → NandCall → Memory → Type 0
+Does before (needs.Read place) after = after ≡ before
+Does before (needs.Program place bytes) after = after.blocks ≡ blocks_after_program before.blocks place.block bytes
+Does before (needs.EraseSlot block) after = after.blocks ≡ blocks_after_erase_slot before.blocks before.shape.erase_slots block
+
+-- a call of the device ends well, and does what it says
+pub record DoesWell (before : Memory) (call : NandCall) (well : Bool) (after : Memory) : Type 0 where
+  pub ends_well : well ≡ true
+  pub does : Does before call after
+
+-- what a driver is reported of a call: of a read what the cell was programmed with, of an erase whether the slot is its
+-- last
+abbrev pub told_of : Memory → NandCall → Call
+told_of device (needs.Read place) = calls.Read place (cell_at device.blocks place)
+told_of device (needs.Program place bytes) = calls.Program place bytes
+told_of device (needs.EraseSlot block) = calls.Erase block ((block_at device.blocks block).erasing + 1 == device.shape.erase_slots)
+
+abbrev pub told_by : Memory → Option NandCall → Option Call
+told_by device None = None
+told_by device (Some call) = Some (told_of device call)
+
+-- the device did what it was asked, and a read gave the bytes that the cell was programmed with
+abbrev pub IsDone : Option Call → Bool → PageData → Type 0
+IsDone None ok bytes = ⊤
+IsDone (Some (calls.Read place programmed)) ok bytes = (ok ≡ true) × (bytes ≡ programmed)
+IsDone (Some (calls.Program place programmed)) ok bytes = ok ≡ true
+IsDone (Some (calls.Erase block last)) ok bytes = ok ≡ true
+
+-- what was asked is all that the cells of the mirror have had; where nothing was asked, they are as they were
+abbrev pub Changes : Memory → Option Call → Memory → Type 0
+Changes before None after = after ≡ before
+Changes before (Some (calls.Read place bytes)) after = (after ≡ before) × (bytes ≡ cell_at before.blocks place)
+Changes before (Some (calls.Program place bytes)) after = after.blocks ≡ blocks_after_program before.blocks place.block bytes
+Changes before (Some (calls.Erase block last)) after = (after.blocks ≡ blocks_after_erase_slot before.blocks before.shape.erase_slots block)
+    × (last ≡ ((block_at before.blocks block).erasing + 1 == before.shape.erase_slots))

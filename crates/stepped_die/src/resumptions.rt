@@ -1,0 +1,115 @@
+//! A die is written down at a quiet moment with the names of its pages, and goes on from there.
+
+ghost use Rattle.std.specs.Prelude.{◌≡◌, IfOk, IfErr, OnOk};
+ghost use Rattle.slot_types.specs.Refusal.{FailsForMemory};
+ghost use Rattle.die_checkpoint.specs.Fits.{Fits};
+ghost use Rattle.die_checkpoint.specs.Faults.{HasCheckpointFault};
+ghost use Rattle.flash_volume.specs.Cells as volume;
+ghost use Rattle.die_log.specs.Model.Flash.{contents};
+ghost use Rattle.die_log.specs.Model.Opening.{renewed_start};
+ghost use Rattle.slot_core.specs.Renewals.{MayBeRenewed};
+ghost use Rattle.slot_core.specs.Resumed.{checkpoint_of, start_with};
+ghost use Rattle.stepped_die.specs.Names.{GoesOn, RefusesNames, pages_named};
+
+use crate::die::SteppedDie;
+use crate::mirror::MirrorNand;
+use crate::refusals::StepCheckpointRefusal;
+use die_checkpoint::{Checkpoint, CheckpointFault};
+use flash_die::FaultNand;
+use slot_core::{CheckpointRefusal, DieCore, RenewalRefusal, ResumeRefusal};
+use slot_types::{DiePlan, Items, PageData, Place, Refusal};
+use std::alloc::Global;
+
+/// What stands on a die at a quiet moment, with the names of its pages.
+#[derive(Drop)]
+pub struct NamedCheckpoint {
+    pub checkpoint: Checkpoint,
+    /// By logical page its name, which is blank where the page lies nowhere.
+    pub names: Items<PageData>,
+}
+
+/// By logical page the name of what its cell was programmed with; blank where it lies nowhere.
+fn names_of(
+    alloc: Global,
+    device: &FaultNand<MirrorNand>,
+    places: &[Option<Place>],
+) -> Result<Items<PageData>, Refusal>
+    ensures names { IfOk result (λ names. names ≡ volume.contents device.now.inner.memory.blocks places.now) }
+    ensures refused { FailsForMemory result }
+{
+    let mut names = Items::new(alloc);
+    for place in places {
+        names.push(match *place {
+            None => PageData::BLANK,
+            Some(place) => device.inner().cell(place),
+        })?;
+    }
+    Ok(names)
+}
+
+impl SteppedDie {
+    /// What stands at a quiet moment, as [`DieCore::checkpoint`], and by logical page its name, which is what was written to it
+    /// last. The die stays as it is. [`resume`](SteppedDie::resume) goes on from there as [`renew`](SteppedDie::renew) would have.
+    ///
+    /// Refused with `DieStopped` where a fault has stopped the die; else `Begun` where a slot has begun; else as the die refuses
+    /// it, or with `NoMemory`.
+    pub fn checkpoint(&mut self, alloc: Global) -> Result<NamedCheckpoint, StepCheckpointRefusal>
+        ensures ok { IfOk result (λ taken. taken.checkpoint ≡ checkpoint_of (renewed_start self.old.core.start self.old.core.log)) }
+        ensures names { IfOk result (λ taken. taken.names ≡ contents self.old.core.start self.old.core.log) }
+        ensures goes_on { IfOk result (λ taken. start_with self.old.core.start.plan taken.checkpoint
+            (pages_named taken.checkpoint.places taken.names) ≡ renewed_start self.old.core.start self.old.core.log) }
+        ensures fits { IfOk result (λ taken. Fits self.old.core.start.plan taken.checkpoint) }
+        ensures may { OnOk result (MayBeRenewed self.old.core) }
+        ensures cause { IfErr result (RefusesNames self.old) }
+        ensures unchanged { self.new ≡ self.old }
+    {
+        if self.core.is_stopped() {
+            return Err(StepCheckpointRefusal::Die(CheckpointRefusal::NotRenewable {
+                why: RenewalRefusal::DieStopped,
+            }));
+        }
+        if self.begun.is_some() {
+            return Err(StepCheckpointRefusal::Begun);
+        }
+        let checkpoint = match self.core.checkpoint(alloc) {
+            Ok(checkpoint) => checkpoint,
+            Err(refusal) => return Err(StepCheckpointRefusal::Die(refusal)),
+        };
+        match names_of(alloc, self.core.device(), checkpoint.places.as_slice()) {
+            Ok(names) => Ok(NamedCheckpoint { checkpoint, names }),
+            Err(_) => Err(StepCheckpointRefusal::Die(CheckpointRefusal::NoMemory)),
+        }
+    }
+
+    /// A die that goes on from a checkpoint, over a device as it was left: at slot 0, with an empty log. `names` has by logical
+    /// page the name of what lies there; a page that lies nowhere, or that has no name, is blank.
+    ///
+    /// Refused with the first cause that stands, as [`CheckpointFault`] lists them.
+    pub fn resume(
+        alloc: Global,
+        plan: DiePlan,
+        checkpoint: &Checkpoint,
+        names: &[PageData],
+    ) -> Result<SteppedDie, CheckpointFault>
+        ensures ok { IfOk result (GoesOn plan checkpoint.now names.now) }
+        ensures fits { OnOk result (Fits plan checkpoint.now) }
+        ensures refused { IfErr result (HasCheckpointFault plan checkpoint.now) }
+    {
+        match checkpoint.check(alloc, &plan) {
+            Ok(()) => {}
+            Err(fault) => return Err(fault),
+        }
+        let mirror = match MirrorNand::left(alloc, &plan, checkpoint, names) {
+            Ok(mirror) => mirror,
+            Err(_) => return Err(CheckpointFault::NoMemory),
+        };
+        match DieCore::resume(alloc, plan, FaultNand::new(mirror), checkpoint) {
+            Ok(core) => Ok(SteppedDie { core, begun: None }),
+            Err(no) => match no.refusal {
+                ResumeRefusal::Unfit { fault } => Err(fault),
+                // The mirror is of the plan's shape.
+                ResumeRefusal::OtherDevice => unreachable!(),
+            },
+        }
+    }
+}

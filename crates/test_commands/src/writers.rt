@@ -1,0 +1,210 @@
+//! Writers that take a few bytes a call, and fail: what they took by then, and what is reported.
+
+use crate::printed::{AUDIT, PLAN_COMMAND, Printed, acted};
+use example_texts::{PLAN, TWO_REPORT};
+use flash_commands::{Command, act};
+use std::alloc::Global;
+use std::io;
+use std::io::{ErrorKind, Write};
+use std::sync::Wait;
+use std::test::Fail;
+use std::thread::Threads;
+
+/// What a writer does when its calls are used up.
+#[derive(Clone, Copy, PartialEq, Eq, Debug, Drop)]
+pub(crate) enum End {
+    Fails,
+    TakesNothing,
+    IsInterrupted,
+}
+
+/// Takes at most so many bytes at a call, for so many calls.
+#[derive(Drop)]
+pub(crate) struct Slow {
+    pub(crate) text: Vec<u8>,
+    pub(crate) most: usize,
+    pub(crate) calls_left: usize,
+    pub(crate) end: End,
+}
+
+impl Write for Slow {
+    fn write(&mut self, buf: &[u8]) -> io::Result<usize> {
+        if self.calls_left == 0 {
+            return match self.end {
+                End::Fails => Err(io::Error::from(ErrorKind::BrokenPipe)),
+                End::TakesNothing => Ok(0),
+                End::IsInterrupted => Err(io::Error::from(ErrorKind::Interrupted)),
+            };
+        }
+        self.calls_left -= 1;
+        let most = buf.len().min(self.most);
+        self.text.write(&buf[..most])
+    }
+
+    fn flush(&mut self) -> io::Result<()> {
+        Ok(())
+    }
+}
+
+/// Takes a byte at every other call, and is interrupted at those between.
+#[derive(Drop)]
+struct Stuttering {
+    text: Vec<u8>,
+    interrupted: bool,
+}
+
+impl Write for Stuttering {
+    fn write(&mut self, buf: &[u8]) -> io::Result<usize> {
+        self.interrupted = !self.interrupted;
+        if self.interrupted {
+            return Err(io::Error::from(ErrorKind::Interrupted));
+        }
+        let most = buf.len().min(1);
+        self.text.write(&buf[..most])
+    }
+
+    fn flush(&mut self) -> io::Result<()> {
+        Err(io::Error::from(ErrorKind::BrokenPipe))
+    }
+}
+
+/// What a command prints to a slow writer.
+fn slowly<R: Threads + Wait + Sync>(
+    rt: &R,
+    alloc: Global,
+    command: Command<'_>,
+    text: &[u8],
+    most: usize,
+    calls: usize,
+    end: End,
+) -> Printed {
+    let mut out = Slow {
+        text: Vec::new(alloc),
+        most,
+        calls_left: calls,
+        end,
+    };
+    let mut err = Vec::new(alloc);
+    let status = act(rt, alloc, command, text, io::empty(), &mut out, &mut err);
+    Printed {
+        out: out.text,
+        err,
+        status,
+    }
+}
+
+/// Whether this is reported, and the output is so many bytes of a text that has more.
+fn is_cut(printed: &Printed, whole: &[u8], bytes: usize) -> bool {
+    let told = printed.err.as_slice() == b"error 22 WriteFault\n".as_slice();
+    let taken = printed.out.as_slice();
+    let part = taken.len() < whole.len() && whole.starts_with(taken);
+    printed.status == 1 && told && part && taken.len() == bytes
+}
+
+/// How often a command's output fails, at each call in turn, until it is written whole; none where a fault isn't
+/// reported as it should.
+fn cuts<R: Threads + Wait + Sync>(
+    rt: &R,
+    alloc: Global,
+    command: Command<'_>,
+    text: &[u8],
+    most: usize,
+    end: End,
+) -> Option<usize> {
+    let whole = acted(rt, alloc, command, text);
+    for calls in 0..1000 {
+        let printed = slowly(rt, alloc, command, text, most, calls, end);
+        if printed.status == whole.status && printed.out.as_slice() == whole.out.as_slice() {
+            return Some(calls);
+        }
+        if !is_cut(&printed, whole.out.as_slice(), most.saturating_mul(calls)) {
+            return None;
+        }
+    }
+    None
+}
+
+/// How many calls of so many bytes a command's output takes.
+fn calls_for<R: Threads + Wait + Sync>(
+    rt: &R,
+    alloc: Global,
+    command: Command<'_>,
+    text: &[u8],
+    most: usize,
+) -> Option<usize> {
+    let bytes = acted(rt, alloc, command, text).out.len();
+    bytes.checked_add(most)?.checked_sub(1)?.checked_div(most)
+}
+
+#[test]
+fn a_writer_that_fails_took_a_part(rt: HostRuntime) {
+    let alloc = rt.alloc();
+    for (command, text) in [
+        (PLAN_COMMAND, PLAN),
+        (AUDIT, TWO_REPORT),
+        (Command::Alone, ""),
+    ] {
+        for most in [1, 7, 16, 1000] {
+            let calls = calls_for(&rt, alloc, command, text.as_bytes(), most);
+            for end in [End::Fails, End::TakesNothing] {
+                let cuts = cuts(&rt, alloc, command, text.as_bytes(), most, end);
+                assert!(rt; cuts.is_some() && cuts == calls, "{most} bytes a call");
+            }
+        }
+    }
+}
+
+#[test]
+fn a_refused_certificate_is_told_by_a_whole_text_alone(rt: HostRuntime) -> Result<(), Fail> {
+    let alloc = rt.alloc();
+    let old = "cert,0,1,,0,5,,5,0,,0 1";
+    let report = TWO_REPORT.replace(alloc, old, "cert,0,1,,1,5,,5,0,,0 1")?;
+    let whole = acted(&rt, alloc, AUDIT, report.as_bytes());
+    assert!(rt; whole.status == 3);
+    let calls = whole.out.len();
+    for (least, status) in [(calls, 3), (calls.saturating_sub(1), 1), (0, 1)] {
+        let printed = slowly(&rt, alloc, AUDIT, report.as_bytes(), 1, least, End::Fails);
+        assert!(rt; printed.status == status);
+    }
+    Ok(())
+}
+
+#[test]
+fn an_interrupted_call_is_made_again(rt: HostRuntime) {
+    let alloc = rt.alloc();
+    for (command, text) in [(PLAN_COMMAND, PLAN), (AUDIT, TWO_REPORT)] {
+        let whole = acted(&rt, alloc, command, text.as_bytes());
+        let mut out = Stuttering {
+            text: Vec::new(alloc),
+            interrupted: false,
+        };
+        let mut err = Vec::new(alloc);
+        let status = act(
+            &rt,
+            alloc,
+            command,
+            text.as_bytes(),
+            io::empty(),
+            &mut out,
+            &mut err,
+        );
+        assert!(rt; status == 0 && err.is_empty());
+        assert!(rt; out.text.as_slice() == whole.out.as_slice());
+    }
+}
+
+#[test]
+fn a_writer_that_is_interrupted_for_ever_is_given_up(rt: HostRuntime) {
+    let alloc = rt.alloc();
+    let whole = acted(&rt, alloc, AUDIT, TWO_REPORT.as_bytes());
+    let printed = slowly(
+        &rt,
+        alloc,
+        AUDIT,
+        TWO_REPORT.as_bytes(),
+        16,
+        2,
+        End::IsInterrupted,
+    );
+    assert!(rt; is_cut(&printed, whole.out.as_slice(), 32));
+}

@@ -1,0 +1,105 @@
+//! Devices in memory, and what a fuse makes of one.
+
+use flash_die::{FuseNand, MemoryNand, Nand};
+use slot_types::{PageData, Place, Refusal, Shape};
+use std::alloc::Global;
+use std::test::Fail;
+
+const SHAPE: Shape = Shape {
+    blocks: 2,
+    pages: 2,
+    erase_slots: 3,
+};
+
+const FIRST: Place = Place { block: 1, page: 0 };
+
+const SECOND: Place = Place { block: 1, page: 1 };
+
+const ONES: PageData = PageData([0x11; 16]);
+
+const TWOS: PageData = PageData([0x22; 16]);
+
+#[test]
+fn a_block_is_filled_read_and_erased_in_three_slots(rt: HostRuntime) -> Result<(), Fail> {
+    let mut device = MemoryNand::new(rt.alloc(), SHAPE)?;
+    assert_eq!(rt; device.shape(), SHAPE);
+    assert_eq!(rt; device.program(FIRST, ONES), Ok(()));
+    assert_eq!(rt; device.program(SECOND, TWOS), Ok(()));
+    assert_eq!(rt; device.read(FIRST), Ok(ONES));
+    assert_eq!(rt; device.read(SECOND), Ok(TWOS));
+    assert_eq!(rt; device.erase_slot(1), Ok(false));
+    assert_eq!(rt; device.erase_slot(1), Ok(false));
+    assert_eq!(rt; device.erase_slot(1), Ok(true));
+    assert_eq!(rt; device.program(FIRST, TWOS), Ok(()));
+    assert_eq!(rt; device.read(FIRST), Ok(TWOS));
+    Ok(())
+}
+
+#[test]
+fn a_shape_out_of_its_limits_is_refused(rt: HostRuntime) -> Result<(), Fail> {
+    for (blocks, pages, erase_slots) in [
+        (1, 2, 1),
+        (1025, 2, 1),
+        (2, 1, 1),
+        (2, 257, 1),
+        (2, 2, 0),
+        (2, 2, 65),
+    ] {
+        let shape = Shape {
+            blocks,
+            pages,
+            erase_slots,
+        };
+        match MemoryNand::new(rt.alloc(), shape) {
+            Err(refusal) => assert_eq!(rt; refusal, Refusal::BadShape),
+            Ok(_) => assert!(rt; false),
+        }
+    }
+    Ok(())
+}
+
+/// Programs a page, reads it and programs the next one. Answers how many of these calls succeeded.
+fn successes(alloc: Global, calls: u64) -> Result<u32, Refusal> {
+    let mut device = FuseNand::new(MemoryNand::new(alloc, SHAPE)?, calls);
+    if device.program(FIRST, ONES).is_err() {
+        return Ok(0);
+    }
+    if device.read(FIRST).is_err() {
+        return Ok(1);
+    }
+    if device.program(SECOND, TWOS).is_err() {
+        return Ok(2);
+    }
+    Ok(3)
+}
+
+#[test]
+fn a_fuse_passes_so_many_calls_on(rt: HostRuntime) -> Result<(), Fail> {
+    for (calls, passed) in [(0, 0), (1, 1), (2, 2), (3, 3), (1000, 3)] {
+        assert_eq!(rt; successes(rt.alloc(), calls)?, passed, "with {calls}");
+    }
+    Ok(())
+}
+
+/// A device of which block 0 has one programmed page and was erased seven times, and block 1 is full.
+fn left(alloc: Global, cells: &[PageData]) -> Result<MemoryNand, Refusal> {
+    let cells = Vec::from_slice(alloc, cells)?;
+    MemoryNand::left(alloc, SHAPE, cells, &[1, 2], &[7, 0])
+}
+
+#[test]
+fn a_device_that_was_left_goes_on_with_its_cells(rt: HostRuntime) -> Result<(), Fail> {
+    let alloc = rt.alloc();
+    let mut device = left(alloc, &[ONES, ONES, TWOS])?;
+    let first = Place { block: 0, page: 0 };
+    let free = Place { block: 0, page: 1 };
+    assert_eq!(rt; device.cell(first), ONES);
+    assert_eq!(rt; device.cell(free), PageData::BLANK);
+    assert_eq!(rt; device.cell(FIRST), TWOS);
+    assert_eq!(rt; device.cell(SECOND), PageData::BLANK);
+    assert_eq!(rt; device.program(free, TWOS), Ok(()));
+    assert_eq!(rt; device.read(free), Ok(TWOS));
+    assert_eq!(rt; device.read(first), Ok(ONES));
+    assert_eq!(rt; device.erase_slot(1), Ok(false));
+    Ok(())
+}

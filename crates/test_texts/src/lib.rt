@@ -1,0 +1,25 @@
+//! What no clause says of reading, running and writing texts, and needs types of its own: readers and writers that
+//! fail, are interrupted or have no end, refused memory, and values that no command prints. What texts mean is in the
+//! plays of `crates/demo_examples`. Expected answers are worked out by hand.
+#![tactic(auto)]
+
+#[cfg(test)]
+mod answers;
+#[cfg(test)]
+mod audits;
+#[cfg(test)]
+mod bounds;
+#[cfg(test)]
+mod faults;
+#[cfg(test)]
+mod growth;
+#[cfg(test)]
+mod interrupted;
+#[cfg(test)]
+mod memory;
+#[cfg(test)]
+mod plan_bounds;
+#[cfg(test)]
+mod reports;
+#[cfg(test)]
+mod runs;

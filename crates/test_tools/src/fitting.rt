@@ -1,0 +1,129 @@
+//! Plans that are found for datasheets: worked out by hand.
+
+use crate::datasheets::{ALL, RECORDER};
+use std::alloc::Global;
+use std::string::ToString;
+use std::test::Fail;
+use tool_plan_fit::{FitFault, fit};
+
+/// Slots of 1 ms are the shortest that divide each period. With alpha 6 and more the bound isn't met; with 5 a
+/// collection takes 10 slots, and 41 of them come in 1,500: one each 100, each 60 and each 1,500.
+const PLAN: &str = "# a slot is 1000 us; of each 1500 slots all tasks take at most 800: 700 to spare
+version = 2
+dies = 1
+blocks = 16
+pages = 8
+erase_slots = 4
+logical = 24
+alpha = 5
+common = 1500
+
+[[task]]
+die = 0
+cap = 12
+period = 20
+collect_period = 100
+work = 2
+writes = 1
+
+[[task]]
+die = 0
+cap = 18
+period = 50
+collect_period = 60
+work = 4
+writes = 4
+
+[[task]]
+die = 0
+cap = 10
+period = 100
+collect_period = 1500
+work = 8
+writes = 0
+";
+
+/// What stands in the datasheet, what comes in its place, and why there is no plan.
+const NONE: [(&str, &str, &str); 8] = [
+    // With alpha 1, 37 pages are free at most, and nine closed blocks hold 72.
+    (
+        "logical = 24",
+        "logical = 80",
+        "no alpha meets the bound: `logical` may be 71 at most, or there have to be more blocks",
+    ),
+    // Only alpha 1 meets the bound. A collection takes 20 slots, and one comes each 28, 16 and 31,808.
+    (
+        "logical = 24",
+        "logical = 60",
+        "the tasks need too much: with slots of 700 us 68356 of each 31808 slots",
+    ),
+    // The longest slot is 10 ms.
+    (
+        "erase_us = 3000",
+        "erase_us = 3000000",
+        "an erase takes 307 slots, and may take 64",
+    ),
+    (
+        "program_us = 700",
+        "program_us = 30000",
+        "a period is shorter than the shortest slot, 30000 us",
+    ),
+    (
+        "pages = 8",
+        "pages = 1",
+        "the datasheet needs `pages`, a whole number from 2 to 256",
+    ),
+    (
+        "reads = 8",
+        "reads = 0",
+        "[[task]] 3: `reads` and `writes` have to sum to 1 to 64",
+    ),
+    (
+        "reads = 8",
+        "cap = 3",
+        "[[task]] 3 needs `reads`, a whole number from 0 to 64",
+    ),
+    (
+        "blocks = 16",
+        "blocks = 16\nalpha = 4",
+        "the datasheet has a key that isn't a datasheet's",
+    ),
+];
+
+/// Why a datasheet has no plan.
+fn reason(alloc: Global, sheet: &str) -> Result<String, Fail> {
+    Ok(match fit(alloc, sheet.as_bytes()) {
+        Ok(_) => "a plan".to_string(alloc)?,
+        Err(FitFault::Refused(refusal)) => refusal.to_string(alloc)?,
+        Err(FitFault::Sheet(fault)) => fault.to_string(alloc)?,
+        Err(FitFault::NotFound(reason)) => reason.to_string(alloc)?,
+    })
+}
+
+#[test]
+fn a_plan_is_found_for_each_datasheet(rt: HostRuntime) -> Result<(), Fail> {
+    for sheet in ALL {
+        assert!(rt; fit(rt.alloc(), sheet.as_bytes()).is_ok(), "{sheet}");
+    }
+    Ok(())
+}
+
+#[test]
+fn the_plan_of_the_recorder_is_told(rt: HostRuntime) -> Result<(), Fail> {
+    let told = match fit(rt.alloc(), RECORDER.as_bytes()) {
+        Ok(text) => text.as_slice() == PLAN.as_bytes(),
+        Err(_) => false,
+    };
+    assert!(rt; told);
+    Ok(())
+}
+
+#[test]
+fn it_is_told_why_there_is_no_plan(rt: HostRuntime) -> Result<(), Fail> {
+    for (old, new, want) in NONE {
+        let sheet = RECORDER.replace(rt.alloc(), old, new)?;
+        let got = reason(rt.alloc(), sheet.as_str())?;
+        assert_eq!(rt; got.as_str(), want);
+    }
+    Ok(())
+}

@@ -1,0 +1,71 @@
+//! What runs came to: the figures are worked out by hand.
+
+use crate::texts::{HEADER, PLAN, SCRIPT};
+use plan_texts::read_plan;
+use std::alloc::Global;
+use std::test::Fail;
+use tool_run_figures::Life;
+use tool_watched_runs::report;
+
+/// A block lasts a million erases, a slot takes a second.
+const LIFE: Life = Life {
+    endurance: 1_000_000,
+    slot_us: 1_000_000,
+};
+
+const UNKNOWN: Life = Life {
+    endurance: 0,
+    slot_us: 0,
+};
+
+const NAMES: &str =
+    "die,task,done,waiting,refused,worst,mean,p99,collected,waived,collecting,uncollected,job_slots,\
+copy_slots,erase_slots,idle_slots,written,copied,amplification,least_balance,balance_slot,least_spare,spare_slot,erases,\
+least_erases,mean_erases,most_erases,years
+";
+
+/// Six jobs that write have lateness -96 and five times 0, the read -7: -103 / 7. The last row is refused. Each of five
+/// waived collections gives 2 of 10 spare pages, the last in slot 16; the sixth copies one page and erases a block. At
+/// that pace a block lasts 25,000,000 seconds.
+const FIGURES: &str = "0,,7,0,1,0,-14.72,0,1,5,0,0,15,2,3,5,14,1,1.071,,,0,16,1,0,0.25,1,0.79
+0,0,7,0,1,0,-14.72,0,1,5,0,0,15,2,3,,14,1,1.071,0,0,,,,,,,
+";
+
+/// Nothing happens in three slots: of 16 pages 4 are the task's, 2 its collector's.
+const NOTHING: &str = "0,,0,0,0,,,,0,0,0,0,0,0,0,3,0,0,,,,10,0,0,0,0.00,0,
+0,0,0,0,0,,,,0,0,0,0,0,0,0,,0,0,,4,0,,,,,,,
+";
+
+/// The front of the table, and its end.
+const FRONT: &str = "die 0                            all    task  0
+jobs done                          7          7
+jobs waiting                       0          0
+jobs refused                       1          1
+lateness: worst                    0          0
+lateness: mean                -14.72     -14.72
+";
+
+fn is_told(alloc: Global, script: &str, slots: u32, life: Life, told: &str) -> Result<bool, Fail> {
+    let plan = read_plan(alloc, PLAN.as_bytes())?;
+    let run = report(alloc, plan, script.as_bytes(), slots.min(25), life, true)?;
+    let Some(rest) = run.text.as_slice().strip_prefix(NAMES.as_bytes()) else {
+        return Ok(false);
+    };
+    Ok(rest == told.as_bytes())
+}
+
+#[test]
+fn figures_are_told_by_die_and_task(rt: HostRuntime) -> Result<(), Fail> {
+    assert!(rt; is_told(rt.alloc(), SCRIPT, 25, LIFE, FIGURES)?);
+    assert!(rt; is_told(rt.alloc(), HEADER, 3, UNKNOWN, NOTHING)?);
+    Ok(())
+}
+
+#[test]
+fn a_table_has_a_column_for_each_task(rt: HostRuntime) -> Result<(), Fail> {
+    let alloc = rt.alloc();
+    let plan = read_plan(alloc, PLAN.as_bytes())?;
+    let run = report(alloc, plan, SCRIPT.as_bytes(), 25, LIFE, false)?;
+    assert!(rt; run.text.as_slice().starts_with(FRONT.as_bytes()));
+    Ok(())
+}

@@ -1,0 +1,3 @@
+pub mod LeftDevices
+pub mod GoingOn
+pub mod StartsMore

@@ -1,0 +1,3 @@
+pub mod SavedDies
+pub mod Devices
+pub mod Runs

@@ -1,0 +1,17 @@
+-- What comes of a run on the dies of a store.
+use Rattle.std.specs.Prelude.{List, map, Option, Some, None}
+use Rattle.slot_types.specs.declared.plans.DiePlan.{DiePlan}
+use Rattle.checkpoint_texts.specs.declared.saved.SavedDie.{SavedDie}
+use Rattle.die_log.specs.Model.Start.{Start, fresh}
+use Rattle.flash_die.specs.Memory.{Memory}
+use Rattle.slot_core.specs.Core.{Core}
+use Rattle.tool_checkpoint_runs.specs.SavedDies.{saved_starts}
+
+-- where the logs of dies start
+abbrev pub starts_of : List (Core Memory) → List Start
+starts_of dies = map (λ (die : Core Memory). die.start) dies
+
+-- where the dies of a plan start: fresh, or as they were saved
+abbrev pub starts_by : List DiePlan → Option (List SavedDie) → List Start
+starts_by plan None = map fresh plan
+starts_by plan (Some saved) = saved_starts plan saved

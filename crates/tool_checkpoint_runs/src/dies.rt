@@ -1,0 +1,20 @@
+//! The dies of a store that runs.
+
+ghost use Rattle.std.specs.Prelude.{◌≡◌, ◌++◌, ◌∷◌, [], OnOk};
+ghost use Rattle.slot_types.specs.Refusal.{FailsForMemory};
+
+use flash_die::MemoryNand;
+use slot_core::DieCore;
+use slot_types::Refusal;
+
+/// The dies of a store in memory, by number.
+pub type StoreDies = Vec<DieCore<MemoryNand>>;
+
+/// Adds a die. The only refusal is NoMemory.
+pub fn push_die(dies: &mut StoreDies, die: DieCore<MemoryNand>) -> Result<(), Refusal>
+    ensures ok { OnOk result (dies.new.items ≡ dies.old.items ++ die ∷ []) }
+    ensures refused { FailsForMemory result }
+{
+    dies.push(die)?;
+    Ok(())
+}

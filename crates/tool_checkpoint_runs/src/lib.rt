@@ -1,0 +1,21 @@
+//! Runs of scripts that go on from a checkpoint, and end with one.
+#![tactic(auto)]
+
+mod devices;
+mod dies;
+mod explained;
+mod faults;
+mod lines;
+mod rows;
+mod saving;
+mod settling;
+mod starts;
+mod stocks;
+mod store_runs;
+mod texts;
+
+pub use dies::StoreDies;
+pub use explained::explain;
+pub use faults::{RunFault, Unsaved};
+pub use store_runs::{StoreRun, run_script};
+pub use texts::save;

@@ -1,0 +1,120 @@
+//! The rows of a script on the dies of a store, one after the other.
+
+ghost use Rattle.std.specs.Prelude.{◌≡◌, ◌<◌, length};
+ghost use Rattle.tool_checkpoint_runs.specs.Runs.{starts_of};
+
+use crate::dies::StoreDies;
+use flash_die::MemoryNand;
+use script_texts::ScriptReader;
+use slot_core::DieCore;
+use slot_types::{Event, Refusal};
+use std::alloc::Global;
+use std::io::Read;
+use tool_watched_runs::RefusedRows;
+
+/// Carries out slots until this one is the present one. The only refusal is NoMemory: within a die's life a slot of a device
+/// in memory is refused for nothing else.
+pub fn carry_to(alloc: Global, die: &mut DieCore<MemoryNand>, slot: u32) -> Result<(), Refusal>
+    ensures start { die.new.start ≡ die.old.start }
+{
+    for _present in die.now()..slot {
+        die.note_slot(alloc, 0)?;
+    }
+    Ok(())
+}
+
+/// Asks for what a row says, and answers why it was refused, if it was.
+fn ask(alloc: Global, die: &mut DieCore<MemoryNand>, event: Event) -> Option<Refusal>
+    ensures start { die.new.start ≡ die.old.start }
+{
+    let taken = match event {
+        Event::Submit {
+            task,
+            release,
+            due,
+            ops,
+        } => die.submit(alloc, 0, task, release, due, ops),
+        Event::Collect { task, release, due } => die.collect(alloc, 0, task, release, due),
+        // No row asks for a slot.
+        Event::Slot => return None,
+    };
+    taken.err()
+}
+
+/// Carries a die to the slot of a row, and asks for what the row says.
+fn carry_row(
+    alloc: Global,
+    dies: &mut StoreDies,
+    place: usize,
+    at: u32,
+    event: Event,
+) -> Result<Option<Refusal>, Refusal>
+    requires there { place < length dies.old.items }
+    ensures starts { starts_of dies.new.items ≡ starts_of dies.old.items }
+    ensures count { length dies.new.items ≡ length dies.old.items }
+{
+    let die = &mut dies[place];
+    carry_to(alloc, die, at)?;
+    Ok(ask(alloc, die, event))
+}
+
+/// Carries a die to a slot.
+fn carry_die(alloc: Global, dies: &mut StoreDies, place: usize, slot: u32) -> Result<(), Refusal>
+    requires there { place < length dies.old.items }
+    ensures starts { starts_of dies.new.items ≡ starts_of dies.old.items }
+    ensures count { length dies.new.items ≡ length dies.old.items }
+{
+    carry_to(alloc, &mut dies[place], slot)
+}
+
+/// Carries each die to a slot.
+fn carry_all(alloc: Global, dies: &mut StoreDies, slot: u32) -> Result<(), Refusal>
+    ensures starts { starts_of dies.new.items ≡ starts_of dies.old.items }
+    ensures count { length dies.new.items ≡ length dies.old.items }
+{
+    for place in 0..dies.len() {
+        carry_die(alloc, dies, place, slot)?;
+    }
+    Ok(())
+}
+
+/// Runs the rows of a script, each on its die before the slot of its `at`. A row that is refused is no event, and is counted.
+fn carry_rows<R: Read + Drop>(
+    alloc: Global,
+    mut script: ScriptReader<R>,
+    dies: &mut StoreDies,
+) -> Result<RefusedRows, Refusal>
+    ensures starts { starts_of dies.new.items ≡ starts_of dies.old.items }
+    ensures count { length dies.new.items ≡ length dies.old.items }
+{
+    let mut refused = RefusedRows::NONE;
+    for _ in 0..u64::MAX {
+        let Some(item) = script.next()? else {
+            break;
+        };
+        let place = item.die as usize;
+        if place >= dies.len() {
+            continue;
+        }
+        if let Some(refusal) = carry_row(alloc, dies, place, item.at, item.event)? {
+            refused.add(item.line, refusal);
+        }
+    }
+    Ok(refused)
+}
+
+/// Runs the rows of a script, each on its die before the slot of its `at`, and then so many slots of each die. A row that is
+/// refused is no event, and is counted.
+pub fn run_rows<R: Read + Drop>(
+    alloc: Global,
+    script: ScriptReader<R>,
+    dies: &mut StoreDies,
+    slots: u32,
+) -> Result<RefusedRows, Refusal>
+    ensures starts { starts_of dies.new.items ≡ starts_of dies.old.items }
+    ensures count { length dies.new.items ≡ length dies.old.items }
+{
+    let refused = carry_rows(alloc, script, dies)?;
+    carry_all(alloc, dies, slots)?;
+    Ok(refused)
+}

@@ -1,0 +1,96 @@
+//! A script that is run on the dies of a store.
+
+ghost use Rattle.std.specs.Prelude.{◌≡◌, ◌≤◌, All, IfOk, length};
+ghost use Rattle.slot_types.specs.Refusal.{FailsForMemory};
+ghost use Rattle.plan_rules.specs.Bound.{MeetsBound};
+ghost use Rattle.report_texts.specs.TextSoFar.{text_so_far};
+ghost use Rattle.task_script.specs.StoreRuns.{reports_of};
+ghost use Rattle.tool_checkpoint_runs.specs.Runs.{starts_by, starts_of};
+
+use crate::dies::StoreDies;
+use crate::faults::RunFault;
+use crate::rows::run_rows;
+use crate::settling::settle;
+use crate::starts::{fresh_store, saved_store};
+use checkpoint_texts::SavedStore;
+use report_texts::ReportText;
+use script_texts::ScriptReader;
+use slot_types::{MAX_SLOT, Refusal, StorePlan};
+use std::alloc::Global;
+use std::io::Read;
+use task_script::add_die;
+use tool_watched_runs::RefusedRows;
+
+/// What came of a run.
+#[derive(Drop)]
+pub struct StoreRun {
+    pub dies: StoreDies,
+    /// What each die's log says over its start.
+    pub report: ReportText,
+    pub refused: RefusedRows,
+    /// By die how many slots it went on for until all was done; empty where the run ended with its last slot.
+    pub idle: Vec<u32>,
+}
+
+/// The dies of a plan as they start.
+fn dies_of(alloc: Global, plan: StorePlan, from: Option<SavedStore>) -> Result<StoreDies, RunFault>
+    requires bound { All MeetsBound plan }
+    ensures starts { IfOk result (λ dies. starts_of dies.items ≡ starts_by plan from) }
+    ensures count { IfOk result (λ dies. length dies.items ≡ length plan) }
+{
+    match from {
+        None => Ok(fresh_store(alloc, plan)?),
+        Some(saved) => saved_store(alloc, plan, &saved),
+    }
+}
+
+/// The report of dies, by number: what each log says over its start. The only refusal is NoMemory.
+fn report_of(alloc: Global, dies: &StoreDies) -> Result<ReportText, Refusal>
+    requires { length dies.now.items ≤ 8 }
+    ensures text { IfOk result (λ text. text ≡ text_so_far (reports_of 0 dies.now.items)) }
+    ensures refused { FailsForMemory result }
+{
+    let mut text = ReportText::new(alloc)?;
+    for number in 0..dies.len() {
+        add_die(alloc, &mut text, number as u32, &dies[number])?;
+    }
+    Ok(text)
+}
+
+/// Runs a script on the dies of a plan, fresh ones or from what was saved of them, each up to slot `slots`. A row comes before the slot of
+/// its `at`; one that its die refuses is no event, and is counted. Where the run is to be saved, each die goes on until all that it
+/// accepted is done or was waived, at most as many slots as that work can take, and not beyond slot 1,048,576.
+///
+/// The report is read off the log of each die over its start. Refused with the first fault of what was saved, of the first die that
+/// has one; of the script, as [`ScriptReader`] tells it; or with ReadFault or NoMemory.
+pub fn run_script<R: Read + Drop>(
+    alloc: Global,
+    plan: StorePlan,
+    from: Option<SavedStore>,
+    script: R,
+    slots: u32,
+    saves: bool,
+) -> Result<StoreRun, RunFault>
+    requires few_dies { length plan ≤ 8 }
+    requires bound { All MeetsBound plan }
+    requires few_slots { slots ≤ MAX_SLOT }
+    ensures starts { IfOk result (λ run. starts_of run.dies.items ≡ starts_by plan from) }
+    ensures report { IfOk result (λ run. run.report ≡ text_so_far (reports_of 0 run.dies.items)) }
+    ensures count { IfOk result (λ run. length run.dies.items ≡ length plan) }
+{
+    let script = ScriptReader::new(alloc, script, &plan, slots)?;
+    let mut dies = dies_of(alloc, plan, from)?;
+    let refused = run_rows(alloc, script, &mut dies, slots)?;
+    let idle = if saves {
+        settle(alloc, &mut dies)?
+    } else {
+        Vec::new(alloc)
+    };
+    let report = report_of(alloc, &dies)?;
+    Ok(StoreRun {
+        dies,
+        report,
+        refused,
+        idle,
+    })
+}

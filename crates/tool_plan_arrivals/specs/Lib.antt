@@ -1,0 +1,2 @@
+pub mod PlannedScripts
+pub mod Steps

@@ -1,0 +1,136 @@
+//! The tasks of a store that ask.
+
+ghost use Rattle.std.specs.Prelude.{IfErr};
+ghost use Rattle.slot_types.specs.Refusal.{FailsForMemory};
+ghost use Rattle.tool_plan_arrivals.specs.PlannedScripts.{IsOwnFault};
+
+use crate::faults::Fault;
+use crate::jobs::Asker;
+use crate::pages::Share;
+use slot_types::{DiePlan, MAX_SLOT, Refusal, StorePlan, TaskTimes};
+use std::alloc::Global;
+use tool_plan_lives::{are_tasks, life_of};
+
+/// How many of these tasks write.
+fn writers(tasks: &[TaskTimes]) -> u32 {
+    let mut count: u32 = 0;
+    for task in tasks {
+        if task.writes > 0 {
+            count = count.saturating_add(1);
+        }
+    }
+    count
+}
+
+/// The pages of a task where each task has some of its own.
+fn own_share(task: u32, tasks: u32, logical: u32) -> Share {
+    Share {
+        first: task,
+        step: tasks,
+        logical,
+    }
+}
+
+/// The pages of a task where the writing tasks share all pages: each of these has some, and each of the others all.
+fn full_share(times: &TaskTimes, writer: u32, writers: u32, logical: u32) -> Share {
+    if times.writes == 0 {
+        own_share(0, 1, logical)
+    } else {
+        own_share(writer, writers, logical)
+    }
+}
+
+/// A task that asks, after so many tasks of its die, of which some write.
+fn asker_of(
+    die: u32,
+    task: u32,
+    writer: u32,
+    plan: &DiePlan,
+    tasks: &[TaskTimes],
+    fills: bool,
+    own: &TaskTimes,
+) -> Asker {
+    let count = u32::try_from(tasks.len()).unwrap_or(u32::MAX);
+    let share = if fills {
+        full_share(own, writer, writers(tasks), plan.logical)
+    } else {
+        own_share(task, count, plan.logical)
+    };
+    let writes = own.writes > 0;
+    Asker {
+        die,
+        task,
+        times: *own,
+        share,
+        to_fill: if fills && writes { share.count() } else { 0 },
+        trims: writes && !fills,
+        next: 0,
+    }
+}
+
+/// Adds the tasks of a die. The only refusal is NoMemory.
+fn add_askers(askers: &mut Vec<Asker>, die: u32, plan: &DiePlan, fills: bool) -> Result<(), Refusal>
+    ensures { FailsForMemory result }
+{
+    let Some(times) = &plan.times else {
+        return Ok(());
+    };
+    let tasks = times.tasks.as_slice();
+    let (mut task, mut writer) = (0u32, 0u32);
+    for own in tasks {
+        let asker = asker_of(die, task, writer, plan, tasks, fills, own);
+        askers.push(asker)?;
+        task = task.saturating_add(1);
+        writer = writer.saturating_add(u32::from(own.writes > 0));
+    }
+    Ok(())
+}
+
+/// For how many slots the numbers of a die last.
+fn life(plan: &DiePlan) -> u32 {
+    match &plan.times {
+        Some(times) if are_tasks(times.tasks.as_slice()) => life_of(times.tasks.as_slice()),
+        _ => MAX_SLOT,
+    }
+}
+
+/// That the numbers of each die last for so many slots; else the die whose numbers last least.
+fn check_lives(plan: &StorePlan, slots: u32) -> Result<(), Fault>
+    ensures { IfErr result IsOwnFault }
+{
+    let (mut least, mut shortest, mut die) = (MAX_SLOT, 0u32, 0u32);
+    for own in plan.as_slice() {
+        let life = life(own);
+        if life < least {
+            least = life;
+            shortest = die;
+        }
+        die = die.saturating_add(1);
+    }
+    if least < slots {
+        return Err(Fault::TooMany {
+            die: shortest,
+            most: least,
+        });
+    }
+    Ok(())
+}
+
+/// The tasks of all dies, which ask within so many slots no more often than a die accepts.
+pub fn askers_of(
+    alloc: Global,
+    plan: &StorePlan,
+    slots: u32,
+    fills: bool,
+) -> Result<Vec<Asker>, Fault>
+    ensures { IfErr result IsOwnFault }
+{
+    check_lives(plan, slots)?;
+    let mut askers = Vec::new(alloc);
+    let mut die: u32 = 0;
+    for own in plan.as_slice() {
+        add_askers(&mut askers, die, own, fills)?;
+        die = die.saturating_add(1);
+    }
+    Ok(askers)
+}

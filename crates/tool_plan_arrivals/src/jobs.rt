@@ -1,0 +1,97 @@
+//! The jobs of a task, as the most that its plan lets it ask for.
+
+use crate::chances::Chance;
+use crate::pages::Share;
+use slot_types::TaskTimes;
+use std::io;
+use std::io::Write;
+
+/// Of a task that writes, one in so many of the other operations is a trim.
+const TRIM_IN: u32 = 8;
+
+/// A task, the times that it has, and its pages.
+#[derive(Clone, Copy, Drop)]
+pub struct Asker {
+    pub die: u32,
+    pub task: u32,
+    pub times: TaskTimes,
+    pub share: Share,
+    /// How many of its pages it still writes in order.
+    pub to_fill: u32,
+    /// Whether it trims pages.
+    pub trims: bool,
+    /// The slot of its next job.
+    pub next: u32,
+}
+
+impl Asker {
+    /// The page of a write: the next one that is written in order, or one that is drawn.
+    fn written_page(&mut self, drawn: u32) -> u32 {
+        if self.to_fill == 0 {
+            return drawn;
+        }
+        let place = self.share.count().saturating_sub(self.to_fill);
+        self.to_fill -= 1;
+        self.share.page_at(place)
+    }
+
+    /// Adds a write. Its bytes tell where they come from: slot, task, page, and the place among the job's operations.
+    fn put_write(&self, text: &mut Vec<u8>, page: u32, slot: u32, place: u32) -> io::Result<()> {
+        let task = self.task;
+        write!(text, "W{page}={slot:08x}{task:08x}{page:08x}{place:08x}")
+    }
+
+    /// Adds a read, or a trim.
+    fn put_other(&self, text: &mut Vec<u8>, chance: &mut Chance, page: u32) -> io::Result<()> {
+        if self.trims && chance.below(TRIM_IN) == 0 {
+            write!(text, "T{page}")
+        } else {
+            write!(text, "R{page}")
+        }
+    }
+
+    /// Adds the operations of a job that is released in a slot: as many as the plan has, and of these as many writes, at
+    /// places that are drawn.
+    fn put_ops(&mut self, text: &mut Vec<u8>, chance: &mut Chance, slot: u32) -> io::Result<()> {
+        let mut writes = self.times.writes;
+        for place in 0..self.times.work {
+            if place > 0 {
+                text.push(b' ')?;
+            }
+            let left = self.times.work.saturating_sub(place);
+            let drawn = self.share.draw(chance);
+            if chance.below(left) < writes {
+                let page = self.written_page(drawn);
+                self.put_write(text, page, slot, place)?;
+                writes = writes.saturating_sub(1);
+            } else {
+                self.put_other(text, chance, drawn)?;
+            }
+        }
+        Ok(())
+    }
+
+    /// Adds the record of the task's job in a slot.
+    pub fn put_job(
+        &mut self,
+        text: &mut Vec<u8>,
+        chance: &mut Chance,
+        slot: u32,
+    ) -> io::Result<()> {
+        let (die, task) = (self.die, self.task);
+        let due = slot.saturating_add(self.times.period);
+        write!(text, "{slot},{die},{task},job,{slot},{due},")?;
+        self.put_ops(text, chance, slot)?;
+        text.push(b'\n')?;
+        Ok(())
+    }
+
+    /// Adds the record of the task's collection in a slot.
+    pub fn put_collection(&self, text: &mut Vec<u8>, slot: u32) -> io::Result<()> {
+        let (die, task) = (self.die, self.task);
+        let due = slot.saturating_add(self.times.collect_period);
+        write!(text, "{slot},{die},{task},collect,{slot},{due},")?;
+        text.push(b'\n')?;
+        Ok(())
+    }
+}

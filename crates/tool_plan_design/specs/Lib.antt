@@ -1,0 +1,4 @@
+pub mod Trials
+pub mod AcceptedPlans
+pub mod Commons
+pub mod Numbers

@@ -1,0 +1,66 @@
+-- Plans with one number changed, and which numbers of a range would do.
+use Rattle.std.specs.Prelude.{◌≡◌, ℕ, ◌<◌, ◌≤◌, List, Option, Some, None, option_map, slice_set, IsSomeAnd}
+use Rattle.slot_types.specs.declared.plans.DiePlan.{DiePlan}
+use Rattle.slot_types.specs.declared.plans.TaskTimes.{TaskTimes}
+use Rattle.slot_types.specs.declared.plans.Times.{Times}
+use Rattle.plan_rules.specs.Bound.{MeetsBound}
+use Rattle.plan_rules.specs.Times.{Passes, times_of}
+use Rattle.tool_plan_design.specs.declared.numbers.Number.{Number}
+use Rattle.tool_plan_design.specs.declared.numbers.Number.TheVariants as number
+
+-- the times with those of a task changed
+abbrev pub with_own : Times → ℕ → TaskTimes → Times
+with_own times task own = record times { tasks = slice_set times.tasks task own }
+
+-- the times with one of their numbers changed
+abbrev pub times_with : Number → ℕ → Times → Times
+times_with number.Alpha n times = times
+times_with number.Common n times = record times { common = n }
+times_with (number.Cap task) n times = times
+times_with (number.Period task) n times = with_own times task (record (times_of times task) { period = n })
+times_with (number.CollectPeriod task) n times = with_own times task (record (times_of times task) { collect_period = n })
+times_with (number.Work task) n times = with_own times task (record (times_of times task) { work = n })
+times_with (number.Writes task) n times = with_own times task (record (times_of times task) { writes = n })
+
+-- the plan with one of its numbers changed
+abbrev pub with_number : Number → DiePlan → ℕ → DiePlan
+with_number number.Alpha plan n = record plan { alpha = n }
+with_number (number.Cap task) plan n = record plan { caps = slice_set plan.caps task n }
+with_number number.Common plan n = record plan { times = option_map (times_with number.Common n) plan.times }
+with_number (number.Period task) plan n = record plan { times = option_map (times_with (number.Period task) n) plan.times }
+with_number (number.CollectPeriod task) plan n = record plan { times = option_map (times_with (number.CollectPeriod task) n) plan.times }
+with_number (number.Work task) plan n = record plan { times = option_map (times_with (number.Work task) n) plan.times }
+with_number (number.Writes task) plan n = record plan { times = option_map (times_with (number.Writes task) n) plan.times }
+
+-- the plan meets its bound, and has times that pass their test
+pub record WouldDo (plan : DiePlan) : Type 0 where
+  pub bound : MeetsBound plan
+  pub passes : IsSomeAnd plan.times (Passes plan)
+
+-- with this number, from `from` to `to`, the plan would do, and with no smaller one from `from` on
+pub record IsLeast (which : Number) (plan : DiePlan) (from to n : ℕ) : Type 0 where
+  pub above : from ≤ n
+  pub below : n ≤ to
+  pub does : WouldDo (with_number which plan n)
+  pub least : (fewer : ℕ) → from ≤ fewer → fewer < n → ¬ WouldDo (with_number which plan fewer)
+
+-- with this number, from `from` to `to`, the plan would do, and with no greater one up to `to`
+pub record IsGreatest (which : Number) (plan : DiePlan) (from to n : ℕ) : Type 0 where
+  pub above : from ≤ n
+  pub below : n ≤ to
+  pub does : WouldDo (with_number which plan n)
+  pub greatest : (more : ℕ) → n < more → more ≤ to → ¬ WouldDo (with_number which plan more)
+
+-- with no number from `from` to `to` the plan would do
+abbrev pub NoneDoes : Number → DiePlan → ℕ → ℕ → Type 0
+NoneDoes which plan from to = (n : ℕ) → from ≤ n → n ≤ to → ¬ WouldDo (with_number which plan n)
+
+-- the least such number, if there is one
+abbrev pub TellsLeast : Number → DiePlan → ℕ → ℕ → Option ℕ → Type 0
+TellsLeast which plan from to (Some n) = IsLeast which plan from to n
+TellsLeast which plan from to None = NoneDoes which plan from to
+
+-- the greatest such number, if there is one
+abbrev pub TellsGreatest : Number → DiePlan → ℕ → ℕ → Option ℕ → Type 0
+TellsGreatest which plan from to (Some n) = IsGreatest which plan from to n
+TellsGreatest which plan from to None = NoneDoes which plan from to

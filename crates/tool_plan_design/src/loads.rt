@@ -1,0 +1,215 @@
+//! The demand of a die with times, in sentences: by task and in sum, and the margins of what its collections give.
+
+use crate::commons::{divides_all, least_common};
+use crate::sayings::Sayings;
+use crate::subjects::{Subject, TaskName};
+use slot_types::{DiePlan, MAX_SLOT, TaskTimes, Times};
+use std::io;
+use std::io::Write;
+
+/// How many slots something that takes `work` slots once in each `period` takes of `common` ones.
+fn taken(work: u64, period: u32, common: u32) -> u64 {
+    work.saturating_mul(u64::from(common / period.max(1)))
+}
+
+/// The most slots that a collection takes.
+fn collection_work(plan: &DiePlan) -> u64 {
+    let copied = u64::from(plan.shape.pages.saturating_sub(plan.alpha));
+    copied
+        .saturating_add(copied)
+        .saturating_add(u64::from(plan.shape.erase_slots))
+}
+
+/// Tells how many slots a task's jobs and collections take, and gives their sum.
+fn tell_taken(
+    text: &mut Vec<u8>,
+    of: Subject,
+    plan: &DiePlan,
+    common: u32,
+    task: &TaskTimes,
+) -> io::Result<u64> {
+    let jobs = taken(u64::from(task.work), task.period, common);
+    let collections = taken(collection_work(plan), task.collect_period, common);
+    writeln!(
+        text,
+        "{of}: of each {common} slots its jobs take at most {jobs}, its collections {collections}."
+    )?;
+    Ok(jobs.saturating_add(collections))
+}
+
+/// Tells a period that doesn't divide the hyperperiod.
+fn tell_divides(
+    text: &mut Vec<u8>,
+    of: Subject,
+    name: &str,
+    period: u32,
+    common: u32,
+) -> io::Result<()> {
+    if common % period.max(1) == 0 {
+        return Ok(());
+    }
+    writeln!(
+        text,
+        "{of}: {name} is {period}, and has to divide common, which is {common}."
+    )
+}
+
+/// Something that has to be at least something else.
+#[derive(Clone, Copy)]
+struct Margin {
+    has: &'static str,
+    have: u64,
+    needs: &'static str,
+    need: u64,
+}
+
+/// Tells by how much one number is at least another, or how much is missing.
+fn tell_margin(said: &mut Sayings, of: Subject, margin: Margin) -> io::Result<()> {
+    let Margin {
+        has,
+        have,
+        needs,
+        need,
+    } = margin;
+    if need <= have {
+        let spare = have - need;
+        writeln!(
+            said.figures,
+            "{of}: {has} is {have}, and {needs} is {need}: {spare} to spare."
+        )
+    } else {
+        let missing = need - have;
+        writeln!(
+            said.faults,
+            "{of}: {has} is {have}, and has to be at least {needs}, which is {need}: {missing} missing."
+        )
+    }
+}
+
+/// What a task's collections give it, beside what its jobs write.
+fn gain_of(alpha: u32, task: &TaskTimes) -> Margin {
+    Margin {
+        has: "alpha * period",
+        have: u64::from(alpha).saturating_mul(u64::from(task.period)),
+        needs: "writes * collect_period",
+        need: u64::from(task.writes).saturating_mul(u64::from(task.collect_period)),
+    }
+}
+
+/// A task's cap, beside what it has to cover.
+fn stock_of(alpha: u32, cap: u32, task: &TaskTimes) -> Margin {
+    Margin {
+        has: "cap",
+        have: u64::from(cap),
+        needs: "2 * writes + 2 * alpha",
+        need: u64::from(task.writes)
+            .saturating_add(u64::from(alpha))
+            .saturating_mul(2),
+    }
+}
+
+/// Tells how a task's collections keep up with its writes.
+fn tell_margins(
+    said: &mut Sayings,
+    of: Subject,
+    alpha: u32,
+    cap: u32,
+    task: &TaskTimes,
+) -> io::Result<()> {
+    tell_margin(said, of, gain_of(alpha, task))?;
+    tell_margin(said, of, stock_of(alpha, cap, task))
+}
+
+/// Tells the demand of all tasks.
+fn tell_sum(said: &mut Sayings, of: Subject, demand: u64, common: u32) -> io::Result<()> {
+    let common = u64::from(common);
+    if demand <= common {
+        let left = common - demand;
+        writeln!(
+            said.figures,
+            "{of}: of each {common} slots all tasks take at most {demand}: {left} to spare."
+        )
+    } else {
+        let missing = demand - common;
+        writeln!(
+            said.faults,
+            "{of}: of each {common} slots all tasks may take {demand}: {missing} missing."
+        )
+    }
+}
+
+/// Tells the periods that don't divide the hyperperiod, and the least one that all of them divide.
+fn tell_undivided(
+    text: &mut Vec<u8>,
+    die: u32,
+    names: &[TaskName],
+    times: &Times,
+) -> io::Result<()> {
+    let tasks = times.tasks.as_slice();
+    for task in 0..tasks.len().min(names.len()) {
+        let (of, own) = (Subject::Task(names[task]), tasks[task]);
+        tell_divides(text, of, "period", own.period, times.common)?;
+        tell_divides(text, of, "collect_period", own.collect_period, times.common)?;
+    }
+    let of = Subject::Die(die);
+    match least_common(tasks) {
+        Some(least) => writeln!(
+            text,
+            "{of}: the least common that all its periods divide is {least}."
+        ),
+        None => writeln!(
+            text,
+            "{of}: all its periods divide no common up to {MAX_SLOT}."
+        ),
+    }
+}
+
+/// Tells the demand of each task and of all of them, where all periods divide the hyperperiod.
+fn tell_divided(
+    said: &mut Sayings,
+    die: u32,
+    names: &[TaskName],
+    plan: &DiePlan,
+    times: &Times,
+) -> io::Result<()> {
+    let mut demand: u64 = 0;
+    let tasks = times.tasks.as_slice();
+    for task in 0..tasks.len().min(names.len()) {
+        let of = Subject::Task(names[task]);
+        let taken = tell_taken(&mut said.figures, of, plan, times.common, &tasks[task])?;
+        demand = demand.saturating_add(taken);
+    }
+    tell_sum(said, Subject::Die(die), demand, times.common)
+}
+
+/// Tells the margins of each task.
+fn tell_all_margins(
+    said: &mut Sayings,
+    names: &[TaskName],
+    plan: &DiePlan,
+    times: &Times,
+) -> io::Result<()> {
+    let (caps, tasks) = (plan.caps.as_slice(), times.tasks.as_slice());
+    for task in 0..caps.len().min(tasks.len()).min(names.len()) {
+        let of = Subject::Task(names[task]);
+        tell_margins(said, of, plan.alpha, caps[task], &tasks[task])?;
+    }
+    Ok(())
+}
+
+/// Tells the demand of a die with times: where a period doesn't divide the hyperperiod, that, and no sums, which
+/// would be false.
+pub fn tell_load(
+    said: &mut Sayings,
+    die: u32,
+    names: &[TaskName],
+    plan: &DiePlan,
+    times: &Times,
+) -> io::Result<()> {
+    tell_all_margins(said, names, plan, times)?;
+    if divides_all(times.common, times.tasks.as_slice()) {
+        tell_divided(said, die, names, plan, times)
+    } else {
+        tell_undivided(&mut said.faults, die, names, times)
+    }
+}

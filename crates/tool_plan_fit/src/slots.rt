@@ -1,0 +1,113 @@
+//! How long a slot may be, and what periods come to in slots.
+
+use crate::datasheets::{Need, Part};
+use slot_types::MAX_SLOT;
+use std::alloc::{AllocError, Global};
+
+/// The most lengths that are tried.
+const MOST: usize = 24;
+
+fn greatest_divisor(a: u32, b: u32) -> u32 {
+    let (mut a, mut b) = (a, b);
+    for _ in 0..64 {
+        if b == 0 {
+            break;
+        }
+        (a, b) = (b, a % b);
+    }
+    a
+}
+
+/// The least number that both divide, where it is at most 1,048,576.
+pub fn least_multiple(a: u32, b: u32) -> Option<u32> {
+    let shared = u64::from(greatest_divisor(a, b)).max(1);
+    let common = u64::from(a) / shared * u64::from(b);
+    match u32::try_from(common) {
+        Ok(common) if common <= MAX_SLOT => Some(common),
+        _ => None,
+    }
+}
+
+/// The lengths of a slot that are tried, in microseconds: from the shortest on those that divide each period, rising, and then
+/// the shortest itself.
+pub fn lengths(alloc: Global, part: &Part, needs: &[Need]) -> Result<Vec<u32>, AllocError> {
+    let shortest = part.shortest_slot().max(1);
+    let mut shared: u32 = 0;
+    for need in needs {
+        shared = greatest_divisor(shared, need.period_ms);
+    }
+    let shared = shared.saturating_mul(1000);
+    let mut lengths = Vec::with_capacity(alloc, MOST)?;
+    let most = shared / shortest;
+    for back in 0..most {
+        let parts = most.saturating_sub(back).max(1);
+        if shared % parts == 0 {
+            lengths.push(shared / parts)?;
+        }
+        if lengths.len() == MOST || back == 65_536 {
+            break;
+        }
+    }
+    lengths.push(shortest)?;
+    Ok(lengths)
+}
+
+/// The periods in slots: as they are, or each but the shortest as the greatest power of two times the shortest that it
+/// reaches, so that each divides the longest.
+pub fn periods(
+    alloc: Global,
+    needs: &[Need],
+    slot_us: u32,
+    powers: bool,
+) -> Result<Vec<u32>, AllocError> {
+    let mut shortest = MAX_SLOT;
+    for need in needs {
+        shortest = shortest.min(need.period(slot_us));
+    }
+    let mut periods = Vec::with_capacity(alloc, needs.len())?;
+    for need in needs {
+        let own = need.period(slot_us).min(MAX_SLOT);
+        periods.push(if powers { power_of(shortest, own) } else { own })?;
+    }
+    Ok(periods)
+}
+
+fn power_of(shortest: u32, most: u32) -> u32 {
+    let mut power = shortest;
+    for _ in 0..32 {
+        let next = power.saturating_mul(2);
+        if power == 0 || next > most {
+            break;
+        }
+        power = next;
+    }
+    power
+}
+
+/// What all of these divide, where it is at most 1,048,576; none where one of them is 0.
+pub fn common_of(periods: &[u32]) -> Option<u32> {
+    let mut common: u32 = 1;
+    for period in periods {
+        if *period == 0 {
+            return None;
+        }
+        common = least_multiple(common, *period)?;
+    }
+    Some(common)
+}
+
+/// The greatest divisor of a number that is at most this; none where this is 0.
+pub fn divisor_upto(number: u32, most: u32) -> Option<u32> {
+    let mut greatest: u32 = 0;
+    for small in 1..=1024u32 {
+        if number % small != 0 {
+            continue;
+        }
+        for divisor in [small, number / small] {
+            if divisor <= most {
+                greatest = greatest.max(divisor);
+            }
+        }
+    }
+    if greatest == 0 { None } else { Some(greatest) }
+}

@@ -1,0 +1,310 @@
+//! A script on the store and on plain layers.
+
+ghost use Rattle.std.specs.Prelude.{◌≤◌};
+
+use crate::curves::Curve;
+use crate::figures::End;
+use crate::forms::Form;
+use crate::pictures::{Caption, picture};
+use crate::plays::{Counted, Play};
+use crate::store_dies::{Carried, JobRow, StoreDie};
+use crate::tables::{Sheet, put_die, put_header};
+use script_texts::{ScriptItem, ScriptReader};
+use slot_types::{DiePlan, Event, MAX_SLOT, Refusal, StorePlan};
+use std::alloc::Global;
+use std::io::Read;
+use tool_plain_layers::{Load, Marks, Policy, play};
+
+/// What is measured.
+#[derive(Clone, Copy, PartialEq, Eq, Debug, Drop)]
+pub struct Measure {
+    /// How many slots are carried out.
+    pub slots: u32,
+    /// The first slot that counts.
+    pub from: u32,
+    /// How many wholly free blocks a plain layer wants.
+    pub marks: Marks,
+}
+
+/// Why there is no table.
+#[derive(Clone, Copy, PartialEq, Eq, Debug, Drop)]
+pub enum CompareFault {
+    /// The script is refused, or memory is.
+    Refused(Refusal),
+    /// A plain layer did what it may not, which its own checks have found.
+    WrongLayer {
+        policy: Policy,
+        fault: tool_plain_layers::Fault,
+    },
+}
+
+impl From<Refusal> for CompareFault {
+    fn from(refusal: Refusal) -> CompareFault {
+        CompareFault::Refused(refusal)
+    }
+}
+
+fn fresh_dies(alloc: Global, plan: &StorePlan, from: u32) -> Result<Vec<Box<StoreDie>>, Refusal> {
+    let mut dies = Vec::new(alloc);
+    for plan in plan.as_slice() {
+        let die = StoreDie::new(alloc, plan.clone()?, from)?;
+        dies.push(die)?;
+    }
+    Ok(dies)
+}
+
+// Asks a die for what a row says, once the slots before it are carried out.
+fn ask(alloc: Global, die: &mut StoreDie, at: u32, event: &Event) -> Result<(), Refusal> {
+    die.carry_to(alloc, at)?;
+    match event {
+        Event::Submit {
+            task,
+            release,
+            due,
+            ops,
+        } => die.submit(
+            alloc,
+            &JobRow {
+                task: *task,
+                release: *release,
+                due: *due,
+                ops,
+            },
+        ),
+        Event::Collect { task, release, due } => {
+            die.collect(alloc, *task, *release, *due);
+            Ok(())
+        }
+        Event::Slot => Ok(()),
+    }
+}
+
+fn ask_die(alloc: Global, dies: &mut [Box<StoreDie>], item: &ScriptItem) -> Result<(), Refusal> {
+    match dies.get_mut(item.die as usize) {
+        Some(die) => ask(alloc, die, item.at, &item.event),
+        None => Ok(()),
+    }
+}
+
+// Runs the rows of a script on these dies, and then so many slots.
+fn run_rows<R: Read + Drop>(
+    alloc: Global,
+    mut script: ScriptReader<R>,
+    dies: &mut [Box<StoreDie>],
+    slots: u32,
+) -> Result<(), Refusal> {
+    for _ in 0..u64::MAX {
+        let Some(item) = script.next()? else {
+            break;
+        };
+        ask_die(alloc, dies, &item)?;
+    }
+    for place in 0..dies.len() {
+        dies[place].carry_to(alloc, slots)?;
+    }
+    Ok(())
+}
+
+// What became of the jobs of a play.
+fn ends_of(alloc: Global, completions: &[Option<u32>]) -> Result<Vec<End>, Refusal> {
+    let mut ends = Vec::new(alloc);
+    for completion in completions {
+        ends.reserve(1)?;
+        ends.push_reserved(End::of_play(*completion));
+    }
+    Ok(ends)
+}
+
+// What is written so far.
+#[derive(Drop)]
+struct Teller {
+    form: Form,
+    counted: Counted,
+    sheet: Sheet,
+    curves: Vec<Curve>,
+}
+
+impl Teller {
+    fn new(alloc: Global, form: Form, measure: Measure) -> Result<Teller, Refusal> {
+        let mut teller = Teller {
+            form,
+            counted: Counted {
+                from: measure.from,
+                slots: measure.slots,
+            },
+            sheet: Sheet::new(alloc, form == Form::Csv),
+            curves: Vec::new(alloc),
+        };
+        match form {
+            Form::Table | Form::Csv => put_header(&mut teller.sheet)?,
+            Form::Picture { .. } => {}
+        }
+        Ok(teller)
+    }
+
+    fn add_curve(&mut self, alloc: Global, play: &Play<'_>, task: u32) -> Result<(), Refusal> {
+        let (mut rising, _) = play.lateness(alloc, self.counted, Some(task))?;
+        rising.as_mut_slice().sort(alloc)?;
+        self.curves.push(Curve {
+            policy: play.policy,
+            rising,
+        })?;
+        Ok(())
+    }
+
+    fn add(&mut self, alloc: Global, play: &Play<'_>) -> Result<(), Refusal> {
+        match self.form {
+            Form::Table | Form::Csv => put_die(alloc, &mut self.sheet, play, self.counted),
+            Form::Picture { die, task } if die == play.die => self.add_curve(alloc, play, task),
+            Form::Picture { .. } => Ok(()),
+        }
+    }
+
+    fn finish(self, alloc: Global, pool: usize) -> Result<Vec<u8>, Refusal> {
+        let Teller {
+            form,
+            counted,
+            sheet,
+            curves,
+        } = self;
+        match form {
+            Form::Table | Form::Csv => {
+                let Sheet { text, .. } = sheet;
+                Ok(text)
+            }
+            Form::Picture { die, task } => {
+                let caption = Caption {
+                    die,
+                    task,
+                    from: counted.from,
+                    slots: counted.slots,
+                    pool,
+                };
+                picture(alloc, caption, curves.as_slice())
+            }
+        }
+    }
+}
+
+fn tasks_of(plan: &DiePlan) -> u32 {
+    u32::try_from(plan.caps.len()).unwrap_or(u32::MAX)
+}
+
+fn add_layer(
+    alloc: Global,
+    teller: &mut Teller,
+    plan: &DiePlan,
+    die: u32,
+    load: &Load,
+    policy: Policy,
+    measure: Measure,
+) -> Result<(), CompareFault> {
+    let Measure { slots, from, marks } = measure;
+    let played = match play(alloc, plan, load, policy, marks, slots, from) {
+        Ok(played) => played,
+        Err(tool_plain_layers::Fault::NoMemory) => return Err(Refusal::NoMemory.into()),
+        Err(fault) => return Err(CompareFault::WrongLayer { policy, fault }),
+    };
+    let ends = ends_of(alloc, played.completions.as_slice())?;
+    let play = Play {
+        policy: policy.name(),
+        die,
+        tasks: tasks_of(plan),
+        load,
+        ends: ends.as_slice(),
+        carried: Carried {
+            written: played.written,
+            copied: played.copied,
+            idle: played.idle,
+        },
+    };
+    teller.add(alloc, &play)?;
+    Ok(())
+}
+
+fn add_store(
+    alloc: Global,
+    teller: &mut Teller,
+    plan: &DiePlan,
+    die: u32,
+    run: &StoreDie,
+) -> Result<(), Refusal> {
+    let ends = run.ends(alloc)?;
+    let play = Play {
+        policy: "store",
+        die,
+        tasks: tasks_of(plan),
+        load: &run.load,
+        ends: ends.as_slice(),
+        carried: run.carried,
+    };
+    teller.add(alloc, &play)
+}
+
+fn add_stores(
+    alloc: Global,
+    teller: &mut Teller,
+    plan: &StorePlan,
+    dies: &[Box<StoreDie>],
+) -> Result<(), Refusal> {
+    let mut number: u32 = 0;
+    for (plan, die) in plan.as_slice().iter().zip(dies) {
+        add_store(alloc, teller, plan, number, die)?;
+        number = number.saturating_add(1);
+    }
+    Ok(())
+}
+
+fn add_layers(
+    alloc: Global,
+    teller: &mut Teller,
+    plan: &StorePlan,
+    dies: &[Box<StoreDie>],
+    policy: Policy,
+    measure: Measure,
+) -> Result<(), CompareFault> {
+    let mut number: u32 = 0;
+    for (plan, die) in plan.as_slice().iter().zip(dies) {
+        add_layer(alloc, teller, plan, number, &die.load, policy, measure)?;
+        number = number.saturating_add(1);
+    }
+    Ok(())
+}
+
+// That the die and the task of a picture are there.
+fn check_form(plan: &StorePlan, form: Form) -> Result<(), Refusal> {
+    let Form::Picture { die, task } = form else {
+        return Ok(());
+    };
+    match plan.as_slice().get(die as usize) {
+        None => Err(Refusal::UnknownDie),
+        Some(plan) if task >= tasks_of(plan) => Err(Refusal::UnknownTask),
+        Some(_) => Ok(()),
+    }
+}
+
+/// Runs a script on a store of dies in memory, as `flashrec run` does, and its jobs once more by each plain policy; and tells how
+/// late they were, as a table or records by policy, die and task, or as a picture. Counted are the jobs that are released from
+/// the first measured slot on and due within the slots of the run, and that the store takes or refuses for lack of tokens.
+///
+/// A picture of a die or a task that isn't there is UnknownDie or UnknownTask.
+pub fn compare<R: Read + Drop>(
+    alloc: Global,
+    plan: &StorePlan,
+    script: R,
+    measure: Measure,
+    form: Form,
+) -> Result<Vec<u8>, CompareFault>
+    requires { measure.slots ≤ MAX_SLOT }
+{
+    check_form(plan, form)?;
+    let script = ScriptReader::new(alloc, script, plan, measure.slots)?;
+    let mut dies = fresh_dies(alloc, plan, measure.from)?;
+    run_rows(alloc, script, dies.as_mut_slice(), measure.slots)?;
+    let mut teller = Teller::new(alloc, form, measure)?;
+    add_stores(alloc, &mut teller, plan, dies.as_slice())?;
+    for policy in Policy::ALL {
+        add_layers(alloc, &mut teller, plan, dies.as_slice(), policy, measure)?;
+    }
+    Ok(teller.finish(alloc, measure.marks.pool)?)
+}

@@ -1,0 +1,18 @@
+//! A script that is run on a store of dies in memory, and its jobs once more by each plain policy on the same blocks and slots:
+//! how late the jobs were, task by task, as a table or as a picture.
+//!
+//! Of the store "nothing late" is proved where its plan passes its test and is kept (docs/RULES.md); what is counted here is
+//! counted of one run, and of a plain layer nothing is proved.
+#![tactic(auto)]
+
+mod compares;
+mod curves;
+mod figures;
+mod forms;
+mod pictures;
+mod plays;
+mod store_dies;
+mod tables;
+
+pub use compares::{CompareFault, Measure, compare};
+pub use forms::Form;

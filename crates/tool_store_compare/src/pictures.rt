@@ -1,0 +1,279 @@
+//! The picture of a comparison, as SVG: of a task's jobs the share that was done later than so many slots after their deadline,
+//! a curve a policy.
+
+use crate::curves::{Axis, Corner, Curve, DECADE, HEIGHT, WIDTH};
+use slot_types::Refusal;
+use std::alloc::Global;
+use std::io;
+use std::io::Write;
+use tool_run_figures::Figure;
+
+/// What a picture is of.
+#[derive(Clone, Copy)]
+pub(crate) struct Caption {
+    pub(crate) die: u32,
+    pub(crate) task: u32,
+    pub(crate) from: u32,
+    pub(crate) slots: u32,
+    pub(crate) pool: usize,
+}
+
+/// Where the axes begin.
+const CORNER: Corner = Corner { x: 78, y: 62 };
+
+/// Curves that lie one upon the other.
+#[derive(Drop)]
+struct Group {
+    path: Vec<u8>,
+    /// The places of its curves.
+    curves: Vec<usize>,
+    /// In hundredths of a percent.
+    late: i64,
+}
+
+/// The styles. The lines differ in their dashes too, for prints without colour. On a screen that is dark, the picture is too.
+const STYLES: &str = "<style>
+svg{background:#fff;print-color-adjust:exact;-webkit-print-color-adjust:exact}
+text{font:13px sans-serif;fill:#222}
+.h{font-size:16px;font-weight:bold}
+.e{text-anchor:end}
+.m{text-anchor:middle}
+.s{fill:#555}
+.axis{stroke:#ddd}
+.due{stroke:#b00020;stroke-dasharray:4 3}
+.late{fill:#b00020;fill-opacity:.05}
+path{fill:none;stroke-width:2}
+.c0{stroke:#0b62a4;stroke-width:3.5}
+.c1{stroke:#b00020}
+.c2{stroke:#b26a00;stroke-dasharray:9 4}
+.c3{stroke:#8a4f9e;stroke-dasharray:2 3}
+.c4{stroke:#1b7837;stroke-dasharray:9 3 2 3}
+.c5{stroke:#222;stroke-dasharray:5 2}
+.c6{stroke:#7a7a7a;stroke-dasharray:1 2}
+@media screen and (prefers-color-scheme:dark){
+svg{background:#16181d}
+text{fill:#ddd}
+.s{fill:#aaa}
+.axis{stroke:#3a3f48}
+.c0{stroke:#5db0f0}
+.c1,.due{stroke:#ff8a96}
+.c2{stroke:#f0b050}
+.c3{stroke:#c99adb}
+.c4{stroke:#6bd08a}
+.c5{stroke:#eee}
+}
+</style>";
+
+// The place of the group with a path.
+fn place_of(groups: &[Group], path: &[u8]) -> Option<usize> {
+    for place in 0..groups.len() {
+        if groups[place].path.as_slice() == path {
+            return Some(place);
+        }
+    }
+    None
+}
+
+// A group of one curve.
+fn group_of(alloc: Global, path: Vec<u8>, place: usize, late: i64) -> io::Result<Group> {
+    let mut curves = Vec::new(alloc);
+    curves.push(place)?;
+    Ok(Group { path, curves, late })
+}
+
+// The curves, those that are equal together, in the order of their first ones.
+fn groups_of(alloc: Global, curves: &[Curve], axis: Axis) -> io::Result<Vec<Group>> {
+    let mut groups: Vec<Group> = Vec::new(alloc);
+    for place in 0..curves.len() {
+        let mut path = Vec::new(alloc);
+        curves[place].put_path(&mut path, axis, CORNER)?;
+        match place_of(groups.as_slice(), path.as_slice()) {
+            Some(same) if same < groups.len() => groups[same].curves.push(place)?,
+            _ => {
+                let group = group_of(alloc, path, place, curves[place].late())?;
+                groups.push(group)?;
+            }
+        }
+    }
+    Ok(groups)
+}
+
+fn put_head(text: &mut Vec<u8>, caption: Caption, jobs: usize) -> io::Result<()> {
+    let Caption {
+        die,
+        task,
+        from,
+        slots,
+        pool,
+    } = caption;
+    writeln!(
+        text,
+        "<title>Die {die}, task {task}: which share of its jobs is how late, by policy</title>"
+    )?;
+    writeln!(text, "{STYLES}")?;
+    writeln!(
+        text,
+        "<text class=\"h\" x=\"16\" y=\"24\">Die {die}, task {task}: how late its {jobs} jobs were in slots {from} to \
+         {slots}</text>"
+    )?;
+    writeln!(
+        text,
+        "<text class=\"s\" x=\"16\" y=\"44\">share that was done later than so many slots after its deadline, or refused; pool \
+         of {pool} blocks</text>"
+    )
+}
+
+/// The shares at the ends of the decades.
+const SHARES: [&str; 5] = ["100 %", "10 %", "1 %", "0.1 %", "0.01 %"];
+
+fn put_shares(text: &mut Vec<u8>) -> io::Result<()> {
+    let (left, right) = (CORNER.x, CORNER.x.saturating_add(WIDTH));
+    let label = left.saturating_sub(8);
+    let mut y = CORNER.y;
+    for share in SHARES {
+        let middle = y.saturating_add(4);
+        writeln!(
+            text,
+            "<path class=\"axis\" d=\"M{left},{y}H{right}\"/><text class=\"e\" x=\"{label}\" y=\"{middle}\">{share}</text>"
+        )?;
+        y = y.saturating_add(DECADE / 10);
+    }
+    Ok(())
+}
+
+// Where the axis of shares ends.
+fn bottom() -> u64 {
+    CORNER.y.saturating_add(HEIGHT / 10)
+}
+
+fn x_of(axis: Axis, lateness: i64) -> Option<i64> {
+    let pixel = axis.pixel_of(lateness)?;
+    Some(pixel.saturating_add(i64::from(CORNER.x)))
+}
+
+fn put_ticks(text: &mut Vec<u8>, axis: Axis) -> io::Result<()> {
+    let (tick, bottom) = (axis.tick(), bottom());
+    let (short, label) = (bottom.saturating_add(5), bottom.saturating_add(20));
+    let first = axis.low.checked_div_euclid(tick).unwrap_or(0);
+    for count in 0..13i64 {
+        let lateness = first.saturating_add(count).saturating_mul(tick);
+        if let Some(x) = x_of(axis, lateness) {
+            writeln!(
+                text,
+                "<path class=\"axis\" d=\"M{x},{bottom}V{short}\"/><text class=\"m\" x=\"{x}\" y=\"{label}\">{lateness}</text>"
+            )?;
+        }
+    }
+    let (x, y) = (
+        CORNER.x.saturating_add(WIDTH / 2),
+        bottom.saturating_add(40),
+    );
+    writeln!(
+        text,
+        "<text class=\"m s\" x=\"{x}\" y=\"{y}\">lateness in slots</text>"
+    )
+}
+
+// Shades what is late, where the axis shows any of it.
+fn put_late(text: &mut Vec<u8>, axis: Axis) -> io::Result<()> {
+    let Some(x) = x_of(axis, 0) else {
+        return Ok(());
+    };
+    let right = i64::from(CORNER.x.saturating_add(WIDTH));
+    let (top, bottom, height) = (CORNER.y, bottom(), HEIGHT / 10);
+    let width = right.saturating_sub(x).max(0);
+    let (after, y) = (x.saturating_add(5), bottom.saturating_sub(8));
+    writeln!(
+        text,
+        "<rect class=\"late\" x=\"{x}\" y=\"{top}\" width=\"{width}\" height=\"{height}\"/>"
+    )?;
+    writeln!(
+        text,
+        "<path class=\"due\" d=\"M{x},{top}V{bottom}\"/><text x=\"{after}\" y=\"{y}\">late</text>"
+    )
+}
+
+// Adds the names of a group below a height, and answers where they end.
+fn put_names(
+    text: &mut Vec<u8>,
+    curves: &[Curve],
+    place: usize,
+    group: &Group,
+    top: u64,
+) -> io::Result<u64> {
+    let line = top.saturating_sub(4);
+    writeln!(text, "<path class=\"c{place}\" d=\"M576,{line}H606\"/>")?;
+    let mut y = top;
+    for curve in group.curves.as_slice() {
+        let policy = match curves.get(*curve) {
+            Some(curve) => curve.policy,
+            None => "",
+        };
+        writeln!(text, "<text x=\"614\" y=\"{y}\">{policy}</text>")?;
+        y = y.saturating_add(18);
+    }
+    let late = Figure::Hundredths(group.late);
+    writeln!(
+        text,
+        "<text class=\"e\" x=\"748\" y=\"{top}\">{late} % late</text>"
+    )?;
+    Ok(y.saturating_add(6))
+}
+
+fn put_groups(text: &mut Vec<u8>, curves: &[Curve], groups: &[Group]) -> io::Result<()> {
+    let mut y = CORNER.y.saturating_add(12);
+    for place in 0..groups.len() {
+        let group = &groups[place];
+        text.write_all(b"<path class=\"c")?;
+        write!(text, "{place}")?;
+        text.write_all(b"\" d=\"")?;
+        text.write_all(group.path.as_slice())?;
+        text.write_all(b"\"/>\n")?;
+        y = put_names(text, curves, place, group, y)?;
+    }
+    Ok(())
+}
+
+// The curves of a picture, or that there are none.
+fn put_curves(alloc: Global, text: &mut Vec<u8>, curves: &[Curve]) -> io::Result<()> {
+    let axis = Axis::of(curves);
+    put_shares(text)?;
+    put_late(text, axis)?;
+    put_ticks(text, axis)?;
+    let groups = groups_of(alloc, curves, axis)?;
+    put_groups(text, curves, groups.as_slice())
+}
+
+fn put_picture(
+    alloc: Global,
+    text: &mut Vec<u8>,
+    caption: Caption,
+    curves: &[Curve],
+) -> io::Result<()> {
+    writeln!(
+        text,
+        "<svg xmlns=\"http://www.w3.org/2000/svg\" width=\"760\" height=\"400\" viewBox=\"0 0 760 400\">"
+    )?;
+    let jobs = match curves.first() {
+        Some(curve) => curve.rising.len(),
+        None => 0,
+    };
+    put_head(text, caption, jobs)?;
+    if jobs > 0 {
+        put_curves(alloc, text, curves)?;
+    }
+    writeln!(text, "</svg>")
+}
+
+/// Draws curves, as the text of an SVG picture. The only refusal is NoMemory.
+pub(crate) fn picture(
+    alloc: Global,
+    caption: Caption,
+    curves: &[Curve],
+) -> Result<Vec<u8>, Refusal> {
+    let mut text = Vec::new(alloc);
+    match put_picture(alloc, &mut text, caption, curves) {
+        Ok(()) => Ok(text),
+        Err(_) => Err(Refusal::NoMemory),
+    }
+}

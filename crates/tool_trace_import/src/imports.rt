@@ -1,0 +1,279 @@
+//! A script and a plan for the requests of a trace.
+
+use crate::faults::{LineFault, TraceFault};
+use crate::traces::{Action, Request, Trace, trace_of};
+use slot_types::Refusal;
+use std::alloc::Global;
+use std::io;
+use std::io::Write;
+
+/// What a trace is read by.
+#[derive(Clone, Copy, PartialEq, Eq, Debug, Drop)]
+pub struct Measure {
+    /// How many microseconds a slot takes; 0 is taken as 1.
+    pub slot_us: u32,
+    /// How many slots after it came a request is due; 0 is taken as 1.
+    pub due: u32,
+}
+
+/// Which text is made of a trace.
+#[derive(Clone, Copy, PartialEq, Eq, Debug, Drop)]
+pub enum Made {
+    Plan,
+    Script,
+}
+
+/// The part that a plan is made for.
+const PAGES: u32 = 64;
+
+const ERASE_SLOTS: u32 = 8;
+
+/// How many pages a collection gives.
+const ALPHA: u32 = 16;
+
+/// The most blocks of a die.
+const MOST_BLOCKS: u64 = 1024;
+
+/// The most jobs and collections of a die.
+const MOST_JOBS: usize = 65_536;
+
+/// What a task asks for.
+#[derive(Clone, Copy, Drop)]
+struct Task {
+    /// The most writes of a job.
+    most: u32,
+    /// How many writes there are, up to the slot behind its last job.
+    writes: u32,
+    end: u32,
+}
+
+impl Task {
+    const NOTHING: Task = Task {
+        most: 0,
+        writes: 0,
+        end: 0,
+    };
+
+    fn add(&mut self, request: &Request) {
+        self.end = self.end.max(request.slot.saturating_add(1));
+        if request.action == Action::Write {
+            self.most = self.most.max(request.pages);
+            self.writes = self.writes.saturating_add(request.pages);
+        }
+    }
+
+    fn cap(self) -> u32 {
+        self.most.saturating_add(ALPHA).saturating_mul(2)
+    }
+
+    // How far apart its collections come, so that they give back what it writes on the mean, and a tenth more; none where it
+    // writes nothing.
+    fn collect_period(self) -> Option<u32> {
+        let given = u64::from(ALPHA)
+            .saturating_mul(u64::from(self.end))
+            .saturating_mul(10);
+        let written = u64::from(self.writes).saturating_mul(11);
+        let period = given.checked_div(written)?;
+        Some(u32::try_from(period).unwrap_or(u32::MAX).max(1))
+    }
+}
+
+// What each task of a trace asks for.
+fn tasks_of(alloc: Global, trace: &Trace) -> Result<Vec<Task>, TraceFault> {
+    let mut tasks = vec![in alloc; Task::NOTHING; trace.tasks as usize]?;
+    for request in &trace.requests {
+        if let Some(task) = tasks.get_mut(request.task as usize) {
+            task.add(request);
+        }
+    }
+    Ok(tasks)
+}
+
+// The pages of all requests, each once, rising: a page by its task and its place in the file.
+fn pages_of(alloc: Global, trace: &Trace) -> Result<Vec<(u32, u64)>, TraceFault> {
+    let mut pages = Vec::new(alloc);
+    for request in &trace.requests {
+        for place in 0..request.pages {
+            let page = request.first.saturating_add(u64::from(place));
+            pages.reserve(1)?;
+            pages.push_reserved((request.task, page));
+        }
+    }
+    pages.as_mut_slice().sort(alloc)?;
+    pages.dedup();
+    Ok(pages)
+}
+
+// The least blocks that meet the bound for so many pages.
+fn blocks_for(tasks: &[Task], logical: usize) -> u64 {
+    let count = tasks.len() as u64;
+    let mut free = u64::from(ALPHA - 1).saturating_add(count.saturating_mul(u64::from(
+        PAGES - ALPHA,
+    )));
+    for task in tasks {
+        free = free.saturating_add(u64::from(task.cap()));
+    }
+    let closed = (logical as u64 / u64::from(PAGES - ALPHA + 1)).saturating_add(1);
+    closed
+        .saturating_add(free / u64::from(PAGES))
+        .saturating_add(count)
+}
+
+// A row: its slot, whether it is a job, and the place of the request, or the number of the task that collects.
+type Row = (u32, bool, u32);
+
+// The rows of a trace, in their order.
+fn rows_of(alloc: Global, trace: &Trace, tasks: &[Task]) -> Result<Vec<Row>, TraceFault> {
+    let mut rows = Vec::new(alloc);
+    let mut number: u32 = 0;
+    for task in tasks {
+        if let Some(period) = task.collect_period() {
+            let mut slot: u32 = 0;
+            for _ in 0..MOST_JOBS {
+                if slot >= task.end {
+                    break;
+                }
+                rows.reserve(1)?;
+                rows.push_reserved((slot, false, number));
+                slot = slot.saturating_add(period);
+            }
+        }
+        number = number.saturating_add(1);
+    }
+    let mut place: u32 = 0;
+    for request in &trace.requests {
+        if rows.len() >= MOST_JOBS {
+            return Err(TraceFault::Line {
+                line: request.line,
+                fault: LineFault::Jobs,
+            });
+        }
+        rows.reserve(1)?;
+        rows.push_reserved((request.slot, true, place));
+        place = place.saturating_add(1);
+    }
+    rows.as_mut_slice().sort(alloc)?;
+    Ok(rows)
+}
+
+// Adds the operations of a request. The sixteen bytes of a write name what is written: the task, the page, and the line.
+fn put_ops(text: &mut Vec<u8>, request: &Request, pages: &[(u32, u64)]) -> io::Result<()> {
+    for place in 0..request.pages {
+        if place > 0 {
+            text.write_all(b" ")?;
+        }
+        let key = (request.task, request.first.saturating_add(u64::from(place)));
+        let page = pages.partition_point(|known| *known < key);
+        let (task, line) = (request.task, request.line);
+        match request.action {
+            Action::Read => write!(text, "R{page}")?,
+            Action::Trim => write!(text, "T{page}")?,
+            Action::Write => write!(text, "W{page}={task:08x}{page:016x}{line:08x}")?,
+        }
+    }
+    Ok(())
+}
+
+fn put_script(
+    text: &mut Vec<u8>,
+    trace: &Trace,
+    tasks: &[Task],
+    pages: &[(u32, u64)],
+    rows: &[Row],
+    due: u32,
+) -> io::Result<()> {
+    text.write_all(b"at,die,task,kind,release,due,ops\n")?;
+    for (slot, is_job, of) in rows {
+        if !*is_job {
+            let period = match tasks.get(*of as usize) {
+                Some(task) => task.collect_period().unwrap_or(1),
+                None => 1,
+            };
+            let end = slot.saturating_add(period).min(slot_types::MAX_SLOT);
+            writeln!(text, "{slot},0,{of},collect,{slot},{end},")?;
+            continue;
+        }
+        let Some(request) = trace.requests.get(*of as usize) else {
+            continue;
+        };
+        let (task, end) = (request.task, slot.saturating_add(due));
+        write!(text, "{slot},0,{task},job,{slot},{end},")?;
+        put_ops(text, request, pages)?;
+        text.write_all(b"\n")?;
+    }
+    Ok(())
+}
+
+fn put_plan(
+    text: &mut Vec<u8>,
+    trace: &Trace,
+    tasks: &[Task],
+    logical: usize,
+    blocks: u64,
+    measure: Measure,
+) -> io::Result<()> {
+    let (requests, slot_us, due) = (trace.requests.len(), measure.slot_us, measure.due);
+    let mut slots: u32 = 0;
+    for task in tasks {
+        slots = slots.max(task.end);
+    }
+    let slots = slots.saturating_add(due);
+    writeln!(
+        text,
+        "# {requests} requests; a slot is {slot_us} us, each request is due after {due}: --slots {slots} runs them all"
+    )?;
+    writeln!(
+        text,
+        "version = 1\ndies = 1\nblocks = {blocks}\npages = {PAGES}\nerase_slots = {ERASE_SLOTS}\nlogical = {logical}\nalpha = {ALPHA}"
+    )?;
+    for task in tasks {
+        let cap = task.cap();
+        writeln!(text, "\n[[task]]\ndie = 0\ncap = {cap}")?;
+    }
+    Ok(())
+}
+
+/// Makes a script of fio's I/O logs (version 3: time in microseconds, file, action, offset, length), or the plan without times
+/// that it runs on. Each file is a task of die 0, and each request a job, whose pages of 4,096 bytes are numbered task by task,
+/// without those that no request has; a collection of each task that writes comes as often as its writes need on the mean, and
+/// a tenth more often. A fault names the first line that is at fault.
+pub fn import(
+    alloc: Global,
+    text: &[u8],
+    measure: Measure,
+    made: Made,
+) -> Result<Vec<u8>, TraceFault> {
+    let due = measure.due.max(1);
+    let slot_us = measure.slot_us.max(1);
+    let trace = trace_of(alloc, text, slot_us, due)?;
+    let tasks = tasks_of(alloc, &trace)?;
+    let pages = pages_of(alloc, &trace)?;
+    let blocks = blocks_for(tasks.as_slice(), pages.len());
+    if blocks > MOST_BLOCKS {
+        return Err(TraceFault::Blocks { blocks });
+    }
+    let rows = rows_of(alloc, &trace, tasks.as_slice())?;
+    let mut text = Vec::new(alloc);
+    let put = match made {
+        Made::Plan => put_plan(
+            &mut text,
+            &trace,
+            tasks.as_slice(),
+            pages.len(),
+            blocks,
+            Measure { slot_us, due },
+        ),
+        Made::Script => put_script(
+            &mut text,
+            &trace,
+            tasks.as_slice(),
+            pages.as_slice(),
+            rows.as_slice(),
+            due,
+        ),
+    };
+    match put {
+        Ok(()) => Ok(text),
+        Err(_) => Err(Refusal::NoMemory.into()),
+    }
+}

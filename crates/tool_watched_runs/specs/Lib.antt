@@ -1,0 +1,3 @@
+pub mod Briefs
+pub mod Wear
+pub mod WearText

@@ -1,0 +1,231 @@
+//! A die in memory that runs the rows of a script, and what is noted of it.
+
+ghost use Rattle.std.specs.Prelude.{◌≡◌, ◌+◌, ◌≤◌, [], IfOk, OnOk};
+ghost use Rattle.std.specs.Box.{box_value};
+ghost use Rattle.slot_types.specs.Refusal.{FailsForMemory};
+ghost use Rattle.plan_rules.specs.Bound.{MeetsBound};
+ghost use Rattle.die_log.specs.Model.Start.{fresh};
+ghost use Rattle.die_log.specs.Model.Log.{now};
+ghost use Rattle.tool_watched_runs.specs.Wear.{IsWearOf};
+
+use crate::{Level, Tally, Waiver, Whose, Window};
+use flash_die::MemoryNand;
+use slot_core::{DieCore, Stage};
+use slot_types::{DiePlan, Event, JobNo, Op, Refusal, SlotReply};
+use std::alloc::Global;
+use tool_run_figures::DieCounts;
+
+/// A die in memory, what its slots wore, and what was done in a window of them.
+#[derive(Drop)]
+pub struct DieRun {
+    /// Its number in the store.
+    pub die: u32,
+    /// In a box, since a die is large to move.
+    pub core: Box<DieCore<MemoryNand>>,
+    pub tally: Tally,
+    pub counts: DieCounts,
+    pub window: Window,
+    ghost worn: { IsWearOf (box_value core).start.plan.shape.blocks (box_value core).log tally },
+}
+
+/// A job or a collection of a die.
+pub fn whose(core: &DieCore<MemoryNand>, job: JobNo) -> Whose {
+    match core.job(job) {
+        Ok(head) => Whose {
+            job: job.0,
+            collects: head.collects,
+            task: head.task.0,
+        },
+        Err(_) => Whose {
+            job: job.0,
+            collects: false,
+            task: 0,
+        },
+    }
+}
+
+/// Notes in a window what was done in a slot. The only refusal is NoMemory.
+fn note(window: &mut Window, core: &DieCore<MemoryNand>, reply: &SlotReply) -> Result<(), Refusal>
+    ensures { FailsForMemory result }
+{
+    if !window.has(reply.slot) {
+        return Ok(());
+    }
+    for waived in reply.waived.as_slice() {
+        window.note_waived(Waiver {
+            slot: reply.slot,
+            whose: whose(core, waived.number),
+            given: waived.given,
+        })?;
+    }
+    match reply.ran {
+        Some((job, _)) => window.note_carried(reply, whose(core, job)),
+        None => Ok(()),
+    }
+}
+
+/// Counts what was done in a slot.
+fn count(counts: &mut DieCounts, core: &DieCore<MemoryNand>, reply: &SlotReply) {
+    for waived in reply.waived.as_slice() {
+        let task = whose(core, waived.number).task;
+        counts.note_waived(task, waived.given, reply.slot);
+    }
+    let Some((job, act)) = &reply.ran else {
+        counts.note_idle();
+        return;
+    };
+    let task = whose(core, *job).task;
+    counts.note_act(task, act);
+    if let Some(given) = given_by(core, reply.finished) {
+        counts.note_collected(task, given);
+    }
+}
+
+/// Notes in a window how many pages are spare after a slot, and how many tokens each task has. The only refusal is NoMemory.
+fn note_levels(window: &mut Window, counts: &DieCounts, slot: u32) -> Result<(), Refusal>
+    ensures { FailsForMemory result }
+{
+    if !window.has(slot) {
+        return Ok(());
+    }
+    window.note_level(Level {
+        slot,
+        series: 0,
+        pages: counts.spare(),
+    })?;
+    for task in 0..counts.tasks.len() {
+        window.note_level(Level {
+            slot,
+            series: task.saturating_add(1),
+            pages: counts.balance(task).unwrap_or(0),
+        })?;
+    }
+    Ok(())
+}
+
+/// The pages that a done collection gave its task; none of a job.
+fn given_by(core: &DieCore<MemoryNand>, finished: Option<JobNo>) -> Option<u32> {
+    let record = core.job_record(finished?)?;
+    match record.stage() {
+        Stage::Done { given, .. } if record.collects() => Some(given),
+        _ => None,
+    }
+}
+
+/// The task that a row asks for, how many pages it writes, and whether it collects.
+fn asked_of(event: &Event) -> (u32, u32, bool) {
+    match event {
+        Event::Submit { task, ops, .. } => {
+            let mut writes: u32 = 0;
+            for op in ops.as_slice() {
+                if let Op::Write(..) = op {
+                    writes = writes.saturating_add(1);
+                }
+            }
+            (task.0, writes, false)
+        }
+        Event::Collect { task, .. } => (task.0, 0, true),
+        Event::Slot => (0, 0, false),
+    }
+}
+
+impl DieRun {
+    /// A fresh die of a plan, of which a window is looked at. The only refusal is NoMemory.
+    pub fn new(alloc: Global, die: u32, plan: DiePlan, window: Window) -> Result<DieRun, Refusal>
+        requires { MeetsBound plan }
+        ensures start { IfOk result (λ run. (box_value run.core).start ≡ fresh plan) }
+        ensures log { IfOk result (λ run. (box_value run.core).log ≡ []) }
+        ensures die { IfOk result (λ run. run.die ≡ die) }
+        ensures refused { FailsForMemory result }
+    {
+        let tally = Tally::new(alloc, plan.shape.blocks)?;
+        let counts = DieCounts::new(alloc, &plan)?;
+        let nand = match MemoryNand::new(alloc, plan.shape) {
+            Ok(nand) => nand,
+            Err(_) => return Err(Refusal::NoMemory),
+        };
+        match DieCore::boxed(alloc, plan, nand) {
+            Ok(core) => Ok(DieRun {
+                die,
+                core,
+                tally,
+                counts,
+                window,
+            }),
+            Err(_) => Err(Refusal::NoMemory),
+        }
+    }
+
+    /// A fresh die as [`new`](DieRun::new) makes it, in a box, since a die is large to move. The only refusal is NoMemory.
+    pub fn boxed(
+        alloc: Global,
+        die: u32,
+        plan: DiePlan,
+        window: Window,
+    ) -> Result<Box<DieRun>, Refusal>
+        requires { MeetsBound plan }
+        ensures refused { FailsForMemory result }
+    {
+        let run = DieRun::new(alloc, die, plan, window)?;
+        Ok(Box::new(alloc, run)?)
+    }
+
+    /// Carries out the present slot.
+    fn step(&mut self, alloc: Global) -> Result<(), Refusal>
+        ensures start { (box_value self.new.core).start ≡ (box_value self.old.core).start }
+        ensures die { self.new.die ≡ self.old.die }
+        ensures slot { OnOk result (now (box_value self.new.core).log ≡ now (box_value self.old.core).log + 1) }
+    {
+        let reply = self.core.slot(alloc, 0)?;
+        // So many slots fit a number.
+        let _ = self.core.now();
+        self.tally.note(&reply);
+        count(&mut self.counts, &self.core, &reply);
+        note_levels(&mut self.window, &self.counts, reply.slot)?;
+        note(&mut self.window, &self.core, &reply)
+    }
+
+    /// Carries out slots until this one is the present one. The only refusal is NoMemory.
+    pub fn carry_to(&mut self, alloc: Global, slot: u32) -> Result<(), Refusal>
+        ensures start { (box_value self.new.core).start ≡ (box_value self.old.core).start }
+        ensures die { self.new.die ≡ self.old.die }
+        ensures slot { OnOk result (now (box_value self.old.core).log ≤ slot → now (box_value self.new.core).log ≡ slot) }
+    {
+        for _present in self.core.now()..slot {
+            self.step(alloc)?;
+        }
+        Ok(())
+    }
+
+    /// Asks for what a row says, and answers why it was refused, if it was.
+    pub fn ask(&mut self, alloc: Global, event: Event) -> Option<Refusal>
+        ensures start { (box_value self.new.core).start ≡ (box_value self.old.core).start }
+        ensures die { self.new.die ≡ self.old.die }
+        ensures slot { now (box_value self.new.core).log ≡ now (box_value self.old.core).log }
+    {
+        let (asked, writes, collects) = asked_of(&event);
+        let taken = match event {
+            Event::Submit {
+                task,
+                release,
+                due,
+                ops,
+            } => self.core.submit(alloc, 0, task, release, due, ops),
+            Event::Collect { task, release, due } => {
+                self.core.collect(alloc, 0, task, release, due)
+            }
+            // No row asks for a slot.
+            Event::Slot => return None,
+        };
+        match taken {
+            Ok(_) => {
+                self.counts.note_job(asked, writes, self.core.now());
+                None
+            }
+            Err(refusal) => {
+                self.counts.note_refused(asked, collects);
+                Some(refusal)
+            }
+        }
+    }
+}

@@ -1,0 +1,166 @@
+//! The head of a picture: its styles, what it is of, and what its colours and marks mean.
+
+use crate::kinds::{KINDS, class_of, name_of};
+use crate::pictures::{Scene, Worst};
+use std::io;
+use std::io::Write;
+
+/// The styles and the marks. The colours differ in brightness too, for prints without colour and for eyes that see less
+/// of it. On paper a picture is as wide as the page; on a screen that is dark, the picture is too.
+const STYLES: &str = "<style>
+@media print{svg{width:100%;height:auto}}
+svg{background:#fff;print-color-adjust:exact;-webkit-print-color-adjust:exact}
+text{font:11px sans-serif;fill:#222}
+.h{font-size:16px;font-weight:bold}
+.l{text-anchor:end}
+.n{text-anchor:middle;font-size:9px;fill:#666}
+.p{text-anchor:middle;font-size:9px;fill:#222;pointer-events:none}
+.late{fill:#b00020;font-weight:bold}
+.lane{fill:#f5f5f5}
+.tick{stroke:#ddd}
+.wait{stroke:#aaa;stroke-width:2}
+.gap{stroke:#8a4f9e;stroke-width:2;stroke-dasharray:3 2}
+.stretch{fill:#ffd9b3;fill-opacity:.6}
+.read{fill:#9fd3f5}
+.write{fill:#0b62a4}
+.trim{fill:#7a7a7a}
+.out{fill:#f7dc6f}
+.in{fill:#d98200}
+.erase{fill:#8a4f9e}
+.end{fill:#000}
+.w{fill:#fff}
+.spare{fill:none;stroke:#222;stroke-width:2}
+.tokens{fill:none;stroke:#0b62a4}
+@media screen and (prefers-color-scheme:dark){
+svg{background:#16181d}
+text{fill:#ddd}
+.n{fill:#aaa}
+.p{fill:#222}
+.w{fill:#fff}
+.late{fill:#ff8a96}
+.lane{fill:#20242b}
+.tick{stroke:#3a3f48}
+.stretch{fill:#a35a00}
+.write{fill:#2f8fd8}
+.end{fill:#fff}
+.spare{stroke:#eee}
+.tokens{stroke:#5db0f0}
+#release{stroke:#6bd08a}
+#due{stroke:#ff8a96}
+}
+</style>
+<defs>
+<path id=\"release\" d=\"M0,17V2M-3,6L0,1L3,6\" fill=\"none\" stroke=\"#1b7837\" stroke-width=\"1.5\"/>
+<path id=\"due\" d=\"M0,1V16M-3,12L0,17L3,12\" fill=\"none\" stroke=\"#b00020\" stroke-width=\"1.5\"/>
+<path id=\"waiver\" d=\"M0,3L5,9L0,15L-5,9Z\" fill=\"#fff\" stroke=\"#222\" stroke-width=\"1.5\"/>
+</defs>";
+
+/// Adds the styles and the marks.
+pub fn put_styles(text: &mut Vec<u8>) -> io::Result<()> {
+    writeln!(text, "{STYLES}")
+}
+
+/// Tells the worst one, and the busy interval of its certificate.
+fn put_worst(text: &mut Vec<u8>, worst: &Worst) -> io::Result<()> {
+    let Worst {
+        whose,
+        start,
+        due,
+        completion,
+        lateness,
+    } = worst;
+    let kind = whose.kind();
+    let (job, task) = (whose.job, whose.task);
+    writeln!(
+        text,
+        "<text x=\"10\" y=\"62\">Worst: {kind} {job} of task {task}, due {due}, completed {completion}, lateness {lateness}; \
+         from slot {start} on each slot carried work due by {due}.</text>"
+    )
+}
+
+/// A noun, as it stands after a number.
+pub fn noun(count: u32, one: &'static str, many: &'static str) -> &'static str {
+    if count == 1 { one } else { many }
+}
+
+/// Adds the counts of the whole run.
+fn put_counts(text: &mut Vec<u8>, scene: &Scene<'_>) -> io::Result<()> {
+    let slots = scene.slots;
+    let (written, copied, erased) = (scene.tally.written, scene.tally.copied, scene.tally.erased);
+    let in_slots = noun(slots, "slot", "slots");
+    let pages = noun(written, "page", "pages");
+    let blocks = noun(erased, "block", "blocks");
+    writeln!(
+        text,
+        "<text x=\"10\" y=\"44\">In all {slots} {in_slots}: {written} {pages} written by jobs, \
+         {copied} copied by collections, {erased} {blocks} erased. A number in a cell is its page, in an erase its block.</text>"
+    )
+}
+
+/// Adds what the picture is of, and the counts of the whole run.
+pub fn put_head(text: &mut Vec<u8>, scene: &Scene<'_>) -> io::Result<()> {
+    let (die, slots) = (scene.die, scene.slots);
+    let (from, to) = (scene.window.from, scene.window.to);
+    writeln!(
+        text,
+        "<title>Die {die}, slots {from} to {to} of {slots}</title>"
+    )?;
+    writeln!(
+        text,
+        "<text class=\"h\" x=\"10\" y=\"24\">Die {die}, slots {from} to {to} of {slots}</text>"
+    )?;
+    put_counts(text, scene)?;
+    match &scene.worst {
+        Some(worst) => put_worst(text, worst),
+        None => writeln!(text, "<text x=\"10\" y=\"62\">Nothing is done.</text>"),
+    }
+}
+
+/// Adds an item of the legend whose sample is a mark.
+fn put_mark(text: &mut Vec<u8>, x: u64, mark: &str, name: &str) -> io::Result<()> {
+    let after = x.saturating_add(10);
+    writeln!(
+        text,
+        "<use href=\"#{mark}\" x=\"{x}\" y=\"74\"/><text x=\"{after}\" y=\"87\">{name}</text>"
+    )
+}
+
+/// Adds an item of the legend whose sample is a cell.
+fn put_sample(text: &mut Vec<u8>, x: u64, class: &str, name: &str) -> io::Result<()> {
+    let after = x.saturating_add(18);
+    writeln!(
+        text,
+        "<rect class=\"{class}\" x=\"{x}\" y=\"77\" width=\"13\" height=\"12\"/><text x=\"{after}\" y=\"87\">{name}</text>"
+    )
+}
+
+/// Adds what the colours of the cells mean, and answers how far the legend goes.
+fn put_kinds(text: &mut Vec<u8>) -> io::Result<u64> {
+    let mut x: u64 = 10;
+    for kind in KINDS {
+        let name = name_of(kind);
+        put_sample(text, x, class_of(kind), name)?;
+        x = x
+            .saturating_add(36)
+            .saturating_add((name.len() as u64).saturating_mul(6));
+    }
+    Ok(x)
+}
+
+/// Adds what the colours and the marks mean.
+pub fn put_legend(text: &mut Vec<u8>) -> io::Result<()> {
+    let kinds = put_kinds(text)?;
+    put_sample(text, kinds, "stretch", "stretch of the worst")?;
+    writeln!(
+        text,
+        "<path class=\"gap\" d=\"M684,83h16\"/><text x=\"706\" y=\"87\">suspended erase</text>"
+    )?;
+    put_mark(text, 822, "release", "release")?;
+    put_mark(text, 896, "due", "due")?;
+    put_mark(text, 950, "waiver", "waived")?;
+    writeln!(
+        text,
+        "<path class=\"wait\" d=\"M1018,83h14\"/><text x=\"1038\" y=\"87\">waits</text>"
+    )?;
+    put_sample(text, 1088, "end", "done")
+}

@@ -1,0 +1,139 @@
+//! Curves below the bands: how many pages are spare, and how many tokens each task has.
+
+use crate::layouts::{Band, CURVES, LEFT, Layout};
+use crate::pictures::Scene;
+use crate::windows::Level;
+use std::alloc::Global;
+use std::io;
+use std::io::Write;
+
+/// What lies above a band's curves.
+const ABOVE: u64 = 8;
+
+/// The height of the greatest level.
+const HIGH: u64 = CURVES - ABOVE - 4;
+
+/// The greatest of some levels, at least 1.
+fn greatest_of(levels: &[Level]) -> u32 {
+    let mut greatest: u32 = 1;
+    for level in levels {
+        greatest = greatest.max(level.pages);
+    }
+    greatest
+}
+
+/// How many series some levels are of.
+fn series_in(levels: &[Level]) -> usize {
+    let mut count: usize = 0;
+    for level in levels {
+        count = count.max(level.series.saturating_add(1));
+    }
+    count
+}
+
+/// Of levels, from a place on, the place of the first one that isn't before a slot.
+fn place_of(levels: &[Level], from: usize, slot: u32) -> usize {
+    let mut place = from;
+    for next in from..levels.len() {
+        if levels[next].slot >= slot {
+            break;
+        }
+        place = next.saturating_add(1);
+    }
+    place
+}
+
+/// Takes levels as those that stand, by series.
+fn take(now: &mut Vec<u32>, levels: &[Level]) {
+    for level in levels {
+        if let Some(pages) = now.get_mut(level.series) {
+            *pages = level.pages;
+        }
+    }
+}
+
+/// Some of the levels.
+fn some_of(levels: &[Level], from: usize, to: usize) -> &[Level] {
+    match levels.get(from..to) {
+        Some(some) => some,
+        None => &[],
+    }
+}
+
+/// How far from the top a level of a band stands.
+fn height_of(band: &Band, pages: u32, greatest: u32) -> u64 {
+    let bottom = band.bottom().saturating_add(ABOVE).saturating_add(HIGH);
+    let high = u64::from(pages).saturating_mul(HIGH) / u64::from(greatest.max(1));
+    bottom.saturating_sub(high)
+}
+
+/// Draws the curve of a series in a band, which begins at a level, and what then changes.
+fn put_curve(
+    text: &mut Vec<u8>,
+    band: &Band,
+    cell: u32,
+    greatest: u32,
+    series: usize,
+    first: u32,
+    changes: &[Level],
+) -> io::Result<()> {
+    let class = if series == 0 { "spare" } else { "tokens" };
+    let (x, y) = (
+        band.x_of(band.first, cell),
+        height_of(band, first, greatest),
+    );
+    write!(text, "<path class=\"{class}\" d=\"M{x},{y}")?;
+    for level in changes {
+        if level.series == series {
+            let x = band.x_of(level.slot, cell);
+            let y = height_of(band, level.pages, greatest);
+            write!(text, "H{x}V{y}")?;
+        }
+    }
+    let end = band.x_of(band.end, cell);
+    write!(text, "H{end}\"><title>")?;
+    match series.checked_sub(1) {
+        Some(task) => write!(text, "tokens of task {task}")?,
+        None => write!(text, "spare pages")?,
+    }
+    writeln!(text, "</title></path>")
+}
+
+/// Names the curves of a band, and tells how high they go.
+fn put_names(text: &mut Vec<u8>, band: &Band, greatest: u32) -> io::Result<()> {
+    let x = LEFT.saturating_sub(8);
+    let y = band.bottom().saturating_add(ABOVE).saturating_add(17);
+    let below = y.saturating_add(14);
+    writeln!(
+        text,
+        "<text class=\"l\" x=\"{x}\" y=\"{y}\">spare (bold), tokens:</text><text class=\"l\" x=\"{x}\" y=\"{below}\">0 to \
+         {greatest} pages</text>"
+    )
+}
+
+/// Draws the curves of all bands.
+pub fn put_levels(
+    alloc: Global,
+    text: &mut Vec<u8>,
+    scene: &Scene<'_>,
+    layout: &Layout,
+) -> io::Result<()> {
+    let levels = scene.window.levels.as_slice();
+    let count = series_in(levels);
+    let greatest = greatest_of(levels);
+    let mut now = vec![in alloc; 0u32; count]?;
+    let mut read: usize = 0;
+    for band in &layout.bands {
+        let first = place_of(levels, read, band.first.saturating_add(1));
+        take(&mut now, some_of(levels, read, first));
+        read = place_of(levels, first, band.end);
+        let changes = some_of(levels, first, read);
+        put_names(text, band, greatest)?;
+        for series in 0..count {
+            let pages = now.get(series).copied().unwrap_or(0);
+            put_curve(text, band, layout.cell, greatest, series, pages, changes)?;
+        }
+        take(&mut now, changes);
+    }
+    Ok(())
+}

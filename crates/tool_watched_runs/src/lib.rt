@@ -1,0 +1,35 @@
+//! Scripts that are run row by row on dies in memory, slot by slot: what they wear, what they come to, and what is drawn of
+//! them.
+#![tactic(auto)]
+
+mod briefs;
+mod cells;
+mod die_runs;
+mod draws;
+mod kinds;
+mod lanes;
+mod layouts;
+mod legends;
+mod levels;
+mod pictures;
+mod refused;
+mod reports;
+mod rows;
+mod rulers;
+mod script_runs;
+mod tallies;
+mod terminals;
+mod wear_texts;
+mod windows;
+
+pub use briefs::{ActBrief, Kind, brief_of};
+pub use draws::{Shown, draw};
+pub use pictures::{Scene, Worst, picture};
+pub use refused::RefusedRows;
+pub use reports::report;
+pub use rows::{End, Row};
+pub use script_runs::{Sights, Told, wear};
+pub use tallies::Tally;
+pub use terminals::lines;
+pub use wear_texts::wear_text;
+pub use windows::{Carried, Level, Waiver, Whose, Window};

@@ -1,0 +1,113 @@
+//! Runs whose figures are printed.
+
+ghost use Rattle.std.specs.Prelude.{◌≤◌, All};
+ghost use Rattle.plan_rules.specs.Bound.{MeetsBound};
+
+use crate::die_runs::DieRun;
+use crate::script_runs::{Sights, Told, fresh_dies, run_rows};
+use flash_die::MemoryNand;
+use script_texts::ScriptReader;
+use slot_core::{DieCore, Stage};
+use slot_types::{JobNo, MAX_JOBS, MAX_SLOT, Refusal, StorePlan};
+use std::alloc::Global;
+use std::io;
+use std::io::Read;
+use tool_run_figures::{
+    DieFigures, Ended, JobEnd, Life, Record, Wearing, put_csv, put_header, put_table, records_of,
+};
+
+/// What became of the jobs and collections of a die, by their numbers. The only refusal is NoMemory.
+fn ends_of(alloc: Global, core: &DieCore<MemoryNand>) -> Result<Vec<JobEnd>, Refusal> {
+    let mut ends = Vec::new(alloc);
+    for number in 0..MAX_JOBS {
+        let Some(job) = core.job_record(JobNo(number)) else {
+            break;
+        };
+        let due = i64::from(job.due());
+        ends.reserve(1)?;
+        ends.push_reserved(JobEnd {
+            task: job.task().0,
+            collects: job.collects(),
+            ended: match job.stage() {
+                Stage::Pending => Ended::Waiting,
+                Stage::Waived { .. } => Ended::Waived,
+                Stage::Done { completion, .. } => Ended::Done {
+                    lateness: i64::from(completion).saturating_sub(due),
+                },
+            },
+        });
+    }
+    Ok(ends)
+}
+
+/// The records of a die. The only refusal is NoMemory.
+fn records_in(alloc: Global, run: &DieRun, life: Life) -> Result<Vec<Record>, Refusal> {
+    let ends = ends_of(alloc, &run.core)?;
+    let figures = DieFigures {
+        counts: &run.counts,
+        ends: ends.as_slice(),
+        wearing: Wearing::of(run.core.now(), run.tally.erases.as_slice()),
+        life,
+    };
+    Ok(records_of(alloc, &figures)?)
+}
+
+/// Adds the records of a die to a text.
+fn put_records(
+    alloc: Global,
+    text: &mut Vec<u8>,
+    die: u32,
+    records: &[Record],
+    as_csv: bool,
+) -> io::Result<()> {
+    if as_csv {
+        put_csv(text, die, records)
+    } else {
+        put_table(alloc, text, die, records)
+    }
+}
+
+/// What dies came to, as a text. The only refusal is NoMemory.
+fn report_text(
+    alloc: Global,
+    dies: &[Box<DieRun>],
+    life: Life,
+    as_csv: bool,
+) -> Result<Vec<u8>, Refusal> {
+    let mut text = Vec::new(alloc);
+    if as_csv && put_header(&mut text).is_err() {
+        return Err(Refusal::NoMemory);
+    }
+    for run in dies {
+        let records = records_in(alloc, run, life)?;
+        match put_records(alloc, &mut text, run.die, records.as_slice(), as_csv) {
+            Ok(()) => {}
+            Err(_) => return Err(Refusal::NoMemory),
+        }
+    }
+    Ok(text)
+}
+
+/// Runs a script on a store of dies in memory, and tells what it came to, by die and task: as a table for eyes, or as
+/// CSV. With an endurance and the length of a slot above 0, it tells when a block will be worn out.
+pub fn report<R: Read + Drop>(
+    alloc: Global,
+    plan: StorePlan,
+    script: R,
+    slots: u32,
+    life: Life,
+    as_csv: bool,
+) -> Result<Told, Refusal>
+    requires few { slots ≤ MAX_SLOT }
+    requires bound { All MeetsBound plan }
+{
+    let script = ScriptReader::new(alloc, script, &plan, slots)?;
+    let mut dies = fresh_dies(alloc, plan)?;
+    let refused = run_rows(alloc, script, &mut dies, slots)?;
+    let text = report_text(alloc, dies.as_slice(), life, as_csv)?;
+    Ok(Told {
+        text,
+        refused,
+        sights: Sights::NONE,
+    })
+}

@@ -1,0 +1,43 @@
+//! The jobs and collections that a picture shows.
+
+use crate::windows::{Whose, Window};
+
+/// What became of a job or a collection by the end of the run.
+#[derive(Clone, Copy, PartialEq, Eq, Debug, Drop)]
+pub enum End {
+    Waiting,
+    Done { completion: u32 },
+    Waived,
+}
+
+/// A job or a collection, as it was accepted, and what became of it.
+#[derive(Clone, Copy, PartialEq, Eq, Debug, Drop)]
+pub struct Row {
+    pub whose: Whose,
+    pub release: u32,
+    pub due: u32,
+    pub end: End,
+}
+
+impl Row {
+    /// The slot before which it waited no more, of a run of so many slots. Of one that was waived it is the one after
+    /// its release.
+    pub fn until(&self, slots: u32) -> u32 {
+        match self.end {
+            End::Waiting => slots,
+            End::Done { completion } => completion,
+            End::Waived => self.release.saturating_add(1),
+        }
+    }
+
+    /// The last slot in which it can be done in time.
+    pub fn last_in_time(&self) -> u32 {
+        self.due.saturating_sub(1)
+    }
+
+    /// Whether it waited in a slot of the window, or its deadline lies there, in a run of so many slots.
+    pub fn is_seen(&self, window: &Window, slots: u32) -> bool {
+        let waited = self.release < window.to && window.from < self.until(slots);
+        waited || window.has(self.last_in_time())
+    }
+}

@@ -1,0 +1,115 @@
+//! Scripts that are run, row by row, on dies in memory.
+
+ghost use Rattle.std.specs.Prelude.{◌≡◌, ◌≤◌, All, length, IfOk, IfErr, OnOk};
+ghost use Rattle.plan_rules.specs.Bound.{MeetsBound};
+
+use crate::die_runs::DieRun;
+use crate::refused::RefusedRows;
+use crate::{Tally, Window, wear_text};
+use script_texts::ScriptReader;
+use slot_types::{MAX_SLOT, Refusal, StorePlan};
+use std::alloc::Global;
+use std::io::Read;
+
+/// What of a run is worth a picture.
+#[derive(Clone, Copy, PartialEq, Eq, Debug, Drop)]
+pub struct Sights {
+    /// From which slot on, and before which one, the worst was carried, or what was due no later.
+    pub worst: Option<(u32, u32)>,
+    /// The slot in which the first collection reads or erases.
+    pub collection: Option<u32>,
+}
+
+/// What is reported of a run, as a text, and which rows were refused.
+#[derive(Drop)]
+pub struct Told {
+    pub text: Vec<u8>,
+    pub refused: RefusedRows,
+    pub sights: Sights,
+}
+
+impl Sights {
+    /// Nothing was seen.
+    pub const NONE: Sights = Sights {
+        worst: None,
+        collection: None,
+    };
+}
+
+/// A fresh die for each plan.
+pub fn fresh_dies(alloc: Global, plan: StorePlan) -> Result<Vec<Box<DieRun>>, Refusal>
+    requires { All MeetsBound plan }
+{
+    let mut dies = Vec::new(alloc);
+    let mut die: u32 = 0;
+    for plan in plan.into_vec() {
+        let run = DieRun::boxed(alloc, die, plan, Window::new(alloc, 0, 0))?;
+        dies.push(run)?;
+        die = die.saturating_add(1);
+    }
+    Ok(dies)
+}
+
+/// Runs the rows of a script on these dies, and then so many slots. Rows of other dies are passed over.
+pub fn run_rows<R: Read + Drop>(
+    alloc: Global,
+    mut script: ScriptReader<R>,
+    dies: &mut Vec<Box<DieRun>>,
+    slots: u32,
+) -> Result<RefusedRows, Refusal> {
+    let mut refused = RefusedRows::NONE;
+    for _ in 0..u64::MAX {
+        let Some(item) = script.next()? else {
+            break;
+        };
+        let (die, at) = (item.die, item.at);
+        let Some(place) = dies.iter().position(|run| run.die == die) else {
+            continue;
+        };
+        dies[place].carry_to(alloc, at)?;
+        if let Some(refusal) = dies[place].ask(alloc, item.event) {
+            refused.add(item.line, refusal);
+        }
+    }
+    for place in 0..dies.len() {
+        dies[place].carry_to(alloc, slots)?;
+    }
+    Ok(refused)
+}
+
+/// What a die wore, which is given up.
+fn tally_of(run: Box<DieRun>) -> Tally {
+    let DieRun { tally, .. } = Box::into_inner(run);
+    tally
+}
+
+/// What dies wore.
+fn tallies_of(alloc: Global, dies: Vec<Box<DieRun>>) -> Result<Vec<Tally>, Refusal> {
+    let mut tallies = Vec::new(alloc);
+    for run in dies {
+        tallies.push(tally_of(run))?;
+    }
+    Ok(tallies)
+}
+
+/// Runs a script on a store of dies in memory, and tells what it wore.
+pub fn wear<R: Read + Drop>(
+    alloc: Global,
+    plan: StorePlan,
+    script: R,
+    slots: u32,
+) -> Result<Told, Refusal>
+    requires few { slots ≤ MAX_SLOT }
+    requires bound { All MeetsBound plan }
+{
+    let script = ScriptReader::new(alloc, script, &plan, slots)?;
+    let mut dies = fresh_dies(alloc, plan)?;
+    let refused = run_rows(alloc, script, &mut dies, slots)?;
+    let tallies = tallies_of(alloc, dies)?;
+    let text = wear_text(alloc, &tallies)?;
+    Ok(Told {
+        text,
+        refused,
+        sights: Sights::NONE,
+    })
+}

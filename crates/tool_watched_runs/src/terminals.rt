@@ -1,0 +1,254 @@
+//! What the slots of a window carried, as lines for a terminal: a character a slot.
+
+ghost use Rattle.slot_types.specs.Refusal.{FailsForMemory};
+
+use crate::briefs::Kind;
+use crate::layouts::{Band, Layout};
+use crate::legends::noun;
+use crate::pictures::Scene;
+use crate::rows::{End, Row};
+use crate::windows::Whose;
+use slot_types::Refusal;
+use std::alloc::Global;
+use std::io;
+use std::io::Write;
+
+/// How wide the names of lanes are.
+const NAMES: usize = 32;
+
+/// How wide a slot of a picture is whose bands have 40 slots.
+const CELL: u32 = 25;
+
+/// What the characters mean.
+const LEGEND: &str =
+    "R read, W write, T trim; of a collection: r read, p program, e a part of an erase, w waived; . waits, \
+! waits past its deadline";
+
+fn sign_of(kind: Kind) -> u8 {
+    match kind {
+        Kind::Read => b'R',
+        Kind::Write => b'W',
+        Kind::Trim => b'T',
+        Kind::CopyRead => b'r',
+        Kind::CopyProgram => b'p',
+        Kind::Erase => b'e',
+    }
+}
+
+/// The characters of a band: so many in each lane.
+#[derive(Drop)]
+struct Grid {
+    first: u32,
+    width: usize,
+    signs: Vec<u8>,
+}
+
+impl Grid {
+    fn put(&mut self, lane: usize, slot: u32, sign: u8) {
+        let column = slot.saturating_sub(self.first) as usize;
+        if column >= self.width {
+            return;
+        }
+        let place = lane.saturating_mul(self.width).saturating_add(column);
+        if let Some(cell) = self.signs.get_mut(place) {
+            *cell = sign;
+        }
+    }
+
+    // The characters of a lane, without the blanks at its end.
+    fn lane(&self, lane: usize) -> &[u8] {
+        let first = lane.saturating_mul(self.width).min(self.signs.len());
+        let end = first.saturating_add(self.width).min(self.signs.len());
+        match self.signs.get(first..end) {
+            Some(signs) => signs.trim_ascii_end(),
+            None => &[],
+        }
+    }
+}
+
+/// A band of blanks for each of the layout.
+fn blanks(alloc: Global, layout: &Layout) -> Result<Vec<Grid>, Refusal>
+    ensures { FailsForMemory result }
+{
+    let mut grids = Vec::new(alloc);
+    for band in &layout.bands {
+        let width = band.end.saturating_sub(band.first) as usize;
+        let cells = width.saturating_mul(band.keys.len());
+        let grid = Grid {
+            first: band.first,
+            width,
+            signs: vec![in alloc; b' '; cells]?,
+        };
+        grids.push(grid)?;
+    }
+    Ok(grids)
+}
+
+/// Puts how long a row waits into the bands.
+fn put_wait(grids: &mut Vec<Grid>, layout: &Layout, row: &Row, scene: &Scene<'_>) {
+    if row.end == End::Waived {
+        return;
+    }
+    let first = row.release.max(scene.window.from);
+    let end = row.until(scene.slots).min(scene.window.to);
+    for slot in first..end {
+        let sign = if slot < row.due { b'.' } else { b'!' };
+        put_sign(grids, layout, slot, row.whose, sign);
+    }
+}
+
+/// Puts a character of a job into a slot.
+fn put_sign(grids: &mut Vec<Grid>, layout: &Layout, slot: u32, whose: Whose, sign: u8) {
+    let Some((band, lane)) = layout.place_of(slot, whose) else {
+        return;
+    };
+    if let Some(grid) = grids.get_mut(band) {
+        grid.put(lane, slot, sign);
+    }
+}
+
+/// Puts all that the window has into the bands.
+fn put_signs(grids: &mut Vec<Grid>, layout: &Layout, scene: &Scene<'_>) {
+    for row in scene.rows {
+        put_wait(grids, layout, row, scene);
+    }
+    for carried in &scene.window.carried {
+        put_sign(
+            grids,
+            layout,
+            carried.slot,
+            carried.whose,
+            sign_of(carried.brief.kind),
+        );
+    }
+    for waiver in &scene.window.waived {
+        put_sign(grids, layout, waiver.slot, waiver.whose, b'w');
+    }
+}
+
+/// Adds what the lines are of, the counts of the whole run, and the worst.
+fn put_head(text: &mut Vec<u8>, scene: &Scene<'_>) -> io::Result<()> {
+    let (die, slots) = (scene.die, scene.slots);
+    let (from, to) = (scene.window.from, scene.window.to);
+    writeln!(text, "Die {die}, slots {from} to {to} of {slots}")?;
+    let (written, copied, erased) = (scene.tally.written, scene.tally.copied, scene.tally.erased);
+    let in_slots = noun(slots, "slot", "slots");
+    let pages = noun(written, "page", "pages");
+    let blocks = noun(erased, "block", "blocks");
+    writeln!(
+        text,
+        "In all {slots} {in_slots}: {written} {pages} written by jobs, {copied} copied by collections, {erased} {blocks} erased."
+    )?;
+    let Some(worst) = &scene.worst else {
+        return writeln!(text, "Nothing is done.");
+    };
+    let (kind, job, task) = (worst.whose.kind(), worst.whose.job, worst.whose.task);
+    let (start, due, completion, lateness) = (
+        worst.start,
+        worst.due,
+        worst.completion,
+        worst.lateness,
+    );
+    writeln!(
+        text,
+        "Worst: {kind} {job} of task {task}, due {due}, completed {completion}, lateness {lateness}; from slot {start} on each \
+         slot carried work due by {due}."
+    )
+}
+
+/// Adds the slots of a band that end with 0.
+fn put_ruler(alloc: Global, text: &mut Vec<u8>, band: &Band) -> io::Result<()> {
+    put_name(text, b"slot")?;
+    let mut filled = band.first;
+    for slot in band.first..band.end {
+        if slot % 10 != 0 {
+            continue;
+        }
+        for _ in filled..slot {
+            text.push(b' ')?;
+        }
+        let number = slot.to_string(alloc)?;
+        text.write_all(number.as_bytes())?;
+        let width = u32::try_from(number.len()).unwrap_or(0);
+        filled = slot.saturating_add(width);
+    }
+    text.push(b'\n')?;
+    Ok(())
+}
+
+/// Adds a name, as wide as all are.
+fn put_name(text: &mut Vec<u8>, name: &[u8]) -> io::Result<()> {
+    text.write_all(name)?;
+    for _ in name.len()..NAMES {
+        text.push(b' ')?;
+    }
+    Ok(())
+}
+
+/// The name of a lane: of a job, or of a task's jobs or collections.
+fn name_of(alloc: Global, key: u32, layout: &Layout, scene: &Scene<'_>) -> io::Result<Vec<u8>> {
+    let mut name = Vec::new(alloc);
+    if layout.by_task {
+        let (task, what) = (key / 2, if key % 2 == 0 { "jobs" } else { "collections" });
+        write!(name, "task {task}: {what}")?;
+        return Ok(name);
+    }
+    for row in scene.rows {
+        if row.whose.job == key {
+            let (kind, task, due) = (row.whose.kind(), row.whose.task, row.due);
+            write!(name, "{kind} {key}, task {task}, due {due}")?;
+            break;
+        }
+    }
+    Ok(name)
+}
+
+/// Adds the lines of a band.
+fn put_band(
+    alloc: Global,
+    text: &mut Vec<u8>,
+    band: &Band,
+    grid: &Grid,
+    layout: &Layout,
+    scene: &Scene<'_>,
+) -> io::Result<()> {
+    text.push(b'\n')?;
+    put_ruler(alloc, text, band)?;
+    for lane in 0..band.keys.len() {
+        let name = name_of(alloc, band.keys[lane], layout, scene)?;
+        put_name(text, name.as_slice())?;
+        text.write_all(grid.lane(lane))?;
+        text.push(b'\n')?;
+    }
+    Ok(())
+}
+
+/// Adds all lines.
+fn put_lines(
+    alloc: Global,
+    text: &mut Vec<u8>,
+    grids: &[Grid],
+    layout: &Layout,
+    scene: &Scene<'_>,
+) -> io::Result<()> {
+    put_head(text, scene)?;
+    writeln!(text, "{LEGEND}")?;
+    for (band, grid) in layout.bands.iter().zip(grids) {
+        put_band(alloc, text, band, grid, layout, scene)?;
+    }
+    Ok(())
+}
+
+/// Writes what the slots of a window carried as lines for a terminal. The only refusal is NoMemory.
+pub fn lines(alloc: Global, scene: &Scene<'_>) -> Result<Vec<u8>, Refusal>
+    ensures { FailsForMemory result }
+{
+    let layout = Layout::of(alloc, scene.window, scene.rows, scene.slots, CELL)?;
+    let mut grids = blanks(alloc, &layout)?;
+    put_signs(&mut grids, &layout, scene);
+    let mut text = Vec::new(alloc);
+    match put_lines(alloc, &mut text, grids.as_slice(), &layout, scene) {
+        Ok(()) => Ok(text),
+        Err(_) => Err(Refusal::NoMemory),
+    }
+}
