@@ -9,14 +9,15 @@ ghost use Rattle.slot_types.specs.Shapes.{IsShape};
 ghost use Rattle.victim_pick.specs.Candidates.{count_of, HasNone, IsLeast};
 ghost use Rattle.page_map.specs.Placing.{blank_map, placing_without};
 ghost use Rattle.flash_die.specs.Flash.{IsFresh, blank, block_at, blocks_after_program, blocks_after_erase_slot};
-ghost use Rattle.flash_volume.specs.Cells.{filled_of, first_worn, is_wholly_free, is_worn_beyond, open_in, left_open, next_cell, content_at, contents, free_cells};
+ghost use Rattle.flash_volume.specs.Cells.{filled_of, first_worn, is_worn_beyond, open_in, left_open, next_cell, content_at, contents, free_cells};
 ghost use Rattle.flash_volume.specs.Array.{IsSoundArray, no_candidates, without_candidate};
 ghost use Rattle.flash_volume.specs.ArrayCalls.{HasPlaced, HasErased, EndsWithDevice};
 ghost use Rattle.flash_volume.specs.Acts.{IsFirstInBlock};
 
 use crate::candidates::{close_when_filled, leave};
+use crate::fills::Fills;
+use crate::placed_pages::PlacedPages;
 use flash_die::{Nand, NandCall};
-use page_map::PageMap;
 use slot_types::{PageData, Place, Refusal};
 use std::alloc::Global;
 use std::marker::Model;
@@ -30,9 +31,9 @@ use victim_pick::Victims;
 #[derive(Drop)]
 pub(crate) struct PageArray<N: Nand> {
     pub(crate) device: N,
-    pub(crate) map: PageMap,
+    pub(crate) placed: PlacedPages,
     /// By block how many of its cells are programmed.
-    pub(crate) fills: Vec<u32>,
+    pub(crate) fills: Fills,
     /// The open block. There is one at most.
     pub(crate) writing: Option<u32>,
     /// By block its finished erases.
@@ -48,10 +49,10 @@ impl<N: Nand> Model for PageArray<N> {
 
     ghost Value = { ArrayState N };
 
-    ghost view = { λ a. record { failed = a.failed; device = a.device; placing = a.map; candidates = a.victims } };
+    ghost view = { λ a. record { failed = a.failed; device = a.device; placing = a.placed; candidates = a.victims } };
 
     ghost invariant = { λ a. a.failed ≡ false
-        → IsSoundState (N.shape_of a.device) (N.failures a.device) (N.blocks a.device) a.map a.fills.items a.erases.items a.writing a.victims };
+        → IsSoundState (N.shape_of a.device) (N.failures a.device) (N.blocks a.device) a.placed a.fills a.erases.items a.writing a.victims };
 }
 
 impl<N: Nand> PageArray<N> {
@@ -72,8 +73,8 @@ impl<N: Nand> PageArray<N> {
         let shape = device.shape();
         Ok(PageArray {
             device,
-            map: PageMap::new(alloc, shape, logical)?,
-            fills: vec![in alloc; 0; shape.blocks as usize]?,
+            placed: PlacedPages::new(alloc, shape, logical)?,
+            fills: Fills::of(alloc, vec![in alloc; 0; shape.blocks as usize]?)?,
             erases: vec![in alloc; 0; shape.blocks as usize]?,
             writing: None,
             victims: Victims::new(alloc, shape.blocks, shape.pages)?,
@@ -92,7 +93,7 @@ impl<N: Nand> PageArray<N> {
     pub(crate) fn pages(&self) -> u32
         ensures { result ≡ length self.now.placing.places }
     {
-        self.map.pages()
+        self.placed.map().pages()
     }
 
     /// The device.
@@ -126,7 +127,7 @@ impl<N: Nand> PageArray<N> {
         ensures candidates { self.new.candidates ≡ self.old.candidates }
         ensures ends { EndsWithDevice N.shape_of N.failures N.never_fails result self.old self.new }
     {
-        match self.map.place(page) {
+        match self.placed.map().place(page) {
             None => Ok(PageData::BLANK),
             Some(place) => {
                 let bytes = self.device.read(place);
@@ -151,7 +152,7 @@ impl<N: Nand> PageArray<N> {
         ensures ends { EndsWithDevice N.shape_of N.failures N.never_fails result self.old self.new }
     {
         let place = self.next_cell();
-        let before = self.map.place(page);
+        let before = self.placed.map().place(page);
         match self.device.program(place, bytes) {
             Err(refusal) => {
                 self.failed = true;
@@ -159,13 +160,13 @@ impl<N: Nand> PageArray<N> {
             }
             Ok(()) => {
                 let filled = place.page + 1;
-                self.fills[place.block as usize] = filled;
+                self.fills.set(place.block, filled);
                 let pages = self.device.shape().pages;
                 let still_open = left_open(place.block, filled, pages);
                 self.writing = still_open;
-                self.map.bind(page, place);
+                self.placed.bind(page, place);
                 leave(&mut self.victims, before);
-                let valid = self.map.valid(place.block);
+                let valid = self.placed.map().valid(place.block);
                 let erases = self.erases[place.block as usize];
                 close_when_filled(&mut self.victims, place.block, filled, pages, valid, erases);
                 Ok(())
@@ -186,8 +187,8 @@ impl<N: Nand> PageArray<N> {
         ensures sound { IsSoundArray N.shape_of N.failures N.blocks self.new }
         ensures failed { self.new.failed ≡ false }
     {
-        let before = self.map.place(page);
-        self.map.unbind(page);
+        let before = self.placed.map().place(page);
+        self.placed.unbind(page);
         leave(&mut self.victims, before);
     }
 
@@ -215,7 +216,7 @@ impl<N: Nand> PageArray<N> {
             }
             Ok(false) => Ok(false),
             Ok(true) => {
-                self.fills[block as usize] = 0;
+                self.fills.set(block, 0);
                 self.erases[block as usize] += 1;
                 Ok(true)
             }
@@ -247,14 +248,14 @@ impl<N: Nand> PageArray<N> {
         requires { page < length self.now.placing.places }
         ensures { result ≡ place_of self.now.placing.places page }
     {
-        self.map.place(page)
+        self.placed.map().place(page)
     }
 
     /// Whether a page lies in this cell.
     pub(crate) fn lies(&self, page: u32, place: Place) -> bool
         ensures { result ≡ true ↔ place_of self.now.placing.places page ≡ Some place }
     {
-        self.map.lies(page, place)
+        self.placed.map().lies(page, place)
     }
 
     /// Of the pages that lie in a block the one that lies first, with its cell.
@@ -264,16 +265,17 @@ impl<N: Nand> PageArray<N> {
         ensures none { IfNone result ((page : ℕ) → page < self.now.placing.shape.pages
             → owner_of self.now.placing.places (record { block = block; page = page }) ≡ None) }
     {
-        match self.map.next_valid(block, 0) {
-            None => None,
-            Some(page) => {
-                let source = Place { block, page };
-                match self.map.owner(source) {
-                    Some(owner) => Some((owner, source)),
-                    None => None,
-                }
-            }
-        }
+        self.placed.first_page(block)
+    }
+
+    /// Later looks for the first page of this cell's block go on from the cell, before which no page lies in it.
+    pub(crate) fn pass(&mut self, cell: Place)
+        requires block { cell.block < self.old.placing.shape.blocks }
+        requires none { (page : ℕ) → page < cell.page
+            → owner_of self.old.placing.places (record { block = cell.block; page = page }) ≡ None }
+        ensures { self.new ≡ self.old }
+    {
+        self.placed.pass(cell);
     }
 
     /// The cell that is written next, while a cell is free.
@@ -284,11 +286,11 @@ impl<N: Nand> PageArray<N> {
     {
         let block = match self.writing {
             Some(block) => block,
-            None => first_wholly_free(&self.fills).unwrap_or(0) as u32,
+            None => self.fills.first_wholly_free().unwrap_or(0),
         };
         Place {
             block,
-            page: self.fills[block as usize],
+            page: self.fills.get(block),
         }
     }
 }
@@ -306,11 +308,4 @@ fn first_beyond(erases: &[u32], most: u32) -> Option<usize>
     ensures in_range { IfSome result (λ block. block < length erases.now) }
 {
     erases.iter().position(|count| *count > most)
-}
-
-fn first_wholly_free(fills: &[u32]) -> Option<usize>
-    ensures found { result ≡ position is_wholly_free fills.now }
-    ensures in_range { IfSome result (λ block. block < length fills.now) }
-{
-    fills.iter().position(|filled| *filled == 0)
 }

@@ -155,6 +155,7 @@ impl<N: Nand> Volume<N> {
         match self.array.read(page) {
             Err(refusal) => Err(refusal),
             Ok(bytes) => {
+                self.array.pass(source);
                 self.running[task.0 as usize] = Some(Collection {
                     victim: collection.victim,
                     buffer: Some(Copied {

@@ -71,7 +71,7 @@ impl<N: Nand> Volume<N> {
         ensures pages { self.now.pages ≡ contents (N.blocks self.now.device) self.now.places }
         ensures err { FailsForMemory result }
     {
-        let places = self.array.map.to_places(alloc)?;
+        let places = self.array.placed.map().to_places(alloc)?;
         let blocks = self.array.counts(alloc)?;
         let balances = Vec::from_slice(alloc, self.ledger.balances())?;
         Ok(Checkpoint {
@@ -93,12 +93,12 @@ impl<N: Nand> Volume<N> {
 impl<N: Nand> PageArray<N> {
     /// An array over a device to which these tables belong.
     fn over(device: N, tables: Tables) -> Self
-        requires { IsSoundState (N.shape_of device) (N.failures device) (N.blocks device) tables.map tables.fills.items tables.erases.items
+        requires { IsSoundState (N.shape_of device) (N.failures device) (N.blocks device) tables.placed tables.fills tables.erases.items
             tables.writing tables.victims }
-        ensures { result ≡ record { failed = false; device = device; placing = tables.map; candidates = tables.victims } }
+        ensures { result ≡ record { failed = false; device = device; placing = tables.placed; candidates = tables.victims } }
     {
         let Tables {
-            map,
+            placed,
             fills,
             writing,
             erases,
@@ -106,7 +106,7 @@ impl<N: Nand> PageArray<N> {
         } = tables;
         PageArray {
             device,
-            map,
+            placed,
             fills,
             writing,
             erases,
@@ -121,7 +121,7 @@ impl<N: Nand> PageArray<N> {
         ensures ok { IfOk result (λ counts. counts.items ≡ map counts_of (N.blocks self.now.device)) }
         ensures err { FailsForMemory result }
     {
-        counts_in(alloc, &self.fills, &self.erases)
+        counts_in(alloc, self.fills.as_slice(), &self.erases)
     }
 
     fn into_device(self) -> N
