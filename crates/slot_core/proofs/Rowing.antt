@@ -103,7 +103,7 @@ none_from first [] n r row at row_is is = none-some r at
 none_from first (x ∷ rs) zero r row at row_is is =
     let here : first + zero ≡ first = omega arith in
     some_row (sym (ap (λ (o : Option JobRow). cons_option o (rows_in (first + 1) rs))
-        (ap (row_in first) (same_Some x r at) ∙ (ap (λ (k : ℕ). row_in k r) (sym here) ∙ row_is))) ∙ is)
+    (ap (row_in first) (same_Some x r at) ∙ (ap (λ (k : ℕ). row_in k r) (sym here) ∙ row_is))) ∙ is)
 none_from first (x ∷ rs) (suc n) r row at row_is is =
     let next : (first + 1) + n ≡ first + suc n = omega arith in
     none_from (first + 1) rs n r row at (ap (λ (k : ℕ). row_in k r) next ∙ row_is) (no_more (row_in first x) (rows_in (first + 1) rs) is)
