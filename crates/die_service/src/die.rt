@@ -208,7 +208,7 @@ impl<N: Nand> Die<N> {
     /// What became of the job or collection of a number. May wait for the turn.
     ///
     /// `UnknownJob` where the log has none of that number; else `NoMemory` where it is done and memory is refused for
-    /// what its reads gave. Of one that waits or was waived no memory is taken.
+    /// what its reads gave. Where no read gave anything, no memory is taken.
     pub fn outcome<R: Wait>(
         &self,
         rt: &R,
