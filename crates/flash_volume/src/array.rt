@@ -118,8 +118,10 @@ impl<N: Nand> PageArray<N> {
     pub(crate) fn read(&mut self, page: u32) -> Result<PageData, Refusal>
         requires alive { self.old.failed ≡ false }
         requires page { page < length self.old.placing.places }
-        ensures page { IfOk result (λ bytes. bytes ≡ content_at (N.blocks self.old.device) (place_of self.old.placing.places page)) }
-        ensures unwritten { place_of self.old.placing.places page ≡ None → (result ≡ Ok blank) × (self.new ≡ self.old) }
+        ensures page { IfOk result (λ bytes.
+            bytes ≡ content_at (N.blocks self.old.device) (place_of self.old.placing.places page)) }
+        ensures unwritten { place_of self.old.placing.places page ≡ None
+            → (result ≡ Ok blank) × (self.new ≡ self.old) }
         ensures once { (place : Place) → place_of self.old.placing.places page ≡ Some place
             → N.ends self.old.device (NandCall.Read place) (is_ok result) self.new.device }
         ensures cells { OnOk result (N.blocks self.new.device ≡ N.blocks self.old.device) }
@@ -141,11 +143,15 @@ impl<N: Nand> PageArray<N> {
     pub(crate) fn write(&mut self, page: u32, bytes: PageData) -> Result<(), Refusal>
         requires alive { self.old.failed ≡ false }
         requires page { page < length self.old.placing.places }
-        requires free { 0 < free_cells (N.shape_of self.old.device).pages (N.blocks self.old.device) }
+        requires free { 0
+            < free_cells (N.shape_of self.old.device).pages (N.blocks self.old.device) }
         ensures once { N.ends self.old.device
-            (NandCall.Program (next_cell (N.shape_of self.old.device).pages (N.blocks self.old.device)) bytes) (is_ok result)
+            (NandCall.Program
+            (next_cell (N.shape_of self.old.device).pages (N.blocks self.old.device)) bytes)
+            (is_ok result)
             self.new.device }
-        ensures finds { IsSome (open_in (N.shape_of self.old.device).pages (N.blocks self.old.device)) }
+        ensures finds { IsSome
+            (open_in (N.shape_of self.old.device).pages (N.blocks self.old.device)) }
         ensures placed { OnOk result (HasPlaced N.shape_of N.blocks page bytes self.old self.new) }
         ensures sound { IsSoundArray N.shape_of N.failures N.blocks self.new }
         ensures stays { OnErr result (self.new.placing ≡ self.old.placing) }
@@ -197,13 +203,16 @@ impl<N: Nand> PageArray<N> {
     pub(crate) fn erase_slot(&mut self, block: u32) -> Result<bool, Refusal>
         requires alive { self.old.failed ≡ false }
         requires block { block < length (N.blocks self.old.device) }
-        requires closed { filled_of (block_at (N.blocks self.old.device) block) ≡ (N.shape_of self.old.device).pages }
+        requires closed { filled_of (block_at (N.blocks self.old.device) block)
+            ≡ (N.shape_of self.old.device).pages }
         requires unplaced { (page : ℕ) → page < (N.shape_of self.old.device).pages
             → owner_of self.old.placing.places (record { block = block; page = page }) ≡ None }
         requires taken { count_of self.old.candidates.counts block ≡ None }
         requires few_erases { (block_at (N.blocks self.old.device) block).erases < 4294967295 }
-        ensures once { N.ends self.old.device (NandCall.EraseSlot block) (is_ok result) self.new.device }
-        ensures erased { IfOk result (λ last. HasErased N.shape_of N.blocks block last self.old self.new) }
+        ensures once { N.ends self.old.device (NandCall.EraseSlot block) (is_ok result)
+            self.new.device }
+        ensures erased { IfOk result (λ last.
+            HasErased N.shape_of N.blocks block last self.old self.new) }
         ensures placing { self.new.placing ≡ self.old.placing }
         ensures candidates { self.new.candidates ≡ self.old.candidates }
         ensures sound { IsSoundArray N.shape_of N.failures N.blocks self.new }
@@ -229,7 +238,8 @@ impl<N: Nand> PageArray<N> {
         requires alive { self.old.failed ≡ false }
         requires some { HasNone self.old.candidates.counts → ⊥ }
         ensures least { IsLeast self.old.candidates.counts self.old.candidates.erases result }
-        ensures taken { self.new ≡ record self.old { candidates = without_candidate result self.old.candidates } }
+        ensures taken { self.new
+            ≡ record self.old { candidates = without_candidate result self.old.candidates } }
         ensures sound { IsSoundArray N.shape_of N.failures N.blocks self.new }
     {
         self.victims.take_least().unwrap()
@@ -238,7 +248,8 @@ impl<N: Nand> PageArray<N> {
     /// The candidate that `take_victim` would take away, if there is one.
     pub(crate) fn victim(&self) -> Option<u32>
         ensures none { IsNone result ↔ HasNone self.now.candidates.counts }
-        ensures least { IfSome result (IsLeast self.now.candidates.counts self.now.candidates.erases) }
+        ensures least { IfSome result
+            (IsLeast self.now.candidates.counts self.now.candidates.erases) }
     {
         self.victims.least()
     }
@@ -261,7 +272,8 @@ impl<N: Nand> PageArray<N> {
     /// Of the pages that lie in a block the one that lies first, with its cell.
     pub(crate) fn first_page(&self, block: u32) -> Option<(u32, Place)>
         requires { block < self.now.placing.shape.blocks }
-        ensures some { IfSome result (λ first. IsFirstInBlock self.now.placing.places block first.0 first.1) }
+        ensures some { IfSome result (λ first.
+            IsFirstInBlock self.now.placing.places block first.0 first.1) }
         ensures none { IfNone result ((page : ℕ) → page < self.now.placing.shape.pages
             → owner_of self.now.placing.places (record { block = block; page = page }) ≡ None) }
     {
@@ -281,7 +293,8 @@ impl<N: Nand> PageArray<N> {
     /// The cell that is written next, while a cell is free.
     pub(crate) fn next_cell(&self) -> Place
         requires alive { self.now.failed ≡ false }
-        requires free { 0 < free_cells (N.shape_of self.now.device).pages (N.blocks self.now.device) }
+        requires free { 0
+            < free_cells (N.shape_of self.now.device).pages (N.blocks self.now.device) }
         ensures { result ≡ next_cell (N.shape_of self.now.device).pages (N.blocks self.now.device) }
     {
         let block = match self.writing {

@@ -57,7 +57,8 @@ impl PlacedPages {
         requires cells { AreCells shape places.now }
         requires few_cells { shape.blocks * shape.pages < 2 ^ 32 }
         requires few { length places.now < 2 ^ 32 }
-        ensures ok { IfOk result (λ placed. placed ≡ record { shape = shape; places = places.now }) }
+        ensures ok { IfOk result (λ placed.
+            placed ≡ record { shape = shape; places = places.now }) }
         ensures err { FailsForMemory result }
     {
         let map = match PageMap::of_places(alloc, shape, places) {
@@ -98,7 +99,8 @@ impl PlacedPages {
     /// Of the pages that lie in a block the one that lies first, with its cell.
     pub(crate) fn first_page(&self, block: u32) -> Option<(u32, Place)>
         requires { block < self.now.shape.blocks }
-        ensures some { IfSome result (λ first. IsFirstInBlock self.now.places block first.0 first.1) }
+        ensures some { IfSome result (λ first.
+            IsFirstInBlock self.now.places block first.0 first.1) }
         ensures none { IfNone result ((page : ℕ) → page < self.now.shape.pages
             → owner_of self.now.places (record { block = block; page = page }) ≡ None) }
     {

@@ -33,7 +33,8 @@ impl<N: Nand> Volume<N> {
         requires fits { Fits plan checkpoint.now }
         requires shape { N.shape_of device ≡ plan.shape }
         requires left { IsAsLeft checkpoint.now (N.blocks device) (N.failures device) }
-        ensures ok { IfOk result (λ volume. volume ≡ resumed_volume N.blocks plan checkpoint.now device) }
+        ensures ok { IfOk result (λ volume.
+            volume ≡ resumed_volume N.blocks plan checkpoint.now device) }
         ensures err { IfErr result (λ returned. returned ≡ device) }
     {
         let tables = match Tables::of(alloc, &plan, checkpoint) {
@@ -93,9 +94,11 @@ impl<N: Nand> Volume<N> {
 impl<N: Nand> PageArray<N> {
     /// An array over a device to which these tables belong.
     fn over(device: N, tables: Tables) -> Self
-        requires { IsSoundState (N.shape_of device) (N.failures device) (N.blocks device) tables.placed tables.fills tables.erases.items
+        requires { IsSoundState (N.shape_of device) (N.failures device) (N.blocks device)
+            tables.placed tables.fills tables.erases.items
             tables.writing tables.victims }
-        ensures { result ≡ record { failed = false; device = device; placing = tables.placed; candidates = tables.victims } }
+        ensures { result
+            ≡ record { failed = false; device = device; placing = tables.placed; candidates = tables.victims } }
     {
         let Tables {
             placed,
@@ -118,7 +121,8 @@ impl<N: Nand> PageArray<N> {
     /// What a checkpoint says of the blocks.
     fn counts(&self, alloc: Global) -> Result<Vec<BlockCounts>, Refusal>
         requires alive { self.now.failed ≡ false }
-        ensures ok { IfOk result (λ counts. counts.items ≡ map counts_of (N.blocks self.now.device)) }
+        ensures ok { IfOk result (λ counts.
+            counts.items ≡ map counts_of (N.blocks self.now.device)) }
         ensures err { FailsForMemory result }
     {
         counts_in(alloc, self.fills.as_slice(), &self.erases)
@@ -135,7 +139,8 @@ impl<N: Nand> PageArray<N> {
 fn counts_in(alloc: Global, fills: &[u32], erases: &[u32]) -> Result<Vec<BlockCounts>, Refusal>
     requires { length erases.now ≡ length fills.now }
     ensures len { IfOk result (λ counts. length counts.items ≡ length fills.now) }
-    ensures each { IfOk result (λ counts. (block : ℕ) → block < length fills.now → counts_at counts.items block
+    ensures each { IfOk result (λ counts.
+        (block : ℕ) → block < length fills.now → counts_at counts.items block
         ≡ record { filled = slice_index fills.now block; erases = slice_index erases.now block }) }
     ensures err { FailsForMemory result }
 {

@@ -63,7 +63,8 @@ impl Tables {
 
 /// By block how many of its cells are programmed.
 fn fills_of(alloc: Global, blocks: &[BlockCounts]) -> Result<Vec<u32>, Refusal>
-    ensures ok { IfOk result (λ fills. fills.items ≡ map (λ (b : BlockCounts). b.filled) blocks.now) }
+    ensures ok { IfOk result (λ fills.
+        fills.items ≡ map (λ (b : BlockCounts). b.filled) blocks.now) }
     ensures err { FailsForMemory result }
 {
     let mut fills = vec![in alloc; 0; blocks.len()]?;
@@ -75,7 +76,8 @@ fn fills_of(alloc: Global, blocks: &[BlockCounts]) -> Result<Vec<u32>, Refusal>
 
 /// By block its finished erases.
 fn erases_of(alloc: Global, blocks: &[BlockCounts]) -> Result<Vec<u32>, Refusal>
-    ensures ok { IfOk result (λ erases. erases.items ≡ map (λ (b : BlockCounts). b.erases) blocks.now) }
+    ensures ok { IfOk result (λ erases.
+        erases.items ≡ map (λ (b : BlockCounts). b.erases) blocks.now) }
     ensures err { FailsForMemory result }
 {
     let mut erases = vec![in alloc; 0; blocks.len()]?;
@@ -104,8 +106,11 @@ fn closed_blocks(
 ) -> Result<Victims, Refusal>
     requires blocks { length blocks.now ≡ plan.now.shape.blocks }
     requires shape { map.now.shape ≡ plan.now.shape }
-    requires few { (block : ℕ) → count_by (is_in block) map.now.places ≤ (counts_at blocks.now block).filled }
-    ensures ok { IfOk result (λ victims. AreClosedBelow plan.now.shape.pages blocks.now map.now.places victims plan.now.shape.blocks) }
+    requires few { (block : ℕ) → count_by (is_in block) map.now.places
+        ≤ (counts_at blocks.now block).filled }
+    ensures ok { IfOk result (λ victims.
+        AreClosedBelow plan.now.shape.pages blocks.now map.now.places victims
+        plan.now.shape.blocks) }
     ensures err { FailsForMemory result }
 {
     let pages = plan.shape.pages;

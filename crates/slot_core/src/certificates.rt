@@ -68,10 +68,14 @@ impl<N: Nand> DieCore<N> {
     /// memory is taken.
     pub fn certificate(&self, alloc: Global) -> Result<Option<Certificate>, Refusal>
         ensures ok { IfOk result (λ built. built ≡ certificate self.now.start.plan self.now.log) }
-        ensures none { IfOk result (λ built. (built ≡ None) ↔ NothingDone self.now.start.plan self.now.log) }
-        ensures worst { IfOk result (λ built. IfSome built (IsOfWorst self.now.start.plan self.now.log)) }
-        ensures holds { IfOk result (λ built. IfSome built (HoldsOver self.now.start.plan self.now.log)) }
-        ensures binds { IfOk result (λ built. IfSome built (BindsAll self.now.start.plan self.now.log)) }
+        ensures none { IfOk result (λ built.
+            (built ≡ None) ↔ NothingDone self.now.start.plan self.now.log) }
+        ensures worst { IfOk result (λ built.
+            IfSome built (IsOfWorst self.now.start.plan self.now.log)) }
+        ensures holds { IfOk result (λ built.
+            IfSome built (HoldsOver self.now.start.plan self.now.log)) }
+        ensures binds { IfOk result (λ built.
+            IfSome built (BindsAll self.now.start.plan self.now.log)) }
         ensures nothing { NothingDone self.now.start.plan self.now.log → IsOk result }
         ensures refused { FailsForMemory result }
     {

@@ -103,11 +103,14 @@ impl<N: Nand> DieCore<N> {
     /// what its reads gave. Where no read gave anything (it waits, was waived, is a collection, or only wrote), no
     /// memory is taken.
     pub fn outcome(&self, alloc: Global, job: JobNo) -> Result<Outcome, Refusal>
-        ensures ok { IfOk result (λ outcome. outcome_at self.now.start self.now.log job ≡ Some outcome) }
+        ensures ok { IfOk result (λ outcome.
+            outcome_at self.now.start self.now.log job ≡ Some outcome) }
         ensures unknown { (result ≡ Err Refusal.UnknownJob) ↔ (job_at self.now.log job ≡ None) }
-        ensures nothing { (outcome : Outcome) → outcome_at self.now.start self.now.log job ≡ Some outcome
+        ensures nothing { (outcome : Outcome)
+            → outcome_at self.now.start self.now.log job ≡ Some outcome
             → reads_given outcome ≡ [] → IsOk result }
-        ensures refused { IfErr result (λ refusal. (refusal ≡ Refusal.UnknownJob) ⊎ (refusal ≡ Refusal.NoMemory)) }
+        ensures refused { IfErr result (λ refusal.
+            (refusal ≡ Refusal.UnknownJob) ⊎ (refusal ≡ Refusal.NoMemory)) }
     {
         match self.table.job(job) {
             None => Err(Refusal::UnknownJob),
