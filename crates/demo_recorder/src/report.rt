@@ -15,7 +15,9 @@ fn print_page<W: Write>(out: &mut W, page: PageData) -> io::Result<()> {
     if page == PageData::BLANK {
         return write!(out, "a blank page");
     }
-    write!(out, "life {} round {}", page.0[0], page.0[1])
+    let life = page.0[0];
+    let round = page.0[1];
+    write!(out, "life {life} round {round}")
 }
 
 /// Prints what a task was answered.

@@ -33,7 +33,7 @@ pub(crate) fn control(life: u8) -> Task {
     }
 }
 
-/// The logger has pages 1 to 5. In each life it writes the next one, and reads the one behind it, which it wrote four
+/// The logger has pages 1 to 5. In each life it writes the next one, and reads the one after that, which it wrote four
 /// lives before.
 pub(crate) fn logger(life: u8) -> Task {
     let turn = u32::from(life);
