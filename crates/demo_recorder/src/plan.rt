@@ -48,7 +48,7 @@ fn times(alloc: Global) -> Result<Times, Refusal> {
 }
 
 /// Two tasks, each with tokens for six free pages at most. Refused where the plan doesn't pass its test.
-fn die_plan(alloc: Global) -> Result<DiePlan, Refusal> {
+pub(crate) fn die_plan(alloc: Global) -> Result<DiePlan, Refusal> {
     let times = Some(times(alloc)?);
     let caps = Caps::from_vec(vec![in alloc; 6; 2]?);
     let plan = DiePlan {

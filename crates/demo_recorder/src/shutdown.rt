@@ -4,17 +4,13 @@ ghost use Rattle.std.specs.Prelude.{◌≡◌, ◌++◌, ◌∷◌, [], All, IfO
 ghost use Rattle.flash_volume.specs.Checkpoints.{IsAsLeft};
 ghost use Rattle.die_service.specs.Stores.{IsAtStart};
 
+use crate::plan::die_plan;
 use crate::stops::Stop;
 use die_checkpoint::Checkpoint;
 use flash_die::Nand;
 use slot_core::DieCore;
-use slot_types::{DiePlan, Refusal};
+use slot_types::Refusal;
 use std::alloc::Global;
-
-/// A copy of what a die is planned for.
-fn plan_of<N: Nand>(die: &DieCore<N>) -> Result<DiePlan, Refusal> {
-    Ok(die.plan().clone()?)
-}
 
 /// What stands on a die, which stays as it is. The device is just so.
 fn taken<N: Nand>(alloc: Global, die: &mut DieCore<N>) -> Result<Checkpoint, Stop>
@@ -26,30 +22,35 @@ fn taken<N: Nand>(alloc: Global, die: &mut DieCore<N>) -> Result<Checkpoint, Sto
     }
 }
 
-/// A die that goes on from a checkpoint, over the device that was left.
-fn resumed<N: Nand>(
-    alloc: Global,
-    plan: DiePlan,
-    device: N,
-    checkpoint: &Checkpoint,
-) -> Result<DieCore<N>, Stop>
+/// Gives a die up: what is kept is its device and its checkpoint.
+fn shut_down<N: Nand>(alloc: Global, die: DieCore<N>) -> Result<(N, Checkpoint), Stop>
+    ensures left { IfOk result (λ kept. IsAsLeft kept.1 (N.blocks kept.0) (N.failures kept.0)) }
+{
+    let mut die = die;
+    match taken(alloc, &mut die) {
+        Ok(checkpoint) => Ok((die.into_device(), checkpoint)),
+        Err(stop) => Err(stop),
+    }
+}
+
+/// A die that goes on from a checkpoint, over the device that was left, by the recorder's plan.
+fn resumed<N: Nand>(alloc: Global, device: N, checkpoint: &Checkpoint) -> Result<DieCore<N>, Stop>
     requires left { IsAsLeft checkpoint.now (N.blocks device) (N.failures device) }
     ensures start { IfOk result IsAtStart }
 {
+    let plan = die_plan(alloc)?;
     match DieCore::resume(alloc, plan, device, checkpoint) {
         Ok(die) => Ok(die),
         Err(no) => Err(Stop::NotResumed(no.refusal)),
     }
 }
 
-/// Gives a die up, and goes on from what is left of it.
+/// Shuts a die down, and goes on from what is kept of it.
 fn restarted<N: Nand>(alloc: Global, die: DieCore<N>) -> Result<DieCore<N>, Stop>
     ensures start { IfOk result IsAtStart }
 {
-    let mut die = die;
-    let plan = plan_of(&die)?;
-    let checkpoint = taken(alloc, &mut die)?;
-    resumed(alloc, plan, die.into_device(), &checkpoint)
+    let (device, checkpoint) = shut_down(alloc, die)?;
+    resumed(alloc, device, &checkpoint)
 }
 
 fn push_die<N: Nand>(dies: &mut Vec<DieCore<N>>, die: DieCore<N>) -> Result<(), Refusal>
