@@ -1,3 +1,4 @@
+pub mod Arguments
 pub mod Ranges
 pub mod Syntax
 pub mod Commands

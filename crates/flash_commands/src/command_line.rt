@@ -25,6 +25,19 @@ pub fn words_of<R: Env>(rt: &R, alloc: Global) -> Result<Vec<String>, Fault>
     }
 }
 
+/// The words of the command line, with this name in front, however the program was started. A word that isn't UTF-8 is
+/// `NotText`.
+pub fn own_words<R: Env>(rt: &R, alloc: Global, name: &str) -> Result<Vec<String>, Fault> {
+    let mut words = words_of(rt, alloc)?;
+    if let Some(first) = words.first_mut() {
+        match String::from_str(alloc, name) {
+            Ok(own) => *first = own,
+            Err(_) => return Err(Fault::Refused(Refusal::NoMemory)),
+        }
+    }
+    Ok(words)
+}
+
 /// Shows what clap answers in place of a command, and gives the status. Help and the version are written to standard
 /// output, and end with 0, or with 1, as `WriteFault`, where they can't be written. A fault of the words is written to
 /// standard error, and ends with 2.

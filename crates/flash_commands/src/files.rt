@@ -27,7 +27,12 @@ pub trait Folder {
         ensures refused { IfErr result (λ refusal. refusal ≡ Refusal.ReadFault) };
 }
 
-/// The files of the system. Nothing is known of what they hold.
+/// Where the file of a name is: `-` is standard input.
+pub fn path_of(name: &str) -> &str {
+    if name == "-" { "/dev/stdin" } else { name }
+}
+
+/// The files of the system; `-` is standard input. Nothing is known of what they hold.
 #[derive(Clone, Copy)]
 pub struct Disk<'a, R: Files> {
     files: &'a R,
@@ -44,7 +49,7 @@ impl<R: Files> Folder for Disk<'_, R> {
     type Reader = R::File;
 
     fn open(&self, name: &str) -> Result<R::File, Refusal> {
-        match fs::open(self.files, name) {
+        match fs::open(self.files, path_of(name)) {
             Ok(file) => Ok(file),
             Err(_) => Err(Refusal::ReadFault),
         }
@@ -74,7 +79,7 @@ impl<R: Read> Read for Source<R> {
 
 /// Opens the files of a command, all before any of them is read: that of the plan, or of the report, and then that of
 /// the script. They are what [`act`](crate::act) takes. The only refusal is `ReadFault`, for a file that can't be
-/// opened.
+/// opened, and for standard input (`-`) in the place of both, since it is read once.
 pub fn open<D: Folder>(
     folder: &D,
     command: Command<'_>,
@@ -89,6 +94,9 @@ pub fn open<D: Folder>(
             Ok((Source::File(first), Source::Nothing))
         }
         Command::Run { plan, script, .. } => {
+            if plan == "-" && script == "-" {
+                return Err(Refusal::ReadFault);
+            }
             let first = folder.open(plan)?;
             let second = folder.open(script)?;
             Ok((Source::File(first), Source::File(second)))

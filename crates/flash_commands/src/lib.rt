@@ -2,18 +2,27 @@
 #![tactic(auto)]
 
 pub mod acts;
+pub mod arguments;
 pub mod audits;
 pub mod command_line;
 pub mod commands;
 pub mod faults;
 pub mod figures;
 pub mod files;
+pub mod hints;
+pub mod number_faults;
+pub mod progress;
+pub mod record_lines;
 pub mod run_numbers;
 pub mod syntax;
 
 pub use acts::{act, carry_out};
-pub use command_line::{show, words_of};
+pub use command_line::{own_words, show, words_of};
 pub use commands::{Command, read_words};
 pub use faults::{Fault, end};
-pub use files::{Disk, Folder, Source, open};
+pub use files::{Disk, Folder, Source, open, path_of};
+pub use hints::{Heard, Texts, tell_more};
+pub use number_faults::{bad_number, value_of};
+pub use progress::{Shown, Watched, WatchedDisk};
+pub use record_lines::line_of_record;
 pub use run_numbers::{Slots, Workers};

@@ -1,45 +1,25 @@
 //! The words that the program takes.
 
-ghost use Rattle.std.specs.Prelude.{◌≡◌, false, codes, IfOk};
+ghost use Rattle.std.specs.Prelude.{◌≡◌, false, IfOk};
 ghost use Rattle.clap.specs.Words.{app_of, rule_of, with_subcommand};
-ghost use Rattle.flash_commands.specs.Syntax.{audit_app, files_app, flashrec_app, has_globals, named_app, required_rule, plan_app, run_app};
-ghost use Rattle.flash_commands.specs.Syntax.{slots_rule, workers_rule};
+ghost use Rattle.flash_commands.specs.Syntax.{audit_app, files_app, flashrec_app, has_globals, named_app, plan_app, run_app, workers_rule};
 
+use crate::arguments::{defaulted, plan_file, required, script_file, slots};
 use clap::{Arg, Command};
 use std::alloc::{AllocError, Global};
-
-/// How many slots each die runs.
-fn slots<'a>(alloc: Global) -> Arg<'a>
-    ensures rule { rule_of result ≡ slots_rule }
-    ensures local { result.global ≡ false }
-{
-    Arg::new(alloc, "slots")
-        .long("slots")
-        .value_name("N")
-        .required(true)
-        .help("How many slots each die runs, from 0 to 1048576 (required)")
-}
 
 /// How many workers run the dies.
 fn workers<'a>(alloc: Global) -> Arg<'a>
     ensures rule { rule_of result ≡ workers_rule }
     ensures local { result.global ≡ false }
 {
-    Arg::new(alloc, "workers")
-        .long("workers")
-        .value_name("W")
-        .default_value("1")
-        .help("How many workers run the dies, from 1 to 16")
-}
-
-/// The file that has the plan.
-fn plan_file<'a>(alloc: Global) -> Arg<'a>
-    ensures rule { rule_of result ≡ required_rule (codes "PLAN") }
-    ensures local { result.global ≡ false }
-{
-    Arg::new(alloc, "PLAN")
-        .required(true)
-        .help("The plan of the store, a TOML file")
+    defaulted(
+        alloc,
+        "workers",
+        "W",
+        "1",
+        "How many workers run the dies, from 1 to 16",
+    )
 }
 
 /// The command `run`, with its files.
@@ -47,14 +27,11 @@ fn run_files<'a>(alloc: Global) -> Result<Command<'a>, AllocError>
     ensures app { IfOk result (λ c. app_of c ≡ files_app) }
     ensures local { IfOk result (λ c. has_globals c ≡ false) }
 {
-    let script = Arg::new(alloc, "SCRIPT")
-        .required(true)
-        .help("The jobs and collections that the dies get, a CSV file");
     Command::new(alloc, "run")
         .about("Run a script on a store, and print its report")
         .after_help("Example: flashrec run plan.toml script.csv --slots 1000 --workers 2")
         .arg(plan_file(alloc))?
-        .arg(script)
+        .arg(script_file(alloc))
 }
 
 /// The command `run`.
@@ -70,9 +47,11 @@ fn audit_words<'a>(alloc: Global) -> Result<Command<'a>, AllocError>
     ensures app { IfOk result (λ c. app_of c ≡ audit_app) }
     ensures local { IfOk result (λ c. has_globals c ≡ false) }
 {
-    let report = Arg::new(alloc, "REPORT")
-        .required(true)
-        .help("A report, as run prints it");
+    let report = required(
+        alloc,
+        "REPORT",
+        "A report, as run prints it; - is standard input",
+    );
     Command::new(alloc, "audit")
         .about("Check the certificate of each die of a report")
         .after_help("Example: flashrec audit report.csv")
@@ -103,7 +82,9 @@ fn name<'a>(alloc: Global) -> Command<'a>
             "A real-time flash store. Without words it runs a plan and a script that are built in",
         )
         .after_help(
-            "Example: flashrec run plan.toml script.csv --slots 1000\n\
+            "Ends with 0 where all went well; with 1 where a text, a file or memory is refused; with 2 for a fault of the words;\n\
+             with 3 where a certificate is refused.\n\n\
+             Example: flashrec run plan.toml script.csv --slots 1000\n\
              docs/TEXTS.md has what plans, scripts and reports say",
         )
 }

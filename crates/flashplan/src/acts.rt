@@ -5,7 +5,9 @@ ghost use Rattle.flashplan.specs.Acts.{IsBroken, IsDone, IsHostFault, IsUnwritte
 ghost use Rattle.flashplan.specs.Acts.{PrintsPassingPlan, fit_status};
 ghost use Rattle.flashplan.specs.Commands.{FitsRun};
 
-use crate::checkpoint_acts::{Kept, Shelf, act_run, end_explained, print_explained_from};
+use crate::checkpoint_acts::{
+    Kept, Shelf, act_failing, act_run, end_explained, print_explained_from,
+};
 use crate::commands::Command;
 use flash_commands::{Fault, end};
 use plan_texts::{plan_text, read_plan_from};
@@ -20,8 +22,7 @@ use tool_plan_fit::{FitFault, fit};
 use tool_plan_keeping::{Verdict, keep, script_text, sentence};
 use tool_run_figures::Life;
 use tool_store_compare::{CompareFault, Form, Measure, compare};
-use tool_trace_import::{Made, Measure as TraceMeasure, TraceFault, import};
-use tool_watched_runs::{RefusedRows, Shown, Sights, draw, report, wear};
+use tool_watched_runs::{FailAt, Failure, RefusedRows, Shown, Sights, draw, report, wear};
 
 /// Tells a refusal, and answers the status. Where standard output takes no more, nothing is reported. A writer that
 /// fails is passed over.
@@ -232,14 +233,36 @@ fn print_report<P: Read + Drop, S: Read + Drop, W: Write>(
     slots: u32,
     life: Life,
     as_csv: bool,
+    fail: Option<FailAt>,
     out: &mut W,
-) -> Result<RefusedRows, Refusal>
+) -> Result<(RefusedRows, Option<Failure>), Refusal>
     requires slots { slots ≤ MAX_SLOT }
 {
     let store = read_plan_from(alloc, plan)?;
-    let told = report(alloc, store, script, slots, life, as_csv)?;
+    let told = report(alloc, store, script, slots, life, as_csv, fail)?;
     write_whole(out, &told.text)?;
-    Ok(told.refused)
+    Ok((told.refused, told.failure))
+}
+
+/// Tells what came of a report's run, and answers the status.
+fn end_report<E: Write>(err: &mut E, ran: Result<(RefusedRows, Option<Failure>), Refusal>) -> u8
+    ensures { result ≢ 3 }
+{
+    match ran {
+        Ok((refused, failure)) => {
+            tell_failure(err, failure);
+            end_run(err, Ok(refused))
+        }
+        Err(refusal) => end_refused(err, refusal),
+    }
+}
+
+/// What is reported of a run that was drawn.
+#[derive(Clone, Copy, Drop)]
+struct Drawn {
+    refused: RefusedRows,
+    sights: Sights,
+    failure: Option<Failure>,
 }
 
 /// Prints the picture of what the slots of a die carried.
@@ -250,14 +273,19 @@ fn print_drawn<P: Read + Drop, S: Read + Drop, W: Write>(
     slots: u32,
     die: u32,
     shown: Shown,
+    fail: Option<FailAt>,
     out: &mut W,
-) -> Result<(RefusedRows, Sights), Refusal>
+) -> Result<Drawn, Refusal>
     requires slots { slots ≤ MAX_SLOT }
 {
     let store = read_plan_from(alloc, plan)?;
-    let drawn = draw(alloc, store, script, slots, die, shown)?;
+    let drawn = draw(alloc, store, script, slots, die, shown, fail)?;
     write_whole(out, &drawn.text)?;
-    Ok((drawn.refused, drawn.sights))
+    Ok(Drawn {
+        refused: drawn.refused,
+        sights: drawn.sights,
+        failure: drawn.failure,
+    })
 }
 
 /// The most slots of a picture that is drawn without a warning.
@@ -282,13 +310,14 @@ fn warn_many<E: Write>(err: &mut E, slots: u32, sights: Sights) {
 }
 
 /// Tells what was drawn, and answers the status.
-fn end_drawn<E: Write>(err: &mut E, slots: u32, drawn: Result<(RefusedRows, Sights), Refusal>) -> u8
+fn end_drawn<E: Write>(err: &mut E, slots: u32, drawn: Result<Drawn, Refusal>) -> u8
     ensures { result ≢ 3 }
 {
     match drawn {
-        Ok((refused, sights)) => {
-            warn_many(err, slots, sights);
-            end_run(err, Ok(refused))
+        Ok(drawn) => {
+            warn_many(err, slots, drawn.sights);
+            tell_failure(err, drawn.failure);
+            end_run(err, Ok(drawn.refused))
         }
         Err(refusal) => end_refused(err, refusal),
     }
@@ -343,33 +372,22 @@ fn end_compared<E: Write>(err: &mut E, compared: Result<(), CompareFault>) -> u8
     }
 }
 
-/// Prints the script of a trace, or its plan.
-fn print_import<R: Read + Drop, W: Write>(
-    alloc: Global,
-    trace: R,
-    measure: TraceMeasure,
-    as_plan: bool,
-    out: &mut W,
-) -> Result<(), TraceFault> {
-    let trace = script_text(alloc, trace)?;
-    let made = if as_plan { Made::Plan } else { Made::Script };
-    let text = import(alloc, &trace, measure, made)?;
-    write_whole(out, &text)?;
-    Ok(())
-}
-
-/// Tells why a trace isn't taken, and answers the status. A writer that fails is passed over.
-fn end_import<E: Write>(err: &mut E, imported: Result<(), TraceFault>) -> u8
-    ensures { result ≢ 3 }
-{
-    match imported {
-        Ok(()) => 0,
-        Err(TraceFault::Refused(refusal)) => end_refused(err, refusal),
-        Err(fault) => {
-            let _ = writeln!(err, "error: {fault}");
-            1
-        }
-    }
+/// Tells in which slot a device failed that was to fail. A writer that fails is passed over.
+pub fn tell_failure<E: Write>(err: &mut E, failure: Option<Failure>) {
+    let Some(Failure { at, slot }) = failure else {
+        return;
+    };
+    let FailAt { die, call } = at;
+    let _ = match slot {
+        Some(slot) => writeln!(
+            err,
+            "die {die} failed in slot {slot}, at call {call} of its device"
+        ),
+        None => writeln!(
+            err,
+            "die {die} didn't fail: its device had fewer than {call} calls"
+        ),
+    };
 }
 
 /// Tells the rows that were refused, if there are any, and answers the status. A writer that fails is passed over.
@@ -399,9 +417,10 @@ pub fn end_run<E: Write>(err: &mut E, ran: Result<RefusedRows, Refusal>) -> u8
 /// `wear` prints what [`wear`](tool_watched_runs::wear) tells of the run of the script, `report` what
 /// [`report`](tool_watched_runs::report) does, and `draw` what [`draw`](tool_watched_runs::draw) draws of it, each whole; the
 /// status is 0, and where rows were refused, `err` gets a line, as `refused 1 first line 6 with 6`. `compare` prints
-/// the table, the records or the picture of [`compare`](tool_store_compare::compare), whole, and `import` the script or the plan
-/// that [`import`](tool_trace_import::import) makes of a trace, which stands in the place of the plan. `run` prints the report of
-/// dies that go on from a checkpoint, and has the checkpoint of their end written, as [`act_run`] says.
+/// the table, the records or the picture of [`compare`](tool_store_compare::compare), whole. `run` prints the report of
+/// dies that go on from a checkpoint, and has the checkpoint of their end written, as [`act_run`] says. Where a device is to
+/// fail, `err` gets a line that says in which slot it did, as `die 0 failed in slot 12, at call 7 of its device`, or that it
+/// didn't; the status stays, and rows that come later for its die are refused.
 ///
 /// No more of the plan is read than 1,048,577 bytes. Where a text is refused, memory runs out, or a reader or `out`
 /// fails, that is reported in a line to `err`, as `error 21 ReadFault`, and the status is 1; where `out` fails nothing
@@ -467,11 +486,12 @@ pub fn act<P: Read + Drop, S: Read + Drop, C: Read + Drop, K: Shelf, W: Write, E
             endurance,
             slot_us,
             as_csv,
+            fail,
             ..
         } => {
             let life = Life { endurance, slot_us };
-            let ran = print_report(alloc, plan, script, slots, life, as_csv, out);
-            end_run(err, ran)
+            let ran = print_report(alloc, plan, script, slots, life, as_csv, fail, out);
+            end_report(err, ran)
         }
         Command::Draw {
             slots,
@@ -480,6 +500,7 @@ pub fn act<P: Read + Drop, S: Read + Drop, C: Read + Drop, K: Shelf, W: Write, E
             to,
             worst,
             as_text,
+            fail,
             ..
         } => {
             let shown = Shown {
@@ -488,7 +509,7 @@ pub fn act<P: Read + Drop, S: Read + Drop, C: Read + Drop, K: Shelf, W: Write, E
                 worst,
                 as_text,
             };
-            let drawn = print_drawn(alloc, plan, script, slots, die, shown, out);
+            let drawn = print_drawn(alloc, plan, script, slots, die, shown, fail, out);
             let many = if worst || as_text {
                 0
             } else {
@@ -515,18 +536,14 @@ pub fn act<P: Read + Drop, S: Read + Drop, C: Read + Drop, K: Shelf, W: Write, E
             let compared = print_compared(alloc, plan, script, measure, form, out);
             end_compared(err, compared)
         }
-        Command::Import {
-            slot_us,
-            due,
-            as_plan,
+        Command::Run {
+            slots,
+            to,
+            fail,
             ..
-        } => {
-            let measure = TraceMeasure { slot_us, due };
-            let imported = print_import(alloc, plan, measure, as_plan, out);
-            end_import(err, imported)
-        }
-        Command::Run { slots, to, .. } => {
-            act_run(alloc, plan, script, kept, slots, to, out, err)
-        }
+        } => match fail {
+            Some(fail) => act_failing(alloc, plan, script, slots, fail, out, err),
+            None => act_run(alloc, plan, script, kept, slots, to, out, err),
+        },
     }
 }

@@ -1,9 +1,9 @@
 //! Runs that go on from a checkpoint, and end with one.
 
-ghost use Rattle.std.specs.Prelude.{◌≡◌, ◌≤◌, IfOk, length};
+ghost use Rattle.std.specs.Prelude.{◌≡◌, ◌≢◌, ◌≤◌, IfOk, OnOk, length};
 ghost use Rattle.flashplan.specs.Acts.{PrintsReport, PrintsRun, SaysOf, explained_status};
 
-use crate::acts::{end_refused, end_run};
+use crate::acts::{end_refused, end_run, tell_failure};
 use checkpoint_texts::{SavedStore, TextFault, read_checkpoint};
 use plan_texts::{plan_text, read_plan_from};
 use slot_types::{MAX_SLOT, Refusal};
@@ -11,10 +11,11 @@ use std::alloc::Global;
 use std::io::{Read, Write};
 use text_base::write_whole;
 use tool_checkpoint_runs::{
-    RunFault, StoreDies, StoreRun, Unsaved, explain as explain_checkpoint, run_script, save,
+    FailingRun, RunFault, StoreDies, StoreRun, Unsaved, explain as explain_checkpoint, run_failing,
+    run_script, save,
 };
 use tool_plan_design::explain;
-use tool_watched_runs::RefusedRows;
+use tool_watched_runs::{FailAt, Failure, RefusedRows};
 
 /// Where texts are put, by the names of files.
 pub trait Shelf {
@@ -56,6 +57,13 @@ struct PrintedRun {
     dies: StoreDies,
     refused: RefusedRows,
     idle: Vec<u32>,
+}
+
+/// What is reported of a run in which a device failed.
+#[derive(Clone, Copy, Drop)]
+struct FailingTold {
+    refused: RefusedRows,
+    failure: Failure,
 }
 
 /// Runs a script on the dies of a plan, and prints their report, which is made whole before its first byte.
@@ -169,6 +177,56 @@ pub fn act_run<P: Read + Drop, S: Read + Drop, C: Read + Drop, K: Shelf, W: Writ
     match to {
         Some(name) => put_checkpoint(alloc, ran.dies, shelf, name, err),
         None => 0,
+    }
+}
+
+/// Runs a script on fresh dies of a plan, the device of one of which fails, and prints the report, which is made whole before
+/// its first byte.
+fn print_failing<P: Read + Drop, S: Read + Drop, W: Write>(
+    alloc: Global,
+    plan: P,
+    script: S,
+    slots: u32,
+    fail: FailAt,
+    out: &mut W,
+) -> Result<FailingTold, Refusal>
+    requires slots { slots ≤ MAX_SLOT }
+    ensures printed { OnOk result (PrintsRun (W.contents out.old) (W.contents out.new)) }
+{
+    let store = read_plan_from(alloc, plan)?;
+    let FailingRun {
+        dies,
+        report,
+        refused,
+        failure,
+    } = run_failing(alloc, store, script, slots, fail)?;
+    report.write(out)?;
+    Ok(FailingTold { refused, failure })
+}
+
+/// Runs a script on fresh dies of a plan, the device of one of which fails, prints the report of what was done until then, and
+/// tells in which slot it failed. Answers the status: 0, or 1 where something was refused. A writer of `err` that fails is passed
+/// over.
+pub fn act_failing<P: Read + Drop, S: Read + Drop, W: Write, E: Write>(
+    alloc: Global,
+    plan: P,
+    script: S,
+    slots: u32,
+    fail: FailAt,
+    out: &mut W,
+    err: &mut E,
+) -> u8
+    requires slots { slots ≤ MAX_SLOT }
+    ensures printed { result ≡ 0 → PrintsRun (W.contents out.old) (W.contents out.new) }
+    ensures few { result ≢ 3 }
+{
+    match print_failing(alloc, plan, script, slots, fail, out) {
+        Ok(told) => {
+            tell_failure(err, Some(told.failure));
+            let _ = end_run(err, Ok(told.refused));
+            0
+        }
+        Err(refusal) => end_refused(err, refusal),
     }
 }
 

@@ -3,13 +3,12 @@ use Rattle.std.specs.Prelude.{List, map, Option, Some, None}
 use Rattle.slot_types.specs.declared.plans.DiePlan.{DiePlan}
 use Rattle.checkpoint_texts.specs.declared.saved.SavedDie.{SavedDie}
 use Rattle.die_log.specs.Model.Start.{Start, fresh}
-use Rattle.flash_die.specs.Memory.{Memory}
 use Rattle.slot_core.specs.Core.{Core}
 use Rattle.tool_checkpoint_runs.specs.SavedDies.{saved_starts}
 
 -- where the logs of dies start
-abbrev pub starts_of : List (Core Memory) → List Start
-starts_of dies = map (λ (die : Core Memory). die.start) dies
+abbrev pub starts_of : {N : Type 0} → List (Core N) → List Start
+starts_of {N} dies = map (λ (die : Core N). die.start) dies
 
 -- where the dies of a plan start: fresh, or as they were saved
 abbrev pub starts_by : List DiePlan → Option (List SavedDie) → List Start

@@ -16,7 +16,7 @@ returns-in_err-matches-clause-fault c =
 
 pub returns-clause-ok : goal.returns-clause-ok
 returns-clause-ok c =
-    c.command_met.ensures.asked
+    c.in_ok-met.ensures.asked
     ∙ ap command_asked_by ((c.in_ok-matches.ensures.ok.2 (ap is_simple c.requires ∙ simple_words)).1
     ∙ ap (λ a. subcommand_of a (map string_bytes c.args.words.now)) c.requires)
 
