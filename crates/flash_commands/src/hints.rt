@@ -39,12 +39,9 @@ pub struct Heard<W> {
     clears: bool,
     kept: [u8; KEPT],
     count: usize,
-    ghost few: { count ≤ 512 },
 }
 
 impl<W: Write> Heard<W> {
-    ghost use Rattle.std.specs.Prelude.{◌≤◌};
-
     pub fn new(to: W, clears: bool) -> Heard<W> {
         Heard {
             to,
@@ -73,7 +70,7 @@ impl<W: Write> Write for Heard<W> {
         for byte in buf.iter().take(taken) {
             if let Some(place) = self.kept.get_mut(self.count) {
                 *place = *byte;
-                self.count += 1;
+                self.count = self.count.saturating_add(1);
             }
         }
         Ok(taken)
@@ -163,7 +160,7 @@ fn words_of(line: &str) -> [&str; 6] {
     for word in line.split_ascii_whitespace() {
         if let Some(place) = words.get_mut(count) {
             *place = word;
-            count += 1;
+            count = count.saturating_add(1);
         }
     }
     words
@@ -184,9 +181,16 @@ fn tell_line<R: Files, W: Write>(files: &R, err: &mut W, line: &str, texts: Text
         ["error:", "the", "checkpoint,", "record", record, _] => {
             tell_record(files, err, texts.checkpoint, record, form);
         }
-        ["error:", "line", ..] => {
+        [name, "error", "20", _, record, _] => {
+            tell_record(files, err, name.strip_suffix(':'), record, form);
+        }
+        [name, "error", "21", ..] => tell_unopened(files, err, name.strip_suffix(':')),
+        ["error:", "line", line, ..] => {
             if let Some(name) = texts.other {
-                let _ = writeln!(err, "{name}: {form}");
+                let _ = writeln!(
+                    err,
+                    "{name}, line {line} flashplan import --help has the form"
+                );
             }
         }
         _ => {}
