@@ -16,7 +16,10 @@
  * those released that is due first (of equal ones, accepted first), has the slot.
  *
  * PAGES. A page has sixteen bytes here. They are the name of a payload of any size, which the driver moves: a digest of
- * it, or the number of a buffer that is kept in the page's spare area. */
+ * it, or the number of a buffer that is kept in the page's spare area.
+ *
+ * THE CHIP is erased before flash_new. It has to allow that several blocks are in erase at once, at most one a task, each
+ * suspended after any of its slots; pages of a block are programmed in rising order. The archive is built for x86-64. */
 #ifndef FLASH_H
 #define FLASH_H
 #include <stddef.h>

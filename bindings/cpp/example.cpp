@@ -41,6 +41,7 @@ template <class F> static uint32_t refused(F &&f) {
 int main() {
     const flash::plan plan{8, 4, 3, 16, 2, 0};
     check(refused([&] { flash::die(plan, {}); }) == FLASH_BAD_PLAN, "a plan without tasks");
+    check(refused([&] { flash::bound(plan, {}); }) == FLASH_BAD_PLAN, "its bound isn't met");
     flash::die first(plan, {{4, 0, 0, 0, 0}});
     flash::die die = std::move(first);
     chip cells;
@@ -69,7 +70,11 @@ int main() {
     left.places.pop_back();
     check(refused([&] { flash::die(plan, {{4, 0, 0, 0, 0}}, left); }) == FLASH_OTHER_SHAPE, "a page less than the plan has");
     die.submit(1, 0, 0, 2, {flash::read(5)});
-    { flash::slot let_go = die.begin(9); }
+    {
+        flash::slot moved_from = die.begin(9);
+        flash::slot let_go = std::move(moved_from);
+        check(refused([&] { moved_from.end(true); }) == FLASH_NOT_BEGUN, "a slot that was moved from isn't ended");
+    }
     check(refused([&] { die.begin(9); }) == FLASH_DIE_STOPPED, "a slot that is let go stops the die");
     std::cout << "all as it should be\n";
 }

@@ -1,7 +1,8 @@
 // A die of a proved flash translation layer with deadlines, for C++17: flash.h with types that see to its rules.
 //
 // A `flash::die` moves and isn't copied, and lets its die go. A `flash::slot` is a slot that has begun: it is ended by `end`,
-// or, where it is let go, as a fault, which stops the die if the device was to do something. What is refused is thrown as a `flash::refusal`. flash.h says what each call does.
+// or, where it is let go, as a fault, which stops the die if the device was to do something. What is refused is thrown as a
+// `flash::refusal`. flash.h says what each call does.
 #ifndef FLASH_HPP
 #define FLASH_HPP
 #include "flash.h"
@@ -77,20 +78,23 @@ struct checkpoint {
     std::uint32_t spare = 0;
 };
 
+// The items of a vector. That of an empty one may be null, which no pointer may be.
+template <class T> const T *items_of(const std::vector<T> &items) {
+    static const T none{};
+    return items.empty() ? &none : items.data();
+}
+
 // Whether flash::die takes the plan, and, of a plan with times, what it asks for.
-inline void bound(const plan &p, const std::vector<task> &tasks) { must(::flash_plan_bound(&p, tasks.data(), tasks.size())); }
+inline void bound(const plan &p, const std::vector<task> &tasks) { must(::flash_plan_bound(&p, items_of(tasks), tasks.size())); }
 inline ::flash_load plan_test(const plan &p, const std::vector<task> &tasks) {
     ::flash_load load{};
-    must(::flash_plan_test(&p, tasks.data(), tasks.size(), &load));
+    must(::flash_plan_test(&p, items_of(tasks), tasks.size(), &load));
     return load;
 }
 
 // FLASH_OK where the certificate holds for the rows, else its first flaw.
 inline std::uint32_t check(const std::vector<row> &rows, const certificate &c) {
-    static const row none{};
-    static const std::uint32_t nobody = 0; // no pointer may be null
-    return ::flash_check(rows.empty() ? &none : rows.data(), rows.size(), &c, c.listed.empty() ? &nobody : c.listed.data(),
-                         c.listed.size());
+    return ::flash_check(items_of(rows), rows.size(), &c, items_of(c.listed), c.listed.size());
 }
 
 class die;
@@ -114,8 +118,9 @@ public:
     // What the device is to do.
     const flash::call &call() const { return call_; }
 
-    // Ends it: whether the device did that, and the name of what a read gave.
+    // Ends it: whether the device did that, and the name of what a read gave. NOT_BEGUN where it was ended or moved from.
     reply end(bool ok, const name &gave = {}) {
+        if (!handle_) throw refusal(FLASH_NOT_BEGUN);
         reply told{};
         std::array<::flash_waived, 16> waived{};
         must(::flash_end(std::exchange(handle_, nullptr), ok ? 1 : 0, &gave, &told, waived.data(), waived.size()));
@@ -136,8 +141,7 @@ class die {
 public:
     die(const plan &p, const std::vector<task> &tasks) {
         auto made = new ::flash_die{nullptr};
-        static const task none{};
-        std::uint32_t code = ::flash_new(made, &p, tasks.empty() ? &none : tasks.data(), tasks.size());
+        std::uint32_t code = ::flash_new(made, &p, items_of(tasks), tasks.size());
         if (code != FLASH_OK) {
             delete made;
             throw refusal(code);
@@ -150,17 +154,10 @@ public:
     // A die that goes on from a checkpoint. The chip has to be as that says.
     die(const plan &p, const std::vector<task> &tasks, const checkpoint &c) {
         auto made = new ::flash_die{nullptr};
-        static const task none{};
-        static const ::flash_place nowhere{FLASH_NOWHERE, 0};
-        static const name blank{};
-        static const ::flash_block free_block{};
-        static const std::uint32_t nothing = 0;
         ::flash_why why{0, 0};
-        std::uint32_t code = ::flash_resume(
-            made, &p, tasks.empty() ? &none : tasks.data(), tasks.size(), c.places.empty() ? &nowhere : c.places.data(),
-            c.places.size(), c.names.empty() ? &blank : c.names.data(), c.names.size(),
-            c.blocks.empty() ? &free_block : c.blocks.data(), c.blocks.size(),
-            c.balances.empty() ? &nothing : c.balances.data(), c.balances.size(), c.spare, &why);
+        std::uint32_t code = ::flash_resume(made, &p, items_of(tasks), tasks.size(), items_of(c.places), c.places.size(),
+                                            items_of(c.names), c.names.size(), items_of(c.blocks), c.blocks.size(),
+                                            items_of(c.balances), c.balances.size(), c.spare, &why);
         if (code != FLASH_OK) {
             delete made;
             throw refusal(code, why);
@@ -188,8 +185,7 @@ public:
     std::uint32_t submit(std::uint32_t caller, std::uint32_t task, std::uint32_t release, std::uint32_t due, const std::vector<op> &ops) {
         std::uint32_t number = 0;
         ::flash_why why{0, 0};
-        static const op none{};
-        must(::flash_submit(handle_, caller, task, release, due, ops.empty() ? &none : ops.data(), ops.size(), &number, &why), why);
+        must(::flash_submit(handle_, caller, task, release, due, items_of(ops), ops.size(), &number, &why), why);
         return number;
     }
 

@@ -65,7 +65,8 @@ pub fn whole(gathered: Gathered, line: u32) -> Result<SavedStore, TextFault>
 
 /// Ends the die at hand.
 fn end_die(alloc: Global, gathered: &mut Gathered, spare: u32) -> Result<(), Refusal>
-    ensures ok { OnOk result (gathered.new ≡ between (gathered.old.done ++ die_at_hand gathered.old spare ∷ [])) }
+    ensures ok { OnOk result (gathered.new
+        ≡ between (gathered.old.done ++ die_at_hand gathered.old spare ∷ [])) }
     ensures refused { FailsForMemory result }
 {
     let die = SavedDie {
@@ -121,7 +122,8 @@ pub fn gather(
     fields: &ByteRecord,
     line: u32,
 ) -> Result<(), TextFault>
-    ensures { Shows (λ _. gathered.new) result (with_record line gathered.old (fields_of fields.now)) }
+    ensures { Shows (λ _.
+        gathered.new) result (with_record line gathered.old (fields_of fields.now)) }
 {
     let item = item_in(line, fields)?;
     add(alloc, gathered, item, line)

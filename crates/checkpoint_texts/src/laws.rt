@@ -9,7 +9,8 @@ ghost use Rattle.checkpoint_texts.specs.declared.saved.SavedDie.{SavedDie};
 /// The text of a checkpoint reads as the checkpoint: whatever is written of one to eight dies within the limits is read
 /// back the same.
 pub fn checkpoints_come_back()
-    ensures { (store : List SavedDie) → IsStore store → checkpoint_of (checkpoint_text store) ≡ Ok store }
+    ensures { (store : List SavedDie) → IsStore store
+        → checkpoint_of (checkpoint_text store) ≡ Ok store }
 {}
 
 /// A reader's bound admits each checkpoint that is written of one to eight dies within the limits: it is at most as

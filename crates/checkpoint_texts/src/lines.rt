@@ -26,7 +26,8 @@ fn put_number(text: &mut Vec<u8>, number: u32) -> io::Result<()>
 /// Adds the record of the header.
 #[tactic(auto, unfolding(csv::specs::Writing::fields_text, csv::specs::Writing::is_blank))]
 pub fn put_header(text: &mut Vec<u8>) -> io::Result<()>
-    ensures { OnOk result (text.new.items ≡ text.old.items ++ row_text default_writer header_record) }
+    ensures { OnOk result (text.new.items
+        ≡ text.old.items ++ row_text default_writer header_record) }
 {
     text.extend_from_slice(b"checkpoint,1\n")?;
     Ok(())
@@ -59,7 +60,8 @@ fn put_bytes(text: &mut Vec<u8>, bytes: Option<PageData>) -> io::Result<()>
 
 /// Adds the record of a page.
 pub fn put_saved_page(text: &mut Vec<u8>, page: &SavedPage) -> io::Result<()>
-    ensures { OnOk result (text.new.items ≡ text.old.items ++ row_text default_writer (page_record page.now)) }
+    ensures { OnOk result (text.new.items
+        ≡ text.old.items ++ row_text default_writer (page_record page.now)) }
 {
     text.extend_from_slice(b"page")?;
     put_place(text, page.place)?;
@@ -70,7 +72,8 @@ pub fn put_saved_page(text: &mut Vec<u8>, page: &SavedPage) -> io::Result<()>
 
 /// Adds the record of a block.
 pub fn put_block(text: &mut Vec<u8>, block: &BlockCounts) -> io::Result<()>
-    ensures { OnOk result (text.new.items ≡ text.old.items ++ row_text default_writer (block_record block.now)) }
+    ensures { OnOk result (text.new.items
+        ≡ text.old.items ++ row_text default_writer (block_record block.now)) }
 {
     text.extend_from_slice(b"block")?;
     put_number(text, block.filled)?;
@@ -81,7 +84,8 @@ pub fn put_block(text: &mut Vec<u8>, block: &BlockCounts) -> io::Result<()>
 
 /// Adds the record of a task's balance.
 pub fn put_task(text: &mut Vec<u8>, balance: u32) -> io::Result<()>
-    ensures { OnOk result (text.new.items ≡ text.old.items ++ row_text default_writer (task_record balance)) }
+    ensures { OnOk result (text.new.items
+        ≡ text.old.items ++ row_text default_writer (task_record balance)) }
 {
     text.extend_from_slice(b"task")?;
     put_number(text, balance)?;
@@ -91,7 +95,8 @@ pub fn put_task(text: &mut Vec<u8>, balance: u32) -> io::Result<()>
 
 /// Adds the record that ends a die.
 pub fn put_end(text: &mut Vec<u8>, number: u32, spare: u32) -> io::Result<()>
-    ensures { OnOk result (text.new.items ≡ text.old.items ++ row_text default_writer (end_record number spare)) }
+    ensures { OnOk result (text.new.items
+        ≡ text.old.items ++ row_text default_writer (end_record number spare)) }
 {
     text.extend_from_slice(b"die")?;
     put_number(text, number)?;

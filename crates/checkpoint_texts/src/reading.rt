@@ -29,9 +29,11 @@ const MAX_RECORDS: u32 = 2_105_481;
 /// Takes the next record, if there is one.
 fn next<R: Read>(rows: &mut Reader<Bounded<R>>, row: &mut ByteRecord) -> Result<bool, TextFault>
     requires { IsPlain rows.old }
-    ensures takes { IfOk result (λ found. TakesRow (rows_left R.remaining rows.old) (rows_left R.remaining rows.new) found
+    ensures takes { IfOk result (λ found.
+        TakesRow (rows_left R.remaining rows.old) (rows_left R.remaining rows.new) found
         (fields_of row.new)) }
-    ensures fits { IfOk result (λ found. KeepsFit (fits_left R.remaining rows.old) (fits_left R.remaining rows.new) found) }
+    ensures fits { IfOk result (λ found.
+        KeepsFit (fits_left R.remaining rows.old) (fits_left R.remaining rows.new) found) }
     ensures plain { IfOk result (λ found. IsPlain rows.new) }
     ensures outside { IfErr result (λ e. IsOutside e) }
 {
@@ -69,7 +71,8 @@ fn take_dies<R: Read>(
     row: &mut ByteRecord,
 ) -> Result<SavedStore, TextFault>
     requires { IsPlain rows.old }
-    ensures store { Tells (option_map (dies_from (between []) 2) (rows_left R.remaining rows.old)) result }
+    ensures store { Tells (option_map (dies_from (between []) 2) (rows_left R.remaining rows.old))
+        result }
     ensures fits { OnOk result (IfSome (fits_left R.remaining rows.old) (λ fits. fits ≡ true)) }
 {
     let mut gathered = no_dies(alloc);

@@ -18,7 +18,8 @@ use std::io::Write;
 use text_base::write_whole;
 
 fn put_pages(text: &mut Vec<u8>, pages: &[SavedPage]) -> io::Result<()>
-    ensures { OnOk result (text.new.items ≡ text.old.items ++ flat_map (λ page. row_text default_writer (page_record page)) pages.now) }
+    ensures { OnOk result (text.new.items ≡ text.old.items ++ flat_map (λ page.
+        row_text default_writer (page_record page)) pages.now) }
 {
     for page in pages {
         put_saved_page(text, page)?;
@@ -27,7 +28,8 @@ fn put_pages(text: &mut Vec<u8>, pages: &[SavedPage]) -> io::Result<()>
 }
 
 fn put_blocks(text: &mut Vec<u8>, blocks: &[BlockCounts]) -> io::Result<()>
-    ensures { OnOk result (text.new.items ≡ text.old.items ++ flat_map (λ block. row_text default_writer (block_record block)) blocks.now) }
+    ensures { OnOk result (text.new.items ≡ text.old.items ++ flat_map (λ block.
+        row_text default_writer (block_record block)) blocks.now) }
 {
     for block in blocks {
         put_block(text, block)?;
@@ -36,7 +38,8 @@ fn put_blocks(text: &mut Vec<u8>, blocks: &[BlockCounts]) -> io::Result<()>
 }
 
 fn put_tasks(text: &mut Vec<u8>, balances: &[u32]) -> io::Result<()>
-    ensures { OnOk result (text.new.items ≡ text.old.items ++ flat_map (λ balance. row_text default_writer (task_record balance)) balances.now) }
+    ensures { OnOk result (text.new.items ≡ text.old.items ++ flat_map (λ balance.
+        row_text default_writer (task_record balance)) balances.now) }
 {
     for balance in balances {
         put_task(text, *balance)?;
@@ -46,7 +49,8 @@ fn put_tasks(text: &mut Vec<u8>, balances: &[u32]) -> io::Result<()>
 
 /// Adds the records of the die of this number.
 fn put_die(text: &mut Vec<u8>, number: u32, die: &SavedDie) -> io::Result<()>
-    ensures { OnOk result (text.new.items ≡ text.old.items ++ records_text (die_records number die.now)) }
+    ensures { OnOk result (text.new.items
+        ≡ text.old.items ++ records_text (die_records number die.now)) }
 {
     put_pages(text, die.pages.as_slice())?;
     put_blocks(text, die.blocks.as_slice())?;
@@ -90,11 +94,13 @@ pub fn write_checkpoint<W: Write>(
     store: &SavedStore,
 ) -> Result<(), Refusal>
     requires few { length store.now ≤ 8 }
-    ensures written { OnOk result (Appends (W.contents writer.old) (W.contents writer.new) (checkpoint_text store.now)) }
+    ensures written { OnOk result
+        (Appends (W.contents writer.old) (W.contents writer.new) (checkpoint_text store.now)) }
     ensures memory { result ≡ Err Refusal.NoMemory → writer.new ≡ writer.old }
     ensures part { result ≡ Err Refusal.WriteFault
         → AppendsPart (W.contents writer.old) (W.contents writer.new) (checkpoint_text store.now) }
-    ensures refused { IfErr result (λ refusal. (refusal ≡ Refusal.NoMemory) ⊎ (refusal ≡ Refusal.WriteFault)) }
+    ensures refused { IfErr result (λ refusal.
+        (refusal ≡ Refusal.NoMemory) ⊎ (refusal ≡ Refusal.WriteFault)) }
 {
     let text = text_of(alloc, store)?;
     write_whole(writer, &text)

@@ -2,7 +2,7 @@
 
 ghost use Rattle.std.specs.Prelude.{◌≡◌, map, IfOk};
 
-use crate::tasks::{CONTROL, Diary, LOGGER, run_task};
+use crate::tasks::{Diary, control, logger, run_task};
 use crate::timer::{Carried, run_timer};
 use die_service::{Die, DiePass, Store};
 use flash_die::Nand;
@@ -12,7 +12,7 @@ use std::sync::{Barrier, Wait};
 use std::thread;
 use std::thread::Threads;
 
-/// What the threads of a die were answered.
+/// What the threads of a die were answered in a life.
 #[derive(Clone, Copy, Drop)]
 pub(crate) struct Told {
     pub(crate) control: Diary,
@@ -20,13 +20,14 @@ pub(crate) struct Told {
     pub(crate) carried: Carried,
 }
 
-/// Runs both tasks of a die, each in a thread with a pass of its own.
+/// Runs both tasks of a die for a life, each in a thread with a pass of its own.
 fn run_tasks<N: Nand + Send, R: Threads + Wait + Sync>(
     rt: &R,
     alloc: Global,
     die: &Die<N>,
     first: DiePass<N>,
     second: DiePass<N>,
+    life: u8,
     rounds: &Barrier,
 ) -> ((DiePass<N>, Diary), (DiePass<N>, Diary))
     requires first { first.lock ≡ die.now }
@@ -34,25 +35,29 @@ fn run_tasks<N: Nand + Send, R: Threads + Wait + Sync>(
     ensures first { result.0.0.lock ≡ die.now }
     ensures second { result.1.0.lock ≡ die.now }
 {
+    let control = control(life);
+    let logger = logger(life);
     thread::join(
         rt,
         || -> (DiePass<N>, Diary)
             requires { first.lock ≡ die.now }
             ensures { result.0.lock ≡ die.entry.now }
-        { run_task(rt, alloc, die, first, &CONTROL, rounds) },
+        { run_task(rt, alloc, die, first, &control, rounds) },
         || -> (DiePass<N>, Diary)
             requires { second.lock ≡ die.now }
             ensures { result.0.lock ≡ die.entry.now }
-        { run_task(rt, alloc, die, second, &LOGGER, rounds) },
+        { run_task(rt, alloc, die, second, &logger, rounds) },
     )
 }
 
-/// Runs the tasks of a die beside its timer. The passes of the tasks are joined into the timer's, which is handed back.
+/// Runs the tasks of a die beside its timer for a life. The passes of the tasks are joined into the timer's, which is
+/// handed back.
 pub(crate) fn run_die<N: Nand + Send, R: Threads + Wait + Sync>(
     rt: &R,
     alloc: Global,
     die: &Die<N>,
     mut pass: DiePass<N>,
+    life: u8,
 ) -> Result<(DiePass<N>, Told), Refusal>
     requires { pass.lock ≡ die.now }
     ensures { IfOk result (λ made. made.0.lock ≡ die.now) }
@@ -66,7 +71,7 @@ pub(crate) fn run_die<N: Nand + Send, R: Threads + Wait + Sync>(
         || -> ((DiePass<N>, Diary), (DiePass<N>, Diary))
             requires { (first.lock ≡ die.now) × (second.lock ≡ die.now) }
             ensures { (result.0.0.lock ≡ die.entry.now) × (result.1.0.lock ≡ die.entry.now) }
-        { run_tasks(rt, alloc, die, first, second, rounds) },
+        { run_tasks(rt, alloc, die, first, second, life, rounds) },
         || -> (DiePass<N>, Carried)
             requires { pass.lock ≡ die.now }
             ensures { result.0.lock ≡ die.entry.now }
@@ -82,12 +87,13 @@ pub(crate) fn run_die<N: Nand + Send, R: Threads + Wait + Sync>(
     Ok((pass, told))
 }
 
-/// Runs both dies of a store at once, and hands their passes back, in order.
+/// Runs both dies of a store at once for a life, and hands their passes back, in order.
 pub(crate) fn run_dies<N: Nand + Send, R: Threads + Wait + Sync>(
     rt: &R,
     alloc: Global,
     store: &Store<N>,
     passes: Vec<DiePass<N>>,
+    life: u8,
 ) -> Result<(Vec<DiePass<N>>, [Told; 2]), Refusal>
     requires { map (λ pass. pass.lock) passes.items ≡ store.now }
     ensures { IfOk result (λ made. map (λ pass. pass.lock) made.0.items ≡ store.now) }
@@ -104,11 +110,11 @@ pub(crate) fn run_dies<N: Nand + Send, R: Threads + Wait + Sync>(
         || -> Result<(DiePass<N>, Told), Refusal>
             requires { zero_pass.lock ≡ zero.now }
             ensures { IfOk result (λ made. made.0.lock ≡ zero.entry.now) }
-        { run_die(rt, alloc, zero, zero_pass) },
+        { run_die(rt, alloc, zero, zero_pass, life) },
         || -> Result<(DiePass<N>, Told), Refusal>
             requires { one_pass.lock ≡ one.now }
             ensures { IfOk result (λ made. made.0.lock ≡ one.entry.now) }
-        { run_die(rt, alloc, one, one_pass) },
+        { run_die(rt, alloc, one, one_pass, life) },
     );
     let (zero_pass, zero_told) = zero?;
     let (one_pass, one_told) = one?;

@@ -6,31 +6,61 @@ ghost use Rattle.flash_die.specs.Flash.{IsFresh};
 use crate::nand::WearNand;
 use die_service::{DiePass, Store};
 use flash_die::{MemoryNand, Nand};
-use slot_types::{Caps, DiePlan, Refusal, Shape, StorePlan};
+use plan_rules::{bound, plan_test};
+use slot_types::{Caps, DiePlan, Refusal, Shape, StorePlan, TaskTimes, Times, TimesList};
 use std::alloc::Global;
 
 /// The device of each die.
 pub(crate) type Device = WearNand<MemoryNand>;
 
 const SHAPE: Shape = Shape {
-    blocks: 5,
+    blocks: 10,
     pages: 4,
     erase_slots: 3,
 };
 
 /// After how many erases a block of each die is worn out. The first die's blocks don't last.
-const ENDURANCES: [u32; 2] = [1, 1000];
+const ENDURANCES: [u32; 2] = [2, 1000];
 
-/// Two tasks, each with a page of its own, and with tokens for two free pages at most.
-fn die_plan(alloc: Global) -> Result<DiePlan, Refusal> {
-    let caps = Caps::from_vec(vec![in alloc; 2; 2]?);
-    Ok(DiePlan {
+pub(crate) const CONTROL: TaskTimes = TaskTimes {
+    period: 8,
+    collect_period: 16,
+    work: 2,
+    writes: 1,
+};
+
+pub(crate) const LOGGER: TaskTimes = TaskTimes {
+    period: 32,
+    collect_period: 64,
+    work: 2,
+    writes: 1,
+};
+
+/// How many slots a life has: a multiple of each collect period, by which all that was asked for is due.
+pub(crate) const LIFE: u32 = 64;
+
+fn times(alloc: Global) -> Result<Times, Refusal> {
+    let tasks = TimesList::from_vec(Vec::from_slice(alloc, &[CONTROL, LOGGER])?);
+    Ok(Times {
+        common: LIFE,
+        tasks,
+    })
+}
+
+/// Two tasks, each with tokens for six free pages at most. Refused where the plan doesn't pass its test.
+pub(crate) fn die_plan(alloc: Global) -> Result<DiePlan, Refusal> {
+    let times = Some(times(alloc)?);
+    let caps = Caps::from_vec(vec![in alloc; 6; 2]?);
+    let plan = DiePlan {
         shape: SHAPE,
-        logical: 2,
+        logical: 6,
         alpha: 2,
         caps,
-        times: None,
-    })
+        times,
+    };
+    bound(&plan)?;
+    plan_test(&plan)?;
+    Ok(plan)
 }
 
 fn device(alloc: Global, endurance: u32) -> Result<Device, Refusal>

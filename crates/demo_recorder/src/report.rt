@@ -1,33 +1,38 @@
-//! What the recorder prints of a die, once its store is closed.
+//! What the recorder prints of its dies, once their store is closed.
 
 use crate::dies::Told;
 use crate::plan::Device;
 use crate::tasks::Diary;
 use late_cert::{Certificate, check};
 use slot_core::DieCore;
-use slot_types::{Items, Refusal};
+use slot_types::{Items, PageData, Refusal};
 use std::alloc::Global;
 use std::io;
 use std::io::Write;
 
+/// What a page holds: the life and the round in which it was written.
+fn print_page<W: Write>(out: &mut W, page: PageData) -> io::Result<()> {
+    if page == PageData::BLANK {
+        return write!(out, "a blank page");
+    }
+    let life = page.0[0];
+    let round = page.0[1];
+    write!(out, "life {life} round {round}")
+}
+
 /// Prints what a task was answered.
 fn print_diary<W: Write>(out: &mut W, name: &str, diary: &Diary) -> io::Result<()> {
-    let Diary {
-        done,
-        waiting,
-        read,
-        refused,
-        refusal,
-    } = *diary;
-    let sample = read.0[0];
     write!(
         out,
-        "  {name}: {done} jobs done, {waiting} waiting, last read {sample}, {refused} calls refused"
+        "  {name}: {} jobs done, {} waiting, {} calls refused",
+        diary.done, diary.waiting, diary.refused
     )?;
-    match refusal {
-        Some(last) => writeln!(out, ": {last}"),
-        None => writeln!(out),
+    if let Some(last) = diary.refusal {
+        write!(out, ": {last}")?;
     }
+    write!(out, ", last read ")?;
+    print_page(out, diary.read)?;
+    writeln!(out)
 }
 
 /// Prints what the threads of a die were answered.
@@ -39,18 +44,6 @@ fn print_told<W: Write>(out: &mut W, told: &Told) -> io::Result<()> {
     }
     print_diary(out, "control", &told.control)?;
     print_diary(out, "logger", &told.logger)
-}
-
-/// Prints what was done to each block of a device.
-fn print_blocks<W: Write>(out: &mut W, device: &Device) -> io::Result<()> {
-    for (block, counts) in device.tally().blocks().iter().enumerate() {
-        writeln!(
-            out,
-            "  block {block}: {} programs, {} reads, {} erases",
-            counts.programs, counts.reads, counts.erases
-        )?;
-    }
-    Ok(())
 }
 
 /// When the work that a certificate names was due, in rising order. Which number a job has depends on which thread was
@@ -94,12 +87,12 @@ fn print_worst<W: Write>(
 }
 
 /// A fault of the writer as a refusal.
-fn written(done: io::Result<()>) -> Result<(), Refusal> {
+pub(crate) fn written(done: io::Result<()>) -> Result<(), Refusal> {
     done.map_err(|_| Refusal::WriteFault)
 }
 
-/// Prints all that is reported of a closed die.
-pub(crate) fn print_die<W: Write>(
+/// Prints what a die did in a life.
+fn print_die<W: Write>(
     out: &mut W,
     alloc: Global,
     number: usize,
@@ -108,6 +101,42 @@ pub(crate) fn print_die<W: Write>(
 ) -> Result<(), Refusal> {
     written(write!(out, "die {number}: "))?;
     written(print_told(out, told))?;
-    print_worst(out, alloc, core)?;
-    written(print_blocks(out, core.device()))
+    print_worst(out, alloc, core)
+}
+
+/// Prints what the dies of a closed store did in a life.
+pub(crate) fn print_life<W: Write>(
+    out: &mut W,
+    alloc: Global,
+    life: u8,
+    told: &[Told],
+    dies: &[DieCore<Device>],
+) -> Result<(), Refusal> {
+    written(writeln!(out, "life {life}"))?;
+    for (number, (told, core)) in told.iter().zip(dies).enumerate() {
+        print_die(out, alloc, number, told, core)?;
+    }
+    Ok(())
+}
+
+/// Prints what was done to each block of a device.
+fn print_blocks<W: Write>(out: &mut W, device: &Device) -> io::Result<()> {
+    for (block, counts) in device.tally().blocks().iter().enumerate() {
+        writeln!(
+            out,
+            "  block {block}: {} programs, {} reads, {} erases",
+            counts.programs, counts.reads, counts.erases
+        )?;
+    }
+    Ok(())
+}
+
+/// Prints what was done to each block of the dies in all lives.
+pub(crate) fn print_wear<W: Write>(out: &mut W, dies: &[DieCore<Device>]) -> io::Result<()> {
+    writeln!(out, "all lives")?;
+    for (number, core) in dies.iter().enumerate() {
+        writeln!(out, "die {number}")?;
+        print_blocks(out, core.device())?;
+    }
+    Ok(())
 }

@@ -1,42 +1,62 @@
-//! A task of the recorder: what it asks of its die in each round, and what it is answered.
+//! A task of the recorder: what it asks of its die in a life, and what it is answered.
 
 ghost use Rattle.std.specs.Prelude.{◌≡◌};
 
+use crate::plan::{CONTROL, LOGGER};
 use crate::timer::{ROUNDS, TICKS};
 use die_service::{Die, DiePass};
 use flash_die::Nand;
 use slot_core::Outcome;
-use slot_types::{JobNo, Op, OpList, PageData, Reads, Refusal, TaskNo};
+use slot_types::{JobNo, Op, OpList, PageData, Reads, Refusal, TaskNo, TaskTimes};
 use std::alloc::Global;
 use std::sync::{Barrier, Wait};
 
-/// What a task asks for in each round: a job that reads its page and writes it anew, and a collection.
+/// What a task asks for in a life: at each multiple of its period a job that reads a page and writes one, and at each
+/// of its collect period a collection.
 #[derive(Clone, Copy)]
 pub(crate) struct Task {
     number: TaskNo,
-    page: u32,
-    /// How many slots after the round's first one the job is due.
-    job_due: u32,
-    /// How many slots after the round's first one the collection is due.
-    collection_due: u32,
+    times: TaskTimes,
+    life: u8,
+    reads: u32,
+    writes: u32,
 }
 
-// No two deadlines of a round are equal, so that the order of jobs doesn't depend on which thread was first.
-pub(crate) const CONTROL: Task = Task {
-    number: TaskNo(0),
-    page: 0,
-    job_due: 2,
-    collection_due: 8,
-};
+/// The control reads and writes page 0.
+pub(crate) fn control(life: u8) -> Task {
+    Task {
+        number: TaskNo(0),
+        times: CONTROL,
+        life,
+        reads: 0,
+        writes: 0,
+    }
+}
 
-pub(crate) const LOGGER: Task = Task {
-    number: TaskNo(1),
-    page: 1,
-    job_due: 6,
-    collection_due: 4,
-};
+/// The logger has pages 1 to 5. In each life it writes the next one, and reads the one after that, which it wrote four
+/// lives before.
+pub(crate) fn logger(life: u8) -> Task {
+    let turn = u32::from(life);
+    Task {
+        number: TaskNo(1),
+        times: LOGGER,
+        life,
+        reads: 1 + (turn + 1) % 5,
+        writes: 1 + turn % 5,
+    }
+}
 
-/// What a task was answered.
+impl Task {
+    /// What the task writes in a round: the life and the round.
+    fn sample(&self, round: u32) -> PageData {
+        let mut bytes = [0; 16];
+        bytes[0] = self.life;
+        bytes[1] = u8::try_from(round).unwrap_or(u8::MAX);
+        PageData(bytes)
+    }
+}
+
+/// What a task was answered in a life.
 #[derive(Clone, Copy, Drop)]
 pub(crate) struct Diary {
     /// How many jobs were done.
@@ -94,39 +114,44 @@ impl Diary {
     }
 }
 
-/// Asks for the task's collection of the round that begins with slot `first`.
+/// Whether a slot is a multiple of a period.
+fn comes_at(slot: u32, period: u32) -> bool {
+    slot.checked_rem(period) == Some(0)
+}
+
+/// Asks for the task's collection, which is released in this slot, and has its collect period until it is due.
 fn collect<N: Nand, R: Wait>(
     rt: &R,
     die: &Die<N>,
     pass: &mut DiePass<N>,
     task: &Task,
-    first: u32,
+    slot: u32,
 ) -> Result<JobNo, Refusal>
     requires { pass.old.lock ≡ die.now }
     ensures { pass.new.lock ≡ pass.old.lock }
 {
-    let due = first.saturating_add(task.collection_due);
-    die.collect(rt, pass, task.number, first, due)
+    let due = slot.saturating_add(task.times.collect_period);
+    die.collect(rt, pass, task.number, slot, due)
         .map_err(|refused| refused.refusal)
 }
 
-/// Asks for the task's job of the round that begins with slot `first`: a read of its page, and a write of `sample`.
+/// Asks for the task's job, which is released in this slot, and has its period until it is due.
 fn submit<N: Nand, R: Wait>(
     rt: &R,
     alloc: Global,
     die: &Die<N>,
     pass: &mut DiePass<N>,
     task: &Task,
-    first: u32,
+    slot: u32,
     sample: PageData,
 ) -> Result<JobNo, Refusal>
     requires { pass.old.lock ≡ die.now }
     ensures { pass.new.lock ≡ pass.old.lock }
 {
-    let ops = [Op::Read(task.page), Op::Write(task.page, sample)];
+    let ops = [Op::Read(task.reads), Op::Write(task.writes, sample)];
     let ops = OpList::from_vec(Vec::from_slice(alloc, &ops)?);
-    let due = first.saturating_add(task.job_due);
-    die.submit(rt, pass, task.number, first, due, ops)
+    let due = slot.saturating_add(task.times.period);
+    die.submit(rt, pass, task.number, slot, due, ops)
         .map_err(|refused| refused.refusal)
 }
 
@@ -147,8 +172,33 @@ fn hear<N: Nand, R: Wait>(
     }
 }
 
-/// A task's thread. In each round it asks for a job and a collection, lets the slots begin, asks for the job of the
-/// round before while they are carried out, and waits for their end.
+/// Asks for what the task's plan has in a round: its collection and its job, each where it comes.
+fn ask<N: Nand, R: Wait>(
+    rt: &R,
+    alloc: Global,
+    die: &Die<N>,
+    pass: &mut DiePass<N>,
+    task: &Task,
+    round: u32,
+    diary: &mut Diary,
+) -> Option<JobNo>
+    requires { pass.old.lock ≡ die.now }
+    ensures { pass.new.lock ≡ pass.old.lock }
+{
+    let slot = round.saturating_mul(TICKS);
+    if comes_at(slot, task.times.collect_period) {
+        let collection = collect(rt, die, pass, task, slot);
+        diary.note_taken(collection);
+    }
+    if !comes_at(slot, task.times.period) {
+        return None;
+    }
+    let job = submit(rt, alloc, die, pass, task, slot, task.sample(round));
+    diary.note_taken(job)
+}
+
+/// A task's thread. In each round it asks for what its plan has, lets the slots begin, asks what became of its job
+/// before while they are carried out, and waits for their end.
 pub(crate) fn run_task<N: Nand, R: Wait>(
     rt: &R,
     alloc: Global,
@@ -163,16 +213,13 @@ pub(crate) fn run_task<N: Nand, R: Wait>(
     let mut diary = Diary::new();
     let mut last = None;
     for round in 0..ROUNDS {
-        let first = u32::from(round) * TICKS;
-        let collection = collect(rt, die, &mut pass, task, first);
-        diary.note_taken(collection);
-        let sample = PageData([round; 16]);
-        let job = submit(rt, alloc, die, &mut pass, task, first, sample);
-        let job = diary.note_taken(job);
+        let job = ask(rt, alloc, die, &mut pass, task, round, &mut diary);
         rounds.wait(rt);
-        hear(rt, die, &mut pass, last, &mut diary);
+        if job.is_some() {
+            hear(rt, die, &mut pass, last, &mut diary);
+            last = job;
+        }
         rounds.wait(rt);
-        last = job;
     }
     hear(rt, die, &mut pass, last, &mut diary);
     (pass, diary)

@@ -2,16 +2,17 @@
 
 ghost use Rattle.std.specs.Prelude.{◌≡◌};
 
+use crate::plan::LIFE;
 use die_service::{Die, DiePass};
 use flash_die::Nand;
 use slot_types::Refusal;
 use std::sync::{Barrier, Wait};
 
-/// How many rounds the recorder works.
-pub(crate) const ROUNDS: u8 = 16;
-
 /// How many ticks, and so slots, a round has.
 pub(crate) const TICKS: u32 = 8;
+
+/// How many rounds a life has.
+pub(crate) const ROUNDS: u32 = LIFE / TICKS;
 
 /// How many slots of a die were carried out, and the first refusal of one, if there was any.
 #[derive(Clone, Copy, Drop)]

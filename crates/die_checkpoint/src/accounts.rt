@@ -11,7 +11,8 @@ pub(crate) fn first_above(caps: &[u32], balances: &[u32]) -> Option<u32>
     requires few { length balances.now ≤ 16 }
     requires tasks { length balances.now ≡ length caps.now }
     ensures found { IfSome result (IsFirstAbove caps.now balances.now) }
-    ensures none { IfNone result ((task : ℕ) → slice_index balances.now task ≤ slice_index caps.now task) }
+    ensures none { IfNone result ((task : ℕ)
+        → slice_index balances.now task ≤ slice_index caps.now task) }
 {
     for task in 0..balances.len() {
         if balances[task] > caps[task] {

@@ -17,6 +17,7 @@ pub fn a_fault_excludes_fitting()
 
 /// A checkpoint has one first fault. The lack of memory is none.
 pub fn a_check_has_one_answer()
-    ensures { (plan : DiePlan) (c : Stood) (one other : Cause) → HasCheckpointFault plan c one → HasCheckpointFault plan c other →
+    ensures { (plan : DiePlan) (c : Stood) (one other : Cause) → HasCheckpointFault plan c one
+        → HasCheckpointFault plan c other →
         one ≢ CheckpointFault.NoMemory → other ≢ CheckpointFault.NoMemory → one ≡ other }
 {}

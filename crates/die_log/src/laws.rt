@@ -31,13 +31,15 @@ ghost use Rattle.die_log.specs.Results.Victims.{BeginsNext, IsSmallVictim, HasFi
 
 /// Two exact logs of one start with the same calls are one log: each call has one answer.
 pub fn equal_calls_have_one_answer()
-    ensures { (start : Start) (first second : Log) → IsExact start first → IsExact start second → calls first ≡ calls second → first
+    ensures { (start : Start) (first second : Log) → IsExact start first → IsExact start second
+        → calls first ≡ calls second → first
         ≡ second }
 {}
 
 /// What an exact log was at an earlier moment is an exact log.
 pub fn moments_are_exact()
-    ensures { (start : Start) (later moment : Log) → IsExact start (later ++ moment) → IsExact start moment }
+    ensures { (start : Start) (later moment : Log) → IsExact start (later ++ moment)
+        → IsExact start moment }
 {}
 
 /// An exact log keeps to the limits of its die: of slots, of jobs and collections, and in each of
@@ -64,38 +66,47 @@ pub fn exact_stands()
 pub fn worst_is_worst()
     ensures none { (plan : DiePlan) (log : Log) → (worst plan log ≡ None)
         ↔ ((j : Job) → Contains (jobs log) j → IsFalse (is_done plan log j)) }
-    ensures some { (plan : DiePlan) (log : Log) (j : Job) → worst plan log ≡ Some j → IsWorst plan log j }
+    ensures some { (plan : DiePlan) (log : Log) (j : Job) → worst plan log ≡ Some j
+        → IsWorst plan log j }
 {}
 
 /// Each slot of an exact log that starts at an opening carried the least key, of deadline and number, of
 /// those that waited in it: all that were released, not done and not waived.
 pub fn exact_carries_least_keys()
-    ensures { ForEveryExactLog (λ start log. CarriesLeastKeys (rows start.plan log) (carried_numbers log)) }
+    ensures { ForEveryExactLog (λ start log.
+        CarriesLeastKeys (rows start.plan log) (carried_numbers log)) }
 {}
 
 /// At each moment of an exact log that starts at an opening the greatest lateness so far is least:
 /// no schedule that respects releases, and gives what is done by then as many slots as it took, has
 /// a smaller one.
 pub fn exact_is_least_late()
-    ensures { (start : Start) → IsOpening start → (later moment : Log) → IsExact start (later ++ moment)
+    ensures { (start : Start) → IsOpening start → (later moment : Log)
+        → IsExact start (later ++ moment)
         → IsLeastLate (rows start.plan moment) (carried_numbers moment) }
 {}
 
 /// The certificate of an exact log that starts at an opening: none where nothing is done, and else
 /// that of its worst job, which holds over the log's rows.
 pub fn exact_is_certified()
-    ensures none { ForEveryExactLog (λ start log. (certificate start.plan log ≡ None) ↔ NothingDone start.plan log) }
+    ensures none { ForEveryExactLog (λ start log.
+        (certificate start.plan log ≡ None) ↔ NothingDone start.plan log) }
     ensures worst { ForEveryExactLog (λ start log. (j : Job) → worst start.plan log ≡ Some j
-        → (c : Certificate) × (certificate start.plan log ≡ Some c) × IsCertified start.plan log j c) }
+        → (c : Certificate) × (certificate start.plan log ≡ Some c)
+        × IsCertified start.plan log j c) }
 {}
 
 /// In an exact log that starts at an opening a collection copies at most the pages that its collector
 /// keeps in reserve, and takes at most two slots for each of these beside those of its erase.
 pub fn collections_are_bounded()
-    ensures copies { ForEveryExactLog (λ start log. (j : Job) → Contains (jobs log) j → j.collects ≡ true
-        → count_by is_copy_program (acts j.number log) ≤ start.plan.shape.pages - start.plan.alpha) }
-    ensures slots { ForEveryExactLog (λ start log. (j : Job) → Contains (jobs log) j → j.collects ≡ true
-        → work j.number log ≤ 2 * (start.plan.shape.pages - start.plan.alpha) + start.plan.shape.erase_slots) }
+    ensures copies { ForEveryExactLog (λ start log.
+        (j : Job) → Contains (jobs log) j → j.collects ≡ true
+        → count_by is_copy_program (acts j.number log)
+        ≤ start.plan.shape.pages - start.plan.alpha) }
+    ensures slots { ForEveryExactLog (λ start log.
+        (j : Job) → Contains (jobs log) j → j.collects ≡ true
+        → work j.number log ≤ 2 * (start.plan.shape.pages - start.plan.alpha)
+        + start.plan.shape.erase_slots) }
 {}
 
 /// The pigeonhole, of logs. A collection that begins in an exact log that starts at an opening finds a victim, and
@@ -111,7 +122,8 @@ pub fn collections_find_victims()
 /// An exact log that starts at an opening keeps all that is promised of a log, and so did it at each earlier moment.
 pub fn exact_keeps_promises()
     ensures log { ForEveryExactLog KeepsPromises }
-    ensures moments { (start : Start) → IsOpening start → (later moment : Log) → IsExact start (later ++ moment)
+    ensures moments { (start : Start) → IsOpening start → (later moment : Log)
+        → IsExact start (later ++ moment)
         → KeepsPromises start moment }
 {}
 
@@ -128,19 +140,25 @@ pub fn holds_are_owed()
 pub fn planned_work_is_in_time()
     ensures moments { (start : Start) (times : Times) → IsOpening start → Passes start.plan times →
         (all : List Event) → KeepsPlan start.plan times all →
-        (later moment : Log) → IsExact start (later ++ moment) → AreEntered all [] (later ++ moment) → IsInTime start.plan moment }
+        (later moment : Log) → IsExact start (later ++ moment) → AreEntered all [] (later ++ moment)
+        → IsInTime start.plan moment }
     ensures runs { (start : Start) (times : Times) → IsOpening start → Passes start.plan times →
-        (calls : List (ℕ × Event)) → KeepsPlan start.plan times (map (λ call. call.1) calls) → IsInTime start.plan (run start [] calls) }
+        (calls : List (ℕ × Event)) → KeepsPlan start.plan times (map (λ call. call.1) calls)
+        → IsInTime start.plan (run start [] calls) }
 {}
 
 /// Of events that keep a passing plan none is refused: no job for lack of tokens, and no collection because
 /// the task's collector is busy. So it is of each event after those before it, and of a run of them all.
 pub fn planned_work_is_accepted()
-    ensures next { (start : Start) (times : Times) → IsOpening start → Passes start.plan times → AreStocked start times →
+    ensures next { (start : Start) (times : Times) → IsOpening start → Passes start.plan times
+        → AreStocked start times →
         (past : Log) (event : Event) (rest : List Event) → IsExact start past →
-        KeepsPlan start.plan times (events_of_log past ++ event ∷ rest) → refusal_of start past event ≡ None }
-    ensures run { (start : Start) (times : Times) → IsOpening start → Passes start.plan times → AreStocked start times →
-        (calls : List (ℕ × Event)) → KeepsPlan start.plan times (map (λ call. call.1) calls) → AreAccepted start [] calls }
+        KeepsPlan start.plan times (events_of_log past ++ event ∷ rest)
+        → refusal_of start past event ≡ None }
+    ensures run { (start : Start) (times : Times) → IsOpening start → Passes start.plan times
+        → AreStocked start times →
+        (calls : List (ℕ × Event)) → KeepsPlan start.plan times (map (λ call. call.1) calls)
+        → AreAccepted start [] calls }
 {}
 
 /// A fresh die of a plan within its bound may start a log.
@@ -152,14 +170,18 @@ pub fn fresh_is_opening()
 /// A moment of an exact log at which each job and each collection is done or was waived is one from which another log
 /// may start.
 pub fn quiet_moments_are_openings()
-    ensures { (start : Start) (log : Log) → IsOpening start → IsExact start log → IsQuiet start log → IsOpening (renewed_start start log) }
+    ensures { (start : Start) (log : Log) → IsOpening start → IsExact start log → IsQuiet start log
+        → IsOpening (renewed_start start log) }
 {}
 
 /// Planned work goes on over renewals. Let the log start stocked, and let the events keep a passing plan; let all that
 /// was accepted be due by now, and let the slot be a multiple of every collect period. Then the moment is quiet, and a
 /// log that starts there is stocked again: so nothing of the next such events is refused or late.
 pub fn planned_work_goes_on()
-    ensures { (start : Start) (times : Times) → IsOpening start → Passes start.plan times → AreStocked start times →
-        (log : Log) (rest : List Event) → IsExact start log → KeepsPlan start.plan times (events_of_log log ++ rest) →
-        IsAtPeriodEnd start.plan times log → IsQuiet start log × AreStocked (renewed_start start log) times }
+    ensures { (start : Start) (times : Times) → IsOpening start → Passes start.plan times
+        → AreStocked start times →
+        (log : Log) (rest : List Event) → IsExact start log
+        → KeepsPlan start.plan times (events_of_log log ++ rest) →
+        IsAtPeriodEnd start.plan times log
+        → IsQuiet start log × AreStocked (renewed_start start log) times }
 {}

@@ -33,17 +33,21 @@ ghost use Rattle.late_cert.specs.BusyInterval.{CarriesLeastKeys};
 /// least late, and has its certificates. Another life may start where all have ended. No write that was accepted finds
 /// its die without a free page, in whichever life.
 pub fn lives_keep_promises()
-    ensures each { ForEachLife (λ first log earlier. KeepsPromises (start_after first earlier) log) }
+    ensures each { ForEachLife (λ first log earlier.
+        KeepsPromises (start_after first earlier) log) }
     ensures next { (first : Start) → IsOpening first → (lives : Lives) → HaveEnded first lives →
         IsOpening (start_after first lives) }
-    ensures room { ForEachLife (λ first log earlier. (s : SlotReply) (past : Log) (number : ℕ) (act : Act) →
-        HasSlot log s past → s.ran ≡ Some (number, act) → FindsFree (start_after first earlier) past act) }
+    ensures room { ForEachLife (λ first log earlier.
+        (s : SlotReply) (past : Log) (number : ℕ) (act : Act) →
+        HasSlot log s past → s.ran ≡ Some (number, act)
+        → FindsFree (start_after first earlier) past act) }
 {}
 
 /// Each read gives what the last finished write or trim of its page left on it, in whichever life that was, or else
 /// what stood on it where the die's first life started.
 pub fn lives_tell_the_last_write()
-    ensures { ForEachLife (λ first log earlier. (s : SlotReply) (past : Log) (number page : ℕ) (bytes : PageData) →
+    ensures { ForEachLife (λ first log earlier.
+        (s : SlotReply) (past : Log) (number page : ℕ) (bytes : PageData) →
         HasSlot log s past → s.ran ≡ Some (number, does.Read page bytes) →
         bytes ≡ last_content first (past ∷ earlier) page) }
 {}
@@ -58,11 +62,16 @@ pub fn lives_are_least_late()
         IsLeastLate (rows_of_all first.plan lives) (numbers_of_all lives)) }
     ensures moments { (first : Start) → IsOpening first → (later moment : Log) (earlier : Lives) →
         AreLives first ((later ++ moment) ∷ earlier) →
-        IsLeastLate (rows_of_all first.plan (moment ∷ earlier)) (numbers_of_all (moment ∷ earlier)) }
-    ensures rows { ForAllLives (λ first lives. (log : Log) (earlier : Lives) → HasLife lives log earlier → (j : ℕ) →
-        is_known (rows first.plan log) j ≡ true → row_of (rows_of_all first.plan lives) (all_jobs earlier + j)
-        ≡ option_map (row_after (all_jobs earlier) (all_slots earlier)) (row_of (rows first.plan log) j)) }
-    ensures certified { ForAllLives (λ first lives. (j : ℕ) → is_done (rows_of_all first.plan lives) j ≡ true →
+        IsLeastLate (rows_of_all first.plan (moment ∷ earlier))
+        (numbers_of_all (moment ∷ earlier)) }
+    ensures rows { ForAllLives (λ first lives.
+        (log : Log) (earlier : Lives) → HasLife lives log earlier → (j : ℕ) →
+        is_known (rows first.plan log) j ≡ true
+        → row_of (rows_of_all first.plan lives) (all_jobs earlier + j)
+        ≡ option_map (row_after (all_jobs earlier) (all_slots earlier))
+        (row_of (rows first.plan log) j)) }
+    ensures certified { ForAllLives (λ first lives.
+        (j : ℕ) → is_done (rows_of_all first.plan lives) j ≡ true →
         IsSome (certificate_of (rows_of_all first.plan lives) (numbers_of_all lives) j)) }
 {}
 
@@ -70,8 +79,10 @@ pub fn lives_are_least_late()
 /// one for each erase of the block that was finished in the log; so over all lives it is the sum.
 pub fn wear_adds_up()
     ensures log { ForEveryExactLog (λ start log. (block : ℕ) →
-        (block_at (cells start log) block).erases ≡ (block_at start.cells block).erases + erases_in block log) }
-    ensures lives { ForAllLives (λ first lives. (block : ℕ) → (block_at (start_after first lives).cells block).erases
+        (block_at (cells start log) block).erases
+        ≡ (block_at start.cells block).erases + erases_in block log) }
+    ensures lives { ForAllLives (λ first lives.
+        (block : ℕ) → (block_at (start_after first lives).cells block).erases
         ≡ (block_at first.cells block).erases + sum_by (erases_in block) lives) }
 {}
 
@@ -80,7 +91,8 @@ pub fn wear_adds_up()
 pub fn few_erases()
     ensures log { ForEveryExactLog (λ start log. all_erases_in log ≤ collections_taken log) }
     ensures block { ForEveryExactLog (λ start log. (block : ℕ) → erases_in block log ≤ MAX_JOBS) }
-    ensures lives { ForAllLives (λ first lives. (block : ℕ) → (block_at (start_after first lives).cells block).erases
+    ensures lives { ForAllLives (λ first lives.
+        (block : ℕ) → (block_at (start_after first lives).cells block).erases
         ≤ (block_at first.cells block).erases + MAX_JOBS * length lives) }
 {}
 
@@ -92,8 +104,10 @@ pub fn few_erases()
 /// keep the plan, wherever they end.
 pub fn planned_lives_go_on()
     ensures served { ForPlannedLives (λ first times all. AreServedInTime first all) }
-    ensures next { ForPlannedLives (λ first times all. (calls : Calls) → KeepsPlan first.plan times (events_of_calls calls) →
+    ensures next { ForPlannedLives (λ first times all.
+        (calls : Calls) → KeepsPlan first.plan times (events_of_calls calls) →
         IsServedInTime (start_after first (lives_of first all)) calls) }
     ensures ended { ForPlannedLives (λ first times all. HaveEnded first (lives_of first all)) }
-    ensures stocked { ForPlannedLives (λ first times all. AreStocked (start_after first (lives_of first all)) times) }
+    ensures stocked { ForPlannedLives (λ first times all.
+        AreStocked (start_after first (lives_of first all)) times) }
 {}

@@ -1,13 +1,12 @@
 -- What a die behind its lock may answer to a question.
-use Rattle.std.specs.Prelude.{◌≡◌, ℕ, ◌⊎◌, ◌↔◌, List, Option, Some, None, Result, Err, IsOk, IfOk, IfErr, IfSome}
+use Rattle.std.specs.Prelude.{◌≡◌, ℕ, ◌⊎◌, ◌↔◌, List, [], Option, Some, None, Result, Err, IsOk, IfOk, IfErr, IfSome}
 use Rattle.slot_types.specs.declared.refusals.Refusal.{Refusal}
 use Rattle.slot_types.specs.declared.refusals.Refusal.TheVariants.{NoMemory, UnknownJob}
 use Rattle.late_cert.specs.declared.certificates.Certificate.{Certificate}
 use Rattle.die_log.specs.Model.Log.{Log, job_at, now}
 use Rattle.die_log.specs.Model.Rows.{certificate}
 use Rattle.slot_core.specs.declared.outcomes.Outcome.{Outcome}
-use Rattle.slot_core.specs.declared.outcomes.Outcome.TheVariants.{Waiting, Waived}
-use Rattle.slot_core.specs.Outcomes.{outcome_at, worst_of}
+use Rattle.slot_core.specs.Outcomes.{outcome_at, reads_given, worst_of}
 use Rattle.die_log.specs.Results.Certificates.{NothingDone, IsOfWorst, HoldsOver, BindsAll}
 use Rattle.die_service.specs.declared.queries.Query.{Query}
 use Rattle.die_service.specs.declared.queries.Query.TheVariants as asks
@@ -16,13 +15,12 @@ use Rattle.die_service.specs.declared.queries.Answer.TheVariants as tells
 use Rattle.die_service.specs.Logs.{DieCall, log_of}
 use Rattle.die_log.specs.Model.Start.{Start}
 
--- what became of the job or collection of this number; refused where the log has none of it, or memory is refused. One
--- that waits or was waived takes no memory
+-- what became of the job or collection of this number; refused where the log has none of it, or memory is refused, which
+-- it never is where no read gave anything
 pub record TellsOutcome (start : Start) (log : Log) (job : ℕ) (result : Result Outcome Refusal) : Type 0 where
   pub ok : IfOk result (λ outcome. outcome_at start log job ≡ Some outcome)
   pub unknown : (result ≡ Err UnknownJob) ↔ (job_at log job ≡ None)
-  pub waiting : outcome_at start log job ≡ Some Waiting → IsOk result
-  pub waived : (given : ℕ) → outcome_at start log job ≡ Some (Waived given) → IsOk result
+  pub nothing : (outcome : Outcome) → outcome_at start log job ≡ Some outcome → reads_given outcome ≡ [] → IsOk result
   pub refused : IfErr result (λ refusal. (refusal ≡ UnknownJob) ⊎ (refusal ≡ NoMemory))
 
 -- the certificate of the log's worst job, none where nothing is done; refused where memory is refused, which it never

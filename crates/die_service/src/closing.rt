@@ -84,11 +84,13 @@ pub fn close<N: Nand, R: Wait>(
 ) -> Result<Vec<DieCore<N>>, StillOpen<N>>
     requires own { map (λ pass. pass.lock) passes.items ≡ store }
     ensures closed { IfOk result (λ dies. AllZip IsClosedWith passes.items dies.items) }
-    ensures runs { IfOk result (λ dies. N.never_fails ≡ true → All (λ die. die.stopped ≡ false) dies.items) }
+    ensures runs { IfOk result (λ dies.
+        N.never_fails ≡ true → All (λ die. die.stopped ≡ false) dies.items) }
     ensures refused { IfErr result (λ kept. StayOpen passes.items kept.refusal kept.passes.items) }
     ensures back { IfErr result (λ kept. kept.store ≡ store) }
     ensures own { IfErr result (λ kept. map (λ pass. pass.lock) kept.passes.items ≡ kept.store) }
-    ensures sole { All (λ pass. pass.view.sole ≡ true) passes.items → IfErr result (λ kept. kept.refusal ≡ Refusal.NoMemory) }
+    ensures sole { All (λ pass. pass.view.sole ≡ true) passes.items → IfErr result (λ kept.
+        kept.refusal ≡ Refusal.NoMemory) }
 {
     let mut passes = passes;
     let out = first_out(rt, store.dies.as_slice(), passes.as_mut_slice());

@@ -88,7 +88,8 @@ impl Course {
 
     /// Goes on to the next event, if it comes by this slot. Its operations are then those of the course.
     pub(crate) fn next_due(&mut self, clock: u32) -> Option<EventHead>
-        ensures due { IfSome result (λ head. Comes clock self.old (with_ops head self.new.ops) self.new) }
+        ensures due { IfSome result (λ head.
+            Comes clock self.old (with_ops head self.new.ops) self.new) }
         ensures room { IfSome result (λ _. length self.new.refused < self.new.place) }
         ensures none { IfNone result (NoneDue clock self.old.rest) }
         ensures stays { IfNone result (self.new ≡ self.old) }
@@ -113,7 +114,8 @@ impl Course {
         requires room { length self.old.refused < self.old.place }
         ensures rest { self.new.rest ≡ self.old.rest }
         ensures place { self.new.place ≡ self.old.place }
-        ensures noted { self.new.refused ≡ self.old.refused ++ record { place = self.old.place - 1; refused = refused } ∷ [] }
+        ensures noted { self.new.refused ≡ self.old.refused
+            ++ record { place = self.old.place - 1; refused = refused } ∷ [] }
     {
         self.refused.push_reserved(RefusedEvent {
             place: self.place - 1,

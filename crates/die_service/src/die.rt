@@ -85,7 +85,8 @@ impl<N: Nand> Die<N> {
         ensures same { IsSamePass pass.old pass.new }
         ensures accepted { IfOk result IsAccepted }
         ensures added { IfOk result (λ reply. AddsEntry pass.old.view event reply pass.new.view) }
-        ensures refused { IfErr result (λ refused. AddsNone N.never_fails pass.old.view event refused pass.new.view) }
+        ensures refused { IfErr result (λ refused.
+            AddsNone N.never_fails pass.old.view event refused pass.new.view) }
     {
         self.turned.apply(rt, pass, event)
     }
@@ -101,8 +102,10 @@ impl<N: Nand> Die<N> {
         requires { pass.old.lock ≡ self.now }
         ensures same { IsSamePass pass.old pass.new }
         ensures accepted { IfOk result (λ note. IsAccepted (reply_of_note note)) }
-        ensures added { IfOk result (λ note. AddsEntry pass.old.view (with_ops head ops.now) (reply_of_note note) pass.new.view) }
-        ensures refused { IfErr result (λ refused. AddsNone N.never_fails pass.old.view (with_ops head ops.now) refused pass.new.view) }
+        ensures added { IfOk result (λ note.
+            AddsEntry pass.old.view (with_ops head ops.now) (reply_of_note note) pass.new.view) }
+        ensures refused { IfErr result (λ refused.
+            AddsNone N.never_fails pass.old.view (with_ops head ops.now) refused pass.new.view) }
     {
         self.turned.note(rt, pass, head, ops)
     }
@@ -126,9 +129,11 @@ impl<N: Nand> Die<N> {
     ) -> Result<JobNo, RefusedAt>
         requires { pass.old.lock ≡ self.now }
         ensures same { IsSamePass pass.old pass.new }
-        ensures taken { IfOk result (λ number. AddsEntry pass.old.view (Event.Submit task release due ops) (Reply.Taken number)
+        ensures taken { IfOk result (λ number.
+            AddsEntry pass.old.view (Event.Submit task release due ops) (Reply.Taken number)
             pass.new.view) }
-        ensures refused { IfErr result (λ refused. AddsNone N.never_fails pass.old.view (Event.Submit task release due ops) refused
+        ensures refused { IfErr result (λ refused.
+            AddsNone N.never_fails pass.old.view (Event.Submit task release due ops) refused
             pass.new.view) }
     {
         let event = Event::Submit {
@@ -160,9 +165,11 @@ impl<N: Nand> Die<N> {
     ) -> Result<JobNo, RefusedAt>
         requires { pass.old.lock ≡ self.now }
         ensures same { IsSamePass pass.old pass.new }
-        ensures taken { IfOk result (λ number. AddsEntry pass.old.view (Event.Collect task release due) (Reply.Taken number)
+        ensures taken { IfOk result (λ number.
+            AddsEntry pass.old.view (Event.Collect task release due) (Reply.Taken number)
             pass.new.view) }
-        ensures refused { IfErr result (λ refused. AddsNone N.never_fails pass.old.view (Event.Collect task release due) refused
+        ensures refused { IfErr result (λ refused.
+            AddsNone N.never_fails pass.old.view (Event.Collect task release due) refused
             pass.new.view) }
     {
         match self.apply(rt, pass, Event::Collect { task, release, due }) {
@@ -179,8 +186,10 @@ impl<N: Nand> Die<N> {
     pub fn slot<R: Wait>(&self, rt: &R, pass: &mut DiePass<N>) -> Result<SlotReply, RefusedAt>
         requires { pass.old.lock ≡ self.now }
         ensures same { IsSamePass pass.old pass.new }
-        ensures answered { IfOk result (λ reply. AddsEntry pass.old.view Event.Slot (Reply.Slot reply) pass.new.view) }
-        ensures refused { IfErr result (λ refused. AddsNone N.never_fails pass.old.view Event.Slot refused pass.new.view) }
+        ensures answered { IfOk result (λ reply.
+            AddsEntry pass.old.view Event.Slot (Reply.Slot reply) pass.new.view) }
+        ensures refused { IfErr result (λ refused.
+            AddsNone N.never_fails pass.old.view Event.Slot refused pass.new.view) }
     {
         match self.apply(rt, pass, Event::Slot) {
             Ok(reply) => Ok(slot_reply(reply)),
@@ -196,8 +205,10 @@ impl<N: Nand> Die<N> {
     ) -> Result<SlotNote, RefusedAt>
         requires { pass.old.lock ≡ self.now }
         ensures same { IsSamePass pass.old pass.new }
-        ensures answered { IfOk result (λ reply. AddsEntry pass.old.view Event.Slot (Reply.Slot reply) pass.new.view) }
-        ensures refused { IfErr result (λ refused. AddsNone N.never_fails pass.old.view Event.Slot refused pass.new.view) }
+        ensures answered { IfOk result (λ reply.
+            AddsEntry pass.old.view Event.Slot (Reply.Slot reply) pass.new.view) }
+        ensures refused { IfErr result (λ refused.
+            AddsNone N.never_fails pass.old.view Event.Slot refused pass.new.view) }
     {
         match self.note(rt, pass, EventHead::Slot, &[]) {
             Ok(note) => Ok(slot_note(note)),
@@ -208,7 +219,7 @@ impl<N: Nand> Die<N> {
     /// What became of the job or collection of a number. May wait for the turn.
     ///
     /// `UnknownJob` where the log has none of that number; else `NoMemory` where it is done and memory is refused for
-    /// what its reads gave. Of one that waits or was waived no memory is taken.
+    /// what its reads gave. Where no read gave anything, no memory is taken.
     pub fn outcome<R: Wait>(
         &self,
         rt: &R,
@@ -217,7 +228,8 @@ impl<N: Nand> Die<N> {
     ) -> Result<Outcome, Refusal>
         requires { pass.old.lock ≡ self.now }
         ensures same { IsSamePass pass.old pass.new }
-        ensures outcome { Sees pass.old.view pass.new.view (λ start log. TellsOutcome start log job result) }
+        ensures outcome { Sees pass.old.view pass.new.view (λ start log.
+            TellsOutcome start log job result) }
     {
         match self.turned.ask(rt, pass, Query::Outcome(job)) {
             Answer::Outcome(result) => result,
@@ -230,7 +242,8 @@ impl<N: Nand> Die<N> {
     pub fn worst<R: Wait>(&self, rt: &R, pass: &mut DiePass<N>) -> Option<Worst>
         requires { pass.old.lock ≡ self.now }
         ensures same { IsSamePass pass.old pass.new }
-        ensures worst { Sees pass.old.view pass.new.view (λ start log. result ≡ worst_of start.plan log) }
+        ensures worst { Sees pass.old.view pass.new.view (λ start log.
+            result ≡ worst_of start.plan log) }
     {
         match self.turned.ask(rt, pass, Query::Worst) {
             Answer::Worst(worst) => worst,
@@ -247,7 +260,8 @@ impl<N: Nand> Die<N> {
     ) -> Result<Option<Certificate>, Refusal>
         requires { pass.old.lock ≡ self.now }
         ensures same { IsSamePass pass.old pass.new }
-        ensures certificate { Sees pass.old.view pass.new.view (λ start log. TellsCertificate start log result) }
+        ensures certificate { Sees pass.old.view pass.new.view (λ start log.
+            TellsCertificate start log result) }
     {
         match self.turned.ask(rt, pass, Query::Certificate) {
             Answer::Certificate(result) => result,
@@ -273,7 +287,8 @@ impl<N: Nand> Die<N> {
         ensures same { IsSamePass pass.old pass.new }
         ensures grown { HasGrown pass.old.view pass.new.view }
         ensures length { result ≡ length pass.new.view.seen }
-        ensures own { calls_by pass.old.view.number pass.new.view.seen ≡ calls_by pass.old.view.number pass.old.view.seen }
+        ensures own { calls_by pass.old.view.number pass.new.view.seen
+            ≡ calls_by pass.old.view.number pass.old.view.seen }
     {
         self.turned.look(pass)
     }
@@ -285,7 +300,8 @@ impl<N: Nand> Die<N> {
         requires { pass.old.lock ≡ self.now }
         ensures same { IsSamePass pass.old pass.new }
         ensures own { IfOk result (λ made. made.lock ≡ pass.old.lock) }
-        ensures parts { IfOk result (λ made. Parts HasExactLog pass.old.view pass.new.view made.view) }
+        ensures parts { IfOk result (λ made.
+            Parts HasExactLog pass.old.view pass.new.view made.view) }
         ensures live { IfOk result (λ made. IsLive pass.new.view × IsLive made.view) }
         // no entry is by the new number
         ensures unused { IfOk result (λ made. calls_by made.view.number made.view.seen ≡ []) }

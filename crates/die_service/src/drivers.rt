@@ -74,7 +74,8 @@ impl<'a, N: Nand> Driver<'a, N> {
 
     /// Sees what the die has done.
     fn look(&mut self)
-        ensures asks { Asks N.never_fails self.old.pass self.old.course [] self.new.pass self.new.course }
+        ensures asks { Asks N.never_fails self.old.pass self.old.course [] self.new.pass
+            self.new.course }
         ensures course { self.new.course ≡ self.old.course }
         ensures slots { self.new.slots ≡ self.old.slots }
         ensures stop { self.new.stop ≡ self.old.stop }

@@ -205,7 +205,8 @@ impl Feed {
 
     /// Adds a row of this head and these operations, which only a job has.
     fn push_row(&mut self, at: u32, head: EventHead, ops: &[Op]) -> Result<(), Refusal>
-        ensures ok { OnOk result (self.new ≡ self.old ++ record { at = at; event = with_ops head ops.now } ∷ []) }
+        ensures ok { OnOk result (self.new
+            ≡ self.old ++ record { at = at; event = with_ops head ops.now } ∷ []) }
         ensures refused { FailsForMemory result }
         ensures err { OnErr result (self.new ≡ self.old) }
     {
@@ -255,7 +256,8 @@ impl Feed {
     /// Adds a job of these operations, which are lent, that comes before slot `at`; or a collection, which leaves them
     /// aside. Refused with `NoMemory`, the feed stays as it was.
     pub fn push_lent(&mut self, at: u32, head: JobHead, ops: &[Op]) -> Result<(), Refusal>
-        ensures ok { OnOk result (self.new ≡ self.old ++ record { at = at; event = arrival_of head ops.now } ∷ []) }
+        ensures ok { OnOk result (self.new
+            ≡ self.old ++ record { at = at; event = arrival_of head ops.now } ∷ []) }
         ensures refused { FailsForMemory result }
         ensures err { OnErr result (self.new ≡ self.old) }
     {
@@ -284,7 +286,8 @@ impl Feed {
     pub(crate) fn read(&self, place: usize, ops: &mut Vec<Op>) -> EventHead
         requires there { place < length self.now }
         requires room { HaveAtMost (vec_capacity ops.old) self.now }
-        ensures event { option_map (λ arrival. arrival.event) (slice_get self.now place) ≡ Some (with_ops result ops.new.items) }
+        ensures event { option_map (λ arrival.
+            arrival.event) (slice_get self.now place) ≡ Some (with_ops result ops.new.items) }
         ensures room { vec_capacity ops.new ≡ vec_capacity ops.old }
     {
         let row = self.rows[place];

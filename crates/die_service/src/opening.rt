@@ -48,7 +48,8 @@ pub(crate) fn open_each<N: Nand>(
     requires dies_room { vec_len cores.old ≤ vec_capacity dies.old }
     requires passes_room { vec_len cores.old ≤ vec_capacity passes.old }
     ensures own { OnOk result (map (λ pass. pass.lock) passes.new.items ≡ dies.new.items) }
-    ensures first { OnOk result (map (λ pass. pass.view) passes.new.items ≡ map (λ core. first_view core.start) cores.old.items) }
+    ensures first { OnOk result (map (λ pass. pass.view) passes.new.items ≡ map (λ core.
+        first_view core.start) cores.old.items) }
     ensures refused { FailsForMemory result }
     ensures back { OnErr result (cores.new.items ≡ cores.old.items) }
     ensures count { OnOk result (vec_len dies.new ≡ vec_len cores.old) }

@@ -61,7 +61,8 @@ fn push_packed(list: &mut Vec<OpWord>, writes: &mut Vec<PageWrite>, ops: &[Op])
     requires room { vec_len list.old + length ops.now ≤ vec_capacity list.old }
     requires writes_room { vec_len writes.old + length ops.now ≤ vec_capacity writes.old }
     requires packed { All (IsPacked (length writes.old.items)) list.old.items }
-    ensures ops { unpacked_ops writes.new.items list.new.items ≡ unpacked_ops writes.old.items list.old.items ++ ops.now }
+    ensures ops { unpacked_ops writes.new.items list.new.items
+        ≡ unpacked_ops writes.old.items list.old.items ++ ops.now }
     ensures packed { All (IsPacked (length writes.new.items)) list.new.items }
 {
     for op in ops {

@@ -27,8 +27,10 @@ pub fn promises<N: Nand>(pass: &DiePass<N>)
 /// Whatever list a pass has seen: an exact log that starts at an opening keeps all that is promised of a log, and so
 /// does each beginning of it.
 pub fn seen_keeps_promises()
-    ensures seen { (start : Start) (seen : List DieCall) → HasExactLog start seen → KeepsPromises start (log_of seen) }
-    ensures beginnings { (start : Start) (first later : List DieCall) → HasExactLog start (first ++ later)
+    ensures seen { (start : Start) (seen : List DieCall) → HasExactLog start seen
+        → KeepsPromises start (log_of seen) }
+    ensures beginnings { (start : Start) (first later : List DieCall)
+        → HasExactLog start (first ++ later)
         → KeepsPromises start (log_of first) }
 {}
 
@@ -40,7 +42,9 @@ pub fn seen_keeps_promises()
 /// It speaks of a die on which nothing else was done, as [`close`](crate::close) says of a closed one, whose log this
 /// is.
 pub fn planned_feeds_go_as_planned()
-    ensures { (never_fails : Bool) (start : Start) (slots : ℕ) (feed : List Arrival) (end : DieEnd) (log : Log) →
-        AllArrive feed → FeedKeepsPlan start slots feed → RanAlone never_fails start slots feed end log →
+    ensures { (never_fails : Bool) (start : Start) (slots : ℕ) (feed : List Arrival) (end : DieEnd)
+        (log : Log) →
+        AllArrive feed → FeedKeepsPlan start slots feed
+        → RanAlone never_fails start slots feed end log →
         FeedGoesAsPlanned never_fails start.plan end log }
 {}

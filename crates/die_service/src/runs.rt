@@ -132,7 +132,8 @@ pub fn run_batches<N: Nand + Send, G: Gate + Sync, R: Threads + Wait + Sync>(
     requires batches { length batches.items ≡ length store.now }
     requires arrive { All (λ batch. AllArrive batch.feed) batches.items }
     requires workers { (1 ≤ workers) × (workers ≤ 16) }
-    ensures ran { IfOk result (λ ends. HaveRun N.never_fails batches.items passes.old.items ends passes.new.items) }
+    ensures ran { IfOk result (λ ends.
+        HaveRun N.never_fails batches.items passes.old.items ends passes.new.items) }
     ensures refused { FailsForMemory result }
     ensures stays { IfErr result (λ _. passes.new.items ≡ passes.old.items) }
     ensures own { map (λ pass. pass.lock) passes.new.items ≡ store.now }
@@ -168,7 +169,8 @@ pub fn run_slots<N: Nand + Send, G: Gate + Sync, R: Threads + Wait + Sync>(
     requires feeds { length feeds.items ≡ length store.now }
     requires arrive { All AllArrive feeds.items }
     requires workers { (1 ≤ workers) × (workers ≤ 16) }
-    ensures ran { IfOk result (λ ends. HaveRun N.never_fails (map (whole_batch slots) feeds.items) passes.old.items ends
+    ensures ran { IfOk result (λ ends.
+        HaveRun N.never_fails (map (whole_batch slots) feeds.items) passes.old.items ends
         passes.new.items) }
     ensures refused { FailsForMemory result }
     ensures stays { IfErr result (λ _. passes.new.items ≡ passes.old.items) }

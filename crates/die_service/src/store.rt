@@ -91,11 +91,16 @@ fn do_fit<N: Nand>(plans: &[DiePlan], nands: &[N]) -> bool
 
 /// Why a store isn't made of these, if memory is no matter.
 fn refusal_of<N: Nand>(plans: &[DiePlan], nands: &[N]) -> Result<(), Refusal>
-    ensures ok { IsOk result ↔ (IsShaped plans.now (map N.shape_of nands.now) × HasUsablePlans plans.now (length nands.now)) }
-    ensures bad_shape { (result ≡ Err Refusal.BadShape) ↔ ¬ IsShaped plans.now (map N.shape_of nands.now) }
-    ensures bad_plan { (result ≡ Err Refusal.BadPlan) ↔ (IsShaped plans.now (map N.shape_of nands.now)
+    ensures ok { IsOk result
+        ↔ (IsShaped plans.now (map N.shape_of nands.now)
+        × HasUsablePlans plans.now (length nands.now)) }
+    ensures bad_shape { (result ≡ Err Refusal.BadShape)
+        ↔ ¬ IsShaped plans.now (map N.shape_of nands.now) }
+    ensures bad_plan { (result ≡ Err Refusal.BadPlan)
+        ↔ (IsShaped plans.now (map N.shape_of nands.now)
         × ¬ HasUsablePlans plans.now (length nands.now)) }
-    ensures refused { IfErr result (λ refusal. (refusal ≡ Refusal.BadShape) ⊎ (refusal ≡ Refusal.BadPlan)) }
+    ensures refused { IfErr result (λ refusal.
+        (refusal ≡ Refusal.BadShape) ⊎ (refusal ≡ Refusal.BadPlan)) }
 {
     if plans.is_empty()
         || plans.len() > MAX_DIES as usize
@@ -128,10 +133,12 @@ fn new_cores<N: Nand>(
     plans: Vec<DiePlan>,
     nands: Vec<N>,
 ) -> Result<Vec<DieCore<N>>, Refusal>
-    requires fresh { All (λ nand. IsFresh (N.shape_of nand) (N.blocks nand) (N.failures nand)) nands.items }
+    requires fresh { All (λ nand.
+        IsFresh (N.shape_of nand) (N.blocks nand) (N.failures nand)) nands.items }
     requires fit { Fit plans.items (map N.shape_of nands.items) }
     requires served { HasUsablePlans plans.items (vec_len nands) }
-    ensures starts { IfOk result (λ cores. map (λ core. core.start) cores.items ≡ map fresh plans.items) }
+    ensures starts { IfOk result (λ cores.
+        map (λ core. core.start) cores.items ≡ map fresh plans.items) }
     ensures at_start { IfOk result (λ cores. All IsAtStart cores.items) }
     ensures refused { FailsForMemory result }
 {
@@ -154,7 +161,8 @@ fn open_all<N: Nand>(
     requires start { All IsAtStart dies.items }
     requires few { length dies.items ≤ 8 }
     ensures own { IfOk result (λ made. map (λ pass. pass.lock) made.1.items ≡ made.0) }
-    ensures first { IfOk result (λ made. map (λ pass. pass.view) made.1.items ≡ map (λ die. first_view die.start) dies.items) }
+    ensures first { IfOk result (λ made.
+        map (λ pass. pass.view) made.1.items ≡ map (λ die. first_view die.start) dies.items) }
     ensures refused { IfErr result (λ kept. kept.refusal ≡ Refusal.NoMemory) }
     ensures back { IfErr result (λ kept. kept.dies.items ≡ dies.items) }
 {
@@ -186,12 +194,14 @@ fn make_store<N: Nand>(
     plans: Vec<DiePlan>,
     nands: Vec<N>,
 ) -> Result<(Store<N>, Vec<DiePass<N>>), Refusal>
-    requires fresh { All (λ nand. IsFresh (N.shape_of nand) (N.blocks nand) (N.failures nand)) nands.items }
+    requires fresh { All (λ nand.
+        IsFresh (N.shape_of nand) (N.blocks nand) (N.failures nand)) nands.items }
     requires fit { Fit plans.items (map N.shape_of nands.items) }
     requires served { HasUsablePlans plans.items (vec_len nands) }
     requires few { length plans.items ≤ 8 }
     ensures own { IfOk result (λ made. map (λ pass. pass.lock) made.1.items ≡ made.0) }
-    ensures first { IfOk result (λ made. map (λ pass. pass.view) made.1.items ≡ map first_view (map fresh plans.items)) }
+    ensures first { IfOk result (λ made.
+        map (λ pass. pass.view) made.1.items ≡ map first_view (map fresh plans.items)) }
     ensures refused { FailsForMemory result }
 {
     let dies = new_cores(alloc, plans, nands)?;
@@ -213,13 +223,18 @@ impl<N: Nand> Store<N> {
         plan: StorePlan,
         nands: Vec<N>,
     ) -> Result<(Store<N>, Vec<DiePass<N>>), Refusal>
-        requires fresh { All (λ nand. IsFresh (N.shape_of nand) (N.blocks nand) (N.failures nand)) nands.items }
+        requires fresh { All (λ nand.
+            IsFresh (N.shape_of nand) (N.blocks nand) (N.failures nand)) nands.items }
         ensures own { IfOk result (λ made. map (λ pass. pass.lock) made.1.items ≡ made.0) }
-        ensures first { IfOk result (λ made. map (λ pass. pass.view) made.1.items ≡ map first_view (map fresh plan)) }
+        ensures first { IfOk result (λ made.
+            map (λ pass. pass.view) made.1.items ≡ map first_view (map fresh plan)) }
         ensures live { IfOk result (λ made. All (λ pass. IsLive pass.view) made.1.items) }
-        ensures bad_shape { (result ≡ Err Refusal.BadShape) ↔ ¬ IsShaped plan (map N.shape_of nands.items) }
-        ensures bad_plan { (result ≡ Err Refusal.BadPlan) ↔ (IsShaped plan (map N.shape_of nands.items) × ¬ HasUsablePlans plan (vec_len nands)) }
-        ensures refused { IfErr result (λ refusal. (refusal ≡ Refusal.BadShape) ⊎ (refusal ≡ Refusal.BadPlan)
+        ensures bad_shape { (result ≡ Err Refusal.BadShape)
+            ↔ ¬ IsShaped plan (map N.shape_of nands.items) }
+        ensures bad_plan { (result ≡ Err Refusal.BadPlan)
+            ↔ (IsShaped plan (map N.shape_of nands.items) × ¬ HasUsablePlans plan (vec_len nands)) }
+        ensures refused { IfErr result (λ refusal.
+            (refusal ≡ Refusal.BadShape) ⊎ (refusal ≡ Refusal.BadPlan)
             ⊎ (refusal ≡ Refusal.NoMemory)) }
     {
         refusal_of(plan.as_slice(), nands.as_slice())?;
@@ -240,11 +255,14 @@ impl<N: Nand> Store<N> {
     ) -> Result<(Store<N>, Vec<DiePass<N>>), StillClosed<N>>
         requires start { All IsAtStart dies.items }
         ensures own { IfOk result (λ made. map (λ pass. pass.lock) made.1.items ≡ made.0) }
-        ensures first { IfOk result (λ made. map (λ pass. pass.view) made.1.items ≡ map (λ die. first_view die.start) dies.items) }
+        ensures first { IfOk result (λ made.
+            map (λ pass. pass.view) made.1.items ≡ map (λ die. first_view die.start) dies.items) }
         ensures live { IfOk result (λ made. All (λ pass. IsLive pass.view) made.1.items) }
         ensures count { IfOk result (λ _. IsDieCount (length dies.items)) }
-        ensures bad_shape { IfErr result (λ kept. (kept.refusal ≡ Refusal.BadShape) ↔ ¬ IsDieCount (length dies.items)) }
-        ensures refused { IfErr result (λ kept. (kept.refusal ≡ Refusal.BadShape) ⊎ (kept.refusal ≡ Refusal.NoMemory)) }
+        ensures bad_shape { IfErr result (λ kept.
+            (kept.refusal ≡ Refusal.BadShape) ↔ ¬ IsDieCount (length dies.items)) }
+        ensures refused { IfErr result (λ kept.
+            (kept.refusal ≡ Refusal.BadShape) ⊎ (kept.refusal ≡ Refusal.NoMemory)) }
         ensures back { IfErr result (λ kept. kept.dies.items ≡ dies.items) }
     {
         if !may_have_dies(dies.len()) {

@@ -162,7 +162,9 @@ impl EventLog {
 
     /// Whether an event of this caller goes on with the newest record.
     fn goes_on(&self, caller: u32, deed: &Deed, waived: &[Waived]) -> bool
-        ensures { result ≡ goes_on (record { caller = caller; deed = deed.now; waived = waived.now }) self.now.notes }
+        ensures { result
+            ≡ goes_on (record { caller = caller; deed = deed.now; waived = waived.now })
+            self.now.notes }
     {
         if self.waives || !waived.is_empty() {
             return false;
@@ -178,7 +180,8 @@ impl EventLog {
         requires room { 0 < self.old.room }
         requires waiver_room { length waived.now ≤ self.old.waiver_room }
         requires few { length self.old.notes + 1 < 2 ^ 32 }
-        ensures events { self.new.notes ≡ record { caller = caller; deed = deed; waived = waived.now } ∷ self.old.notes }
+        ensures events { self.new.notes
+            ≡ record { caller = caller; deed = deed; waived = waived.now } ∷ self.old.notes }
         ensures room { self.old.room ≡ self.new.room + 1 }
         ensures waiver_room { self.old.waiver_room ≡ self.new.waiver_room + length waived.now }
     {
@@ -201,7 +204,8 @@ impl EventLog {
         requires room { 0 < self.old.room }
         requires waiver_room { length waived.now ≤ self.old.waiver_room }
         requires few { length self.old.notes + 1 < 2 ^ 32 }
-        ensures events { self.new.notes ≡ record { caller = caller; deed = Deed.Idle; waived = waived.now } ∷ self.old.notes }
+        ensures events { self.new.notes
+            ≡ record { caller = caller; deed = Deed.Idle; waived = waived.now } ∷ self.old.notes }
         ensures room { self.old.room ≡ self.new.room + 1 }
         ensures waiver_room { self.old.waiver_room ≡ self.new.waiver_room + length waived.now }
     {

@@ -10,13 +10,15 @@ ghost use Rattle.event_log.specs.Alike.{record_count};
 
 /// As the jobs of a die grow, the entries of the events that were before stay the same.
 pub fn entries_stay()
-    ensures { (jobs later : List JobRecord) (notes : List Note) → Grew jobs later → AllFit jobs notes
+    ensures { (jobs later : List JobRecord) (notes : List Note) → Grew jobs later
+        → AllFit jobs notes
         → entries_of later notes ≡ entries_of jobs notes }
 {}
 
 /// What an event names goes on standing, as the jobs grow.
 pub fn events_go_on_fitting()
-    ensures { (jobs later : List JobRecord) (notes : List Note) → Grew jobs later → AllFit jobs notes → AllFit later notes }
+    ensures { (jobs later : List JobRecord) (notes : List Note) → Grew jobs later
+        → AllFit jobs notes → AllFit later notes }
 {}
 
 /// A log keeps as many records of deeds as there are runs of like events, where neighbours in one erase have one block.
@@ -26,5 +28,6 @@ pub fn stretches_are_kept()
 
 /// A log takes as many records as its events have runs of like events, whatever the jobs.
 pub fn stretches_are_records()
-    ensures { (jobs : List JobRecord) (notes : List Note) → record_count (entries_of jobs notes) ≡ stretches notes }
+    ensures { (jobs : List JobRecord) (notes : List Note)
+        → record_count (entries_of jobs notes) ≡ stretches notes }
 {}

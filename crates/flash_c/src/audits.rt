@@ -39,7 +39,8 @@ pub extern "C" fn flash_version() -> u32
 #[unsafe(no_mangle)]
 pub extern "C" fn flash_plan_bound(alloc: Global, plan: &FlashPlan, tasks: &[FlashTask]) -> u32
     ensures met { result ≡ 0 → MeetsBound (plan_in plan.now tasks.now) }
-    ensures unmet { result ≢ 0 → result ≢ 1 → ((result ≡ 2) ⊎ (result ≡ 3)) × ¬ MeetsBound (plan_in plan.now tasks.now) }
+    ensures unmet { result ≢ 0 → result ≢ 1
+        → ((result ≡ 2) ⊎ (result ≡ 3)) × ¬ MeetsBound (plan_in plan.now tasks.now) }
 {
     let plan = match plan_in(alloc, plan, tasks) {
         Ok(plan) => plan,
@@ -60,9 +61,11 @@ pub extern "C" fn flash_plan_test(
     load: &mut FlashLoad,
 ) -> u32
     ensures bound { result ≡ 0 → MeetsBound (plan_in plan.now tasks.now) }
-    ensures passes { result ≡ 0 → IsSomeAnd (plan_in plan.now tasks.now).times (Passes (plan_in plan.now tasks.now)) }
+    ensures passes { result ≡ 0
+        → IsSomeAnd (plan_in plan.now tasks.now).times (Passes (plan_in plan.now tasks.now)) }
     ensures demand { result ≡ 0 → IsSomeAnd (plan_in plan.now tasks.now).times (λ times.
-        (load.new.demand ≡ demand (plan_in plan.now tasks.now) times) × (load.new.common ≡ times.common)) }
+        (load.new.demand ≡ demand (plan_in plan.now tasks.now) times)
+        × (load.new.common ≡ times.common)) }
     ensures fails { result ≡ 3 → ¬ (MeetsBound (plan_in plan.now tasks.now)
         × IsSomeAnd (plan_in plan.now tasks.now).times (Passes (plan_in plan.now tasks.now))) }
     ensures silent { result ≢ 0 → load.new ≡ load.old }
@@ -93,11 +96,17 @@ pub extern "C" fn flash_check(
     jobs: &[u32],
 ) -> u32
     ensures rising { result ≡ 104 → ¬ RowsRise (map row_in rows.now) }
-    ensures verdict { result ≢ 104 → result ≢ 1 → RowsRise (map row_in rows.now) × (result ≡ verdict_code
-        (verdict_of (map row_in rows.now) certificate.now.start certificate.now.due certificate.now.completion jobs.now)) }
-    ensures holds { result ≡ 0 → IsCertificate (map row_in rows.now) certificate.now.start certificate.now.due certificate.now.completion
+    ensures verdict { result ≢ 104 → result ≢ 1
+        → RowsRise (map row_in rows.now) × (result ≡ verdict_code
+        (verdict_of (map row_in rows.now) certificate.now.start certificate.now.due
+        certificate.now.completion jobs.now)) }
+    ensures holds { result ≡ 0
+        → IsCertificate (map row_in rows.now) certificate.now.start certificate.now.due
+        certificate.now.completion
         jobs.now }
-    ensures binds { result ≡ 0 → BindsEverySchedule (map row_in rows.now) certificate.now.due certificate.now.completion jobs.now }
+    ensures binds { result ≡ 0
+        → BindsEverySchedule (map row_in rows.now) certificate.now.due certificate.now.completion
+        jobs.now }
 {
     let made = match rows_in(alloc, rows) {
         Ok(made) => made,

@@ -139,7 +139,8 @@ fn checkpoint_in(
     balances: &[u32],
     spare: u32,
 ) -> Result<Checkpoint, Refusal>
-    ensures checkpoint { IfOk result (λ made. made ≡ checkpoint_in places.now blocks.now balances.now spare) }
+    ensures checkpoint { IfOk result (λ made.
+        made ≡ checkpoint_in places.now blocks.now balances.now spare) }
     ensures refused { FailsForMemory result }
 {
     Ok(Checkpoint {
@@ -167,11 +168,15 @@ pub extern "C" fn flash_checkpoint(
     requires full { die.old.value ≡ Some held }
     ensures same { die.new.value ≡ Some held }
     ensures may { result ≡ 0 → MayBeRenewed held.core }
-    ensures told { result ≡ 0 → TellsCheckpoint (checkpoint_of (renewed_start held.core.start held.core.log)) places.old places.new
+    ensures told { result ≡ 0
+        → TellsCheckpoint (checkpoint_of (renewed_start held.core.start held.core.log)) places.old
+        places.new
         blocks.old blocks.new balances.old balances.new spare.new }
-    ensures names { result ≡ 0 → names.new ≡ array_with name_of names.old (contents held.core.start held.core.log) }
+    ensures names { result ≡ 0 → names.new
+        ≡ array_with name_of names.old (contents held.core.start held.core.log) }
     ensures cause { result ≢ 0 → TellsUntaken held result why.new }
-    ensures silent { result ≢ 0 → (places.new ≡ places.old) × (names.new ≡ names.old) × (blocks.new ≡ blocks.old)
+    ensures silent { result ≢ 0 → (places.new ≡ places.old) × (names.new ≡ names.old)
+        × (blocks.new ≡ blocks.old)
         × (balances.new ≡ balances.old) × (spare.new ≡ spare.old) }
 {
     let mut boxed = take(alloc, die);

@@ -76,9 +76,11 @@ fn submit_ops(
     due: u32,
     ops: &[FlashOp],
 ) -> Result<JobNo, StepRefusal>
-    ensures taken { IfOk result (λ number. HasEntered caller (events.Submit task release due (ops_in ops.now)) number die.old.core
+    ensures taken { IfOk result (λ number.
+        HasEntered caller (events.Submit task release due (ops_in ops.now)) number die.old.core
         die.new.core) }
-    ensures cause { IfErr result (RefusesArrival release (events.Submit task release due (ops_in ops.now)) die.old die.new) }
+    ensures cause { IfErr result
+        (RefusesArrival release (events.Submit task release due (ops_in ops.now)) die.old die.new) }
     ensures refused { OnErr result (die.new ≡ die.old) }
 {
     let looked_at = seen(ops);
@@ -111,12 +113,15 @@ pub extern "C" fn flash_submit(
     requires full { die.old.value ≡ Some held }
     ensures full { IsSome die.new.value }
     ensures taken { result ≡ 0 → IfSome die.new.value (λ after.
-        HasEntered caller (events.Submit task release due (ops_in ops.now)) number.new held.core after.core) }
+        HasEntered caller (events.Submit task release due (ops_in ops.now)) number.new held.core
+        after.core) }
     ensures refused { result ≢ 0 → die.new.value ≡ Some held }
     ensures silent { result ≢ 0 → number.new ≡ number.old }
     ensures kind { list_all is_of_a_kind (ops_looked_at ops.now) ≡ false → result ≡ 102 }
     ensures cause { list_all is_of_a_kind (ops_looked_at ops.now) ≡ true → result ≢ 0 →
-        TellsRefusal (RefusesArrival release (events.Submit task release due (ops_in ops.now)) held held) result why.new }
+        TellsRefusal
+        (RefusesArrival release (events.Submit task release due (ops_in ops.now)) held held) result
+        why.new }
 {
     if !are_of_a_kind(seen(ops)) {
         return BAD_KIND;
@@ -155,7 +160,9 @@ pub extern "C" fn flash_collect(
         HasEntered caller (events.Collect task release due) number.new held.core after.core) }
     ensures refused { result ≢ 0 → die.new.value ≡ Some held }
     ensures silent { result ≢ 0 → number.new ≡ number.old }
-    ensures cause { result ≢ 0 → TellsRefusal (RefusesArrival release (events.Collect task release due) held held) result why.new }
+    ensures cause { result ≢ 0
+        → TellsRefusal (RefusesArrival release (events.Collect task release due) held held) result
+        why.new }
 {
     let mut boxed = take(alloc, die);
     let taken = boxed.collect(alloc, caller, TaskNo(task), release, due);
@@ -218,8 +225,10 @@ pub extern "C" fn flash_end(
     ensures full { IsSome die.new.value }
     ensures ended { result ≡ 0 → IfSome die.new.value (λ after.
         TellsReply (ok == 1) (page_in name.now) held after reply.new waived.old waived.new) }
-    ensures failed { result ≡ 15 → IfSome die.new.value (HasFailed (ok == 1) (page_in name.now) held) }
-    ensures refused { result ≢ 0 → result ≢ 15 → ((result ≡ 16) ⊎ (result ≡ 101)) × (die.new.value ≡ Some held) }
+    ensures failed { result ≡ 15
+        → IfSome die.new.value (HasFailed (ok == 1) (page_in name.now) held) }
+    ensures refused { result ≢ 0 → result ≢ 15
+        → ((result ≡ 16) ⊎ (result ≡ 101)) × (die.new.value ≡ Some held) }
     ensures silent { result ≢ 0 → (reply.new ≡ reply.old) × (waived.new ≡ waived.old) }
 {
     let bytes = page_in(name);
@@ -265,7 +274,8 @@ pub extern "C" fn flash_renew(alloc: Global, die: &mut Handle, why: &mut FlashWh
     ghost held: { Stepped }
     requires full { die.old.value ≡ Some held }
     ensures full { IsSome die.new.value }
-    ensures renewed { result ≡ 0 → IfSome die.new.value (λ after. after ≡ record held { core = renewed_core held.core }) }
+    ensures renewed { result ≡ 0 → IfSome die.new.value (λ after.
+        after ≡ record held { core = renewed_core held.core }) }
     ensures may { result ≡ 0 → MayBeRenewed held.core }
     ensures cause { result ≢ 0 → TellsUnrenewed held result why.new }
     ensures refused { result ≢ 0 → die.new.value ≡ Some held }

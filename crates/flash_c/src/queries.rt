@@ -69,8 +69,10 @@ pub extern "C" fn flash_job(alloc: Global, die: &mut Handle, number: u32, job: &
     ghost held: { Stepped }
     requires full { die.old.value ≡ Some held }
     ensures same { die.new.value ≡ Some held }
-    ensures told { result ≡ 0 → IsSomeAnd (head_at held.core.log number) (λ head. job.new ≡ tells.job_of head) }
-    ensures unknown { result ≢ 0 → (result ≡ 17) × (job_at held.core.log number ≡ None) × (job.new ≡ job.old) }
+    ensures told { result ≡ 0 → IsSomeAnd (head_at held.core.log number) (λ head.
+        job.new ≡ tells.job_of head) }
+    ensures unknown { result ≢ 0 → (result ≡ 17) × (job_at held.core.log number ≡ None)
+        × (job.new ≡ job.old) }
 {
     let boxed = take(alloc, die);
     let told = boxed.core().job(JobNo(number));
@@ -96,7 +98,8 @@ pub extern "C" fn flash_outcome(
     ghost held: { Stepped }
     requires full { die.old.value ≡ Some held }
     ensures same { die.new.value ≡ Some held }
-    ensures told { result ≡ 0 → IsSomeAnd (outcome_at held.core.start held.core.log job) (λ told. outcome.new ≡ tells.outcome_of told) }
+    ensures told { result ≡ 0 → IsSomeAnd (outcome_at held.core.start held.core.log job) (λ told.
+        outcome.new ≡ tells.outcome_of told) }
     ensures reads { result ≡ 0 → IsSomeAnd (outcome_at held.core.start held.core.log job) (λ told.
         reads.new ≡ array_with name_of reads.old (tells.reads_in told)) }
     ensures unknown { result ≢ 0 → (result ≡ 17) ⊎ (result ≡ 1) }
@@ -131,8 +134,10 @@ pub extern "C" fn flash_worst(alloc: Global, die: &mut Handle, worst: &mut Flash
     ghost held: { Stepped }
     requires full { die.old.value ≡ Some held }
     ensures same { die.new.value ≡ Some held }
-    ensures told { result ≡ 0 → IsSomeAnd (worst_of held.core.start.plan held.core.log) (λ found. worst.new ≡ tells.worst_of found) }
-    ensures nothing { result ≢ 0 → (result ≡ 103) × (worst_of held.core.start.plan held.core.log ≡ None) × (worst.new ≡ worst.old) }
+    ensures told { result ≡ 0 → IsSomeAnd (worst_of held.core.start.plan held.core.log) (λ found.
+        worst.new ≡ tells.worst_of found) }
+    ensures nothing { result ≢ 0 → (result ≡ 103)
+        × (worst_of held.core.start.plan held.core.log ≡ None) × (worst.new ≡ worst.old) }
 {
     let boxed = take(alloc, die);
     let told = boxed.core().worst();
@@ -189,8 +194,10 @@ pub extern "C" fn flash_rows(
     ghost held: { Stepped }
     requires full { die.old.value ≡ Some held }
     ensures same { die.new.value ≡ Some held }
-    ensures rows { result ≡ 0 → told.new ≡ array_with tells.row_of told.old (rows held.core.start.plan held.core.log) }
-    ensures count { result ≡ 0 → count.new ≡ count_of (length (rows held.core.start.plan held.core.log)) }
+    ensures rows { result ≡ 0 → told.new
+        ≡ array_with tells.row_of told.old (rows held.core.start.plan held.core.log) }
+    ensures count { result ≡ 0 → count.new
+        ≡ count_of (length (rows held.core.start.plan held.core.log)) }
     ensures silent { result ≢ 0 → (result ≡ 1) × (told.new ≡ told.old) × (count.new ≡ count.old) }
 {
     let boxed = take(alloc, die);

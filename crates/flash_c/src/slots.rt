@@ -115,7 +115,8 @@ fn made(
     last: u32,
     name: FlashName,
 ) -> FlashCall
-    ensures { result ≡ record { kind = kind; block = block; page = page; last = last; slot = slot; act = act; job = job; name = name } }
+    ensures { result
+        ≡ record { kind = kind; block = block; page = page; last = last; slot = slot; act = act; job = job; name = name } }
 {
     FlashCall {
         kind,

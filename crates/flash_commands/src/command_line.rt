@@ -44,7 +44,8 @@ pub fn own_words<R: Env>(rt: &R, alloc: Global, name: &str) -> Result<Vec<String
 pub fn show<R: Print + Eprint, E: Write>(rt: &R, err: &mut E, error: clap::Error) -> u8
     ensures help { kind_of error ≡ ErrorKind.DisplayHelp → (result ≡ 0) ⊎ (result ≡ 1) }
     ensures version { kind_of error ≡ ErrorKind.DisplayVersion → (result ≡ 0) ⊎ (result ≡ 1) }
-    ensures fault { kind_of error ≢ ErrorKind.DisplayHelp → kind_of error ≢ ErrorKind.DisplayVersion → result ≡ 2 }
+    ensures fault { kind_of error ≢ ErrorKind.DisplayHelp → kind_of error ≢ ErrorKind.DisplayVersion
+        → result ≡ 2 }
 {
     let shown = error.print(rt);
     if error.use_stderr() {

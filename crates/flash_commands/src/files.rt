@@ -23,7 +23,8 @@ pub trait Folder {
 
     /// Opens a file, to be read from its start. The only refusal is `ReadFault`, for a file that isn't there too.
     fn open(&self, name: &str) -> Result<Self::Reader, Refusal>
-        ensures opened { IfOk result (λ reader. GivesFile (held self.now name.now) (Self.Reader.remaining reader)) }
+        ensures opened { IfOk result (λ reader.
+            GivesFile (held self.now name.now) (Self.Reader.remaining reader)) }
         ensures refused { IfErr result (λ refusal. refusal ≡ Refusal.ReadFault) };
 }
 
@@ -68,7 +69,8 @@ impl<R: Read> Read for Source<R> {
 
     fn read(&mut self, buf: &mut [u8]) -> io::Result<usize>
         ensures bound { ReadsAtMost result buf.new }
-        ensures bytes { ReadConsumes (source_remaining R.remaining self.old) (source_remaining R.remaining self.new) result buf.new }
+        ensures bytes { ReadConsumes (source_remaining R.remaining self.old)
+            (source_remaining R.remaining self.new) result buf.new }
     {
         match self {
             Source::File(file) => file.read(buf),
@@ -84,7 +86,8 @@ pub fn open<D: Folder>(
     folder: &D,
     command: Command<'_>,
 ) -> Result<(Source<D::Reader>, Source<D::Reader>), Refusal>
-    ensures opened { IfOk result (λ files. AreOpen D.Reader.remaining (D.held folder.now) command.entry files.0 files.1) }
+    ensures opened { IfOk result (λ files.
+        AreOpen D.Reader.remaining (D.held folder.now) command.entry files.0 files.1) }
     ensures refused { IfErr result (λ refusal. refusal ≡ Refusal.ReadFault) }
 {
     match command {

@@ -92,7 +92,8 @@ fn name<'a>(alloc: Global) -> Command<'a>
 /// A program with one more command.
 fn with_command<'a>(program: Command<'a>, command: Command<'a>) -> Result<Command<'a>, AllocError>
     requires { has_globals command ≡ false }
-    ensures { IfOk result (λ c. app_of c ≡ with_subcommand (app_of program.entry) (app_of command.entry).top) }
+    ensures { IfOk result (λ c.
+        app_of c ≡ with_subcommand (app_of program.entry) (app_of command.entry).top) }
 {
     program.subcommand(command)
 }

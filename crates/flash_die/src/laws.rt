@@ -36,7 +36,8 @@ pub fn making_a_device_has_one_answer()
 /// Making a device as it was left (`MemoryNand::left`) has one answer. Left open is whether there is memory for the
 /// cells of a shape within its limits.
 pub fn leaving_a_device_has_one_answer()
-    ensures { (shape : Shape) (cells : List PageData) (filled erases : List ℕ) (one other : Result Memory Refusal) →
+    ensures { (shape : Shape) (cells : List PageData) (filled erases : List ℕ)
+        (one other : Result Memory Refusal) →
         IfOk one (λ device. device ≡ left_memory shape cells filled erases) →
         IfOk other (λ device. device ≡ left_memory shape cells filled erases) →
         ((one ≡ Err Refusal.BadShape) ↔ ¬ IsShape shape) →
@@ -49,7 +50,8 @@ pub fn leaving_a_device_has_one_answer()
 /// A device as it was left has what was said of it: by block so many programmed pages, no erase that runs and so many
 /// erases, and in each programmed cell the bytes that were given for it.
 pub fn a_left_device_is_as_it_was()
-    ensures { (shape : Shape) (cells : List PageData) (filled erases : List ℕ) → length cells ≤ shape.blocks * shape.pages
+    ensures { (shape : Shape) (cells : List PageData) (filled erases : List ℕ)
+        → length cells ≤ shape.blocks * shape.pages
         → length filled ≡ shape.blocks → ((block : ℕ) → slice_index filled block ≤ shape.pages)
         → AreLeftSo shape cells filled erases (left_memory shape cells filled erases).blocks }
 {}
@@ -91,9 +93,11 @@ pub fn erasing_a_block_has_one_answer<N: Nand>()
         IfOk other (λ last. last
         ≡ ((block_at (N.blocks before) block).erasing + 1 == (N.shape_of before).erase_slots)) →
         OnOk one
-        (N.blocks left ≡ blocks_after_erase_slot (N.blocks before) (N.shape_of before).erase_slots block) →
+        (N.blocks left
+        ≡ blocks_after_erase_slot (N.blocks before) (N.shape_of before).erase_slots block) →
         OnOk other
-        (N.blocks right ≡ blocks_after_erase_slot (N.blocks before) (N.shape_of before).erase_slots block) →
+        (N.blocks right
+        ≡ blocks_after_erase_slot (N.blocks before) (N.shape_of before).erase_slots block) →
         FailsByFault N.never_fails one (N.failures before) (N.failures left) →
         FailsByFault N.never_fails other (N.failures before) (N.failures right) →
         AreOneButForFault N.never_fails one other

@@ -77,7 +77,8 @@ impl MemoryNand {
         requires filled_blocks { length filled.now ≡ shape.blocks }
         requires erased_blocks { length erases.now ≡ shape.blocks }
         requires within { (block : ℕ) → slice_index filled.now block ≤ shape.pages }
-        ensures left { IfOk result (λ device. device ≡ left_memory shape cells.items filled.now erases.now) }
+        ensures left { IfOk result (λ device.
+            device ≡ left_memory shape cells.items filled.now erases.now) }
         ensures bad_shape { (result ≡ Err Refusal.BadShape) ↔ ¬ IsShape shape }
         ensures no_memory { IsShape shape → FailsForMemory result }
     {
@@ -114,7 +115,8 @@ impl MemoryNand {
 
     /// Whether the next slot of the block's erase is its last.
     pub fn ends_erase(&self, block: u32) -> bool
-        ensures { result ≡ ((block_at self.now.blocks block).erasing + 1 == self.now.shape.erase_slots) }
+        ensures { result
+            ≡ ((block_at self.now.blocks block).erasing + 1 == self.now.shape.erase_slots) }
     {
         match self.erasing.get(block as usize) {
             Some(done) => *done + 1 == self.shape.erase_slots,

@@ -60,7 +60,8 @@ pub trait Nand: Drop {
     fn program(&mut self, place: Place, bytes: PageData) -> Result<(), Refusal>
         requires next { IsNextCell (blocks self.old) (shape_of self.old).pages place }
         requires few_failures { failures self.old < 4294967295 }
-        ensures blocks { OnOk result (blocks self.new ≡ blocks_after_program (blocks self.old) place.block bytes) }
+        ensures blocks { OnOk result (blocks self.new
+            ≡ blocks_after_program (blocks self.old) place.block bytes) }
         ensures fails { FailsByFault never_fails result (failures self.old) (failures self.new) }
         ensures shape { shape_of self.new ≡ shape_of self.old }
         ensures ends { ends self.old (NandCall.Program place bytes) (is_ok result) self.new };
@@ -70,8 +71,11 @@ pub trait Nand: Drop {
     fn erase_slot(&mut self, block: u32) -> Result<bool, Refusal>
         requires erasable { IsErasable (blocks self.old) (shape_of self.old).pages block }
         requires few_failures { failures self.old < 4294967295 }
-        ensures last { IfOk result (λ last. last ≡ ((block_at (blocks self.old) block).erasing + 1 == (shape_of self.old).erase_slots)) }
-        ensures blocks { OnOk result (blocks self.new ≡ blocks_after_erase_slot (blocks self.old) (shape_of self.old).erase_slots block) }
+        ensures last { IfOk result (λ last.
+            last ≡ ((block_at (blocks self.old) block).erasing
+            + 1 == (shape_of self.old).erase_slots)) }
+        ensures blocks { OnOk result (blocks self.new
+            ≡ blocks_after_erase_slot (blocks self.old) (shape_of self.old).erase_slots block) }
         ensures fails { FailsByFault never_fails result (failures self.old) (failures self.new) }
         ensures shape { shape_of self.new ≡ shape_of self.old }
         ensures ends { ends self.old (NandCall.EraseSlot block) (is_ok result) self.new };

@@ -12,3 +12,6 @@ pub mod Worn
 pub mod Stepping
 pub mod Pigeon
 pub mod Resuming
+pub mod FreeBlocks
+pub mod FreeMarks
+pub mod FirstCells

@@ -38,10 +38,10 @@ opened_means pages filled is = grind (arith, nat_tests)
 opened_fails : (pages filled : ℕ) → is_open_with pages filled ≡ false → 0 < filled → filled < pages → ⊥
 opened_fails pages filled is some few = grind (arith, nat_tests)
 
-free_means : (filled : ℕ) → is_wholly_free filled ≡ true → filled ≡ 0
+pub free_means : (filled : ℕ) → is_wholly_free filled ≡ true → filled ≡ 0
 free_means filled is = grind (arith, nat_tests)
 
-free_fails : (filled : ℕ) → is_wholly_free filled ≡ false → 0 < filled
+pub free_fails : (filled : ℕ) → is_wholly_free filled ≡ false → 0 < filled
 free_fails filled is = grind (arith, nat_tests)
 
 pub none_opened : (pages : ℕ) (fills : List ℕ) (k : ℕ) → position (is_open_with pages) fills ≡ None → 0 < get_or fills k 0

@@ -65,8 +65,8 @@ pub record AreClosedBelow (pages : ℕ) (blocks : List BlockCounts) (places : Li
 
 -- the tables of an array are those of a checkpoint
 pub record AreTablesOf (shape : Shape) (c : Checkpoint) (t : Tables) : Type 0 where
-  pub map_is : t.map ≡ record { shape = shape; places = c.places }
-  pub fills_are : t.fills.items ≡ map (λ (b : BlockCounts). b.filled) c.blocks
+  pub placed_is : t.placed ≡ record { shape = shape; places = c.places }
+  pub fills_are : t.fills ≡ map (λ (b : BlockCounts). b.filled) c.blocks
   pub erases_are : t.erases.items ≡ map (λ (b : BlockCounts). b.erases) c.blocks
-  pub writing_is : t.writing ≡ position (is_open_with shape.pages) t.fills.items
+  pub writing_is : t.writing ≡ position (is_open_with shape.pages) t.fills
   pub victims_are : AreClosedBelow shape.pages c.blocks c.places t.victims shape.blocks

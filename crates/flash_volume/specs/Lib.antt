@@ -1,4 +1,5 @@
 pub mod Cells
+pub mod FreeBlocks
 pub mod Array
 pub mod ArrayCalls
 pub mod Running
@@ -8,6 +9,7 @@ pub mod State
 pub mod Pages
 pub mod Faults
 pub mod Acts
+pub mod FirstCells
 pub mod Calls
 pub mod Steps
 pub mod Checkpoints

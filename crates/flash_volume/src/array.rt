@@ -9,14 +9,15 @@ ghost use Rattle.slot_types.specs.Shapes.{IsShape};
 ghost use Rattle.victim_pick.specs.Candidates.{count_of, HasNone, IsLeast};
 ghost use Rattle.page_map.specs.Placing.{blank_map, placing_without};
 ghost use Rattle.flash_die.specs.Flash.{IsFresh, blank, block_at, blocks_after_program, blocks_after_erase_slot};
-ghost use Rattle.flash_volume.specs.Cells.{filled_of, first_worn, is_wholly_free, is_worn_beyond, open_in, left_open, next_cell, content_at, contents, free_cells};
+ghost use Rattle.flash_volume.specs.Cells.{filled_of, first_worn, is_worn_beyond, open_in, left_open, next_cell, content_at, contents, free_cells};
 ghost use Rattle.flash_volume.specs.Array.{IsSoundArray, no_candidates, without_candidate};
 ghost use Rattle.flash_volume.specs.ArrayCalls.{HasPlaced, HasErased, EndsWithDevice};
 ghost use Rattle.flash_volume.specs.Acts.{IsFirstInBlock};
 
 use crate::candidates::{close_when_filled, leave};
+use crate::fills::Fills;
+use crate::placed_pages::PlacedPages;
 use flash_die::{Nand, NandCall};
-use page_map::PageMap;
 use slot_types::{PageData, Place, Refusal};
 use std::alloc::Global;
 use std::marker::Model;
@@ -30,9 +31,9 @@ use victim_pick::Victims;
 #[derive(Drop)]
 pub(crate) struct PageArray<N: Nand> {
     pub(crate) device: N,
-    pub(crate) map: PageMap,
+    pub(crate) placed: PlacedPages,
     /// By block how many of its cells are programmed.
-    pub(crate) fills: Vec<u32>,
+    pub(crate) fills: Fills,
     /// The open block. There is one at most.
     pub(crate) writing: Option<u32>,
     /// By block its finished erases.
@@ -48,10 +49,10 @@ impl<N: Nand> Model for PageArray<N> {
 
     ghost Value = { ArrayState N };
 
-    ghost view = { λ a. record { failed = a.failed; device = a.device; placing = a.map; candidates = a.victims } };
+    ghost view = { λ a. record { failed = a.failed; device = a.device; placing = a.placed; candidates = a.victims } };
 
     ghost invariant = { λ a. a.failed ≡ false
-        → IsSoundState (N.shape_of a.device) (N.failures a.device) (N.blocks a.device) a.map a.fills.items a.erases.items a.writing a.victims };
+        → IsSoundState (N.shape_of a.device) (N.failures a.device) (N.blocks a.device) a.placed a.fills a.erases.items a.writing a.victims };
 }
 
 impl<N: Nand> PageArray<N> {
@@ -72,8 +73,8 @@ impl<N: Nand> PageArray<N> {
         let shape = device.shape();
         Ok(PageArray {
             device,
-            map: PageMap::new(alloc, shape, logical)?,
-            fills: vec![in alloc; 0; shape.blocks as usize]?,
+            placed: PlacedPages::new(alloc, shape, logical)?,
+            fills: Fills::of(alloc, vec![in alloc; 0; shape.blocks as usize]?)?,
             erases: vec![in alloc; 0; shape.blocks as usize]?,
             writing: None,
             victims: Victims::new(alloc, shape.blocks, shape.pages)?,
@@ -92,7 +93,7 @@ impl<N: Nand> PageArray<N> {
     pub(crate) fn pages(&self) -> u32
         ensures { result ≡ length self.now.placing.places }
     {
-        self.map.pages()
+        self.placed.map().pages()
     }
 
     /// The device.
@@ -117,8 +118,10 @@ impl<N: Nand> PageArray<N> {
     pub(crate) fn read(&mut self, page: u32) -> Result<PageData, Refusal>
         requires alive { self.old.failed ≡ false }
         requires page { page < length self.old.placing.places }
-        ensures page { IfOk result (λ bytes. bytes ≡ content_at (N.blocks self.old.device) (place_of self.old.placing.places page)) }
-        ensures unwritten { place_of self.old.placing.places page ≡ None → (result ≡ Ok blank) × (self.new ≡ self.old) }
+        ensures page { IfOk result (λ bytes.
+            bytes ≡ content_at (N.blocks self.old.device) (place_of self.old.placing.places page)) }
+        ensures unwritten { place_of self.old.placing.places page ≡ None
+            → (result ≡ Ok blank) × (self.new ≡ self.old) }
         ensures once { (place : Place) → place_of self.old.placing.places page ≡ Some place
             → N.ends self.old.device (NandCall.Read place) (is_ok result) self.new.device }
         ensures cells { OnOk result (N.blocks self.new.device ≡ N.blocks self.old.device) }
@@ -126,7 +129,7 @@ impl<N: Nand> PageArray<N> {
         ensures candidates { self.new.candidates ≡ self.old.candidates }
         ensures ends { EndsWithDevice N.shape_of N.failures N.never_fails result self.old self.new }
     {
-        match self.map.place(page) {
+        match self.placed.map().place(page) {
             None => Ok(PageData::BLANK),
             Some(place) => {
                 let bytes = self.device.read(place);
@@ -140,18 +143,22 @@ impl<N: Nand> PageArray<N> {
     pub(crate) fn write(&mut self, page: u32, bytes: PageData) -> Result<(), Refusal>
         requires alive { self.old.failed ≡ false }
         requires page { page < length self.old.placing.places }
-        requires free { 0 < free_cells (N.shape_of self.old.device).pages (N.blocks self.old.device) }
+        requires free { 0
+            < free_cells (N.shape_of self.old.device).pages (N.blocks self.old.device) }
         ensures once { N.ends self.old.device
-            (NandCall.Program (next_cell (N.shape_of self.old.device).pages (N.blocks self.old.device)) bytes) (is_ok result)
+            (NandCall.Program
+            (next_cell (N.shape_of self.old.device).pages (N.blocks self.old.device)) bytes)
+            (is_ok result)
             self.new.device }
-        ensures finds { IsSome (open_in (N.shape_of self.old.device).pages (N.blocks self.old.device)) }
+        ensures finds { IsSome
+            (open_in (N.shape_of self.old.device).pages (N.blocks self.old.device)) }
         ensures placed { OnOk result (HasPlaced N.shape_of N.blocks page bytes self.old self.new) }
         ensures sound { IsSoundArray N.shape_of N.failures N.blocks self.new }
         ensures stays { OnErr result (self.new.placing ≡ self.old.placing) }
         ensures ends { EndsWithDevice N.shape_of N.failures N.never_fails result self.old self.new }
     {
         let place = self.next_cell();
-        let before = self.map.place(page);
+        let before = self.placed.map().place(page);
         match self.device.program(place, bytes) {
             Err(refusal) => {
                 self.failed = true;
@@ -159,13 +166,13 @@ impl<N: Nand> PageArray<N> {
             }
             Ok(()) => {
                 let filled = place.page + 1;
-                self.fills[place.block as usize] = filled;
+                self.fills.set(place.block, filled);
                 let pages = self.device.shape().pages;
                 let still_open = left_open(place.block, filled, pages);
                 self.writing = still_open;
-                self.map.bind(page, place);
+                self.placed.bind(page, place);
                 leave(&mut self.victims, before);
-                let valid = self.map.valid(place.block);
+                let valid = self.placed.map().valid(place.block);
                 let erases = self.erases[place.block as usize];
                 close_when_filled(&mut self.victims, place.block, filled, pages, valid, erases);
                 Ok(())
@@ -186,8 +193,8 @@ impl<N: Nand> PageArray<N> {
         ensures sound { IsSoundArray N.shape_of N.failures N.blocks self.new }
         ensures failed { self.new.failed ≡ false }
     {
-        let before = self.map.place(page);
-        self.map.unbind(page);
+        let before = self.placed.map().place(page);
+        self.placed.unbind(page);
         leave(&mut self.victims, before);
     }
 
@@ -196,13 +203,16 @@ impl<N: Nand> PageArray<N> {
     pub(crate) fn erase_slot(&mut self, block: u32) -> Result<bool, Refusal>
         requires alive { self.old.failed ≡ false }
         requires block { block < length (N.blocks self.old.device) }
-        requires closed { filled_of (block_at (N.blocks self.old.device) block) ≡ (N.shape_of self.old.device).pages }
+        requires closed { filled_of (block_at (N.blocks self.old.device) block)
+            ≡ (N.shape_of self.old.device).pages }
         requires unplaced { (page : ℕ) → page < (N.shape_of self.old.device).pages
             → owner_of self.old.placing.places (record { block = block; page = page }) ≡ None }
         requires taken { count_of self.old.candidates.counts block ≡ None }
         requires few_erases { (block_at (N.blocks self.old.device) block).erases < 4294967295 }
-        ensures once { N.ends self.old.device (NandCall.EraseSlot block) (is_ok result) self.new.device }
-        ensures erased { IfOk result (λ last. HasErased N.shape_of N.blocks block last self.old self.new) }
+        ensures once { N.ends self.old.device (NandCall.EraseSlot block) (is_ok result)
+            self.new.device }
+        ensures erased { IfOk result (λ last.
+            HasErased N.shape_of N.blocks block last self.old self.new) }
         ensures placing { self.new.placing ≡ self.old.placing }
         ensures candidates { self.new.candidates ≡ self.old.candidates }
         ensures sound { IsSoundArray N.shape_of N.failures N.blocks self.new }
@@ -215,7 +225,7 @@ impl<N: Nand> PageArray<N> {
             }
             Ok(false) => Ok(false),
             Ok(true) => {
-                self.fills[block as usize] = 0;
+                self.fills.set(block, 0);
                 self.erases[block as usize] += 1;
                 Ok(true)
             }
@@ -228,7 +238,8 @@ impl<N: Nand> PageArray<N> {
         requires alive { self.old.failed ≡ false }
         requires some { HasNone self.old.candidates.counts → ⊥ }
         ensures least { IsLeast self.old.candidates.counts self.old.candidates.erases result }
-        ensures taken { self.new ≡ record self.old { candidates = without_candidate result self.old.candidates } }
+        ensures taken { self.new
+            ≡ record self.old { candidates = without_candidate result self.old.candidates } }
         ensures sound { IsSoundArray N.shape_of N.failures N.blocks self.new }
     {
         self.victims.take_least().unwrap()
@@ -237,7 +248,8 @@ impl<N: Nand> PageArray<N> {
     /// The candidate that `take_victim` would take away, if there is one.
     pub(crate) fn victim(&self) -> Option<u32>
         ensures none { IsNone result ↔ HasNone self.now.candidates.counts }
-        ensures least { IfSome result (IsLeast self.now.candidates.counts self.now.candidates.erases) }
+        ensures least { IfSome result
+            (IsLeast self.now.candidates.counts self.now.candidates.erases) }
     {
         self.victims.least()
     }
@@ -247,48 +259,51 @@ impl<N: Nand> PageArray<N> {
         requires { page < length self.now.placing.places }
         ensures { result ≡ place_of self.now.placing.places page }
     {
-        self.map.place(page)
+        self.placed.map().place(page)
     }
 
     /// Whether a page lies in this cell.
     pub(crate) fn lies(&self, page: u32, place: Place) -> bool
         ensures { result ≡ true ↔ place_of self.now.placing.places page ≡ Some place }
     {
-        self.map.lies(page, place)
+        self.placed.map().lies(page, place)
     }
 
     /// Of the pages that lie in a block the one that lies first, with its cell.
     pub(crate) fn first_page(&self, block: u32) -> Option<(u32, Place)>
         requires { block < self.now.placing.shape.blocks }
-        ensures some { IfSome result (λ first. IsFirstInBlock self.now.placing.places block first.0 first.1) }
+        ensures some { IfSome result (λ first.
+            IsFirstInBlock self.now.placing.places block first.0 first.1) }
         ensures none { IfNone result ((page : ℕ) → page < self.now.placing.shape.pages
             → owner_of self.now.placing.places (record { block = block; page = page }) ≡ None) }
     {
-        match self.map.next_valid(block, 0) {
-            None => None,
-            Some(page) => {
-                let source = Place { block, page };
-                match self.map.owner(source) {
-                    Some(owner) => Some((owner, source)),
-                    None => None,
-                }
-            }
-        }
+        self.placed.first_page(block)
+    }
+
+    /// Later looks for the first page of this cell's block go on from the cell, before which no page lies in it.
+    pub(crate) fn pass(&mut self, cell: Place)
+        requires block { cell.block < self.old.placing.shape.blocks }
+        requires none { (page : ℕ) → page < cell.page
+            → owner_of self.old.placing.places (record { block = cell.block; page = page }) ≡ None }
+        ensures { self.new ≡ self.old }
+    {
+        self.placed.pass(cell);
     }
 
     /// The cell that is written next, while a cell is free.
     pub(crate) fn next_cell(&self) -> Place
         requires alive { self.now.failed ≡ false }
-        requires free { 0 < free_cells (N.shape_of self.now.device).pages (N.blocks self.now.device) }
+        requires free { 0
+            < free_cells (N.shape_of self.now.device).pages (N.blocks self.now.device) }
         ensures { result ≡ next_cell (N.shape_of self.now.device).pages (N.blocks self.now.device) }
     {
         let block = match self.writing {
             Some(block) => block,
-            None => first_wholly_free(&self.fills).unwrap_or(0) as u32,
+            None => self.fills.first_wholly_free().unwrap_or(0),
         };
         Place {
             block,
-            page: self.fills[block as usize],
+            page: self.fills.get(block),
         }
     }
 }
@@ -306,11 +321,4 @@ fn first_beyond(erases: &[u32], most: u32) -> Option<usize>
     ensures in_range { IfSome result (λ block. block < length erases.now) }
 {
     erases.iter().position(|count| *count > most)
-}
-
-fn first_wholly_free(fills: &[u32]) -> Option<usize>
-    ensures found { result ≡ position is_wholly_free fills.now }
-    ensures in_range { IfSome result (λ block. block < length fills.now) }
-{
-    fills.iter().position(|filled| *filled == 0)
 }

@@ -10,8 +10,10 @@ use victim_pick::Victims;
 
 /// A page that lay here has left its block. If that is a candidate, a page less lies in it.
 pub(crate) fn leave(victims: &mut Victims, before: Option<Place>)
-    requires { (place : Place) (n : ℕ) → before ≡ Some place → count_of victims.old.counts place.block ≡ Some n → 0 < n }
-    ensures { victims.new ≡ record victims.old { counts = counts_after_leaving before victims.old.counts } }
+    requires { (place : Place) (n : ℕ) → before ≡ Some place
+        → count_of victims.old.counts place.block ≡ Some n → 0 < n }
+    ensures { victims.new
+        ≡ record victims.old { counts = counts_after_leaving before victims.old.counts } }
 {
     if let Some(place) = before {
         if victims.count(place.block).is_some() {

@@ -65,7 +65,8 @@ impl<N: Nand> Volume<N> {
         requires runs { IsSome (running_of self.old.running task) }
         requires few_erases { (c : Collection) → running_of self.old.running task ≡ Some c
             → (block_at (N.blocks self.old.device) c.victim).erases < 4294967295 }
-        ensures once { self.old.failed ≡ false → (c : Collection) → running_of self.old.running task ≡ Some c
+        ensures once { self.old.failed ≡ false → (c : Collection)
+            → running_of self.old.running task ≡ Some c
             → EndsStep N.ends N.blocks self.old c (is_ok result) self.new }
         ensures did { (c : Collection) → running_of self.old.running task ≡ Some c
             → IfOk result (λ did. Does N.blocks self.old task c did self.new) }
@@ -115,9 +116,13 @@ impl<N: Nand> Volume<N> {
         requires runs { running_of self.old.running task ≡ Some collection }
         requires holds { collection.buffer ≡ Some copied }
         requires lies { place_of self.old.places copied.page ≡ Some copied.source }
-        ensures once { N.ends self.old.device (NandCall.Program (next_in N.blocks self.old) copied.bytes) (is_ok result) self.new.device }
-        ensures finds { IsSome (open_in self.old.accounts.plan.shape.pages (N.blocks self.old.device)) }
-        ensures did { OnOk result (Programs N.blocks self.old task collection copied.page self.new) }
+        ensures once { N.ends self.old.device
+            (NandCall.Program (next_in N.blocks self.old) copied.bytes) (is_ok result)
+            self.new.device }
+        ensures finds { IsSome
+            (open_in self.old.accounts.plan.shape.pages (N.blocks self.old.device)) }
+        ensures did { OnOk result
+            (Programs N.blocks self.old task collection copied.page self.new) }
         ensures stays { OnErr result (KeepsBooks self.old self.new) }
         ensures fails { FailsWithDevice N.failures N.never_fails result self.old self.new }
     {
@@ -147,7 +152,8 @@ impl<N: Nand> Volume<N> {
         requires runs { running_of self.old.running task ≡ Some collection }
         requires left { HasLeft self.old.places collection }
         requires first { IsFirstInBlock self.old.places collection.victim page source }
-        ensures once { N.ends self.old.device (NandCall.Read source) (is_ok result) self.new.device }
+        ensures once { N.ends self.old.device (NandCall.Read source) (is_ok result)
+            self.new.device }
         ensures did { OnOk result (Reads N.blocks self.old task collection page self.new) }
         ensures stays { OnErr result (KeepsBooks self.old self.new) }
         ensures fails { FailsWithDevice N.failures N.never_fails result self.old self.new }
@@ -155,6 +161,7 @@ impl<N: Nand> Volume<N> {
         match self.array.read(page) {
             Err(refusal) => Err(refusal),
             Ok(bytes) => {
+                self.array.pass(source);
                 self.running[task.0 as usize] = Some(Collection {
                     victim: collection.victim,
                     buffer: Some(Copied {
@@ -176,8 +183,10 @@ impl<N: Nand> Volume<N> {
         requires left { HasLeft self.old.places collection }
         requires unplaced { (page : ℕ) → page < self.old.accounts.plan.shape.pages
             → owner_of self.old.places (record { block = collection.victim; page = page }) ≡ None }
-        requires few_erases { (block_at (N.blocks self.old.device) collection.victim).erases < 4294967295 }
-        ensures once { N.ends self.old.device (NandCall.EraseSlot collection.victim) (is_ok result) self.new.device }
+        requires few_erases { (block_at (N.blocks self.old.device) collection.victim).erases
+            < 4294967295 }
+        ensures once { N.ends self.old.device (NandCall.EraseSlot collection.victim) (is_ok result)
+            self.new.device }
         ensures did { IfOk result (λ did. Does N.blocks self.old task collection did self.new) }
         ensures stays { OnErr result (KeepsBooks self.old self.new) }
         ensures fails { FailsWithDevice N.failures N.never_fails result self.old self.new }

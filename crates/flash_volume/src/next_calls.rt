@@ -47,7 +47,8 @@ impl<N: Nand> Volume<N> {
         requires task { task < length self.now.accounts.plan.caps }
         requires held { 0 < slice_index self.now.accounts.holds task }
         ensures place { result ≡ next_in N.blocks self.now }
-        ensures finds { IsSome (open_in self.now.accounts.plan.shape.pages (N.blocks self.now.device)) }
+        ensures finds { IsSome
+            (open_in self.now.accounts.plan.shape.pages (N.blocks self.now.device)) }
     {
         let _task = task;
         self.array.next_cell()
@@ -58,7 +59,8 @@ impl<N: Nand> Volume<N> {
         requires alive { self.now.failed ≡ false }
         requires task { task < length self.now.accounts.plan.caps }
         requires runs { IsSome (running_of self.now.running task) }
-        ensures { (c : Collection) → running_of self.now.running task ≡ Some c → IsCollectStep N.blocks self.now c result }
+        ensures { (c : Collection) → running_of self.now.running task ≡ Some c
+            → IsCollectStep N.blocks self.now c result }
     {
         let collection = self.running[task.0 as usize].unwrap();
         match self.live_copy(collection) {
@@ -73,7 +75,8 @@ impl<N: Nand> Volume<N> {
         requires alive { self.now.failed ≡ false }
         ensures step { IfSome result (IsFirstStep N.blocks self.now) }
         ensures none { IfNone result ((block : ℕ) →
-            ¬ IsCandidate self.now.accounts.plan.shape.pages (N.blocks self.now.device) self.now.running block) }
+            ¬ IsCandidate self.now.accounts.plan.shape.pages (N.blocks self.now.device)
+            self.now.running block) }
     {
         match self.array.victim() {
             None => None,
@@ -106,7 +109,8 @@ impl<N: Nand> Volume<N> {
     fn read_or_erase(&self, collection: Collection) -> CollectStep
         requires alive { self.now.failed ≡ false }
         requires in_range { collection.victim < length (N.blocks self.now.device) }
-        requires closed { filled_of (block_at (N.blocks self.now.device) collection.victim) ≡ self.now.accounts.plan.shape.pages }
+        requires closed { filled_of (block_at (N.blocks self.now.device) collection.victim)
+            ≡ self.now.accounts.plan.shape.pages }
         requires dropped { HasDropped self.now.places collection }
         requires left { HasLeft self.now.places collection }
         ensures { IsCollectStep N.blocks self.now collection result }

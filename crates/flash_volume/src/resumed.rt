@@ -33,7 +33,8 @@ impl<N: Nand> Volume<N> {
         requires fits { Fits plan checkpoint.now }
         requires shape { N.shape_of device ≡ plan.shape }
         requires left { IsAsLeft checkpoint.now (N.blocks device) (N.failures device) }
-        ensures ok { IfOk result (λ volume. volume ≡ resumed_volume N.blocks plan checkpoint.now device) }
+        ensures ok { IfOk result (λ volume.
+            volume ≡ resumed_volume N.blocks plan checkpoint.now device) }
         ensures err { IfErr result (λ returned. returned ≡ device) }
     {
         let tables = match Tables::of(alloc, &plan, checkpoint) {
@@ -71,7 +72,7 @@ impl<N: Nand> Volume<N> {
         ensures pages { self.now.pages ≡ contents (N.blocks self.now.device) self.now.places }
         ensures err { FailsForMemory result }
     {
-        let places = self.array.map.to_places(alloc)?;
+        let places = self.array.placed.map().to_places(alloc)?;
         let blocks = self.array.counts(alloc)?;
         let balances = Vec::from_slice(alloc, self.ledger.balances())?;
         Ok(Checkpoint {
@@ -93,12 +94,14 @@ impl<N: Nand> Volume<N> {
 impl<N: Nand> PageArray<N> {
     /// An array over a device to which these tables belong.
     fn over(device: N, tables: Tables) -> Self
-        requires { IsSoundState (N.shape_of device) (N.failures device) (N.blocks device) tables.map tables.fills.items tables.erases.items
+        requires { IsSoundState (N.shape_of device) (N.failures device) (N.blocks device)
+            tables.placed tables.fills tables.erases.items
             tables.writing tables.victims }
-        ensures { result ≡ record { failed = false; device = device; placing = tables.map; candidates = tables.victims } }
+        ensures { result
+            ≡ record { failed = false; device = device; placing = tables.placed; candidates = tables.victims } }
     {
         let Tables {
-            map,
+            placed,
             fills,
             writing,
             erases,
@@ -106,7 +109,7 @@ impl<N: Nand> PageArray<N> {
         } = tables;
         PageArray {
             device,
-            map,
+            placed,
             fills,
             writing,
             erases,
@@ -118,10 +121,11 @@ impl<N: Nand> PageArray<N> {
     /// What a checkpoint says of the blocks.
     fn counts(&self, alloc: Global) -> Result<Vec<BlockCounts>, Refusal>
         requires alive { self.now.failed ≡ false }
-        ensures ok { IfOk result (λ counts. counts.items ≡ map counts_of (N.blocks self.now.device)) }
+        ensures ok { IfOk result (λ counts.
+            counts.items ≡ map counts_of (N.blocks self.now.device)) }
         ensures err { FailsForMemory result }
     {
-        counts_in(alloc, &self.fills, &self.erases)
+        counts_in(alloc, self.fills.as_slice(), &self.erases)
     }
 
     fn into_device(self) -> N
@@ -135,7 +139,8 @@ impl<N: Nand> PageArray<N> {
 fn counts_in(alloc: Global, fills: &[u32], erases: &[u32]) -> Result<Vec<BlockCounts>, Refusal>
     requires { length erases.now ≡ length fills.now }
     ensures len { IfOk result (λ counts. length counts.items ≡ length fills.now) }
-    ensures each { IfOk result (λ counts. (block : ℕ) → block < length fills.now → counts_at counts.items block
+    ensures each { IfOk result (λ counts.
+        (block : ℕ) → block < length fills.now → counts_at counts.items block
         ≡ record { filled = slice_index fills.now block; erases = slice_index erases.now block }) }
     ensures err { FailsForMemory result }
 {

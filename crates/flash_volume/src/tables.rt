@@ -9,6 +9,8 @@ ghost use Rattle.die_checkpoint.specs.declared.checkpoint.BlockCounts.{BlockCoun
 ghost use Rattle.flash_volume.specs.Cells.{is_open_with};
 ghost use Rattle.flash_volume.specs.Checkpoints.{AreClosedBelow, AreTablesOf};
 
+use crate::fills::Fills;
+use crate::placed_pages::PlacedPages;
 use die_checkpoint::{BlockCounts, Checkpoint};
 use page_map::PageMap;
 use slot_types::{DiePlan, Refusal};
@@ -18,9 +20,9 @@ use victim_pick::Victims;
 /// What an array of pages keeps beside its device.
 #[derive(Drop)]
 pub(crate) struct Tables {
-    pub(crate) map: PageMap,
+    pub(crate) placed: PlacedPages,
     /// By block how many of its cells are programmed.
-    pub(crate) fills: Vec<u32>,
+    pub(crate) fills: Fills,
     /// The open block. There is one at most.
     pub(crate) writing: Option<u32>,
     /// By block its finished erases.
@@ -41,19 +43,16 @@ impl Tables {
         ensures err { FailsForMemory result }
     {
         let blocks = checkpoint.blocks.as_slice();
-        let map = match PageMap::of_places(alloc, plan.shape, checkpoint.places.as_slice()) {
-            Ok(map) => map,
-            Err(_) => return Err(Refusal::NoMemory),
-        };
-        let fills = fills_of(alloc, blocks)?;
-        let writing = match open_at(&fills, plan.shape.pages) {
+        let placed = PlacedPages::of_places(alloc, plan.shape, checkpoint.places.as_slice())?;
+        let fills = Fills::of(alloc, fills_of(alloc, blocks)?)?;
+        let writing = match open_at(fills.as_slice(), plan.shape.pages) {
             Some(block) => Some(block as u32),
             None => None,
         };
         let erases = erases_of(alloc, blocks)?;
-        let victims = closed_blocks(alloc, plan, blocks, &map)?;
+        let victims = closed_blocks(alloc, plan, blocks, placed.map())?;
         Ok(Tables {
-            map,
+            placed,
             fills,
             writing,
             erases,
@@ -64,7 +63,8 @@ impl Tables {
 
 /// By block how many of its cells are programmed.
 fn fills_of(alloc: Global, blocks: &[BlockCounts]) -> Result<Vec<u32>, Refusal>
-    ensures ok { IfOk result (λ fills. fills.items ≡ map (λ (b : BlockCounts). b.filled) blocks.now) }
+    ensures ok { IfOk result (λ fills.
+        fills.items ≡ map (λ (b : BlockCounts). b.filled) blocks.now) }
     ensures err { FailsForMemory result }
 {
     let mut fills = vec![in alloc; 0; blocks.len()]?;
@@ -76,7 +76,8 @@ fn fills_of(alloc: Global, blocks: &[BlockCounts]) -> Result<Vec<u32>, Refusal>
 
 /// By block its finished erases.
 fn erases_of(alloc: Global, blocks: &[BlockCounts]) -> Result<Vec<u32>, Refusal>
-    ensures ok { IfOk result (λ erases. erases.items ≡ map (λ (b : BlockCounts). b.erases) blocks.now) }
+    ensures ok { IfOk result (λ erases.
+        erases.items ≡ map (λ (b : BlockCounts). b.erases) blocks.now) }
     ensures err { FailsForMemory result }
 {
     let mut erases = vec![in alloc; 0; blocks.len()]?;
@@ -105,8 +106,11 @@ fn closed_blocks(
 ) -> Result<Victims, Refusal>
     requires blocks { length blocks.now ≡ plan.now.shape.blocks }
     requires shape { map.now.shape ≡ plan.now.shape }
-    requires few { (block : ℕ) → count_by (is_in block) map.now.places ≤ (counts_at blocks.now block).filled }
-    ensures ok { IfOk result (λ victims. AreClosedBelow plan.now.shape.pages blocks.now map.now.places victims plan.now.shape.blocks) }
+    requires few { (block : ℕ) → count_by (is_in block) map.now.places
+        ≤ (counts_at blocks.now block).filled }
+    ensures ok { IfOk result (λ victims.
+        AreClosedBelow plan.now.shape.pages blocks.now map.now.places victims
+        plan.now.shape.blocks) }
     ensures err { FailsForMemory result }
 {
     let pages = plan.shape.pages;

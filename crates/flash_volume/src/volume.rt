@@ -93,9 +93,11 @@ impl<N: Nand> Volume<N> {
     pub fn device(&self) -> &N
         ensures device { result.now ≡ self.now.device }
         ensures pages { self.now.pages ≡ contents (N.blocks self.now.device) self.now.places }
-        ensures placed { self.now.failed ≡ false → (page : ℕ) (place : Place) → place_of self.now.places page ≡ Some place
+        ensures placed { self.now.failed ≡ false → (page : ℕ) (place : Place)
+            → place_of self.now.places page ≡ Some place
             → IsProgrammed (N.blocks self.now.device) place }
-        ensures shape { self.now.failed ≡ false → N.shape_of self.now.device ≡ self.now.accounts.plan.shape }
+        ensures shape { self.now.failed ≡ false
+            → N.shape_of self.now.device ≡ self.now.accounts.plan.shape }
         ensures well { self.now.failed ≡ false → N.failures self.now.device ≡ 0 }
     {
         self.array.device()
@@ -161,7 +163,8 @@ impl<N: Nand> Volume<N> {
     /// of a block in erase not counted.
     pub fn free(&self) -> u32
         ensures total { result ≡ total_of self.now.accounts }
-        ensures cells { self.now.failed ≡ false → result ≡ free_cells self.now.accounts.plan.shape.pages (N.blocks self.now.device) }
+        ensures cells { self.now.failed ≡ false
+            → result ≡ free_cells self.now.accounts.plan.shape.pages (N.blocks self.now.device) }
     {
         self.ledger.total()
     }
@@ -173,10 +176,12 @@ impl<N: Nand> Volume<N> {
     pub fn admit(&mut self, task: TaskNo, writes: u32) -> Result<(), Refusal>
         requires { task < length self.old.accounts.plan.caps }
         ensures stopped { (result ≡ Err Refusal.DieStopped) ↔ (self.old.failed ≡ true) }
-        ensures accepted { self.old.failed ≡ false → (IsOk result ↔ writes ≤ slice_index self.old.accounts.balances task) }
+        ensures accepted { self.old.failed ≡ false
+            → (IsOk result ↔ writes ≤ slice_index self.old.accounts.balances task) }
         ensures refused { self.old.failed ≡ false → IfErr result (λ refusal. refusal
             ≡ Refusal.NoTokens (slice_index self.old.accounts.balances task) writes) }
-        ensures ok { OnOk result (self.new ≡ record self.old { accounts = accounts_after_admit self.old.accounts task writes }) }
+        ensures ok { OnOk result (self.new
+            ≡ record self.old { accounts = accounts_after_admit self.old.accounts task writes }) }
         ensures err { OnErr result (self.new ≡ self.old) }
     {
         if self.array.failed() {
@@ -192,7 +197,8 @@ impl<N: Nand> Volume<N> {
     /// `DeviceFault` exactly where the device's call failed: the volume has failed then.
     pub fn read(&mut self, page: u32) -> Result<PageData, Refusal>
         requires { page < length self.old.pages }
-        ensures once { self.old.failed ≡ false → (place : Place) → place_of self.old.places page ≡ Some place
+        ensures once { self.old.failed ≡ false → (place : Place)
+            → place_of self.old.places page ≡ Some place
             → N.ends self.old.device (NandCall.Read place) (is_ok result) self.new.device }
         ensures unwritten { place_of self.old.places page ≡ None → self.new ≡ self.old }
         ensures read { IfOk result (λ bytes. HasRead N.blocks page bytes self.old self.new) }
@@ -214,8 +220,10 @@ impl<N: Nand> Volume<N> {
         requires page { page < length self.old.pages }
         requires held { 0 < slice_index self.old.accounts.holds task }
         ensures once { self.old.failed ≡ false
-            → N.ends self.old.device (NandCall.Program (next_in N.blocks self.old) bytes) (is_ok result) self.new.device }
-        ensures finds { self.old.failed ≡ false → IsSome (open_in self.old.accounts.plan.shape.pages (N.blocks self.old.device)) }
+            → N.ends self.old.device (NandCall.Program (next_in N.blocks self.old) bytes)
+            (is_ok result) self.new.device }
+        ensures finds { self.old.failed ≡ false
+            → IsSome (open_in self.old.accounts.plan.shape.pages (N.blocks self.old.device)) }
         ensures written { OnOk result (HasWritten N.blocks task page bytes self.old self.new) }
         ensures stays { OnErr result (KeepsBooks self.old self.new) }
         ensures stops { StopsWithDevice N.failures N.never_fails result self.old self.new }

@@ -102,7 +102,8 @@ fn print_arrivals<R: Read + Drop, W: Write>(
     out: &mut W,
 ) -> Result<StorePlan, Unplanned>
     requires slots { slots ≤ MAX_SLOT }
-    ensures printed { OnOk result (PrintsArrivals (R.remaining plan) slots (W.contents out.old) (W.contents out.new)) }
+    ensures printed { OnOk result
+        (PrintsArrivals (R.remaining plan) slots (W.contents out.old) (W.contents out.new)) }
     ensures unwritten { IfErr result (IsUnwritten out.old out.new) }
 {
     let store = read_plan_from(alloc, plan)?;
@@ -170,7 +171,8 @@ fn print_kept<P: Read + Drop, S: Read + Drop, W: Write>(
     out: &mut W,
 ) -> Result<Option<bool>, Refusal>
     requires slots { slots ≤ MAX_SLOT }
-    ensures told { IfOk result (λ kept. IfSome kept (TellsKept (P.remaining plan) (S.remaining script) slots)) }
+    ensures told { IfOk result (λ kept.
+        IfSome kept (TellsKept (P.remaining plan) (S.remaining script) slots)) }
 {
     let store = read_plan_from(alloc, plan)?;
     let text = script_text(alloc, script)?;
@@ -435,7 +437,9 @@ pub fn act<P: Read + Drop, S: Read + Drop, C: Read + Drop, K: Shelf, W: Write, E
     err: &mut E,
 ) -> u8
     requires { FitsRun command }
-    ensures done { result ≡ 0 → IsDone command.entry (P.remaining plan) (S.remaining script) (W.contents out.old) (W.contents out.new) }
+    ensures done { result ≡ 0
+        → IsDone command.entry (P.remaining plan) (S.remaining script) (W.contents out.old)
+        (W.contents out.new) }
     ensures broken { result ≡ 3 → IsBroken command.entry (P.remaining plan) (S.remaining script) }
 {
     match command {

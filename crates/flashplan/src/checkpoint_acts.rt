@@ -77,7 +77,8 @@ fn print_run<P: Read + Drop, S: Read + Drop, C: Read + Drop, W: Write>(
     out: &mut W,
 ) -> Result<PrintedRun, RunFault>
     requires slots { slots ≤ MAX_SLOT }
-    ensures printed { IfOk result (λ run. PrintsReport (W.contents out.old) (W.contents out.new) run.dies.items) }
+    ensures printed { IfOk result (λ run.
+        PrintsReport (W.contents out.old) (W.contents out.new) run.dies.items) }
     ensures few { IfOk result (λ run. length run.dies.items ≤ 8) }
 {
     let store = read_plan_from(alloc, plan)?;

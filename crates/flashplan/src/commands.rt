@@ -163,7 +163,8 @@ fn value<'a>(met: &ArgMatches<'a>, id: &str) -> Option<&'a str>
 
 /// The values of an argument that may have several.
 fn listed<'m, 'a>(met: &'m ArgMatches<'a>, id: &str) -> Option<&'m [&'a str]>
-    ensures { option_map (λ s. map (λ v. v.now) s.now) result ≡ all_of id.now (rows_of (found_of met.now)) }
+    ensures { option_map (λ s. map (λ v. v.now) s.now) result
+        ≡ all_of id.now (rows_of (found_of met.now)) }
 {
     met.get_strs(id)
 }
@@ -245,7 +246,8 @@ fn fit<'a>(met: &ArgMatches<'a>) -> Option<Command<'a>>
 
 /// The command `arrivals` that was met.
 fn arrivals<'a>(met: &ArgMatches<'a>) -> Option<Command<'a>>
-    ensures arrivals { option_map text_of_command result ≡ arrivals_of (rows_of (found_of met.now)) }
+    ensures arrivals { option_map text_of_command result
+        ≡ arrivals_of (rows_of (found_of met.now)) }
     ensures fits { IfSome result FitsRun }
 {
     let plan = value(met, "PLAN")?;
@@ -399,7 +401,8 @@ fn run<'a>(met: &ArgMatches<'a>) -> Option<Command<'a>>
 
 /// The command `audit` that was met.
 fn audit<'a>(alloc: Global, met: &ArgMatches<'a>) -> Result<Option<Request<'a>>, AllocError>
-    ensures audit { IfOk result (λ made. option_map text_of_request made ≡ audit_of (rows_of (found_of met.now))) }
+    ensures audit { IfOk result (λ made.
+        option_map text_of_request made ≡ audit_of (rows_of (found_of met.now))) }
     ensures fits { IfOk result (λ made. IfSome made RequestFits) }
 {
     match values(alloc, met, "REPORT")? {
@@ -424,7 +427,8 @@ fn import_in(met: &ArgMatches<'_>) -> Option<ListCommand>
 
 /// The command `import` that was met.
 fn import<'a>(alloc: Global, met: &ArgMatches<'a>) -> Result<Option<Request<'a>>, AllocError>
-    ensures import { IfOk result (λ made. option_map text_of_request made ≡ import_of (rows_of (found_of met.now))) }
+    ensures import { IfOk result (λ made.
+        option_map text_of_request made ≡ import_of (rows_of (found_of met.now))) }
     ensures fits { IfOk result (λ made. IfSome made RequestFits) }
 {
     let Some(command) = import_in(met) else {
@@ -438,7 +442,8 @@ fn import<'a>(alloc: Global, met: &ArgMatches<'a>) -> Result<Option<Request<'a>>
 
 /// The command that was met, by its name.
 fn command_named<'a>(name: &str, met: &ArgMatches<'a>) -> Option<Command<'a>>
-    ensures named { option_map text_of_command result ≡ command_named name.now (rows_of (found_of met.now)) }
+    ensures named { option_map text_of_command result
+        ≡ command_named name.now (rows_of (found_of met.now)) }
     ensures fits { IfSome result FitsRun }
 {
     if name == "explain" {
@@ -470,7 +475,8 @@ fn request_named<'a>(
     name: &str,
     met: &ArgMatches<'a>,
 ) -> Result<Option<Request<'a>>, AllocError>
-    ensures named { IfOk result (λ made. option_map text_of_request made ≡ request_named name.now (rows_of (found_of met.now))) }
+    ensures named { IfOk result (λ made.
+        option_map text_of_request made ≡ request_named name.now (rows_of (found_of met.now))) }
     ensures fits { IfOk result (λ made. IfSome made RequestFits) }
 {
     if name == "audit" {
@@ -488,7 +494,8 @@ fn request_named<'a>(
 /// A request of a command, with the file that it writes, and whether it is quiet.
 fn asked_of<'a>(request: Option<Request<'a>>, met: &ArgMatches<'a>) -> Option<Asked<'a>>
     requires { IfSome request RequestFits }
-    ensures asked { option_map text_of_asked result ≡ asked_by (option_map text_of_request request.entry) (rows_of (found_of met.now)) }
+    ensures asked { option_map text_of_asked result
+        ≡ asked_by (option_map text_of_request request.entry) (rows_of (found_of met.now)) }
     ensures fits { IfSome result (λ asked. RequestFits asked.request) }
 {
     let request = request?;
@@ -503,7 +510,8 @@ fn asked_of<'a>(request: Option<Request<'a>>, met: &ArgMatches<'a>) -> Option<As
 
 /// What the command asks for that clap met, if it met one, and its numbers lie in their ranges.
 fn command_met<'a>(alloc: Global, matches: &ArgMatches<'a>) -> Result<Option<Asked<'a>>, AllocError>
-    ensures asked { IfOk result (λ made. option_map text_of_asked made ≡ command_asked_by (subcommand_rows_of matches.now)) }
+    ensures asked { IfOk result (λ made.
+        option_map text_of_asked made ≡ command_asked_by (subcommand_rows_of matches.now)) }
     ensures fits { IfOk result (λ made. IfSome made (λ asked. RequestFits asked.request)) }
 {
     match matches.subcommand() {
@@ -522,7 +530,8 @@ fn parsed<'a>(
     words: &'a [String],
 ) -> Result<Option<Asked<'a>>, Error>
     requires { app_of program.old ≡ flashplan_app }
-    ensures ok { IfOk result (λ c. option_map text_of_asked c ≡ command_asked (map string_bytes words.entry.now)) }
+    ensures ok { IfOk result (λ c.
+        option_map text_of_asked c ≡ command_asked (map string_bytes words.entry.now)) }
     ensures fits { IfOk result (λ c. IfSome c (λ asked. RequestFits asked.request)) }
     ensures fault { FailsBy (fault_of flashplan_app (map string_bytes words.entry.now)) result }
 {
@@ -611,7 +620,8 @@ fn command_error(alloc: Global, mut program: clap::Command<'_>, words: &[String]
 /// or out of memory; and ValueValidation where there is no command, or a number that is none or too great.
 #[tactic(auto, using(crate::proofs::KindLemmas::has_kind_in_first))]
 pub fn read_words<'a>(alloc: Global, words: &'a [String]) -> Result<Asked<'a>, Error>
-    ensures ok { IfOk result (λ c. command_asked (map string_bytes words.entry.now) ≡ Some (text_of_asked c)) }
+    ensures ok { IfOk result (λ c.
+        command_asked (map string_bytes words.entry.now) ≡ Some (text_of_asked c)) }
     ensures fits { IfOk result (λ asked. RequestFits asked.request) }
     ensures fault { FailsBy (words_fault (map string_bytes words.entry.now)) result }
 {

@@ -78,7 +78,8 @@ fn with_command<'a>(
     command: Command<'a>,
 ) -> Result<Command<'a>, AllocError>
     requires { has_globals command ≡ false }
-    ensures { IfOk result (λ c. app_of c ≡ with_command (app_of program.entry) (app_of command.entry)) }
+    ensures { IfOk result (λ c.
+        app_of c ≡ with_command (app_of program.entry) (app_of command.entry)) }
 {
     let whole = command.arg(output(alloc))?.arg(quiet(alloc))?;
     program.subcommand(whole)

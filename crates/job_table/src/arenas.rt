@@ -78,7 +78,8 @@ impl OpArena {
     pub(crate) fn count_reads(&self, from: usize, to: usize) -> usize
         requires rise { from ≤ to }
         requires there { to ≤ length self.now }
-        ensures { count_by is_read (take from self.now) + result ≡ count_by is_read (take to self.now) }
+        ensures { count_by is_read (take from self.now) + result
+            ≡ count_by is_read (take to self.now) }
     {
         count_reads_in(&self.words[from..to])
     }

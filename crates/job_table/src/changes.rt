@@ -16,7 +16,8 @@ pub(crate) fn end_job(jobs: &mut FlatJobs, collecting: &mut Vec<bool>, number: J
     requires number { number < length jobs.old }
     requires tasks { AreOfTasks jobs.old (length collecting.old.items) }
     ensures jobs { jobs.new ≡ changed_at jobs.old number (with_stage stage) }
-    ensures marks { collecting.new.items ≡ marks_after (slice_get jobs.old number) collecting.old.items }
+    ensures marks { collecting.new.items
+        ≡ marks_after (slice_get jobs.old number) collecting.old.items }
 {
     unmark(collecting, &jobs.at(number));
     jobs.set_stage(number, stage);

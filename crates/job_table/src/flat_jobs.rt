@@ -63,8 +63,10 @@ fn make_places(row: &mut Row, ops: &OpArena, reads: &mut Vec<PageData>)
     requires ops { row.old.first_op + row.old.op_count ≤ length ops.now }
     requires room { vec_len reads.old + places_lacking ops.now row.old ≤ vec_capacity reads.old }
     requires few { vec_len reads.old < 2 ^ 32 }
-    ensures row { row.new ≡ record row.old { first_place = place_from (vec_len reads.old) row.old } }
-    ensures places { reads.new.items ≡ reads.old.items ++ replicate (places_lacking ops.now row.old) blank }
+    ensures row { row.new
+        ≡ record row.old { first_place = place_from (vec_len reads.old) row.old } }
+    ensures places { reads.new.items ≡ reads.old.items
+        ++ replicate (places_lacking ops.now row.old) blank }
     ensures capacity { vec_capacity reads.new ≡ vec_capacity reads.old }
 {
     if row.reads_done == 0 {
@@ -175,7 +177,8 @@ impl FlatJobs {
         requires few { length self.old < MAX_JOBS }
         requires few_ops { length ops.now ≤ MAX_OPS }
         requires words { list_all has_word ops.now ≡ true }
-        ensures ok { OnOk result (self.new ≡ self.old ++ new_record collects task release due ops.now ∷ []) }
+        ensures ok { OnOk result (self.new
+            ≡ self.old ++ new_record collects task release due ops.now ∷ []) }
         ensures number { IfOk result (λ number. number ≡ length self.old) }
         ensures refused { FailsForMemory result }
         ensures err { OnErr result (self.new ≡ self.old) }
@@ -227,7 +230,8 @@ impl FlatJobs {
         requires there { number < length self.old }
         requires reads { reads_next_at self.old number ≡ true }
         requires room { work_at self.old number + 1 < 2 ^ 32 }
-        ensures { self.new ≡ changed_at self.old number (λ job. with_read bytes (with_one_more_slot job)) }
+        ensures { self.new ≡ changed_at self.old number (λ job.
+            with_read bytes (with_one_more_slot job)) }
     {
         let row = &mut self.rows[number.0 as usize];
         make_places(row, &self.ops, &mut self.reads);

@@ -227,8 +227,10 @@ impl JobTable {
         requires forward { self.old.clock ≤ now }
         requires heads { WereHeads (record self.old { clock = now }) waived.now }
         ensures clock { self.new ≡ record self.old { clock = now } }
-        ensures head { IfSome result (λ number. IsHead (with_waived (record self.old { clock = now }) waived.now) number) }
-        ensures idle { IfNone result (NothingReady (with_waived (record self.old { clock = now }) waived.now)) }
+        ensures head { IfSome result (λ number.
+            IsHead (with_waived (record self.old { clock = now }) waived.now) number) }
+        ensures idle { IfNone result
+            (NothingReady (with_waived (record self.old { clock = now }) waived.now)) }
     {
         self.queues.release_by(&self.jobs, now);
         self.clock = now;
@@ -270,7 +272,8 @@ impl JobTable {
         requires head { IsHead self.old number }
         requires reads { reads_next_at self.old.jobs number ≡ true }
         requires room { work_at self.old.jobs number + 1 < 2 ^ 32 }
-        ensures carried { self.new ≡ with_change self.old number (λ job. with_read bytes (with_one_more_slot job)) }
+        ensures carried { self.new ≡ with_change self.old number (λ job.
+            with_read bytes (with_one_more_slot job)) }
         ensures head { IsHead self.new number }
     {
         self.jobs.carry_read(number, bytes);
@@ -281,7 +284,8 @@ impl JobTable {
     pub fn finish(&mut self, number: JobNo, completion: u32, given: u32)
         requires running { self.old.ended ≡ false }
         requires head { IsHead self.old number }
-        ensures { self.new ≡ with_change self.old number (with_stage (Stage.Done completion given)) }
+        ensures { self.new
+            ≡ with_change self.old number (with_stage (Stage.Done completion given)) }
     {
         self.queues.drop_first();
         end_job(
@@ -312,7 +316,8 @@ impl JobTable {
     pub fn stop(&mut self, waived: &[Waived])
         requires { AreWaived self.old.jobs waived.now }
         ensures stopped { self.new ≡ stopped_table self.old waived.now }
-        ensures as_before { (jobs : List JobRecord) → WerePending jobs waived.now → self.old.jobs ≡ jobs_after_waivers jobs waived.now
+        ensures as_before { (jobs : List JobRecord) → WerePending jobs waived.now
+            → self.old.jobs ≡ jobs_after_waivers jobs waived.now
             → self.new.jobs ≡ jobs }
     {
         self.ended = true;

@@ -71,11 +71,15 @@ impl Queues {
     /// A job comes into the queue that its release puts it in.
     pub(crate) fn enter(&mut self, clock: u32, number: u32, release: u32, due: u32)
         requires room { 0 < self.old.room }
-        requires not_waiting { ¬ Contains self.old.waiting (record { release = release; number = number }) }
+        requires not_waiting { ¬ Contains self.old.waiting
+            (record { release = release; number = number }) }
         requires not_ready { ¬ Contains self.old.ready (record { due = due; number = number }) }
-        ensures waiting { self.new.waiting ≡ (if nat_lt clock release then with_key is_released_before
-            (record { release = release; number = number }) self.old.waiting else self.old.waiting) }
-        ensures ready { self.new.ready ≡ (if nat_lt clock release then self.old.ready else with_key is_due_before
+        ensures waiting { self.new.waiting
+            ≡ (if nat_lt clock release then with_key is_released_before
+            (record { release = release; number = number }) self.old.waiting
+            else self.old.waiting) }
+        ensures ready { self.new.ready
+            ≡ (if nat_lt clock release then self.old.ready else with_key is_due_before
             (record { due = due; number = number }) self.old.ready) }
     {
         if clock < release {
@@ -129,7 +133,8 @@ impl Queues {
 
     /// The number of the first released job after `count` others, if there is one. Nothing changes.
     pub(crate) fn first_behind(&mut self, count: usize) -> Option<u32>
-        ensures first { result ≡ option_map (λ k. k.number) (first_of (behind count self.old.ready)) }
+        ensures first { result ≡ option_map (λ k.
+            k.number) (first_of (behind count self.old.ready)) }
         ensures unchanged { self.new ≡ self.old }
         ensures rising { IsRising is_due_before self.old.ready }
     {

@@ -95,7 +95,8 @@ pub(crate) fn push_words(words: &mut Vec<u32>, ops: &[Op])
 
 /// Adds the bytes of those that aren't reads, in room that was made. Nobody looks at those of a trim.
 pub(crate) fn push_bytes(bytes: &mut Vec<PageData>, ops: &[Op])
-    requires room { vec_len bytes.old + length ops.now ≤ vec_capacity bytes.old + count_by is_read ops.now }
+    requires room { vec_len bytes.old + length ops.now
+        ≤ vec_capacity bytes.old + count_by is_read ops.now }
     ensures { bytes.new.items ≡ bytes.old.items ++ bytes_of ops.now }
 {
     for op in ops {

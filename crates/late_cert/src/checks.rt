@@ -74,7 +74,8 @@ fn rises(jobs: &[JobNo]) -> bool
 // no busy interval has as many.
 fn sum_or_fault(rows: &[JobRow], jobs: &[JobNo], start: u32, due: u32) -> Result<u64, Verdict>
     requires { RowsRise rows.now }
-    ensures fault { IfErr result (λ verdict. first_fault rows.now start due jobs.now ≡ Some verdict) }
+    ensures fault { IfErr result (λ verdict.
+        first_fault rows.now start due jobs.now ≡ Some verdict) }
     ensures faultless { IfOk result (λ sum. first_fault rows.now start due jobs.now ≡ None) }
     ensures sum { IfOk result (λ sum. sum ≡ min (sum_by (work_of rows.now) jobs.now) (2 ^ 64 - 1)) }
 {

@@ -77,12 +77,15 @@ pub fn least_keys_are_kept()
 pub fn least_keys_are_joined()
     ensures keys { (rows later : List JobRow) (carried slots : Slots) (numbers : ℕ) →
         CarriesLeastKeys rows carried → AreOver rows numbers → CarriesLeastKeys later slots →
-        CarriesLeastKeys (joined_rows numbers (length carried) rows later) (joined_slots numbers carried slots) }
+        CarriesLeastKeys (joined_rows numbers (length carried) rows later)
+        (joined_slots numbers carried slots) }
     ensures least_late { (rows later : List JobRow) (carried slots : Slots) (numbers : ℕ) →
         CarriesLeastKeys rows carried → AreOver rows numbers → CarriesLeastKeys later slots →
-        IsLeastLate (joined_rows numbers (length carried) rows later) (joined_slots numbers carried slots) }
+        IsLeastLate (joined_rows numbers (length carried) rows later)
+        (joined_slots numbers carried slots) }
     ensures over { (rows later : List JobRow) (numbers slots further : ℕ) →
-        AreOver rows numbers → AreOver later further → AreOver (joined_rows numbers slots rows later) (numbers + further) }
+        AreOver rows numbers → AreOver later further
+        → AreOver (joined_rows numbers slots rows later) (numbers + further) }
 {}
 
 /// Adding what slots carried (`push`, `push_run`) leaves the slots in one way, or as they were. Left open is whether

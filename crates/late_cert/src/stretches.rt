@@ -34,7 +34,8 @@ pub fn build(
     requires { RowsRise rows.now }
     ensures built { IfOk result (λ built. built ≡ certificate_of rows.now carried.now job) }
     ensures own { IfOk result (λ built. IfSome built (IsOwn rows.now carried.now job)) }
-    ensures none { IfOk result (λ built. IfNone built ((c : Certificate) → IsOwn rows.now carried.now job c → ⊥)) }
+    ensures none { IfOk result (λ built.
+        IfNone built ((c : Certificate) → IsOwn rows.now carried.now job c → ⊥)) }
     ensures not_done { is_done rows.now job ≡ false → IsOk result }
     ensures refused { FailsForMemory result }
 {
@@ -104,8 +105,10 @@ fn walk_back(
 ) -> Result<Walk, AllocError>
     requires rise { RowsRise rows.now }
     requires due { due ≡ due_of rows.now job }
-    ensures start { IfOk result (λ walk. walk.start ≡ start_of rows.now carried.now job completion) }
-    ensures marks { IfOk result (λ walk. AreMarks rows.now carried.now walk.start completion walk.marks.items) }
+    ensures start { IfOk result (λ walk.
+        walk.start ≡ start_of rows.now carried.now job completion) }
+    ensures marks { IfOk result (λ walk.
+        AreMarks rows.now carried.now walk.start completion walk.marks.items) }
 {
     let mut marks = vec![in alloc; false; rows.len()]?;
     let mut start = completion;

@@ -46,7 +46,8 @@ impl Ledger {
     pub fn new(alloc: Global, plan: DiePlan) -> Result<Self, Refusal>
         requires { MeetsBound plan }
         ensures ok { IfOk result (λ ledger. ledger ≡ opening_accounts plan) }
-        ensures total { IfOk result (λ ledger. total_of ledger ≡ plan.shape.blocks * plan.shape.pages) }
+        ensures total { IfOk result (λ ledger.
+            total_of ledger ≡ plan.shape.blocks * plan.shape.pages) }
         ensures err { FailsForMemory result }
     {
         let tasks = plan.caps.len();

@@ -31,12 +31,14 @@ pub fn grows_to_cap()
 /// leaves what other tasks own. It computes nothing; its contract is the law.
 pub fn writes_alone_lower_owned()
     ensures hold_spent { (accounts : Accounts) (task : ℕ) →
-        AreSoundAccounts accounts → task < length accounts.plan.caps → 0 < slice_index accounts.holds task →
+        AreSoundAccounts accounts → task < length accounts.plan.caps
+        → 0 < slice_index accounts.holds task →
         owned_of (accounts_after_write accounts task) task + 1 ≡ owned_of accounts task }
     ensures hold_spent_others { (accounts : Accounts) (task other : ℕ) → other ≢ task →
         owned_of (accounts_after_write accounts task) other ≡ owned_of accounts other }
     ensures admitted { (accounts : Accounts) (task writes other : ℕ) →
-        AreSoundAccounts accounts → task < length accounts.plan.caps → writes ≤ slice_index accounts.balances task →
+        AreSoundAccounts accounts → task < length accounts.plan.caps
+        → writes ≤ slice_index accounts.balances task →
         owned_of (accounts_after_admit accounts task writes) other ≡ owned_of accounts other }
     ensures reserve_spent { (accounts : Accounts) (task other : ℕ) →
         owned_of (accounts_after_copy accounts task) other ≡ owned_of accounts other }
@@ -49,7 +51,8 @@ pub fn writes_alone_lower_owned()
 /// Opening the accounts of a plan (`new`) has one answer. Left open is whether there is memory for them.
 pub fn opening_accounts_has_one_answer()
     ensures { (plan : DiePlan) (one other : Result Accounts Refusal) →
-        IfOk one (λ ledger. ledger ≡ opening_accounts plan) → IfOk other (λ ledger. ledger ≡ opening_accounts plan) →
+        IfOk one (λ ledger. ledger ≡ opening_accounts plan) → IfOk other (λ ledger.
+        ledger ≡ opening_accounts plan) →
         FailsForMemory one → FailsForMemory other →
         (one ≡ other) ⊎ ((one ≡ Err Refusal.NoMemory) ⊎ (other ≡ Err Refusal.NoMemory)) }
 {}
@@ -77,7 +80,8 @@ pub fn waiving_a_collection_has_one_answer()
         (IsNone other ↔ before.spare < before.plan.alpha) →
         IfSome one (λ given. given ≡ given_of before task) →
         IfSome other (λ given. given ≡ given_of before task) →
-        OnSome one (left ≡ accounts_after_waiver before task) → OnSome other (right ≡ accounts_after_waiver before task) →
+        OnSome one (left ≡ accounts_after_waiver before task)
+        → OnSome other (right ≡ accounts_after_waiver before task) →
         IfNone one (left ≡ before) → IfNone other (right ≡ before) →
         (one ≡ other) × (left ≡ right) }
 {}

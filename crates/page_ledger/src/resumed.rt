@@ -23,7 +23,8 @@ impl Ledger {
         requires bound { MeetsBound plan }
         requires tasks { length balances.now ≡ length plan.caps }
         requires capped { (task : ℕ) → slice_index balances.now task ≤ slice_index plan.caps task }
-        requires room { spare + sum balances.now + length plan.caps * (plan.shape.pages - plan.alpha)
+        requires room { spare + sum balances.now + length plan.caps
+            * (plan.shape.pages - plan.alpha)
             ≤ plan.shape.blocks * plan.shape.pages }
         ensures ok { IfOk result (λ ledger. ledger ≡ quiet_accounts plan spare balances.now) }
         ensures err { FailsForMemory result }

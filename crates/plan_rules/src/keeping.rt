@@ -214,7 +214,8 @@ fn is_each_task_kept(times: &Times, tasks: usize, events: &[Event]) -> bool
 /// of slots, before that slot, with a collect period until its deadline, unless that is above 1,048,576, and no other
 /// collections come; and where there are at most 65,536 jobs and collections, and at most 1,048,576 slots.
 pub fn keeps_plan(plan: &DiePlan, events: &Items<Event>) -> bool
-    ensures { IsTrue result ↔ IsSomeAnd plan.now.times (λ times. KeepsPlan plan.now times events.now) }
+    ensures { IsTrue result ↔ IsSomeAnd plan.now.times (λ times.
+        KeepsPlan plan.now times events.now) }
 {
     match &plan.times {
         Some(times) => keeps_times(plan, times, events.as_slice()),

@@ -29,7 +29,8 @@ pub fn finds_choice()
 pub fn stays_sound()
     ensures few { (accounts : Accounts) → AreSoundAccounts accounts →
         accounts.spare < accounts.plan.alpha → total_of accounts ≤ fmax_of accounts.plan }
-    ensures opening { (plan : DiePlan) → MeetsBound plan → AreSoundAccounts (opening_accounts plan) }
+    ensures opening { (plan : DiePlan) → MeetsBound plan
+        → AreSoundAccounts (opening_accounts plan) }
     ensures admitted { (accounts : Accounts) (task writes : ℕ) → AreSoundAccounts accounts →
         task < length accounts.plan.caps → writes ≤ slice_index accounts.balances task →
         AreSoundAccounts (accounts_after_admit accounts task writes) }

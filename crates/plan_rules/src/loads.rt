@@ -20,8 +20,10 @@ use slot_types::{DiePlan, MAX_OPS, MAX_SLOT, Refusal, TaskTimes, Times};
 pub fn plan_test(plan: &DiePlan) -> Result<Load, Refusal>
     requires { MeetsBound plan.now }
     ensures passes { IsOk result ↔ IsSomeAnd plan.now.times (Passes plan.now) }
-    ensures demand { IfOk result (λ load. IsSomeAnd plan.now.times (λ times. load.demand ≡ demand plan.now times)) }
-    ensures common { IfOk result (λ load. IsSomeAnd plan.now.times (λ times. load.common ≡ times.common)) }
+    ensures demand { IfOk result (λ load.
+        IsSomeAnd plan.now.times (λ times. load.demand ≡ demand plan.now times)) }
+    ensures common { IfOk result (λ load.
+        IsSomeAnd plan.now.times (λ times. load.common ≡ times.common)) }
     ensures refused { IfErr result (λ refusal. refusal ≡ Refusal.BadPlan) }
 {
     match &plan.times {

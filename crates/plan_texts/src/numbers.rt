@@ -162,8 +162,11 @@ fn is_of_tables(items: &[Value]) -> bool
 /// The array of tables at the key `task`.
 fn task_tables(table: &Table) -> Result<&[Value], Refusal>
     ensures { MatchResult result
-        (λ items. tables_or (option_and_then as_array (get_member (codes "task") (table_view table.now))) ≡ Ok (items_view items.now))
-        (λ c. tables_or (option_and_then as_array (get_member (codes "task") (table_view table.now))) ≡ Err c) }
+        (λ items. tables_or
+        (option_and_then as_array (get_member (codes "task") (table_view table.now)))
+        ≡ Ok (items_view items.now))
+        (λ c. tables_or
+        (option_and_then as_array (get_member (codes "task") (table_view table.now))) ≡ Err c) }
 {
     let Some(value) = find(table, "task") else {
         return Err(Refusal::PlanText {

@@ -26,7 +26,9 @@ fn read_more<R: Read>(
     text: &mut Vec<u8>,
 ) -> Result<usize, Refusal>
     requires { length text.old.items < 1048577 }
-    ensures more { IfOk result (TakesMore (R.remaining reader.old) (R.remaining reader.new) text.old.items text.new.items) }
+    ensures more { IfOk result
+        (TakesMore (R.remaining reader.old) (R.remaining reader.new) text.old.items
+        text.new.items) }
     ensures room { IfOk result (λ _. length text.new.items ≤ 1048577) }
     ensures refused { IfErr result IsOutside }
 {
@@ -44,7 +46,8 @@ fn read_more<R: Read>(
 /// more where it fails: an error of its own is ReadFault, of whatever other kind it is. NoMemory comes where memory is
 /// refused.
 pub fn plan_text<R: Read + Drop>(alloc: Global, reader: R) -> Result<Vec<u8>, Refusal>
-    ensures text { IfOk result (λ text. IfSome (R.remaining reader) (λ bytes. text.items ≡ take 1048577 bytes)) }
+    ensures text { IfOk result (λ text.
+        IfSome (R.remaining reader) (λ bytes. text.items ≡ take 1048577 bytes)) }
     ensures refused { IfErr result IsOutside }
 {
     let mut reader = reader;

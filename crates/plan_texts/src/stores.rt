@@ -109,9 +109,11 @@ fn is_usable(plan: &DiePlan) -> bool
 /// The plans of the dies, each of which has to be usable.
 fn usable_dies(alloc: Global, plan: &PlanNumbers) -> Result<StorePlan, Refusal>
     ensures dies { IfOk result (λ store. store ≡ dies_of plan.now) }
-    ensures usable { IfOk result (λ _. (die : ℕ) → die < plan.now.top.dies → IsUsable (die_of plan.now die)) }
+    ensures usable { IfOk result (λ _.
+        (die : ℕ) → die < plan.now.top.dies → IsUsable (die_of plan.now die)) }
     ensures refused { IfErr result (λ refusal. (refusal ≡ Refusal.NoMemory)
-        ⊎ ((refusal ≡ Refusal.BadPlan) × ((die : ℕ) × (die < plan.now.top.dies) × ¬ IsUsable (die_of plan.now die)))) }
+        ⊎ ((refusal ≡ Refusal.BadPlan)
+        × ((die : ℕ) × (die < plan.now.top.dies) × ¬ IsUsable (die_of plan.now die)))) }
 {
     let mut store = StorePlan::new(alloc);
     for die in 0..plan.top.dies {
@@ -127,7 +129,8 @@ fn usable_dies(alloc: Global, plan: &PlanNumbers) -> Result<StorePlan, Refusal>
 /// The plan of a store, from its numbers.
 fn store_of(alloc: Global, plan: &PlanNumbers) -> Result<StorePlan, Refusal>
     ensures ok { IfOk result (IsStore plan.now) }
-    ensures err { IfErr result (λ refusal. (refusal ≡ Refusal.NoMemory) ⊎ RefusesStore plan.now refusal) }
+    ensures err { IfErr result (λ refusal.
+        (refusal ≡ Refusal.NoMemory) ⊎ RefusesStore plan.now refusal) }
 {
     if !is_shaped(&plan.top) {
         return Err(Refusal::BadShape);
@@ -150,12 +153,14 @@ fn store_of(alloc: Global, plan: &PlanNumbers) -> Result<StorePlan, Refusal>
 /// there, or a die doesn't meet the bound on plans, or doesn't pass the test of its times, as
 /// [`plan_test`](plan_rules::plan_test) says. NoMemory comes where memory is refused.
 pub fn read_plan(alloc: Global, bytes: &[u8]) -> Result<StorePlan, Refusal>
-    ensures ok { IfOk result (λ store. (plan : PlanNumbers) × (plan_of bytes.now ≡ Ok plan) × IsStore plan store) }
+    ensures ok { IfOk result (λ store.
+        (plan : PlanNumbers) × (plan_of bytes.now ≡ Ok plan) × IsStore plan store) }
     ensures some { IfOk result (λ store. 1 ≤ length store) }
     ensures few { IfOk result (λ store. length store ≤ 8) }
     ensures bound { IfOk result (All MeetsBound) }
     ensures passes { IfOk result (All PassesItsTimes) }
-    ensures err { IfErr result (λ refusal. (refusal ≡ Refusal.NoMemory) ⊎ RefusesPlan (plan_of bytes.now) refusal) }
+    ensures err { IfErr result (λ refusal.
+        (refusal ≡ Refusal.NoMemory) ⊎ RefusesPlan (plan_of bytes.now) refusal) }
 {
     let plan = plan_numbers(alloc, bytes)?;
     store_of(alloc, &plan)

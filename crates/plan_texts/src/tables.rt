@@ -133,14 +133,18 @@ fn check_keys(only: bool, whole: bool) -> Result<(), Refusal>
 
 /// The first fault of the top table's keys, in a plan with times or without.
 pub fn check_top_keys(table: &Table, timed: bool) -> Result<(), Refusal>
-    ensures { result ≡ checked_keys (has_only (is_top_key timed) (table_view table.now)) (has_top_keys timed (table_view table.now)) }
+    ensures { result
+        ≡ checked_keys (has_only (is_top_key timed) (table_view table.now))
+        (has_top_keys timed (table_view table.now)) }
 {
     check_keys(is_top_only(table, timed), is_top_whole(table, timed))
 }
 
 /// The first fault of a task's keys, in a plan with times or without.
 pub fn check_task_keys(table: &Table, timed: bool) -> Result<(), Refusal>
-    ensures { result ≡ checked_keys (has_only (is_task_key timed) (table_view table.now)) (has_task_keys timed (table_view table.now)) }
+    ensures { result
+        ≡ checked_keys (has_only (is_task_key timed) (table_view table.now))
+        (has_task_keys timed (table_view table.now)) }
 {
     check_keys(is_task_only(table, timed), is_task_whole(table, timed))
 }

@@ -97,10 +97,13 @@ fn add(alloc: Global, gathered: &mut Gathered, next: DieRow) -> Result<(), Refus
 /// Gathers one more record, if it is a row that may come next; says whether it is.
 pub fn gather(alloc: Global, gathered: &mut Gathered, fields: &ByteRecord) -> Result<bool, Refusal>
     requires { length gathered.old.rows ≤ 65536 }
-    ensures row { IfOk result (λ is_row. (if is_row then Some gathered.new else None) ≡ gathered_with gathered.old (fields_of fields.now)) }
+    ensures row { IfOk result (λ is_row.
+        (if is_row then Some gathered.new else None)
+        ≡ gathered_with gathered.old (fields_of fields.now)) }
     ensures few { IfOk result (λ is_row. is_row ≡ true → length gathered.new.rows ≤ 65536) }
     ensures bound { IfOk result (λ is_row. is_row ≡ true → progress gathered.new ≤ 524288) }
-    ensures grows { IfOk result (λ is_row. is_row ≡ true → progress gathered.old < progress gathered.new) }
+    ensures grows { IfOk result (λ is_row.
+        is_row ≡ true → progress gathered.old < progress gathered.new) }
     ensures refused { FailsForMemory result }
 {
     let Some(next) = read_row(alloc, fields)? else {

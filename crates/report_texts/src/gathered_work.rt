@@ -93,10 +93,12 @@ fn add(alloc: Global, work: &mut GatheredWork, next: &RowNumbers) -> Result<(), 
 /// Gathers one more record, if it is a row that may come next; says whether it is.
 pub fn gather(alloc: Global, work: &mut GatheredWork, fields: &ByteRecord) -> Result<bool, Refusal>
     requires { work.old.rows ≤ 65536 }
-    ensures row { IfOk result (λ is_row. (if is_row then Some work.new else None) ≡ work_with work.old (fields_of fields.now)) }
+    ensures row { IfOk result (λ is_row.
+        (if is_row then Some work.new else None) ≡ work_with work.old (fields_of fields.now)) }
     ensures few { IfOk result (λ is_row. is_row ≡ true → work.new.rows ≤ 65536) }
     ensures bound { IfOk result (λ is_row. is_row ≡ true → work_progress work.new ≤ 524288) }
-    ensures grows { IfOk result (λ is_row. is_row ≡ true → work_progress work.old < work_progress work.new) }
+    ensures grows { IfOk result (λ is_row.
+        is_row ≡ true → work_progress work.old < work_progress work.new) }
     ensures refused { FailsForMemory result }
 {
     let Some(next) = read_numbers(fields) else {

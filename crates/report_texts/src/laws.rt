@@ -9,5 +9,6 @@ ghost use Rattle.report_texts.specs.declared.reports.DieReport.{DieReport};
 /// The text of a report reads as the report: whatever is written of a report that meets the conditions of reading is
 /// read back the same.
 pub fn reports_come_back()
-    ensures { (report : List DieReport) → IsReport report → report_of (report_text report) ≡ Ok report }
+    ensures { (report : List DieReport) → IsReport report
+        → report_of (report_text report) ≡ Ok report }
 {}

@@ -125,14 +125,16 @@ fn certifies(fields: &ByteRecord, die: u32, worst: &Finish) -> bool
 
 /// Whether a certificate says the lateness of this job.
 fn says_lateness(fields: &ByteRecord, worst: &Finish) -> bool
-    ensures { result ≡ is_late (lateness_in (field_or (fields_of fields.now) 8)) (lateness_of_finish worst.now) }
+    ensures { result
+        ≡ is_late (lateness_in (field_or (fields_of fields.now) 8)) (lateness_of_finish worst.now) }
 {
     read_lateness(field_in(fields, 8)) == Some(worst.late())
 }
 
 /// The jobs that a certificate lists.
 fn jobs(alloc: Global, fields: &ByteRecord) -> Result<Option<JobList>, Refusal>
-    ensures ok { IfOk result (λ jobs. jobs ≡ list_of number_of (field_or (fields_of fields.now) 10)) }
+    ensures ok { IfOk result (λ jobs.
+        jobs ≡ list_of number_of (field_or (fields_of fields.now) 10)) }
     ensures refused { FailsForMemory result }
 {
     list(alloc, field_in(fields, 10))

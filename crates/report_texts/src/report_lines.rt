@@ -46,7 +46,8 @@ fn put_number(text: &mut Vec<u8>, number: u32) -> io::Result<()>
 
 /// Adds pages, each after a space.
 fn put_more_pages(text: &mut Vec<u8>, pages: &[PageData]) -> io::Result<()>
-    ensures { OnOk result (text.new.items ≡ text.old.items ++ flat_map (λ page. 32 ∷ page_word page) pages.now) }
+    ensures { OnOk result (text.new.items ≡ text.old.items ++ flat_map (λ page.
+        32 ∷ page_word page) pages.now) }
 {
     for page in pages {
         text.push(b' ')?;
@@ -68,7 +69,8 @@ fn put_pages(text: &mut Vec<u8>, pages: &[PageData]) -> io::Result<()>
 
 /// Adds numbers, each after a space.
 fn put_more_numbers(text: &mut Vec<u8>, numbers: &[JobNo]) -> io::Result<()>
-    ensures { OnOk result (text.new.items ≡ text.old.items ++ flat_map (λ number. 32 ∷ decimal number) numbers.now) }
+    ensures { OnOk result (text.new.items ≡ text.old.items ++ flat_map (λ number.
+        32 ∷ decimal number) numbers.now) }
 {
     for number in numbers {
         text.push(b' ')?;
@@ -131,7 +133,8 @@ pub fn put_row(text: &mut Vec<u8>, row: &RowNumbers, reads: &[PageData]) -> io::
 /// Adds the first fields of a certificate.
 #[tactic(auto, unfolding(crate::specs::Commas::after_commas))]
 fn put_cert_start(text: &mut Vec<u8>, die: u32, cert: &Certificate) -> io::Result<()>
-    ensures { OnOk result (text.new.items ≡ text.old.items ++ (codes "cert" ++ after_commas (cert_numbers die cert.now))) }
+    ensures { OnOk result (text.new.items
+        ≡ text.old.items ++ (codes "cert" ++ after_commas (cert_numbers die cert.now))) }
 {
     let (job, start, due, completion) = (cert.job.0, cert.start, cert.due, cert.completion);
     write!(text, "cert,{die},{job},,{start},{due},,{completion}")
@@ -139,7 +142,8 @@ fn put_cert_start(text: &mut Vec<u8>, die: u32, cert: &Certificate) -> io::Resul
 
 /// Adds the lateness that a certificate says.
 fn put_cert_lateness(text: &mut Vec<u8>, cert: &Certificate) -> io::Result<()>
-    ensures { OnOk result (text.new.items ≡ text.old.items ++ signed_decimal (lateness_of cert.now.completion cert.now.due)) }
+    ensures { OnOk result (text.new.items
+        ≡ text.old.items ++ signed_decimal (lateness_of cert.now.completion cert.now.due)) }
 {
     let late = lateness(cert.completion, cert.due);
     write!(text, "{late}")
@@ -147,7 +151,8 @@ fn put_cert_lateness(text: &mut Vec<u8>, cert: &Certificate) -> io::Result<()>
 
 /// Adds the record of a certificate.
 pub fn put_cert(text: &mut Vec<u8>, die: u32, cert: &Certificate) -> io::Result<()>
-    ensures { OnOk result (text.new.items ≡ text.old.items ++ row_text default_writer (cert_fields die cert.now)) }
+    ensures { OnOk result (text.new.items
+        ≡ text.old.items ++ row_text default_writer (cert_fields die cert.now)) }
 {
     put_cert_start(text, die, cert)?;
     text.push(b',')?;
@@ -162,7 +167,8 @@ pub fn put_cert(text: &mut Vec<u8>, die: u32, cert: &Certificate) -> io::Result<
 /// Adds the record of the header.
 #[tactic(auto, unfolding(csv::specs::Writing::fields_text, csv::specs::Writing::is_blank))]
 pub fn put_header(text: &mut Vec<u8>) -> io::Result<()>
-    ensures { OnOk result (text.new.items ≡ text.old.items ++ row_text default_writer header_fields) }
+    ensures { OnOk result (text.new.items
+        ≡ text.old.items ++ row_text default_writer header_fields) }
 {
     text.extend_from_slice(b"row,die,job,task,release,due,work,completion,lateness,given,items\n")?;
     Ok(())

@@ -42,9 +42,11 @@ fn heads_report(row: &ByteRecord) -> bool
 pub fn take_header<R: Read>(records: &mut Records<R>) -> Result<(), Refusal>
     requires ready { IsReady records.old }
     requires first { record_line records.old ≡ 1 }
-    ensures read { Reads report_from (λ _. rows_from no_rows (record_line records.new)) (records_left R.remaining records.old)
+    ensures read { Reads report_from (λ _.
+        rows_from no_rows (record_line records.new)) (records_left R.remaining records.old)
         (records_left R.remaining records.new) result }
-    ensures fits { OnOk result (Stays (records_fit R.remaining records.old) (records_fit R.remaining records.new)) }
+    ensures fits { OnOk result
+        (Stays (records_fit R.remaining records.old) (records_fit R.remaining records.new)) }
     ensures ready { OnOk result (IsReady records.new) }
 {
     let Some(fields) = records.get() else {
@@ -59,9 +61,11 @@ pub fn take_header<R: Read>(records: &mut Records<R>) -> Result<(), Refusal>
 /// Takes the rows of all dies.
 fn take_rows<R: Read>(alloc: Global, records: &mut Records<R>) -> Result<Items<DieReport>, Refusal>
     requires { IsReady records.old }
-    ensures read { Reads (rows_from no_rows (record_line records.old)) (λ dies. certs_from dies (record_line records.new))
+    ensures read { Reads (rows_from no_rows (record_line records.old)) (λ dies.
+        certs_from dies (record_line records.new))
         (records_left R.remaining records.old) (records_left R.remaining records.new) result }
-    ensures fits { OnOk result (Stays (records_fit R.remaining records.old) (records_fit R.remaining records.new)) }
+    ensures fits { OnOk result
+        (Stays (records_fit R.remaining records.old) (records_fit R.remaining records.new)) }
     ensures ready { OnOk result (IsReady records.new) }
     ensures numbered { IfOk result AreNumbered }
 {
@@ -88,10 +92,13 @@ fn take_cert<R: Read>(
     die: &mut DieReport,
 ) -> Result<(), Refusal>
     requires { IsReady records.old }
-    ensures read { (more : ℕ → List Fields → Reading) → Reads (certs_for die.old more (worst_of die.old.rows) (record_line records.old))
-        (λ _ rest. with_die die.new (more (record_line records.new) rest)) (records_left R.remaining records.old)
+    ensures read { (more : ℕ → List Fields → Reading)
+        → Reads (certs_for die.old more (worst_of die.old.rows) (record_line records.old))
+        (λ _ rest. with_die die.new (more (record_line records.new) rest))
+        (records_left R.remaining records.old)
         (records_left R.remaining records.new) result }
-    ensures fits { OnOk result (Stays (records_fit R.remaining records.old) (records_fit R.remaining records.new)) }
+    ensures fits { OnOk result
+        (Stays (records_fit R.remaining records.old) (records_fit R.remaining records.new)) }
     ensures ready { OnOk result (IsReady records.new) }
     ensures rows { OnOk result (die.new.rows ≡ die.old.rows) }
 {
@@ -117,8 +124,11 @@ fn take_certs<R: Read>(
 ) -> Result<Report, Refusal>
     requires ready { IsReady records.old }
     requires numbered { AreNumbered dies }
-    ensures report { Tells (option_map (certs_from dies (record_line records.old)) (records_left R.remaining records.old)) result }
-    ensures fits { OnOk result (IfSome (records_fit R.remaining records.old) (λ fits. fits ≡ true)) }
+    ensures report { Tells
+        (option_map (certs_from dies (record_line records.old))
+        (records_left R.remaining records.old)) result }
+    ensures fits { OnOk result (IfSome (records_fit R.remaining records.old) (λ fits.
+        fits ≡ true)) }
     ensures numbered { IfOk result AreNumbered }
 {
     let mut dies = dies.into_vec();

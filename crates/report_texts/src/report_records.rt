@@ -26,8 +26,11 @@ pub struct Records<R> {
 
 /// The records of a reader, at the first of them.
 pub fn records_in<R: Read + Drop>(alloc: Global, reader: R) -> Result<Records<R>, Refusal>
-    ensures first { IfOk result (λ made. Stays (option_map rows_of (R.remaining reader)) (records_left R.remaining made)) }
-    ensures fits { IfOk result (λ made. Stays (option_map (is_within 67108864) (R.remaining reader)) (records_fit R.remaining made)) }
+    ensures first { IfOk result (λ made.
+        Stays (option_map rows_of (R.remaining reader)) (records_left R.remaining made)) }
+    ensures fits { IfOk result (λ made.
+        Stays (option_map (is_within 67108864) (R.remaining reader))
+        (records_fit R.remaining made)) }
     ensures ready { IfOk result (λ made. IsReady made) }
     ensures line { IfOk result (λ made. record_line made ≡ 1) }
     ensures refused { IfErr result (λ e. IsOutside e) }
@@ -79,8 +82,10 @@ impl<R: Read> Records<R> {
     pub fn advance(&mut self) -> Result<(), Refusal>
         requires ready { IsReady self.old }
         requires found { is_found self.old ≡ true }
-        ensures next { OnOk result (Loses (records_left R.remaining self.old) (records_left R.remaining self.new)) }
-        ensures fits { OnOk result (Stays (records_fit R.remaining self.old) (records_fit R.remaining self.new)) }
+        ensures next { OnOk result
+            (Loses (records_left R.remaining self.old) (records_left R.remaining self.new)) }
+        ensures fits { OnOk result
+            (Stays (records_fit R.remaining self.old) (records_fit R.remaining self.new)) }
         ensures ready { OnOk result (IsReady self.new) }
         ensures line { OnOk result (record_line self.new ≡ record_line self.old + 1) }
         ensures refused { IfErr result (λ e. IsOutside e) }

@@ -25,7 +25,8 @@ pub struct DieRow {
 
 /// What the reads of a row gave.
 fn reads(alloc: Global, fields: &ByteRecord) -> Result<Option<Reads>, Refusal>
-    ensures ok { IfOk result (λ reads. reads ≡ list_of page_of (field_or (fields_of fields.now) 10)) }
+    ensures ok { IfOk result (λ reads.
+        reads ≡ list_of page_of (field_or (fields_of fields.now) 10)) }
     ensures refused { FailsForMemory result }
 {
     list(alloc, field_in(fields, 10))

@@ -54,7 +54,8 @@ impl ReportText {
 
     /// Adds a row: these numbers, and the pages that its reads gave. The only refusal is NoMemory.
     pub fn add_row(&mut self, row: &RowNumbers, reads: &[PageData]) -> Result<(), Refusal>
-        ensures ok { OnOk result (self.new ≡ row_added row.now.die (row_with row.now reads.now) self.old) }
+        ensures ok { OnOk result (self.new
+            ≡ row_added row.now.die (row_with row.now reads.now) self.old) }
         ensures refused { FailsForMemory result }
     {
         match put_row(&mut self.rows, row, reads) {
@@ -90,10 +91,13 @@ impl ReportText {
     /// NoMemory comes before the first byte, and the writer is as it was. WriteFault comes where the writer fails, as
     /// [`write_whole`] says: a front of the text was then written that isn't the whole.
     pub fn write<W: Write>(self, writer: &mut W) -> Result<(), Refusal>
-        ensures written { OnOk result (Appends (W.contents writer.old) (W.contents writer.new) (whole_text self)) }
+        ensures written { OnOk result
+            (Appends (W.contents writer.old) (W.contents writer.new) (whole_text self)) }
         ensures memory { result ≡ Err Refusal.NoMemory → writer.new ≡ writer.old }
-        ensures part { result ≡ Err Refusal.WriteFault → AppendsPart (W.contents writer.old) (W.contents writer.new) (whole_text self) }
-        ensures refused { IfErr result (λ refusal. (refusal ≡ Refusal.NoMemory) ⊎ (refusal ≡ Refusal.WriteFault)) }
+        ensures part { result ≡ Err Refusal.WriteFault
+            → AppendsPart (W.contents writer.old) (W.contents writer.new) (whole_text self) }
+        ensures refused { IfErr result (λ refusal.
+            (refusal ≡ Refusal.NoMemory) ⊎ (refusal ≡ Refusal.WriteFault)) }
     {
         let text = self.whole()?;
         write_whole(writer, &text)
@@ -156,10 +160,13 @@ fn text_of(alloc: Global, report: &Report) -> Result<ReportText, Refusal>
 
 /// Writes a report as csv, as [`ReportText::write`] says, with the same refusals.
 pub fn write_report<W: Write>(alloc: Global, writer: &mut W, report: &Report) -> Result<(), Refusal>
-    ensures written { OnOk result (Appends (W.contents writer.old) (W.contents writer.new) (report_text report.now)) }
+    ensures written { OnOk result
+        (Appends (W.contents writer.old) (W.contents writer.new) (report_text report.now)) }
     ensures memory { result ≡ Err Refusal.NoMemory → writer.new ≡ writer.old }
-    ensures part { result ≡ Err Refusal.WriteFault → AppendsPart (W.contents writer.old) (W.contents writer.new) (report_text report.now) }
-    ensures refused { IfErr result (λ refusal. (refusal ≡ Refusal.NoMemory) ⊎ (refusal ≡ Refusal.WriteFault)) }
+    ensures part { result ≡ Err Refusal.WriteFault
+        → AppendsPart (W.contents writer.old) (W.contents writer.new) (report_text report.now) }
+    ensures refused { IfErr result (λ refusal.
+        (refusal ≡ Refusal.NoMemory) ⊎ (refusal ≡ Refusal.WriteFault)) }
 {
     let text = text_of(alloc, report)?;
     text.write(writer)

@@ -104,7 +104,8 @@ fn lateness_if_filled(field: &[u8]) -> Option<Option<i64>>
 /// The numbers of a record.
 #[tactic(auto, unfolding(crate::specs::ReportRows::row_in))]
 pub fn row_numbers(fields: &ByteRecord) -> Option<RowNumbers>
-    ensures { with_reads result (list_of page_of (field_or (fields_of fields.now) 10)) ≡ row_in (fields_of fields.now) }
+    ensures { with_reads result (list_of page_of (field_or (fields_of fields.now) 10))
+        ≡ row_in (fields_of fields.now) }
 {
     let row = kind(fields)?;
     let die = number_in(fields, 1)?;
@@ -174,7 +175,8 @@ fn has_times(row: &RowNumbers) -> bool
 
 /// Whether the numbers of a row are within their limits, and it fills its fields, where its reads gave so many pages.
 pub fn stands(row: &RowNumbers, pages: usize) -> bool
-    ensures sound { (reads : List PageData) → length reads ≡ pages → result ≡ is_sound (die_row row.now reads) }
+    ensures sound { (reads : List PageData) → length reads ≡ pages
+        → result ≡ is_sound (die_row row.now reads) }
 {
     has_place(row) && has_times(row) && fills(row, pages)
 }

@@ -20,9 +20,11 @@ use std::io::Read;
 /// Takes the work that the rows of all dies say.
 fn take_work<R: Read>(alloc: Global, records: &mut Records<R>) -> Result<ReportWork, Refusal>
     requires { IsReady records.old }
-    ensures read { ReadsWork (rows_from no_rows (record_line records.old)) (λ dies. certs_from dies (record_line records.new))
+    ensures read { ReadsWork (rows_from no_rows (record_line records.old)) (λ dies.
+        certs_from dies (record_line records.new))
         (records_left R.remaining records.old) (records_left R.remaining records.new) result }
-    ensures fits { OnOk result (Stays (records_fit R.remaining records.old) (records_fit R.remaining records.new)) }
+    ensures fits { OnOk result
+        (Stays (records_fit R.remaining records.old) (records_fit R.remaining records.new)) }
     ensures ready { OnOk result (IsReady records.new) }
     ensures rise { IfOk result AllRise }
 {
@@ -51,9 +53,11 @@ fn take_cert<R: Read>(
     requires { IsReady records.old }
     ensures read { (d : DieReport) → die.old ≡ work_of d → (more : ℕ → List Fields → Reading) →
         Reads (certs_for d more (worst_of d.rows) (record_line records.old))
-        (λ _ rest. with_die (record d { cert = die.new.cert }) (more (record_line records.new) rest)) (records_left R.remaining records.old)
+        (λ _ rest. with_die (record d { cert = die.new.cert })
+        (more (record_line records.new) rest)) (records_left R.remaining records.old)
         (records_left R.remaining records.new) result }
-    ensures fits { OnOk result (Stays (records_fit R.remaining records.old) (records_fit R.remaining records.new)) }
+    ensures fits { OnOk result
+        (Stays (records_fit R.remaining records.old) (records_fit R.remaining records.new)) }
     ensures ready { OnOk result (IsReady records.new) }
     ensures work { OnOk result (die.new ≡ record die.old { cert = die.new.cert }) }
 {
@@ -80,8 +84,10 @@ fn take_certs<R: Read>(
     requires ready { IsReady records.old }
     requires rise { AllRise dies }
     ensures work { (ds : List DieReport) → dies ≡ works_of ds →
-        TellsWork (option_map (certs_from ds (record_line records.old)) (records_left R.remaining records.old)) result }
-    ensures fits { OnOk result (IfSome (records_fit R.remaining records.old) (λ fits. fits ≡ true)) }
+        TellsWork (option_map (certs_from ds (record_line records.old))
+        (records_left R.remaining records.old)) result }
+    ensures fits { OnOk result (IfSome (records_fit R.remaining records.old) (λ fits.
+        fits ≡ true)) }
     ensures rise { IfOk result AllRise }
 {
     let mut dies = dies.into_vec();

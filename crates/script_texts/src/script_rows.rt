@@ -103,7 +103,8 @@ fn put_ops(ops: &mut OpList, field: &[u8], line: u32) -> Result<(), Refusal>
 /// Puts the operations of a row in place of others, in their memory: a collection has none.
 fn put_asked(ops: &mut OpList, head: &RowHead, field: &[u8]) -> Result<(), Refusal>
     ensures event { Shows (λ _. arrival_of head.now.job ops.new) result
-        (event_of head.now.line head.now.job.collects head.now.job.task head.now.job.release head.now.job.due field.now) }
+        (event_of head.now.line head.now.job.collects head.now.job.task head.now.job.release
+        head.now.job.due field.now) }
     ensures pages { OnOk result (AsksPages (arrival_of head.now.job ops.new)) }
     ensures own { OnOk result (HasOwnOps head.now ops.new) }
 {
@@ -130,7 +131,8 @@ pub fn take_item(
     line: u32,
     ops: &mut OpList,
 ) -> Result<RowHead, Refusal>
-    ensures item { Shows (λ head. row_of head ops.new) result (item_of slots lasts.now line (fields_of row.now)) }
+    ensures item { Shows (λ head.
+        row_of head ops.new) result (item_of slots lasts.now line (fields_of row.now)) }
     ensures die { IfOk result (λ head. head.die < length lasts.now) }
     ensures arrives { IfOk result (λ head. Arrives slots (row_of head ops.new)) }
     ensures pages { IfOk result (λ head. RowHasPages (row_of head ops.new)) }

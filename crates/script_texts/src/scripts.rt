@@ -61,7 +61,8 @@ impl<R: Read> ScriptReader<R> {
             ≡ option_map (reading_of (length plan.now) slots) (R.remaining reader)) }
         ensures script { IfOk result (λ script. script_left R.remaining script
             ≡ option_map (script_of (length plan.now) slots) (R.remaining reader)) }
-        ensures bound { IfOk result (λ script. script_fits R.remaining script ≡ option_map (is_within 67108864) (R.remaining reader)) }
+        ensures bound { IfOk result (λ script.
+            script_fits R.remaining script ≡ option_map (is_within 67108864) (R.remaining reader)) }
         ensures refused { FailsForMemory result }
     {
         let lasts = vec![in alloc; 0u32; plan.len()]?;
@@ -86,10 +87,14 @@ impl<R: Read> ScriptReader<R> {
     /// reader fails or goes on beyond its bound; the records before it are judged first. NoMemory comes where memory
     /// is refused.
     pub fn next(&mut self) -> Result<Option<ScriptItem>, Refusal>
-        ensures gives { Gives (reading_left R.remaining self.old) (reading_left R.remaining self.new) result }
-        ensures item { Yields (script_left R.remaining self.old) (script_left R.remaining self.new) result }
-        ensures bound { EndsFit (script_fits R.remaining self.old) (script_fits R.remaining self.new) result }
-        ensures row { IfOk result (λ o. IfSome o (IsRowFor (dies_of self.old) (slots_of self.old))) }
+        ensures gives { Gives (reading_left R.remaining self.old)
+            (reading_left R.remaining self.new) result }
+        ensures item { Yields (script_left R.remaining self.old) (script_left R.remaining self.new)
+            result }
+        ensures bound { EndsFit (script_fits R.remaining self.old)
+            (script_fits R.remaining self.new) result }
+        ensures row { IfOk result (λ o.
+            IfSome o (IsRowFor (dies_of self.old) (slots_of self.old))) }
         ensures pages { IfOk result (λ o. IfSome o RowHasPages) }
         ensures dies { dies_of self.new ≡ dies_of self.old }
         ensures slots { slots_of self.new ≡ slots_of self.old }
@@ -107,10 +112,15 @@ impl<R: Read> ScriptReader<R> {
     /// memory for its longest job alone. A collection has no operations. Where there is no item, nothing is said of
     /// the list.
     pub fn next_into(&mut self, ops: &mut OpList) -> Result<Option<RowHead>, Refusal>
-        ensures gives { Gives (reading_left R.remaining self.old) (reading_left R.remaining self.new) (row_read result ops.new) }
-        ensures item { Yields (script_left R.remaining self.old) (script_left R.remaining self.new) (row_read result ops.new) }
-        ensures bound { EndsFit (script_fits R.remaining self.old) (script_fits R.remaining self.new) (row_read result ops.new) }
-        ensures row { IfOk result (λ o. IfSome o (λ head. IsRowFor (dies_of self.old) (slots_of self.old) (row_of head ops.new))) }
+        ensures gives { Gives (reading_left R.remaining self.old)
+            (reading_left R.remaining self.new) (row_read result ops.new) }
+        ensures item { Yields (script_left R.remaining self.old) (script_left R.remaining self.new)
+            (row_read result ops.new) }
+        ensures bound { EndsFit (script_fits R.remaining self.old)
+            (script_fits R.remaining self.new) (row_read result ops.new) }
+        ensures row { IfOk result (λ o.
+            IfSome o (λ head.
+            IsRowFor (dies_of self.old) (slots_of self.old) (row_of head ops.new))) }
         ensures pages { IfOk result (λ o. IfSome o (λ head. RowHasPages (row_of head ops.new))) }
         ensures own { IfOk result (λ o. IfSome o (λ head. HasOwnOps head ops.new)) }
         ensures dies { dies_of self.new ≡ dies_of self.old }

@@ -44,9 +44,12 @@ fn read_item<R: Read>(
     ops: &mut OpList,
 ) -> Result<Option<RowHead>, Refusal>
     requires { IsPlain rows.old }
-    ensures step { StepOf (items_from slots lasts.now line) (λ x. items_from slots (after_item lasts.now x) (line + 1))
-        (rows_left R.remaining rows.old) (rows_left R.remaining rows.new) (row_read result ops.new) }
-    ensures fits { EndsFit (fits_left R.remaining rows.old) (fits_left R.remaining rows.new) (row_read result ops.new) }
+    ensures step { StepOf (items_from slots lasts.now line) (λ x.
+        items_from slots (after_item lasts.now x) (line + 1))
+        (rows_left R.remaining rows.old) (rows_left R.remaining rows.new)
+        (row_read result ops.new) }
+    ensures fits { EndsFit (fits_left R.remaining rows.old) (fits_left R.remaining rows.new)
+        (row_read result ops.new) }
     ensures plain { IfOk result (λ _. IsPlain rows.new) }
     ensures line { IfOk result (λ o. IfSome o (λ _. line ≤ 1000001)) }
     ensures die { IfOk result (λ o. IfSome o (λ head. head.die < length lasts.now)) }
@@ -76,9 +79,11 @@ fn read_first<R: Read>(
     ops: &mut OpList,
 ) -> Result<Option<RowHead>, Refusal>
     requires { IsPlain rows.old }
-    ensures step { StepOf (script_from slots lasts.now) (λ x. items_from slots (after_item lasts.now x) 3) (rows_left R.remaining rows.old)
+    ensures step { StepOf (script_from slots lasts.now) (λ x.
+        items_from slots (after_item lasts.now x) 3) (rows_left R.remaining rows.old)
         (rows_left R.remaining rows.new) (row_read result ops.new) }
-    ensures fits { EndsFit (fits_left R.remaining rows.old) (fits_left R.remaining rows.new) (row_read result ops.new) }
+    ensures fits { EndsFit (fits_left R.remaining rows.old) (fits_left R.remaining rows.new)
+        (row_read result ops.new) }
     ensures plain { IfOk result (λ _. IsPlain rows.new) }
     ensures die { IfOk result (λ o. IfSome o (λ head. head.die < length lasts.now)) }
     ensures arrives { IfOk result (λ o. IfSome o (λ head. Arrives slots (row_of head ops.new))) }
@@ -105,9 +110,12 @@ pub fn read_step<R: Read>(
 ) -> Result<Option<RowHead>, Refusal>
     requires plain { IsPlain rows.old }
     requires counted { 0 < line }
-    ensures step { StepOf (script_at slots lasts.now line) (λ x. items_from slots (after_item lasts.now x) (max line 2 + 1))
-        (rows_left R.remaining rows.old) (rows_left R.remaining rows.new) (row_read result ops.new) }
-    ensures fits { EndsFit (fits_left R.remaining rows.old) (fits_left R.remaining rows.new) (row_read result ops.new) }
+    ensures step { StepOf (script_at slots lasts.now line) (λ x.
+        items_from slots (after_item lasts.now x) (max line 2 + 1))
+        (rows_left R.remaining rows.old) (rows_left R.remaining rows.new)
+        (row_read result ops.new) }
+    ensures fits { EndsFit (fits_left R.remaining rows.old) (fits_left R.remaining rows.new)
+        (row_read result ops.new) }
     ensures plain { IfOk result (λ _. IsPlain rows.new) }
     ensures line { IfOk result (λ o. IfSome o (λ _. line ≤ 1000001)) }
     ensures die { IfOk result (λ o. IfSome o (λ head. head.die < length lasts.now)) }

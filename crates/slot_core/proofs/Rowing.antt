@@ -88,6 +88,34 @@ rows_past rs n made at is = is ∙ ap (rows_in 0) (sym (take_past rs n at))
 pub rows_all : (rs : List JobRecord) (n : ℕ) (made : List JobRow) → n ≡ length rs → made ≡ rows_in 0 (take n rs) → made ≡ rows_in 0 rs
 rows_all rs n made all is = is ∙ ap (rows_in 0) (take_all n rs (omega (arith, all)))
 
+-- Where there is no row
+
+some_row : {row : JobRow} {rows : List JobRow} → row ∷ rows ≡ [] → ⊥
+some_row is = absurd (cc)
+
+no_more : (o : Option JobRow) (rows : List JobRow) → cons_option o rows ≡ [] → rows ≡ []
+no_more None rows is = is
+no_more (Some row) rows is = absurd (some_row is)
+
+none_from : (first : ℕ) (rs : List JobRecord) (n : ℕ) (r : JobRecord) (row : JobRow) → slice_get rs n ≡ Some r → row_in (first + n) r
+    ≡ Some row → rows_in first rs ≡ [] → ⊥
+none_from first [] n r row at row_is is = none-some r at
+none_from first (x ∷ rs) zero r row at row_is is =
+    let here : first + zero ≡ first = omega arith in
+    some_row (sym (ap (λ (o : Option JobRow). cons_option o (rows_in (first + 1) rs))
+    (ap (row_in first) (same_Some x r at) ∙ (ap (λ (k : ℕ). row_in k r) (sym here) ∙ row_is))) ∙ is)
+none_from first (x ∷ rs) (suc n) r row at row_is is =
+    let next : (first + 1) + n ≡ first + suc n = omega arith in
+    none_from (first + 1) rs n r row at (ap (λ (k : ℕ). row_in k r) next ∙ row_is) (no_more (row_in first x) (rows_in (first + 1) rs) is)
+
+-- where one record has a row, there is one
+pub a_row_stands : (rs : List JobRecord) (n : ℕ) (r : JobRecord) (row : JobRow) → slice_get rs n ≡ Some r → row_in n r ≡ Some row → rows_in 0 rs
+    ≡ [] → ⊥
+a_row_stands rs n r row at row_is is = none_from 0 rs n r row at (ap (λ (k : ℕ). row_in k r) (here n) ∙ row_is) is
+  where
+    here : (k : ℕ) → 0 + k ≡ k
+    here k = omega arith
+
 -- The rows of the log
 
 -- the row of a job, were it done or not

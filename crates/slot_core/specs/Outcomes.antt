@@ -1,5 +1,5 @@
 -- What became of the jobs and collections of a log, and who of them is worst.
-use Rattle.std.specs.Prelude.{ℕ, Bool, true, false, List, Option, Some, None, option_map, ℤ}
+use Rattle.std.specs.Prelude.{ℕ, Bool, true, false, List, [], Option, Some, None, option_map, ℤ}
 use Rattle.slot_types.specs.declared.plans.DiePlan.{DiePlan}
 use Rattle.slot_types.specs.declared.pages.PageData.{PageData}
 use Rattle.slot_types.specs.declared.replies.Waived.{Waived}
@@ -31,6 +31,11 @@ outcome_of start log j =
 -- of this number, if there is one
 abbrev pub outcome_at : Start → Log → ℕ → Option Outcome
 outcome_at start log number = option_map (outcome_of start log) (job_at log number)
+
+-- what the reads of a job gave, if it is done
+abbrev pub reads_given : Outcome → List PageData
+reads_given (outcomes.Done completion lateness given reads) = reads
+reads_given _ = []
 
 -- what it was accepted with
 abbrev pub head_of : Job → JobHead

@@ -38,9 +38,11 @@ fn enter_job(
     requires reserved { reserved ≤ events.old.room }
     requires few_ops { length ops.now ≤ MAX_OPS }
     requires words { list_all has_word ops.now ≡ true }
-    ensures table { OnOk result (table.new ≡ with_job table.old (new_job task release due ops.now)) }
+    ensures table { OnOk result (table.new
+        ≡ with_job table.old (new_job task release due ops.now)) }
     ensures number { IfOk result (λ number. number ≡ length table.old.jobs) }
-    ensures logged { IfOk result (λ number. events.new.notes ≡ record { caller = caller; deed = Deed.Submit number; waived = [] }
+    ensures logged { IfOk result (λ number.
+        events.new.notes ≡ record { caller = caller; deed = Deed.Submit number; waived = [] }
         ∷ events.old.notes) }
     ensures refused { FailsForMemory result }
     ensures table_stays { OnErr result (table.new ≡ table.old) }
@@ -73,7 +75,8 @@ fn enter_collection(
     requires single { is_collecting table.old.jobs task ≡ false }
     ensures table { OnOk result (table.new ≡ with_job table.old (new_collection task release due)) }
     ensures number { IfOk result (λ number. number ≡ length table.old.jobs) }
-    ensures logged { IfOk result (λ number. events.new.notes ≡ record { caller = caller; deed = Deed.Collect number; waived = [] }
+    ensures logged { IfOk result (λ number.
+        events.new.notes ≡ record { caller = caller; deed = Deed.Collect number; waived = [] }
         ∷ events.old.notes) }
     ensures refused { FailsForMemory result }
     ensures table_stays { OnErr result (table.new ≡ table.old) }
@@ -93,7 +96,8 @@ impl<N: Nand> DieCore<N> {
     /// Why a job is refused by a die that isn't stopped, if it is.
     fn submit_refusal(&self, task: TaskNo, release: u32, due: u32, ops: &[Op]) -> Option<Refusal>
         requires { self.now.stopped ≡ false }
-        ensures { result ≡ refusal_of self.now.start self.now.log (Event.Submit task release due ops.now) }
+        ensures { result
+            ≡ refusal_of self.now.start self.now.log (Event.Submit task release due ops.now) }
     {
         let plan = self.volume.plan();
         if task.0 as usize >= plan.caps.len() {
@@ -144,7 +148,8 @@ impl<N: Nand> DieCore<N> {
         due: u32,
         ops: OpList,
     ) -> Result<JobNo, Refusal>
-        ensures { IsCall N.ends N.failures N.never_fails caller (Event.Submit task release due ops) (reply_as Reply.Taken result) self.old
+        ensures { IsCall N.ends N.failures N.never_fails caller (Event.Submit task release due ops)
+            (reply_as Reply.Taken result) self.old
             self.new }
     {
         self.submit_lent(alloc, caller, task, release, due, ops.as_slice())
@@ -160,7 +165,8 @@ impl<N: Nand> DieCore<N> {
         due: u32,
         ops: &[Op],
     ) -> Result<JobNo, Refusal>
-        ensures { IsCall N.ends N.failures N.never_fails caller (Event.Submit task release due ops.now) (reply_as Reply.Taken result) self.old
+        ensures { IsCall N.ends N.failures N.never_fails caller
+            (Event.Submit task release due ops.now) (reply_as Reply.Taken result) self.old
             self.new }
     {
         if self.volume.failed() {
@@ -238,7 +244,8 @@ impl<N: Nand> DieCore<N> {
         release: u32,
         due: u32,
     ) -> Result<JobNo, Refusal>
-        ensures { IsCall N.ends N.failures N.never_fails caller (Event.Collect task release due) (reply_as Reply.Taken result) self.old
+        ensures { IsCall N.ends N.failures N.never_fails caller (Event.Collect task release due)
+            (reply_as Reply.Taken result) self.old
             self.new }
     {
         if self.volume.failed() {

@@ -1,6 +1,6 @@
 //! The rows of a die's jobs and collections, and the certificate of its worst one.
 
-ghost use Rattle.std.specs.Prelude.{◌≡◌, ◌↔◌, None, IsOk, IfOk, IfSome};
+ghost use Rattle.std.specs.Prelude.{◌≡◌, ◌↔◌, [], None, IsOk, IfOk, IfSome};
 ghost use Rattle.slot_types.specs.Refusal.{FailsForMemory};
 ghost use Rattle.late_cert.specs.Rows.{RowsRise};
 ghost use Rattle.die_log.specs.Model.Rows.{rows, certificate};
@@ -36,6 +36,7 @@ fn row_in(number: u32, job: &Job) -> Option<JobRow>
 /// The rows of a table's jobs, by number.
 fn rows_in(alloc: Global, table: &JobTable) -> Result<JobRows, Refusal>
     ensures ok { IfOk result (λ made. made ≡ rows_in 0 table.now.jobs) }
+    ensures nothing { rows_in 0 table.now.jobs ≡ [] → IsOk result }
     ensures refused { FailsForMemory result }
 {
     let mut rows = JobRows::new(alloc);
@@ -51,10 +52,11 @@ fn rows_in(alloc: Global, table: &JobTable) -> Result<JobRows, Refusal>
 
 impl<N: Nand> DieCore<N> {
     /// The rows of all jobs and collections by number, without those that were waived: what [`late_cert::check`] reads.
-    /// The only refusal is out of memory.
+    /// The only refusal is out of memory; where there is no row, none is taken.
     pub fn rows(&self, alloc: Global) -> Result<JobRows, Refusal>
         ensures ok { IfOk result (λ made. made ≡ rows self.now.start.plan self.now.log) }
         ensures rise { IfOk result (λ made. RowsRise made) }
+        ensures nothing { rows self.now.start.plan self.now.log ≡ [] → IsOk result }
         ensures refused { FailsForMemory result }
     {
         rows_in(alloc, &self.table)
@@ -66,10 +68,14 @@ impl<N: Nand> DieCore<N> {
     /// memory is taken.
     pub fn certificate(&self, alloc: Global) -> Result<Option<Certificate>, Refusal>
         ensures ok { IfOk result (λ built. built ≡ certificate self.now.start.plan self.now.log) }
-        ensures none { IfOk result (λ built. (built ≡ None) ↔ NothingDone self.now.start.plan self.now.log) }
-        ensures worst { IfOk result (λ built. IfSome built (IsOfWorst self.now.start.plan self.now.log)) }
-        ensures holds { IfOk result (λ built. IfSome built (HoldsOver self.now.start.plan self.now.log)) }
-        ensures binds { IfOk result (λ built. IfSome built (BindsAll self.now.start.plan self.now.log)) }
+        ensures none { IfOk result (λ built.
+            (built ≡ None) ↔ NothingDone self.now.start.plan self.now.log) }
+        ensures worst { IfOk result (λ built.
+            IfSome built (IsOfWorst self.now.start.plan self.now.log)) }
+        ensures holds { IfOk result (λ built.
+            IfSome built (HoldsOver self.now.start.plan self.now.log)) }
+        ensures binds { IfOk result (λ built.
+            IfSome built (BindsAll self.now.start.plan self.now.log)) }
         ensures nothing { NothingDone self.now.start.plan self.now.log → IsOk result }
         ensures refused { FailsForMemory result }
     {

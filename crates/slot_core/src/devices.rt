@@ -13,8 +13,11 @@ impl<N: Nand> DieCore<N> {
     /// are those that the log gives it, and where a page is placed the cell holds what the log last wrote there.
     pub fn device(&self) -> &N
         ensures device { result.now ≡ self.now.device }
-        ensures blocks { self.now.stopped ≡ false → map counts_of (N.blocks self.now.device) ≡ (cells self.now.start self.now.log).blocks }
-        ensures pages { self.now.stopped ≡ false → volume.contents (N.blocks self.now.device) (cells self.now.start self.now.log).places
+        ensures blocks { self.now.stopped ≡ false
+            → map counts_of (N.blocks self.now.device)
+            ≡ (cells self.now.start self.now.log).blocks }
+        ensures pages { self.now.stopped ≡ false
+            → volume.contents (N.blocks self.now.device) (cells self.now.start self.now.log).places
             ≡ contents self.now.start self.now.log }
         ensures well { self.now.stopped ≡ false → N.failures self.now.device ≡ 0 }
     {

@@ -69,10 +69,14 @@ impl<N: Nand> DieCore<N> {
     /// does not meet its bound; else `NoMemory` where memory is refused. Plan and device are given up then.
     pub fn new(alloc: Global, plan: DiePlan, nand: N) -> Result<DieCore<N>, Refusal>
         requires fresh { IsFresh (N.shape_of nand) (N.blocks nand) (N.failures nand) }
-        ensures ok { IfOk result (λ core. core ≡ record { start = fresh plan; device = nand; stopped = false; reserved = 0; log = [] }) }
-        ensures bad_shape { (result ≡ Err Refusal.BadShape) ↔ ¬ (IsShape plan.shape × (N.shape_of nand ≡ plan.shape)) }
-        ensures bad_plan { (result ≡ Err Refusal.BadPlan) ↔ (IsShape plan.shape × (N.shape_of nand ≡ plan.shape) × ¬ MeetsBound plan) }
-        ensures refused { IfErr result (λ refusal. (refusal ≡ Refusal.BadShape) ⊎ (refusal ≡ Refusal.BadPlan)
+        ensures ok { IfOk result (λ core.
+            core ≡ record { start = fresh plan; device = nand; stopped = false; reserved = 0; log = [] }) }
+        ensures bad_shape { (result ≡ Err Refusal.BadShape)
+            ↔ ¬ (IsShape plan.shape × (N.shape_of nand ≡ plan.shape)) }
+        ensures bad_plan { (result ≡ Err Refusal.BadPlan)
+            ↔ (IsShape plan.shape × (N.shape_of nand ≡ plan.shape) × ¬ MeetsBound plan) }
+        ensures refused { IfErr result (λ refusal.
+            (refusal ≡ Refusal.BadShape) ⊎ (refusal ≡ Refusal.BadPlan)
             ⊎ (refusal ≡ Refusal.NoMemory)) }
     {
         if nand.shape() != plan.shape {
@@ -98,9 +102,12 @@ impl<N: Nand> DieCore<N> {
         requires fresh { IsFresh (N.shape_of nand) (N.blocks nand) (N.failures nand) }
         ensures ok { IfOk result (λ core. box_value core
             ≡ record { start = fresh plan; device = nand; stopped = false; reserved = 0; log = [] }) }
-        ensures bad_shape { (result ≡ Err Refusal.BadShape) ↔ ¬ (IsShape plan.shape × (N.shape_of nand ≡ plan.shape)) }
-        ensures bad_plan { (result ≡ Err Refusal.BadPlan) ↔ (IsShape plan.shape × (N.shape_of nand ≡ plan.shape) × ¬ MeetsBound plan) }
-        ensures refused { IfErr result (λ refusal. (refusal ≡ Refusal.BadShape) ⊎ (refusal ≡ Refusal.BadPlan)
+        ensures bad_shape { (result ≡ Err Refusal.BadShape)
+            ↔ ¬ (IsShape plan.shape × (N.shape_of nand ≡ plan.shape)) }
+        ensures bad_plan { (result ≡ Err Refusal.BadPlan)
+            ↔ (IsShape plan.shape × (N.shape_of nand ≡ plan.shape) × ¬ MeetsBound plan) }
+        ensures refused { IfErr result (λ refusal.
+            (refusal ≡ Refusal.BadShape) ⊎ (refusal ≡ Refusal.BadPlan)
             ⊎ (refusal ≡ Refusal.NoMemory)) }
     {
         let core = DieCore::new(alloc, plan, nand)?;
@@ -116,7 +123,8 @@ impl<N: Nand> DieCore<N> {
     ///
     /// The only refusal is `NoMemory`, where nothing changes; so many as are reserved already are never refused.
     pub fn reserve(&mut self, slots: u32) -> Result<(), Refusal>
-        ensures ok { OnOk result (self.new ≡ record self.old { reserved = max self.old.reserved slots }) }
+        ensures ok { OnOk result (self.new
+            ≡ record self.old { reserved = max self.old.reserved slots }) }
         ensures refused { FailsForMemory result }
         ensures succeeds { slots ≤ self.old.reserved → IsOk result }
         ensures unchanged { OnErr result (self.new ≡ self.old) }

@@ -37,7 +37,8 @@ impl<N: Nand> DieCore<N> {
         head: JobHead,
         ops: &[Op],
     ) -> Result<JobNo, Refusal>
-        ensures { IsCall N.ends N.failures N.never_fails caller (arrival_of head ops.now) (reply_as Reply.Taken result) self.old
+        ensures { IsCall N.ends N.failures N.never_fails caller (arrival_of head ops.now)
+            (reply_as Reply.Taken result) self.old
             self.new }
     {
         let JobHead {
@@ -102,7 +103,8 @@ impl<N: Nand> DieCore<N> {
         head: EventHead,
         ops: &[Op],
     ) -> Result<ReplyNote, Refusal>
-        ensures { IsCall N.ends N.failures N.never_fails caller (with_ops head ops.now) (reply_as reply_of_note result) self.old
+        ensures { IsCall N.ends N.failures N.never_fails caller (with_ops head ops.now)
+            (reply_as reply_of_note result) self.old
             self.new }
     {
         match head {

@@ -15,7 +15,8 @@ impl<N: Nand> DieCore<N> {
     /// memory and a short time, however long the log is.
     pub fn job_record(&self, number: JobNo) -> Option<Job<'_>>
         ensures record { slice_get (job_records self.now.start self.now.log) number ≡ result }
-        ensures summary { IfSome result (λ job. summary_at self.now.start self.now.log number ≡ Some (summary_in job)) }
+        ensures summary { IfSome result (λ job.
+            summary_at self.now.start self.now.log number ≡ Some (summary_in job)) }
         ensures unknown { (result ≡ None) ↔ (job_at self.now.log number ≡ None) }
     {
         self.table.job(number)

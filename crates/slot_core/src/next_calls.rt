@@ -143,8 +143,10 @@ fn look_at_head<N: Nand>(
     requires alive { volume.now.failed ≡ false }
     requires few { present < MAX_SLOT }
     requires clock { table.old.clock ≤ present }
-    requires kept { AgreeWithLog (over volume.now.accounts.plan from.0) from.1 present table.old volume.now.failed (flash_of N.blocks volume.now) }
-    ensures next { IfSome result (λ next. next ≡ next_slot (over volume.now.accounts.plan from.0) from.1) }
+    requires kept { AgreeWithLog (over volume.now.accounts.plan from.0) from.1 present table.old
+        volume.now.failed (flash_of N.blocks volume.now) }
+    ensures next { IfSome result (λ next.
+        next ≡ next_slot (over volume.now.accounts.plan from.0) from.1) }
     ensures table { table.new ≡ record table.old { clock = present } }
 {
     let Some(number) = table.head(present) else {
@@ -179,7 +181,8 @@ fn look_ahead<N: Nand>(
     requires untold { told.old ≡ [] }
     requires few { present < MAX_SLOT }
     requires clock { table.old.clock ≤ present }
-    requires kept { AgreeWithLog (over volume.now.accounts.plan from.0) from.1 present table.old volume.now.failed (flash_of N.blocks volume.now) }
+    requires kept { AgreeWithLog (over volume.now.accounts.plan from.0) from.1 present table.old
+        volume.now.failed (flash_of N.blocks volume.now) }
     ensures next { result ≡ next_slot (over volume.now.accounts.plan from.0) from.1 }
     ensures table { table.new ≡ record table.old { clock = present } }
 {
@@ -217,10 +220,12 @@ impl<N: Nand> DieCore<N> {
     /// is 1,048,576.
     pub fn next_call(&mut self, alloc: Global) -> Result<NextSlot, Refusal>
         ensures stopped { (result ≡ Err Refusal.DieStopped) ↔ (self.old.stopped ≡ true) }
-        ensures end { self.old.stopped ≡ false → ((result ≡ Err Refusal.ClockEnd) ↔ (MAX_SLOT ≤ now self.old.log)) }
+        ensures end { self.old.stopped ≡ false
+            → ((result ≡ Err Refusal.ClockEnd) ↔ (MAX_SLOT ≤ now self.old.log)) }
         ensures next { IfOk result (λ next. next ≡ next_slot self.old.start self.old.log) }
         ensures needed { IfOk result (λ next. next.call ≡ needed_call self.old.start self.old.log) }
-        ensures refused { IfErr result (λ refusal. (refusal ≡ Refusal.DieStopped) ⊎ (refusal ≡ Refusal.ClockEnd)) }
+        ensures refused { IfErr result (λ refusal.
+            (refusal ≡ Refusal.DieStopped) ⊎ (refusal ≡ Refusal.ClockEnd)) }
         ensures unchanged { self.new ≡ self.old }
     {
         if self.volume.failed() {

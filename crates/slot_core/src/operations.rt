@@ -53,10 +53,12 @@ pub(crate) fn operate<N: Nand>(volume: &mut Volume<N>, task: TaskNo, op: Op) -> 
     requires page { page_of op < length volume.old.pages }
     requires held { is_write op ≡ true → 0 < slice_index volume.old.accounts.holds task }
     ensures act { IfOk result (λ act. act ≡ act_by (flash_of N.blocks volume.old) op) }
-    ensures flash { OnOk result (flash_of N.blocks volume.new ≡ flash_after_op (flash_of N.blocks volume.old) task op) }
+    ensures flash { OnOk result (flash_of N.blocks volume.new
+        ≡ flash_after_op (flash_of N.blocks volume.old) task op) }
     ensures plan { volume.new.accounts.plan ≡ volume.old.accounts.plan }
     ensures fails { FailsWithDevice N.failures N.never_fails result volume.old volume.new }
-    ensures made { IsOnlyCall N.ends (op_call N.blocks volume.old op) (is_ok result) volume.old.device volume.new.device }
+    ensures made { IsOnlyCall N.ends (op_call N.blocks volume.old op) (is_ok result)
+        volume.old.device volume.new.device }
     ensures needs { OnErr result (IsSome (op_call N.blocks volume.old op)) }
 {
     match op {

@@ -1,16 +1,15 @@
 //! What became of the jobs and collections of a die, and who of them is worst.
 
-ghost use Rattle.std.specs.Prelude.{◌≡◌, ◌↔◌, ◌⊎◌, ℕ, false, Some, None, IsOk, IfOk, IfErr};
+ghost use Rattle.std.specs.Prelude.{◌≡◌, ◌↔◌, ◌⊎◌, [], Some, None, IsOk, IfOk, IfErr};
 ghost use Rattle.slot_types.specs.Refusal.{FailsForMemory};
-ghost use Rattle.job_table.specs.Jobs.{is_done};
 ghost use Rattle.die_log.specs.Model.Log.{job_at};
-ghost use Rattle.slot_core.specs.Outcomes.{outcome_in, outcome_at, head_in, head_at, worst_of, worst_as};
+ghost use Rattle.slot_core.specs.Outcomes.{reads_given, outcome_in, outcome_at, head_in, head_at, worst_of, worst_as};
 
 use crate::die_core::DieCore;
 use flash_die::Nand;
 use job_table::{Job, Stage};
 use late_cert::lateness;
-use slot_types::{JobHead, JobNo, Reads, Refusal};
+use slot_types::{JobHead, JobNo, PageData, Reads, Refusal};
 use std::alloc::Global;
 
 /// What became of a job or a collection.
@@ -41,23 +40,38 @@ pub struct Worst {
     pub lateness: i64,
 }
 
+/// A copy of what reads gave; of nothing it takes no memory.
+fn copy_of(alloc: Global, reads: &[PageData]) -> Result<Reads, Refusal>
+    ensures ok { IfOk result (λ copy. copy ≡ reads.now) }
+    ensures nothing { reads.now ≡ [] → IsOk result }
+    ensures refused { FailsForMemory result }
+{
+    if reads.is_empty() {
+        return Ok(Reads::new(alloc));
+    }
+    match Vec::from_slice(alloc, reads) {
+        Ok(items) => Ok(Reads::from_vec(items)),
+        Err(_) => Err(Refusal::NoMemory),
+    }
+}
+
 /// What became of a job, with a copy of what its reads gave.
 pub(crate) fn outcome_in(alloc: Global, job: &Job) -> Result<Outcome, Refusal>
     ensures ok { IfOk result (λ outcome. outcome ≡ outcome_in job.now) }
+    ensures nothing { reads_given (outcome_in job.now) ≡ [] → IsOk result }
     ensures refused { FailsForMemory result }
-    ensures undone { is_done job.now.stage ≡ false → IsOk result }
 {
     match job.stage() {
         Stage::Pending => Ok(Outcome::Waiting),
         Stage::Waived { given } => Ok(Outcome::Waived { given }),
-        Stage::Done { completion, given } => match Vec::from_slice(alloc, job.reads()) {
-            Ok(items) => Ok(Outcome::Done {
+        Stage::Done { completion, given } => match copy_of(alloc, job.reads()) {
+            Ok(reads) => Ok(Outcome::Done {
                 completion,
                 lateness: lateness(completion, job.due()),
                 given,
-                reads: Reads::from_vec(items),
+                reads,
             }),
-            Err(_) => Err(Refusal::NoMemory),
+            Err(refusal) => Err(refusal),
         },
     }
 }
@@ -86,13 +100,17 @@ impl<N: Nand> DieCore<N> {
     /// What became of the job or collection of a number, by the log.
     ///
     /// `UnknownJob` where the log has none of that number; else `NoMemory` where it is done and memory is refused for
-    /// what its reads gave. Of one that waits or was waived no memory is taken.
+    /// what its reads gave. Where no read gave anything (it waits, was waived, is a collection, or only wrote), no
+    /// memory is taken.
     pub fn outcome(&self, alloc: Global, job: JobNo) -> Result<Outcome, Refusal>
-        ensures ok { IfOk result (λ outcome. outcome_at self.now.start self.now.log job ≡ Some outcome) }
+        ensures ok { IfOk result (λ outcome.
+            outcome_at self.now.start self.now.log job ≡ Some outcome) }
         ensures unknown { (result ≡ Err Refusal.UnknownJob) ↔ (job_at self.now.log job ≡ None) }
-        ensures waiting { outcome_at self.now.start self.now.log job ≡ Some Outcome.Waiting → IsOk result }
-        ensures waived { (given : ℕ) → outcome_at self.now.start self.now.log job ≡ Some (Outcome.Waived given) → IsOk result }
-        ensures refused { IfErr result (λ refusal. (refusal ≡ Refusal.UnknownJob) ⊎ (refusal ≡ Refusal.NoMemory)) }
+        ensures nothing { (outcome : Outcome)
+            → outcome_at self.now.start self.now.log job ≡ Some outcome
+            → reads_given outcome ≡ [] → IsOk result }
+        ensures refused { IfErr result (λ refusal.
+            (refusal ≡ Refusal.UnknownJob) ⊎ (refusal ≡ Refusal.NoMemory)) }
     {
         match self.table.job(job) {
             None => Err(Refusal::UnknownJob),

@@ -23,19 +23,22 @@ use flash_die::Nand;
 /// be erased in each slot of a life.
 pub fn what_fits_is_an_opening()
     ensures { (plan : DiePlan) (c : Checkpoint) (blocks : List Block) →
-        Fits plan c ↔ (IsOpening (resumed_start plan c blocks) × CanBeErased (resumed_start plan c blocks)) }
+        Fits plan c ↔ (IsOpening (resumed_start plan c blocks)
+        × CanBeErased (resumed_start plan c blocks)) }
 {}
 
 /// An opening is what its checkpoint makes with its pages.
 pub fn an_opening_is_what_its_checkpoint_makes()
-    ensures { (start : Start) → IsOpening start → start_with start.plan (checkpoint_of start) start.contents ≡ start }
+    ensures { (start : Start) → IsOpening start
+        → start_with start.plan (checkpoint_of start) start.contents ≡ start }
 {}
 
 /// A renewal is refused for one cause, and only where the die may not be renewed.
 pub fn a_renewal_has_one_answer<N: Nand>()
     ensures refused { (one other : RenewalRefusal) (before : Core N) →
         RefusesRenewal before one → RefusesRenewal before other → one ≡ other }
-    ensures either { (refusal : RenewalRefusal) (before : Core N) → RefusesRenewal before refusal → ¬ MayBeRenewed before }
+    ensures either { (refusal : RenewalRefusal) (before : Core N) → RefusesRenewal before refusal
+        → ¬ MayBeRenewed before }
 {}
 
 /// A checkpoint is refused for one cause.
@@ -47,9 +50,11 @@ pub fn a_checkpoint_has_one_answer<N: Nand>()
 /// A resumption is refused for one cause, and only where the device is of another shape or the checkpoint doesn't fit;
 /// but out of memory.
 pub fn a_resumption_has_one_answer()
-    ensures refused { (plan : DiePlan) (c : Checkpoint) (shape : Shape) (one other : ResumeRefusal) →
+    ensures refused { (plan : DiePlan) (c : Checkpoint) (shape : Shape) (one other : ResumeRefusal)
+        →
         RefusesResume plan c shape one → RefusesResume plan c shape other →
         one ≢ no_memory → other ≢ no_memory → one ≡ other }
     ensures either { (plan : DiePlan) (c : Checkpoint) (shape : Shape) (refusal : ResumeRefusal) →
-        RefusesResume plan c shape refusal → refusal ≢ no_memory → ¬ ((shape ≡ plan.shape) × Fits plan c) }
+        RefusesResume plan c shape refusal → refusal ≢ no_memory
+        → ¬ ((shape ≡ plan.shape) × Fits plan c) }
 {}

@@ -49,7 +49,8 @@ fn next_in(table: &mut JobTable, present: u32) -> Option<JobNo>
     requires running { table.old.ended ≡ false }
     requires forward { table.old.clock ≤ present }
     ensures clock { table.new ≡ record table.old { clock = present } }
-    ensures next { IfSome result (λ number. IsHead table.new number ⊎ (NothingReady table.new × IsNextReleased table.new number)) }
+    ensures next { IfSome result (λ number.
+        IsHead table.new number ⊎ (NothingReady table.new × IsNextReleased table.new number)) }
     ensures none { IfNone result (NothingReady table.new × NothingWaiting table.new) }
 {
     match table.head(present) {

@@ -62,10 +62,13 @@ impl<N: Nand> DieCore<N> {
     ///
     /// Refused as `renew` is, where and with what it is refused; else with `NoMemory`, where there is none.
     pub fn checkpoint(&mut self, alloc: Global) -> Result<Checkpoint, CheckpointRefusal>
-        ensures ok { IfOk result (λ taken. taken ≡ checkpoint_of (renewed_start self.old.start self.old.log)) }
+        ensures ok { IfOk result (λ taken.
+            taken ≡ checkpoint_of (renewed_start self.old.start self.old.log)) }
         ensures fits { IfOk result (λ taken. Fits self.old.start.plan taken) }
-        ensures left { IfOk result (λ taken. IsAsLeft taken (N.blocks self.old.device) (N.failures self.old.device)) }
-        ensures goes_on { IfOk result (λ taken. resumed_start self.old.start.plan taken (N.blocks self.old.device)
+        ensures left { IfOk result (λ taken.
+            IsAsLeft taken (N.blocks self.old.device) (N.failures self.old.device)) }
+        ensures goes_on { IfOk result (λ taken.
+            resumed_start self.old.start.plan taken (N.blocks self.old.device)
             ≡ renewed_start self.old.start self.old.log) }
         ensures may { OnOk result (MayBeRenewed self.old) }
         ensures refused { IfErr result (RefusesCheckpoint self.old) }
@@ -80,10 +83,13 @@ impl<N: Nand> DieCore<N> {
     /// What stands on a die that may be renewed.
     fn take_checkpoint(&self, alloc: Global) -> Result<Checkpoint, CheckpointRefusal>
         requires may { MayBeRenewed self.now }
-        ensures ok { IfOk result (λ taken. taken ≡ checkpoint_of (renewed_start self.now.start self.now.log)) }
+        ensures ok { IfOk result (λ taken.
+            taken ≡ checkpoint_of (renewed_start self.now.start self.now.log)) }
         ensures fits { IfOk result (λ taken. Fits self.now.start.plan taken) }
-        ensures left { IfOk result (λ taken. IsAsLeft taken (N.blocks self.now.device) (N.failures self.now.device)) }
-        ensures goes_on { IfOk result (λ taken. resumed_start self.now.start.plan taken (N.blocks self.now.device)
+        ensures left { IfOk result (λ taken.
+            IsAsLeft taken (N.blocks self.now.device) (N.failures self.now.device)) }
+        ensures goes_on { IfOk result (λ taken.
+            resumed_start self.now.start.plan taken (N.blocks self.now.device)
             ≡ renewed_start self.now.start self.now.log) }
         ensures refused { IfErr result (λ refusal. refusal ≡ CheckpointRefusal.NoMemory) }
     {
@@ -128,7 +134,8 @@ impl<N: Nand> DieCore<N> {
         }) }
         ensures fits { OnOk result (Fits plan checkpoint.now) }
         ensures shape { OnOk result (N.shape_of device ≡ plan.shape) }
-        ensures refused { IfErr result (λ no. RefusesResume plan checkpoint.now (N.shape_of device) no.refusal) }
+        ensures refused { IfErr result (λ no.
+            RefusesResume plan checkpoint.now (N.shape_of device) no.refusal) }
         ensures device { IfErr result (λ no. no.device ≡ device) }
     {
         if device.shape() != plan.shape {

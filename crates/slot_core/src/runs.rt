@@ -1,6 +1,6 @@
 //! Events carried out one after the other.
 
-ghost use Rattle.std.specs.Prelude.{◌≡◌, length, IfOk, OnErr};
+ghost use Rattle.std.specs.Prelude.{◌≡◌, [], length, IsOk, IfOk, OnErr};
 ghost use Rattle.slot_types.specs.Refusal.{FailsForMemory};
 ghost use Rattle.slot_types.specs.declared.plans.Times.{Times};
 ghost use Rattle.die_log.specs.Results.Supply.{AreStocked};
@@ -20,7 +20,8 @@ pub type Replies = Items<Reply>;
 impl<N: Nand> DieCore<N> {
     /// Carries out one event for caller 0.
     fn apply(&mut self, alloc: Global, event: Event) -> Reply
-        ensures { IsCall N.ends N.failures N.never_fails 0 event (result_of result) self.old self.new }
+        ensures { IsCall N.ends N.failures N.never_fails 0 event (result_of result) self.old
+            self.new }
     {
         match self.perform(alloc, 0, event) {
             Ok(reply) => reply,
@@ -30,10 +31,15 @@ impl<N: Nand> DieCore<N> {
 
     // One reply an event, in memory that is taken first.
     fn answer_each(&mut self, alloc: Global, events: Items<Event>) -> Result<Replies, Refusal>
-        ensures ran { IfOk result (λ replies. IsRun N.ends N.failures N.never_fails self.old events replies self.new) }
+        ensures ran { IfOk result (λ replies.
+            IsRun N.ends N.failures N.never_fails self.old events replies self.new) }
+        ensures nothing { events ≡ [] → IsOk result }
         ensures refused { FailsForMemory result }
         ensures unchanged { OnErr result (self.new ≡ self.old) }
     {
+        if events.is_empty() {
+            return Ok(Replies::new(alloc));
+        }
         let mut replies = match Vec::with_capacity(alloc, events.len()) {
             Ok(room) => room,
             Err(_) => return Err(Refusal::NoMemory),
@@ -53,14 +59,19 @@ impl<N: Nand> DieCore<N> {
     /// refused to none of them. Then no event is refused until the device fails. And nothing is late, also where the
     /// device fails at the end: all that is due by then is done or was waived, and nothing is done after its deadline.
     ///
-    /// The only refusal is `NoMemory`, where memory is refused for the replies; no event is carried out then.
+    /// The only refusal is `NoMemory`, where memory is refused for the replies; no event is carried out then. Without
+    /// events no memory is taken.
     pub fn run(&mut self, alloc: Global, events: Items<Event>) -> Result<Replies, Refusal>
-        ensures ran { IfOk result (λ replies. IsRun N.ends N.failures N.never_fails self.old events replies self.new) }
+        ensures ran { IfOk result (λ replies.
+            IsRun N.ends N.failures N.never_fails self.old events replies self.new) }
         ensures only { IfOk result (λ replies. HasGrown self.old events replies self.new) }
-        ensures accepted { IfOk result (λ replies. (times : Times) → IsPlanned times self.old events replies
+        ensures accepted { IfOk result (λ replies.
+            (times : Times) → IsPlanned times self.old events replies
             → AreStocked self.old.start times → AreAcceptedUntilFault replies) }
-        ensures in_time { IfOk result (λ replies. (times : Times) → IsPlanned times self.old events replies
+        ensures in_time { IfOk result (λ replies.
+            (times : Times) → IsPlanned times self.old events replies
             → IsInTime self.old.start.plan self.new.log) }
+        ensures nothing { events ≡ [] → IsOk result }
         ensures refused { FailsForMemory result }
         ensures unchanged { OnErr result (self.new ≡ self.old) }
     {

@@ -42,13 +42,19 @@ fn choose<N: Nand>(
 ) -> Option<JobNo>
     ghost from: { Start × Log }
     requires alive { volume.old.failed ≡ false }
-    requires within { InSlot (over volume.old.accounts.plan from.0) from.1 present told.old (record table.old { clock = present })
+    requires within { InSlot (over volume.old.accounts.plan from.0) from.1 present told.old
+        (record table.old { clock = present })
         (flash_of N.blocks volume.old) }
     requires clock { table.old.clock ≤ present }
-    ensures turn { IfSome result (IsHeadInSlot (over volume.new.accounts.plan from.0) from.1 present told.new table.new (flash_of N.blocks volume.new)) }
-    ensures idle { IfNone result (InSlot (over volume.new.accounts.plan from.0) from.1 present told.new table.new (flash_of N.blocks volume.new)
+    ensures turn { IfSome result
+        (IsHeadInSlot (over volume.new.accounts.plan from.0) from.1 present told.new table.new
+        (flash_of N.blocks volume.new)) }
+    ensures idle { IfNone result
+        (InSlot (over volume.new.accounts.plan from.0) from.1 present told.new table.new
+        (flash_of N.blocks volume.new)
         × NothingReady table.new) }
-    ensures closed { open_collections table.new.jobs + length told.new ≤ open_collections table.old.jobs + length told.old }
+    ensures closed { open_collections table.new.jobs + length told.new
+        ≤ open_collections table.old.jobs + length told.old }
     ensures plan { volume.new.accounts.plan ≡ volume.old.accounts.plan }
     ensures alive { volume.new.failed ≡ false }
     ensures device { volume.new.device ≡ volume.old.device }
@@ -91,22 +97,31 @@ fn carry_out<N: Nand>(
     requires clock { table.old.clock ≤ present }
     requires entry { 0 < events.old.room }
     requires waivers { open_collections table.old.jobs ≤ events.old.waiver_room }
-    requires kept { AgreeWithLog (over volume.old.accounts.plan from.0) from.1 present table.old volume.old.failed (flash_of N.blocks volume.old) }
+    requires kept { AgreeWithLog (over volume.old.accounts.plan from.0) from.1 present table.old
+        volume.old.failed (flash_of N.blocks volume.old) }
     requires unfilled { reply.old ≡ idle_reply present [] }
-    ensures kept { OnOk result (AgreeWithLog (over volume.new.accounts.plan from.0) (log_of table.new events.new.notes) (present + 1) table.new volume.new.failed
+    ensures kept { OnOk result
+        (AgreeWithLog (over volume.new.accounts.plan from.0) (log_of table.new events.new.notes)
+        (present + 1) table.new volume.new.failed
         (flash_of N.blocks volume.new)) }
-    ensures answered { OnOk result (answer (over volume.old.accounts.plan from.0) from.1 Event.Slot ≡ Reply.Slot reply.new) }
-    ensures logged { OnOk result (log_of table.new events.new.notes ≡ with_entry caller Event.Slot (Reply.Slot reply.new) from.1) }
+    ensures answered { OnOk result (answer (over volume.old.accounts.plan from.0) from.1 Event.Slot
+        ≡ Reply.Slot reply.new) }
+    ensures logged { OnOk result (log_of table.new events.new.notes
+        ≡ with_entry caller Event.Slot (Reply.Slot reply.new) from.1) }
     ensures plan { volume.new.accounts.plan ≡ volume.old.accounts.plan }
     ensures fails { FailsWithDevice N.failures N.never_fails result volume.old volume.new }
-    ensures log_stays { OnErr result (log_of table.new events.new.notes ≡ log_of table.old events.old.notes) }
+    ensures log_stays { OnErr result (log_of table.new events.new.notes
+        ≡ log_of table.old events.old.notes) }
     ensures fit { AllFit table.new.jobs events.new.notes }
-    ensures still_kept { OnErr result (AgreeWithLog (over volume.new.accounts.plan from.0) (log_of table.new events.new.notes) present table.new
+    ensures still_kept { OnErr result
+        (AgreeWithLog (over volume.new.accounts.plan from.0) (log_of table.new events.new.notes)
+        present table.new
         volume.new.failed (flash_of N.blocks volume.new)) }
     ensures room { events.old.room ≤ events.new.room + 1 }
     ensures waiver_room { open_collections table.new.jobs ≤ events.new.waiver_room }
     ensures room_stays { OnErr result (events.new.room ≡ events.old.room) }
-    ensures calls { MakesCall N.ends N.failures (needed_call (over volume.old.accounts.plan from.0) from.1) result volume.old.device
+    ensures calls { MakesCall N.ends N.failures
+        (needed_call (over volume.old.accounts.plan from.0) from.1) result volume.old.device
         volume.new.device }
 {
     let Some(number) = choose(volume, table, &mut reply.waived, present) else {
@@ -137,7 +152,8 @@ fn carry_out<N: Nand>(
 /// How many slots the job of this number took so far, which is the place of its next operation.
 fn work_of(table: &JobTable, number: JobNo) -> u32
     ensures work { result ≡ work_at table.now.jobs number }
-    ensures reads { (job : JobRecord) → slice_get table.now.jobs number ≡ Some job → length job.reads
+    ensures reads { (job : JobRecord) → slice_get table.now.jobs number ≡ Some job
+        → length job.reads
         ≡ count_by is_read (take job.work job.ops) }
 {
     match table.job(number) {
@@ -151,7 +167,8 @@ impl<N: Nand> DieCore<N> {
     /// the slot is refused the reply is of no use any more.
     pub fn fill_slot(&mut self, caller: u32, reply: &mut SlotReply) -> Result<(), Refusal>
         requires unfilled { reply.old ≡ idle_reply 0 [] }
-        ensures { IsCall N.ends N.failures N.never_fails caller Event.Slot (reply_as (λ _. Reply.Slot reply.new) result) self.old
+        ensures { IsCall N.ends N.failures N.never_fails caller Event.Slot (reply_as (λ _.
+            Reply.Slot reply.new) result) self.old
             self.new }
     {
         if self.volume.failed() {
@@ -197,7 +214,8 @@ impl<N: Nand> DieCore<N> {
     ///
     /// While slots are reserved it takes no memory, and where it is answered one of them is used up.
     pub fn slot(&mut self, alloc: Global, caller: u32) -> Result<SlotReply, Refusal>
-        ensures { IsCall N.ends N.failures N.never_fails caller Event.Slot (reply_as Reply.Slot result) self.old self.new }
+        ensures { IsCall N.ends N.failures N.never_fails caller Event.Slot
+            (reply_as Reply.Slot result) self.old self.new }
     {
         let mut reply = new_reply(alloc);
         match self.fill_slot(caller, &mut reply) {
@@ -208,7 +226,8 @@ impl<N: Nand> DieCore<N> {
 
     /// As `slot`, and hands back no more than the slot's number.
     pub fn note_slot(&mut self, alloc: Global, caller: u32) -> Result<SlotNote, Refusal>
-        ensures { IsCall N.ends N.failures N.never_fails caller Event.Slot (reply_as Reply.Slot result) self.old self.new }
+        ensures { IsCall N.ends N.failures N.never_fails caller Event.Slot
+            (reply_as Reply.Slot result) self.old self.new }
     {
         let mut reply = new_reply(alloc);
         match self.fill_slot(caller, &mut reply) {

@@ -1,5 +1,5 @@
 -- What becomes of a slot that has begun: it is carried out, or it fails, and an arrival after it leaves it as it is.
-use Rattle.std.proofs.Common.{◌≡◌, ℕ, ◌+◌, ◌<◌, Bool, true, false, Option, Some, None, Ok, Err, refl, sym, ap, subst, ◌∙◌, inl, inr, arith}
+use Rattle.std.proofs.Common.{◌≡◌, ◌↔◌, ℕ, ◌+◌, ◌<◌, Bool, true, false, Option, Some, None, Ok, Err, refl, sym, ap, subst, ◌∙◌, inl, inr, arith}
 use Rattle.std.specs.Prelude.{Result, IfSome}
 use Rattle.std.proofs.lemmas.Bool.{true≢false, cases_lt}
 use Rattle.slot_types.specs.declared.pages.PageData.{PageData}
@@ -7,6 +7,7 @@ use Rattle.slot_types.specs.Arrivals.{IsArrival}
 use Rattle.slot_types.specs.declared.events.Event.{Event}
 use Rattle.slot_types.specs.declared.events.Event.TheVariants as events
 use Rattle.slot_types.specs.declared.refusals.Refusal.{Refusal}
+use Rattle.slot_types.specs.declared.refusals.Refusal.TheVariants.{DieStopped}
 use Rattle.slot_types.specs.declared.replies.SlotReply.{SlotReply}
 use Rattle.slot_types.specs.declared.replies.Reply.TheVariants as replies
 use Rattle.flash_die.specs.declared.nand.NandCall.{NandCall}
@@ -21,7 +22,7 @@ use Rattle.die_log.proofs.Legality.{accepted_answer}
 use Rattle.slot_core.specs.Calls.{HasEntered, FindsFault, RefusesCall, IsCall, reply_as}
 use Rattle.slot_core.specs.Core.{Core}
 use Rattle.slot_core.specs.Needs.{IsOnlyCall, MadeAndFailed}
-use Rattle.slot_core.proofs.Calling.{has_entered, arrival_stays}
+use Rattle.slot_core.proofs.Calling.{has_entered, arrival_stays, stopped_only}
 use Rattle.slot_core.proofs.Slotting.{slot_unrefused}
 use Rattle.stepped_die.specs.declared.calls.Begun.{Begun}
 use Rattle.stepped_die.specs.declared.calls.Call.{Call}
@@ -29,7 +30,7 @@ use Rattle.stepped_die.specs.declared.mirror.MirrorNand.{MirrorNand}
 use Rattle.stepped_die.specs.declared.refusals.StepRefusal.{StepRefusal}
 use Rattle.stepped_die.specs.declared.refusals.StepRefusal.TheVariants as refuses
 use Rattle.stepped_die.specs.Arrivals.{WaitsBehind}
-use Rattle.stepped_die.specs.Steps.{HasEnded, HasFailed, HoldsBack}
+use Rattle.stepped_die.specs.Steps.{HasEnded, HasFailed, HoldsBack, RefusesArrival}
 use Rattle.stepped_die.specs.Stepped.{Stepped, IsPresent, IsStepped, mirror_of}
 use Rattle.stepped_die.specs.DeviceCalls.{DoesWell, IsDone, Changes, told_by}
 use Rattle.stepped_die.proofs.Arriving.{arrival_leaves}
@@ -118,7 +119,7 @@ called before after begun reply passes h call = (
 
 -- Arrivals
 
-pub die_is : {T : Type 0} (r s : Refusal) → ◌≡◌ {A = Result T StepRefusal} (Err (refuses.Die r)) (Err (refuses.Die s)) → r ≡ s
+die_is : {T : Type 0} (r s : Refusal) → ◌≡◌ {A = Result T StepRefusal} (Err (refuses.Die r)) (Err (refuses.Die s)) → r ≡ s
 die_is r s e = cc
 
 present_stays : (before : Core Mirror) (caller : ℕ) (event : Event) (number : ℕ) (begun : Begun) (after : Core Mirror)
@@ -162,13 +163,13 @@ not_held (Some b) release held h e = elim (cases_lt b.slot release) [
   | inr past ↦ absurd (true≢false (sym (h (refl, past)) ∙ e))
 ]
 
-pub none_held : (before : Stepped) (begun : Option Begun) (release : ℕ) (held : Bool) → begun ≡ before.begun
+none_held : (before : Stepped) (begun : Option Begun) (release : ℕ) (held : Bool) → begun ≡ before.begun
     → (HoldsBack release before.begun → held ≡ true) → held ≡ false → IfSome begun (λ b. b.slot < release)
 none_held before begun release held is h e =
     subst (λ (o : Option Begun). IfSome o (λ b. b.slot < release)) (sym is) (not_held before.begun release held h e)
 
 -- whether it was accepted or not
-pub answer_keeps : (core : Core Mirror) (begun : Option Begun) (caller : ℕ) (event : Event) (after : Core Mirror) (r : Result ℕ Refusal)
+answer_keeps : (core : Core Mirror) (begun : Option Begun) (caller : ℕ) (event : Event) (after : Core Mirror) (r : Result ℕ Refusal)
     → IsStepped (record { core = core; begun = begun }) → KeepsPromises core.start core.log → IsArrival event
     → IsCall ends failures false caller event (reply_as replies.Taken r) core after
     → IfSome begun (λ b. WaitsBehind b.slot event) → IsStepped (record { core = after; begun = begun })
@@ -178,6 +179,48 @@ answer_keeps core begun caller event after (Ok number) h keeps arrives call behi
 answer_keeps core begun caller event after (Err refusal) h keeps arrives call behind =
     subst (λ (c : Core Mirror). IsStepped (record { core = c; begun = begun }))
     (sym (arrival_stays ends failures false caller event core after refusal arrives call)) h
+
+-- of either kind, where no slot holds it back
+pub arrived_keeps : (before : Stepped) (core : Core Mirror) (begun : Option Begun) (release caller : ℕ) (event : Event) (after : Core Mirror)
+    (r : Result ℕ Refusal) (held : Bool) → begun ≡ before.begun → IsStepped (record { core = core; begun = begun })
+    → KeepsPromises core.start core.log → IsArrival event → ((slot : ℕ) → slot < release → WaitsBehind slot event)
+    → IsCall ends failures false caller event (reply_as replies.Taken r) core after
+    → (HoldsBack release before.begun → held ≡ true) → held ≡ false → IsStepped (record { core = after; begun = begun })
+arrived_keeps before core begun release caller event after r held is h keeps arrives behind call holds free =
+    answer_keeps core begun caller event after r h keeps arrives call
+    (waits begun event release behind (none_held before begun release held is holds free))
+  where
+    waits : (o : Option Begun) (e : Event) (n : ℕ) → ((slot : ℕ) → slot < n → WaitsBehind slot e) → IfSome o (λ b. b.slot < n)
+        → IfSome o (λ b. WaitsBehind b.slot e)
+    waits None e n w below = tt
+    waits (Some b) e n w below = w b.slot below
+
+-- a stopped die refuses each
+pub stopped_refuses : (release : ℕ) (event : Event) (die : Stepped) → die.core.stopped ≡ true
+    → RefusesArrival release event die die (refuses.Die DieStopped)
+stopped_refuses release event die stops = inr (inr (inr (record {
+  was_stopped = stops;
+  refusal_is = refl;
+  unchanged = refl;
+})))
+
+-- as the die is answered
+abbrev pub stepped_answer : Result ℕ Refusal → Result ℕ StepRefusal
+stepped_answer (Ok number) = Ok number
+stepped_answer (Err refusal) = Err (refuses.Die refusal)
+
+-- and one that runs answers none as a stopped one does
+pub answered_running : (caller : ℕ) (event : Event) (before after : Core Mirror) (r : Result ℕ Refusal) → before.stopped ≡ false
+    → IsCall ends failures false caller event (reply_as replies.Taken r) before after
+    → (stepped_answer r ≡ Err (refuses.Die DieStopped)) ↔ (before.stopped ≡ true)
+answered_running caller event before after (Ok number) runs call = (
+  (λ is. absurd cc),
+  (λ stops. absurd (true≢false (sym stops ∙ runs))),
+)
+answered_running caller event before after (Err refusal) runs call = (
+  (λ is. absurd (stopped_only ends failures false caller event before after refusal runs (die_is _ _ is) call)),
+  (λ stops. absurd (true≢false (sym stops ∙ runs))),
+)
 
 -- The end of a slot
 

@@ -80,11 +80,14 @@ impl SteppedDie {
         due: u32,
         ops: &[Op],
     ) -> Result<JobNo, StepRefusal>
-        ensures stopped { (result ≡ Err (StepRefusal.Die Refusal.DieStopped)) ↔ (self.old.core.stopped ≡ true) }
-        ensures taken { IfOk result (λ number. HasEntered caller (events.Submit task release due ops.now) number self.old.core
+        ensures stopped { (result ≡ Err (StepRefusal.Die Refusal.DieStopped))
+            ↔ (self.old.core.stopped ≡ true) }
+        ensures taken { IfOk result (λ number.
+            HasEntered caller (events.Submit task release due ops.now) number self.old.core
             self.new.core) }
         ensures begun { self.new.begun ≡ self.old.begun }
-        ensures cause { IfErr result (RefusesArrival release (events.Submit task release due ops.now) self.old self.new) }
+        ensures cause { IfErr result
+            (RefusesArrival release (events.Submit task release due ops.now) self.old self.new) }
         ensures refused { OnErr result (self.new ≡ self.old) }
     {
         if self.core.is_stopped() {
@@ -116,11 +119,14 @@ impl SteppedDie {
         release: u32,
         due: u32,
     ) -> Result<JobNo, StepRefusal>
-        ensures stopped { (result ≡ Err (StepRefusal.Die Refusal.DieStopped)) ↔ (self.old.core.stopped ≡ true) }
-        ensures taken { IfOk result (λ number. HasEntered caller (events.Collect task release due) number self.old.core
+        ensures stopped { (result ≡ Err (StepRefusal.Die Refusal.DieStopped))
+            ↔ (self.old.core.stopped ≡ true) }
+        ensures taken { IfOk result (λ number.
+            HasEntered caller (events.Collect task release due) number self.old.core
             self.new.core) }
         ensures begun { self.new.begun ≡ self.old.begun }
-        ensures cause { IfErr result (RefusesArrival release (events.Collect task release due) self.old self.new) }
+        ensures cause { IfErr result
+            (RefusesArrival release (events.Collect task release due) self.old self.new) }
         ensures refused { OnErr result (self.new ≡ self.old) }
     {
         if self.core.is_stopped() {
@@ -142,8 +148,10 @@ impl SteppedDie {
     /// Refused, where nothing changes, with `DieStopped` where a fault has stopped the die; `Begun` where a slot has
     /// begun; `ClockEnd` where the present slot is 1,048,576; `NoMemory`, never while slots are reserved.
     pub fn begin(&mut self, alloc: Global, caller: u32) -> Result<Begun, StepRefusal>
-        ensures stopped { (result ≡ Err (StepRefusal.Die Refusal.DieStopped)) ↔ (self.old.core.stopped ≡ true) }
-        ensures twice { self.old.core.stopped ≡ false → ((result ≡ Err StepRefusal.Begun) ↔ IsSome self.old.begun) }
+        ensures stopped { (result ≡ Err (StepRefusal.Die Refusal.DieStopped))
+            ↔ (self.old.core.stopped ≡ true) }
+        ensures twice { self.old.core.stopped ≡ false
+            → ((result ≡ Err StepRefusal.Begun) ↔ IsSome self.old.begun) }
         ensures begun { IfOk result (λ begun. HasBegun caller begun self.old self.new) }
         ensures refused { OnErr result (self.new ≡ self.old) }
         ensures cause { IfErr result (RefusesBeginning self.old) }
@@ -182,12 +190,16 @@ impl SteppedDie {
         reply: &mut SlotReply,
     ) -> Result<(), StepRefusal>
         requires unfilled { reply.old ≡ idle_reply 0 [] }
-        ensures stopped { (result ≡ Err (StepRefusal.Die Refusal.DieStopped)) ↔ (self.old.core.stopped ≡ true) }
-        ensures idle { self.old.core.stopped ≡ false → ((result ≡ Err StepRefusal.NotBegun) ↔ (self.old.begun ≡ None)) }
+        ensures stopped { (result ≡ Err (StepRefusal.Die Refusal.DieStopped))
+            ↔ (self.old.core.stopped ≡ true) }
+        ensures idle { self.old.core.stopped ≡ false
+            → ((result ≡ Err StepRefusal.NotBegun) ↔ (self.old.begun ≡ None)) }
         ensures ended { OnOk result (HasEnded ok bytes reply.new self.old self.new) }
-        ensures failed { result ≡ Err (StepRefusal.Die Refusal.DeviceFault) → HasFailed ok bytes self.old self.new }
+        ensures failed { result ≡ Err (StepRefusal.Die Refusal.DeviceFault)
+            → HasFailed ok bytes self.old self.new }
         ensures refused { IfErr result (λ refusal. (refusal ≡ StepRefusal.Die Refusal.DeviceFault)
-            ⊎ (((refusal ≡ StepRefusal.Die Refusal.DieStopped) ⊎ (refusal ≡ StepRefusal.NotBegun)) × (self.new ≡ self.old))) }
+            ⊎ (((refusal ≡ StepRefusal.Die Refusal.DieStopped) ⊎ (refusal ≡ StepRefusal.NotBegun))
+            × (self.new ≡ self.old))) }
     {
         if self.core.is_stopped() {
             return Err(StepRefusal::Die(Refusal::DieStopped));
@@ -232,7 +244,8 @@ impl SteppedDie {
     /// Starts the log anew at a quiet moment, as [`DieCore::renew`]. `DieStopped` where a fault has stopped the die;
     /// else `Begun` where a slot has begun. Every refusal changes nothing.
     pub fn renew(&mut self) -> Result<(), StepRenewalRefusal>
-        ensures ok { OnOk result ((self.new ≡ record self.old { core = renewed_core self.old.core }) × MayBeRenewed self.old.core) }
+        ensures ok { OnOk result ((self.new ≡ record self.old { core = renewed_core self.old.core })
+            × MayBeRenewed self.old.core) }
         ensures cause { IfErr result (RefusesRenewing self.old) }
         ensures unchanged { OnErr result (self.new ≡ self.old) }
     {

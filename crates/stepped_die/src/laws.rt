@@ -14,10 +14,14 @@ ghost use Rattle.stepped_die.specs.Arrivals.{WaitsBehind};
 /// A job or collection that is accepted with a release above the present slot leaves what that slot is answered, and
 /// the call of the device that it needs.
 pub fn arrivals_leave_the_slot()
-    ensures answer { (start : Start) (past : Log) (caller : ℕ) (event : Event) (number : ℕ) → IsOpening start → IsExact start past →
+    ensures answer { (start : Start) (past : Log) (caller : ℕ) (event : Event) (number : ℕ)
+        → IsOpening start → IsExact start past →
         answer start past event ≡ Reply.Taken number → WaitsBehind (now past) event →
-        answer start (with_entry caller event (Reply.Taken number) past) Event.Slot ≡ answer start past Event.Slot }
-    ensures call { (start : Start) (past : Log) (caller : ℕ) (event : Event) (number : ℕ) → IsOpening start → IsExact start past →
+        answer start (with_entry caller event (Reply.Taken number) past) Event.Slot
+        ≡ answer start past Event.Slot }
+    ensures call { (start : Start) (past : Log) (caller : ℕ) (event : Event) (number : ℕ)
+        → IsOpening start → IsExact start past →
         answer start past event ≡ Reply.Taken number → WaitsBehind (now past) event →
-        needed_call start (with_entry caller event (Reply.Taken number) past) ≡ needed_call start past }
+        needed_call start (with_entry caller event (Reply.Taken number) past)
+        ≡ needed_call start past }
 {}

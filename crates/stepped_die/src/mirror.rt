@@ -39,7 +39,8 @@ impl MirrorNand {
         names: &[PageData],
     ) -> Result<MirrorNand, Refusal>
         requires { Fits plan.now checkpoint.now }
-        ensures left { IfOk result (λ device. device.memory ≡ memory_left plan.now.shape checkpoint.now names.now) }
+        ensures left { IfOk result (λ device.
+            device.memory ≡ memory_left plan.now.shape checkpoint.now names.now) }
         ensures refused { FailsForMemory result }
     {
         let map = match PageMap::of_places(alloc, plan.shape, checkpoint.places.as_slice()) {
@@ -74,7 +75,9 @@ impl MirrorNand {
 
     /// Whether the next slot of the block's erase is its last.
     pub fn ends_erase(&self, block: u32) -> bool
-        ensures { result ≡ ((block_at self.now.memory.blocks block).erasing + 1 == self.now.memory.shape.erase_slots) }
+        ensures { result
+            ≡ ((block_at self.now.memory.blocks block).erasing
+            + 1 == self.now.memory.shape.erase_slots) }
     {
         self.memory.ends_erase(block)
     }
@@ -147,7 +150,8 @@ fn fill_block(memory: &mut MemoryNand, map: &PageMap, names: &[PageData], block:
     requires within { filled ≤ memory.old.shape.pages }
     ensures shape { memory.new.shape ≡ memory.old.shape }
     ensures blocks { memory.new.blocks ≡ slice_set memory.old.blocks block
-        (record (block_at memory.old.blocks block) { pages = names_in map.now.places names.now block filled }) }
+        (record (block_at memory.old.blocks
+        block) { pages = names_in map.now.places names.now block filled }) }
 {
     for page in 0..filled {
         match memory.program(Place { block, page }, name_in(map, names, block, page)) {

@@ -34,7 +34,8 @@ fn names_of(
     device: &FaultNand<MirrorNand>,
     places: &[Option<Place>],
 ) -> Result<Items<PageData>, Refusal>
-    ensures names { IfOk result (λ names. names ≡ volume.contents device.now.inner.memory.blocks places.now) }
+    ensures names { IfOk result (λ names.
+        names ≡ volume.contents device.now.inner.memory.blocks places.now) }
     ensures refused { FailsForMemory result }
 {
     let mut names = Items::new(alloc);
@@ -54,10 +55,14 @@ impl SteppedDie {
     /// Refused with `DieStopped` where a fault has stopped the die; else `Begun` where a slot has begun; else as the die refuses
     /// it, or with `NoMemory`.
     pub fn checkpoint(&mut self, alloc: Global) -> Result<NamedCheckpoint, StepCheckpointRefusal>
-        ensures ok { IfOk result (λ taken. taken.checkpoint ≡ checkpoint_of (renewed_start self.old.core.start self.old.core.log)) }
-        ensures names { IfOk result (λ taken. taken.names ≡ contents self.old.core.start self.old.core.log) }
+        ensures ok { IfOk result (λ taken.
+            taken.checkpoint
+            ≡ checkpoint_of (renewed_start self.old.core.start self.old.core.log)) }
+        ensures names { IfOk result (λ taken.
+            taken.names ≡ contents self.old.core.start self.old.core.log) }
         ensures goes_on { IfOk result (λ taken. start_with self.old.core.start.plan taken.checkpoint
-            (pages_named taken.checkpoint.places taken.names) ≡ renewed_start self.old.core.start self.old.core.log) }
+            (pages_named taken.checkpoint.places taken.names)
+            ≡ renewed_start self.old.core.start self.old.core.log) }
         ensures fits { IfOk result (λ taken. Fits self.old.core.start.plan taken.checkpoint) }
         ensures may { OnOk result (MayBeRenewed self.old.core) }
         ensures cause { IfErr result (RefusesNames self.old) }

@@ -60,7 +60,8 @@ fn make_batches(
     until: u32,
 ) -> Result<(Vec<Batch>, Vec<KeptRows>), Refusal>
     requires lengths { length progress.now ≡ length rows.items }
-    ensures batches { IfOk result (λ made. made.0.items ≡ batches_of until progress.now rows.items) }
+    ensures batches { IfOk result (λ made.
+        made.0.items ≡ batches_of until progress.now rows.items) }
     ensures kept { IfOk result (λ made. made.1.items ≡ kept_of until progress.now rows.items) }
     ensures refused { FailsForMemory result }
 {
@@ -169,8 +170,11 @@ pub fn run_rows<R: Threads + Wait + Sync>(
     requires arrive { All (λ items. All (λ item. IsArrival item.event) items) rows.items }
     requires few { rows_counted progress.old.items + rows_dealt rows.items < 2 ^ 64 }
     requires workers { (1 ≤ workers) × (workers ≤ 16) }
-    ensures counted { OnOk result (rows_counted progress.new.items ≡ rows_counted progress.old.items + rows_dealt rows.items) }
-    ensures ran { OnOk result (RanRows until rows.items passes.old.items progress.old.items passes.new.items progress.new.items) }
+    ensures counted { OnOk result (rows_counted progress.new.items
+        ≡ rows_counted progress.old.items + rows_dealt rows.items) }
+    ensures ran { OnOk result
+        (RanRows until rows.items passes.old.items progress.old.items passes.new.items
+        progress.new.items) }
     ensures own { map (λ pass. pass.lock) passes.new.items ≡ store.now }
     ensures refused { FailsForMemory result }
 {

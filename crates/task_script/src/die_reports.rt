@@ -66,7 +66,8 @@ fn numbers_of(die: u32, number: JobNo, job: &Job) -> RowNumbers
 
 /// Adds the row of a job, which has what its reads gave once it is done.
 fn add_job(text: &mut ReportText, die: u32, number: JobNo, job: &Job) -> Result<(), Refusal>
-    ensures ok { OnOk result (text.new ≡ row_added die (row_as number (summary_in job.now)) text.old) }
+    ensures ok { OnOk result (text.new
+        ≡ row_added die (row_as number (summary_in job.now)) text.old) }
     ensures refused { FailsForMemory result }
 {
     let row = numbers_of(die, number, job);
@@ -78,7 +79,8 @@ fn add_job(text: &mut ReportText, die: u32, number: JobNo, job: &Job) -> Result<
 
 /// Adds the rows of all jobs and collections of a die, by number.
 fn add_rows<N: Nand>(text: &mut ReportText, die: u32, core: &DieCore<N>) -> Result<(), Refusal>
-    ensures ok { OnOk result (text.new ≡ rows_added die (report_rows_of core.now.start core.now.log) text.old) }
+    ensures ok { OnOk result (text.new
+        ≡ rows_added die (report_rows_of core.now.start core.now.log) text.old) }
     ensures refused { FailsForMemory result }
 {
     core.promises();
@@ -104,7 +106,8 @@ pub fn add_die<N: Nand>(
     die: u32,
     core: &DieCore<N>,
 ) -> Result<(), Refusal>
-    ensures ok { OnOk result (text.new ≡ die_added (die_report_of core.now.start core.now.log die) text.old) }
+    ensures ok { OnOk result (text.new
+        ≡ die_added (die_report_of core.now.start core.now.log die) text.old) }
     ensures refused { FailsForMemory result }
 {
     add_rows(text, die, core)?;

@@ -46,7 +46,8 @@ pub fn read_rows<R: Read>(
     dies: usize,
 ) -> Result<ReadRows, Refusal>
     requires dies { dies_of script.old ≡ dies }
-    ensures rows { IfOk result (λ rows. HasReadRows (script_left R.remaining script.old) (script_left R.remaining script.new) dies
+    ensures rows { IfOk result (λ rows.
+        HasReadRows (script_left R.remaining script.old) (script_left R.remaining script.new) dies
         (slots_of script.old) rows.dies.items rows.ended) }
     ensures few { IfOk result (λ rows. rows_dealt rows.dies.items ≤ 16384) }
     ensures refused { IfErr result (FailsIn (script_left R.remaining script.old)) }

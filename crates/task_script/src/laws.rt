@@ -17,24 +17,30 @@ ghost use Rattle.task_script.specs.declared.run_counts.RunCount.{RunCount};
 /// The report of the exact logs of at most eight dies meets the conditions of reading, so it is read back from its
 /// text. The plan of each die meets its bound, and its jobs were asked to write pages of sixteen bytes.
 pub fn exact_reports_come_back()
-    ensures formed { (plans : List DiePlan) (runs : List DieRun) → length plans ≤ 8 → AreExact plans runs
+    ensures formed { (plans : List DiePlan) (runs : List DieRun) → length plans ≤ 8
+        → AreExact plans runs
         → IsReport (reports_from 0 plans runs) }
-    ensures read { (plans : List DiePlan) (runs : List DieRun) → length plans ≤ 8 → AreExact plans runs
+    ensures read { (plans : List DiePlan) (runs : List DieRun) → length plans ≤ 8
+        → AreExact plans runs
         → report_of (report_text (reports_from 0 plans runs)) ≡ Ok (reports_from 0 plans runs) }
 {}
 
 /// So is the report that a run writes, whatever script was read.
 pub fn run_reports_come_back()
-    ensures { (text : Option (List ℕ)) (plans : List DiePlan) (slots : ℕ) (count : RunCount) (old new : Option (List ℕ)) → length plans ≤ 8
+    ensures { (text : Option (List ℕ)) (plans : List DiePlan) (slots : ℕ) (count : RunCount)
+        (old new : Option (List ℕ)) → length plans ≤ 8
         → All MeetsBound plans →
         (ran : RunsText text plans slots count old new) →
-        report_of (report_text (reports_from 0 plans ran.runs)) ≡ Ok (reports_from 0 plans ran.runs) }
+        report_of (report_text (reports_from 0 plans ran.runs))
+        ≡ Ok (reports_from 0 plans ran.runs) }
 {}
 
 /// Where the rows of a die keep its plan, with times that pass their test, its run goes as planned: all that is due by
 /// the end is done or was waived, no row of its report has a lateness above 0, and no row is refused but out of memory,
 /// or after one that was.
 pub fn planned_runs_go_as_planned()
-    ensures { (plan : DiePlan) (slots : ℕ) (items : List ScriptItem) (run : DieRun) → MeetsBound plan →
-        AllArrive slots items → RowsKeepPlan plan slots items → IsScriptRun plan slots items run → RowsGoAsPlanned plan run }
+    ensures { (plan : DiePlan) (slots : ℕ) (items : List ScriptItem) (run : DieRun)
+        → MeetsBound plan →
+        AllArrive slots items → RowsKeepPlan plan slots items → IsScriptRun plan slots items run
+        → RowsGoAsPlanned plan run }
 {}

@@ -59,7 +59,8 @@ fn plan_copies(alloc: Global, plans: &[DiePlan]) -> Result<StorePlan, Refusal>
 /// A fresh device in memory for each plan.
 fn devices(alloc: Global, plans: &[DiePlan]) -> Result<Vec<MemoryNand>, Refusal>
     requires bound { All MeetsBound plans.now }
-    ensures ok { IfOk result (λ nands. nands.items ≡ map (λ plan. fresh_memory plan.shape) plans.now) }
+    ensures ok { IfOk result (λ nands.
+        nands.items ≡ map (λ plan. fresh_memory plan.shape) plans.now) }
     ensures refused { FailsForMemory result }
 {
     let mut nands = Vec::new(alloc);
@@ -82,7 +83,8 @@ pub fn new_store(
     requires few { length plans.now ≤ 8 }
     requires bound { All MeetsBound plans.now }
     ensures own { IfOk result (λ made. map (λ pass. pass.lock) made.1.items ≡ made.0) }
-    ensures first { IfOk result (λ made. map (λ pass. pass.view) made.1.items ≡ map first_view (map fresh plans.now)) }
+    ensures first { IfOk result (λ made.
+        map (λ pass. pass.view) made.1.items ≡ map first_view (map fresh plans.now)) }
     ensures refused { FailsForMemory result }
 {
     let nands = devices(alloc, plans)?;

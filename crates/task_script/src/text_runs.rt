@@ -42,7 +42,8 @@ fn add_last(
     number: u32,
     die: DieCore<MemoryNand>,
 ) -> Result<(), Refusal>
-    ensures ok { OnOk result (text.new ≡ die_added (die_report_of die.start die.log number) text.old) }
+    ensures ok { OnOk result (text.new
+        ≡ die_added (die_report_of die.start die.log number) text.old) }
     ensures refused { FailsForMemory result }
 {
     add_die(alloc, text, number, &die)
@@ -116,7 +117,8 @@ fn run_script<R: Threads + Wait + Sync, S: Read + Drop>(
     requires dies { length plan.now ≤ 8 }
     requires bound { All MeetsBound plan.now }
     requires workers { (1 ≤ workers) × (workers ≤ 16) }
-    ensures ran { IfOk result (λ ran. RanScript (S.remaining script) plan.now slots ran.text ran.count) }
+    ensures ran { IfOk result (λ ran.
+        RanScript (S.remaining script) plan.now slots ran.text ran.count) }
     ensures refused { IfErr result (RefusesScript (S.remaining script) (length plan.now) slots) }
 {
     let (store, mut passes) = new_store(alloc, plan.as_slice())?;
@@ -185,13 +187,17 @@ pub fn run_text<R: Threads + Wait + Sync, S: Read + Drop, W: Write>(
     requires bound { All MeetsBound plan.now }
     requires few { slots ≤ MAX_SLOT }
     requires workers { (1 ≤ workers) × (workers ≤ 16) }
-    ensures ran { IfOk result (λ count. RunsText (S.remaining script) plan.now slots count (W.contents writer.old)
+    ensures ran { IfOk result (λ count.
+        RunsText (S.remaining script) plan.now slots count (W.contents writer.old)
         (W.contents writer.new)) }
-    ensures planned { IfOk result (λ count. RunsAsPlanned (S.remaining script) plan.now slots count (W.contents writer.old)
+    ensures planned { IfOk result (λ count.
+        RunsAsPlanned (S.remaining script) plan.now slots count (W.contents writer.old)
         (W.contents writer.new)) }
     ensures refused { IfErr result (RefusesText (S.remaining script) (length plan.now) slots) }
-    ensures unwritten { IfErr result (λ refusal. (refusal ≡ Refusal.WriteFault → ⊥) → writer.new ≡ writer.old) }
-    ensures part { OnErr result (IsNotWhole W.contents (RunsSo (S.remaining script) plan.now slots) writer.old writer.new) }
+    ensures unwritten { IfErr result (λ refusal.
+        (refusal ≡ Refusal.WriteFault → ⊥) → writer.new ≡ writer.old) }
+    ensures part { OnErr result
+        (IsNotWhole W.contents (RunsSo (S.remaining script) plan.now slots) writer.old writer.new) }
 {
     let ran = run_script(rt, alloc, plan, script, slots, workers)?;
     match ran.text.write(writer) {

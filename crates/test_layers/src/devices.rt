@@ -81,16 +81,12 @@ fn a_fuse_passes_so_many_calls_on(rt: HostRuntime) -> Result<(), Fail> {
     Ok(())
 }
 
-/// A device of which block 0 has one programmed page and was erased seven times, and block 1 is full.
-fn left(alloc: Global, cells: &[PageData]) -> Result<MemoryNand, Refusal> {
-    let cells = Vec::from_slice(alloc, cells)?;
-    MemoryNand::left(alloc, SHAPE, cells, &[1, 2], &[7, 0])
-}
-
+/// Block 0 has one programmed page and was erased seven times, and block 1 is full.
 #[test]
 fn a_device_that_was_left_goes_on_with_its_cells(rt: HostRuntime) -> Result<(), Fail> {
     let alloc = rt.alloc();
-    let mut device = left(alloc, &[ONES, ONES, TWOS])?;
+    let cells = Vec::from_slice(alloc, &[ONES, ONES, TWOS])?;
+    let mut device = MemoryNand::left(alloc, SHAPE, cells, &[1, 2], &[7, 0])?;
     let first = Place { block: 0, page: 0 };
     let free = Place { block: 0, page: 1 };
     assert_eq!(rt; device.cell(first), ONES);

@@ -34,6 +34,23 @@ fn play_nth<N: Nand, R: Wait + Abort + Env>(
     }
 }
 
+// Plays a table on a store's second die. `UnknownDie` where there is another number of passes behind the first.
+fn play_second<N: Nand, R: Wait + Abort + Env>(
+    rt: &R,
+    alloc: Global,
+    store: &Store<N>,
+    passes: &mut [DiePass<N>],
+    steps: &[Step],
+) -> Result<(), Refusal>
+    requires { slice_get store.now 1 ≡ slice_get (map (λ pass. pass.lock) passes.old) 0 }
+    ensures { map (λ pass. pass.lock) passes.new ≡ map (λ pass. pass.lock) passes.old }
+{
+    match passes {
+        [pass] => play_nth(rt, alloc, store, 1, pass, "second table", steps),
+        _ => Err(Refusal::UnknownDie),
+    }
+}
+
 /// Plays two tables, one on each of a store's two dies, one after the other. `UnknownDie` where there are other than
 /// two passes.
 pub(crate) fn play_both<N: Nand, R: Wait + Abort + Env>(
@@ -47,12 +64,12 @@ pub(crate) fn play_both<N: Nand, R: Wait + Abort + Env>(
     requires { map (λ pass. pass.lock) passes.old ≡ store.now }
     ensures { map (λ pass. pass.lock) passes.new ≡ store.now }
 {
-    match passes {
-        [zero, one] => {
-            play_nth(rt, alloc, store, 0, zero, "first table", first)?;
-            play_nth(rt, alloc, store, 1, one, "second table", second)
+    match passes.split_first_mut() {
+        Some((pass, rest)) => {
+            play_nth(rt, alloc, store, 0, pass, "first table", first)?;
+            play_second(rt, alloc, store, rest, second)
         }
-        _ => Err(Refusal::UnknownDie),
+        None => Err(Refusal::UnknownDie),
     }
 }
 

@@ -201,3 +201,82 @@ fn a_checkpoint_that_does_not_fit_is_told_with_its_place(rt: HostRuntime) -> Res
     }
     Ok(())
 }
+
+/// One cell is free, and a reserve holds it; no page lies in block 1. It may be erased once more, and the die be saved.
+const OLD: &str = "checkpoint,1
+page,0,0,11111111111111111111111111111111
+page,0,1,22222222222222222222222222222222
+page,2,0,33333333333333333333333333333333
+block,2,0
+block,2,4293918717
+block,2,0
+block,1,0
+task,0
+die,0,0
+";
+
+/// Nothing is spare, so the collection runs. No closed block has fewer pages than block 1: its erase takes the one slot.
+const ERASE: &str = "at,die,task,kind,release,due,ops
+0,0,0,collect,0,5,
+";
+
+const ERASE_REPORT: &str = "row,die,job,task,release,due,work,completion,lateness,given,items
+collect,0,0,0,0,5,1,1,-4,1,
+cert,0,0,,0,5,,1,-4,,0
+";
+
+/// The task was given one of the two pages, and the other is spare. The count is 2^32 - 1 - 1 - 1,048,576: at each slot of a life one
+/// block could be erased, and the greatest count not be reached.
+const OLDEST: &str = "checkpoint,1
+page,0,0,11111111111111111111111111111111
+page,0,1,22222222222222222222222222222222
+page,2,0,33333333333333333333333333333333
+block,2,0
+block,0,4293918718
+block,2,0
+block,1,0
+task,1
+die,0,1
+";
+
+/// A run that erases block 1 of this checkpoint once: what is reported where it isn't made, or where its die isn't saved.
+fn why_unsaved(alloc: Global, checkpoint: &str) -> Result<Option<String>, Fail> {
+    let Ok(saved) = read_checkpoint(alloc, checkpoint.as_bytes()) else {
+        return Ok(None);
+    };
+    let dies = match run(alloc, Some(saved), ERASE, 1)? {
+        Ok(ran) => ran.dies,
+        Err(fault) => return Ok(Some(format!(in alloc; "{fault}")?)),
+    };
+    if dies.len() != 1 {
+        return Ok(None);
+    }
+    match save(alloc, dies) {
+        Ok(_) => Ok(None),
+        Err(unsaved) => Ok(Some(format!(in alloc; "{unsaved}")?)),
+    }
+}
+
+/// The same, where block 1 was erased so often before.
+fn is_worn(alloc: Global, erases: &str, told: &str) -> Result<bool, Fail> {
+    let checkpoint = OLD.replace(alloc, "4293918717", erases)?;
+    match why_unsaved(alloc, checkpoint.as_str())? {
+        Some(why) => Ok(why.as_str() == told),
+        None => Ok(false),
+    }
+}
+
+#[test]
+fn a_die_with_a_worn_block_is_not_saved(rt: HostRuntime) -> Result<(), Fail> {
+    let alloc = rt.alloc();
+    let Ok(old) = read_checkpoint(alloc, OLD.as_bytes()) else {
+        assert!(rt; false);
+        return Ok(());
+    };
+    assert!(rt; is_run(alloc, Some(old), ERASE, 1, (ERASE_REPORT, 0, 0, OLDEST))?);
+    let unsaved = "die 0 is worn out: block 1 was erased more than 4293918718 times";
+    assert!(rt; is_worn(alloc, "4293918718", unsaved)?);
+    let unfit = "the checkpoint, die 0, record 6: WornOut: block 1 was erased more than 4293918718 times";
+    assert!(rt; is_worn(alloc, "4293918719", unfit)?);
+    Ok(())
+}

@@ -29,7 +29,8 @@ pub struct Bounded<R> {
 
 impl<R: Read> Bounded<R> {
     pub fn new(inner: R) -> Bounded<R>
-        ensures { bounded_remaining R.remaining result ≡ option_map (with_mark 67108864) (R.remaining inner) }
+        ensures { bounded_remaining R.remaining result
+            ≡ option_map (with_mark 67108864) (R.remaining inner) }
     {
         Bounded {
             inner,
@@ -43,7 +44,8 @@ impl<R: Read> Bounded<R> {
     /// A reader that fails where a text goes on past so many bytes, or at a call past one more than that.
     pub fn up_to(inner: R, most: usize) -> Bounded<R>
         requires { most < 2 ^ 32 }
-        ensures { bounded_remaining R.remaining result ≡ option_map (with_mark most) (R.remaining inner) }
+        ensures { bounded_remaining R.remaining result
+            ≡ option_map (with_mark most) (R.remaining inner) }
     {
         Bounded {
             inner,
@@ -60,7 +62,8 @@ impl<R: Read> Read for Bounded<R> {
 
     fn read(&mut self, buf: &mut [u8]) -> io::Result<usize>
         ensures bound { ReadsAtMost result buf.new }
-        ensures bytes { ReadConsumes (bounded_remaining R.remaining self.old) (bounded_remaining R.remaining self.new) result buf.new }
+        ensures bytes { ReadConsumes (bounded_remaining R.remaining self.old)
+            (bounded_remaining R.remaining self.new) result buf.new }
     {
         if self.ended || buf.is_empty() {
             return Ok(0);

@@ -21,7 +21,8 @@ use std::io::Read;
 pub fn rows_in<R: Read>(alloc: Global, reader: R) -> Reader<Bounded<R>>
     ensures plain { IsPlain result }
     ensures rows { rows_left R.remaining result ≡ option_map rows_of (R.remaining reader) }
-    ensures fits { fits_left R.remaining result ≡ option_map (is_within 67108864) (R.remaining reader) }
+    ensures fits { fits_left R.remaining result
+        ≡ option_map (is_within 67108864) (R.remaining reader) }
 {
     ReaderBuilder::new()
         .has_headers(false)
@@ -65,9 +66,11 @@ pub fn take_row<R: Read>(
     row: &mut ByteRecord,
 ) -> Result<bool, Refusal>
     requires { IsPlain rows.old }
-    ensures takes { IfOk result (λ found. TakesRow (rows_left R.remaining rows.old) (rows_left R.remaining rows.new) found
+    ensures takes { IfOk result (λ found.
+        TakesRow (rows_left R.remaining rows.old) (rows_left R.remaining rows.new) found
         (fields_of row.new)) }
-    ensures fits { IfOk result (λ found. KeepsFit (fits_left R.remaining rows.old) (fits_left R.remaining rows.new) found) }
+    ensures fits { IfOk result (λ found.
+        KeepsFit (fits_left R.remaining rows.old) (fits_left R.remaining rows.new) found) }
     ensures plain { IfOk result (λ found. IsPlain rows.new) }
     ensures outside { IfErr result (λ e. IsOutside e) }
 {

@@ -78,7 +78,8 @@ fn space_in(text: &[u8]) -> Option<usize>
 
 /// The first word, and what stands after the space after it.
 fn cut(text: &[u8]) -> (&[u8], Option<&[u8]>)
-    ensures parts { slice_split (λ b. b == 32) text.now ≡ result.0.now ∷ words_of (option_map (λ rest. rest.now) result.1) }
+    ensures parts { slice_split (λ b. b == 32) text.now
+        ≡ result.0.now ∷ words_of (option_map (λ rest. rest.now) result.1) }
     ensures shorter { IfSome result.1 (λ rest. length rest.now < length text.now) }
 {
     match space_in(text) {
@@ -103,7 +104,8 @@ fn behind(left: &[u8]) -> Option<Option<&[u8]>>
 
 /// What the first word of a text says in one pass, and what stands after the space after it. None says nothing.
 fn quick_word<T: Word + Drop>(text: &[u8]) -> Option<(T, Option<&[u8]>)>
-    ensures { IfSome result (λ found. StartsWith T.word_of text.now found.0 (behind (option_map (λ text. text.now) found.1))) }
+    ensures { IfSome result (λ found.
+        StartsWith T.word_of text.now found.0 (behind (option_map (λ text. text.now) found.1))) }
 {
     let (item, left) = T::start(text)?;
     let rest = behind(left)?;
@@ -112,9 +114,12 @@ fn quick_word<T: Word + Drop>(text: &[u8]) -> Option<(T, Option<&[u8]>)>
 
 /// What the first word of a text says, cut off first, and what stands after the space after it.
 fn cut_word<T: Word + Drop>(text: &[u8]) -> Option<(T, Option<&[u8]>)>
-    ensures word { MatchOption result (all_of T.word_of (slice_split (λ b. b == 32) text.now) ≡ None)
-        (λ found. IsFirstWord T.word_of text.now found.0 (words_of (option_map (λ rest. rest.now) found.1))) }
-    ensures shorter { IfSome result (λ found. IfSome found.1 (λ rest. length rest.now < length text.now)) }
+    ensures word { MatchOption result (all_of T.word_of (slice_split (λ b. b == 32) text.now)
+        ≡ None)
+        (λ found. IsFirstWord T.word_of text.now found.0
+        (words_of (option_map (λ rest. rest.now) found.1))) }
+    ensures shorter { IfSome result (λ found.
+        IfSome found.1 (λ rest. length rest.now < length text.now)) }
 {
     let (word, rest) = cut(text);
     match T::read(word) {
@@ -125,9 +130,12 @@ fn cut_word<T: Word + Drop>(text: &[u8]) -> Option<(T, Option<&[u8]>)>
 
 /// What the first word of a text says, and what stands after the space after it.
 fn first_word<T: Word + Drop>(text: &[u8]) -> Option<(T, Option<&[u8]>)>
-    ensures word { MatchOption result (all_of T.word_of (slice_split (λ b. b == 32) text.now) ≡ None)
-        (λ found. IsFirstWord T.word_of text.now found.0 (words_of (option_map (λ rest. rest.now) found.1))) }
-    ensures shorter { IfSome result (λ found. IfSome found.1 (λ rest. length rest.now < length text.now)) }
+    ensures word { MatchOption result (all_of T.word_of (slice_split (λ b. b == 32) text.now)
+        ≡ None)
+        (λ found. IsFirstWord T.word_of text.now found.0
+        (words_of (option_map (λ rest. rest.now) found.1))) }
+    ensures shorter { IfSome result (λ found.
+        IfSome found.1 (λ rest. length rest.now < length text.now)) }
 {
     match quick_word(text) {
         Some(found) => Some(found),
@@ -138,7 +146,8 @@ fn first_word<T: Word + Drop>(text: &[u8]) -> Option<(T, Option<&[u8]>)>
 /// Adds what the words of a text say, up to one that says nothing, and answers whether there is none.
 fn put_all<T: Word + Drop>(items: &mut Items<T>, text: &[u8]) -> Result<bool, Refusal>
     requires { items.old ≡ [] }
-    ensures ok { IfOk result (λ whole. if_whole whole items.new ≡ all_of T.word_of (slice_split (λ b. b == 32) text.now)) }
+    ensures ok { IfOk result (λ whole.
+        if_whole whole items.new ≡ all_of T.word_of (slice_split (λ b. b == 32) text.now)) }
     ensures refused { FailsForMemory result }
 {
     let mut left = Some(text);
@@ -180,7 +189,8 @@ pub fn list<T: Word + Drop>(alloc: Global, field: &[u8]) -> Result<Option<Items<
 /// What stands after the page at the front of a text and the space there, where 32 plain digits write it. None says
 /// nothing.
 fn quick_rest(text: &[u8]) -> Option<Option<&[u8]>>
-    ensures { IfSome result (λ rest. BeginsWithPage text.now (behind (option_map (λ text. text.now) rest))) }
+    ensures { IfSome result (λ rest.
+        BeginsWithPage text.now (behind (option_map (λ text. text.now) rest))) }
 {
     let left = behind_page(text)?;
     behind(left)
@@ -190,7 +200,8 @@ fn quick_rest(text: &[u8]) -> Option<Option<&[u8]>>
 fn skip_page(text: &[u8]) -> Option<Option<&[u8]>>
     ensures word { MatchOption result (all_of page_of (slice_split (λ b. b == 32) text.now) ≡ None)
         (λ rest. FirstIsPage text.now (words_of (option_map (λ rest. rest.now) rest))) }
-    ensures shorter { IfSome result (λ rest. IfSome rest (λ rest. length rest.now < length text.now)) }
+    ensures shorter { IfSome result (λ rest.
+        IfSome rest (λ rest. length rest.now < length text.now)) }
 {
     match quick_rest(text) {
         Some(rest) => Some(rest),

@@ -16,7 +16,8 @@ const MORE_CALLS: usize = 1_048_576;
 /// nothing, and says so, has failed.
 fn write_some<'a, W: Write>(writer: &mut W, text: &'a [u8]) -> Result<&'a [u8], Refusal>
     requires { 0 < length text.now }
-    ensures left { IfOk result (λ left. AppendsUpTo (W.contents writer.old) (W.contents writer.new) text.now left.now) }
+    ensures left { IfOk result (λ left.
+        AppendsUpTo (W.contents writer.old) (W.contents writer.new) text.now left.now) }
     ensures none { OnErr result (Keeps (W.contents writer.old) (W.contents writer.new)) }
     ensures refused { IfErr result (λ refusal. refusal ≡ Refusal.WriteFault) }
 {
@@ -35,7 +36,8 @@ fn write_some<'a, W: Write>(writer: &mut W, text: &'a [u8]) -> Result<&'a [u8], 
 /// more. A front of the text was then written that isn't the whole. The writer isn't flushed.
 pub fn write_whole<W: Write>(writer: &mut W, text: &[u8]) -> Result<(), Refusal>
     ensures whole { OnOk result (Appends (W.contents writer.old) (W.contents writer.new) text.now) }
-    ensures part { OnErr result (AppendsPart (W.contents writer.old) (W.contents writer.new) text.now) }
+    ensures part { OnErr result
+        (AppendsPart (W.contents writer.old) (W.contents writer.new) text.now) }
     ensures refused { IfErr result (λ refusal. refusal ≡ Refusal.WriteFault) }
 {
     let mut left = text;

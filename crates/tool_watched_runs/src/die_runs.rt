@@ -183,7 +183,8 @@ impl DieRun {
     fn step(&mut self, alloc: Global) -> Result<(), Refusal>
         ensures start { (box_value self.new.core).start ≡ (box_value self.old.core).start }
         ensures die { self.new.die ≡ self.old.die }
-        ensures slot { OnOk result (now (box_value self.new.core).log ≡ now (box_value self.old.core).log + 1) }
+        ensures slot { OnOk result (now (box_value self.new.core).log
+            ≡ now (box_value self.old.core).log + 1) }
     {
         let reply = self.core.slot(alloc, 0)?;
         // So many slots fit a number.
@@ -199,7 +200,8 @@ impl DieRun {
     pub fn carry_to(&mut self, alloc: Global, slot: u32) -> Result<(), Refusal>
         ensures start { (box_value self.new.core).start ≡ (box_value self.old.core).start }
         ensures die { self.new.die ≡ self.old.die }
-        ensures slot { OnOk result (now (box_value self.old.core).log ≤ slot → now (box_value self.new.core).log ≡ slot) }
+        ensures slot { OnOk result (now (box_value self.old.core).log ≤ slot
+            → now (box_value self.new.core).log ≡ slot) }
     {
         for _present in self.core.now()..slot {
             self.step(alloc)?;

@@ -68,7 +68,8 @@ impl<B: Book> Turned<B> {
         ensures grown { SeesMore B.fits pass.old.view pass.new.view }
         ensures length { result ≡ length pass.new.view.seen }
         // no entry of the pass's own is added
-        ensures own { let own = calls_by pass.old.view.number in own pass.new.view.seen ≡ own pass.old.view.seen }
+        ensures own { let own = calls_by pass.old.view.number in own pass.new.view.seen
+            ≡ own pass.old.view.seen }
     {
         self.table.shared.load::<Look>(&mut pass.seat, 0) / 2
     }
@@ -184,8 +185,10 @@ impl<B: Book> Turned<B> {
     pub fn close<R: Wait>(self, rt: &R, mut pass: Pass<B>) -> Result<B, Closing<B>>
         requires { pass.lock ≡ self }
         ensures closed { IfOk result (λ book. Closes B.log B.about pass.view book) }
-        ensures own { IfOk result (λ book. AllBy (pass.view.number ∷ pass.view.joined) (B.log book)) }
-        ensures out { IfErr result (λ kept. StaysOpen B.fits pass.view kept.refusal kept.pass.view) }
+        ensures own { IfOk result (λ book.
+            AllBy (pass.view.number ∷ pass.view.joined) (B.log book)) }
+        ensures out { IfErr result (λ kept.
+            StaysOpen B.fits pass.view kept.refusal kept.pass.view) }
         ensures back { IfErr result (λ kept. (kept.lock ≡ self) × IsSamePass pass kept.pass) }
         ensures sole { pass.view.sole ≡ true → IsOk result }
     {
@@ -217,7 +220,8 @@ impl<B: NotingBook> Turned<B> {
     ) -> B::Note
         requires { pass.old.lock ≡ self.now }
         ensures same { IsSamePass pass.old pass.new }
-        ensures reply { Replies B.accepts B.fits B.gives pass.old.view (B.whole head parts.now) (B.noted result) pass.new.view }
+        ensures reply { Replies B.accepts B.fits B.gives pass.old.view (B.whole head parts.now)
+            (B.noted result) pass.new.view }
         ensures own { let own = calls_by pass.old.view.number in
             let call = entry pass.old.view.number (B.whole head parts.now) (B.noted result) in
             own pass.new.view.seen

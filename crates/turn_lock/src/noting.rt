@@ -23,8 +23,10 @@ pub trait NotingBook: Book {
     /// As `apply`, of an event whose parts are lent, and hands back no more than a note of the reply.
     fn note(&mut self, caller: u32, head: Self::Head, parts: &[Self::Part]) -> Self::Note
         ensures about { Self.about self.new ≡ Self.about self.old }
-        ensures gives { Self.gives (Self.about self.old) (Self.log self.old) caller (whole head parts.now) (noted result) }
+        ensures gives { Self.gives (Self.about self.old) (Self.log self.old) caller
+            (whole head parts.now) (noted result) }
         ensures accepted { Self.accepts (noted result) ≡ true → Self.log self.new
             ≡ Self.log self.old ++ entry caller (whole head parts.now) (noted result) ∷ [] }
-        ensures refused { Self.accepts (noted result) ≡ false → Self.log self.new ≡ Self.log self.old };
+        ensures refused { Self.accepts (noted result) ≡ false
+            → Self.log self.new ≡ Self.log self.old };
 }

@@ -42,7 +42,8 @@ impl Model for Lists {
 impl Lists {
     /// Empty lists for `blocks` blocks.
     pub fn new(alloc: Global, blocks: u32, pages: u32) -> Result<Self, AllocError>
-        ensures { IfOk result (λ lists. lists ≡ record { pages = pages; counts = replicate blocks None }) }
+        ensures { IfOk result (λ lists.
+            lists ≡ record { pages = pages; counts = replicate blocks None }) }
     {
         Ok(Lists {
             counts: vec![in alloc; None; blocks as usize]?,
@@ -58,7 +59,8 @@ impl Lists {
         requires in_range { block < length self.old.counts }
         requires free { count_of self.old.counts block ≡ None }
         requires fits { count ≤ self.old.pages }
-        ensures { self.new ≡ record self.old { counts = slice_set self.old.counts block (Some count) } }
+        ensures { self.new
+            ≡ record self.old { counts = slice_set self.old.counts block (Some count) } }
     {
         let first = self.firsts[count as usize];
         self.nexts[block as usize] = first;
@@ -72,7 +74,8 @@ impl Lists {
     pub fn remove(&mut self, count: u32, block: u32)
         requires { count_of self.old.counts block ≡ Some count }
         ensures fits { count ≤ self.old.pages }
-        ensures gone { self.new ≡ record self.old { counts = slice_set self.old.counts block None } }
+        ensures gone { self.new
+            ≡ record self.old { counts = slice_set self.old.counts block None } }
     {
         let before = self.befores[block as usize];
         let next = self.nexts[block as usize];
@@ -94,7 +97,8 @@ impl Lists {
 
     /// The least count, from the count `least` on, whose list isn't empty, and of that list the block that goes first.
     pub fn first_from(&self, least: u32, erases: &[Option<u32>]) -> Option<(u32, u32)>
-        ensures some { IfSome result (λ found. IsFirstFrom self.now.counts erases.now least found.0 found.1) }
+        ensures some { IfSome result (λ found.
+            IsFirstFrom self.now.counts erases.now least found.0 found.1) }
         ensures none { IfNone result ((to : ℕ) → AreEmpty self.now.counts least to) }
     {
         for count in least as usize..self.firsts.len() {

@@ -72,7 +72,8 @@ impl Victims {
     /// Counts one valid page less in a candidate that has some.
     pub fn lower(&mut self, block: u32)
         requires { IsSomeAnd (count_of self.old.counts block) (λ valid. 0 < valid) }
-        ensures { self.new ≡ record self.old { counts = slice_set self.old.counts block (one_page_less (count_of self.old.counts block)) } }
+        ensures { self.new
+            ≡ record self.old { counts = slice_set self.old.counts block (one_page_less (count_of self.old.counts block)) } }
     {
         if let Some(valid) = self.count(block) {
             self.lists.remove(valid, block);
@@ -103,7 +104,8 @@ impl Victims {
     pub fn take_least(&mut self) -> Option<u32>
         ensures none { IsNone result ↔ HasNone self.old.counts }
         ensures least { IfSome result (IsLeast self.old.counts self.old.erases) }
-        ensures taken { self.new ≡ record self.old { counts = without result self.old.counts; erases = without result self.old.erases } }
+        ensures taken { self.new
+            ≡ record self.old { counts = without result self.old.counts; erases = without result self.old.erases } }
     {
         let (valid, block) = self.lists.first_from(self.least, &self.erases)?;
         self.lists.remove(valid, block);

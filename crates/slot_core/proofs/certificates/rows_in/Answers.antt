@@ -1,5 +1,5 @@
 use Rattle.std.proofs.Common.{sym, ◌∙◌}
-use Rattle.slot_core.proofs.Rowing.{rows_added, rows_passed, rows_past}
+use Rattle.slot_core.proofs.Rowing.{rows_added, rows_passed, rows_past, a_row_stands}
 use Rattle.slot_core.proofs.certificates.rows_in.Goals as goal
 use Rattle.slot_core.proofs.certificates.rows_in.Goals.{in-Some+in-Some-row_in+in_ok-push, in-Some+in_default-row_in, in_default}
 
@@ -13,3 +13,7 @@ loop-number-preserved c =
       | in_default w ↦ w.rows-is ∙ rows_past c.args.table.now.jobs c.loop-number.number c.loop-number.rows w.in_default.ensures
           c.loop-number.invariant
     ]
+
+pub returns-in_err-push-clause-nothing : goal.returns-in_err-push-clause-nothing
+returns-in_err-push-clause-nothing c is =
+    absurd (a_row_stands _ _ _ _ c.in-Some.ensures (sym c.row_in.ensures ∙ c.in-Some-row_in.is) is)

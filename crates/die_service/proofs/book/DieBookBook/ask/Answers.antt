@@ -5,8 +5,7 @@ pub returns-in-Outcome : goal.returns-in-Outcome
 returns-in-Outcome g c = rw (c.in-Outcome.is, log_of_calls c.args.self.now.log, ← c.self.view_is, ← c.deref.ensures) (record {
   ok = c.outcome.ensures.ok;
   unknown = c.outcome.ensures.unknown;
-  waiting = c.outcome.ensures.waiting;
-  waived = c.outcome.ensures.waived;
+  nothing = c.outcome.ensures.nothing;
   refused = c.outcome.ensures.refused;
 })
 

@@ -12,10 +12,10 @@ returns-clause-ok g c =
     let stands = c.self.invariant alive in
     let blocks = g.N.Nand.blocks c.args.self.now.device in
     let same : g.N.Nand.blocks c.self.inside.device ≡ blocks = ap (λ (a : ArrayState g.row.N.Denot). g.N.Nand.blocks a.device) c.self.view_is in
-    let fills = c.deref.result.now in
-    let erases = c.deref-2.result.now in
+    let fills = c.as_slice.result.now in
+    let erases = c.deref.result.now in
     if_ok_both c.counts_in.result (λ v. length v.items ≡ length fills)
     (λ v. (k : ℕ) → k < length fills → counts_at v.items k ≡ record { filled = get_or fills k 0; erases = get_or erases k 0 })
     (λ v. v.items ≡ map counts_of blocks) c.counts_in.ensures.len c.counts_in.ensures.each
     (λ v len each. counts_made blocks fills erases v.items
-    (c.deref.ensures.value ∙ stands.fills_are ∙ ap fills_of same) (c.deref-2.ensures.value ∙ stands.erases_are ∙ ap erases_in same) len each)
+    (c.as_slice.ensures ∙ stands.fills_are ∙ ap fills_of same) (c.deref.ensures.value ∙ stands.erases_are ∙ ap erases_in same) len each)

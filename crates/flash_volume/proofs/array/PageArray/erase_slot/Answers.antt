@@ -9,7 +9,7 @@ use Rattle.flash_volume.proofs.array.PageArray.erase_slot.Goals.{After-erase_slo
 
 -- the block is closed, and no page lies in it
 emptied : (g : Over) (c : After-erase_slot g) → IsEmptied (g.N.Nand.shape_of c.self.inside.device) (g.N.Nand.blocks c.self.inside.device)
-    c.self.inside.map.places c.args.block
+    c.self.inside.placed.places c.args.block
 emptied g c =
     let stands = c.self.invariant (rw (← c.self.view_is) at c.requires.alive) in
     let in_range = rw (← c.self.view_is) at c.requires.block in
@@ -20,7 +20,7 @@ pub overflow_add-index_mut : goal.overflow_add-index_mut
 overflow_add-index_mut g c =
     let stands = c.self.invariant (rw (← c.self.view_is) at c.requires.alive) in
     let in_range = rw (← c.self.view_is) at c.requires.block in
-    let worn_is = erases_are_counted c.args.block c.index_mut-in-Ok-true.result.now stands in_range c.index_mut-in-Ok-true.ensures.value in
+    let worn_is = erases_are_counted c.args.block c.index_mut.result.now stands in_range c.index_mut.ensures.value in
     omega (arith, worn_is, rw (← c.self.view_is) at c.requires.few_erases)
 
 pub invariant_of-self-in-Ok-true : goal.invariant_of-self-in-Ok-true
@@ -30,9 +30,9 @@ invariant_of-self-in-Ok-true g c = λ _.
     let b = g.N.Nand.blocks c.self.inside.device in
     let is = erased_last b (g.N.Nand.blocks c.erase_slot.new.self) (g.N.Nand.shape_of c.self.inside.device).erase_slots c.args.block
     c.in-Ok-true.field-0 c.in-Ok-true.ensures.blocks c.in-Ok-true.ensures.last c.in-Ok-true.field-0-test in
-    let worn_is = erases_are_counted c.args.block c.index_mut-in-Ok-true.result.now stands clear.in_range
-    c.index_mut-in-Ok-true.ensures.value in
-    rw (c.erase_slot.ensures.shape, c.in-Ok-true.ensures.fails.well, is, worn_is)
+    let worn_is = erases_are_counted c.args.block c.index_mut.result.now stands clear.in_range
+    c.index_mut.ensures.value in
+    rw (c.erase_slot.ensures.shape, c.in-Ok-true.ensures.fails.well, is, worn_is, c.set.ensures)
     (stands_freed ((block_at b c.args.block).erases + 1) stands clear (rw (← c.self.view_is) at c.requires.taken))
 
 pub invariant_of-self-in-Ok-false : goal.invariant_of-self-in-Ok-false

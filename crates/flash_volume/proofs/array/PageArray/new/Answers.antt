@@ -12,6 +12,7 @@ invariant_of-result g c = λ _.
       c.in_ok-new.ensures.ok,
       c.in_ok-new-2.ensures.ok,
       c.shape-shape.ensures,
+      c.in_ok-of.ensures.ok,
       c.in_ok-vec.ensures.items_if_clones_equal (λ _ same. same),
       c.in_ok-vec-2.ensures.items_if_clones_equal (λ _ same. same),
       c.shape-shape.ensures,

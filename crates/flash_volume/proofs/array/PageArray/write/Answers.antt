@@ -11,7 +11,7 @@ use Rattle.flash_volume.proofs.array.PageArray.write.Goals.{After-next_cell-plac
 
 -- the array stands, and the cell that was found is the next one
 ready : (g : Over) (c : After-next_cell-place g) → Ready (g.N.Nand.shape_of c.self.inside.device) (g.N.Nand.failures c.self.inside.device)
-    (g.N.Nand.blocks c.self.inside.device) c.self.inside.map c.self.inside.fills.items c.self.inside.erases.items c.self.inside.writing
+    (g.N.Nand.blocks c.self.inside.device) c.self.inside.placed c.self.inside.fills c.self.inside.erases.items c.self.inside.writing
     c.self.inside.victims c.args.page c.next_cell-place.result
 ready g c =
     let stands = c.self.invariant (rw (← c.self.view_is) at c.requires.alive) in
@@ -41,7 +41,7 @@ bind-requires-clause-free g c =
 pub leave-requires : goal.leave-requires
 leave-requires g c =
     let k = ready g (goal.at.leave-requires g c).After-next_cell-place in
-    λ place n lay counted. some_valid c.args.page n place k.stands (rw c.place-before.ensures.place at lay) counted
+    λ place n lay counted. some_valid c.args.page n place k.stands (rw c.map.ensures at (rw c.place-before.ensures.place at lay)) counted
 
 pub close_when_filled-requires-clause-in_range : goal.close_when_filled-requires-clause-in_range
 close_when_filled-requires-clause-in_range g c =
@@ -62,7 +62,7 @@ close_when_filled-requires-clause-open g c =
 pub close_when_filled-requires-clause-fits : goal.close_when_filled-requires-clause-fits
 close_when_filled-requires-clause-fits g c =
     let k = ready g (goal.at.close_when_filled-requires-clause-fits g c).After-next_cell-place in
-    rw (c.leave.ensures, c.valid-valid.ensures, c.bind.ensures) (few_open c.args.page c.args.bytes k.stands k.fit k.in_list)
+    rw (c.leave.ensures, c.valid-valid.ensures, c.map-in-Ok.ensures, c.bind.ensures) (few_open c.args.page c.args.bytes k.stands k.fit k.in_list)
 
 pub invariant_of-self-in-Ok : goal.invariant_of-self-in-Ok
 invariant_of-self-in-Ok g c = λ _.
@@ -86,8 +86,11 @@ invariant_of-self-in-Ok g c = λ _.
       c.close_when_filled.ensures,
       c.leave.ensures,
       c.valid-valid.ensures,
+      c.map-in-Ok.ensures,
       c.bind.ensures,
       c.place-before.ensures.place,
+      c.map.ensures,
+      c.set.ensures,
       c.shape-pages.ensures,
       c.program.ensures.shape,
       worn_read,
@@ -113,8 +116,10 @@ returns-in-Ok-clause-placed g c =
           c.close_when_filled.ensures,
           c.leave.ensures,
           c.valid-valid.ensures,
+          c.map-in-Ok.ensures,
           c.bind.ensures,
           c.place-before.ensures.place,
+          c.map.ensures,
           c.shape-pages.ensures,
           c.program.ensures.shape,
           k.is,

@@ -7,7 +7,7 @@ of_places-requires-clause-cells c = rw c.as_slice.ensures (in_cells c.args.plan.
 
 pub closed_blocks-requires-clause-few : goal.closed_blocks-requires-clause-few
 closed_blocks-requires-clause-few c =
-    rw (c.in-Ok.ensures.ok, c.as_slice.ensures, c.as_slice-blocks.ensures) (λ b. few_valid c.args.plan.now c.args.checkpoint.now b c.requires.fits)
+    rw (c.map.ensures, c.in_ok-placed.ensures.ok, c.as_slice.ensures, c.as_slice-blocks.ensures) (λ b. few_valid c.args.plan.now c.args.checkpoint.now b c.requires.fits)
 
 pub of_places-requires-clause-few_cells : goal.of_places-requires-clause-few_cells
 of_places-requires-clause-few_cells c = few_cells c.args.plan.now.shape c.requires.fits.all_else.blocks.plan_is.bound.shape

@@ -4,6 +4,11 @@ use Rattle.flash_volume.proofs.Running.{dropped}
 use Rattle.flash_volume.proofs.Kept.{sound_read}
 use Rattle.flash_volume.proofs.volume.Volume.read_copy.Goals as goal
 
+pub pass-requires-clause-none : goal.pass-requires-clause-none
+pass-requires-clause-none g c =
+    let first = rw (← c.self.view_is) at c.requires.first in
+    rw (c.read.ensures.placing, first.here) first.first
+
 pub invariant_of-self-in-Ok : goal.invariant_of-self-in-Ok
 invariant_of-self-in-Ok g c = λ again.
     let sound = c.self.invariant (rw (← c.self.view_is) at c.requires.alive) in
@@ -13,6 +18,7 @@ invariant_of-self-in-Ok g c = λ again.
     let bytes_are = c.in-Ok.ensures.page ∙ ap (content_at (g.N.Nand.blocks c.self.inside.array.device)) first.lies in
     rw (
       c.task.view_is,
+      c.pass.ensures,
       c.in-Ok.ensures.cells,
       c.in-Ok.ensures.ends.by_fault.well,
       c.read.ensures.ends.shape_stays,
@@ -28,7 +34,7 @@ returns-in-Ok-clause-did g c =
     let run = sound.runs.each c.args.task c.args.collection (rw (← c.self.view_is) at c.requires.runs) in
     let first = rw (← c.self.view_is) at c.requires.first in
     let bytes_are = c.in-Ok.ensures.page ∙ ap (content_at (g.N.Nand.blocks c.self.inside.array.device)) first.lies in
-    rw (← c.self.view_is) (
+    rw (c.pass.ensures, ← c.self.view_is) (
     record {
       source = c.args.source;
       dropped = dropped run (rw (← c.self.view_is) at c.requires.left);

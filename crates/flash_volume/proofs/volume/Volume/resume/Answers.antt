@@ -8,9 +8,9 @@ resume-requires-clause-room g c = rw c.as_slice.ensures (room_resumed c.args.pla
 pub over-requires : goal.over-requires
 over-requires g c =
     let t = c.in-Ok.ensures.ok in
-    rw t.map_is (
+    rw t.placed_is (
     stands_resumed c.args.plan c.args.checkpoint.now (g.N.Nand.shape_of c.args.device) (g.N.Nand.blocks c.args.device)
-    (g.N.Nand.failures c.args.device) c.in-Ok.tables.fills.items c.in-Ok.tables.erases.items c.in-Ok.tables.writing c.in-Ok.tables.victims
+    (g.N.Nand.failures c.args.device) c.in-Ok.tables.fills c.in-Ok.tables.erases.items c.in-Ok.tables.writing c.in-Ok.tables.victims
     c.requires.fits c.requires.shape c.requires.left t.fills_are t.erases_are t.writing_is t.victims_are
     )
 
@@ -23,13 +23,13 @@ invariant_of-result g c = λ _.
       c.len.ensures,
       c.over.ensures,
       c.as_slice.ensures,
-      t.map_is,
+      t.placed_is,
     ) (
     sound_resumed c.args.plan c.args.checkpoint.now (g.N.Nand.shape_of c.args.device) (g.N.Nand.blocks c.args.device)
-    (g.N.Nand.failures c.args.device) _ c.in-Ok.tables.fills.items c.in-Ok.tables.erases.items c.in-Ok.tables.writing
+    (g.N.Nand.failures c.args.device) _ c.in-Ok.tables.fills c.in-Ok.tables.erases.items c.in-Ok.tables.writing
     c.in-Ok.tables.victims c.requires.fits c.requires.shape c.requires.left refl
     (stands_resumed c.args.plan c.args.checkpoint.now (g.N.Nand.shape_of c.args.device) (g.N.Nand.blocks c.args.device)
-    (g.N.Nand.failures c.args.device) c.in-Ok.tables.fills.items c.in-Ok.tables.erases.items c.in-Ok.tables.writing
+    (g.N.Nand.failures c.args.device) c.in-Ok.tables.fills c.in-Ok.tables.erases.items c.in-Ok.tables.writing
     c.in-Ok.tables.victims c.requires.fits c.requires.shape c.requires.left t.fills_are t.erases_are t.writing_is t.victims_are) t.victims_are
     )
 
@@ -42,5 +42,5 @@ returns-clause-ok g c =
       c.len.ensures,
       c.over.ensures,
       c.as_slice.ensures,
-      t.map_is,
+      t.placed_is,
     ) refl
