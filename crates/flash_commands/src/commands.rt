@@ -7,13 +7,11 @@ ghost use Rattle.clap.specs.Faults.{fault_of};
 ghost use Rattle.flash_commands.specs.Commands.{command_asked, command_asked_by, command_named, number_between, range_fault, run_of, text_of_command, words_fault};
 ghost use Rattle.flash_commands.specs.Syntax.{flashrec_app};
 
-use crate::number_faults::bad_number;
 use crate::run_numbers::{Slots, Workers};
 use crate::syntax::program_words;
 use clap::error::ErrorKind;
 use clap::{ArgMatches, Error};
-use slot_types::{MAX_SLOT, MAX_WORKERS};
-use std::alloc::{AllocError, Global};
+use std::alloc::Global;
 use task_script::number;
 
 /// What the words of a command line ask for. Files stand by their names.
@@ -120,30 +118,14 @@ fn parsed<'a>(
     Ok(command_met(&matches))
 }
 
-/// What is reported of a number that is none or out of its range.
-fn told_of(alloc: Global, words: &[String]) -> Result<String, AllocError> {
-    if let Some((option, value)) = bad_number(words, &["--slots"], 0, MAX_SLOT) {
-        return format!(in alloc;
-            "{option} is {value:?}, and has to be a whole number from 0 to {MAX_SLOT}"
-        );
-    }
-    match bad_number(words, &["--workers"], 1, MAX_WORKERS) {
-        Some((option, value)) => format!(in alloc;
-            "{option} is {value:?}, and has to be a whole number from 1 to {MAX_WORKERS}"
-        ),
-        None => format!(in alloc; "a number is none, or out of its range"),
-    }
-}
-
 /// The error for a number that is none or out of its range.
-fn range_error(alloc: Global, mut program: clap::Command<'_>, words: &[String]) -> Error
+fn range_error(mut program: clap::Command<'_>) -> Error
     ensures { HasKind (range_fault None) result }
 {
-    let told = match told_of(alloc, words) {
-        Ok(told) => told,
-        Err(error) => return Error::from(error),
-    };
-    match program.error(ErrorKind::ValueValidation, told.as_str()) {
+    match program.error(
+        ErrorKind::ValueValidation,
+        "--slots wants a whole number from 0 to 1048576, --workers one from 1 to 16",
+    ) {
         Ok(error) => error,
         Err(error) => Error::from(error),
     }
@@ -165,7 +147,7 @@ pub fn read_words<'a>(alloc: Global, words: &'a [String]) -> Result<Command<'a>,
     let mut program = program_words(alloc)?;
     match parsed(&mut program, words) {
         Ok(Some(command)) => Ok(command),
-        Ok(None) => Err(range_error(alloc, program, words)),
+        Ok(None) => Err(range_error(program)),
         Err(error) => Err(error),
     }
 }
