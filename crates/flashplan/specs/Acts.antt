@@ -89,9 +89,13 @@ explained_status (Err fault) = 1
 abbrev pub PrintsReport : {N : Type 0} → Option (List ℕ) → Option (List ℕ) → List (Core N) → Type 0
 PrintsReport old new dies = Appends old new (report_text (reports_of 0 dies))
 
--- of some dies, whose devices are in memory, or fail from a call on
+-- of some dies, whose devices are in memory
 abbrev pub PrintsRun : Option (List ℕ) → Option (List ℕ) → Type 0
-PrintsRun old new = ((dies : List (Core Memory)) × PrintsReport old new dies) ⊎ ((dies : List (Core (Fuse Memory))) × PrintsReport old new dies)
+PrintsRun old new = (dies : List (Core Memory)) × PrintsReport old new dies
+
+-- of some dies, whose devices are in memory, and one of which fails
+abbrev pub PrintsFailing : Option (List ℕ) → Option (List ℕ) → Type 0
+PrintsFailing old new = (dies : List (Core (Fuse Memory))) × PrintsReport old new dies
 
 -- a report was read and audited, and this says whether a certificate of it is refused
 abbrev pub IsAuditOf : Option (List ℕ) → Bool → Type 0
@@ -129,5 +133,6 @@ IsDone (command.Explain plan from) text rows old new = SaysOf text true
 IsDone (command.Fit sheet) text rows old new = PrintsPassingPlan old new
 IsDone (command.Arrivals plan slots seed fills phases jitter load) text rows old new = PrintsArrivals text slots old new
 IsDone (command.Keeps plan script slots) text rows old new = KeepsPlans text rows slots
-IsDone (command.Run plan script slots from to fail) text rows old new = PrintsRun old new
+IsDone (command.Run plan script slots from to None) text rows old new = PrintsRun old new
+IsDone (command.Run plan script slots from to (Some fail)) text rows old new = PrintsFailing old new
 IsDone _ text rows old new = ⊤

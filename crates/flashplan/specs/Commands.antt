@@ -80,10 +80,13 @@ o >>= f = option_and_then f o
 abbrev pub number_upto : Text → Option ℕ
 number_upto text = number_of text >>= (λ n. if nat_le n 1048576 then Some n else None)
 
+abbrev pub is_colon : ℕ → Bool
+is_colon byte = byte == 58
+
 -- the die and the call that a text names, as `0:7`
 abbrev pub fail_upto : Text → Option FailAt
 fail_upto text = do
-  at ← position (λ b. b == 58) text
+  at ← position is_colon text
   die ← number_upto (take at text)
   call ← number_upto (drop (at + 1) text)
   if nat_lt 0 call then Some (record { die = die; call = call }) else None

@@ -161,8 +161,8 @@ fn end_unplanned<E: Write>(err: &mut E, fault: Unplanned) -> u8
     1
 }
 
-/// Prints whether a script keeps the plans of its dies, and says whether it does; none where it doesn't, and no condition
-/// was found that doesn't hold, which is a fault of this program.
+/// Prints whether a script keeps the plans of its dies, and says whether it does; none where it doesn't, and no
+/// condition was found that doesn't hold, which is a fault of this program.
 fn print_kept<P: Read + Drop, S: Read + Drop, W: Write>(
     alloc: Global,
     plan: P,
@@ -407,22 +407,23 @@ pub fn end_run<E: Write>(err: &mut E, ran: Result<RefusedRows, Refusal>) -> u8
     0
 }
 
-/// Carries a command out, with `plan` and `script` in place of its files, and `kept` in place of its checkpoints. Answers the status.
+/// Carries a command out, with `plan` and `script` in place of its files, and `kept` in place of its checkpoints.
+/// Answers the status.
 ///
-/// `explain` prints what [`explain`](tool_plan_design::explain) says of the plan, whole; the status is 0 where the plan is accepted,
-/// and 1 where it isn't. `fit` prints the plan that [`fit`](tool_plan_fit::fit) finds for a datasheet, or tells why it found none
-/// (status 3). `arrivals` prints the script of what the plan's tasks ask for, as
-/// [`arrivals`](tool_plan_arrivals::arrivals) makes it: its rows keep the plan of each die, so that a run of it refuses none and
-/// is never late. A plan without times that pass their test is reported as `error 3 BadPlan`; then, and where more
-/// slots are asked for than a script may have, nothing is printed, and the status is 1. `keeps` prints whether the
+/// `explain` prints what [`explain`](tool_plan_design::explain) says of the plan, whole; the status is 0 where the plan
+/// is accepted, and 1 where it isn't. `fit` prints the plan that [`fit`](tool_plan_fit::fit) finds for a datasheet, or
+/// tells why it found none (status 3). `arrivals` prints the script of what the plan's tasks ask for, as
+/// [`arrivals`](tool_plan_arrivals::arrivals) makes it: its rows keep the plan of each die, so that a run of it refuses
+/// none and is never late. A plan without times that pass their test is reported as `error 3 BadPlan`; then, and where
+/// more slots are asked for than a script may have, nothing is printed, and the status is 1. `keeps` prints whether the
 /// script keeps the plan of each die (status 0), or a condition that doesn't hold, and of which record (status 3).
 /// `wear` prints what [`wear`](tool_watched_runs::wear) tells of the run of the script, `report` what
-/// [`report`](tool_watched_runs::report) does, and `draw` what [`draw`](tool_watched_runs::draw) draws of it, each whole; the
-/// status is 0, and where rows were refused, `err` gets a line, as `refused 1 first line 6 with 6`. `compare` prints
-/// the table, the records or the picture of [`compare`](tool_store_compare::compare), whole. `run` prints the report of
-/// dies that go on from a checkpoint, and has the checkpoint of their end written, as [`act_run`] says. Where a device is to
-/// fail, `err` gets a line that says in which slot it did, as `die 0 failed in slot 12, at call 7 of its device`, or that it
-/// didn't; the status stays, and rows that come later for its die are refused.
+/// [`report`](tool_watched_runs::report) does, and `draw` what [`draw`](tool_watched_runs::draw) draws of it, each
+/// whole; the status is 0, and where rows were refused, `err` gets a line, as `refused 1 first line 6 with 6`.
+/// `compare` prints the table, the records or the picture of [`compare`](tool_store_compare::compare), whole. `run`
+/// prints the report of dies that go on from a checkpoint, and has the checkpoint of their end written, as [`act_run`]
+/// says. Where a device is to fail, `err` gets a line that says in which slot it did, as `die 0 failed in slot 12, at
+/// call 7 of its device`, or that it didn't; the status stays, and rows that come later for its die are refused.
 ///
 /// No more of the plan is read than 1,048,577 bytes. Where a text is refused, memory runs out, or a reader or `out`
 /// fails, that is reported in a line to `err`, as `error 21 ReadFault`, and the status is 1; where `out` fails nothing

@@ -1,7 +1,7 @@
 //! Runs that go on from a checkpoint, and end with one.
 
 ghost use Rattle.std.specs.Prelude.{◌≡◌, ◌≢◌, ◌≤◌, IfOk, OnOk, length};
-ghost use Rattle.flashplan.specs.Acts.{PrintsReport, PrintsRun, SaysOf, explained_status};
+ghost use Rattle.flashplan.specs.Acts.{PrintsFailing, PrintsReport, PrintsRun, SaysOf, explained_status};
 
 use crate::acts::{end_refused, end_run, tell_failure};
 use checkpoint_texts::{SavedStore, TextFault, read_checkpoint};
@@ -19,7 +19,8 @@ use tool_watched_runs::{FailAt, Failure, RefusedRows};
 
 /// Where texts are put, by the names of files.
 pub trait Shelf {
-    /// Puts a text into the file of a name, whole, in place of what it had; or else leaves that as it was, and what it had.
+    /// Puts a text into the file of a name, whole, in place of what it had; or else leaves that as it was, and what it
+    /// had.
     fn put(&self, name: &str, text: &[u8]) -> Result<(), Refusal>;
 }
 
@@ -124,8 +125,8 @@ fn tell_idle<E: Write>(err: &mut E, idle: &[u32]) {
     }
 }
 
-/// Puts the checkpoint of dies into a file, and answers the status: 0 where it stands there, 3 where none may be taken, 1 where
-/// memory or the file fails. A writer that fails is passed over.
+/// Puts the checkpoint of dies into a file, and answers the status: 0 where it stands there, 3 where none may be taken,
+/// 1 where memory or the file fails. A writer that fails is passed over.
 fn put_checkpoint<K: Shelf, E: Write>(
     alloc: Global,
     dies: StoreDies,
@@ -152,9 +153,9 @@ fn put_checkpoint<K: Shelf, E: Write>(
     }
 }
 
-/// Runs a script on the dies of a plan, fresh or from a checkpoint, prints the report, and puts the checkpoint of the dies' end
-/// into the file `to`, if there is one. Answers the status: 0; 1 where something was refused or failed; 3 where the report is printed,
-/// and no checkpoint may be taken.
+/// Runs a script on the dies of a plan, fresh or from a checkpoint, prints the report, and puts the checkpoint of the
+/// dies' end into the file `to`, if there is one. Answers the status: 0; 1 where something was refused or failed; 3
+/// where the report is printed, and no checkpoint may be taken.
 pub fn act_run<P: Read + Drop, S: Read + Drop, C: Read + Drop, K: Shelf, W: Write, E: Write>(
     alloc: Global,
     plan: P,
@@ -181,8 +182,8 @@ pub fn act_run<P: Read + Drop, S: Read + Drop, C: Read + Drop, K: Shelf, W: Writ
     }
 }
 
-/// Runs a script on fresh dies of a plan, the device of one of which fails, and prints the report, which is made whole before
-/// its first byte.
+/// Runs a script on fresh dies of a plan, the device of one of which fails, and prints the report, which is made whole
+/// before its first byte.
 fn print_failing<P: Read + Drop, S: Read + Drop, W: Write>(
     alloc: Global,
     plan: P,
@@ -192,7 +193,7 @@ fn print_failing<P: Read + Drop, S: Read + Drop, W: Write>(
     out: &mut W,
 ) -> Result<FailingTold, Refusal>
     requires slots { slots ≤ MAX_SLOT }
-    ensures printed { OnOk result (PrintsRun (W.contents out.old) (W.contents out.new)) }
+    ensures printed { OnOk result (PrintsFailing (W.contents out.old) (W.contents out.new)) }
 {
     let store = read_plan_from(alloc, plan)?;
     let FailingRun {
@@ -205,9 +206,9 @@ fn print_failing<P: Read + Drop, S: Read + Drop, W: Write>(
     Ok(FailingTold { refused, failure })
 }
 
-/// Runs a script on fresh dies of a plan, the device of one of which fails, prints the report of what was done until then, and
-/// tells in which slot it failed. Answers the status: 0, or 1 where something was refused. A writer of `err` that fails is passed
-/// over.
+/// Runs a script on fresh dies of a plan, the device of one of which fails, prints the report of what was done until
+/// then, and tells in which slot it failed. Answers the status: 0, or 1 where something was refused. A writer of `err`
+/// that fails is passed over.
 pub fn act_failing<P: Read + Drop, S: Read + Drop, W: Write, E: Write>(
     alloc: Global,
     plan: P,
@@ -218,7 +219,7 @@ pub fn act_failing<P: Read + Drop, S: Read + Drop, W: Write, E: Write>(
     err: &mut E,
 ) -> u8
     requires slots { slots ≤ MAX_SLOT }
-    ensures printed { result ≡ 0 → PrintsRun (W.contents out.old) (W.contents out.new) }
+    ensures printed { result ≡ 0 → PrintsFailing (W.contents out.old) (W.contents out.new) }
     ensures few { result ≢ 3 }
 {
     match print_failing(alloc, plan, script, slots, fail, out) {
@@ -261,7 +262,8 @@ fn add_checkpoint<C: Read + Drop>(
     explain_checkpoint(alloc, text, &store, &saved)
 }
 
-/// Answers the status of what is said of a checkpoint, and tells why nothing is said of it. A writer that fails is passed over.
+/// Answers the status of what is said of a checkpoint, and tells why nothing is said of it. A writer that fails is
+/// passed over.
 pub fn end_explained<E: Write>(err: &mut E, explained: Result<bool, RunFault>) -> u8
     ensures { result ≡ explained_status explained }
 {

@@ -1,11 +1,11 @@
 //! What the words of a command line ask for.
 
-ghost use Rattle.std.specs.Prelude.{◌≡◌, ◌≤◌, IfOk, IfSome, Some, None, map, option_map, string_bytes};
+ghost use Rattle.std.specs.Prelude.{◌≡◌, ◌≤◌, ◌<◌, IfOk, IfSome, Some, None, length, map, option_map, position, string_bytes};
 ghost use Rattle.clap.specs.Words.{all_of, app_of, first_of, found_of, rows_of, subcommand_rows_of};
 ghost use Rattle.clap.specs.Kinds.{FailsBy, HasKind};
 ghost use Rattle.clap.specs.Faults.{fault_of};
 ghost use Rattle.flashplan.specs.Commands.{FitsRun, arrivals_of, command_asked, command_asked_by, draw_of, explain_of, keeps_of, fit_of, command_named, number_upto, report_of};
-ghost use Rattle.flashplan.specs.Commands.{RequestFits, asked_by, audit_of, fail_of, fail_upto, import_in, request_named, text_of_request};
+ghost use Rattle.flashplan.specs.Commands.{RequestFits, asked_by, audit_of, fail_of, fail_upto, import_in, is_colon, request_named, text_of_request};
 ghost use Rattle.flashplan.specs.Commands.{compare_of, import_of, range_fault, run_of, text_of_asked, text_of_command, wear_of, words_fault};
 ghost use Rattle.flashplan.specs.Syntax.{flashplan_app};
 
@@ -201,11 +201,19 @@ fn number_in(text: &str) -> Option<u32>
     number_of(text.as_bytes())
 }
 
+/// The place of the first colon.
+fn colon_in(text: &[u8]) -> Option<usize>
+    ensures found { result ≡ position is_colon text.now }
+    ensures within { IfSome result (λ at. at < length text.now) }
+{
+    text.iter().position(|byte| *byte == b':')
+}
+
 /// The die and the call that a text names, as `0:7`.
 fn fail_in(text: &[u8]) -> Option<FailAt>
     ensures { result ≡ fail_upto text.now }
 {
-    let at = text.iter().position(|byte| *byte == b':')?;
+    let at = colon_in(text)?;
     let die = number_of(&text[..at])?;
     let call = number_of(&text[at + 1..])?;
     if 0 < call {
@@ -603,21 +611,20 @@ fn command_error(alloc: Global, mut program: clap::Command<'_>, words: &[String]
     }
 }
 
-/// What the words ask for, the first of them being the program's name. Each command takes `-o FILE`, which is `-` if left out, and
-/// `--quiet`.
+/// What the words ask for, the first of them being the program's name. Each command takes `-o FILE`, which is `-` if
+/// left out, and `--quiet`.
 ///
-/// The words are `explain PLAN --from CHECKPOINT`, `fit DATASHEET`,
-/// `arrivals PLAN --slots N --seed S --fill --phases --jitter J --load L`, where S and J are 0 and L is 100 if left out,
-/// `keeps PLAN SCRIPT --slots N`, `wear PLAN SCRIPT --slots N`,
-/// `report PLAN SCRIPT --slots N --endurance E --slot-us U --csv --fail-at DIE:K`, where E and U are 0 if left out,
-/// `draw PLAN SCRIPT --slots N --die D --from A --to B --worst --text --fail-at DIE:K`, where D, A and B may be left out: the picture is then of die 0,
-/// begins with slot 0, or ends with the run; `compare PLAN SCRIPT --slots N --from F --pool A --csv --draw --die D --task T`, where F, D
-/// and T are 0 and A is 4 if left out; `import TRACE.. --slot-us U --due D --plan`, where D is 20 if left out;
-/// `run PLAN SCRIPT --slots N --from CHECKPOINT --to CHECKPOINT --fail-at DIE:K`, where the last goes with neither checkpoint; or
-/// `audit REPORT..`. A checkpoint may be left out, and so may `--fail-at`, with a call K from 1. A number is 1 to 10 decimal digits, and
-/// at most 1,048,576. The error is that of clap, which prints itself: a call for help, a
-/// fault of the words,
-/// or out of memory; and ValueValidation where there is no command, or a number that is none or too great.
+/// The words are `explain PLAN --from CHECKPOINT`, `fit DATASHEET`, `arrivals PLAN --slots N --seed S --fill --phases
+/// --jitter J --load L`, where S and J are 0 and L is 100 if left out, `keeps PLAN SCRIPT --slots N`, `wear PLAN SCRIPT
+/// --slots N`, `report PLAN SCRIPT --slots N --endurance E --slot-us U --csv --fail-at DIE:K`, where E and U are 0 if
+/// left out, `draw PLAN SCRIPT --slots N --die D --from A --to B --worst --text --fail-at DIE:K`, where D, A and B may
+/// be left out: the picture is then of die 0, begins with slot 0, or ends with the run; `compare PLAN SCRIPT --slots N
+/// --from F --pool A --csv --draw --die D --task T`, where F, D and T are 0 and A is 4 if left out; `import TRACE..
+/// --slot-us U --due D --plan`, where D is 20 if left out; `run PLAN SCRIPT --slots N --from CHECKPOINT --to CHECKPOINT
+/// --fail-at DIE:K`, where the last goes with neither checkpoint; or `audit REPORT..`. A checkpoint may be left out,
+/// and so may `--fail-at`, with a call K from 1. A number is 1 to 10 decimal digits, and at most 1,048,576. The error
+/// is that of clap, which prints itself: a call for help, a fault of the words, or out of memory; and ValueValidation
+/// where there is no command, or a number that is none or too great.
 #[tactic(auto, using(crate::proofs::KindLemmas::has_kind_in_first))]
 pub fn read_words<'a>(alloc: Global, words: &'a [String]) -> Result<Asked<'a>, Error>
     ensures ok { IfOk result (λ c.

@@ -25,8 +25,9 @@ fn put_named<W: Write>(out: &mut W, name: &str, text: &[u8]) -> io::Result<()> {
     Ok(())
 }
 
-/// Audits a report: adds the lines of its dies to a text, each with the report's name in front, and says whether a certificate
-/// is refused. Of a report that can't be read nothing is added.
+/// Audits a report: adds the lines of its dies to a text, each with the report's name in front, and says whether a
+/// certificate is refused. Of a report that can't be read nothing is added.
+#[tactic(auto, using(crate::proofs::Audits::audit_of_printed))]
 fn audit_named<R: Read + Drop>(
     alloc: Global,
     name: &str,
@@ -122,9 +123,9 @@ fn imported<D: Folder>(
     import(alloc, texts.as_slice(), measure, made)
 }
 
-/// Prints the script of traces, a die each, or their plan, as [`import`](tool_trace_import::import) makes it, whole. Answers
-/// the status, and tells why traces aren't taken; of several, which one is at fault. A writer of `err` that fails is passed
-/// over.
+/// Prints the script of traces, a die each, or their plan, as [`import`](tool_trace_import::import) makes it, whole.
+/// Answers the status, and tells why traces aren't taken; of several, which one is at fault. A writer of `err` that
+/// fails is passed over.
 pub fn act_imports<D: Folder, W: Write, E: Write>(
     alloc: Global,
     folder: &D,

@@ -164,8 +164,8 @@ pub fn act_on<D: Folder, K: Shelf, W: Write, E: Write>(
     }
 }
 
-/// Carries out a request whose text goes to a file: whole, where one is made, which a refusal doesn't. Answers the status.
-/// WriteFault, and nothing is done, where the file is also to get a checkpoint.
+/// Carries out a request whose text goes to a file: whole, where one is made, which a refusal doesn't. Answers the
+/// status. WriteFault, and nothing is done, where the file is also to get a checkpoint.
 pub fn act_to_file<D: Folder, K: Shelf, E: Write>(
     alloc: Global,
     folder: &D,
