@@ -39,8 +39,8 @@ fn print_figures<R: Read + Drop, W: Write>(
     write_whole(out, &text)
 }
 
-/// Prints the audit of a report, and says whether a certificate is refused. A refusal is of the report's text, or memory,
-/// or a reader, or `WriteFault`, and all but the last leave `out` as it was.
+/// Prints the audit of a report, and says whether a certificate is refused. A refusal is of the report's text, or
+/// memory, or a reader, or `WriteFault`, and all but the last leave `out` as it was.
 pub fn print_audit<R: Read + Drop, W: Write>(
     alloc: Global,
     first: R,

@@ -31,8 +31,8 @@ impl Texts<'_> {
     };
 }
 
-/// A writer that passes on what it gets, and keeps the front of it. On a terminal it first clears the line, in which progress
-/// was shown.
+/// A writer that passes on what it gets, and keeps the front of it. On a terminal it first clears the line, in which
+/// progress was shown.
 #[derive(Drop)]
 pub struct Heard<W> {
     to: W,
@@ -197,8 +197,8 @@ fn tell_line<R: Files, W: Write>(files: &R, err: &mut W, line: &str, texts: Text
     }
 }
 
-/// Tells more of what was reported of a command: of each refusal the file, the place in it, and what to do; of files that can't
-/// be opened why. It is meant for a terminal. A writer that fails is passed over.
+/// Tells more of what was reported of a command: of each refusal the file, the place in it, and what to do; of files
+/// that can't be opened why. It is meant for a terminal. A writer that fails is passed over.
 pub fn tell_more<R: Files, W: Write>(files: &R, err: &mut W, told: &str, texts: Texts<'_>) {
     for line in told.lines() {
         tell_line(files, err, line, texts);

@@ -30,7 +30,8 @@ pub fn value_of<'a>(words: &'a [String], option: &str) -> Option<&'a str> {
     None
 }
 
-/// The first of these options in the words, as `--slots`, whose value is no number from `least` to `most`, and that value.
+/// The first of these options in the words, as `--slots`, whose value is no number from `least` to `most`, and that
+/// value.
 pub fn bad_number<'a>(
     words: &'a [String],
     options: &[&'static str],

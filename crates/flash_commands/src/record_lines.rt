@@ -51,7 +51,8 @@ impl Walk {
     }
 }
 
-/// The line, from 1, in which the record of this number begins, from 1; none where there are fewer, or the reader fails.
+/// The line, from 1, in which the record of this number begins, from 1; none where there are fewer, or the reader
+/// fails.
 pub fn line_of_record<R: Read + Drop>(mut text: R, record: u64) -> Option<u64> {
     let mut walk = Walk::START;
     let mut bytes = [0; 4096];
