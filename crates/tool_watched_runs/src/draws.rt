@@ -134,12 +134,18 @@ fn part_of(alloc: Global, window: &Window, from: u32, to: u32) -> Result<Window,
     let mut part = Window::new(alloc, from, to);
     for carried in &window.carried {
         if part.has(carried.slot) {
-            part.carried.push(*carried)?;
+            match part.carried.push(*carried) {
+                Ok(()) => {}
+                Err(_) => return Err(Refusal::NoMemory),
+            }
         }
     }
     for waiver in &window.waived {
         if part.has(waiver.slot) {
-            part.waived.push(*waiver)?;
+            match part.waived.push(*waiver) {
+                Ok(()) => {}
+                Err(_) => return Err(Refusal::NoMemory),
+            }
         }
     }
     // The levels before it hold in its first slot.
