@@ -34,8 +34,6 @@ pub fn save(alloc: Global, dies: StoreDies) -> Result<Vec<u8>, Unsaved>
     ensures text { IfOk result (λ text. text.items ≡ checkpoint_text (map saved_end dies.items)) }
 {
     let saved = save_dies(alloc, dies)?;
-    match text_of(alloc, &saved) {
-        Ok(text) => Ok(text),
-        Err(_) => Err(Unsaved::NoMemory),
-    }
+    let text = text_of(alloc, &saved)?;
+    Ok(text)
 }

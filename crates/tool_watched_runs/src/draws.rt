@@ -134,18 +134,12 @@ fn part_of(alloc: Global, window: &Window, from: u32, to: u32) -> Result<Window,
     let mut part = Window::new(alloc, from, to);
     for carried in &window.carried {
         if part.has(carried.slot) {
-            match part.carried.push(*carried) {
-                Ok(()) => {}
-                Err(_) => return Err(Refusal::NoMemory),
-            }
+            part.carried.push(*carried)?;
         }
     }
     for waiver in &window.waived {
         if part.has(waiver.slot) {
-            match part.waived.push(*waiver) {
-                Ok(()) => {}
-                Err(_) => return Err(Refusal::NoMemory),
-            }
+            part.waived.push(*waiver)?;
         }
     }
     // The levels before it hold in its first slot.
