@@ -276,7 +276,8 @@ fn a_die_with_a_worn_block_is_not_saved(rt: HostRuntime) -> Result<(), Fail> {
     assert!(rt; is_run(alloc, Some(old), ERASE, 1, (ERASE_REPORT, 0, 0, OLDEST))?);
     let unsaved = "die 0 is worn out: block 1 was erased more than 4293918718 times";
     assert!(rt; is_worn(alloc, "4293918718", unsaved)?);
-    let unfit = "the checkpoint, die 0, record 6: WornOut: block 1 was erased more than 4293918718 times";
+    let unfit =
+        "the checkpoint, die 0, record 6: WornOut: block 1 was erased more than 4293918718 times";
     assert!(rt; is_worn(alloc, "4293918719", unfit)?);
     Ok(())
 }
