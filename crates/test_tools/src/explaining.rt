@@ -137,6 +137,8 @@ die 0: with its other numbers as they are, the greatest logical that would do is
 [[task]] 1 (die 0 task 0): of each 20 slots its jobs take at most 4, its collections 7.
 die 0: of each 20 slots all tasks take at most 11: 9 to spare.
 die 0: its 65536 numbers for jobs and collections last for 436900 slots; `renew` begins the next life.
+die 0: its periods end at each multiple of 20 slots by which the deadlines of its jobs have come.
+[[task]] 1 (die 0 task 0): for that no job may come in the 9 slots before; at the multiples of its period none does.
 die 0: with its other numbers as they are, the least common that would do is 20.
 [[task]] 1 (die 0 task 0): one at a time, these would do: least period 10, greatest collect_period 20, least cap 6, greatest work 6, greatest writes 1.
 die 0: with its other numbers as they are, alpha 2 would do: of each 20 slots 11 are taken.
@@ -160,6 +162,57 @@ die 0: with its other numbers as they are, the greatest logical that would do is
 die 0: its 65536 numbers for jobs and collections last for 436900 slots; `renew` begins the next life.
 die 0: with its other numbers as they are, the least common that would do is 20.
 [[task]] 1 (die 0 task 0): one at a time, these would do: no period, greatest collect_period 10, no cap, no work, no writes.
+",
+    ),
+];
+
+/// Lives whose periods end where jobs that come at each multiple of their period are still due, and nowhere.
+const ENDS: [Said; 2] = [
+    (
+        "period = 10\ncollect_period = 20",
+        "period = 20\ncollect_period = 10",
+        true,
+        "The plan is accepted.
+die 0: while fewer than alpha pages are spare, at most 9 are free.
+die 0: the closed blocks that no collection works on are then at least 1.
+die 0: if none of these were worth collecting, at least 3 pages would be valid.
+die 0: logical is 2, which is below that.
+die 0: with its other numbers as they are, the least blocks that would do is 4.
+die 0: with its other numbers as they are, the greatest logical that would do is 2.
+[[task]] 1 (die 0 task 0): alpha * period is 40, and writes * collect_period is 10: 30 to spare.
+[[task]] 1 (die 0 task 0): cap is 6, and 2 * writes + 2 * alpha is 6: 0 to spare.
+[[task]] 1 (die 0 task 0): of each 20 slots its jobs take at most 2, its collections 14.
+die 0: of each 20 slots all tasks take at most 16: 4 to spare.
+die 0: its 65536 numbers for jobs and collections last for 436900 slots; `renew` begins the next life.
+die 0: its periods end at each multiple of 10 slots by which the deadlines of its jobs have come.
+[[task]] 1 (die 0 task 0): for that no job may come in the 19 slots before; at the multiples of its period one does.
+die 0: with its other numbers as they are, the least common that would do is 20.
+[[task]] 1 (die 0 task 0): one at a time, these would do: least period 10, greatest collect_period 20, least cap 6, greatest work 6, greatest writes 1.
+die 0: with its other numbers as they are, alpha 1 would do: of each 20 slots 20 are taken.
+die 0: with its other numbers as they are, alpha 2 would do: of each 20 slots 16 are taken.
+",
+    ),
+    (
+        "common = 20\n\n[[task]]\ndie = 0\ncap = 6\nperiod = 10\ncollect_period = 20\nwork = 2\nwrites = 1",
+        "common = 200000\n\n[[task]]\ndie = 0\ncap = 6\nperiod = 2\ncollect_period = 200000\nwork = 1\nwrites = 0",
+        true,
+        "The plan is accepted.
+die 0: while fewer than alpha pages are spare, at most 9 are free.
+die 0: the closed blocks that no collection works on are then at least 1.
+die 0: if none of these were worth collecting, at least 3 pages would be valid.
+die 0: logical is 2, which is below that.
+die 0: with its other numbers as they are, the least blocks that would do is 4.
+die 0: with its other numbers as they are, the greatest logical that would do is 2.
+[[task]] 1 (die 0 task 0): alpha * period is 4, and writes * collect_period is 0: 4 to spare.
+[[task]] 1 (die 0 task 0): cap is 6, and 2 * writes + 2 * alpha is 4: 2 to spare.
+[[task]] 1 (die 0 task 0): of each 200000 slots its jobs take at most 100000, its collections 7.
+die 0: of each 200000 slots all tasks take at most 100007: 99993 to spare.
+die 0: its 65536 numbers for jobs and collections last for 131070 slots; `renew` begins the next life.
+die 0: its periods end in no life: the least multiple of each collect_period is 200000.
+die 0: with its other numbers as they are, the least common that would do is 200000.
+[[task]] 1 (die 0 task 0): one at a time, these would do: least period 2, greatest collect_period 200000, least cap 4, greatest work 1, greatest writes 0.
+die 0: with its other numbers as they are, alpha 1 would do: of each 200000 slots 100009 are taken.
+die 0: with its other numbers as they are, alpha 2 would do: of each 200000 slots 100007 are taken.
 ",
     ),
 ];
@@ -294,6 +347,14 @@ fn numbers_out_of_their_limits_are_told(rt: HostRuntime) -> Result<(), Fail> {
 #[test]
 fn loads_are_told_by_task_and_in_sum(rt: HostRuntime) -> Result<(), Fail> {
     for said in LOADS {
+        assert!(rt; is_said(rt.alloc(), TIMED, said)?, "{}", said.1);
+    }
+    Ok(())
+}
+
+#[test]
+fn it_is_said_where_periods_end(rt: HostRuntime) -> Result<(), Fail> {
+    for said in ENDS {
         assert!(rt; is_said(rt.alloc(), TIMED, said)?, "{}", said.1);
     }
     Ok(())

@@ -1,9 +1,18 @@
-//! Numbers of slots that all periods divide.
+//! Numbers of slots that periods divide.
 
 ghost use Rattle.std.specs.Prelude.{◌≡◌, ◌↔◌, ◌%◌, IsTrue};
-ghost use Rattle.tool_plan_design.specs.Commons.{AreDivisors, DividesBoth, TellsCommon};
+ghost use Rattle.tool_plan_design.specs.Commons.{AreDivisors, Divide, FindsLeastCommon};
 
 use slot_types::{MAX_SLOT, TaskTimes};
+
+/// Which periods of tasks are meant.
+#[derive(Clone, Copy, PartialEq, Eq, Debug, Drop)]
+pub enum Periods {
+    /// Those of jobs and those of collections.
+    All,
+    /// Those of collections alone.
+    Collect,
+}
 
 /// Whether a period divides a number of slots; a period of 0 divides 0 alone.
 fn divides(common: u32, period: u32) -> bool
@@ -16,27 +25,30 @@ fn divides(common: u32, period: u32) -> bool
     }
 }
 
-/// Whether both periods of a task divide a number of slots.
-fn divides_both(common: u32, task: &TaskTimes) -> bool
-    ensures { IsTrue result ↔ DividesBoth common task.now }
+/// Whether these periods of a task divide a number of slots.
+fn divide(periods: Periods, common: u32, task: &TaskTimes) -> bool
+    ensures { IsTrue result ↔ Divide periods common task.now }
 {
-    divides(common, task.period) && divides(common, task.collect_period)
+    match periods {
+        Periods::All => divides(common, task.period) && divides(common, task.collect_period),
+        Periods::Collect => divides(common, task.collect_period),
+    }
 }
 
-/// Whether all periods of tasks divide a number of slots; a period of 0 divides 0 alone. It takes no memory.
-pub fn divides_all(common: u32, tasks: &[TaskTimes]) -> bool
-    ensures { IsTrue result ↔ AreDivisors tasks.now common }
+/// Whether these periods of all tasks divide a number of slots; a period of 0 divides 0 alone. It takes no memory.
+pub fn are_divisors(periods: Periods, tasks: &[TaskTimes], common: u32) -> bool
+    ensures { IsTrue result ↔ AreDivisors periods tasks.now common }
 {
-    tasks.iter().all(|task| divides_both(common, task))
+    tasks.iter().all(|task| divide(periods, common, task))
 }
 
-/// The least number of slots, from 1 to 1,048,576, that all periods divide; none where there is no such number. It takes
-/// no memory.
-pub fn least_common(tasks: &[TaskTimes]) -> Option<u32>
-    ensures { TellsCommon tasks.now result }
+/// The least number of slots, from 1 to 1,048,576, that these periods of all tasks divide; none where there is no such
+/// number. It takes no memory.
+pub fn least_common(periods: Periods, tasks: &[TaskTimes]) -> Option<u32>
+    ensures { FindsLeastCommon periods tasks.now result }
 {
     for common in 1..=MAX_SLOT {
-        if divides_all(common, tasks) {
+        if are_divisors(periods, tasks, common) {
             return Some(common);
         }
     }

@@ -6,7 +6,7 @@ ghost use Rattle.tool_plan_design.specs.AcceptedPlans.{IsAccepted};
 
 use crate::bounds::tell_bound;
 use crate::causes::tell_cause;
-use crate::lifetimes::tell_life;
+use crate::lifetimes::put_life;
 use crate::limits::{tell_die_limits, tell_shape, tell_strays};
 use crate::loads::tell_load;
 use crate::sayings::Sayings;
@@ -66,7 +66,7 @@ fn tell_timed(said: &mut Sayings, die: u32, names: &[TaskName], plan: &DiePlan) 
         return Ok(());
     };
     tell_load(said, die, names, plan, times)?;
-    tell_life(&mut said.figures, die, times)
+    put_life(said, die, names, times)
 }
 
 /// Tells the bound and the demand of a die whose numbers are within their limits, or which are not; and says whether

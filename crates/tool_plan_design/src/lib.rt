@@ -18,7 +18,7 @@ mod solving;
 mod subjects;
 mod trials;
 
-pub use commons::{divides_all, least_common};
+pub use commons::{Periods, are_divisors, least_common};
 pub use explained::{Explained, explain};
 pub use numbers::Number;
 pub use solving::{greatest, least};

@@ -1,18 +1,31 @@
-//! How long a die lives by its plan, in a sentence.
+//! How long a die lives by its plan, and where a life may end so that the next one keeps the plan, too, in sentences.
 
-use crate::subjects::Subject;
-use slot_types::{MAX_JOBS, MAX_SLOT, Times};
+use crate::commons::{Periods, least_common};
+use crate::sayings::Sayings;
+use crate::subjects::{Subject, TaskName};
+use slot_types::{MAX_JOBS, MAX_SLOT, TaskTimes, Times};
 use std::io;
 use std::io::Write;
 use tool_plan_lives::{are_tasks, life_of};
 
-/// Tells for how many slots a die lives, and how it then goes on.
-pub fn tell_life(text: &mut Vec<u8>, die: u32, times: &Times) -> io::Result<()> {
+/// Reports for how many slots a die lives, how it then goes on, and, of a plan without a fault so far, where a life may
+/// end so that its periods do.
+pub fn put_life(said: &mut Sayings, die: u32, names: &[TaskName], times: &Times) -> io::Result<()> {
     let tasks = times.tasks.as_slice();
     if !are_tasks(tasks) {
         return Ok(());
     }
-    let (of, life) = (Subject::Die(die), life_of(tasks));
+    let life = life_of(tasks);
+    put_length(&mut said.figures, die, life)?;
+    if said.faults.is_empty() {
+        put_ends(&mut said.figures, die, names, tasks, life)?;
+    }
+    Ok(())
+}
+
+/// Reports for how many slots a die lives.
+fn put_length(text: &mut Vec<u8>, die: u32, life: u32) -> io::Result<()> {
+    let of = Subject::Die(die);
     if life < MAX_SLOT {
         writeln!(
             text,
@@ -24,4 +37,62 @@ pub fn tell_life(text: &mut Vec<u8>, die: u32, times: &Times) -> io::Result<()> 
             "{of}: its {MAX_SLOT} slots end before its {MAX_JOBS} numbers do; `renew` begins the next life."
         )
     }
+}
+
+/// Reports at which slots of a life its periods may end, and what that asks of the jobs before.
+fn put_ends(
+    text: &mut Vec<u8>,
+    die: u32,
+    names: &[TaskName],
+    tasks: &[TaskTimes],
+    life: u32,
+) -> io::Result<()> {
+    let of = Subject::Die(die);
+    match least_common(Periods::Collect, tasks) {
+        None => writeln!(
+            text,
+            "{of}: its periods end in no life: no number of slots up to {MAX_SLOT} is a multiple of each collect_period."
+        ),
+        Some(end) if life < end => writeln!(
+            text,
+            "{of}: its periods end in no life: the least multiple of each collect_period is {end}."
+        ),
+        Some(end) => {
+            writeln!(
+                text,
+                "{of}: its periods end at each multiple of {end} slots by which the deadlines of its jobs have come."
+            )?;
+            put_gaps(text, names, tasks, end)
+        }
+    }
+}
+
+/// Reports by task in how many slots before such a multiple no job may come.
+fn put_gaps(
+    text: &mut Vec<u8>,
+    names: &[TaskName],
+    tasks: &[TaskTimes],
+    end: u32,
+) -> io::Result<()> {
+    for task in 0..tasks.len().min(names.len()) {
+        let (of, period) = (Subject::Task(names[task]), tasks[task].period);
+        if period > 1 {
+            put_gap(text, of, period, end)?;
+        }
+    }
+    Ok(())
+}
+
+/// Reports it of one task, whose jobs come at least this period apart, each due a period after it came.
+fn put_gap(text: &mut Vec<u8>, of: Subject, period: u32, end: u32) -> io::Result<()> {
+    let gap = period.saturating_sub(1);
+    let at_multiples = if period != 0 && end % period == 0 {
+        "none does"
+    } else {
+        "one does"
+    };
+    writeln!(
+        text,
+        "{of}: for that no job may come in the {gap} slots before; at the multiples of its period {at_multiples}."
+    )
 }

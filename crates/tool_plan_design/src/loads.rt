@@ -1,6 +1,6 @@
 //! The demand of a die with times, in sentences: by task and in sum, and the margins of what its collections give.
 
-use crate::commons::{divides_all, least_common};
+use crate::commons::{Periods, are_divisors, least_common};
 use crate::sayings::Sayings;
 use crate::subjects::{Subject, TaskName};
 use slot_types::{DiePlan, MAX_SLOT, TaskTimes, Times};
@@ -152,7 +152,7 @@ fn tell_undivided(
         tell_divides(text, of, "collect_period", own.collect_period, times.common)?;
     }
     let of = Subject::Die(die);
-    match least_common(tasks) {
+    match least_common(Periods::All, tasks) {
         Some(least) => writeln!(
             text,
             "{of}: the least common that all its periods divide is {least}."
@@ -207,7 +207,7 @@ pub fn tell_load(
     times: &Times,
 ) -> io::Result<()> {
     tell_all_margins(said, names, plan, times)?;
-    if divides_all(times.common, times.tasks.as_slice()) {
+    if are_divisors(Periods::All, times.tasks.as_slice(), times.common) {
         tell_divided(said, die, names, plan, times)
     } else {
         tell_undivided(&mut said.faults, die, names, times)
