@@ -27,14 +27,14 @@ pub no_true : (b : Bool) → b ≡ false → IsTrue b → ⊥
 no_true b f t = true≢false (sym t ∙ f)
 
 -- a trial that doesn't do tells that the plan with this number doesn't
-pub untold : (which : Number) (plan trial next : DiePlan) (m : ℕ) (b : Bool)
+pub does_not : (which : Number) (plan trial next : DiePlan) (m : ℕ) (b : Bool)
     → ((n : ℕ) → with_number which trial n ≡ with_number which plan n) → next ≡ with_number which trial m
     → (WouldDo next → IsTrue b) → b ≡ false → WouldDo (with_number which plan m) → ⊥
-untold which plan trial next m b same is tells isnt does =
-    no_true b isnt (tells (subst WouldDo (sym (is ∙ same m)) does))
+does_not which plan trial next m b same is if_does isnt does =
+    no_true b isnt (if_does (subst WouldDo (sym (is ∙ same m)) does))
 
 -- and one that does that it does
-pub told : (which : Number) (plan trial next : DiePlan) (m : ℕ) (b : Bool)
+pub does : (which : Number) (plan trial next : DiePlan) (m : ℕ) (b : Bool)
     → ((n : ℕ) → with_number which trial n ≡ with_number which plan n) → next ≡ with_number which trial m
     → (IsTrue b → WouldDo next) → b ≡ true → WouldDo (with_number which plan m)
-told which plan trial next m b same is tells holds = subst WouldDo (is ∙ same m) (tells holds)
+does which plan trial next m b same is if_true holds = subst WouldDo (is ∙ same m) (if_true holds)

@@ -56,11 +56,11 @@ abbrev pub NoneDoes : Number → DiePlan → ℕ → ℕ → Type 0
 NoneDoes which plan from to = (n : ℕ) → from ≤ n → n ≤ to → ¬ WouldDo (with_number which plan n)
 
 -- the least such number, if there is one
-abbrev pub TellsLeast : Number → DiePlan → ℕ → ℕ → Option ℕ → Type 0
-TellsLeast which plan from to (Some n) = IsLeast which plan from to n
-TellsLeast which plan from to None = NoneDoes which plan from to
+abbrev pub FindsLeast : Number → DiePlan → ℕ → ℕ → Option ℕ → Type 0
+FindsLeast which plan from to (Some n) = IsLeast which plan from to n
+FindsLeast which plan from to None = NoneDoes which plan from to
 
 -- the greatest such number, if there is one
-abbrev pub TellsGreatest : Number → DiePlan → ℕ → ℕ → Option ℕ → Type 0
-TellsGreatest which plan from to (Some n) = IsGreatest which plan from to n
-TellsGreatest which plan from to None = NoneDoes which plan from to
+abbrev pub FindsGreatest : Number → DiePlan → ℕ → ℕ → Option ℕ → Type 0
+FindsGreatest which plan from to (Some n) = IsGreatest which plan from to n
+FindsGreatest which plan from to None = NoneDoes which plan from to

@@ -22,11 +22,11 @@ pub record IsGreatestLogical (plan : DiePlan) (logical : ℕ) : Type 0 where
   pub greatest : (more : ℕ) → logical < more → ¬ MeetsBound (with_logical plan more)
 
 -- such a number of blocks, or none where no number would do
-abbrev pub TellsBlocks : DiePlan → Option ℕ → Type 0
-TellsBlocks plan (Some blocks) = IsLeastBlocks plan blocks
-TellsBlocks plan None = (blocks : ℕ) → ¬ MeetsBound (with_blocks plan blocks)
+abbrev pub FindsBlocks : DiePlan → Option ℕ → Type 0
+FindsBlocks plan (Some blocks) = IsLeastBlocks plan blocks
+FindsBlocks plan None = (blocks : ℕ) → ¬ MeetsBound (with_blocks plan blocks)
 
 -- such a number of logical pages, or none where no number would do
-abbrev pub TellsLogical : DiePlan → Option ℕ → Type 0
-TellsLogical plan (Some logical) = IsGreatestLogical plan logical
-TellsLogical plan None = (logical : ℕ) → ¬ MeetsBound (with_logical plan logical)
+abbrev pub FindsLogical : DiePlan → Option ℕ → Type 0
+FindsLogical plan (Some logical) = IsGreatestLogical plan logical
+FindsLogical plan None = (logical : ℕ) → ¬ MeetsBound (with_logical plan logical)

@@ -18,9 +18,9 @@ fn most_free(plan: &DiePlan) -> u64 {
     most
 }
 
-/// Tells how many blocks are closed with no collection at work, and from how many valid pages on none might be worth
+/// Writes how many blocks are closed with no collection at work, and from how many valid pages on none might be worth
 /// collecting.
-fn tell_closed(text: &mut Vec<u8>, of: Subject, closed: u64, live: u64) -> io::Result<()> {
+fn put_closed(text: &mut Vec<u8>, of: Subject, closed: u64, live: u64) -> io::Result<()> {
     writeln!(
         text,
         "{of}: the closed blocks that no collection works on are then at least {closed}."
@@ -31,19 +31,19 @@ fn tell_closed(text: &mut Vec<u8>, of: Subject, closed: u64, live: u64) -> io::R
     )
 }
 
-/// Tells the figures of a die that meets its bound.
-fn tell_met(text: &mut Vec<u8>, of: Subject, found: Figures, logical: u32) -> io::Result<()> {
+/// Writes the figures of a die that meets its bound.
+fn put_met(text: &mut Vec<u8>, of: Subject, found: Figures, logical: u32) -> io::Result<()> {
     let fmax = found.fmax;
     writeln!(
         text,
         "{of}: while fewer than alpha pages are spare, at most {fmax} are free."
     )?;
-    tell_closed(text, of, u64::from(found.closed), u64::from(found.live))?;
+    put_closed(text, of, u64::from(found.closed), u64::from(found.live))?;
     writeln!(text, "{of}: logical is {logical}, which is below that.")
 }
 
-/// Tells that a die has too few blocks for what may be free.
-fn tell_few_blocks(text: &mut Vec<u8>, of: Subject, blocks: u64, kept: u64) -> io::Result<()> {
+/// Writes that a die has too few blocks for what may be free.
+fn put_few_blocks(text: &mut Vec<u8>, of: Subject, blocks: u64, kept: u64) -> io::Result<()> {
     let missing = kept.saturating_sub(blocks).saturating_add(1);
     writeln!(
         text,
@@ -51,21 +51,21 @@ fn tell_few_blocks(text: &mut Vec<u8>, of: Subject, blocks: u64, kept: u64) -> i
     )
 }
 
-/// Tells that a die has too many logical pages.
-fn tell_many_pages(said: &mut Sayings, of: Subject, closed: u64, plan: &DiePlan) -> io::Result<()> {
+/// Writes that a die has too many logical pages.
+fn put_many_pages(said: &mut Sayings, of: Subject, closed: u64, plan: &DiePlan) -> io::Result<()> {
     let least = u64::from(plan.shape.pages.saturating_sub(plan.alpha)) + 1;
     let live = closed.saturating_mul(least);
     let logical = u64::from(plan.logical);
     let beyond = logical.saturating_sub(live).saturating_add(1);
-    tell_closed(&mut said.figures, of, closed, live)?;
+    put_closed(&mut said.figures, of, closed, live)?;
     writeln!(
         said.faults,
         "{of}: logical is {logical}, and has to be below {live}: {beyond} too many."
     )
 }
 
-/// Tells what a die lacks of its bound.
-fn tell_unmet(said: &mut Sayings, of: Subject, plan: &DiePlan) -> io::Result<()> {
+/// Writes what a die lacks of its bound.
+fn put_unmet(said: &mut Sayings, of: Subject, plan: &DiePlan) -> io::Result<()> {
     let fmax = most_free(plan);
     let kept = (fmax / u64::from(plan.shape.pages.max(1))).saturating_add(plan.caps.len() as u64);
     let blocks = u64::from(plan.shape.blocks);
@@ -74,14 +74,14 @@ fn tell_unmet(said: &mut Sayings, of: Subject, plan: &DiePlan) -> io::Result<()>
         "{of}: while fewer than alpha pages are spare, up to {fmax} may be free."
     )?;
     if blocks <= kept {
-        tell_few_blocks(&mut said.faults, of, blocks, kept)
+        put_few_blocks(&mut said.faults, of, blocks, kept)
     } else {
-        tell_many_pages(said, of, blocks - kept, plan)
+        put_many_pages(said, of, blocks - kept, plan)
     }
 }
 
-/// Tells the least number of blocks that would do.
-fn tell_blocks(text: &mut Vec<u8>, of: Subject, plan: &mut DiePlan) -> io::Result<()> {
+/// Writes the least number of blocks that would do.
+fn put_blocks(text: &mut Vec<u8>, of: Subject, plan: &mut DiePlan) -> io::Result<()> {
     match least_blocks(plan) {
         Some(blocks) => writeln!(
             text,
@@ -94,8 +94,8 @@ fn tell_blocks(text: &mut Vec<u8>, of: Subject, plan: &mut DiePlan) -> io::Resul
     }
 }
 
-/// Tells the greatest `logical` that would do.
-fn tell_logical(text: &mut Vec<u8>, of: Subject, plan: &mut DiePlan) -> io::Result<()> {
+/// Writes the greatest `logical` that would do.
+fn put_logical(text: &mut Vec<u8>, of: Subject, plan: &mut DiePlan) -> io::Result<()> {
     match greatest_logical(plan) {
         Some(logical) => writeln!(
             text,
@@ -108,20 +108,20 @@ fn tell_logical(text: &mut Vec<u8>, of: Subject, plan: &mut DiePlan) -> io::Resu
     }
 }
 
-/// Tells what the bound on a die comes to, or what is missing; and what would mend it, which stands with what is missing. The
+/// Writes what the bound on a die comes to, or what is missing; and what would mend it, which stands with what is missing. The
 /// plan is afterwards what it was.
-pub fn tell_bound(said: &mut Sayings, die: u32, plan: &mut DiePlan) -> io::Result<()> {
+pub fn put_bound(said: &mut Sayings, die: u32, plan: &mut DiePlan) -> io::Result<()> {
     let of = Subject::Die(die);
     match bound(plan) {
         Ok(()) => {
-            tell_met(&mut said.figures, of, figures(plan), plan.logical)?;
-            tell_blocks(&mut said.figures, of, plan)?;
-            tell_logical(&mut said.figures, of, plan)
+            put_met(&mut said.figures, of, figures(plan), plan.logical)?;
+            put_blocks(&mut said.figures, of, plan)?;
+            put_logical(&mut said.figures, of, plan)
         }
         Err(_) => {
-            tell_unmet(said, of, plan)?;
-            tell_blocks(&mut said.faults, of, plan)?;
-            tell_logical(&mut said.faults, of, plan)
+            put_unmet(said, of, plan)?;
+            put_blocks(&mut said.faults, of, plan)?;
+            put_logical(&mut said.faults, of, plan)
         }
     }
 }

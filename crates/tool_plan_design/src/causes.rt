@@ -9,8 +9,8 @@ use std::io::Write;
 /// The keys that each plan has on top.
 const TOP_KEYS: &str = "version, dies, blocks, pages, erase_slots, logical, alpha and task";
 
-/// Tells which keys a plan has.
-fn tell_keys(text: &mut Vec<u8>) -> io::Result<()> {
+/// Writes which keys a plan has.
+fn put_keys(text: &mut Vec<u8>) -> io::Result<()> {
     writeln!(
         text,
         "plan: its keys are {TOP_KEYS}; in each [[task]] die and cap."
@@ -22,7 +22,7 @@ fn tell_keys(text: &mut Vec<u8>) -> io::Result<()> {
 }
 
 /// The cause alone, where no place is known.
-fn tell_alone(text: &mut Vec<u8>, cause: Cause) -> io::Result<()> {
+fn put_alone(text: &mut Vec<u8>, cause: Cause) -> io::Result<()> {
     let fault = match cause {
         Cause::TooLong => "the text has more than 1048576 bytes.",
         Cause::NotToml => "the text isn't TOML, or not UTF-8.",
@@ -52,48 +52,48 @@ fn position_after(before: &[u8]) -> (u64, u64) {
     (line, column)
 }
 
-/// Tells what is wrong at a byte of a plan.
-fn tell_at(text: &mut Vec<u8>, plan: &[u8], at: usize, fault: &str) -> io::Result<()> {
+/// Writes what is wrong at a byte of a plan.
+fn put_at(text: &mut Vec<u8>, plan: &[u8], at: usize, fault: &str) -> io::Result<()> {
     let (line, column) = position_after(&plan[..at.min(plan.len())]);
     writeln!(text, "plan: line {line}, column {column}: {fault}.")
 }
 
-/// Tells why a text isn't TOML, in the words of the reader of TOML, and where.
-fn tell_toml(text: &mut Vec<u8>, plan: &[u8], error: &toml::de::Error) -> io::Result<()> {
+/// Writes why a text isn't TOML, in the words of the reader of TOML, and where.
+fn put_toml(text: &mut Vec<u8>, plan: &[u8], error: &toml::de::Error) -> io::Result<()> {
     match error.span() {
-        Some(span) => tell_at(text, plan, span.start, error.message()),
+        Some(span) => put_at(text, plan, span.start, error.message()),
         None => Err(io::Error::from(io::ErrorKind::OutOfMemory)),
     }
 }
 
-/// Tells the fault of a plan that is UTF-8, and where it lies, as a second look at its text finds it.
-fn tell_place(alloc: Global, text: &mut Vec<u8>, plan: &str, cause: Cause) -> io::Result<()> {
+/// Writes the fault of a plan that is UTF-8, and where it lies, as a second look at its text finds it.
+fn put_place(alloc: Global, text: &mut Vec<u8>, plan: &str, cause: Cause) -> io::Result<()> {
     let table = match toml::table_from_str(alloc, plan) {
         Ok(table) => table,
-        Err(error) => return tell_toml(text, plan.as_bytes(), &error),
+        Err(error) => return put_toml(text, plan.as_bytes(), &error),
     };
     match first_fault(&table) {
         Some(fault) if fault.may_be(cause) => writeln!(text, "plan: {fault}"),
-        _ => tell_alone(text, cause),
+        _ => put_alone(text, cause),
     }
 }
 
-/// Tells the fault of a plan's text, and where it lies. A text that is too long isn't looked at again.
-fn tell_fault(alloc: Global, text: &mut Vec<u8>, plan: &[u8], cause: Cause) -> io::Result<()> {
+/// Writes the fault of a plan's text, and where it lies. A text that is too long isn't looked at again.
+fn put_fault(alloc: Global, text: &mut Vec<u8>, plan: &[u8], cause: Cause) -> io::Result<()> {
     if cause == Cause::TooLong {
-        return tell_alone(text, cause);
+        return put_alone(text, cause);
     }
     match std::str::from_utf8(plan) {
-        Ok(plan) => tell_place(alloc, text, plan, cause),
-        Err(error) => tell_at(text, plan, error.valid_up_to(), "the text isn't UTF-8"),
+        Ok(plan) => put_place(alloc, text, plan, cause),
+        Err(error) => put_at(text, plan, error.valid_up_to(), "the text isn't UTF-8"),
     }
 }
 
-/// Tells the first fault of a plan's text, and how such a text is made where that helps.
-pub fn tell_cause(alloc: Global, text: &mut Vec<u8>, plan: &[u8], cause: Cause) -> io::Result<()> {
-    tell_fault(alloc, text, plan, cause)?;
+/// Writes the first fault of a plan's text, and how such a text is made where that helps.
+pub fn put_cause(alloc: Global, text: &mut Vec<u8>, plan: &[u8], cause: Cause) -> io::Result<()> {
+    put_fault(alloc, text, plan, cause)?;
     match cause {
-        Cause::ExtraKey | Cause::MissingKey => tell_keys(text),
+        Cause::ExtraKey | Cause::MissingKey => put_keys(text),
         _ => Ok(()),
     }
 }

@@ -4,13 +4,13 @@ ghost use Rattle.std.specs.Prelude.{◌↔◌, IsTrue, IfOk};
 ghost use Rattle.slot_types.specs.Refusal.{FailsForMemory};
 ghost use Rattle.tool_plan_design.specs.AcceptedPlans.{IsAccepted};
 
-use crate::bounds::tell_bound;
-use crate::causes::tell_cause;
+use crate::bounds::put_bound;
+use crate::causes::put_cause;
 use crate::lifetimes::put_life;
-use crate::limits::{tell_die_limits, tell_shape, tell_strays};
-use crate::loads::tell_load;
+use crate::limits::{put_die_limits, put_shape, put_strays};
+use crate::loads::put_load;
 use crate::sayings::Sayings;
-use crate::solves::tell_solves;
+use crate::solves::put_solves;
 use crate::subjects::TaskName;
 use plan_texts::{PlanNumbers, TaskNumbers, die_plan, plan_numbers, read_plan};
 use slot_types::{DiePlan, MAX_DIES, Refusal};
@@ -26,17 +26,17 @@ pub struct Explained {
     pub is_accepted: bool,
 }
 
-/// Tells whether the plan of a text is accepted, as its reader judges it.
-fn tell_verdict(alloc: Global, text: &mut Vec<u8>, plan: &[u8]) -> Result<bool, Refusal>
+/// Writes whether the plan of a text is accepted, as its reader judges it.
+fn put_verdict(alloc: Global, text: &mut Vec<u8>, plan: &[u8]) -> Result<bool, Refusal>
     ensures said { IfOk result (λ is_accepted. IsTrue is_accepted ↔ IsAccepted plan.now) }
     ensures refused { FailsForMemory result }
 {
-    let (told, is_accepted) = match read_plan(alloc, plan) {
+    let (written, is_accepted) = match read_plan(alloc, plan) {
         Ok(_) => (writeln!(text, "The plan is accepted."), true),
         Err(Refusal::NoMemory) => return Err(Refusal::NoMemory),
         Err(refusal) => (writeln!(text, "The plan is refused: {refusal}."), false),
     };
-    match told {
+    match written {
         Ok(()) => Ok(is_accepted),
         Err(_) => Err(Refusal::NoMemory),
     }
@@ -60,80 +60,80 @@ fn names_of(alloc: Global, tasks: &[TaskNumbers], die: u32) -> Result<Vec<TaskNa
     Ok(names)
 }
 
-/// Tells the demand of a die with times, and how long it lives.
-fn tell_timed(said: &mut Sayings, die: u32, names: &[TaskName], plan: &DiePlan) -> io::Result<()> {
+/// Writes the demand of a die with times, and how long it lives.
+fn put_timed(said: &mut Sayings, die: u32, names: &[TaskName], plan: &DiePlan) -> io::Result<()> {
     let Some(times) = &plan.times else {
         return Ok(());
     };
-    tell_load(said, die, names, plan, times)?;
+    put_load(said, die, names, plan, times)?;
     put_life(said, die, names, times)
 }
 
-/// Tells the bound and the demand of a die whose numbers are within their limits, or which are not; and says whether
+/// Writes the bound and the demand of a die whose numbers are within their limits, or which are not; and says whether
 /// all are.
-fn tell_die(
+fn put_die(
     said: &mut Sayings,
     die: u32,
     names: &[TaskName],
     plan: &mut DiePlan,
 ) -> io::Result<bool> {
     let before = said.faults.len();
-    tell_die_limits(&mut said.faults, die, names, plan)?;
+    put_die_limits(&mut said.faults, die, names, plan)?;
     if before < said.faults.len() {
         return Ok(false);
     }
-    tell_bound(said, die, plan)?;
-    tell_timed(said, die, names, plan)?;
+    put_bound(said, die, plan)?;
+    put_timed(said, die, names, plan)?;
     Ok(true)
 }
 
-/// Tells the shape of the dies and the tasks that are of none, and says whether the dies can be explained.
-fn tell_top(text: &mut Vec<u8>, plan: &PlanNumbers) -> io::Result<bool> {
+/// Writes the shape of the dies and the tasks that are of none, and says whether the dies can be explained.
+fn put_top(text: &mut Vec<u8>, plan: &PlanNumbers) -> io::Result<bool> {
     let before = text.len();
-    tell_shape(text, &plan.top)?;
+    put_shape(text, &plan.top)?;
     if before < text.len() {
         return Ok(false);
     }
-    tell_strays(text, plan.tasks.as_slice(), plan.top.dies)?;
+    put_strays(text, plan.tasks.as_slice(), plan.top.dies)?;
     Ok(true)
 }
 
-/// Tells what the numbers of a die of a plan come to. The only refusal is NoMemory.
-fn tell_one(alloc: Global, said: &mut Sayings, plan: &PlanNumbers, die: u32) -> Result<(), Refusal>
+/// Writes what the numbers of a die of a plan come to. The only refusal is NoMemory.
+fn put_one(alloc: Global, said: &mut Sayings, plan: &PlanNumbers, die: u32) -> Result<(), Refusal>
     ensures { FailsForMemory result }
 {
     let names = names_of(alloc, plan.tasks.as_slice(), die)?;
     let mut made = die_plan(alloc, plan, die)?;
-    match tell_die(said, die, &names, &mut made) {
-        Ok(true) => tell_solves(alloc, &mut said.figures, plan, die, &names),
+    match put_die(said, die, &names, &mut made) {
+        Ok(true) => put_solves(alloc, &mut said.figures, plan, die, &names),
         Ok(false) => Ok(()),
         Err(_) => Err(Refusal::NoMemory),
     }
 }
 
-/// Tells what the numbers of a plan come to. The only refusal is NoMemory.
-fn tell_numbers(alloc: Global, said: &mut Sayings, plan: &PlanNumbers) -> Result<(), Refusal>
+/// Writes what the numbers of a plan come to. The only refusal is NoMemory.
+fn put_numbers(alloc: Global, said: &mut Sayings, plan: &PlanNumbers) -> Result<(), Refusal>
     ensures { FailsForMemory result }
 {
-    match tell_top(&mut said.faults, plan) {
+    match put_top(&mut said.faults, plan) {
         Ok(true) => {}
         Ok(false) => return Ok(()),
         Err(_) => return Err(Refusal::NoMemory),
     }
     for die in 0..plan.top.dies.min(MAX_DIES) {
-        tell_one(alloc, said, plan, die)?;
+        put_one(alloc, said, plan, die)?;
     }
     Ok(())
 }
 
-/// Tells what a text's plan comes to, or the fault of the text. The only refusal is NoMemory.
-fn tell_plan(alloc: Global, said: &mut Sayings, plan: &[u8]) -> Result<(), Refusal>
+/// Writes what a text's plan comes to, or the fault of the text. The only refusal is NoMemory.
+fn put_plan(alloc: Global, said: &mut Sayings, plan: &[u8]) -> Result<(), Refusal>
     ensures { FailsForMemory result }
 {
     match plan_numbers(alloc, plan) {
-        Ok(numbers) => tell_numbers(alloc, said, &numbers),
+        Ok(numbers) => put_numbers(alloc, said, &numbers),
         Err(Refusal::PlanText { cause }) => {
-            match tell_cause(alloc, &mut said.faults, plan, cause) {
+            match put_cause(alloc, &mut said.faults, plan, cause) {
                 Ok(()) => Ok(()),
                 Err(_) => Err(Refusal::NoMemory),
             }
@@ -163,9 +163,9 @@ pub fn explain(alloc: Global, plan: &[u8]) -> Result<Explained, Refusal>
     ensures refused { FailsForMemory result }
 {
     let mut text = Vec::new(alloc);
-    let is_accepted = tell_verdict(alloc, &mut text, plan)?;
+    let is_accepted = put_verdict(alloc, &mut text, plan)?;
     let mut said = Sayings::new(alloc);
-    tell_plan(alloc, &mut said, plan)?;
+    put_plan(alloc, &mut said, plan)?;
     put_said(&mut text, &said)?;
     Ok(Explained { text, is_accepted })
 }

@@ -19,8 +19,8 @@ struct Limited {
     most: u32,
 }
 
-/// Tells a number that is out of its limits.
-fn tell_between(text: &mut Vec<u8>, of: Subject, number: Limited) -> io::Result<()> {
+/// Writes a number that is out of its limits.
+fn put_between(text: &mut Vec<u8>, of: Subject, number: Limited) -> io::Result<()> {
     let (key, value) = (number.key, number.value);
     if number.least <= value && value <= number.most {
         return Ok(());
@@ -29,10 +29,10 @@ fn tell_between(text: &mut Vec<u8>, of: Subject, number: Limited) -> io::Result<
     writeln!(text, "{of}: {key} is {value}, and has to be {range}.")
 }
 
-/// Tells the limits of numbers that are out of them.
-fn tell_each(text: &mut Vec<u8>, of: Subject, numbers: &[Limited]) -> io::Result<()> {
+/// Writes the limits of numbers that are out of them.
+fn put_each(text: &mut Vec<u8>, of: Subject, numbers: &[Limited]) -> io::Result<()> {
     for number in numbers {
-        tell_between(text, of, *number)?;
+        put_between(text, of, *number)?;
     }
     Ok(())
 }
@@ -47,19 +47,19 @@ fn with_limits(key: &'static str, value: u32, least: u32, most: u32) -> Limited 
     }
 }
 
-/// Tells what of the dies' number and shape is out of its limits.
-pub fn tell_shape(text: &mut Vec<u8>, top: &TopNumbers) -> io::Result<()> {
+/// Writes what of the dies' number and shape is out of its limits.
+pub fn put_shape(text: &mut Vec<u8>, top: &TopNumbers) -> io::Result<()> {
     let numbers = [
         with_limits("dies", top.dies, 1, MAX_DIES),
         with_limits("blocks", top.blocks, MIN_BLOCKS, MAX_BLOCKS),
         with_limits("pages", top.pages, MIN_PAGES, MAX_PAGES),
         with_limits("erase_slots", top.erase_slots, 1, MAX_ERASE_SLOTS),
     ];
-    tell_each(text, Subject::Plan, &numbers)
+    put_each(text, Subject::Plan, &numbers)
 }
 
-/// Tells tasks whose die isn't there, by their places in the text, the first being 1.
-pub fn tell_strays(text: &mut Vec<u8>, tasks: &[TaskNumbers], dies: u32) -> io::Result<()> {
+/// Writes tasks whose die isn't there, by their places in the text, the first being 1.
+pub fn put_strays(text: &mut Vec<u8>, tasks: &[TaskNumbers], dies: u32) -> io::Result<()> {
     for place in 0..tasks.len() {
         let die = tasks[place].die;
         if dies <= die {
@@ -74,17 +74,17 @@ pub fn tell_strays(text: &mut Vec<u8>, tasks: &[TaskNumbers], dies: u32) -> io::
     Ok(())
 }
 
-/// Tells caps that are 0.
-fn tell_caps(text: &mut Vec<u8>, names: &[TaskName], caps: &[u32]) -> io::Result<()> {
+/// Writes caps that are 0.
+fn put_caps(text: &mut Vec<u8>, names: &[TaskName], caps: &[u32]) -> io::Result<()> {
     for task in 0..caps.len().min(names.len()) {
         let cap = with_limits("cap", caps[task], 1, u32::MAX);
-        tell_between(text, Subject::Task(names[task]), cap)?;
+        put_between(text, Subject::Task(names[task]), cap)?;
     }
     Ok(())
 }
 
-/// Tells more writes than operations.
-fn tell_writes(text: &mut Vec<u8>, of: Subject, task: &TaskTimes) -> io::Result<()> {
+/// Writes more writes than operations.
+fn put_writes(text: &mut Vec<u8>, of: Subject, task: &TaskTimes) -> io::Result<()> {
     let (writes, work) = (task.writes, task.work);
     if writes <= work {
         return Ok(());
@@ -95,30 +95,30 @@ fn tell_writes(text: &mut Vec<u8>, of: Subject, task: &TaskTimes) -> io::Result<
     )
 }
 
-/// Tells what of a task's times is out of its limits.
-fn tell_task_times(text: &mut Vec<u8>, of: Subject, task: &TaskTimes) -> io::Result<()> {
+/// Writes what of a task's times is out of its limits.
+fn put_task_times(text: &mut Vec<u8>, of: Subject, task: &TaskTimes) -> io::Result<()> {
     let numbers = [
         with_limits("period", task.period, 1, MAX_SLOT),
         with_limits("collect_period", task.collect_period, 1, MAX_SLOT),
         with_limits("work", task.work, 1, MAX_OPS),
     ];
-    tell_each(text, of, &numbers)?;
-    tell_writes(text, of, task)
+    put_each(text, of, &numbers)?;
+    put_writes(text, of, task)
 }
 
-/// Tells what of a die's times is out of its limits.
-fn tell_times(text: &mut Vec<u8>, die: u32, names: &[TaskName], times: &Times) -> io::Result<()> {
+/// Writes what of a die's times is out of its limits.
+fn put_times(text: &mut Vec<u8>, die: u32, names: &[TaskName], times: &Times) -> io::Result<()> {
     let common = with_limits("common", times.common, 1, MAX_SLOT);
-    tell_between(text, Subject::Die(die), common)?;
+    put_between(text, Subject::Die(die), common)?;
     let tasks = times.tasks.as_slice();
     for task in 0..tasks.len().min(names.len()) {
-        tell_task_times(text, Subject::Task(names[task]), &tasks[task])?;
+        put_task_times(text, Subject::Task(names[task]), &tasks[task])?;
     }
     Ok(())
 }
 
-/// Tells how many tasks a die has, where it has none or too many.
-fn tell_tasks(text: &mut Vec<u8>, die: u32, tasks: usize) -> io::Result<()> {
+/// Writes how many tasks a die has, where it has none or too many.
+fn put_tasks(text: &mut Vec<u8>, die: u32, tasks: usize) -> io::Result<()> {
     if 1 <= tasks && tasks <= MAX_TASKS as usize {
         return Ok(());
     }
@@ -129,22 +129,22 @@ fn tell_tasks(text: &mut Vec<u8>, die: u32, tasks: usize) -> io::Result<()> {
     )
 }
 
-/// Tells what of a die's own numbers is out of its limits. Its shape is within its own. The names are those of its tasks.
-pub fn tell_die_limits(
+/// Writes what of a die's own numbers is out of its limits. Its shape is within its own. The names are those of its tasks.
+pub fn put_die_limits(
     text: &mut Vec<u8>,
     die: u32,
     names: &[TaskName],
     plan: &DiePlan,
 ) -> io::Result<()> {
-    tell_tasks(text, die, plan.caps.len())?;
+    put_tasks(text, die, plan.caps.len())?;
     let numbers = [
         with_limits("logical", plan.logical, 1, u32::MAX),
         with_limits("alpha", plan.alpha, 1, plan.shape.pages),
     ];
-    tell_each(text, Subject::Die(die), &numbers)?;
-    tell_caps(text, names, plan.caps.as_slice())?;
+    put_each(text, Subject::Die(die), &numbers)?;
+    put_caps(text, names, plan.caps.as_slice())?;
     match &plan.times {
-        Some(times) => tell_times(text, die, names, times),
+        Some(times) => put_times(text, die, names, times),
         None => Ok(()),
     }
 }

@@ -20,8 +20,8 @@ fn collection_work(plan: &DiePlan) -> u64 {
         .saturating_add(u64::from(plan.shape.erase_slots))
 }
 
-/// Tells how many slots a task's jobs and collections take, and gives their sum.
-fn tell_taken(
+/// Writes how many slots a task's jobs and collections take, and gives their sum.
+fn put_taken(
     text: &mut Vec<u8>,
     of: Subject,
     plan: &DiePlan,
@@ -37,8 +37,8 @@ fn tell_taken(
     Ok(jobs.saturating_add(collections))
 }
 
-/// Tells a period that doesn't divide the hyperperiod.
-fn tell_divides(
+/// Writes a period that doesn't divide the hyperperiod.
+fn put_divides(
     text: &mut Vec<u8>,
     of: Subject,
     name: &str,
@@ -63,8 +63,8 @@ struct Margin {
     need: u64,
 }
 
-/// Tells by how much one number is at least another, or how much is missing.
-fn tell_margin(said: &mut Sayings, of: Subject, margin: Margin) -> io::Result<()> {
+/// Writes by how much one number is at least another, or how much is missing.
+fn put_margin(said: &mut Sayings, of: Subject, margin: Margin) -> io::Result<()> {
     let Margin {
         has,
         have,
@@ -108,20 +108,20 @@ fn stock_of(alpha: u32, cap: u32, task: &TaskTimes) -> Margin {
     }
 }
 
-/// Tells how a task's collections keep up with its writes.
-fn tell_margins(
+/// Writes how a task's collections keep up with its writes.
+fn put_margins(
     said: &mut Sayings,
     of: Subject,
     alpha: u32,
     cap: u32,
     task: &TaskTimes,
 ) -> io::Result<()> {
-    tell_margin(said, of, gain_of(alpha, task))?;
-    tell_margin(said, of, stock_of(alpha, cap, task))
+    put_margin(said, of, gain_of(alpha, task))?;
+    put_margin(said, of, stock_of(alpha, cap, task))
 }
 
-/// Tells the demand of all tasks.
-fn tell_sum(said: &mut Sayings, of: Subject, demand: u64, common: u32) -> io::Result<()> {
+/// Writes the demand of all tasks.
+fn put_sum(said: &mut Sayings, of: Subject, demand: u64, common: u32) -> io::Result<()> {
     let common = u64::from(common);
     if demand <= common {
         let left = common - demand;
@@ -138,8 +138,8 @@ fn tell_sum(said: &mut Sayings, of: Subject, demand: u64, common: u32) -> io::Re
     }
 }
 
-/// Tells the periods that don't divide the hyperperiod, and the least one that all of them divide.
-fn tell_undivided(
+/// Writes the periods that don't divide the hyperperiod, and the least one that all of them divide.
+fn put_undivided(
     text: &mut Vec<u8>,
     die: u32,
     names: &[TaskName],
@@ -148,8 +148,8 @@ fn tell_undivided(
     let tasks = times.tasks.as_slice();
     for task in 0..tasks.len().min(names.len()) {
         let (of, own) = (Subject::Task(names[task]), tasks[task]);
-        tell_divides(text, of, "period", own.period, times.common)?;
-        tell_divides(text, of, "collect_period", own.collect_period, times.common)?;
+        put_divides(text, of, "period", own.period, times.common)?;
+        put_divides(text, of, "collect_period", own.collect_period, times.common)?;
     }
     let of = Subject::Die(die);
     match least_common(Periods::All, tasks) {
@@ -164,8 +164,8 @@ fn tell_undivided(
     }
 }
 
-/// Tells the demand of each task and of all of them, where all periods divide the hyperperiod.
-fn tell_divided(
+/// Writes the demand of each task and of all of them, where all periods divide the hyperperiod.
+fn put_divided(
     said: &mut Sayings,
     die: u32,
     names: &[TaskName],
@@ -176,14 +176,14 @@ fn tell_divided(
     let tasks = times.tasks.as_slice();
     for task in 0..tasks.len().min(names.len()) {
         let of = Subject::Task(names[task]);
-        let taken = tell_taken(&mut said.figures, of, plan, times.common, &tasks[task])?;
+        let taken = put_taken(&mut said.figures, of, plan, times.common, &tasks[task])?;
         demand = demand.saturating_add(taken);
     }
-    tell_sum(said, Subject::Die(die), demand, times.common)
+    put_sum(said, Subject::Die(die), demand, times.common)
 }
 
-/// Tells the margins of each task.
-fn tell_all_margins(
+/// Writes the margins of each task.
+fn put_all_margins(
     said: &mut Sayings,
     names: &[TaskName],
     plan: &DiePlan,
@@ -192,24 +192,24 @@ fn tell_all_margins(
     let (caps, tasks) = (plan.caps.as_slice(), times.tasks.as_slice());
     for task in 0..caps.len().min(tasks.len()).min(names.len()) {
         let of = Subject::Task(names[task]);
-        tell_margins(said, of, plan.alpha, caps[task], &tasks[task])?;
+        put_margins(said, of, plan.alpha, caps[task], &tasks[task])?;
     }
     Ok(())
 }
 
-/// Tells the demand of a die with times: where a period doesn't divide the hyperperiod, that, and no sums, which
+/// Writes the demand of a die with times: where a period doesn't divide the hyperperiod, that, and no sums, which
 /// would be false.
-pub fn tell_load(
+pub fn put_load(
     said: &mut Sayings,
     die: u32,
     names: &[TaskName],
     plan: &DiePlan,
     times: &Times,
 ) -> io::Result<()> {
-    tell_all_margins(said, names, plan, times)?;
+    put_all_margins(said, names, plan, times)?;
     if are_divisors(Periods::All, times.tasks.as_slice(), times.common) {
-        tell_divided(said, die, names, plan, times)
+        put_divided(said, die, names, plan, times)
     } else {
-        tell_undivided(&mut said.faults, die, names, times)
+        put_undivided(&mut said.faults, die, names, times)
     }
 }

@@ -86,7 +86,7 @@ fn put_work(text: &mut Vec<u8>, solves: TaskSolves) -> io::Result<()> {
     writeln!(text, ".")
 }
 
-/// Tells what each number of a task could be.
+/// Writes what each number of a task could be.
 fn put_task(text: &mut Vec<u8>, name: TaskName, solves: TaskSolves) -> io::Result<()> {
     let of = Subject::Task(name);
     write!(text, "{of}: one at a time, these would do: ")?;
@@ -96,7 +96,7 @@ fn put_task(text: &mut Vec<u8>, name: TaskName, solves: TaskSolves) -> io::Resul
     put_work(text, solves)
 }
 
-/// Tells the least hyperperiod that would do.
+/// Writes the least hyperperiod that would do.
 fn put_common(text: &mut Vec<u8>, die: u32, common: Option<u32>) -> io::Result<()> {
     let of = Subject::Die(die);
     match common {
@@ -120,7 +120,7 @@ fn load_with(plan: DiePlan, alpha: u32) -> Option<Load> {
     }
 }
 
-/// Tells an alpha that would do, with its demand.
+/// Writes an alpha that would do, with its demand.
 fn put_alpha(text: &mut Vec<u8>, die: u32, alpha: u32, load: Option<Load>) -> io::Result<()> {
     let of = Subject::Die(die);
     match load {
@@ -135,8 +135,8 @@ fn put_alpha(text: &mut Vec<u8>, die: u32, alpha: u32, load: Option<Load>) -> io
     }
 }
 
-/// Tells each alpha that would do. The only refusal is NoMemory.
-fn tell_alphas(text: &mut Vec<u8>, solver: &Solver<'_>, pages: u32) -> Result<(), Refusal>
+/// Writes each alpha that would do. The only refusal is NoMemory.
+fn put_alphas(text: &mut Vec<u8>, solver: &Solver<'_>, pages: u32) -> Result<(), Refusal>
     ensures { FailsForMemory result }
 {
     let mut from: u32 = 1;
@@ -154,8 +154,8 @@ fn tell_alphas(text: &mut Vec<u8>, solver: &Solver<'_>, pages: u32) -> Result<()
     Ok(())
 }
 
-/// Tells what each number of each task could be. The only refusal is NoMemory.
-fn tell_tasks(
+/// Writes what each number of each task could be. The only refusal is NoMemory.
+fn put_tasks(
     text: &mut Vec<u8>,
     solver: &Solver<'_>,
     names: &[TaskName],
@@ -173,9 +173,9 @@ fn tell_tasks(
     Ok(())
 }
 
-/// Tells what each number of a die with times could be, the rest being as it is: each that is reported is put to the
+/// Writes what each number of a die with times could be, the rest being as it is: each that is reported is put to the
 /// test, and so is each beyond it. The only refusal is NoMemory.
-pub fn tell_solves(
+pub fn put_solves(
     alloc: Global,
     text: &mut Vec<u8>,
     plan: &PlanNumbers,
@@ -192,6 +192,6 @@ pub fn tell_solves(
         Ok(()) => {}
         Err(_) => return Err(Refusal::NoMemory),
     }
-    tell_tasks(text, &solver, names, common)?;
-    tell_alphas(text, &solver, plan.top.pages)
+    put_tasks(text, &solver, names, common)?;
+    put_alphas(text, &solver, plan.top.pages)
 }

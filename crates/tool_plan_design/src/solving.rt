@@ -1,7 +1,7 @@
 //! The least and the greatest number with which a plan would do, the rest being as it is.
 
 ghost use Rattle.std.specs.Prelude.{◌≡◌, ◌↔◌, IsTrue};
-ghost use Rattle.tool_plan_design.specs.Numbers.{TellsGreatest, TellsLeast, WouldDo, with_number};
+ghost use Rattle.tool_plan_design.specs.Numbers.{FindsGreatest, FindsLeast, WouldDo, with_number};
 
 use crate::numbers::{Number, with_number, would_do};
 use slot_types::DiePlan;
@@ -9,7 +9,7 @@ use slot_types::DiePlan;
 /// The least number, of those from `from` to `to`, with which a plan meets its bound and passes its test, the rest being as
 /// it is; none where no such number would do. Each is put to the test. It takes any plan, and no memory.
 pub fn least(plan: DiePlan, which: Number, from: u32, to: u32) -> Option<u32>
-    ensures { TellsLeast which plan from to result }
+    ensures { FindsLeast which plan from to result }
 {
     let mut trial = plan;
     for n in from..=to {
@@ -24,7 +24,7 @@ pub fn least(plan: DiePlan, which: Number, from: u32, to: u32) -> Option<u32>
 /// The greatest number, of those from `from` to `to`, with which a plan meets its bound and passes its test, the rest being
 /// as it is; none where no such number would do. Each is put to the test. It takes any plan, and no memory.
 pub fn greatest(plan: DiePlan, which: Number, from: u32, to: u32) -> Option<u32>
-    ensures { TellsGreatest which plan from to result }
+    ensures { FindsGreatest which plan from to result }
 {
     if to < from {
         return None;

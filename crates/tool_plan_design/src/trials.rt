@@ -2,7 +2,7 @@
 
 ghost use Rattle.std.specs.Prelude.{◌≡◌, ◌↔◌, ◌≤◌, IsTrue};
 ghost use Rattle.plan_rules.specs.Bound.{MeetsBound};
-ghost use Rattle.tool_plan_design.specs.Trials.{TellsBlocks, TellsLogical, with_blocks};
+ghost use Rattle.tool_plan_design.specs.Trials.{FindsBlocks, FindsLogical, with_blocks};
 
 use plan_rules::{bound, figures};
 use slot_types::{DiePlan, MAX_BLOCKS, MIN_BLOCKS};
@@ -18,7 +18,7 @@ fn meets_with_blocks(plan: &mut DiePlan, blocks: u32) -> bool
 
 /// The first number of blocks with which a plan meets its bound; any number of blocks is left in it.
 fn first_that_meets(plan: &mut DiePlan) -> Option<u32>
-    ensures told { TellsBlocks plan.old result }
+    ensures found { FindsBlocks plan.old result }
     ensures plan { with_blocks plan.new plan.old.shape.blocks ≡ plan.old }
 {
     for blocks in MIN_BLOCKS..=MAX_BLOCKS {
@@ -32,7 +32,7 @@ fn first_that_meets(plan: &mut DiePlan) -> Option<u32>
 /// The least number of blocks with which a plan meets its bound, the rest being as it is; none where no number of them
 /// would do. Each is put to the test. It takes any plan, which is afterwards what it was, and no memory.
 pub fn least_blocks(plan: &mut DiePlan) -> Option<u32>
-    ensures told { TellsBlocks plan.old result }
+    ensures found { FindsBlocks plan.old result }
     ensures plan { plan.new ≡ plan.old }
 {
     let blocks = plan.shape.blocks;
@@ -44,7 +44,7 @@ pub fn least_blocks(plan: &mut DiePlan) -> Option<u32>
 /// The greatest number of logical pages with which a plan meets its bound, the rest being as it is; none where no number
 /// of them would do. It takes any plan, which is afterwards what it was, and no memory.
 pub fn greatest_logical(plan: &mut DiePlan) -> Option<u32>
-    ensures told { TellsLogical plan.old result }
+    ensures found { FindsLogical plan.old result }
     ensures plan { plan.new ≡ plan.old }
 {
     let logical = plan.logical;
