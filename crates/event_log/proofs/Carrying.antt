@@ -1,5 +1,5 @@
 -- What the runs of deeds of a log carried is what its notes carried.
-use Rattle.std.proofs.Common.{◌≡◌, ℕ, zero, suc, List, [], ◌∷◌, ◌++◌, Option, Some, None, refl, ap, sym, ◌∙◌, length}
+use Rattle.std.proofs.Common.{◌≡◌, ℕ, zero, suc, List, [], ◌∷◌, ◌++◌, Option, Some, None, refl, ap, sym, ◌∙◌, subst, length}
 use Rattle.std.proofs.Common.{reverse, take, get_or, append-nil, append_assoc, add-one, arith}
 use Rattle.std.specs.Prelude.{◌+◌, ◌<◌, ◌≤◌, replicate, Result, Ok, Err, IfOk}
 use Rattle.std.specs.List.{filter_map}
@@ -10,10 +10,11 @@ use Rattle.late_cert.specs.Schedule.{Slots}
 use Rattle.event_log.specs.declared.deeds.Deed.{Deed}
 use Rattle.event_log.specs.declared.runs.Run.{Run}
 use Rattle.event_log.specs.declared.waivers.Waiver.{Waiver}
-use Rattle.event_log.specs.Spread.{spread}
+use Rattle.event_log.specs.Spread.{spread, AreSome}
 use Rattle.event_log.specs.Notes.{notes_of}
 use Rattle.event_log.specs.SoundLog.{notes_in}
 use Rattle.event_log.specs.Slots.{slot_by, with_carried, carried_in}
+use Rattle.event_log.proofs.Spreading.{spread-push}
 
 -- Equal deeds
 
@@ -88,6 +89,37 @@ slots_passed rs i r before after h e before_is none after_is =
 pub slots_whole : (rs : List (Run Deed)) (i : ℕ) (slots : Slots) → length rs ≤ i → slots ≡ filter_map slot_by (spread (take i rs))
     → slots ≡ filter_map slot_by (spread rs)
 slots_whole rs i slots h is = is ∙ ap (λ (qs : List (Run Deed)). filter_map slot_by (spread qs)) (take_all i rs h)
+
+-- Run by run, from the last one back
+
+slots_before_last : (rs before : List (Run Deed)) (r : Run Deed) → rs ≡ before ++ r ∷ []
+    → filter_map slot_by (spread rs) ≡ filter_map slot_by (spread before) ++ filter_map slot_by (replicate r.count r.item)
+slots_before_last rs before r is =
+    ap (λ (qs : List (Run Deed)). filter_map slot_by (spread qs)) is
+    ∙ ap (λ (ds : List Deed). filter_map slot_by ds) (spread-push before r)
+    ∙ filter_map-append slot_by (spread before) (replicate r.count r.item)
+
+-- the last run is of slots
+pub slots_popped : (rs before : List (Run Deed)) (r : Run Deed) (k : Option ℕ) → rs ≡ before ++ r ∷ [] → slot_by r.item ≡ Some k
+    → filter_map slot_by (spread rs) ≡ filter_map slot_by (spread before) ++ replicate r.count k
+slots_popped rs before r k is some =
+    slots_before_last rs before r is
+    ∙ ap (λ ks. filter_map slot_by (spread before) ++ ks) (slots_repeat r.count r.item k some)
+
+-- the last run is of arrivals
+pub arrivals_popped : (rs before : List (Run Deed)) (r : Run Deed) → rs ≡ before ++ r ∷ [] → slot_by r.item ≡ None
+    → filter_map slot_by (spread before) ≡ filter_map slot_by (spread rs)
+arrivals_popped rs before r is none =
+    sym (slots_before_last rs before r is
+    ∙ ap (λ ks. filter_map slot_by (spread before) ++ ks) (arrivals_pass r.count r.item none)
+    ∙ append-nil (filter_map slot_by (spread before)))
+
+pub some_popped : (rs before : List (Run Deed)) (r : Run Deed) → rs ≡ before ++ r ∷ [] → AreSome rs → AreSome before × (0 < r.count)
+some_popped rs before r is some = split before (subst AreSome is some)
+  where
+    split : (qs : List (Run Deed)) → AreSome (qs ++ r ∷ []) → AreSome qs × (0 < r.count)
+    split [] h = (tt, h.0)
+    split (q ∷ qs) h = let rest = split qs h.1 in ((h.0, rest.0), rest.1)
 
 pub ok_as : (r : Result Slots Refusal) (xs ys : Slots) → xs ≡ ys → IfOk r (λ carried. carried ≡ xs) → IfOk r
     (λ carried. carried ≡ ys)

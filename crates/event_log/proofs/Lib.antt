@@ -3,3 +3,4 @@ pub mod Pushing
 pub mod Growing
 pub mod Counting
 pub mod Carrying
+pub mod Marking

@@ -16,7 +16,7 @@ use Rattle.event_log.specs.Waivers.{waiver_of}
 use Rattle.event_log.specs.Waivers.{waived_in, waived_at}
 use Rattle.event_log.specs.Notes.{Note, is_none, notes_of, waives_newest}
 use Rattle.event_log.specs.Stretches.{is_idle, alike_deeds, alike_notes, goes_on, new_stretches, stretches, is_some_number}
-use Rattle.event_log.specs.Stretches.{has_same_block, joins, kept_of, ErasesOneBlock}
+use Rattle.event_log.specs.Stretches.{has_same_block, joins, kept_of, ErasesOneBlock, stands_alone, newest_stands_alone}
 use Rattle.event_log.specs.SoundLog.{AreBefore, notes_in}
 
 -- The waivers of an event
@@ -184,11 +184,15 @@ pub same_some : (last : Option ℕ) (number : ℕ) → is_some_number last numbe
 same_some None number e = absurd (cc)
 same_some (Some n) number e = ap Some (sym (grind (arith, nat_tests)))
 
+pub first_of : (a b : Bool) → (a && b) ≡ true → a ≡ true
+first_of true b e = refl
+first_of false b e = absurd (cc)
+
 pub second_of : (a b : Bool) → (a && b) ≡ true → b ≡ true
 second_of true b e = e
 second_of false b e = absurd (cc)
 
--- An idle slot that goes on with the newest record
+-- What an event goes on with
 
 all_four : (a b c d : Bool) → (a && b && c && d) ≡ true → (a ≡ true) × (b ≡ true) × (c ≡ true) × (d ≡ true)
 all_four true true true true h = (refl, refl, refl, refl)
@@ -196,6 +200,37 @@ all_four false b c d h = absurd (cc)
 all_four true false c d h = absurd (cc)
 all_four true true false d h = absurd (cc)
 all_four true true true false h = absurd (cc)
+
+goes_on_alike_by : (deeds : List Deed) (callers : List ℕ) (waivers : List Waiver) (s : Note) (last : Option Deed) → last_of deeds ≡ last
+    → length callers ≡ length deeds → goes_on s (notes_in deeds callers waivers) ≡ true
+    → (d : Deed) × (last_of deeds ≡ Some d) × (alike_deeds s.deed d ≡ true)
+goes_on_alike_by deeds callers waivers s None last n on = absurd (false≢true (sym (goes_on_first deeds callers waivers s last) ∙ on))
+goes_on_alike_by deeds callers waivers s (Some d) last n on =
+    let who = last_with deeds callers d n last in
+    let ds = last_split deeds d last in
+    let cs = last_split callers who.0 who.1 in
+    let shown = newest_shown deeds ds.0 callers cs.0 waivers who.0 d ds.1 cs.1 in (
+      d,
+      last,
+      (all_four (s.caller == who.0) (is_none s.waived) (is_none (waived_at (length (reverse ds.0)) waivers)) (alike_deeds s.deed d)
+          (rw shown at on)).3,
+    )
+
+-- the newest deed is alike to that of an event that goes on with it
+pub goes_on_alike : (deeds : List Deed) (callers : List ℕ) (waivers : List Waiver) (s : Note) → length callers ≡ length deeds
+    → goes_on s (notes_in deeds callers waivers) ≡ true → (d : Deed) × (last_of deeds ≡ Some d) × (alike_deeds s.deed d ≡ true)
+goes_on_alike deeds callers waivers s n on = goes_on_alike_by deeds callers waivers s (last_of deeds) refl n on
+
+-- the newest event did the last deed
+pub newest_alone : (deeds : List Deed) (callers : List ℕ) (waivers : List Waiver) (d : Deed) → length callers ≡ length deeds
+    → last_of deeds ≡ Some d → newest_stands_alone (notes_in deeds callers waivers) ≡ true → stands_alone d ≡ true
+newest_alone deeds callers waivers d n last alone =
+    let who = last_with deeds callers d n last in
+    let ds = last_split deeds d last in
+    let cs = last_split callers who.0 who.1 in
+    rw (newest_shown deeds ds.0 callers cs.0 waivers who.0 d ds.1 cs.1) at alone
+
+-- An idle slot that goes on with the newest record
 
 idle_is : (d : Deed) → is_idle d ≡ true → d ≡ Idle
 idle_is Idle h = refl

@@ -1,10 +1,12 @@
 -- What is always true of the parts of a log.
-use Rattle.std.specs.Prelude.{◌≡◌, ℕ, ◌+◌, ◌<◌, ◌≤◌, Bool, List, length, reverse}
-use Rattle.std.specs.List.{AllByRecursion}
+use Rattle.std.specs.Prelude.{◌≡◌, ℕ, ◌+◌, ◌<◌, ◌≤◌, Bool, true, List, Some, length, reverse, take}
+use Rattle.std.specs.List.{AllByRecursion, filter_map}
 use Rattle.event_log.specs.declared.deeds.Deed.{Deed}
 use Rattle.event_log.specs.declared.waivers.Waiver.{Waiver}
 use Rattle.event_log.specs.Notes.{Note, notes_of, waives_newest}
-use Rattle.event_log.specs.Stretches.{stretches, kept_of}
+use Rattle.event_log.specs.Slots.{slot_by}
+use Rattle.event_log.specs.Spread.{last_of}
+use Rattle.event_log.specs.Stretches.{stretches, kept_of, stands_alone}
 
 -- the waivers are of events that were before this place
 abbrev pub AreBefore : ℕ → List Waiver → Type 0
@@ -21,6 +23,17 @@ pub record IsSoundLog (deeds : List Deed) (callers : List ℕ) (waivers : List W
   pub count_is : count ≡ stretches (notes_in deeds callers waivers)
   pub kept_is : kept ≡ kept_of (notes_in deeds callers waivers)
   pub waives_is : waives ≡ waives_newest (notes_in deeds callers waivers)
+
+-- how many of the first deeds were slots
+abbrev pub slots_before : ℕ → List Deed → ℕ
+slots_before marked deeds = length (filter_map slot_by (take marked deeds))
+
+-- the mark is within the deeds, and where it is their end, no later event counts as one record with the last; callers
+-- have none
+pub record IsMarked (deeds : List Deed) (marked callers_marked : ℕ) : Type 0 where
+  pub within : marked ≤ length deeds
+  pub alone : (d : Deed) → marked ≡ length deeds → last_of deeds ≡ Some d → stands_alone d ≡ true
+  pub no_callers : callers_marked ≡ 0
 
 -- the parts have the room that is promised
 pub record HasPromisedRoom (room waiver_room deeds_room callers_room waivers capacity : ℕ) : Type 0 where

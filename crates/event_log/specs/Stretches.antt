@@ -19,6 +19,16 @@ alike_deeds Idle other = is_idle other
 alike_deeds (EraseSlot n block) other = erases_for n other
 alike_deeds _ other = false
 
+-- no later event counts as one record with it
+abbrev pub stands_alone : Deed → Bool
+stands_alone Idle = false
+stands_alone (EraseSlot n block) = false
+stands_alone _ = true
+
+abbrev pub newest_stands_alone : List Note → Bool
+newest_stands_alone [] = false
+newest_stands_alone (s ∷ past) = stands_alone s.deed
+
 -- two successive slots that count as one record
 abbrev pub alike_notes : Note → Note → Bool
 alike_notes s t = (s.caller == t.caller) && is_none s.waived && is_none t.waived && alike_deeds s.deed t.deed

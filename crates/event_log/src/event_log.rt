@@ -1,15 +1,16 @@
 //! The log of a die, in parts.
 
-ghost use Rattle.std.specs.Prelude.{◌≡◌, ◌+◌, ◌<◌, ◌≤◌, ◌↔◌, ◌∷◌, ◌^◌, [], true, length, IsOk, OnOk, OnErr, IfOk};
+ghost use Rattle.std.specs.Prelude.{◌≡◌, ◌+◌, ◌<◌, ◌≤◌, ◌↔◌, ◌∷◌, ◌^◌, [], true, length, take, IsOk, OnOk, OnErr, IfOk};
 ghost use Rattle.slot_types.specs.Refusal.{FailsForMemory};
 ghost use Rattle.event_log.specs.Spread.{last_of};
 ghost use Rattle.event_log.specs.Notes.{Note};
 ghost use Rattle.event_log.specs.Slots.{carried_in};
-ghost use Rattle.event_log.specs.Stretches.{goes_on, new_stretches, stretches, kept_of, is_some_number};
+ghost use Rattle.event_log.specs.Stretches.{goes_on, new_stretches, stretches, kept_of, is_some_number, newest_stands_alone};
 
 use crate::carried::carried_by;
 use crate::deeds::Deed;
 use crate::runs::{Run, Runs};
+use crate::slots_back::SlotsBack;
 use crate::waivers::{Waiver, note_waivers};
 use late_cert::Carried;
 use slot_types::{Refusal, Waived};
@@ -20,8 +21,8 @@ use std::mem::size_of;
 /// The events of a die, kept small: equal neighbours once with their count, callers and waivers beside them, and no
 /// bytes.
 ///
-/// Contracts see the events one by one, the newest first, for how many more events and waivers there is room, and how many
-/// records of deeds are kept.
+/// Contracts see the events one by one, the newest first, for how many more events and waivers there is room, how many
+/// records of deeds are kept, and how many slots there were when the log was marked, 0 before that.
 #[derive(Drop)]
 pub struct EventLog {
     deeds: Runs<Deed>,
@@ -45,7 +46,7 @@ const _: () = prove!(size_of::<Run<u32>>() == 8);
 impl Model for EventLog {
     ghost use Rattle.std.specs.Prelude.{vec_len, vec_capacity};
     ghost use Rattle.event_log.specs.Notes.{Events};
-    ghost use Rattle.event_log.specs.SoundLog.{notes_in, IsSoundLog, HasPromisedRoom};
+    ghost use Rattle.event_log.specs.SoundLog.{notes_in, slots_before, IsSoundLog, HasPromisedRoom, IsMarked};
 
     ghost Value = { Events };
 
@@ -54,17 +55,19 @@ impl Model for EventLog {
       room = l.room;
       waiver_room = l.waiver_room;
       kept = l.deeds.kept;
+      marked = slots_before l.deeds.marked l.deeds.items;
     } };
 
     ghost invariant = { λ l.
         IsSoundLog l.deeds.items l.callers.items l.waivers.items l.len l.stretches l.deeds.kept l.waives
-        × HasPromisedRoom l.room l.waiver_room l.deeds.room l.callers.room (vec_len l.waivers) (vec_capacity l.waivers) };
+        × HasPromisedRoom l.room l.waiver_room l.deeds.room l.callers.room (vec_len l.waivers) (vec_capacity l.waivers)
+        × IsMarked l.deeds.items l.deeds.marked l.callers.marked };
 }
 
 impl EventLog {
     /// A log without events, and without room for any. It takes no memory.
     pub fn new(alloc: Global) -> EventLog
-        ensures { result ≡ record { notes = []; room = 0; waiver_room = 0; kept = 0 } }
+        ensures { result ≡ record { notes = []; room = 0; waiver_room = 0; kept = 0; marked = 0 } }
     {
         EventLog {
             deeds: Runs::new(alloc),
@@ -78,9 +81,10 @@ impl EventLog {
         }
     }
 
-    /// Takes all events away. The log keeps its memory, so there is room for at least as many more as before.
+    /// Takes all events and the mark away. The log keeps its memory, so there is room for at least as many more as before.
     pub fn clear(&mut self)
         ensures events { self.new.notes ≡ [] }
+        ensures marked { self.new.marked ≡ 0 }
         ensures room { self.old.room ≤ self.new.room }
         ensures waiver_room { self.old.waiver_room ≤ self.new.waiver_room }
     {
@@ -123,6 +127,22 @@ impl EventLog {
         carried_by(alloc, self.deeds.as_slice())
     }
 
+    /// Marks the log where it ends now, which is after an event that no later one counts as one record with.
+    pub fn mark(&mut self)
+        requires { newest_stands_alone self.old.notes ≡ true }
+        ensures { self.new ≡ record self.old { marked = length (carried_in self.old.notes) } }
+    {
+        self.deeds.mark();
+    }
+
+    /// What the slots before the mark carried, to be taken from the last one back: at once, however many came later.
+    pub fn before_mark(&self) -> SlotsBack<'_>
+        ensures slots { result ≡ take self.now.marked (carried_in self.now.notes) }
+        ensures len { length result ≡ self.now.marked }
+    {
+        SlotsBack::new(self.deeds.before_mark())
+    }
+
     /// Makes room for at least so many more events, and for so many more waivers with them, and never less than there
     /// was. Where there is that room already, this isn't refused. Refused with `NoMemory`, nothing changes.
     pub fn reserve(&mut self, events: usize, waivers: usize) -> Result<(), Refusal>
@@ -133,6 +153,7 @@ impl EventLog {
         ensures succeeds { events ≤ self.old.room → waivers ≤ self.old.waiver_room → IsOk result }
         ensures refused { FailsForMemory result }
         ensures events { self.new.notes ≡ self.old.notes }
+        ensures marked { self.new.marked ≡ self.old.marked }
         ensures err { OnErr result (self.new ≡ self.old) }
     {
         if events <= self.room && waivers <= self.waiver_room {
@@ -149,6 +170,7 @@ impl EventLog {
         ensures no_less_for_waivers { self.old.waiver_room ≤ self.new.waiver_room }
         ensures refused { FailsForMemory result }
         ensures events { self.new.notes ≡ self.old.notes }
+        ensures marked { self.new.marked ≡ self.old.marked }
         ensures err { OnErr result (self.new ≡ self.old) }
     {
         self.deeds.reserve(events)?;
@@ -184,6 +206,7 @@ impl EventLog {
             ≡ record { caller = caller; deed = deed; waived = waived.now } ∷ self.old.notes }
         ensures room { self.old.room ≡ self.new.room + 1 }
         ensures waiver_room { self.old.waiver_room ≡ self.new.waiver_room + length waived.now }
+        ensures marked { self.new.marked ≡ self.old.marked }
     {
         let same_deed = is_last_deed(&self.deeds, &deed);
         let same_caller = is_last_caller(&self.callers, caller);
@@ -208,6 +231,7 @@ impl EventLog {
             ≡ record { caller = caller; deed = Deed.Idle; waived = waived.now } ∷ self.old.notes }
         ensures room { self.old.room ≡ self.new.room + 1 }
         ensures waiver_room { self.old.waiver_room ≡ self.new.waiver_room + length waived.now }
+        ensures marked { self.new.marked ≡ self.old.marked }
     {
         if self.goes_on(caller, &Deed::Idle, waived) {
             self.deeds.push_reserved(Deed::Idle, true);

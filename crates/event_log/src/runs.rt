@@ -1,8 +1,8 @@
 //! A list in which equal neighbours are kept once, with their count.
 
-ghost use Rattle.std.specs.Prelude.{◌≡◌, ◌+◌, ◌<◌, ◌≤◌, ◌∷◌, ◌++◌, ◌^◌, [], true, length, IsOk, OnOk, OnErr, Some};
+ghost use Rattle.std.specs.Prelude.{◌≡◌, ◌+◌, ◌<◌, ◌≤◌, ◌∷◌, ◌++◌, ◌^◌, [], true, length, take, IsOk, OnOk, OnErr, Some};
 ghost use Rattle.slot_types.specs.Refusal.{FailsForMemory};
-ghost use Rattle.event_log.specs.Spread.{spread, last_of};
+ghost use Rattle.event_log.specs.Spread.{spread, last_of, AreSome};
 ghost use Rattle.event_log.specs.Stretches.{new_stretches};
 
 use slot_types::Refusal;
@@ -16,15 +16,17 @@ pub(crate) struct Run<T> {
     pub(crate) count: u32,
 }
 
-/// A list that grows at its end. Contracts see its items one by one, for how many more there is room at least, and in how
-/// many runs it keeps them.
+/// A list that grows at its end. Contracts see its items one by one, for how many more there is room at least, in how many
+/// runs it keeps them, and how many items there were when it was marked, 0 before that.
 #[derive(Drop)]
 pub struct Runs<T> {
     runs: Vec<Run<T>>,
+    /// How many runs there were when it was marked.
+    marked: usize,
 }
 
 impl<T> Model for Runs<T> {
-    ghost use Rattle.std.specs.Prelude.{◌-◌, vec_len, vec_capacity};
+    ghost use Rattle.std.specs.Prelude.{◌-◌, ◌≤◌, length, take, vec_len, vec_capacity};
     ghost use Rattle.event_log.specs.Spread.{Spread, spread, AreSome};
 
     ghost Value = { Spread T };
@@ -33,9 +35,10 @@ impl<T> Model for Runs<T> {
       items = spread r.runs.items;
       room = vec_capacity r.runs - vec_len r.runs;
       kept = vec_len r.runs;
+      marked = length (spread (take r.marked r.runs.items));
     } };
 
-    ghost invariant = { λ r. AreSome r.runs.items };
+    ghost invariant = { λ r. AreSome r.runs.items × (r.marked ≤ vec_len r.runs) };
 }
 
 impl<T> Runs<T> {
@@ -43,9 +46,11 @@ impl<T> Runs<T> {
     pub fn new(alloc: Global) -> Runs<T>
         ensures items { result.items ≡ [] }
         ensures kept { result.kept ≡ 0 }
+        ensures marked { result.marked ≡ 0 }
     {
         Runs {
             runs: Vec::new(alloc),
+            marked: 0,
         }
     }
 
@@ -56,6 +61,7 @@ impl<T> Runs<T> {
         ensures refused { FailsForMemory result }
         ensures items { self.new.items ≡ self.old.items }
         ensures kept { self.new.kept ≡ self.old.kept }
+        ensures marked { self.new.marked ≡ self.old.marked }
         ensures room { self.old.room ≤ self.new.room }
         ensures succeeds { count ≤ self.old.room → IsOk result }
         ensures err { OnErr result (self.new ≡ self.old) }
@@ -66,13 +72,15 @@ impl<T> Runs<T> {
 }
 
 impl<T: Drop> Runs<T> {
-    /// Takes all items away. The list keeps its memory.
+    /// Takes all items and the mark away. The list keeps its memory.
     pub fn clear(&mut self)
         ensures items { self.new.items ≡ [] }
         ensures kept { self.new.kept ≡ 0 }
+        ensures marked { self.new.marked ≡ 0 }
         ensures room { self.old.room ≤ self.new.room }
     {
         self.runs.clear();
+        self.marked = 0;
     }
 }
 
@@ -91,11 +99,26 @@ impl<T> Runs<T> {
         self.runs.len()
     }
 
+    /// Marks the list where it ends now. Until it is cleared, no item after the mark is added to the run before it.
+    pub fn mark(&mut self)
+        ensures { self.new ≡ record self.old { marked = length self.old.items } }
+    {
+        self.marked = self.runs.len();
+    }
+
     /// The runs, in order.
     pub(crate) fn as_slice(&self) -> &[Run<T>]
         ensures { spread result.now ≡ self.now.items }
     {
         self.runs.as_slice()
+    }
+
+    /// The runs before the mark, in order.
+    pub(crate) fn before_mark(&self) -> &[Run<T>]
+        ensures items { spread result.now ≡ take self.now.marked self.now.items }
+        ensures some { AreSome result.now }
+    {
+        &self.runs.as_slice()[..self.marked]
     }
 }
 
@@ -116,8 +139,10 @@ impl<T: Copy> Runs<T> {
         requires room { 0 < self.old.room }
         requires few { length self.old.items + 1 < 2 ^ 32 }
         requires like { is_like_last ≡ true → last_of self.old.items ≡ Some item }
+        requires unmarked { is_like_last ≡ true → self.old.marked < length self.old.items }
         ensures items { self.new.items ≡ self.old.items ++ item ∷ [] }
         ensures kept { self.new.kept ≡ new_stretches is_like_last + self.old.kept }
+        ensures marked { self.new.marked ≡ self.old.marked }
         ensures room { self.old.room ≤ self.new.room + 1 }
     {
         if is_like_last {

@@ -1,7 +1,7 @@
 //! The jobs and collections of a die by number.
 
 ghost use Rattle.std.specs.Prelude.{◌≡◌, ◌<◌, ◌≤◌, ◌+◌, ◌^◌, ◌==◌, List, true, false, length, slice_get, OnOk, IfOk, OnErr, IfSome};
-ghost use Rattle.std.specs.Prelude.{IfNone};
+ghost use Rattle.std.specs.Prelude.{IfNone, IsTrue, ◌↔◌};
 ghost use Rattle.std.specs.List.{list_all};
 ghost use Rattle.slot_types.specs.Refusal.{FailsForMemory};
 ghost use Rattle.job_table.specs.Words.{has_word};
@@ -148,6 +148,16 @@ impl JobTable {
         match self.worst {
             Some(number) => Some((JobNo(number), self.jobs.at(JobNo(number)).lateness())),
             None => None,
+        }
+    }
+
+    /// Whether this is the worst, which [`worst`](JobTable::worst) answers.
+    pub fn is_worst(&self, number: JobNo) -> bool
+        ensures { IsTrue result ↔ IsWorst self.now.jobs number }
+    {
+        match self.worst {
+            Some(worst) => worst == number.0,
+            None => false,
         }
     }
 

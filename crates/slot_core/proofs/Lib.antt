@@ -30,6 +30,8 @@ pub mod Adding
 pub mod Worsts
 pub mod Rowing
 pub mod Certifying
+pub mod Marks
+pub mod BusyIntervals
 pub mod Planning
 pub mod Accepting
 pub mod Fitting

@@ -7,9 +7,7 @@ use Rattle.std.proofs.lemmas.Bool.{true≢false, false_from_ne_true}
 use Rattle.std.proofs.lemmas.Bool.Decides.{nat_tests}
 use Rattle.std.proofs.lemmas.Int.{ints}
 use Rattle.std.proofs.lemmas.Option.{same_Some}
-use Rattle.slot_types.specs.declared.plans.DiePlan.{DiePlan}
 use Rattle.slot_types.specs.declared.replies.Waived.{Waived}
-use Rattle.plan_rules.specs.Bound.{MeetsBound}
 use Rattle.late_cert.specs.Rows.{is_done_in}
 use Rattle.job_table.specs.declared.stages.Stage.TheVariants as stages
 use Rattle.job_table.specs.Jobs.{JobRecord}
@@ -128,7 +126,7 @@ not_worse c d n c' d' n' latest first least = by_late (nat_le (c' + d) (c + d'))
     by_late false e = earlier_is c d n c' d' n' (no_later c d c' d' latest) e
 
 -- the worst of the log is the worst of its records
-worst_record : (start : Start) (log : Log) (j : Job) → IsOpening start → IsExact start log → worst start.plan log ≡ Some j
+pub worst_record : (start : Start) (log : Log) (j : Job) → IsOpening start → IsExact start log → worst start.plan log ≡ Some j
     → table.IsWorst (job_records start log) j.number
 worst_record start log j bound exact is = record {
   worst = record_with start log (waived_collections log) j;

@@ -47,6 +47,7 @@ fn enter_job(
     ensures refused { FailsForMemory result }
     ensures table_stays { OnErr result (table.new ≡ table.old) }
     ensures log_stays { OnErr result (events.new.notes ≡ events.old.notes) }
+    ensures marked { events.new.marked ≡ events.old.marked }
     ensures reserved { reserved ≤ events.new.room }
     ensures waiver_room { events.old.waiver_room ≤ events.new.waiver_room }
 {
@@ -81,6 +82,7 @@ fn enter_collection(
     ensures refused { FailsForMemory result }
     ensures table_stays { OnErr result (table.new ≡ table.old) }
     ensures log_stays { OnErr result (events.new.notes ≡ events.old.notes) }
+    ensures marked { events.new.marked ≡ events.old.marked }
     ensures reserved { reserved ≤ events.new.room }
     ensures waiver_room { OnOk result (table.old.tasks ≤ events.new.waiver_room) }
     ensures waiver_room_stays { events.old.waiver_room ≤ events.new.waiver_room }

@@ -30,7 +30,8 @@ pub struct DieCore<N: Nand> {
     pub(crate) volume: Volume<N>,
     /// The jobs and collections, with what the log says of each.
     pub(crate) table: JobTable,
-    /// The log, as what each call did. With the table it stands for the entries that contracts see.
+    /// The log, as what each call did, marked where the worst was done. With the table it stands for the entries that
+    /// contracts see.
     pub(crate) events: EventLog,
     /// The present slot.
     pub(crate) present: u32,
@@ -44,6 +45,7 @@ impl<N: Nand> Model for DieCore<N> {
     ghost use Rattle.slot_core.specs.Core.{Core};
     ghost use Rattle.slot_core.specs.TableLog.{log_of, TellsLog};
     ghost use Rattle.slot_core.specs.ReservedSlots.{HasReservedRoom};
+    ghost use Rattle.slot_core.specs.MarkedWorst.{MarksWorst};
     ghost use Rattle.slot_core.specs.Device.{flash_of};
     ghost use Rattle.die_log.specs.Model.Start.{over};
 
@@ -59,7 +61,8 @@ impl<N: Nand> Model for DieCore<N> {
 
     ghost invariant = { λ c.
         TellsLog (over c.volume.accounts.plan c.start) c.present c.table c.events.notes c.volume.failed (flash_of N.blocks c.volume)
-        × HasReservedRoom c.reserved c.table.jobs c.events.room c.events.waiver_room };
+        × HasReservedRoom c.reserved c.table.jobs c.events.room c.events.waiver_room
+        × MarksWorst c.table.jobs c.events.marked };
 }
 
 impl<N: Nand> DieCore<N> {

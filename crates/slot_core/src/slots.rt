@@ -19,10 +19,11 @@ ghost use Rattle.slot_core.specs.Agreement.{AgreeWithLog};
 ghost use Rattle.slot_core.specs.TableLog.{log_of};
 ghost use Rattle.slot_core.specs.WithinSlot.{InSlot, IsHeadInSlot, idle_reply};
 ghost use Rattle.slot_core.specs.ReservedSlots.{open_collections};
+ghost use Rattle.slot_core.specs.MarkedWorst.{MarksWorst};
 
 use crate::die_core::DieCore;
 use crate::head_steps::{begin, take_step};
-use crate::notes::{deed_of, finished, new_reply, note_step};
+use crate::notes::{deed_of, finished, log_step, new_reply, note_step};
 use crate::slot_note::SlotNote;
 use event_log::{Deed, EventLog};
 use flash_die::Nand;
@@ -100,6 +101,7 @@ fn carry_out<N: Nand>(
     requires kept { AgreeWithLog (over volume.old.accounts.plan from.0) from.1 present table.old
         volume.old.failed (flash_of N.blocks volume.old) }
     requires unfilled { reply.old ≡ idle_reply present [] }
+    requires marked { MarksWorst table.old.jobs events.old.marked }
     ensures kept { OnOk result
         (AgreeWithLog (over volume.new.accounts.plan from.0) (log_of table.new events.new.notes)
         (present + 1) table.new volume.new.failed
@@ -120,6 +122,7 @@ fn carry_out<N: Nand>(
     ensures room { events.old.room ≤ events.new.room + 1 }
     ensures waiver_room { open_collections table.new.jobs ≤ events.new.waiver_room }
     ensures room_stays { OnErr result (events.new.room ≡ events.old.room) }
+    ensures marked { MarksWorst table.new.jobs events.new.marked }
     ensures calls { MakesCall N.ends N.failures
         (needed_call (over volume.old.accounts.plan from.0) from.1) result volume.old.device
         volume.new.device }
@@ -139,9 +142,9 @@ fn carry_out<N: Nand>(
             Err(refusal)
         }
         Ok(turn) => {
-            note_step(table, number, turn, present + 1);
+            let is_worst = note_step(table, number, turn, present + 1);
             let deed = deed_of(number, place, turn);
-            events.push_reserved(caller, deed, reply.waived.as_slice());
+            log_step(events, caller, deed, reply.waived.as_slice(), is_worst);
             reply.ran = Some((number, turn.act));
             reply.finished = finished(number, turn.last);
             Ok(())

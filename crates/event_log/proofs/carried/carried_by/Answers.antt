@@ -1,4 +1,4 @@
-use Rattle.std.proofs.Common.{ap, sym, ◌∙◌}
+use Rattle.std.proofs.Common.{sym, ◌∙◌}
 use Rattle.event_log.proofs.Carrying.{slots_added, slots_passed, slots_whole}
 use Rattle.event_log.proofs.carried.carried_by.Goals as goal
 use Rattle.event_log.proofs.carried.carried_by.Goals.{in-Some+in_ok-push_run-in-Some, in-None}

@@ -1,8 +1,9 @@
-use Rattle.std.proofs.Common.{◌≡◌, ◌+◌, ◌∷◌, [], ap, sym, ◌∙◌, length, arith, length-append}
+use Rattle.std.proofs.Common.{◌+◌, ◌∷◌, [], ap, sym, ◌∙◌, length, arith, length-append}
 use Rattle.event_log.specs.declared.deeds.Deed.TheVariants.{Idle}
 use Rattle.event_log.specs.Notes.{Events}
 use Rattle.event_log.specs.SoundLog.{notes_in}
-use Rattle.event_log.proofs.Pushing.{GoesOnIdle, idle_goes_on, idle_push, stretches_push, joins_idle, length_of, before_later}
+use Rattle.event_log.proofs.Pushing.{idle_goes_on, idle_push, stretches_push, joins_idle, length_of, before_later}
+use Rattle.event_log.proofs.Marking.{goes_on_unmarked, some_caller, slots-push, still_marked}
 use Rattle.event_log.proofs.event_log.EventLog.push_idle.Goals as goal
 
 pub push_reserved-requires-clause-few : goal.push_reserved-requires-clause-few
@@ -34,6 +35,18 @@ push_reserved-requires-then-goes_on-clause-few c =
 pub push_reserved-requires-then-goes_on-clause-like : goal.push_reserved-requires-then-goes_on-clause-like
 push_reserved-requires-then-goes_on-clause-like c =
     λ _. (idle_goes_on c.self.inside.deeds.items c.self.inside.callers.items c.self.inside.waivers.items c.args.caller c.args.waived.now
+    c.self.invariant.0.callers_are (rw (← c.self.view_is) at (sym c.goes_on.ensures ∙ c.if-goes_on.true))).same
+
+pub push_reserved-requires-clause-unmarked : goal.push_reserved-requires-clause-unmarked
+push_reserved-requires-clause-unmarked c =
+    λ _. goes_on_unmarked c.self.inside.deeds.items c.self.inside.callers.items c.self.inside.waivers.items
+    (record { caller = c.args.caller; deed = Idle; waived = c.args.waived.now }) c.self.inside.deeds.marked c.self.inside.callers.marked c.self.invariant.0.callers_are c.self.invariant.2
+    (rw (← c.self.view_is) at (sym c.goes_on.ensures ∙ c.if-goes_on.true))
+
+pub push_reserved-requires-then-goes_on-clause-unmarked : goal.push_reserved-requires-then-goes_on-clause-unmarked
+push_reserved-requires-then-goes_on-clause-unmarked c =
+    λ _. some_caller c.self.inside.callers.items c.args.caller c.self.inside.callers.marked c.self.invariant.2.no_callers
+    (idle_goes_on c.self.inside.deeds.items c.self.inside.callers.items c.self.inside.waivers.items c.args.caller c.args.waived.now
     c.self.invariant.0.callers_are (rw (← c.self.view_is) at (sym c.goes_on.ensures ∙ c.if-goes_on.true))).same
 
 pub overflow_add-self : goal.overflow_add-self
@@ -93,7 +106,14 @@ invariant_of-self c =
         callers = omega (arith, c.self.invariant.1.callers, c.push_reserved-then-goes_on.ensures.room);
         waivers_fit = c.self.invariant.1.waivers_fit;
       },
+      rw (c.push_reserved.ensures.items, c.push_reserved.ensures.marked, c.push_reserved-then-goes_on.ensures.marked)
+          (still_marked c.self.inside.deeds.items c.self.inside.deeds.marked c.self.inside.callers.marked Idle c.self.invariant.2),
     )
+
+pub returns-then-goes_on-clause-marked : goal.returns-then-goes_on-clause-marked
+returns-then-goes_on-clause-marked c =
+    rw (c.push_reserved.ensures.items, c.push_reserved.ensures.marked, ← c.self.view_is)
+    (slots-push c.self.inside.deeds.marked c.self.inside.deeds.items Idle c.self.invariant.2.within)
 
 pub returns-then-goes_on-clause-events : goal.returns-then-goes_on-clause-events
 returns-then-goes_on-clause-events c =

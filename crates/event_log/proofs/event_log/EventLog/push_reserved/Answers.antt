@@ -3,6 +3,8 @@ use Rattle.event_log.specs.Notes.{Events}
 use Rattle.event_log.specs.SoundLog.{notes_in}
 use Rattle.event_log.specs.Stretches.{new_stretches, kept_of}
 use Rattle.event_log.proofs.Pushing.{notes_push, stretches_push, joins_is, few_stretches, length_of, before_push, is_none_is, same_some, second_of}
+use Rattle.event_log.proofs.Pushing.{first_of}
+use Rattle.event_log.proofs.Marking.{goes_on_unmarked, some_caller, slots-push, still_marked}
 use Rattle.event_log.proofs.event_log.EventLog.push_reserved.Goals as goal
 
 pub stretches_with-self-inside-requires : goal.stretches_with-self-inside-requires
@@ -43,6 +45,18 @@ push_reserved-requires-2-clause-few c =
 
 pub push_reserved-requires-2-clause-like : goal.push_reserved-requires-2-clause-like
 push_reserved-requires-2-clause-like c = λ same. same_some _ c.args.caller (sym c.is_last_caller-same_caller.ensures ∙ same)
+
+pub push_reserved-requires-clause-unmarked : goal.push_reserved-requires-clause-unmarked
+push_reserved-requires-clause-unmarked c =
+    λ both. goes_on_unmarked c.self.inside.deeds.items c.self.inside.callers.items c.self.inside.waivers.items _ c.self.inside.deeds.marked
+    c.self.inside.callers.marked c.self.invariant.0.callers_are c.self.invariant.2
+    (rw (← c.self.view_is) at (sym c.goes_on-goes_on.ensures
+    ∙ first_of c.goes_on-goes_on.result c.is_last_deed-same_deed.result both))
+
+pub push_reserved-requires-2-clause-unmarked : goal.push_reserved-requires-2-clause-unmarked
+push_reserved-requires-2-clause-unmarked c =
+    λ same. some_caller c.self.inside.callers.items c.args.caller c.self.inside.callers.marked c.self.invariant.2.no_callers
+    (same_some _ c.args.caller (sym c.is_last_caller-same_caller.ensures ∙ same))
 
 pub overflow_add-self : goal.overflow_add-self
 overflow_add-self c =
@@ -115,7 +129,14 @@ invariant_of-self c =
         callers = omega (arith, c.self.invariant.1.callers, c.push_reserved-2.ensures.room);
         waivers_fit = omega (arith, c.self.invariant.1.waivers_fit, c.note_waivers.ensures.len, c.note_waivers.ensures.capacity);
       },
+      rw (c.push_reserved.ensures.items, c.push_reserved.ensures.marked, c.push_reserved-2.ensures.marked)
+          (still_marked c.self.inside.deeds.items c.self.inside.deeds.marked c.self.inside.callers.marked c.args.deed c.self.invariant.2),
     )
+
+pub returns-clause-marked : goal.returns-clause-marked
+returns-clause-marked c =
+    rw (c.push_reserved.ensures.items, c.push_reserved.ensures.marked, ← c.self.view_is)
+    (slots-push c.self.inside.deeds.marked c.self.inside.deeds.items c.args.deed c.self.invariant.2.within)
 
 pub returns-clause-events : goal.returns-clause-events
 returns-clause-events c =

@@ -17,7 +17,7 @@ returns-then-is_like_last-clause-items g c =
     let same : spread c.self.inside.runs.items ≡ c.args.self.now.items = ap (λ (s : Spread _). s.items) c.self.view_is in
     let some = some_run c.self.inside.runs.items c.args.item (rw same (c.requires.like c.if-is_like_last.true)) in
     let last = last_run c.self.inside.runs.items (c.len-last.result - 1) c.index_mut.result.now
-    (omega (arith, c.self.inside.runs.ok.0, some)) c.self.invariant c.index_mut.ensures.value in
+    (omega (arith, c.self.inside.runs.ok.0, some)) c.self.invariant.0 c.index_mut.ensures.value in
     let like : last_of (spread c.self.inside.runs.items) ≡ Some c.args.item = rw same (c.requires.like c.if-is_like_last.true) in
     let item : c.index_mut.result.now.item ≡ c.args.item = same_Some _ _ (sym last ∙ like) in
     spread-longer c.self.inside.runs.items (c.len-last.result - 1) c.index_mut.result.now (omega (arith, c.self.inside.runs.ok.0, some))

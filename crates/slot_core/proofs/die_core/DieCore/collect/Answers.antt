@@ -10,8 +10,9 @@ use Rattle.slot_core.proofs.Keeping.{collecting_is, may_collect, collect_answere
 use Rattle.slot_core.specs.TableLog.{log_of}
 use Rattle.slot_core.proofs.Reserving.{collect_room}
 use Rattle.slot_core.proofs.Telling.{collect_enters, collect_logged, few_told}
+use Rattle.slot_core.proofs.Marks.{marks_collect}
 use Rattle.slot_core.proofs.die_core.DieCore.collect.Goals as goal
-use Rattle.die_log.specs.Model.Start.{Start, over}
+use Rattle.die_log.specs.Model.Start.{over}
 
 pub returns-then-failed : goal.returns-then-failed
 returns-then-failed g c =
@@ -56,6 +57,9 @@ invariant_of-self g c =
             c.enter_collection.ensures.waiver_room c.enter_collection.ensures.table_stays c.self.invariant.1.waivers
             c.enter_collection.ensures.waiver_room_stays;
       },
+      marks_collect c.enter_collection.result c.self.inside.table c.enter_collection.new.table c.args.task c.args.release c.args.due
+          c.self.inside.events.marked c.enter_collection.new.events.marked c.enter_collection.ensures.table
+          c.enter_collection.ensures.table_stays c.enter_collection.ensures.marked c.self.invariant.2,
     )
 
 pub enter_collection-requires-clause-few_events : goal.enter_collection-requires-clause-few_events

@@ -6,6 +6,7 @@ use Rattle.job_table.specs.Table.{Table, empty_table}
 use Rattle.slot_core.specs.TableLog.{log_of}
 use Rattle.slot_core.specs.ReservedSlots.{open_collections}
 use Rattle.slot_core.proofs.Keeping.{keeps_start, err_where, bound_refusal, same_shape}
+use Rattle.slot_core.proofs.Marks.{marks_none}
 use Rattle.slot_core.proofs.die_core.DieCore.new.Goals as goal
 
 pub returns-in_err-bound-clause-refused : goal.returns-in_err-bound-clause-refused
@@ -24,6 +25,7 @@ invariant_of-result g c =
         fits = rw c.new-3.ensures tt;
       },
       record { slots = omega arith; waivers = omega (arith, ap (λ (t : Table). open_collections t.jobs) c.in_ok-table.ensures.ok) },
+      rw (c.in_ok-table.ensures.ok, c.new-3.ensures) marks_none,
     )
 
 pub returns-clause-bad_plan : goal.returns-clause-bad_plan

@@ -4,6 +4,7 @@ use Rattle.slot_core.specs.TableLog.{log_of}
 use Rattle.slot_core.specs.ReservedSlots.{open_collections}
 use Rattle.slot_core.proofs.Keeping.{same_shape}
 use Rattle.slot_core.proofs.Resuming.{keeps_resumed}
+use Rattle.slot_core.proofs.Marks.{marks_none}
 use Rattle.slot_core.proofs.die_core.DieCore.resume.Goals as goal
 
 pub invariant_of-result : goal.invariant_of-result
@@ -18,4 +19,5 @@ invariant_of-result g c =
         fits = rw c.new-in-Ok-resume.ensures tt;
       },
       record { slots = omega arith; waivers = omega (arith, ap (λ (t : Table). open_collections t.jobs) c.in-Ok-new.ensures.ok) },
+      rw (c.in-Ok-new.ensures.ok, c.new-in-Ok-resume.ensures) marks_none,
     )

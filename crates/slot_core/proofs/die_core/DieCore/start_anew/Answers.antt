@@ -1,11 +1,11 @@
-use Rattle.std.proofs.Common.{◌≡◌, length, refl, false, sym, subst, ◌∙◌, ap, arith}
-use Rattle.slot_types.specs.declared.plans.DiePlan.{DiePlan}
+use Rattle.std.proofs.Common.{◌≡◌, refl, false, sym, subst, ◌∙◌, ap, arith}
 use Rattle.job_table.specs.Table.{Table, empty_table}
 use Rattle.die_log.specs.Model.Opening.{IsQuiet, CanBeErased, renewed_start}
 use Rattle.slot_core.specs.Core.{Core}
 use Rattle.slot_core.specs.TableLog.{log_of}
 use Rattle.slot_core.specs.ReservedSlots.{open_collections}
 use Rattle.slot_core.proofs.Renewing.{renewed_kept}
+use Rattle.slot_core.proofs.Marks.{marks_none}
 use Rattle.slot_core.proofs.die_core.DieCore.start_anew.Goals as goal
 
 pub invariant_of-self : goal.invariant_of-self
@@ -23,4 +23,5 @@ invariant_of-self g c =
         fits = rw c.clear-2.ensures.events tt;
       },
       record { slots = omega (arith, c.self.invariant.1.slots, c.clear-2.ensures.room); waivers = omega (arith, ap (λ (t : Table). open_collections t.jobs) c.clear.ensures) },
+      rw (c.clear.ensures, c.clear-2.ensures.marked) marks_none,
     )

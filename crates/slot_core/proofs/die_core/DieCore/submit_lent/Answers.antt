@@ -1,7 +1,6 @@
 use Rattle.std.proofs.Common.{◌≡◌, refl, sym, ◌∙◌, ap, None, arith, rules}
 use Rattle.std.proofs.lemmas.Grind.{common_steps}
 use Rattle.slot_types.specs.declared.events.Event.TheVariants.{Submit}
-use Rattle.slot_types.specs.Operations.{writes}
 use Rattle.die_log.specs.Model.Answers.{refusal_of}
 use Rattle.die_log.proofs.Legality.{refused_answer}
 use Rattle.slot_core.specs.Core.{Core}
@@ -13,8 +12,10 @@ use Rattle.slot_core.specs.ReservedSlots.{open_collections}
 use Rattle.slot_core.proofs.Reserving.{open_job}
 use Rattle.slot_core.proofs.Fitting.{accepted_few, accepted_words}
 use Rattle.slot_core.proofs.Telling.{submit_tells, few_told}
+use Rattle.job_table.specs.Jobs.{new_job}
+use Rattle.slot_core.proofs.Marks.{marks_push}
 use Rattle.slot_core.proofs.die_core.DieCore.submit_lent.Goals as goal
-use Rattle.die_log.specs.Model.Start.{Start, over}
+use Rattle.die_log.specs.Model.Start.{over}
 
 pub returns-then-failed : goal.returns-then-failed
 returns-then-failed g c =
@@ -67,6 +68,8 @@ invariant_of-self-in-Ok g c =
           open_job f.table.jobs c.args.task c.args.release c.args.due c.args.ops.now,
         );
       },
+      rw (c.in-Ok.ensures.table, c.in-Ok.ensures.marked) (marks_push f.table.jobs
+          (new_job c.args.task c.args.release c.args.due c.args.ops.now) f.events.marked refl c.self.invariant.2),
     )
 
 pub enter_job-requires-clause-few_ops : goal.enter_job-requires-clause-few_ops
