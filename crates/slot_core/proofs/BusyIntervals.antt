@@ -161,7 +161,7 @@ deduped xs ys zs moved sorted once =
 
 -- The walk
 
--- the slots that are left come first; of those behind them, down to start, each is within, and these numbers were carried
+-- the slots that are left come first; of those after them, down to start, each is within, and these numbers were carried
 pub record IsWalked (rows : List JobRow) (whole left : Slots) (j n start : ℕ) (numbers : List ℕ) : Type 0 where
   pub rest : Slots
   pub whole_is : whole ≡ left ++ rest
