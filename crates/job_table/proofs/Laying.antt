@@ -1,5 +1,5 @@
 -- Rows over arenas, when one of them changes, or one is added.
-use Rattle.std.proofs.Common.{◌≡◌, ◌≢◌, ℕ, zero, suc, ◌+◌, ◌-◌, ◌^◌, ◌<◌, ◌≤◌, true, false, refl, sym, ap, ◌∙◌, arith, List, [], ◌∷◌, ◌++◌}
+use Rattle.std.proofs.Common.{◌≡◌, ◌≢◌, ℕ, zero, suc, ◌+◌, ◌-◌, ◌^◌, ◌<◌, ◌≤◌, Bool, true, false, refl, sym, ap, ◌∙◌, arith, List, [], ◌∷◌, ◌++◌}
 use Rattle.std.proofs.Common.{length, take, drop, set, map, get_or, slice_get, Option, Some, option_map, count_by, length-append, ◌⊎◌, inl}
 use Rattle.std.proofs.Common.{inr, ◌==◌, cond, sum_by}
 use Rattle.std.proofs.Math.Seq.{take-append_seam, drop-append_seam}
@@ -9,12 +9,15 @@ use Rattle.std.proofs.lemmas.List.Sums.{sum_by-append, sum_by-cons, sum_by-set, 
 use Rattle.std.proofs.lemmas.Option.{slice_get_within, slice_get_read, slice_get-map, get_or_from_slice_get}
 use Rattle.slot_types.specs.declared.events.Op.{Op}
 use Rattle.slot_types.specs.declared.pages.PageData.{PageData}
+use Rattle.slot_types.specs.Operations.{is_write, writes}
 use Rattle.job_table.specs.declared.rows.Row.{Row}
 use Rattle.job_table.specs.Jobs.{JobRecord, is_read, is_some_read, new_record, with_one_more_slot, with_read}
 use Rattle.job_table.specs.Table.{changed_at, reads_next_at, reads_next_of}
-use Rattle.job_table.specs.Flat.{ops_at, reads_at, job_at, jobs_at, read_count, place_count, places_lacking, place_from, IsRowOf, IsRowIn, AreLaid}
+use Rattle.job_table.specs.Flat.{ops_at, reads_at, job_at, jobs_at, place_count, places_lacking, place_from, IsRowOf, IsRowIn, AreLaid}
 use Rattle.job_table.specs.Flat.{HasFewOps, HaveRoom}
-use Rattle.job_table.proofs.Reading.{read_of, one_more, has_read, lacks_all, lacks_none, done_placed, reads_there, next_of_all}
+use Rattle.job_table.specs.Words.{is_some_write}
+use Rattle.job_table.proofs.Reading.{one_if, read_of, write_of, no_write, done_more, has_read, lacks_all, lacks_none, done_placed, reads_there}
+use Rattle.job_table.proofs.Reading.{next_of_all}
 
 -- Lists of rows
 
@@ -120,18 +123,21 @@ abbrev pub after_read : Row → ℕ → Row
 after_read row from = record row { first_place = from; reads_done = row.reads_done + 1; work = row.work + 1 }
 
 -- one that took a slot more, and no read of its own
-pub row_carried : (ops : List Op) (row : Row) → is_some_read (slice_get (ops_at ops row) row.work) ≡ false → IsRowOf ops row
-    → IsRowOf ops (record row { work = row.work + 1 })
-row_carried ops row next fits = record {
+pub row_carried : (ops : List Op) (row : Row) (count : ℕ) → is_some_read (slice_get (ops_at ops row) row.work) ≡ false
+    → count ≡ cond (is_some_write (slice_get (ops_at ops row) row.work)) 1 0 → IsRowOf ops row
+    → IsRowOf ops (record row { writes_done = row.writes_done + count; work = row.work + 1 })
+row_carried ops row count next is fits = record {
   ops_there = fits.ops_there;
   ops_few = fits.ops_few;
-  first_read_is = fits.first_read_is;
+  first_write_is = fits.first_write_is;
+  read_count_is = fits.read_count_is;
   reads_done_is =
-      let more = one_more (ops_at ops row) row.work false next in
-      let done = fits.reads_done_is in
-      let on : suc row.work ≡ row.work + 1 = omega arith in
-      let same = ap (λ (n : ℕ). count_by is_read (take n (ops_at ops row))) on in
-      omega arith;
+      let more = done_more is_read ops row row.reads_done false (read_of (slice_get (ops_at ops row) row.work) ∙ next) fits.reads_done_is in
+      omega (arith, more);
+  writes_done_is =
+      let more = done_more is_write ops row row.writes_done (is_some_write (slice_get (ops_at ops row) row.work))
+      (write_of (slice_get (ops_at ops row) row.work)) fits.writes_done_is in
+      omega (arith, more, is);
 }
 
 -- one that took a slot more, in which it read
@@ -140,13 +146,12 @@ row_read_more : (ops : List Op) (row : Row) (from : ℕ) → is_some_read (slice
 row_read_more ops row from next fits = record {
   ops_there = fits.ops_there;
   ops_few = fits.ops_few;
-  first_read_is = fits.first_read_is;
-  reads_done_is =
-      let more = one_more (ops_at ops row) row.work true next in
-      let done = fits.reads_done_is in
-      let on : suc row.work ≡ row.work + 1 = omega arith in
-      let same = ap (λ (n : ℕ). count_by is_read (take n (ops_at ops row))) on in
-      omega arith;
+  first_write_is = fits.first_write_is;
+  read_count_is = fits.read_count_is;
+  reads_done_is = done_more is_read ops row row.reads_done true (read_of (slice_get (ops_at ops row) row.work) ∙ next) fits.reads_done_is;
+  writes_done_is =
+      let more = done_more is_write ops row row.writes_done false (no_write (slice_get (ops_at ops row) row.work) next) fits.writes_done_is in
+      omega (arith, more);
 }
 
 -- the jobs after a row changed beside its reads
@@ -160,7 +165,7 @@ jobs_set rows ops reads n row next change at_n is = map_changed (job_at ops read
 laid_set : (rows : List Row) (ops : List Op) (reads reads' : List PageData) (n : ℕ) (row next : Row) → slice_get rows n ≡ Some row
     → next.first_op ≡ row.first_op → next.op_count ≡ row.op_count → IsRowIn ops reads' next → length reads ≤ length reads'
     → ((m : ℕ) (other : Row) → slice_get rows m ≡ Some other → m ≢ n
-    → (next.first_place + place_count ops next ≤ other.first_place) ⊎ (other.first_place + place_count ops other ≤ next.first_place))
+    → (next.first_place + place_count next ≤ other.first_place) ⊎ (other.first_place + place_count other ≤ next.first_place))
     → AreLaid rows ops reads → AreLaid (set rows n next) ops reads'
 laid_set rows ops reads reads' n row next e first count fits longer free laid = record {
   each = λ m other at_m. elim (set_cases rows n next m other at_m) [
@@ -195,7 +200,7 @@ laid_set rows ops reads reads' n row next e first count fits longer free laid = 
 -- .. where it keeps its places as well
 pub laid_kept : (rows : List Row) (ops : List Op) (reads : List PageData) (n : ℕ) (row next : Row) → slice_get rows n ≡ Some row
     → next.first_op ≡ row.first_op → next.op_count ≡ row.op_count → next.first_place ≡ row.first_place
-    → place_count ops next ≡ place_count ops row
+    → place_count next ≡ place_count row
     → IsRowOf ops next → AreLaid rows ops reads → AreLaid (set rows n next) ops reads
 laid_kept rows ops reads n row next e first count place same fits laid =
     laid_set rows ops reads reads n row next e first count
@@ -205,13 +210,13 @@ laid_kept rows ops reads n row next e first count place same fits laid =
 
 -- there is room as before where the places that a row lacks no longer have been made
 room_set : (rows : List Row) (ops : List Op) (reads reads' : List PageData) (all capacity n : ℕ) (row next : Row)
-    → slice_get rows n ≡ Some row → length reads' + places_lacking ops next ≡ length reads + places_lacking ops row
+    → slice_get rows n ≡ Some row → length reads' + places_lacking next ≡ length reads + places_lacking row
     → HaveRoom rows ops reads all capacity → HaveRoom (set rows n next) ops reads' all capacity
 room_set rows ops reads reads' all capacity n row next e made room = record {
   all_is = room.all_is;
   places =
-      let sum = sum_by-set (places_lacking ops) rows n next row (slice_get_within rows n row e) in
-      let old = ap (places_lacking ops) (get_or_from_slice_get rows n row row e) in
+      let sum = sum_by-set places_lacking rows n next row (slice_get_within rows n row e) in
+      let old = ap places_lacking (get_or_from_slice_get rows n row row e) in
       let before = room.places in
       omega arith;
   room = room.room;
@@ -219,17 +224,17 @@ room_set rows ops reads reads' all capacity n row next e made room = record {
 
 -- .. where it lacks as many as before
 pub room_kept : (rows : List Row) (ops : List Op) (reads : List PageData) (all capacity n : ℕ) (row next : Row)
-    → slice_get rows n ≡ Some row → places_lacking ops next ≡ places_lacking ops row
+    → slice_get rows n ≡ Some row → places_lacking next ≡ places_lacking row
     → HaveRoom rows ops reads all capacity → HaveRoom (set rows n next) ops reads all capacity
 room_kept rows ops reads all capacity n row next e same room =
     room_set rows ops reads reads all capacity n row next e (ap (λ (k : ℕ). length reads + k) same) room
 
 -- a row has as much room as it lacks places
 pub row_room : (rows : List Row) (ops : List Op) (reads : List PageData) (all capacity n : ℕ) (row : Row)
-    → slice_get rows n ≡ Some row → HaveRoom rows ops reads all capacity → length reads + places_lacking ops row ≤ all
+    → slice_get rows n ≡ Some row → HaveRoom rows ops reads all capacity → length reads + places_lacking row ≤ all
 row_room rows ops reads all capacity n row e room =
-    let one = get_or-le-sum_by (places_lacking ops) rows n row (slice_get_within rows n row e) in
-    let same = ap (places_lacking ops) (get_or_from_slice_get rows n row row e) in
+    let one = get_or-le-sum_by places_lacking rows n row (slice_get_within rows n row e) in
+    let same = ap places_lacking (get_or_from_slice_get rows n row row e) in
     let places = room.places in
     omega arith
 
@@ -244,18 +249,18 @@ cut xs ys from count within =
 
 -- from here on it has one for each of its reads, with the bytes of those that it carried, and apart from those of all others
 pub record IsMade (rows : List Row) (ops : List Op) (reads more : List PageData) (n : ℕ) (row : Row) (from : ℕ) : Type 0 where
-  pub there : from + read_count ops row ≤ length (reads ++ more)
+  pub there : from + row.read_count ≤ length (reads ++ more)
   pub own : take row.reads_done (drop from (reads ++ more)) ≡ reads_at reads row
   pub apart : (m : ℕ) (other : Row) → slice_get rows m ≡ Some other → m ≢ n
-      → (from + read_count ops row ≤ other.first_place) ⊎ (other.first_place + place_count ops other ≤ from)
+      → (from + row.read_count ≤ other.first_place) ⊎ (other.first_place + place_count other ≤ from)
 
 -- .. where those that it lacks are made after all others
 pub made : (rows : List Row) (ops : List Op) (reads more : List PageData) (n len : ℕ) (row : Row) → slice_get rows n ≡ Some row
-    → len ≡ length reads → length more ≡ places_lacking ops row → AreLaid rows ops reads
+    → len ≡ length reads → length more ≡ places_lacking row → AreLaid rows ops reads
     → IsMade rows ops reads more n row (place_from len row)
 made rows ops reads more n len row e end count laid = elim (has_read row) [
   | inl none ↦
-      let lacks = lacks_all ops row none in
+      let lacks = lacks_all row none in
       let all = lacks.lacks in
       let from = lacks.from len in
       record {
@@ -265,7 +270,7 @@ made rows ops reads more n len row e end count laid = elim (has_read row) [
         apart = λ m other at_m differs. inr (let there = (laid.each m other at_m).places_there in omega arith);
       }
   | inr some ↦
-      let lacks = lacks_none ops row some in
+      let lacks = lacks_none row some in
       let placed = lacks.placed in
       let from = lacks.from len in
       let in_table = laid.each n row e in
@@ -316,19 +321,19 @@ laid_read rows ops reads more n row from bytes reading laid made =
     (λ m other at_m differs. elim (made.apart m other at_m differs)
     [ inl h ↦ inl (omega (arith, placed)) | inr h ↦ inr (omega arith) ]) laid
   where
-    placed : place_count ops (after_read row from) ≡ read_count ops row
-    placed = (lacks_none ops (after_read row from) (omega arith)).placed
+    placed : place_count (after_read row from) ≡ row.read_count
+    placed = (lacks_none (after_read row from) (omega arith)).placed
 
     longer : length (set (reads ++ more) (from + row.reads_done) bytes) ≡ length (reads ++ more)
     longer = length-set (reads ++ more) (from + row.reads_done) bytes
 
 pub room_read : (rows : List Row) (ops : List Op) (reads more : List PageData) (all capacity n : ℕ) (row : Row) (from : ℕ)
     (bytes : PageData)
-    → slice_get rows n ≡ Some row → length more ≡ places_lacking ops row → HaveRoom rows ops reads all capacity
+    → slice_get rows n ≡ Some row → length more ≡ places_lacking row → HaveRoom rows ops reads all capacity
     → HaveRoom (set rows n (after_read row from)) ops (set (reads ++ more) (from + row.reads_done) bytes) all capacity
 room_read rows ops reads more all capacity n row from bytes e count room =
     room_set rows ops reads (set (reads ++ more) (from + row.reads_done) bytes) all capacity n row (after_read row from) e
-    (let none = (lacks_none ops (after_read row from) (omega arith)).lacks in
+    (let none = (lacks_none (after_read row from) (omega arith)).lacks in
     omega (arith, length-set (reads ++ more) (from + row.reads_done) bytes, length-append reads more)) room
 
 -- the jobs after a read of one of them gave its bytes
@@ -365,47 +370,35 @@ row_stays : (ops more : List Op) (row : Row) → IsRowOf ops row → IsRowOf (op
 row_stays ops more row fits = record {
   ops_there = let h = fits.ops_there in omega (arith, length-append ops more);
   ops_few = fits.ops_few;
-  first_read_is = fits.first_read_is ∙ sym (ap (count_by is_read)
+  first_write_is = fits.first_write_is ∙ sym (ap writes
       (take-append-le row.first_op ops more (let h = fits.ops_there in omega arith)));
-  reads_done_is =
-      fits.reads_done_is ∙ sym (ap (λ (l : List Op). count_by is_read (take row.work l)) (ops_stay ops more row fits.ops_there));
+  read_count_is = fits.read_count_is ∙ sym (ap (count_by is_read) stay);
+  reads_done_is = fits.reads_done_is ∙ sym (ap (λ (l : List Op). count_by is_read (take row.work l)) stay);
+  writes_done_is = fits.writes_done_is ∙ sym (ap (λ (l : List Op). writes (take row.work l)) stay);
 }
-
--- it has as many places as before, and lacks as many
-places_stay : (ops more : List Op) (row : Row) → row.first_op + row.op_count ≤ length ops
-    → place_count (ops ++ more) row ≡ place_count ops row
-places_stay ops more row there =
-    ap (λ (l : List Op). cond (row.reads_done == 0) 0 (count_by is_read l)) (ops_stay ops more row there)
-
-lacks_stay : (ops more : List Op) (row : Row) → row.first_op + row.op_count ≤ length ops → places_lacking (ops ++ more) row ≡ places_lacking ops row
-lacks_stay ops more row there =
-    ap (λ (l : List Op). cond (row.reads_done == 0) (count_by is_read l) 0) (ops_stay ops more row there)
-
-sum_same : (f g : Row → ℕ) (rows : List Row) → ((n : ℕ) (row : Row) → slice_get rows n ≡ Some row → g row ≡ f row)
-    → sum_by g rows ≡ sum_by f rows
-sum_same f g [] same = refl
-sum_same f g (row ∷ rows) same =
-    let first = same 0 row refl in
-    let rest = sum_same f g rows (λ n other e. same (suc n) other e) in
-    omega (arith, sum_by-cons f row rows, sum_by-cons g row rows)
+  where
+    stay : ops_at (ops ++ more) row ≡ ops_at ops row
+    stay = ops_stay ops more row fits.ops_there
 
 -- a row that begins after all others
-pub record IsBegun (row : Row) (ops : List Op) (count : ℕ) : Type 0 where
+pub record IsBegun (row : Row) (ops more : List Op) : Type 0 where
   pub first_op_is : row.first_op ≡ length ops
-  pub op_count_is : row.op_count ≡ count
-  pub op_count_few : row.op_count < 2 ^ 16
-  pub first_read_is : row.first_read ≡ count_by is_read ops
+  pub op_count_is : row.op_count ≡ length more
+  pub op_count_few : row.op_count < 2 ^ 8
+  pub first_write_is : row.first_write ≡ writes ops
   pub first_place_is : row.first_place ≡ 0
+  pub read_count_is : row.read_count ≡ count_by is_read more
   pub reads_done_is : row.reads_done ≡ 0
+  pub writes_done_is : row.writes_done ≡ 0
   pub work_is : row.work ≡ 0
 
-begun_ops : (ops more : List Op) (row : Row) → IsBegun row ops (length more) → ops_at (ops ++ more) row ≡ more
+begun_ops : (ops more : List Op) (row : Row) → IsBegun row ops more → ops_at (ops ++ more) row ≡ more
 begun_ops ops more row begun =
     ap (λ (n : ℕ). take row.op_count (drop n (ops ++ more))) begun.first_op_is
     ∙ ap (take row.op_count) (drop-append_seam ops more)
     ∙ take_all row.op_count more (let h = begun.op_count_is in omega arith)
 
-pub laid_push : (rows : List Row) (ops more : List Op) (reads : List PageData) (row : Row) → IsBegun row ops (length more)
+pub laid_push : (rows : List Row) (ops more : List Op) (reads : List PageData) (row : Row) → IsBegun row ops more
     → AreLaid rows ops reads → AreLaid (rows ++ row ∷ []) (ops ++ more) reads
 laid_push rows ops more reads row begun laid = record {
   each = λ n other at_n. elim (push_cases rows row n other at_n) [ inl h ↦ old_row n other h | inr h ↦ rw (sym h.1) new_row ];
@@ -423,30 +416,34 @@ laid_push rows ops more reads row begun laid = record {
   ];
   places_apart = λ n m one other at_n at_m differs. elim (push_cases rows row n one at_n) [
     | inl h ↦ elim (push_cases rows row m other at_m) [
-      | inl g ↦
-          rw (places_stay ops more one (laid.each n one h).fits.ops_there)
-          (rw (places_stay ops more other (laid.each m other g).fits.ops_there) (laid.places_apart n m one other h g differs))
+      | inl g ↦ laid.places_apart n m one other h g differs
       | inr g ↦ rw (sym g.1) (inr (omega (arith, new_ends)))
     ]
     | inr h ↦ rw (sym h.1) (inl (omega (arith, new_ends)))
   ];
 }
   where
-    new_ends : row.first_place + place_count (ops ++ more) row ≡ 0
+    new_ends : row.first_place + place_count row ≡ 0
     new_ends =
-        let placed = (lacks_all (ops ++ more) row begun.reads_done_is).placed in
+        let placed = (lacks_all row begun.reads_done_is).placed in
         let first = begun.first_place_is in
         omega arith
+
+    -- it carried nothing yet
+    none : (p : Op → Bool) → count_by p (take row.work (ops_at (ops ++ more) row)) ≡ 0
+    none p = ap (λ (n : ℕ). count_by p (take n (ops_at (ops ++ more) row))) begun.work_is
 
     new_row : IsRowIn (ops ++ more) reads row
     new_row = record {
       fits = record {
         ops_there = let a = begun.first_op_is in let b = begun.op_count_is in omega (arith, length-append ops more);
         ops_few = begun.op_count_few;
-        first_read_is = begun.first_read_is
-            ∙ sym (ap (λ (n : ℕ). count_by is_read (take n (ops ++ more))) begun.first_op_is
-            ∙ ap (count_by is_read) (take-append_seam ops more));
-        reads_done_is = begun.reads_done_is ∙ sym (ap (λ (n : ℕ). count_by is_read (take n (ops_at (ops ++ more) row))) begun.work_is);
+        first_write_is = begun.first_write_is
+            ∙ sym (ap (λ (n : ℕ). writes (take n (ops ++ more))) begun.first_op_is
+            ∙ ap writes (take-append_seam ops more));
+        read_count_is = begun.read_count_is ∙ sym (ap (count_by is_read) (begun_ops ops more row begun));
+        reads_done_is = begun.reads_done_is ∙ sym (none is_read);
+        writes_done_is = begun.writes_done_is ∙ sym (none is_write);
       };
       places_there = omega (arith, new_ends);
     }
@@ -454,28 +451,23 @@ laid_push rows ops more reads row begun laid = record {
     old_row : (n : ℕ) (other : Row) → slice_get rows n ≡ Some other → IsRowIn (ops ++ more) reads other
     old_row n other at_n =
         let old = laid.each n other at_n in
-        record {
-          fits = row_stays ops more other old.fits;
-          places_there = let there = old.places_there in omega (arith, places_stay ops more other old.fits.ops_there);
-        }
+        record { fits = row_stays ops more other old.fits; places_there = old.places_there }
 
 -- room for the reads of all jobs and for its own
 pub room_push : (rows : List Row) (ops more : List Op) (reads : List PageData) (all all' capacity capacity' : ℕ) (row : Row)
-    → IsBegun row ops (length more) → all' ≡ all + count_by is_read more → all' ≤ capacity' → AreLaid rows ops reads
+    → IsBegun row ops more → all' ≡ all + count_by is_read more → all' ≤ capacity'
     → HaveRoom rows ops reads all capacity → HaveRoom (rows ++ row ∷ []) (ops ++ more) reads all' capacity'
-room_push rows ops more reads all all' capacity capacity' row begun count_is fits laid room = record {
-  all_is = let old = room.all_is in omega (arith, sum_by-append read_of ops more);
+room_push rows ops more reads all all' capacity capacity' row begun count_is fits room = record {
+  all_is = let old = room.all_is in omega (arith, count_is, sum_by-append (one_if is_read) ops more);
   places =
-      let old = sum_same (places_lacking ops) (places_lacking (ops ++ more)) rows
-      (λ n other at_n. lacks_stay ops more other (laid.each n other at_n).fits.ops_there) in
-      let new = (lacks_all (ops ++ more) row begun.reads_done_is).lacks ∙ ap (count_by is_read) (begun_ops ops more row begun) in
+      let new = (lacks_all row begun.reads_done_is).lacks ∙ begun.read_count_is in
       let before = room.places in
-      omega (arith, sum_by_push (places_lacking (ops ++ more)) rows row);
+      omega (arith, count_is, sum_by_push places_lacking rows row);
   room = fits;
 }
 
 -- the jobs with it
-pub jobs_pushed : (rows : List Row) (ops more : List Op) (reads : List PageData) (row : Row) → IsBegun row ops (length more)
+pub jobs_pushed : (rows : List Row) (ops more : List Op) (reads : List PageData) (row : Row) → IsBegun row ops more
     → AreLaid rows ops reads
     → jobs_at (ops ++ more) reads (rows ++ row ∷ []) ≡ jobs_at ops reads rows
     ++ record (new_record row.collects row.task row.release row.due more) { stage = row.stage } ∷ []

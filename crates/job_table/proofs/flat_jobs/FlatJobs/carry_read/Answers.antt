@@ -1,29 +1,24 @@
-use Rattle.std.proofs.Common.{◌≡◌, ℕ, List, Some, length, replicate, vec_len, vec_capacity, rules, arith, ap, ◌∙◌}
+use Rattle.std.proofs.Common.{◌≡◌, ℕ, List, Some, true, slice_get, length, replicate, vec_len, vec_capacity, rules, arith, ap, ◌∙◌}
 use Rattle.std.proofs.lemmas.List.{length-replicate}
 use Rattle.slot_types.specs.declared.pages.PageData.{PageData}
 use Rattle.job_table.specs.declared.rows.Row.{Row}
-use Rattle.job_table.specs.Jobs.{JobRecord, with_one_more_slot, with_read}
+use Rattle.job_table.specs.Jobs.{JobRecord, is_read, with_one_more_slot, with_read}
 use Rattle.job_table.specs.Table.{changed_at, work_of}
 use Rattle.job_table.specs.Words.{blank}
-use Rattle.job_table.specs.Flat.{places_lacking, place_from}
-use Rattle.job_table.proofs.Reading.{next_few}
+use Rattle.job_table.specs.Flat.{ops_at, places_lacking, place_from}
+use Rattle.job_table.proofs.Reading.{read_of, next_few}
 use Rattle.job_table.proofs.Laying.{few_set, job_there, row_reading, made, place_there, laid_read, room_read, jobs_read}
 use Rattle.job_table.proofs.flat_jobs.FlatJobs.carry_read.Goals as goal
-
-pub make_places-requires-clause-ops : goal.make_places-requires-clause-ops
-make_places-requires-clause-ops c =
-    let row : Row = c.index_mut-row.result.now in
-    let reading = row_reading c.self.inside.rows.items c.self.inside.ops c.self.inside.reads.items c.args.self.now c.number.inside.0
-    c.args.number row c.self.view_is c.number.view_is c.requires.there c.index_mut-row.ensures.value c.requires.reads in
-    (c.self.invariant.0.each c.number.inside.0 row reading.there).fits.ops_there
 
 pub overflow_add-row : goal.overflow_add-row
 overflow_add-row c =
     let row : Row = c.index_mut-row.result.now in
     let reading = row_reading c.self.inside.rows.items c.self.inside.ops c.self.inside.reads.items c.args.self.now c.number.inside.0
     c.args.number row c.self.view_is c.number.view_is c.requires.there c.index_mut-row.ensures.value c.requires.reads in
-    let few = next_few c.self.inside.ops row (c.self.invariant.0.each c.number.inside.0 row reading.there).fits reading.next in
-    rw c.make_places.ensures.row (omega arith)
+    let fits = (c.self.invariant.0.each c.number.inside.0 row reading.there).fits in
+    let few = (next_few is_read c.self.inside.ops row row.reads_done true fits (read_of (slice_get (ops_at c.self.inside.ops row) row.work)
+    ∙ reading.next) fits.reads_done_is).1 in
+    rw c.make_places.ensures.row (omega (arith, few))
 
 pub overflow_add-row-2 : goal.overflow_add-row-2
 overflow_add-row-2 c =
@@ -41,9 +36,9 @@ index_mut-requires c =
     let reading = row_reading c.self.inside.rows.items c.self.inside.ops c.self.inside.reads.items c.args.self.now c.number.inside.0
     c.args.number row c.self.view_is c.number.view_is c.requires.there c.index_mut-row.ensures.value c.requires.reads in
     let whole : vec_len c.self.inside.reads ≡ length c.self.inside.reads.items = search rules in
-    let more : List PageData = replicate (places_lacking c.self.inside.ops row) blank in
+    let more : List PageData = replicate (places_lacking row) blank in
     let made = made c.self.inside.rows.items c.self.inside.ops c.self.inside.reads.items more c.number.inside.0
-    (vec_len c.self.inside.reads) row reading.there whole (length-replicate (places_lacking c.self.inside.ops row) blank) c.self.invariant.0 in
+    (vec_len c.self.inside.reads) row reading.there whole (length-replicate (places_lacking row) blank) c.self.invariant.0 in
     let from : ℕ = place_from (vec_len c.self.inside.reads) row in
     let there = place_there c.self.inside.rows.items c.self.inside.ops c.self.inside.reads.items more c.number.inside.0 row from reading
     c.self.invariant.0 made in
@@ -57,16 +52,16 @@ invariant_of-self c =
     let reading = row_reading c.self.inside.rows.items c.self.inside.ops c.self.inside.reads.items c.args.self.now c.number.inside.0
     c.args.number row c.self.view_is c.number.view_is c.requires.there c.index_mut-row.ensures.value c.requires.reads in
     let whole : vec_len c.self.inside.reads ≡ length c.self.inside.reads.items = search rules in
-    let more : List PageData = replicate (places_lacking c.self.inside.ops row) blank in
+    let more : List PageData = replicate (places_lacking row) blank in
     let made = made c.self.inside.rows.items c.self.inside.ops c.self.inside.reads.items more c.number.inside.0
-    (vec_len c.self.inside.reads) row reading.there whole (length-replicate (places_lacking c.self.inside.ops row) blank) c.self.invariant.0 in
+    (vec_len c.self.inside.reads) row reading.there whole (length-replicate (places_lacking row) blank) c.self.invariant.0 in
     let from : ℕ = place_from (vec_len c.self.inside.reads) row in
     rw (c.make_places.ensures.row, c.make_places.ensures.places, c.make_places.ensures.capacity) (
       laid_read c.self.inside.rows.items c.self.inside.ops c.self.inside.reads.items more c.number.inside.0 row from c.args.bytes reading
           c.self.invariant.0 made,
       room_read c.self.inside.rows.items c.self.inside.ops c.self.inside.reads.items more c.self.inside.all_reads
           (vec_capacity c.self.inside.reads) c.number.inside.0 row from c.args.bytes reading.there
-          (length-replicate (places_lacking c.self.inside.ops row) blank) c.self.invariant.1,
+          (length-replicate (places_lacking row) blank) c.self.invariant.1,
       few_set c.self.inside.rows.items c.self.inside.ops c.number.inside.0 _ c.self.invariant.2,
     )
 
@@ -76,9 +71,9 @@ returns c =
     let reading = row_reading c.self.inside.rows.items c.self.inside.ops c.self.inside.reads.items c.args.self.now c.number.inside.0
     c.args.number row c.self.view_is c.number.view_is c.requires.there c.index_mut-row.ensures.value c.requires.reads in
     let whole : vec_len c.self.inside.reads ≡ length c.self.inside.reads.items = search rules in
-    let more : List PageData = replicate (places_lacking c.self.inside.ops row) blank in
+    let more : List PageData = replicate (places_lacking row) blank in
     let made = made c.self.inside.rows.items c.self.inside.ops c.self.inside.reads.items more c.number.inside.0
-    (vec_len c.self.inside.reads) row reading.there whole (length-replicate (places_lacking c.self.inside.ops row) blank) c.self.invariant.0 in
+    (vec_len c.self.inside.reads) row reading.there whole (length-replicate (places_lacking row) blank) c.self.invariant.0 in
     let from : ℕ = place_from (vec_len c.self.inside.reads) row in
     rw (c.make_places.ensures.row, c.make_places.ensures.places)
     (jobs_read c.self.inside.rows.items c.self.inside.ops c.self.inside.reads.items more c.number.inside.0 row from c.args.bytes reading
