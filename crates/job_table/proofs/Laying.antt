@@ -1,11 +1,11 @@
 -- Rows over arenas, when one of them changes, or one is added.
 use Rattle.std.proofs.Common.{◌≡◌, ◌≢◌, ℕ, zero, suc, ◌+◌, ◌-◌, ◌^◌, ◌<◌, ◌≤◌, Bool, true, false, refl, sym, ap, ◌∙◌, arith, List, [], ◌∷◌, ◌++◌}
 use Rattle.std.proofs.Common.{length, take, drop, set, map, get_or, slice_get, Option, Some, option_map, count_by, length-append, ◌⊎◌, inl}
-use Rattle.std.proofs.Common.{inr, ◌==◌, cond, sum_by}
+use Rattle.std.proofs.Common.{inr, cond}
 use Rattle.std.proofs.Math.Seq.{take-append_seam, drop-append_seam}
 use Rattle.std.proofs.lemmas.List.{length-map, length-drop, take_all, take-append-le, drop-append-le, take-set-le, take_more_set}
 use Rattle.std.proofs.lemmas.List.{drop-set-lt, drop-set-add, map-append, length-set}
-use Rattle.std.proofs.lemmas.List.Sums.{sum_by-append, sum_by-cons, sum_by-set, sum_by_push, get_or-le-sum_by}
+use Rattle.std.proofs.lemmas.List.Sums.{sum_by-append, sum_by-set, sum_by_push, get_or-le-sum_by}
 use Rattle.std.proofs.lemmas.Option.{slice_get_within, slice_get_read, slice_get-map, get_or_from_slice_get}
 use Rattle.slot_types.specs.declared.events.Op.{Op}
 use Rattle.slot_types.specs.declared.pages.PageData.{PageData}

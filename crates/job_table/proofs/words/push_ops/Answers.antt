@@ -1,4 +1,4 @@
-use Rattle.std.proofs.Common.{◌≡◌, ◌+◌, ◌∷◌, ◌++◌, [], ℕ, Some, List, get_or, map, take, drop, vec_items, vec_len, vec_capacity, append_assoc}
+use Rattle.std.proofs.Common.{◌∷◌, ◌++◌, [], ℕ, Some, List, get_or, map, take, vec_items, vec_len, vec_capacity, append_assoc}
 use Rattle.std.proofs.Common.{append-nil, arith, sym, ap, ◌∙◌}
 use Rattle.std.proofs.lemmas.Option.{slice_get-get_or}
 use Rattle.slot_types.specs.declared.events.Op.{Op}

@@ -1,7 +1,5 @@
-use Rattle.std.proofs.Common.{◌++◌, ℕ, List, map, ap, ◌∙◌}
+use Rattle.std.proofs.Common.{◌++◌, List, ap, ◌∙◌}
 use Rattle.slot_types.specs.declared.events.Op.{Op}
-use Rattle.slot_types.specs.declared.pages.PageData.{PageData}
-use Rattle.job_table.specs.Words.{word_of, bytes_of, ops_of}
 use Rattle.job_table.proofs.Decoding.{ops_pushed, has_pushed}
 use Rattle.job_table.proofs.arenas.OpArena.push_all.Goals as goal
 

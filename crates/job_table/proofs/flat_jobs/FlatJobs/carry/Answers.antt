@@ -1,4 +1,4 @@
-use Rattle.std.proofs.Common.{◌+◌, ℕ, List, Some, vec_capacity, refl, sym, ap, ◌∙◌, arith, slice_get, cond}
+use Rattle.std.proofs.Common.{◌+◌, ℕ, List, Some, vec_capacity, refl, sym, ap, ◌∙◌, arith, slice_get}
 use Rattle.job_table.specs.declared.rows.Row.{Row}
 use Rattle.job_table.specs.Jobs.{JobRecord, with_one_more_slot}
 use Rattle.job_table.specs.Table.{changed_at, work_of, reads_next_of}

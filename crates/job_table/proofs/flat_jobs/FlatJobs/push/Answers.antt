@@ -1,4 +1,4 @@
-use Rattle.std.proofs.Common.{length-append, ◌+◌, ◌∷◌, ◌++◌, [], List, length, vec_capacity, rules, arith, refl, ap, ◌∙◌}
+use Rattle.std.proofs.Common.{length-append, ◌+◌, ◌∷◌, ◌++◌, [], List, vec_capacity, arith, refl, ap, ◌∙◌}
 use Rattle.std.proofs.lemmas.Grind.{common_steps}
 use Rattle.slot_types.specs.declared.events.Op.{Op}
 use Rattle.slot_types.specs.declared.pages.PageData.{PageData}
