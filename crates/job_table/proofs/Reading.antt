@@ -1,5 +1,5 @@
 -- How many reads stand before a place.
-use Rattle.std.proofs.Common.{◌≡◌, ℕ, zero, suc, ◌+◌, ◌^◌, ◌<◌, ◌≤◌, Bool, true, cond, refl, sym, ap, ◌∙◌, arith, List, [], ◌∷◌, length}
+use Rattle.std.proofs.Common.{◌≡◌, ℕ, zero, suc, ◌+◌, ◌-◌, ◌^◌, ◌<◌, ◌≤◌, Bool, true, cond, refl, sym, ap, ◌∙◌, arith, List, [], ◌∷◌, length}
 use Rattle.std.proofs.Common.{Option, None, Some, take, drop, slice_get, count_by, ◌==◌, ◌⊎◌, inl, inr, false, eq-eqb}
 use Rattle.std.proofs.lemmas.Bool.Decides.{nat_tests}
 use Rattle.std.proofs.Math.Seq.{take-add}
@@ -12,7 +12,7 @@ use Rattle.slot_types.specs.Operations.{is_write, writes}
 use Rattle.job_table.specs.declared.rows.Row.{Row}
 use Rattle.job_table.specs.Jobs.{is_read, is_some_read}
 use Rattle.job_table.specs.Words.{is_some_write}
-use Rattle.job_table.specs.Flat.{ops_at, reads_at, place_count, places_lacking, place_from, IsRowOf, IsRowIn}
+use Rattle.job_table.specs.Flat.{ops_at, reads_at, place_count, places_lacking, place_from, places_unfilled, IsRowOf, IsRowIn}
 
 -- Operations of one kind
 
@@ -79,7 +79,8 @@ has_read row = by_count row.reads_done
 pub record LacksAll (row : Row) : Type 0 where
   pub placed : place_count row ≡ 0
   pub lacks : places_lacking row ≡ row.read_count
-  pub from : (len : ℕ) → place_from len row ≡ len
+  pub from : (placed : ℕ) → place_from placed row ≡ placed
+  pub unfilled : (placed len : ℕ) → places_unfilled placed len row ≡ placed - len
 
 pub lacks_all : (row : Row) → row.reads_done ≡ 0 → LacksAll row
 lacks_all row none =
@@ -87,14 +88,16 @@ lacks_all row none =
     record {
       placed = ap (λ (v : Bool). cond v 0 row.read_count) is;
       lacks = ap (λ (v : Bool). cond v row.read_count 0) is;
-      from = λ len. ap (λ (v : Bool). cond v len row.first_place) is;
+      from = λ placed. ap (λ (v : Bool). cond v placed row.first_place) is;
+      unfilled = λ placed len. ap (λ (v : Bool). cond v (placed - len) 0) is;
     }
 
 -- and all once it has
 pub record LacksNone (row : Row) : Type 0 where
   pub placed : place_count row ≡ row.read_count
   pub lacks : places_lacking row ≡ 0
-  pub from : (len : ℕ) → place_from len row ≡ row.first_place
+  pub from : (placed : ℕ) → place_from placed row ≡ row.first_place
+  pub unfilled : (placed len : ℕ) → places_unfilled placed len row ≡ 0
 
 pub lacks_none : (row : Row) → 0 < row.reads_done → LacksNone row
 lacks_none row some =
@@ -102,7 +105,8 @@ lacks_none row some =
     record {
       placed = ap (λ (v : Bool). cond v 0 row.read_count) isnt;
       lacks = ap (λ (v : Bool). cond v row.read_count 0) isnt;
-      from = λ len. ap (λ (v : Bool). cond v len row.first_place) isnt;
+      from = λ placed. ap (λ (v : Bool). cond v placed row.first_place) isnt;
+      unfilled = λ placed len. ap (λ (v : Bool). cond v (placed - len) 0) isnt;
     }
 
 -- what it has read is in its places
@@ -117,17 +121,10 @@ done_placed ops row fits = elim (has_read row) [
       omega arith
 ]
 
-pub reads_there : (ops : List Op) (reads : List PageData) (row : Row) → IsRowIn ops reads row → row.first_place + row.reads_done
-    ≤ length reads
-reads_there ops reads row in_table =
-    let within = done_placed ops row in_table.fits in
-    let there = in_table.places_there in
-    omega arith
-
 pub reads_count : (ops : List Op) (reads : List PageData) (row : Row) → IsRowIn ops reads row → length (reads_at reads row)
     ≡ count_by is_read (take row.work (ops_at ops row))
 reads_count ops reads row in_table =
-    let there = reads_there ops reads row in_table in
+    let there = in_table.reads_there in
     let done = in_table.fits.reads_done_is in
     omega (arith, length-take row.reads_done (drop row.first_place reads), length-drop row.first_place reads)
 

@@ -7,7 +7,7 @@ ghost use Rattle.slot_types.specs.declared.limits.TheConstants.{MAX_JOBS, MAX_OP
 ghost use Rattle.job_table.specs.Jobs.{JobRecord, new_record, with_one_more_slot, with_read, with_stage};
 ghost use Rattle.job_table.specs.Table.{changed_at, work_at, reads_next_at};
 ghost use Rattle.job_table.specs.Words.{blank, is_some_write};
-ghost use Rattle.job_table.specs.Flat.{ops_at, places_lacking, place_from, IsRowOf};
+ghost use Rattle.job_table.specs.Flat.{ops_at, places_lacking, places_unfilled, place_from, with_page, IsRowOf};
 
 use crate::arenas::OpArena;
 use crate::counted_ops::CountedOps;
@@ -24,9 +24,11 @@ use std::marker::Model;
 pub(crate) struct FlatJobs {
     rows: Vec<Row>,
     ops: OpArena,
-    /// A place for each read of the jobs that have read, and room for those of all others: so a job that never runs
-    /// takes room for its reads, and none of it is touched.
+    /// What reads gave, each in a place of its job, and room for the reads of all jobs: so a job that never runs takes
+    /// room for its reads, and none of it is touched.
     reads: Vec<PageData>,
+    /// How many places were given to jobs, of which the last may not be filled yet.
+    placed: u32,
     /// How many reads all jobs have.
     all_reads: u32,
 }
@@ -42,13 +44,13 @@ impl Model for FlatJobs {
 
     ghost view = { λ j. jobs_at j.ops j.reads.items j.rows.items };
 
-    ghost invariant = { λ j. AreLaid j.rows.items j.ops j.reads.items
-        × HaveRoom j.rows.items j.ops j.reads.items j.all_reads (vec_capacity j.reads)
+    ghost invariant = { λ j. AreLaid j.rows.items j.ops j.reads.items j.placed
+        × HaveRoom j.rows.items j.ops j.reads.items j.all_reads j.placed (vec_capacity j.reads)
         × HasFewOps j.rows.items j.ops };
 }
 
-/// Adds so many places, in room that was made.
-fn push_places(reads: &mut Vec<PageData>, count: usize)
+/// Fills so many places, in room that was made.
+fn fill_places(reads: &mut Vec<PageData>, count: usize)
     requires room { vec_len reads.old + count ≤ vec_capacity reads.old }
     ensures places { reads.new.items ≡ reads.old.items ++ replicate count blank }
     ensures capacity { vec_capacity reads.new ≡ vec_capacity reads.old }
@@ -58,21 +60,40 @@ fn push_places(reads: &mut Vec<PageData>, count: usize)
     }
 }
 
-/// Makes the places of a row that has not read yet, in room that was made. One that has read keeps those that it has.
+/// Gives a row that has not read yet a place for each of its reads, after those of all others. One that has read keeps
+/// those that it has.
 ///
-/// All of a job's places are made at once, since jobs that read by turns would mix theirs, and a job lends what its
-/// reads gave as one slice.
-fn make_places(row: &mut Row, reads: &mut Vec<PageData>)
-    requires room { vec_len reads.old + places_lacking row.old ≤ vec_capacity reads.old }
-    requires few { vec_len reads.old < 2 ^ 32 }
-    ensures row { row.new
-        ≡ record row.old { first_place = place_from (vec_len reads.old) row.old } }
-    ensures places { reads.new.items ≡ reads.old.items ++ replicate (places_lacking row.old) blank }
+/// Jobs may read by turns, and each lends what its reads gave as one slice. So a job's places stay next to each other:
+/// where the job before has reads left, their places are filled first.
+fn give_places(row: &mut Row, reads: &mut Vec<PageData>, placed: &mut u32)
+    requires filled { vec_len reads.old ≤ placed.old }
+    requires room { placed.old ≤ vec_capacity reads.old }
+    requires few { placed.old + places_lacking row.old < 2 ^ 32 }
+    ensures placed { placed.new ≡ placed.old + places_lacking row.old }
+    ensures row { row.new ≡ record row.old { first_place = place_from placed.old row.old } }
+    ensures places { reads.new.items ≡ reads.old.items
+        ++ replicate (places_unfilled placed.old (vec_len reads.old) row.old) blank }
     ensures capacity { vec_capacity reads.new ≡ vec_capacity reads.old }
 {
     if row.reads_done == 0 {
-        row.first_place = reads.len() as u32;
-        push_places(reads, row.read_count as usize);
+        let unfilled = *placed as usize - reads.len();
+        fill_places(reads, unfilled);
+        row.first_place = *placed;
+        *placed += row.read_count as u32;
+    }
+}
+
+/// Puts the bytes of a read at its place, or after all others, in room that was made.
+fn put_page(reads: &mut Vec<PageData>, place: usize, bytes: PageData)
+    requires there { place ≤ vec_len reads.old }
+    requires room { place < vec_capacity reads.old }
+    ensures pages { reads.new.items ≡ with_page reads.old.items place bytes }
+    ensures capacity { vec_capacity reads.new ≡ vec_capacity reads.old }
+{
+    if place == reads.len() {
+        reads.push_reserved(bytes);
+    } else {
+        reads[place] = bytes;
     }
 }
 
@@ -101,6 +122,7 @@ impl FlatJobs {
             rows: Vec::new(alloc),
             ops: OpArena::new(alloc),
             reads: Vec::new(alloc),
+            placed: 0,
             all_reads: 0,
         }
     }
@@ -112,6 +134,7 @@ impl FlatJobs {
         self.rows.clear();
         self.ops.clear();
         self.reads.clear();
+        self.placed = 0;
         self.all_reads = 0;
     }
 
@@ -182,7 +205,7 @@ impl FlatJobs {
         Ok(number)
     }
 
-    /// How many places for what reads give have been made.
+    /// How many places for what reads give have been filled.
     #[cfg(test)]
     pub(crate) fn place_count(&self) -> usize {
         self.reads.len()
@@ -209,11 +232,11 @@ impl FlatJobs {
             with_read bytes (with_one_more_slot job)) }
     {
         let row = &mut self.rows[number.0 as usize];
-        make_places(row, &mut self.reads);
+        give_places(row, &mut self.reads, &mut self.placed);
         let place = row.first_place as usize + row.reads_done as usize;
         row.reads_done += 1;
         row.work += 1;
-        self.reads[place] = bytes;
+        put_page(&mut self.reads, place, bytes);
     }
 
     /// It stands otherwise from now on.

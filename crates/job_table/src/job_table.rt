@@ -115,7 +115,7 @@ impl JobTable {
         self.ended
     }
 
-    /// How many places for what reads give have been made.
+    /// How many places for what reads give have been filled.
     #[cfg(test)]
     pub(crate) fn place_count(&self) -> usize {
         self.jobs.place_count()

@@ -164,7 +164,7 @@ enum Step<'a> {
     Ops([Option<Op>; 2]),
     /// The reads of the job of this number gave the pages of these slots.
     Gave(u32, &'a [u32]),
-    /// So many places for what reads give have been made.
+    /// So many places for what reads give have been filled.
     Places(usize),
 }
 
@@ -329,7 +329,7 @@ fn a_job_that_never_runs_makes_no_places(rt: HostRuntime) -> Result<(), Fail> {
         Step::Carries(0, &[1]),
         Step::Places(0),
         Step::Carries(1, &[1]),
-        Step::Places(2),
+        Step::Places(1),
         Step::Carries(2, &[1, 99]),
         Step::Places(2),
         Step::Gave(1, &[1, 2]),

@@ -20,9 +20,9 @@ invariant_of-self c =
     c.args.number (Some row) c.self.view_is c.number.view_is at_n in
     let next = sym (ap reads_next_of there) ∙ c.requires.reads in
     let fits = row_carried c.self.inside.ops row c.next_writes.result next c.next_writes.ensures (c.self.invariant.0.each c.number.inside.0 row at_n).fits in (
-      laid_kept c.self.inside.rows.items c.self.inside.ops c.self.inside.reads.items c.number.inside.0 row _ at_n refl refl refl refl fits
+      laid_kept c.self.inside.rows.items c.self.inside.ops c.self.inside.reads.items c.self.inside.placed c.number.inside.0 row _ at_n refl refl refl refl refl fits
           c.self.invariant.0,
-      room_kept c.self.inside.rows.items c.self.inside.ops c.self.inside.reads.items c.self.inside.all_reads
+      room_kept c.self.inside.rows.items c.self.inside.ops c.self.inside.reads.items c.self.inside.all_reads c.self.inside.placed
           (vec_capacity c.self.inside.reads) c.number.inside.0 row _ at_n refl c.self.invariant.1,
       few_set c.self.inside.rows.items c.self.inside.ops c.number.inside.0 _ c.self.invariant.2,
     )

@@ -43,9 +43,9 @@ invariant_of-self-2 c =
     let len = c.in_ok-reserve-2.ensures.len in
     let before = c.len-3.ensures in
     rw (c.push_reserved.ensures.items, c.in_ok-reserve.ensures.items, c.in_ok-push_all.ensures.ok, c.in_ok-reserve-2.ensures.items) (
-      laid_push c.self.inside.rows.items c.self.inside.ops c.args.ops.now c.self.inside.reads.items row begun c.self.invariant.0,
+      laid_push c.self.inside.rows.items c.self.inside.ops c.args.ops.now c.self.inside.reads.items c.self.inside.placed row begun c.self.invariant.0,
       room_push c.self.inside.rows.items c.self.inside.ops c.args.ops.now c.self.inside.reads.items c.self.inside.all_reads
-          (c.self.inside.all_reads + c.reads.result) (vec_capacity c.self.inside.reads) (vec_capacity c.reserve-2.new.self) row begun (omega arith)
+          (c.self.inside.all_reads + c.reads.result) c.self.inside.placed (vec_capacity c.self.inside.reads) (vec_capacity c.reserve-2.new.self) row begun (omega arith)
           (omega arith)
           c.self.invariant.1,
       let few = c.self.invariant.2 in
@@ -93,7 +93,7 @@ returns-clause-ok c =
     ∙ ap (λ (l : List Op). jobs_at l c.reserve-2.new.self.items (c.self.inside.rows.items ++ row ∷ [])) c.in_ok-push_all.ensures.ok
     ∙ ap (λ (l : List PageData). jobs_at (c.self.inside.ops ++ c.args.ops.now) l (c.self.inside.rows.items ++ row ∷ []))
     c.in_ok-reserve-2.ensures.items
-    ∙ jobs_pushed c.self.inside.rows.items c.self.inside.ops c.args.ops.now c.self.inside.reads.items row begun c.self.invariant.0
+    ∙ jobs_pushed c.self.inside.rows.items c.self.inside.ops c.args.ops.now c.self.inside.reads.items c.self.inside.placed row begun c.self.invariant.0
     ∙ ap (λ (l : List JobRecord). l
     ++ new_record c.args.head.collects c.args.head.task c.args.head.release c.args.head.due c.args.ops.now ∷ []) c.self.view_is
 

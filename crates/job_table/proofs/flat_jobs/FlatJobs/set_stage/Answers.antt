@@ -20,9 +20,9 @@ invariant_of-self c =
       reads_done_is = old.reads_done_is;
       writes_done_is = old.writes_done_is;
     } in (
-      laid_kept c.self.inside.rows.items c.self.inside.ops c.self.inside.reads.items c.number.inside.0 row _ at_n refl refl refl refl fits
+      laid_kept c.self.inside.rows.items c.self.inside.ops c.self.inside.reads.items c.self.inside.placed c.number.inside.0 row _ at_n refl refl refl refl refl fits
           c.self.invariant.0,
-      room_kept c.self.inside.rows.items c.self.inside.ops c.self.inside.reads.items c.self.inside.all_reads
+      room_kept c.self.inside.rows.items c.self.inside.ops c.self.inside.reads.items c.self.inside.all_reads c.self.inside.placed
           (vec_capacity c.self.inside.reads) c.number.inside.0 row _ at_n refl c.self.invariant.1,
       few_set c.self.inside.rows.items c.self.inside.ops c.number.inside.0 _ c.self.invariant.2,
     )
