@@ -1,16 +1,11 @@
 -- The table can keep what a die accepts: it has few operations, on pages whose numbers leave room in their words.
-use Rattle.std.proofs.Common.{nat_lt, ◌≡◌, ℕ, ◌+◌, ◌-◌, ◌*◌, ◌≤◌, Bool, true, false, List, [], ◌∷◌, None, refl, length, nat_le, arith, inl, inr}
-use Rattle.std.specs.Prelude.{is_some, option_map}
-use Rattle.std.specs.List.{find, list_all}
-use Rattle.std.proofs.Math.Nat.{mul-le-mul_left, mul-le-mul_right}
-use Rattle.std.proofs.lemmas.Bool.{cases_Bool}
+use Rattle.std.proofs.Common.{nat_lt, ◌≡◌, ℕ, ◌+◌, ◌-◌, ◌*◌, ◌≤◌, false, List, None, length, arith}
+use Rattle.std.proofs.Math.Nat.{mul-le-mul_right}
 use Rattle.std.proofs.lemmas.Bool.Decides.{nat_tests}
 use Rattle.slot_types.specs.declared.limits.TheConstants.{MAX_OPS}
 use Rattle.slot_types.specs.declared.plans.DiePlan.{DiePlan}
 use Rattle.slot_types.specs.declared.events.Op.{Op}
-use Rattle.slot_types.specs.declared.events.Op.TheVariants as asks
 use Rattle.slot_types.specs.declared.events.Event.TheVariants as events
-use Rattle.slot_types.specs.Operations.{page_of}
 use Rattle.plan_rules.specs.Bound.{MeetsBound, closed_of}
 use Rattle.die_log.specs.Model.Answers.{refusal_of, refusals}
 use Rattle.die_log.specs.Model.Log.{Log}

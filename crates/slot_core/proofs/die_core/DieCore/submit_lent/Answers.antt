@@ -14,7 +14,7 @@ use Rattle.slot_core.proofs.Reserving.{open_job}
 use Rattle.slot_core.proofs.Fitting.{accepted_few}
 use Rattle.slot_core.proofs.Telling.{submit_tells, few_told}
 use Rattle.slot_core.proofs.die_core.DieCore.submit_lent.Goals as goal
-use Rattle.die_log.specs.Model.Start.{Start, over}
+use Rattle.die_log.specs.Model.Start.{over}
 
 pub returns-then-failed : goal.returns-then-failed
 returns-then-failed g c =
