@@ -1,5 +1,5 @@
 -- The head after those that are waived before it.
-use Rattle.std.proofs.Common.{◌≡◌, ◌≢◌, ℕ, zero, suc, Bool, true, false, refl, sym, ap, ◌∙◌, List, [], ◌∷◌, ◌++◌, slice_get, Option, Some, None}
+use Rattle.std.proofs.Common.{◌≡◌, ℕ, Bool, true, false, refl, sym, ap, ◌∙◌, List, [], ◌∷◌, ◌++◌, slice_get, Option, Some, None}
 use Rattle.std.proofs.Common.{option_map, length, ◌⊎◌, inl, inr}
 use Rattle.std.proofs.lemmas.Bool.{cases_eq}
 use Rattle.std.proofs.lemmas.Option.{same_Some}
@@ -13,7 +13,6 @@ use Rattle.job_table.specs.Jobs.{JobRecord, is_pending, with_stage}
 use Rattle.job_table.specs.Heads.{WereHeads, with_waived}
 use Rattle.job_table.specs.SoundTable.{QueuesAgree, marks_after}
 use Rattle.job_table.specs.Order.{IsHead, NothingReady}
-use Rattle.job_table.specs.QueuedKeys.{AreQueued, AreLater}
 use Rattle.job_table.specs.Table.{Table}
 use Rattle.job_table.specs.Waivers.{jobs_after_waiver, jobs_after_waivers}
 use Rattle.job_table.proofs.Changed.{changed_here, changed_elsewhere}

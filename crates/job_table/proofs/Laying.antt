@@ -1,20 +1,26 @@
 -- Rows over arenas, when one of them changes, or one is added.
-use Rattle.std.proofs.Common.{◌≡◌, ◌≢◌, ℕ, zero, suc, ◌+◌, ◌-◌, ◌^◌, ◌<◌, ◌≤◌, true, false, refl, sym, ap, ◌∙◌, arith, List, [], ◌∷◌, ◌++◌}
+use Rattle.std.proofs.Common.{◌≡◌, ◌≢◌, ℕ, zero, suc, ◌+◌, ◌-◌, ◌^◌, ◌<◌, ◌≤◌, Bool, true, false, refl, sym, ap, ◌∙◌, arith, List, [], ◌∷◌, ◌++◌}
 use Rattle.std.proofs.Common.{length, take, drop, set, map, get_or, slice_get, Option, Some, option_map, count_by, length-append, ◌⊎◌, inl}
-use Rattle.std.proofs.Common.{inr, ◌==◌, cond, sum_by}
+use Rattle.std.proofs.Common.{inr, cond}
+use Rattle.std.proofs.Common.{subst, ◌==◌, eqb-true}
+use Rattle.std.proofs.lemmas.Bool.{cases_Bool}
+use Rattle.std.proofs.lemmas.Bool.Decides.{nat_tests}
 use Rattle.std.proofs.Math.Seq.{take-append_seam, drop-append_seam}
 use Rattle.std.proofs.lemmas.List.{length-map, length-drop, take_all, take-append-le, drop-append-le, take-set-le, take_more_set}
 use Rattle.std.proofs.lemmas.List.{drop-set-lt, drop-set-add, map-append, length-set}
-use Rattle.std.proofs.lemmas.List.Sums.{sum_by-append, sum_by-cons, sum_by-set, sum_by_push, get_or-le-sum_by}
+use Rattle.std.proofs.lemmas.List.Sums.{sum_by-append, sum_by-set, sum_by_push, get_or-le-sum_by}
 use Rattle.std.proofs.lemmas.Option.{slice_get_within, slice_get_read, slice_get-map, get_or_from_slice_get}
 use Rattle.slot_types.specs.declared.events.Op.{Op}
 use Rattle.slot_types.specs.declared.pages.PageData.{PageData}
+use Rattle.slot_types.specs.Operations.{is_write, writes}
 use Rattle.job_table.specs.declared.rows.Row.{Row}
 use Rattle.job_table.specs.Jobs.{JobRecord, is_read, is_some_read, new_record, with_one_more_slot, with_read}
 use Rattle.job_table.specs.Table.{changed_at, reads_next_at, reads_next_of}
-use Rattle.job_table.specs.Flat.{ops_at, reads_at, job_at, jobs_at, read_count, place_count, places_lacking, place_from, IsRowOf, IsRowIn, AreLaid}
+use Rattle.job_table.specs.Flat.{ops_at, reads_at, job_at, jobs_at, place_count, places_lacking, place_from, places_unfilled, with_page, IsRowOf, IsRowIn, AreLaid}
 use Rattle.job_table.specs.Flat.{HasFewOps, HaveRoom}
-use Rattle.job_table.proofs.Reading.{read_of, one_more, has_read, lacks_all, lacks_none, done_placed, reads_there, next_of_all}
+use Rattle.job_table.specs.Words.{is_some_write}
+use Rattle.job_table.proofs.Reading.{one_if, read_of, write_of, no_write, done_more, has_read, lacks_all, lacks_none, done_placed}
+use Rattle.job_table.proofs.Reading.{next_of_all}
 
 -- Lists of rows
 
@@ -120,18 +126,21 @@ abbrev pub after_read : Row → ℕ → Row
 after_read row from = record row { first_place = from; reads_done = row.reads_done + 1; work = row.work + 1 }
 
 -- one that took a slot more, and no read of its own
-pub row_carried : (ops : List Op) (row : Row) → is_some_read (slice_get (ops_at ops row) row.work) ≡ false → IsRowOf ops row
-    → IsRowOf ops (record row { work = row.work + 1 })
-row_carried ops row next fits = record {
+pub row_carried : (ops : List Op) (row : Row) (count : ℕ) → is_some_read (slice_get (ops_at ops row) row.work) ≡ false
+    → count ≡ cond (is_some_write (slice_get (ops_at ops row) row.work)) 1 0 → IsRowOf ops row
+    → IsRowOf ops (record row { writes_done = row.writes_done + count; work = row.work + 1 })
+row_carried ops row count next is fits = record {
   ops_there = fits.ops_there;
   ops_few = fits.ops_few;
-  first_read_is = fits.first_read_is;
+  first_write_is = fits.first_write_is;
+  read_count_is = fits.read_count_is;
   reads_done_is =
-      let more = one_more (ops_at ops row) row.work false next in
-      let done = fits.reads_done_is in
-      let on : suc row.work ≡ row.work + 1 = omega arith in
-      let same = ap (λ (n : ℕ). count_by is_read (take n (ops_at ops row))) on in
-      omega arith;
+      let more = done_more is_read ops row row.reads_done false (read_of (slice_get (ops_at ops row) row.work) ∙ next) fits.reads_done_is in
+      omega (arith, more);
+  writes_done_is =
+      let more = done_more is_write ops row row.writes_done (is_some_write (slice_get (ops_at ops row) row.work))
+      (write_of (slice_get (ops_at ops row) row.work)) fits.writes_done_is in
+      omega (arith, more, is);
 }
 
 -- one that took a slot more, in which it read
@@ -140,13 +149,12 @@ row_read_more : (ops : List Op) (row : Row) (from : ℕ) → is_some_read (slice
 row_read_more ops row from next fits = record {
   ops_there = fits.ops_there;
   ops_few = fits.ops_few;
-  first_read_is = fits.first_read_is;
-  reads_done_is =
-      let more = one_more (ops_at ops row) row.work true next in
-      let done = fits.reads_done_is in
-      let on : suc row.work ≡ row.work + 1 = omega arith in
-      let same = ap (λ (n : ℕ). count_by is_read (take n (ops_at ops row))) on in
-      omega arith;
+  first_write_is = fits.first_write_is;
+  read_count_is = fits.read_count_is;
+  reads_done_is = done_more is_read ops row row.reads_done true (read_of (slice_get (ops_at ops row) row.work) ∙ next) fits.reads_done_is;
+  writes_done_is =
+      let more = done_more is_write ops row row.writes_done false (no_write (slice_get (ops_at ops row) row.work) next) fits.writes_done_is in
+      omega (arith, more);
 }
 
 -- the jobs after a row changed beside its reads
@@ -157,16 +165,17 @@ jobs_set rows ops reads n row next change at_n is = map_changed (job_at ops read
     (λ m other differs at_m. refl)
 
 -- the rows stay laid where one keeps its operations, and its places are still there and apart from those of all others
-laid_set : (rows : List Row) (ops : List Op) (reads reads' : List PageData) (n : ℕ) (row next : Row) → slice_get rows n ≡ Some row
-    → next.first_op ≡ row.first_op → next.op_count ≡ row.op_count → IsRowIn ops reads' next → length reads ≤ length reads'
+laid_set : (rows : List Row) (ops : List Op) (reads reads' : List PageData) (placed placed' n : ℕ) (row next : Row)
+    → slice_get rows n ≡ Some row → next.first_op ≡ row.first_op → next.op_count ≡ row.op_count → IsRowIn ops reads' next
+    → next.first_place + place_count next ≤ placed' → length reads ≤ length reads' → placed ≤ placed'
     → ((m : ℕ) (other : Row) → slice_get rows m ≡ Some other → m ≢ n
-    → (next.first_place + place_count ops next ≤ other.first_place) ⊎ (other.first_place + place_count ops other ≤ next.first_place))
-    → AreLaid rows ops reads → AreLaid (set rows n next) ops reads'
-laid_set rows ops reads reads' n row next e first count fits longer free laid = record {
+    → (next.first_place + place_count next ≤ other.first_place) ⊎ (other.first_place + place_count other ≤ next.first_place))
+    → AreLaid rows ops reads placed → AreLaid (set rows n next) ops reads' placed'
+laid_set rows ops reads reads' placed placed' n row next e first count fits within longer more free laid = record {
   each = λ m other at_m. elim (set_cases rows n next m other at_m) [
     | inl h ↦ rw (sym h.1) fits
     | inr h ↦ let old = laid.each m other h in record
-        { fits = old.fits; places_there = let there = old.places_there in omega arith }
+        { fits = old.fits; reads_there = let there = old.reads_there in omega (arith, there, longer) }
   ];
   ops_apart = λ m k one other at_m at_k before.
       let a = span_kept rows n row next e first count m one at_m in
@@ -176,6 +185,10 @@ laid_set rows ops reads reads' n row next e first count fits longer free laid = 
       let a_count = a.count_is in
       let b_first = b.first_is in
       omega arith;
+  places_within = λ m other at_m. elim (set_cases rows n next m other at_m) [
+    | inl h ↦ rw (sym h.1) within
+    | inr h ↦ let there = laid.places_within m other h in omega (arith, there, more)
+  ];
   places_apart = λ m k one other at_m at_k differs. elim (set_cases rows n next m one at_m) [
     | inl h ↦ elim (set_cases rows n next k other at_k) [
       | inl g ↦ absurd (differs (h.0 ∙ sym g.0))
@@ -193,43 +206,45 @@ laid_set rows ops reads reads' n row next e first count fits longer free laid = 
     either (inr b) = inl b
 
 -- .. where it keeps its places as well
-pub laid_kept : (rows : List Row) (ops : List Op) (reads : List PageData) (n : ℕ) (row next : Row) → slice_get rows n ≡ Some row
+pub laid_kept : (rows : List Row) (ops : List Op) (reads : List PageData) (placed n : ℕ) (row next : Row) → slice_get rows n ≡ Some row
     → next.first_op ≡ row.first_op → next.op_count ≡ row.op_count → next.first_place ≡ row.first_place
-    → place_count ops next ≡ place_count ops row
-    → IsRowOf ops next → AreLaid rows ops reads → AreLaid (set rows n next) ops reads
-laid_kept rows ops reads n row next e first count place same fits laid =
-    laid_set rows ops reads reads n row next e first count
-    (record { fits = fits; places_there = let there = (laid.each n row e).places_there in omega arith }) (omega arith)
+    → next.reads_done ≡ row.reads_done → place_count next ≡ place_count row
+    → IsRowOf ops next → AreLaid rows ops reads placed → AreLaid (set rows n next) ops reads placed
+laid_kept rows ops reads placed n row next e first count place done same fits laid =
+    laid_set rows ops reads reads placed placed n row next e first count
+    (record { fits = fits; reads_there = let there = (laid.each n row e).reads_there in omega (arith, there, place, done) })
+    (let there = laid.places_within n row e in omega (arith, there, place, same)) (omega arith) (omega arith)
     (λ m other at_m differs. elim (laid.places_apart n m row other e at_m (λ x. differs (sym x)))
     [ inl h ↦ inl (omega arith) | inr h ↦ inr (omega arith) ]) laid
 
--- there is room as before where the places that a row lacks no longer have been made
-room_set : (rows : List Row) (ops : List Op) (reads reads' : List PageData) (all capacity n : ℕ) (row next : Row)
-    → slice_get rows n ≡ Some row → length reads' + places_lacking ops next ≡ length reads + places_lacking ops row
-    → HaveRoom rows ops reads all capacity → HaveRoom (set rows n next) ops reads' all capacity
-room_set rows ops reads reads' all capacity n row next e made room = record {
+-- there is room as before where the places that a row lacks no longer have been given to it
+room_set : (rows : List Row) (ops : List Op) (reads reads' : List PageData) (all placed placed' capacity n : ℕ) (row next : Row)
+    → slice_get rows n ≡ Some row → placed' + places_lacking next ≡ placed + places_lacking row → length reads' ≤ placed'
+    → HaveRoom rows ops reads all placed capacity → HaveRoom (set rows n next) ops reads' all placed' capacity
+room_set rows ops reads reads' all placed placed' capacity n row next e made filled room = record {
   all_is = room.all_is;
   places =
-      let sum = sum_by-set (places_lacking ops) rows n next row (slice_get_within rows n row e) in
-      let old = ap (places_lacking ops) (get_or_from_slice_get rows n row row e) in
+      let sum = sum_by-set places_lacking rows n next row (slice_get_within rows n row e) in
+      let old = ap places_lacking (get_or_from_slice_get rows n row row e) in
       let before = room.places in
       omega arith;
+  filled = filled;
   room = room.room;
 }
 
 -- .. where it lacks as many as before
-pub room_kept : (rows : List Row) (ops : List Op) (reads : List PageData) (all capacity n : ℕ) (row next : Row)
-    → slice_get rows n ≡ Some row → places_lacking ops next ≡ places_lacking ops row
-    → HaveRoom rows ops reads all capacity → HaveRoom (set rows n next) ops reads all capacity
-room_kept rows ops reads all capacity n row next e same room =
-    room_set rows ops reads reads all capacity n row next e (ap (λ (k : ℕ). length reads + k) same) room
+pub room_kept : (rows : List Row) (ops : List Op) (reads : List PageData) (all placed capacity n : ℕ) (row next : Row)
+    → slice_get rows n ≡ Some row → places_lacking next ≡ places_lacking row
+    → HaveRoom rows ops reads all placed capacity → HaveRoom (set rows n next) ops reads all placed capacity
+room_kept rows ops reads all placed capacity n row next e same room =
+    room_set rows ops reads reads all placed placed capacity n row next e (ap (λ (k : ℕ). placed + k) same) room.filled room
 
 -- a row has as much room as it lacks places
-pub row_room : (rows : List Row) (ops : List Op) (reads : List PageData) (all capacity n : ℕ) (row : Row)
-    → slice_get rows n ≡ Some row → HaveRoom rows ops reads all capacity → length reads + places_lacking ops row ≤ all
-row_room rows ops reads all capacity n row e room =
-    let one = get_or-le-sum_by (places_lacking ops) rows n row (slice_get_within rows n row e) in
-    let same = ap (places_lacking ops) (get_or_from_slice_get rows n row row e) in
+pub row_room : (rows : List Row) (ops : List Op) (reads : List PageData) (all placed capacity n : ℕ) (row : Row)
+    → slice_get rows n ≡ Some row → HaveRoom rows ops reads all placed capacity → placed + places_lacking row ≤ all
+row_room rows ops reads all placed capacity n row e room =
+    let one = get_or-le-sum_by places_lacking rows n row (slice_get_within rows n row e) in
+    let same = ap places_lacking (get_or_from_slice_get rows n row row e) in
     let places = room.places in
     omega arith
 
@@ -243,111 +258,181 @@ cut xs ys from count within =
     ∙ take-append-le count (drop from xs) ys (omega (arith, length-drop from xs))
 
 -- from here on it has one for each of its reads, with the bytes of those that it carried, and apart from those of all others
-pub record IsMade (rows : List Row) (ops : List Op) (reads more : List PageData) (n : ℕ) (row : Row) (from : ℕ) : Type 0 where
-  pub there : from + read_count ops row ≤ length (reads ++ more)
+pub record IsMade (rows : List Row) (ops : List Op) (reads more : List PageData) (placed n : ℕ) (row : Row) (from : ℕ) : Type 0 where
+  pub within : from + row.read_count ≤ placed
+  pub here : from + row.reads_done ≤ length (reads ++ more)
+  pub filled : length (reads ++ more) ≤ placed
   pub own : take row.reads_done (drop from (reads ++ more)) ≡ reads_at reads row
   pub apart : (m : ℕ) (other : Row) → slice_get rows m ≡ Some other → m ≢ n
-      → (from + read_count ops row ≤ other.first_place) ⊎ (other.first_place + place_count ops other ≤ from)
+      → (from + row.read_count ≤ other.first_place) ⊎ (other.first_place + place_count other ≤ from)
 
--- .. where those that it lacks are made after all others
-pub made : (rows : List Row) (ops : List Op) (reads more : List PageData) (n len : ℕ) (row : Row) → slice_get rows n ≡ Some row
-    → len ≡ length reads → length more ≡ places_lacking ops row → AreLaid rows ops reads
-    → IsMade rows ops reads more n row (place_from len row)
-made rows ops reads more n len row e end count laid = elim (has_read row) [
+-- .. where those that it lacks are given to it after all others, which are filled up
+pub made : (rows : List Row) (ops : List Op) (reads more : List PageData) (placed len n : ℕ) (row : Row) → slice_get rows n ≡ Some row
+    → len ≡ length reads → len ≤ placed → length more ≡ places_unfilled placed len row → AreLaid rows ops reads placed
+    → IsMade rows ops reads more (placed + places_lacking row) n row (place_from placed row)
+made rows ops reads more placed len n row e is end count laid = elim (has_read row) [
   | inl none ↦
-      let lacks = lacks_all ops row none in
+      let lacks = lacks_all row none in
       let all = lacks.lacks in
-      let from = lacks.from len in
+      let from = lacks.from placed in
+      let gap = lacks.unfilled placed len in
       record {
-        there = omega (arith, length-append reads more);
-        own = ap (λ (k : ℕ). take k (drop (place_from len row) (reads ++ more))) none
+        within = omega arith;
+        here = omega (arith, length-append reads more, none, from, gap, count, end, is);
+        filled = omega (arith, length-append reads more, gap, count, end, is);
+        own = ap (λ (k : ℕ). take k (drop (place_from placed row) (reads ++ more))) none
             ∙ sym (ap (λ (k : ℕ). take k (drop row.first_place reads)) none);
-        apart = λ m other at_m differs. inr (let there = (laid.each m other at_m).places_there in omega arith);
+        apart = λ m other at_m differs. inr (let there = laid.places_within m other at_m in omega arith);
       }
   | inr some ↦
-      let lacks = lacks_none ops row some in
-      let placed = lacks.placed in
-      let from = lacks.from len in
+      let lacks = lacks_none row some in
+      let placed_is = lacks.placed in
+      let all = lacks.lacks in
+      let from = lacks.from placed in
+      let gap = lacks.unfilled placed len in
       let in_table = laid.each n row e in
-      let there = in_table.places_there in
+      let there = in_table.reads_there in
+      let within = laid.places_within n row e in
       record {
-        there = omega (arith, length-append reads more);
+        within = omega (arith, within, placed_is, from);
+        here = omega (arith, length-append reads more, there, from);
+        filled = omega (arith, length-append reads more, gap, count, end, is);
         own = ap (λ (k : ℕ). take row.reads_done (drop k (reads ++ more))) from
-            ∙ cut reads more row.first_place row.reads_done (reads_there ops reads row in_table);
+            ∙ cut reads more row.first_place row.reads_done there;
         apart = λ m other at_m differs. elim (laid.places_apart n m row other e at_m (λ x. differs (sym x)))
             [ inl h ↦ inl (omega arith) | inr h ↦ inr (omega arith) ];
       }
 ]
 
--- its own reads have the bytes after them
-reads_more : (reads : List PageData) (from done : ℕ) (bytes : PageData) → from + done < length reads
-    → take (done + 1) (drop from (set reads (from + done) bytes)) ≡ take done (drop from reads) ++ bytes ∷ []
-reads_more reads from done bytes within =
-    ap (take (done + 1)) (drop-set-add from reads done bytes)
-    ∙ take_more_set (drop from reads) done bytes (omega (arith, length-drop from reads))
+-- a page at a place, or after all others
+record IsPut (reads : List PageData) (place : ℕ) (bytes : PageData) (after : List PageData) : Type 0 where
+  longer : length reads ≤ length after
+  there : place < length after
+  most : (placed : ℕ) → length reads ≤ placed → place < placed → length after ≤ placed
+  own : (from done : ℕ) → from + done ≡ place → take (done + 1) (drop from after) ≡ take done (drop from reads) ++ bytes ∷ []
+  others : (from count : ℕ) → from + count ≤ length reads → (from + count ≤ place) ⊎ (place < from)
+      → take count (drop from after) ≡ take count (drop from reads)
 
--- those of another stay
-reads_stay : (reads : List PageData) (from count place : ℕ) (bytes : PageData) → (from + count ≤ place) ⊎ (place < from)
-    → take count (drop from (set reads place bytes)) ≡ take count (drop from reads)
-reads_stay reads from count place bytes (inl before) =
-    let split : place ≡ from + (place - from) = omega arith in
-    ap (λ (p : ℕ). take count (drop from (set reads p bytes))) split
-    ∙ ap (take count) (drop-set-add from reads (place - from) bytes)
-    ∙ take-set-le count (drop from reads) (place - from) bytes (omega arith)
-reads_stay reads from count place bytes (inr behind) = ap (take count) (drop-set-lt from reads place bytes behind)
+put_set : (reads : List PageData) (place : ℕ) (bytes : PageData) → place < length reads → IsPut reads place bytes (set reads place bytes)
+put_set reads place bytes within = record {
+  longer = omega (arith, length-set reads place bytes);
+  there = omega (arith, length-set reads place bytes);
+  most = λ placed few less. omega (arith, length-set reads place bytes);
+  own = λ from done is. rw (sym is) (
+      ap (take (done + 1)) (drop-set-add from reads done bytes)
+      ∙ take_more_set (drop from reads) done bytes (omega (arith, length-drop from reads)));
+  others = λ from count there beside. stay from count beside;
+}
+  where
+    stay : (from count : ℕ) → (from + count ≤ place) ⊎ (place < from)
+        → take count (drop from (set reads place bytes)) ≡ take count (drop from reads)
+    stay from count (inl before) =
+        let split : place ≡ from + (place - from) = omega arith in
+        ap (λ (p : ℕ). take count (drop from (set reads p bytes))) split
+        ∙ ap (take count) (drop-set-add from reads (place - from) bytes)
+        ∙ take-set-le count (drop from reads) (place - from) bytes (omega arith)
+    stay from count (inr behind) = ap (take count) (drop-set-lt from reads place bytes behind)
 
--- the place of its next read is there
-pub place_there : (rows : List Row) (ops : List Op) (reads more : List PageData) (n : ℕ) (row : Row) (from : ℕ) → IsReading rows ops n row
-    → AreLaid rows ops reads → IsMade rows ops reads more n row from → from + row.reads_done < length (reads ++ more)
-place_there rows ops reads more n row from reading laid made =
+put_push : (reads : List PageData) (place : ℕ) (bytes : PageData) → place ≡ length reads → IsPut reads place bytes (reads ++ bytes ∷ [])
+put_push reads place bytes end = record {
+  longer = omega (arith, length-append reads (bytes ∷ []));
+  there = omega (arith, end, length-append reads (bytes ∷ []));
+  most = λ placed few less. omega (arith, end, length-append reads (bytes ∷ []));
+  own = λ from done is.
+      ap (take (done + 1)) (drop-append-le from reads (bytes ∷ []) (omega (arith, is, end)))
+      ∙ take_all (done + 1) (drop from reads ++ bytes ∷ [])
+      (omega (arith, is, end, length-append (drop from reads) (bytes ∷ []), length-drop from reads))
+      ∙ ap (λ (l : List PageData). l ++ bytes ∷ []) (sym (take_all done (drop from reads) (omega (arith, is, end, length-drop from reads))));
+  others = λ from count there beside. cut reads (bytes ∷ []) from count there;
+}
+
+put : (reads : List PageData) (place : ℕ) (bytes : PageData) → place ≤ length reads → IsPut reads place bytes (with_page reads place bytes)
+put reads place bytes within =
+    elim (cases_Bool (place == length reads)) [
+      | inl end ↦ subst (λ (v : Bool). IsPut reads place bytes (cond v (reads ++ bytes ∷ []) (set reads place bytes))) (sym end)
+          (put_push reads place bytes (eqb-true place (length reads) end))
+      | inr before ↦ subst (λ (v : Bool). IsPut reads place bytes (cond v (reads ++ bytes ∷ []) (set reads place bytes))) (sym before)
+          (put_set reads place bytes (under place (length reads) within before))
+    ]
+  where
+    under : (n m : ℕ) → n ≤ m → (n == m) ≡ false → n < m
+    under n m within isnt = grind (arith, nat_tests)
+
+-- its next read has a place of its own
+next_within : (rows : List Row) (ops : List Op) (reads more : List PageData) (placed placed' n : ℕ) (row : Row) (from : ℕ)
+    → IsReading rows ops n row → AreLaid rows ops reads placed → IsMade rows ops reads more placed' n row from
+    → from + row.reads_done < placed'
+next_within rows ops reads more placed placed' n row from reading laid made =
     let few = next_of_all ops row (laid.each n row reading.there).fits reading.next in
-    let there = made.there in
+    let within = made.within in
     omega arith
 
-pub laid_read : (rows : List Row) (ops : List Op) (reads more : List PageData) (n : ℕ) (row : Row) (from : ℕ) (bytes : PageData)
-    → IsReading rows ops n row → AreLaid rows ops reads → IsMade rows ops reads more n row from
-    → AreLaid (set rows n (after_read row from)) ops (set (reads ++ more) (from + row.reads_done) bytes)
-laid_read rows ops reads more n row from bytes reading laid made =
-    laid_set rows ops reads (set (reads ++ more) (from + row.reads_done) bytes) n row (after_read row from) reading.there refl refl
+pub laid_read : (rows : List Row) (ops : List Op) (reads more : List PageData) (placed placed' n : ℕ) (row : Row) (from : ℕ)
+    (bytes : PageData)
+    → IsReading rows ops n row → placed ≤ placed' → AreLaid rows ops reads placed → IsMade rows ops reads more placed' n row from
+    → AreLaid (set rows n (after_read row from)) ops (with_page (reads ++ more) (from + row.reads_done) bytes) placed'
+laid_read rows ops reads more placed placed' n row from bytes reading grows laid made =
+    let after = put (reads ++ more) (from + row.reads_done) bytes made.here in
+    laid_set rows ops reads (with_page (reads ++ more) (from + row.reads_done) bytes) placed placed' n row (after_read row from)
+    reading.there refl refl
     (record {
       fits = row_read_more ops row from reading.next (laid.each n row reading.there).fits;
-      places_there = let there = made.there in omega (arith, placed, longer);
-    }) (omega (arith, longer, length-append reads more))
+      reads_there = let there = after.there in omega (arith, there);
+    })
+    (let within = made.within in omega (arith, placed_is, within))
+    (let longer = after.longer in omega (arith, longer, length-append reads more)) grows
     (λ m other at_m differs. elim (made.apart m other at_m differs)
-    [ inl h ↦ inl (omega (arith, placed)) | inr h ↦ inr (omega arith) ]) laid
+    [ inl h ↦ inl (omega (arith, placed_is)) | inr h ↦ inr (omega arith) ]) laid
   where
-    placed : place_count ops (after_read row from) ≡ read_count ops row
-    placed = (lacks_none ops (after_read row from) (omega arith)).placed
+    placed_is : place_count (after_read row from) ≡ row.read_count
+    placed_is = (lacks_none (after_read row from) (omega arith)).placed
 
-    longer : length (set (reads ++ more) (from + row.reads_done) bytes) ≡ length (reads ++ more)
-    longer = length-set (reads ++ more) (from + row.reads_done) bytes
-
-pub room_read : (rows : List Row) (ops : List Op) (reads more : List PageData) (all capacity n : ℕ) (row : Row) (from : ℕ)
+pub room_read : (rows : List Row) (ops : List Op) (reads more : List PageData) (all placed capacity n : ℕ) (row : Row) (from : ℕ)
     (bytes : PageData)
-    → slice_get rows n ≡ Some row → length more ≡ places_lacking ops row → HaveRoom rows ops reads all capacity
-    → HaveRoom (set rows n (after_read row from)) ops (set (reads ++ more) (from + row.reads_done) bytes) all capacity
-room_read rows ops reads more all capacity n row from bytes e count room =
-    room_set rows ops reads (set (reads ++ more) (from + row.reads_done) bytes) all capacity n row (after_read row from) e
-    (let none = (lacks_none ops (after_read row from) (omega arith)).lacks in
-    omega (arith, length-set (reads ++ more) (from + row.reads_done) bytes, length-append reads more)) room
+    → IsReading rows ops n row → AreLaid rows ops reads placed → IsMade rows ops reads more (placed + places_lacking row) n row from
+    → HaveRoom rows ops reads all placed capacity
+    → HaveRoom (set rows n (after_read row from)) ops (with_page (reads ++ more) (from + row.reads_done) bytes) all
+    (placed + places_lacking row) capacity
+room_read rows ops reads more all placed capacity n row from bytes reading laid made room =
+    let after = put (reads ++ more) (from + row.reads_done) bytes made.here in
+    let none = (lacks_none (after_read row from) (omega arith)).lacks in
+    room_set rows ops reads (with_page (reads ++ more) (from + row.reads_done) bytes) all placed (placed + places_lacking row) capacity n
+    row (after_read row from) reading.there (omega (arith, none))
+    (after.most (placed + places_lacking row) made.filled
+    (next_within rows ops reads more placed (placed + places_lacking row) n row from reading laid made)) room
+
+-- there is room for its next read
+pub read_room : (rows : List Row) (ops : List Op) (reads more : List PageData) (all placed capacity n : ℕ) (row : Row) (from : ℕ)
+    → IsReading rows ops n row → AreLaid rows ops reads placed → IsMade rows ops reads more (placed + places_lacking row) n row from
+    → HaveRoom rows ops reads all placed capacity → from + row.reads_done < capacity
+read_room rows ops reads more all placed capacity n row from reading laid made room =
+    let within = next_within rows ops reads more placed (placed + places_lacking row) n row from reading laid made in
+    let mine = row_room rows ops reads all placed capacity n row reading.there room in
+    let most = room.room in
+    omega arith
 
 -- the jobs after a read of one of them gave its bytes
-pub jobs_read : (rows : List Row) (ops : List Op) (reads more : List PageData) (n : ℕ) (row : Row) (from : ℕ) (bytes : PageData)
-    → IsReading rows ops n row → AreLaid rows ops reads → IsMade rows ops reads more n row from
-    → jobs_at ops (set (reads ++ more) (from + row.reads_done) bytes) (set rows n (after_read row from))
+pub jobs_read : (rows : List Row) (ops : List Op) (reads more : List PageData) (placed placed' n : ℕ) (row : Row) (from : ℕ)
+    (bytes : PageData)
+    → IsReading rows ops n row → AreLaid rows ops reads placed → IsMade rows ops reads more placed' n row from
+    → jobs_at ops (with_page (reads ++ more) (from + row.reads_done) bytes) (set rows n (after_read row from))
     ≡ changed_at (jobs_at ops reads rows) n (λ (job : JobRecord). with_read bytes (with_one_more_slot job))
-jobs_read rows ops reads more n row from bytes reading laid made =
+jobs_read rows ops reads more placed placed' n row from bytes reading laid made =
     map_changed (job_at ops reads) (job_at ops after) rows n row (after_read row from) (λ (job : JobRecord). with_read bytes (with_one_more_slot job))
     reading.there
     (ap (λ (l : List PageData). record (job_at ops reads row) { reads = l; work = row.work + 1 })
-    (reads_more (reads ++ more) from row.reads_done bytes (place_there rows ops reads more n row from reading laid made)
-    ∙ ap (λ (l : List PageData). l ++ bytes ∷ []) made.own))
-    (λ m other differs at_m. ap (λ (l : List PageData). record (job_at ops reads other) { reads = l })
-    (reads_stay (reads ++ more) other.first_place other.reads_done (from + row.reads_done) bytes (beside m other at_m differs)
-    ∙ cut reads more other.first_place other.reads_done (reads_there ops reads other (laid.each m other at_m))))
+    (is_put.own from row.reads_done refl ∙ ap (λ (l : List PageData). l ++ bytes ∷ []) made.own))
+    (λ m other differs at_m.
+    let there = (laid.each m other at_m).reads_there in
+    ap (λ (l : List PageData). record (job_at ops reads other) { reads = l })
+    (is_put.others other.first_place other.reads_done (omega (arith, there, length-append reads more)) (beside m other at_m differs)
+    ∙ cut reads more other.first_place other.reads_done there))
   where
     after : List PageData
-    after = set (reads ++ more) (from + row.reads_done) bytes
+    after = with_page (reads ++ more) (from + row.reads_done) bytes
+
+    is_put : IsPut (reads ++ more) (from + row.reads_done) bytes after
+    is_put = put (reads ++ more) (from + row.reads_done) bytes made.here
 
     beside : (m : ℕ) (other : Row) → slice_get rows m ≡ Some other → m ≢ n
         → (other.first_place + other.reads_done ≤ from + row.reads_done) ⊎ (from + row.reads_done < other.first_place)
@@ -365,49 +450,37 @@ row_stays : (ops more : List Op) (row : Row) → IsRowOf ops row → IsRowOf (op
 row_stays ops more row fits = record {
   ops_there = let h = fits.ops_there in omega (arith, length-append ops more);
   ops_few = fits.ops_few;
-  first_read_is = fits.first_read_is ∙ sym (ap (count_by is_read)
+  first_write_is = fits.first_write_is ∙ sym (ap writes
       (take-append-le row.first_op ops more (let h = fits.ops_there in omega arith)));
-  reads_done_is =
-      fits.reads_done_is ∙ sym (ap (λ (l : List Op). count_by is_read (take row.work l)) (ops_stay ops more row fits.ops_there));
+  read_count_is = fits.read_count_is ∙ sym (ap (count_by is_read) stay);
+  reads_done_is = fits.reads_done_is ∙ sym (ap (λ (l : List Op). count_by is_read (take row.work l)) stay);
+  writes_done_is = fits.writes_done_is ∙ sym (ap (λ (l : List Op). writes (take row.work l)) stay);
 }
-
--- it has as many places as before, and lacks as many
-places_stay : (ops more : List Op) (row : Row) → row.first_op + row.op_count ≤ length ops
-    → place_count (ops ++ more) row ≡ place_count ops row
-places_stay ops more row there =
-    ap (λ (l : List Op). cond (row.reads_done == 0) 0 (count_by is_read l)) (ops_stay ops more row there)
-
-lacks_stay : (ops more : List Op) (row : Row) → row.first_op + row.op_count ≤ length ops → places_lacking (ops ++ more) row ≡ places_lacking ops row
-lacks_stay ops more row there =
-    ap (λ (l : List Op). cond (row.reads_done == 0) (count_by is_read l) 0) (ops_stay ops more row there)
-
-sum_same : (f g : Row → ℕ) (rows : List Row) → ((n : ℕ) (row : Row) → slice_get rows n ≡ Some row → g row ≡ f row)
-    → sum_by g rows ≡ sum_by f rows
-sum_same f g [] same = refl
-sum_same f g (row ∷ rows) same =
-    let first = same 0 row refl in
-    let rest = sum_same f g rows (λ n other e. same (suc n) other e) in
-    omega (arith, sum_by-cons f row rows, sum_by-cons g row rows)
+  where
+    stay : ops_at (ops ++ more) row ≡ ops_at ops row
+    stay = ops_stay ops more row fits.ops_there
 
 -- a row that begins after all others
-pub record IsBegun (row : Row) (ops : List Op) (count : ℕ) : Type 0 where
+pub record IsBegun (row : Row) (ops more : List Op) : Type 0 where
   pub first_op_is : row.first_op ≡ length ops
-  pub op_count_is : row.op_count ≡ count
-  pub op_count_few : row.op_count < 2 ^ 16
-  pub first_read_is : row.first_read ≡ count_by is_read ops
+  pub op_count_is : row.op_count ≡ length more
+  pub op_count_few : row.op_count < 2 ^ 8
+  pub first_write_is : row.first_write ≡ writes ops
   pub first_place_is : row.first_place ≡ 0
+  pub read_count_is : row.read_count ≡ count_by is_read more
   pub reads_done_is : row.reads_done ≡ 0
+  pub writes_done_is : row.writes_done ≡ 0
   pub work_is : row.work ≡ 0
 
-begun_ops : (ops more : List Op) (row : Row) → IsBegun row ops (length more) → ops_at (ops ++ more) row ≡ more
+begun_ops : (ops more : List Op) (row : Row) → IsBegun row ops more → ops_at (ops ++ more) row ≡ more
 begun_ops ops more row begun =
     ap (λ (n : ℕ). take row.op_count (drop n (ops ++ more))) begun.first_op_is
     ∙ ap (take row.op_count) (drop-append_seam ops more)
     ∙ take_all row.op_count more (let h = begun.op_count_is in omega arith)
 
-pub laid_push : (rows : List Row) (ops more : List Op) (reads : List PageData) (row : Row) → IsBegun row ops (length more)
-    → AreLaid rows ops reads → AreLaid (rows ++ row ∷ []) (ops ++ more) reads
-laid_push rows ops more reads row begun laid = record {
+pub laid_push : (rows : List Row) (ops more : List Op) (reads : List PageData) (placed : ℕ) (row : Row) → IsBegun row ops more
+    → AreLaid rows ops reads placed → AreLaid (rows ++ row ∷ []) (ops ++ more) reads placed
+laid_push rows ops more reads placed row begun laid = record {
   each = λ n other at_n. elim (push_cases rows row n other at_n) [ inl h ↦ old_row n other h | inr h ↦ rw (sym h.1) new_row ];
   ops_apart = λ n m one other at_n at_m before. elim (push_cases rows row m other at_m) [
     | inl h ↦ elim (push_cases rows row n one at_n) [
@@ -421,65 +494,69 @@ laid_push rows ops more reads row begun laid = record {
       | inr g ↦ absurd (let a = h.0 in let b = g.0 in omega arith)
     ]
   ];
+  places_within = λ n other at_n. elim (push_cases rows row n other at_n) [
+    | inl h ↦ laid.places_within n other h
+    | inr h ↦ rw (sym h.1) (omega (arith, new_ends))
+  ];
   places_apart = λ n m one other at_n at_m differs. elim (push_cases rows row n one at_n) [
     | inl h ↦ elim (push_cases rows row m other at_m) [
-      | inl g ↦
-          rw (places_stay ops more one (laid.each n one h).fits.ops_there)
-          (rw (places_stay ops more other (laid.each m other g).fits.ops_there) (laid.places_apart n m one other h g differs))
+      | inl g ↦ laid.places_apart n m one other h g differs
       | inr g ↦ rw (sym g.1) (inr (omega (arith, new_ends)))
     ]
     | inr h ↦ rw (sym h.1) (inl (omega (arith, new_ends)))
   ];
 }
   where
-    new_ends : row.first_place + place_count (ops ++ more) row ≡ 0
+    new_ends : row.first_place + place_count row ≡ 0
     new_ends =
-        let placed = (lacks_all (ops ++ more) row begun.reads_done_is).placed in
+        let placed = (lacks_all row begun.reads_done_is).placed in
         let first = begun.first_place_is in
         omega arith
+
+    -- it carried nothing yet
+    none : (p : Op → Bool) → count_by p (take row.work (ops_at (ops ++ more) row)) ≡ 0
+    none p = ap (λ (n : ℕ). count_by p (take n (ops_at (ops ++ more) row))) begun.work_is
 
     new_row : IsRowIn (ops ++ more) reads row
     new_row = record {
       fits = record {
         ops_there = let a = begun.first_op_is in let b = begun.op_count_is in omega (arith, length-append ops more);
         ops_few = begun.op_count_few;
-        first_read_is = begun.first_read_is
-            ∙ sym (ap (λ (n : ℕ). count_by is_read (take n (ops ++ more))) begun.first_op_is
-            ∙ ap (count_by is_read) (take-append_seam ops more));
-        reads_done_is = begun.reads_done_is ∙ sym (ap (λ (n : ℕ). count_by is_read (take n (ops_at (ops ++ more) row))) begun.work_is);
+        first_write_is = begun.first_write_is
+            ∙ sym (ap (λ (n : ℕ). writes (take n (ops ++ more))) begun.first_op_is
+            ∙ ap writes (take-append_seam ops more));
+        read_count_is = begun.read_count_is ∙ sym (ap (count_by is_read) (begun_ops ops more row begun));
+        reads_done_is = begun.reads_done_is ∙ sym (none is_read);
+        writes_done_is = begun.writes_done_is ∙ sym (none is_write);
       };
-      places_there = omega (arith, new_ends);
+      reads_there = let first = begun.first_place_is in let done = begun.reads_done_is in omega (arith, first, done);
     }
 
     old_row : (n : ℕ) (other : Row) → slice_get rows n ≡ Some other → IsRowIn (ops ++ more) reads other
     old_row n other at_n =
         let old = laid.each n other at_n in
-        record {
-          fits = row_stays ops more other old.fits;
-          places_there = let there = old.places_there in omega (arith, places_stay ops more other old.fits.ops_there);
-        }
+        record { fits = row_stays ops more other old.fits; reads_there = old.reads_there }
 
 -- room for the reads of all jobs and for its own
-pub room_push : (rows : List Row) (ops more : List Op) (reads : List PageData) (all all' capacity capacity' : ℕ) (row : Row)
-    → IsBegun row ops (length more) → all' ≡ all + count_by is_read more → all' ≤ capacity' → AreLaid rows ops reads
-    → HaveRoom rows ops reads all capacity → HaveRoom (rows ++ row ∷ []) (ops ++ more) reads all' capacity'
-room_push rows ops more reads all all' capacity capacity' row begun count_is fits laid room = record {
-  all_is = let old = room.all_is in omega (arith, sum_by-append read_of ops more);
+pub room_push : (rows : List Row) (ops more : List Op) (reads : List PageData) (all all' placed capacity capacity' : ℕ) (row : Row)
+    → IsBegun row ops more → all' ≡ all + count_by is_read more → all' ≤ capacity'
+    → HaveRoom rows ops reads all placed capacity → HaveRoom (rows ++ row ∷ []) (ops ++ more) reads all' placed capacity'
+room_push rows ops more reads all all' placed capacity capacity' row begun count_is fits room = record {
+  all_is = let old = room.all_is in omega (arith, count_is, sum_by-append (one_if is_read) ops more);
   places =
-      let old = sum_same (places_lacking ops) (places_lacking (ops ++ more)) rows
-      (λ n other at_n. lacks_stay ops more other (laid.each n other at_n).fits.ops_there) in
-      let new = (lacks_all (ops ++ more) row begun.reads_done_is).lacks ∙ ap (count_by is_read) (begun_ops ops more row begun) in
+      let new = (lacks_all row begun.reads_done_is).lacks ∙ begun.read_count_is in
       let before = room.places in
-      omega (arith, sum_by_push (places_lacking (ops ++ more)) rows row);
+      omega (arith, count_is, sum_by_push places_lacking rows row);
+  filled = room.filled;
   room = fits;
 }
 
 -- the jobs with it
-pub jobs_pushed : (rows : List Row) (ops more : List Op) (reads : List PageData) (row : Row) → IsBegun row ops (length more)
-    → AreLaid rows ops reads
+pub jobs_pushed : (rows : List Row) (ops more : List Op) (reads : List PageData) (placed : ℕ) (row : Row) → IsBegun row ops more
+    → AreLaid rows ops reads placed
     → jobs_at (ops ++ more) reads (rows ++ row ∷ []) ≡ jobs_at ops reads rows
     ++ record (new_record row.collects row.task row.release row.due more) { stage = row.stage } ∷ []
-jobs_pushed rows ops more reads row begun laid =
+jobs_pushed rows ops more reads placed row begun laid =
     map-append (job_at (ops ++ more) reads) rows (row ∷ [])
     ∙ ap (λ (l : List JobRecord). l ++ job_at (ops ++ more) reads row ∷ [])
     (map_same (job_at ops reads) (job_at (ops ++ more) reads) rows stays)

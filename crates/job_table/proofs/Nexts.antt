@@ -1,5 +1,5 @@
 -- The first key of those that wait is that of the job that is released next.
-use Rattle.std.proofs.Common.{◌≡◌, ℕ, ◌<◌, ◌≤◌, Bool, true, false, refl, sym, ap, ◌∙◌, arith, ◌&&◌, nat_lt, List, [], ◌∷◌, slice_get, Some}
+use Rattle.std.proofs.Common.{◌≡◌, ℕ, ◌<◌, ◌≤◌, Bool, true, false, refl, sym, ap, ◌∙◌, arith, List, [], ◌∷◌, slice_get, Some}
 use Rattle.std.proofs.Common.{None, option_map, inl, inr, subst}
 use Rattle.std.proofs.lemmas.Bool.Decides.{nat_tests}
 use Rattle.due_queue.specs.declared.keys.Key.{Key}

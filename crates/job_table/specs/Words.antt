@@ -1,14 +1,10 @@
 -- Operations as words, with the bytes of those that write beside them.
 use Rattle.std.specs.Prelude.{ℕ, ◌+◌, ◌*◌, ◌/◌, ◌%◌, ◌==◌, nat_lt, Bool, List, [], ◌∷◌, replicate, length, drop, count_by, slice_index_or}
-use Rattle.std.specs.Prelude.{if◌then◌else◌, ◌≡◌}
+use Rattle.std.specs.Prelude.{if◌then◌else◌, ◌≡◌, false, Option, None, Some}
 use Rattle.slot_types.specs.declared.events.Op.{Op}
 use Rattle.slot_types.specs.declared.events.Op.TheVariants.{Read, Write, Trim}
 use Rattle.slot_types.specs.declared.pages.PageData.{PageData}
-
-abbrev pub page_of : Op → ℕ
-page_of (Read page) = page
-page_of (Write page bytes) = page
-page_of (Trim page) = page
+use Rattle.slot_types.specs.Operations.{page_of, is_write}
 
 -- its page leaves room in a word for what is done there
 abbrev pub has_word : Op → Bool
@@ -26,36 +22,40 @@ page_in word = word / 4
 abbrev pub is_read_in : ℕ → Bool
 is_read_in word = word % 4 == 0
 
-abbrev pub is_trim_in : ℕ → Bool
-is_trim_in word = word % 4 == 2
+abbrev pub is_write_in : ℕ → Bool
+is_write_in word = word % 4 == 1
 
 abbrev pub blank : PageData
 blank = record { 0 = replicate 16 255 }
 
--- the bytes of those that aren't reads, in order: a trim has some that nobody looks at
+-- the bytes of those that write, in order
 abbrev pub bytes_of : List Op → List PageData
 bytes_of [] = []
 bytes_of (Read page ∷ ops) = bytes_of ops
 bytes_of (Write page bytes ∷ ops) = bytes ∷ bytes_of ops
-bytes_of (Trim page ∷ ops) = blank ∷ bytes_of ops
+bytes_of (Trim page ∷ ops) = bytes_of ops
 
--- the operation of a word that isn't a read, with these bytes
-abbrev pub changing_in : ℕ → PageData → Op
-changing_in word bytes = if is_trim_in word then Trim (page_in word) else Write (page_in word) bytes
+abbrev pub is_some_write : Option Op → Bool
+is_some_write None = false
+is_some_write (Some op) = is_write op
+
+-- the operation of a word that isn't a write
+abbrev pub unwritten_in : ℕ → Op
+unwritten_in word = if is_read_in word then Read (page_in word) else Trim (page_in word)
 
 -- the operation of a word, where these bytes come next
 abbrev pub op_in : ℕ → List PageData → Op
-op_in word bytes = if is_read_in word then Read (page_in word) else changing_in word (slice_index_or bytes 0 blank)
+op_in word bytes = if is_write_in word then Write (page_in word) (slice_index_or bytes 0 blank) else unwritten_in word
 
--- the bytes that are left after it: a read takes none
+-- the bytes that are left after it: only a write takes some
 abbrev pub bytes_behind : ℕ → List PageData → List PageData
-bytes_behind word bytes = if is_read_in word then bytes else drop 1 bytes
+bytes_behind word bytes = if is_write_in word then drop 1 bytes else bytes
 
--- the operations that these words stand for: each that isn't a read takes the next of the bytes
+-- the operations that these words stand for: each write takes the next of the bytes
 abbrev pub ops_of : List ℕ → List PageData → List Op
 ops_of [] bytes = []
 ops_of (word ∷ words) bytes = op_in word bytes ∷ ops_of words (bytes_behind word bytes)
 
--- each word is a read or has bytes of its own
-pub record HasBytes (words : List ℕ) (bytes : List PageData) : Type 0 where
-  pub each : length bytes + count_by is_read_in words ≡ length words
+-- each write has bytes of its own, and nothing else has some
+abbrev pub HasBytes : List ℕ → List PageData → Type 0
+HasBytes words bytes = length bytes ≡ count_by is_write_in words

@@ -1,19 +1,18 @@
 //! The operations of all jobs.
 
-ghost use Rattle.std.specs.Prelude.{◌≡◌, ◌+◌, ◌<◌, ◌≤◌, ◌++◌, true, Some, [], length, take, count_by, slice_get, OnOk, OnErr};
+ghost use Rattle.std.specs.Prelude.{◌≡◌, ◌+◌, ◌<◌, ◌≤◌, ◌++◌, Some, [], length, take, slice_get, OnOk, OnErr};
 ghost use Rattle.slot_types.specs.Refusal.{FailsForMemory};
-ghost use Rattle.std.specs.List.{list_all};
-ghost use Rattle.job_table.specs.Jobs.{is_read};
-ghost use Rattle.job_table.specs.Words.{has_word};
+ghost use Rattle.slot_types.specs.Operations.{writes};
+ghost use Rattle.job_table.specs.Words.{is_some_write};
 
-use crate::words::{count_reads_in, is_read_in, is_trim_in, page_in, push_bytes, push_words};
+use crate::counted_ops::CountedOps;
+use crate::words::{count_writes_in, is_read_in, is_write_in, page_in, push_ops};
 use slot_types::{Op, PageData, Refusal};
 use std::alloc::Global;
 use std::marker::Model;
 
-/// Operations, one after another. One takes four bytes, and one that isn't a read those of its page besides: these
-/// stand in the order of their operations, so that the place of an operation's bytes is the number of operations before
-/// it that aren't reads.
+/// Operations, one after another. One takes four bytes, and a write those of its page besides: these stand in the order
+/// of their operations, so that the place of a write's bytes is the number of writes before it.
 #[derive(Drop)]
 pub(crate) struct OpArena {
     words: Vec<u32>,
@@ -58,45 +57,55 @@ impl OpArena {
         self.words.len()
     }
 
-    /// The operation at a place, which has so many reads before it.
-    pub(crate) fn get(&self, place: usize, reads: usize) -> Op
+    /// How many of them write.
+    pub(crate) fn writes(&self) -> usize
+        ensures { result ≡ writes self.now }
+    {
+        self.bytes.len()
+    }
+
+    /// The operation at a place, which has so many writes before it.
+    pub(crate) fn get(&self, place: usize, before: usize) -> Op
         requires there { place < length self.now }
-        requires reads { reads ≡ count_by is_read (take place self.now) }
+        requires writes { before ≡ writes (take place self.now) }
         ensures { slice_get self.now place ≡ Some result }
     {
         let word = self.words[place];
-        if is_read_in(word) {
+        if is_write_in(word) {
+            Op::Write(page_in(word), self.bytes[before])
+        } else if is_read_in(word) {
             Op::Read(page_in(word))
-        } else if is_trim_in(word) {
-            Op::Trim(page_in(word))
         } else {
-            Op::Write(page_in(word), self.bytes[place - reads])
+            Op::Trim(page_in(word))
         }
     }
 
-    /// How many reads there are from one place to before another.
-    pub(crate) fn count_reads(&self, from: usize, to: usize) -> usize
-        requires rise { from ≤ to }
-        requires there { to ≤ length self.now }
-        ensures { count_by is_read (take from self.now) + result
-            ≡ count_by is_read (take to self.now) }
+    /// Whether the operation at a place is a write.
+    pub(crate) fn is_write_at(&self, place: usize) -> bool
+        requires { place < length self.now }
+        ensures { result ≡ is_some_write (slice_get self.now place) }
     {
-        count_reads_in(&self.words[from..to])
+        is_write_in(self.words[place])
     }
 
-    /// Adds operations, of which so many are reads, and whose pages leave room in their words. Refused with `NoMemory`,
-    /// none is added.
-    pub(crate) fn push_all(&mut self, ops: &[Op], reads: usize) -> Result<(), Refusal>
-        requires reads { reads ≡ count_by is_read ops.now }
-        requires words { list_all has_word ops.now ≡ true }
+    /// How many writes there are from one place to before another.
+    pub(crate) fn count_writes(&self, from: usize, to: usize) -> usize
+        requires rise { from ≤ to }
+        requires there { to ≤ length self.now }
+        ensures { writes (take from self.now) + result ≡ writes (take to self.now) }
+    {
+        count_writes_in(&self.words[from..to])
+    }
+
+    /// Adds operations. Refused with `NoMemory`, none is added.
+    pub(crate) fn push_all(&mut self, ops: &CountedOps) -> Result<(), Refusal>
         ensures ok { OnOk result (self.new ≡ self.old ++ ops.now) }
         ensures refused { FailsForMemory result }
         ensures err { OnErr result (self.new ≡ self.old) }
     {
         self.words.reserve(ops.len())?;
-        self.bytes.reserve(ops.len() - reads)?;
-        push_words(&mut self.words, ops);
-        push_bytes(&mut self.bytes, ops);
+        self.bytes.reserve(ops.writes())?;
+        push_ops(&mut self.words, &mut self.bytes, ops.as_slice());
         Ok(())
     }
 }

@@ -1,20 +1,20 @@
 //! The jobs and collections of a table by number, without a list of their own each.
 
-ghost use Rattle.std.specs.Prelude.{◌≡◌, ◌+◌, ◌<◌, ◌≤◌, ◌^◌, ◌∷◌, ◌++◌, [], true, false, Some, length, slice_get, replicate, vec_len};
+ghost use Rattle.std.specs.Prelude.{◌≡◌, ◌+◌, ◌<◌, ◌≤◌, ◌^◌, ◌∷◌, ◌++◌, [], true, false, Some, length, slice_get, replicate, vec_len, if◌then◌else◌};
 ghost use Rattle.std.specs.Prelude.{vec_capacity, OnOk, IfOk, OnErr};
 ghost use Rattle.slot_types.specs.Refusal.{FailsForMemory};
 ghost use Rattle.slot_types.specs.declared.limits.TheConstants.{MAX_JOBS, MAX_OPS};
-ghost use Rattle.job_table.specs.Jobs.{JobRecord, new_job, new_collection, new_record, with_one_more_slot, with_read, with_stage};
+ghost use Rattle.job_table.specs.Jobs.{JobRecord, new_record, with_one_more_slot, with_read, with_stage};
 ghost use Rattle.job_table.specs.Table.{changed_at, work_at, reads_next_at};
-ghost use Rattle.job_table.specs.Words.{blank, has_word};
-ghost use Rattle.std.specs.List.{list_all};
-ghost use Rattle.job_table.specs.Flat.{places_lacking, place_from};
+ghost use Rattle.job_table.specs.Words.{blank, is_some_write};
+ghost use Rattle.job_table.specs.Flat.{ops_at, places_lacking, places_unfilled, place_from, with_page, IsRowOf};
 
 use crate::arenas::OpArena;
-use crate::jobs::{Job, count_reads};
+use crate::counted_ops::CountedOps;
+use crate::jobs::Job;
 use crate::rows::Row;
 use crate::stages::Stage;
-use slot_types::{JobNo, Op, PageData, Refusal, TaskNo};
+use slot_types::{JobHead, JobNo, PageData, Refusal};
 use std::alloc::Global;
 use std::marker::Model;
 
@@ -24,9 +24,11 @@ use std::marker::Model;
 pub(crate) struct FlatJobs {
     rows: Vec<Row>,
     ops: OpArena,
-    /// A place for each read of the jobs that have read, and room for those of all others: so a job that never runs
-    /// takes room for its reads, and none of it is touched.
+    /// What reads gave, each in a place of its job, and room for the reads of all jobs: so a job that never runs takes
+    /// room for its reads, and none of it is touched.
     reads: Vec<PageData>,
+    /// How many places were given to jobs, of which the last may not be filled yet.
+    placed: u32,
     /// How many reads all jobs have.
     all_reads: u32,
 }
@@ -42,13 +44,13 @@ impl Model for FlatJobs {
 
     ghost view = { λ j. jobs_at j.ops j.reads.items j.rows.items };
 
-    ghost invariant = { λ j. AreLaid j.rows.items j.ops j.reads.items
-        × HaveRoom j.rows.items j.ops j.reads.items j.all_reads (vec_capacity j.reads)
+    ghost invariant = { λ j. AreLaid j.rows.items j.ops j.reads.items j.placed
+        × HaveRoom j.rows.items j.ops j.reads.items j.all_reads j.placed (vec_capacity j.reads)
         × HasFewOps j.rows.items j.ops };
 }
 
-/// Adds so many places, in room that was made.
-fn push_places(reads: &mut Vec<PageData>, count: usize)
+/// Fills so many places, in room that was made.
+fn fill_places(reads: &mut Vec<PageData>, count: usize)
     requires room { vec_len reads.old + count ≤ vec_capacity reads.old }
     ensures places { reads.new.items ≡ reads.old.items ++ replicate count blank }
     ensures capacity { vec_capacity reads.new ≡ vec_capacity reads.old }
@@ -58,22 +60,56 @@ fn push_places(reads: &mut Vec<PageData>, count: usize)
     }
 }
 
-/// Makes the places of a row that has not read yet, in room that was made. One that has read keeps those that it has.
-fn make_places(row: &mut Row, ops: &OpArena, reads: &mut Vec<PageData>)
-    requires ops { row.old.first_op + row.old.op_count ≤ length ops.now }
-    requires room { vec_len reads.old + places_lacking ops.now row.old ≤ vec_capacity reads.old }
-    requires few { vec_len reads.old < 2 ^ 32 }
-    ensures row { row.new
-        ≡ record row.old { first_place = place_from (vec_len reads.old) row.old } }
+/// Gives a row that has not read yet a place for each of its reads, after those of all others. One that has read keeps
+/// those that it has.
+///
+/// Jobs may read by turns, and each lends what its reads gave as one slice. So a job's places stay next to each other:
+/// where the job before has reads left, their places are filled first.
+fn give_places(row: &mut Row, reads: &mut Vec<PageData>, placed: &mut u32)
+    requires filled { vec_len reads.old ≤ placed.old }
+    requires room { placed.old ≤ vec_capacity reads.old }
+    requires few { placed.old + places_lacking row.old < 2 ^ 32 }
+    ensures placed { placed.new ≡ placed.old + places_lacking row.old }
+    ensures row { row.new ≡ record row.old { first_place = place_from placed.old row.old } }
     ensures places { reads.new.items ≡ reads.old.items
-        ++ replicate (places_lacking ops.now row.old) blank }
+        ++ replicate (places_unfilled placed.old (vec_len reads.old) row.old) blank }
     ensures capacity { vec_capacity reads.new ≡ vec_capacity reads.old }
 {
     if row.reads_done == 0 {
-        let from = row.first_op as usize;
-        let count = ops.count_reads(from, from + row.op_count as usize);
-        row.first_place = reads.len() as u32;
-        push_places(reads, count);
+        let unfilled = *placed as usize - reads.len();
+        fill_places(reads, unfilled);
+        row.first_place = *placed;
+        *placed += row.read_count as u32;
+    }
+}
+
+/// Puts the bytes of a read at its place, or after all others, in room that was made.
+fn put_page(reads: &mut Vec<PageData>, place: usize, bytes: PageData)
+    requires there { place ≤ vec_len reads.old }
+    requires room { place < vec_capacity reads.old }
+    ensures pages { reads.new.items ≡ with_page reads.old.items place bytes }
+    ensures capacity { vec_capacity reads.new ≡ vec_capacity reads.old }
+{
+    if place == reads.len() {
+        reads.push_reserved(bytes);
+    } else {
+        reads[place] = bytes;
+    }
+}
+
+/// How many writes the next operation of a row is: one or none.
+fn next_writes(row: &Row, ops: &OpArena) -> u8
+    requires { IsRowOf ops.now row.now }
+    ensures { result
+        ≡ (if is_some_write (slice_get (ops_at ops.now row.now) row.now.work) then 1 else 0) }
+{
+    if row.work >= row.op_count as u32 {
+        return 0;
+    }
+    if ops.is_write_at(row.first_op as usize + row.work as usize) {
+        1
+    } else {
+        0
     }
 }
 
@@ -86,6 +122,7 @@ impl FlatJobs {
             rows: Vec::new(alloc),
             ops: OpArena::new(alloc),
             reads: Vec::new(alloc),
+            placed: 0,
             all_reads: 0,
         }
     }
@@ -97,6 +134,7 @@ impl FlatJobs {
         self.rows.clear();
         self.ops.clear();
         self.reads.clear();
+        self.placed = 0;
         self.all_reads = 0;
     }
 
@@ -130,85 +168,44 @@ impl FlatJobs {
         }
     }
 
-    /// Adds a job that has not begun, of at most 64 operations whose pages fit their words, and answers its number. It
-    /// takes all memory that the job will ever need. Refused with `NoMemory`, all stay as they were.
-    pub(crate) fn push_job(
-        &mut self,
-        task: TaskNo,
-        release: u32,
-        due: u32,
-        ops: &[Op],
-    ) -> Result<u32, Refusal>
+    /// Adds a job of at most 64 operations that has not begun, or a collection, and answers its number. It takes all
+    /// memory that it will ever need. Refused with `NoMemory`, all stay as they were.
+    pub(crate) fn push(&mut self, head: JobHead, ops: &CountedOps) -> Result<u32, Refusal>
         requires few { length self.old < MAX_JOBS }
         requires few_ops { length ops.now ≤ MAX_OPS }
-        requires words { list_all has_word ops.now ≡ true }
-        ensures ok { OnOk result (self.new ≡ self.old ++ new_job task release due ops.now ∷ []) }
-        ensures number { IfOk result (λ number. number ≡ length self.old) }
-        ensures refused { FailsForMemory result }
-        ensures err { OnErr result (self.new ≡ self.old) }
-    {
-        self.push(false, task, release, due, ops)
-    }
-
-    /// Adds a collection that has not begun, and answers its number. Refused with `NoMemory`, all stay as they were.
-    pub(crate) fn push_collection(
-        &mut self,
-        task: TaskNo,
-        release: u32,
-        due: u32,
-    ) -> Result<u32, Refusal>
-        requires { length self.old < MAX_JOBS }
-        ensures ok { OnOk result (self.new ≡ self.old ++ new_collection task release due ∷ []) }
-        ensures number { IfOk result (λ number. number ≡ length self.old) }
-        ensures refused { FailsForMemory result }
-        ensures err { OnErr result (self.new ≡ self.old) }
-    {
-        self.push(true, task, release, due, &[])
-    }
-
-    fn push(
-        &mut self,
-        collects: bool,
-        task: TaskNo,
-        release: u32,
-        due: u32,
-        ops: &[Op],
-    ) -> Result<u32, Refusal>
-        requires few { length self.old < MAX_JOBS }
-        requires few_ops { length ops.now ≤ MAX_OPS }
-        requires words { list_all has_word ops.now ≡ true }
         ensures ok { OnOk result (self.new
-            ≡ self.old ++ new_record collects task release due ops.now ∷ []) }
+            ≡ self.old ++ new_record head.collects head.task head.release head.due ops.now ∷ []) }
         ensures number { IfOk result (λ number. number ≡ length self.old) }
         ensures refused { FailsForMemory result }
         ensures err { OnErr result (self.new ≡ self.old) }
     {
-        let reads = count_reads(ops);
-        let all_reads = self.all_reads as usize + reads;
+        let all_reads = self.all_reads as usize + ops.reads();
         let row = Row {
-            task,
-            release,
-            due,
+            task: head.task,
+            release: head.release,
+            due: head.due,
             first_op: self.ops.len() as u32,
-            first_read: self.all_reads,
+            first_write: self.ops.writes() as u32,
             first_place: 0,
-            op_count: ops.len() as u16,
-            reads_done: 0,
             work: 0,
             stage: Stage::Pending,
-            collects,
+            op_count: ops.len() as u8,
+            read_count: ops.reads() as u8,
+            reads_done: 0,
+            writes_done: 0,
+            collects: head.collects,
         };
         self.rows.reserve(1)?;
         // Room for the reads of all jobs that have no places yet, and of this one.
         self.reads.reserve(all_reads - self.reads.len())?;
-        self.ops.push_all(ops, reads)?;
+        self.ops.push_all(ops)?;
         let number = self.rows.len() as u32;
         self.rows.push_reserved(row);
         self.all_reads = all_reads as u32;
         Ok(number)
     }
 
-    /// How many places for what reads give have been made.
+    /// How many places for what reads give have been filled.
     #[cfg(test)]
     pub(crate) fn place_count(&self) -> usize {
         self.reads.len()
@@ -222,6 +219,7 @@ impl FlatJobs {
         ensures { self.new ≡ changed_at self.old number with_one_more_slot }
     {
         let row = &mut self.rows[number.0 as usize];
+        row.writes_done += next_writes(row, &self.ops);
         row.work += 1;
     }
 
@@ -234,11 +232,11 @@ impl FlatJobs {
             with_read bytes (with_one_more_slot job)) }
     {
         let row = &mut self.rows[number.0 as usize];
-        make_places(row, &self.ops, &mut self.reads);
+        give_places(row, &mut self.reads, &mut self.placed);
         let place = row.first_place as usize + row.reads_done as usize;
         row.reads_done += 1;
         row.work += 1;
-        self.reads[place] = bytes;
+        put_page(&mut self.reads, place, bytes);
     }
 
     /// It stands otherwise from now on.

@@ -2,9 +2,7 @@
 
 ghost use Rattle.std.specs.Prelude.{◌≡◌, ◌<◌, ◌≤◌, ◌+◌, ◌^◌, ◌==◌, List, true, false, length, slice_get, OnOk, IfOk, OnErr, IfSome};
 ghost use Rattle.std.specs.Prelude.{IfNone, IsTrue, ◌↔◌};
-ghost use Rattle.std.specs.List.{list_all};
 ghost use Rattle.slot_types.specs.Refusal.{FailsForMemory};
-ghost use Rattle.job_table.specs.Words.{has_word};
 ghost use Rattle.job_table.specs.Jobs.{JobRecord, new_job, new_collection, with_one_more_slot, with_read, with_stage};
 ghost use Rattle.job_table.specs.Table.{empty_table, with_job, with_change, work_at, reads_next_at, is_collecting};
 ghost use Rattle.job_table.specs.Waivers.{AreWaived, WerePending, jobs_after_waivers, stopped_table};
@@ -13,12 +11,13 @@ ghost use Rattle.job_table.specs.Order.{IsHead, IsNextReleased, NothingReady, No
 ghost use Rattle.job_table.specs.Worst.{IsWorst, NothingDone, lateness_at};
 
 use crate::changes::{end_job, take_back};
+use crate::counted_ops::CountedOps;
 use crate::flat_jobs::FlatJobs;
 use crate::jobs::Job;
 use crate::queues::Queues;
 use crate::stages::Stage;
 use crate::worst::worse_of;
-use slot_types::{JobNo, MAX_JOBS, MAX_OPS, Op, PageData, Refusal, TaskNo, Waived};
+use slot_types::{JobHead, JobNo, MAX_JOBS, MAX_OPS, PageData, Refusal, TaskNo, Waived};
 use std::alloc::Global;
 use std::marker::Model;
 
@@ -116,7 +115,7 @@ impl JobTable {
         self.ended
     }
 
-    /// How many places for what reads give have been made.
+    /// How many places for what reads give have been filled.
     #[cfg(test)]
     pub(crate) fn place_count(&self) -> usize {
         self.jobs.place_count()
@@ -162,27 +161,34 @@ impl JobTable {
     }
 
     /// Accepts a job under the next number, to run from slot `release` on. There are fewer than `MAX_JOBS`; it has at
-    /// most `MAX_OPS` operations, on pages below 2^30. All memory that it will ever need is taken here: refused with
-    /// `NoMemory`, the table stays as it was.
+    /// most `MAX_OPS` operations. All memory that it will ever need is taken here: refused with `NoMemory`, the table
+    /// stays as it was.
     pub fn add_job(
         &mut self,
         _alloc: Global,
         task: TaskNo,
         release: u32,
         due: u32,
-        ops: &[Op],
+        ops: &CountedOps,
     ) -> Result<JobNo, Refusal>
         requires running { self.old.ended ≡ false }
         requires few { length self.old.jobs < MAX_JOBS }
         requires few_ops { length ops.now ≤ MAX_OPS }
-        requires words { list_all has_word ops.now ≡ true }
         ensures ok { OnOk result (self.new ≡ with_job self.old (new_job task release due ops.now)) }
         ensures number { IfOk result (λ number. number ≡ length self.old.jobs) }
         ensures refused { FailsForMemory result }
         ensures err { OnErr result (self.new ≡ self.old) }
     {
         self.queues.reserve()?;
-        let number = self.jobs.push_job(task, release, due, ops)?;
+        let number = self.jobs.push(
+            JobHead {
+                collects: false,
+                task,
+                release,
+                due,
+            },
+            ops,
+        )?;
         self.queues.enter(self.clock, number, release, due);
         Ok(JobNo(number))
     }
@@ -206,7 +212,15 @@ impl JobTable {
         ensures err { OnErr result (self.new ≡ self.old) }
     {
         self.queues.reserve()?;
-        let number = self.jobs.push_collection(task, release, due)?;
+        let number = self.jobs.push(
+            JobHead {
+                collects: true,
+                task,
+                release,
+                due,
+            },
+            &CountedOps::none(),
+        )?;
         self.queues.enter(self.clock, number, release, due);
         self.collecting[task.0 as usize] = true;
         Ok(JobNo(number))

@@ -75,8 +75,8 @@ impl<'a> Job<'a> {
         }
         let from = self.row.first_op as usize;
         let at = from + place as usize;
-        let reads = self.row.first_read as usize + self.ops.count_reads(from, at);
-        Some(self.ops.get(at, reads))
+        let writes = self.row.first_write as usize + self.ops.count_writes(from, at);
+        Some(self.ops.get(at, writes))
     }
 
     /// The operation that its next slot carries, if one is left.
@@ -87,8 +87,8 @@ impl<'a> Job<'a> {
             return None;
         }
         let at = self.row.first_op as usize + self.row.work as usize;
-        let reads = self.row.first_read as usize + self.row.reads_done as usize;
-        Some(self.ops.get(at, reads))
+        let writes = self.row.first_write as usize + self.row.writes_done as usize;
+        Some(self.ops.get(at, writes))
     }
 
     /// How many slots it took so far. Its reads gave their bytes in as many of them as there are reads among the
@@ -138,17 +138,4 @@ impl<'a> Job<'a> {
             _ => 0,
         }
     }
-}
-
-/// How many of these operations are reads.
-pub(crate) fn count_reads(ops: &[Op]) -> usize
-    ensures { result ≡ count_by is_read ops.now }
-{
-    ops.iter().filter(|op| is_read(**op)).count()
-}
-
-fn is_read(op: Op) -> bool
-    ensures { result ≡ is_read op }
-{
-    matches!(op, Op::Read(_))
 }

@@ -3,6 +3,7 @@
 
 mod arenas;
 mod changes;
+pub mod counted_ops;
 mod flat_jobs;
 pub mod job_table;
 pub mod jobs;
@@ -17,7 +18,7 @@ mod twin;
 mod words;
 mod worst;
 
+pub use counted_ops::CountedOps;
 pub use job_table::JobTable;
 pub use jobs::Job;
 pub use stages::Stage;
-pub use words::have_words;

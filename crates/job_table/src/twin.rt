@@ -1,7 +1,7 @@
 //! A table beside lists that each job has of its own: both say the same of each job, step by step.
 
+use crate::counted_ops::CountedOps;
 use crate::job_table::JobTable;
-use crate::words::have_words;
 use slot_types::{JobNo, MAX_JOBS, MAX_OPS, Op, OpList, PageData, Refusal, TaskNo};
 use std::alloc::Global;
 use std::test::Fail;
@@ -51,9 +51,13 @@ fn accept(
         return Ok(());
     }
     let ops = some_ops(alloc, seed)?;
-    if ops.len() > MAX_OPS as usize || !have_words(ops.as_slice()) {
+    if ops.len() > MAX_OPS as usize {
         return Err(Refusal::TooManyOps);
     }
+    let counted = match CountedOps::count(ops.as_slice(), 1 << 30) {
+        Ok(counted) => counted,
+        Err(page) => return Err(Refusal::BadPage { page }),
+    };
     let plain = Plain {
         ops: Vec::from_slice(alloc, ops.as_slice())?,
         reads: Vec::with_capacity(alloc, ops.len())?,
@@ -61,7 +65,7 @@ fn accept(
     jobs.reserve(1)?;
     let release = table.clock().saturating_add(draw(seed) % 4);
     let due = release.saturating_add(draw(seed) % 9);
-    let _number = table.add_job(alloc, TaskNo(0), release, due, ops.as_slice())?;
+    let _number = table.add_job(alloc, TaskNo(0), release, due, &counted)?;
     jobs.push_reserved(plain);
     Ok(())
 }

@@ -1,44 +1,25 @@
 -- The table can keep what a die accepts: it has few operations, on pages whose numbers leave room in their words.
-use Rattle.std.proofs.Common.{nat_lt, ◌≡◌, ℕ, ◌+◌, ◌-◌, ◌*◌, ◌≤◌, Bool, true, false, List, [], ◌∷◌, None, refl, length, nat_le, arith, inl, inr}
-use Rattle.std.specs.Prelude.{is_some, option_map}
-use Rattle.std.specs.List.{find, list_all}
-use Rattle.std.proofs.Math.Nat.{mul-le-mul_left, mul-le-mul_right}
-use Rattle.std.proofs.lemmas.Bool.{cases_Bool}
+use Rattle.std.proofs.Common.{nat_lt, ◌≡◌, ℕ, ◌+◌, ◌-◌, ◌*◌, ◌≤◌, false, List, None, length, arith}
+use Rattle.std.proofs.Math.Nat.{mul-le-mul_right}
 use Rattle.std.proofs.lemmas.Bool.Decides.{nat_tests}
 use Rattle.slot_types.specs.declared.limits.TheConstants.{MAX_OPS}
 use Rattle.slot_types.specs.declared.plans.DiePlan.{DiePlan}
 use Rattle.slot_types.specs.declared.events.Op.{Op}
-use Rattle.slot_types.specs.declared.events.Op.TheVariants as asks
 use Rattle.slot_types.specs.declared.events.Event.TheVariants as events
-use Rattle.slot_types.specs.Operations.{page_of}
 use Rattle.plan_rules.specs.Bound.{MeetsBound, closed_of}
-use Rattle.job_table.specs.Words.{has_word}
 use Rattle.die_log.specs.Model.Answers.{refusal_of, refusals}
 use Rattle.die_log.specs.Model.Log.{Log}
 use Rattle.die_log.specs.Model.Start.{Start}
 use Rattle.die_log.proofs.Legality.{none_stands}
 
 -- a die within its bound has few logical pages
-few_pages : (plan : DiePlan) → MeetsBound plan → plan.logical ≤ 1073741824
+pub few_pages : (plan : DiePlan) → MeetsBound plan → plan.logical ≤ 1073741824
 few_pages plan bound =
     let rest = plan.shape.pages - plan.alpha + 1 in
     let wide : rest ≤ 257 = omega (arith, bound.shape.few_pages) in
     let closed : closed_of plan ≤ 1024 = omega (arith, bound.shape.few_blocks) in
     let most : closed_of plan * rest ≤ 1024 * rest = mul-le-mul_right rest closed in
     omega (arith, bound.live, most, wide)
-
-has-word : (most : ℕ) (op : Op) → most ≤ 1073741824 → nat_le most (page_of op) ≡ false → has_word op ≡ true
-has-word most (asks.Read page) few within = grind (arith, nat_tests)
-has-word most (asks.Write page bytes) few within = grind (arith, nat_tests)
-has-word most (asks.Trim page) few within = grind (arith, nat_tests)
-
-have-words : (most : ℕ) (ops : List Op) → most ≤ 1073741824 → is_some (option_map page_of (find (λ op. nat_le most (page_of op)) ops)) ≡ false
-    → list_all has_word ops ≡ true
-have-words most [] few none = refl
-have-words most (op ∷ ops) few none = elim (cases_Bool (nat_le most (page_of op))) [
-  | inl beyond ↦ cc (rw beyond at none)
-  | inr within ↦ rw (has-word most op few within) (have-words most ops few (rw within at none))
-]
 
 few-ops : (n : ℕ) → nat_lt MAX_OPS n ≡ false → n ≤ MAX_OPS
 few-ops n h = grind (arith, nat_tests)
@@ -47,9 +28,3 @@ pub accepted_few : (start : Start) (log : Log) (task release due : ℕ) (ops : L
     → refusal_of start log (events.Submit task release due ops) ≡ None → length ops ≤ MAX_OPS
 accepted_few start log task release due ops none =
     few-ops (length ops) (none_stands (refusals start log (events.Submit task release due ops)) none).1.1.0
-
-pub accepted_words : (start : Start) (log : Log) (task release due : ℕ) (ops : List Op) → MeetsBound start.plan
-    → refusal_of start log (events.Submit task release due ops) ≡ None → list_all has_word ops ≡ true
-accepted_words start log task release due ops bound none =
-    have-words start.plan.logical ops (few_pages start.plan bound)
-    (none_stands (refusals start log (events.Submit task release due ops)) none).1.1.1.0

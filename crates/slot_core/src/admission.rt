@@ -2,21 +2,19 @@
 
 ghost use Rattle.std.specs.Prelude.{◌≡◌, ◌∷◌, ◌+◌, ◌^◌, ◌<◌, ◌≤◌, true, false, length, IfOk, OnOk, OnErr};
 ghost use Rattle.std.specs.Prelude.{[]};
-ghost use Rattle.std.specs.List.{list_all};
+ghost use Rattle.std.specs.Result.{result_err};
 ghost use Rattle.slot_types.specs.Refusal.{FailsForMemory};
 ghost use Rattle.slot_types.specs.declared.replies.Reply.{Reply};
 ghost use Rattle.job_table.specs.Jobs.{new_job, new_collection};
 ghost use Rattle.job_table.specs.Table.{with_job, is_collecting};
-ghost use Rattle.job_table.specs.Words.{has_word};
 ghost use Rattle.die_log.specs.Model.Work.{is_collecting as collecting};
 ghost use Rattle.die_log.specs.Model.Answers.{refusal_of};
 ghost use Rattle.slot_core.specs.Calls.{IsCall, reply_as};
 
 use crate::die_core::DieCore;
-use crate::operations::{bad_page, count_writes};
 use event_log::{Deed, EventLog};
 use flash_die::Nand;
-use job_table::JobTable;
+use job_table::{CountedOps, JobTable};
 use slot_types::{Event, JobNo, MAX_JOBS, MAX_OPS, MAX_SLOT, Op, OpList, Refusal, TaskNo};
 use std::alloc::Global;
 
@@ -29,7 +27,7 @@ fn enter_job(
     task: TaskNo,
     release: u32,
     due: u32,
-    ops: &[Op],
+    ops: &CountedOps,
     reserved: u32,
 ) -> Result<JobNo, Refusal>
     requires running { table.old.ended ≡ false }
@@ -37,7 +35,6 @@ fn enter_job(
     requires few_events { length events.old.notes + 1 < 2 ^ 32 }
     requires reserved { reserved ≤ events.old.room }
     requires few_ops { length ops.now ≤ MAX_OPS }
-    requires words { list_all has_word ops.now ≡ true }
     ensures table { OnOk result (table.new
         ≡ with_job table.old (new_job task release due ops.now)) }
     ensures number { IfOk result (λ number. number ≡ length table.old.jobs) }
@@ -95,41 +92,48 @@ fn enter_collection(
 }
 
 impl<N: Nand> DieCore<N> {
-    /// Why a job is refused by a die that isn't stopped, if it is.
-    fn submit_refusal(&self, task: TaskNo, release: u32, due: u32, ops: &[Op]) -> Option<Refusal>
+    /// The operations of a job, counted, or why a die that isn't stopped refuses it.
+    fn checked_ops<'a>(
+        &self,
+        task: TaskNo,
+        release: u32,
+        due: u32,
+        ops: &'a [Op],
+    ) -> Result<CountedOps<'a>, Refusal>
         requires { self.now.stopped ≡ false }
-        ensures { result
+        ensures refusal { result_err result
             ≡ refusal_of self.now.start self.now.log (Event.Submit task release due ops.now) }
+        ensures ops { IfOk result (λ counted. counted ≡ ops.now) }
     {
         let plan = self.volume.plan();
         if task.0 as usize >= plan.caps.len() {
-            return Some(Refusal::UnknownTask);
+            return Err(Refusal::UnknownTask);
         }
         if ops.is_empty() {
-            return Some(Refusal::EmptyJob);
+            return Err(Refusal::EmptyJob);
         }
         if ops.len() > MAX_OPS as usize {
-            return Some(Refusal::TooManyOps);
+            return Err(Refusal::TooManyOps);
         }
-        match bad_page(ops, plan.logical) {
-            Some(page) => return Some(Refusal::BadPage { page }),
-            None => {}
-        }
+        let counted = match CountedOps::count(ops, plan.logical) {
+            Ok(counted) => counted,
+            Err(page) => return Err(Refusal::BadPage { page }),
+        };
         if release < self.present {
-            return Some(Refusal::ReleasePast { now: self.present });
+            return Err(Refusal::ReleasePast { now: self.present });
         }
         if due <= release || due > MAX_SLOT {
-            return Some(Refusal::BadDue);
+            return Err(Refusal::BadDue);
         }
         if self.table.len() >= MAX_JOBS {
-            return Some(Refusal::JobsFull);
+            return Err(Refusal::JobsFull);
         }
         let have = self.volume.balance(task);
-        let need = count_writes(ops) as u32;
+        let need = counted.writes() as u32;
         if have < need {
-            return Some(Refusal::NoTokens { have, need });
+            return Err(Refusal::NoTokens { have, need });
         }
-        None
+        Ok(counted)
     }
 
     /// Accepts a job of the task, to run from slot `release` on, with the deadline `due`, and answers its number. It
@@ -174,11 +178,10 @@ impl<N: Nand> DieCore<N> {
         if self.volume.failed() {
             return Err(Refusal::DieStopped);
         }
-        match self.submit_refusal(task, release, due, ops) {
-            Some(refusal) => return Err(refusal),
-            None => {}
-        }
-        let writes = count_writes(ops) as u32;
+        let counted = match self.checked_ops(task, release, due, ops) {
+            Ok(counted) => counted,
+            Err(refusal) => return Err(refusal),
+        };
         match enter_job(
             alloc,
             &mut self.table,
@@ -187,13 +190,13 @@ impl<N: Nand> DieCore<N> {
             task,
             release,
             due,
-            ops,
+            &counted,
             self.reserved,
         ) {
             Err(refusal) => Err(refusal),
             Ok(number) => {
                 // The tokens are there, so this isn't refused.
-                let _ = self.volume.admit(task, writes);
+                let _ = self.volume.admit(task, counted.writes() as u32);
                 Ok(number)
             }
         }

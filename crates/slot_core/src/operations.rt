@@ -13,39 +13,6 @@ use flash_die::Nand;
 use flash_volume::Volume;
 use slot_types::{Act, Op, Refusal, TaskNo};
 
-/// The logical page of an operation.
-pub(crate) fn page_of(op: Op) -> u32
-    ensures { result ≡ page_of op }
-{
-    match op {
-        Op::Read(page) => page,
-        Op::Write(page, _) => page,
-        Op::Trim(page) => page,
-    }
-}
-
-/// The first page of these operations that a die of so many logical pages doesn't have.
-pub(crate) fn bad_page(ops: &[Op], logical: u32) -> Option<u32>
-    ensures { result ≡ option_map page_of (find (λ op. nat_le logical (page_of op)) ops.now) }
-{
-    ops.iter()
-        .find(|op| page_of(**op) >= logical)
-        .map(|op| page_of(*op))
-}
-
-fn is_write(op: Op) -> bool
-    ensures { result ≡ is_write op }
-{
-    matches!(op, Op::Write(..))
-}
-
-/// How many of these operations are writes.
-pub(crate) fn count_writes(ops: &[Op]) -> usize
-    ensures { result ≡ writes ops.now }
-{
-    ops.iter().filter(|op| is_write(**op)).count()
-}
-
 /// Does an operation of a job of the task, which holds a page for it if it is a write.
 pub(crate) fn operate<N: Nand>(volume: &mut Volume<N>, task: TaskNo, op: Op) -> Result<Act, Refusal>
     requires alive { volume.old.failed ≡ false }

@@ -1,87 +1,134 @@
-use Rattle.std.proofs.Common.{◌≡◌, ℕ, List, Some, length, replicate, vec_len, vec_capacity, rules, arith, ap, ◌∙◌}
+use Rattle.std.proofs.Common.{◌≡◌, ◌<◌, ◌^◌, ℕ, ◌+◌, List, Some, true, slice_get, length, replicate, vec_len, vec_capacity, rules, arith, ap, ◌∙◌}
 use Rattle.std.proofs.lemmas.List.{length-replicate}
 use Rattle.slot_types.specs.declared.pages.PageData.{PageData}
 use Rattle.job_table.specs.declared.rows.Row.{Row}
-use Rattle.job_table.specs.Jobs.{JobRecord, with_one_more_slot, with_read}
+use Rattle.job_table.specs.Jobs.{JobRecord, is_read, with_one_more_slot, with_read}
 use Rattle.job_table.specs.Table.{changed_at, work_of}
 use Rattle.job_table.specs.Words.{blank}
-use Rattle.job_table.specs.Flat.{places_lacking, place_from}
-use Rattle.job_table.proofs.Reading.{next_few}
-use Rattle.job_table.proofs.Laying.{few_set, job_there, row_reading, made, place_there, laid_read, room_read, jobs_read}
+use Rattle.job_table.specs.Flat.{ops_at, places_lacking, places_unfilled, place_from}
+use Rattle.job_table.proofs.Reading.{read_of, next_few}
+use Rattle.job_table.proofs.Laying.{few_set, job_there, row_reading, row_room, made, read_room, laid_read, room_read, jobs_read}
 use Rattle.job_table.proofs.flat_jobs.FlatJobs.carry_read.Goals as goal
 
-pub make_places-requires-clause-ops : goal.make_places-requires-clause-ops
-make_places-requires-clause-ops c =
+pub give_places-requires-clause-filled : goal.give_places-requires-clause-filled
+give_places-requires-clause-filled c =
+    let whole : vec_len c.self.inside.reads ≡ length c.self.inside.reads.items = search rules in
+    omega (arith, whole, c.self.invariant.1.filled)
+
+pub give_places-requires-clause-room : goal.give_places-requires-clause-room
+give_places-requires-clause-room c = omega (arith, c.self.invariant.1.places, c.self.invariant.1.room)
+
+pub give_places-requires-clause-few : goal.give_places-requires-clause-few
+give_places-requires-clause-few c =
+    let f = c.self.inside in
     let row : Row = c.index_mut-row.result.now in
-    let reading = row_reading c.self.inside.rows.items c.self.inside.ops c.self.inside.reads.items c.args.self.now c.number.inside.0
+    let reading = row_reading f.rows.items f.ops f.reads.items c.args.self.now c.number.inside.0
     c.args.number row c.self.view_is c.number.view_is c.requires.there c.index_mut-row.ensures.value c.requires.reads in
-    (c.self.invariant.0.each c.number.inside.0 row reading.there).fits.ops_there
+    let room = row_room f.rows.items f.ops f.reads.items f.all_reads f.placed (vec_capacity f.reads) c.number.inside.0 row reading.there
+    c.self.invariant.1 in
+    let few : c.self.inside.all_reads < 2 ^ 32 = search rules in
+    omega (arith, room, few)
 
 pub overflow_add-row : goal.overflow_add-row
 overflow_add-row c =
+    let f = c.self.inside in
     let row : Row = c.index_mut-row.result.now in
-    let reading = row_reading c.self.inside.rows.items c.self.inside.ops c.self.inside.reads.items c.args.self.now c.number.inside.0
+    let reading = row_reading f.rows.items f.ops f.reads.items c.args.self.now c.number.inside.0
     c.args.number row c.self.view_is c.number.view_is c.requires.there c.index_mut-row.ensures.value c.requires.reads in
-    let few = next_few c.self.inside.ops row (c.self.invariant.0.each c.number.inside.0 row reading.there).fits reading.next in
-    rw c.make_places.ensures.row (omega arith)
+    let fits = (c.self.invariant.0.each c.number.inside.0 row reading.there).fits in
+    let few = (next_few is_read f.ops row row.reads_done true fits (read_of (slice_get (ops_at f.ops row) row.work) ∙ reading.next)
+    fits.reads_done_is).1 in
+    rw c.give_places.ensures.row (omega (arith, few))
 
 pub overflow_add-row-2 : goal.overflow_add-row-2
 overflow_add-row-2 c =
+    let f = c.self.inside in
     let row : Row = c.index_mut-row.result.now in
-    let reading = row_reading c.self.inside.rows.items c.self.inside.ops c.self.inside.reads.items c.args.self.now c.number.inside.0
+    let reading = row_reading f.rows.items f.ops f.reads.items c.args.self.now c.number.inside.0
     c.args.number row c.self.view_is c.number.view_is c.requires.there c.index_mut-row.ensures.value c.requires.reads in
-    let work = ap work_of (job_there c.self.inside.rows.items c.self.inside.ops c.self.inside.reads.items c.args.self.now c.number.inside.0
+    let work = ap work_of (job_there f.rows.items f.ops f.reads.items c.args.self.now c.number.inside.0
     c.args.number (Some row) c.self.view_is c.number.view_is reading.there) in
     let room = c.requires.room in
-    rw c.make_places.ensures.row (omega arith)
+    rw c.give_places.ensures.row (omega arith)
 
-pub index_mut-requires : goal.index_mut-requires
-index_mut-requires c =
+pub put_page-requires-clause-there : goal.put_page-requires-clause-there
+put_page-requires-clause-there c =
+    let f = c.self.inside in
     let row : Row = c.index_mut-row.result.now in
-    let reading = row_reading c.self.inside.rows.items c.self.inside.ops c.self.inside.reads.items c.args.self.now c.number.inside.0
+    let reading = row_reading f.rows.items f.ops f.reads.items c.args.self.now c.number.inside.0
     c.args.number row c.self.view_is c.number.view_is c.requires.there c.index_mut-row.ensures.value c.requires.reads in
-    let whole : vec_len c.self.inside.reads ≡ length c.self.inside.reads.items = search rules in
-    let more : List PageData = replicate (places_lacking c.self.inside.ops row) blank in
-    let made = made c.self.inside.rows.items c.self.inside.ops c.self.inside.reads.items more c.number.inside.0
-    (vec_len c.self.inside.reads) row reading.there whole (length-replicate (places_lacking c.self.inside.ops row) blank) c.self.invariant.0 in
-    let from : ℕ = place_from (vec_len c.self.inside.reads) row in
-    let there = place_there c.self.inside.rows.items c.self.inside.ops c.self.inside.reads.items more c.number.inside.0 row from reading
-    c.self.invariant.0 made in
-    let len : vec_len c.make_places.new.reads ≡ length c.make_places.new.reads.items = search rules in
-    let items = ap length c.make_places.ensures.places in
-    rw c.make_places.ensures.row (omega arith)
+    let whole : vec_len f.reads ≡ length f.reads.items = search rules in
+    let count : ℕ = places_unfilled f.placed (vec_len f.reads) row in
+    let more : List PageData = replicate count blank in
+    let filled = c.self.invariant.1.filled in
+    let made = made f.rows.items f.ops f.reads.items more f.placed (vec_len f.reads) c.number.inside.0 row reading.there whole
+    (omega (arith, whole, filled)) (length-replicate count blank) c.self.invariant.0 in
+    let from : ℕ = place_from f.placed row in
+    let len : vec_len c.give_places.new.reads ≡ length c.give_places.new.reads.items = search rules in
+    let items = ap length c.give_places.ensures.places in
+    let here = made.here in
+    rw c.give_places.ensures.row (omega (arith, len, items, here))
+
+pub put_page-requires-clause-room : goal.put_page-requires-clause-room
+put_page-requires-clause-room c =
+    let f = c.self.inside in
+    let row : Row = c.index_mut-row.result.now in
+    let reading = row_reading f.rows.items f.ops f.reads.items c.args.self.now c.number.inside.0
+    c.args.number row c.self.view_is c.number.view_is c.requires.there c.index_mut-row.ensures.value c.requires.reads in
+    let whole : vec_len f.reads ≡ length f.reads.items = search rules in
+    let count : ℕ = places_unfilled f.placed (vec_len f.reads) row in
+    let more : List PageData = replicate count blank in
+    let filled = c.self.invariant.1.filled in
+    let made = made f.rows.items f.ops f.reads.items more f.placed (vec_len f.reads) c.number.inside.0 row reading.there whole
+    (omega (arith, whole, filled)) (length-replicate count blank) c.self.invariant.0 in
+    let from : ℕ = place_from f.placed row in
+    let room = read_room f.rows.items f.ops f.reads.items more f.all_reads f.placed (vec_capacity f.reads) c.number.inside.0 row from
+    reading c.self.invariant.0 made c.self.invariant.1 in
+    rw (c.give_places.ensures.row, c.give_places.ensures.capacity) (omega (arith, room))
 
 pub invariant_of-self : goal.invariant_of-self
 invariant_of-self c =
+    let f = c.self.inside in
     let row : Row = c.index_mut-row.result.now in
-    let reading = row_reading c.self.inside.rows.items c.self.inside.ops c.self.inside.reads.items c.args.self.now c.number.inside.0
+    let reading = row_reading f.rows.items f.ops f.reads.items c.args.self.now c.number.inside.0
     c.args.number row c.self.view_is c.number.view_is c.requires.there c.index_mut-row.ensures.value c.requires.reads in
-    let whole : vec_len c.self.inside.reads ≡ length c.self.inside.reads.items = search rules in
-    let more : List PageData = replicate (places_lacking c.self.inside.ops row) blank in
-    let made = made c.self.inside.rows.items c.self.inside.ops c.self.inside.reads.items more c.number.inside.0
-    (vec_len c.self.inside.reads) row reading.there whole (length-replicate (places_lacking c.self.inside.ops row) blank) c.self.invariant.0 in
-    let from : ℕ = place_from (vec_len c.self.inside.reads) row in
-    rw (c.make_places.ensures.row, c.make_places.ensures.places, c.make_places.ensures.capacity) (
-      laid_read c.self.inside.rows.items c.self.inside.ops c.self.inside.reads.items more c.number.inside.0 row from c.args.bytes reading
-          c.self.invariant.0 made,
-      room_read c.self.inside.rows.items c.self.inside.ops c.self.inside.reads.items more c.self.inside.all_reads
-          (vec_capacity c.self.inside.reads) c.number.inside.0 row from c.args.bytes reading.there
-          (length-replicate (places_lacking c.self.inside.ops row) blank) c.self.invariant.1,
-      few_set c.self.inside.rows.items c.self.inside.ops c.number.inside.0 _ c.self.invariant.2,
+    let whole : vec_len f.reads ≡ length f.reads.items = search rules in
+    let count : ℕ = places_unfilled f.placed (vec_len f.reads) row in
+    let more : List PageData = replicate count blank in
+    let filled = c.self.invariant.1.filled in
+    let made = made f.rows.items f.ops f.reads.items more f.placed (vec_len f.reads) c.number.inside.0 row reading.there whole
+    (omega (arith, whole, filled)) (length-replicate count blank) c.self.invariant.0 in
+    let from : ℕ = place_from f.placed row in
+    rw (
+      c.put_page.ensures.pages,
+      c.put_page.ensures.capacity,
+      c.give_places.ensures.row,
+      c.give_places.ensures.places,
+      c.give_places.ensures.capacity,
+      c.give_places.ensures.placed,
+    ) (
+      laid_read f.rows.items f.ops f.reads.items more f.placed (f.placed + places_lacking row) c.number.inside.0 row from c.args.bytes
+          reading (omega arith) c.self.invariant.0 made,
+      room_read f.rows.items f.ops f.reads.items more f.all_reads f.placed (vec_capacity f.reads) c.number.inside.0 row from c.args.bytes
+          reading c.self.invariant.0 made c.self.invariant.1,
+      few_set f.rows.items f.ops c.number.inside.0 _ c.self.invariant.2,
     )
 
 pub returns : goal.returns
 returns c =
+    let f = c.self.inside in
     let row : Row = c.index_mut-row.result.now in
-    let reading = row_reading c.self.inside.rows.items c.self.inside.ops c.self.inside.reads.items c.args.self.now c.number.inside.0
+    let reading = row_reading f.rows.items f.ops f.reads.items c.args.self.now c.number.inside.0
     c.args.number row c.self.view_is c.number.view_is c.requires.there c.index_mut-row.ensures.value c.requires.reads in
-    let whole : vec_len c.self.inside.reads ≡ length c.self.inside.reads.items = search rules in
-    let more : List PageData = replicate (places_lacking c.self.inside.ops row) blank in
-    let made = made c.self.inside.rows.items c.self.inside.ops c.self.inside.reads.items more c.number.inside.0
-    (vec_len c.self.inside.reads) row reading.there whole (length-replicate (places_lacking c.self.inside.ops row) blank) c.self.invariant.0 in
-    let from : ℕ = place_from (vec_len c.self.inside.reads) row in
-    rw (c.make_places.ensures.row, c.make_places.ensures.places)
-    (jobs_read c.self.inside.rows.items c.self.inside.ops c.self.inside.reads.items more c.number.inside.0 row from c.args.bytes reading
-    c.self.invariant.0 made
+    let whole : vec_len f.reads ≡ length f.reads.items = search rules in
+    let count : ℕ = places_unfilled f.placed (vec_len f.reads) row in
+    let more : List PageData = replicate count blank in
+    let filled = c.self.invariant.1.filled in
+    let made = made f.rows.items f.ops f.reads.items more f.placed (vec_len f.reads) c.number.inside.0 row reading.there whole
+    (omega (arith, whole, filled)) (length-replicate count blank) c.self.invariant.0 in
+    let from : ℕ = place_from f.placed row in
+    rw (c.put_page.ensures.pages, c.give_places.ensures.row, c.give_places.ensures.places)
+    (jobs_read f.rows.items f.ops f.reads.items more f.placed (f.placed + places_lacking row) c.number.inside.0 row from c.args.bytes
+    reading c.self.invariant.0 made
     ∙ ap (λ (l : List JobRecord). changed_at l c.number.inside.0 (λ (job : JobRecord). with_read c.args.bytes (with_one_more_slot job))) c.self.view_is
     ∙ ap (λ (n : ℕ). changed_at c.args.self.now n (λ (job : JobRecord). with_read c.args.bytes (with_one_more_slot job))) c.number.view_is)

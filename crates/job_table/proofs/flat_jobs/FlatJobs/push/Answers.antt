@@ -1,4 +1,4 @@
-use Rattle.std.proofs.Common.{length-append, ◌+◌, ◌∷◌, ◌++◌, [], List, length, vec_capacity, rules, arith, refl, ap, ◌∙◌}
+use Rattle.std.proofs.Common.{length-append, ◌+◌, ◌∷◌, ◌++◌, [], List, vec_capacity, arith, refl, ap, ◌∙◌}
 use Rattle.std.proofs.lemmas.Grind.{common_steps}
 use Rattle.slot_types.specs.declared.events.Op.{Op}
 use Rattle.slot_types.specs.declared.pages.PageData.{PageData}
@@ -12,38 +12,42 @@ use Rattle.job_table.proofs.flat_jobs.FlatJobs.push.Goals as goal
 pub invariant_of-self-2 : goal.invariant_of-self-2
 invariant_of-self-2 c =
     let row : Row = record {
-      task = c.args.task;
-      release = c.args.release;
-      due = c.args.due;
+      task = c.args.head.task;
+      release = c.args.head.release;
+      due = c.args.head.due;
       first_op = c.len.result;
-      first_read = c.self.inside.all_reads;
+      first_write = c.writes.result;
       first_place = 0;
-      op_count = length c.args.ops.now;
-      reads_done = 0;
       work = 0;
       stage =
           stages.Pending;
-      collects = c.args.collects;
+      op_count = c.len-2.result;
+      read_count = c.reads-2.result;
+      reads_done = 0;
+      writes_done = 0;
+      collects = c.args.head.collects;
     } in
-    let begun : IsBegun row c.self.inside.ops (length c.args.ops.now) = record {
+    let begun : IsBegun row c.self.inside.ops c.args.ops.now = record {
       first_op_is = c.len.ensures;
-      op_count_is = refl;
-      op_count_few = let few = c.requires.few_ops in omega (arith, few);
-      first_read_is = c.self.invariant.1.all_is;
+      op_count_is = c.len-2.ensures;
+      op_count_few = omega (arith, c.requires.few_ops, c.len-2.ensures);
+      first_write_is = c.writes.ensures;
       first_place_is = refl;
+      read_count_is = c.reads-2.ensures;
       reads_done_is = refl;
+      writes_done_is = refl;
       work_is = refl;
     } in
-    let count = c.count_reads-reads.ensures in
+    let count = c.reads.ensures in
     let room = c.in_ok-reserve-2.ensures.ok in
     let len = c.in_ok-reserve-2.ensures.len in
-    let before = c.len-2.ensures in
+    let before = c.len-3.ensures in
     rw (c.push_reserved.ensures.items, c.in_ok-reserve.ensures.items, c.in_ok-push_all.ensures.ok, c.in_ok-reserve-2.ensures.items) (
-      laid_push c.self.inside.rows.items c.self.inside.ops c.args.ops.now c.self.inside.reads.items row begun c.self.invariant.0,
+      laid_push c.self.inside.rows.items c.self.inside.ops c.args.ops.now c.self.inside.reads.items c.self.inside.placed row begun c.self.invariant.0,
       room_push c.self.inside.rows.items c.self.inside.ops c.args.ops.now c.self.inside.reads.items c.self.inside.all_reads
-          (c.self.inside.all_reads + c.count_reads-reads.result) (vec_capacity c.self.inside.reads) (vec_capacity c.reserve-2.new.self) row begun (omega arith)
+          (c.self.inside.all_reads + c.reads.result) c.self.inside.placed (vec_capacity c.self.inside.reads) (vec_capacity c.reserve-2.new.self) row begun (omega arith)
           (omega arith)
-          c.self.invariant.0 c.self.invariant.1,
+          c.self.invariant.1,
       let few = c.self.invariant.2 in
           let few_more = c.requires.few_ops in
           omega (
@@ -58,26 +62,30 @@ invariant_of-self-2 c =
 pub returns-clause-ok : goal.returns-clause-ok
 returns-clause-ok c =
     let row : Row = record {
-      task = c.args.task;
-      release = c.args.release;
-      due = c.args.due;
+      task = c.args.head.task;
+      release = c.args.head.release;
+      due = c.args.head.due;
       first_op = c.len.result;
-      first_read = c.self.inside.all_reads;
+      first_write = c.writes.result;
       first_place = 0;
-      op_count = length c.args.ops.now;
-      reads_done = 0;
       work = 0;
       stage =
           stages.Pending;
-      collects = c.args.collects;
+      op_count = c.len-2.result;
+      read_count = c.reads-2.result;
+      reads_done = 0;
+      writes_done = 0;
+      collects = c.args.head.collects;
     } in
-    let begun : IsBegun row c.self.inside.ops (length c.args.ops.now) = record {
+    let begun : IsBegun row c.self.inside.ops c.args.ops.now = record {
       first_op_is = c.len.ensures;
-      op_count_is = refl;
-      op_count_few = let few = c.requires.few_ops in omega (arith, few);
-      first_read_is = c.self.invariant.1.all_is;
+      op_count_is = c.len-2.ensures;
+      op_count_few = omega (arith, c.requires.few_ops, c.len-2.ensures);
+      first_write_is = c.writes.ensures;
       first_place_is = refl;
+      read_count_is = c.reads-2.ensures;
       reads_done_is = refl;
+      writes_done_is = refl;
       work_is = refl;
     } in
     ap (jobs_at c.push_all.new.self c.reserve-2.new.self.items) (c.push_reserved.ensures.items
@@ -85,8 +93,9 @@ returns-clause-ok c =
     ∙ ap (λ (l : List Op). jobs_at l c.reserve-2.new.self.items (c.self.inside.rows.items ++ row ∷ [])) c.in_ok-push_all.ensures.ok
     ∙ ap (λ (l : List PageData). jobs_at (c.self.inside.ops ++ c.args.ops.now) l (c.self.inside.rows.items ++ row ∷ []))
     c.in_ok-reserve-2.ensures.items
-    ∙ jobs_pushed c.self.inside.rows.items c.self.inside.ops c.args.ops.now c.self.inside.reads.items row begun c.self.invariant.0
-    ∙ ap (λ (l : List JobRecord). l ++ new_record c.args.collects c.args.task c.args.release c.args.due c.args.ops.now ∷ []) c.self.view_is
+    ∙ jobs_pushed c.self.inside.rows.items c.self.inside.ops c.args.ops.now c.self.inside.reads.items c.self.inside.placed row begun c.self.invariant.0
+    ∙ ap (λ (l : List JobRecord). l
+    ++ new_record c.args.head.collects c.args.head.task c.args.head.release c.args.head.due c.args.ops.now ∷ []) c.self.view_is
 
 pub invariant_of-self : goal.invariant_of-self
 invariant_of-self c = grind (arith, common_steps)

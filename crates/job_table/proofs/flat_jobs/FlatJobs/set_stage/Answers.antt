@@ -12,11 +12,17 @@ invariant_of-self c =
     let at_n = row_read c.self.inside.rows.items c.self.inside.ops c.self.inside.reads.items c.args.self.now c.number.inside.0 c.args.number
     row c.self.view_is c.number.view_is c.requires c.index_mut-row.ensures.value in
     let old = (c.self.invariant.0.each c.number.inside.0 row at_n).fits in
-    let fits : IsRowOf c.self.inside.ops (record row { stage = c.args.stage }) = record
-    { ops_there = old.ops_there; ops_few = old.ops_few; first_read_is = old.first_read_is; reads_done_is = old.reads_done_is } in (
-      laid_kept c.self.inside.rows.items c.self.inside.ops c.self.inside.reads.items c.number.inside.0 row _ at_n refl refl refl refl fits
+    let fits : IsRowOf c.self.inside.ops (record row { stage = c.args.stage }) = record {
+      ops_there = old.ops_there;
+      ops_few = old.ops_few;
+      first_write_is = old.first_write_is;
+      read_count_is = old.read_count_is;
+      reads_done_is = old.reads_done_is;
+      writes_done_is = old.writes_done_is;
+    } in (
+      laid_kept c.self.inside.rows.items c.self.inside.ops c.self.inside.reads.items c.self.inside.placed c.number.inside.0 row _ at_n refl refl refl refl refl fits
           c.self.invariant.0,
-      room_kept c.self.inside.rows.items c.self.inside.ops c.self.inside.reads.items c.self.inside.all_reads
+      room_kept c.self.inside.rows.items c.self.inside.ops c.self.inside.reads.items c.self.inside.all_reads c.self.inside.placed
           (vec_capacity c.self.inside.reads) c.number.inside.0 row _ at_n refl c.self.invariant.1,
       few_set c.self.inside.rows.items c.self.inside.ops c.number.inside.0 _ c.self.invariant.2,
     )

@@ -16,7 +16,7 @@ invariant_of-self-2 c =
     let waiting = rw (c.in_ok-number.ensures.number, c.in_ok-reserve.ensures.waiting) at c.enter.ensures.waiting in
     let ready = rw (c.in_ok-number.ensures.number, c.in_ok-reserve.ensures.ready) at c.enter.ensures.ready in
     let r = c.self.invariant.running runs in
-    rw (c.in_ok-number.ensures.ok, c.task.view_is)
+    rw (c.in_ok-number.ensures.ok, c.none.ensures, c.task.view_is)
     (collection_sound c.self.inside.jobs job c.self.inside.clock c.self.inside.ended c.self.inside.collecting.items c.self.inside.queues
     c.enter.new.self c.self.inside.worst
     runs few refl refl in_range single

@@ -1,4 +1,4 @@
-use Rattle.std.proofs.Common.{◌≡◌, false, sym, ◌∙◌, ap, length, arith}
+use Rattle.std.proofs.Common.{sym, ◌∙◌, ap, length, arith}
 use Rattle.job_table.specs.SoundTable.{QueuesAgree}
 use Rattle.job_table.specs.Table.{Table}
 use Rattle.job_table.proofs.Behind.{head_behind, none_behind}

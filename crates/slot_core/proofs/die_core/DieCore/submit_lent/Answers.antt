@@ -10,7 +10,7 @@ use Rattle.job_table.specs.Table.{Table}
 use Rattle.slot_core.specs.TableLog.{log_of}
 use Rattle.slot_core.specs.ReservedSlots.{open_collections}
 use Rattle.slot_core.proofs.Reserving.{open_job}
-use Rattle.slot_core.proofs.Fitting.{accepted_few, accepted_words}
+use Rattle.slot_core.proofs.Fitting.{accepted_few}
 use Rattle.slot_core.proofs.Telling.{submit_tells, few_told}
 use Rattle.job_table.specs.Jobs.{new_job}
 use Rattle.slot_core.proofs.Marks.{marks_push}
@@ -23,48 +23,49 @@ returns-then-failed g c =
     (Submit c.args.task c.args.release c.args.due c.args.ops.now) c.args.self.now _
     (rw (← c.self.view_is) (sym c.failed.ensures ∙ c.if-failed.true)) (search rules)
 
-pub returns-in-Some : goal.returns-in-Some
-returns-in-Some g c =
-    log_refused g.N.Nand.ends g.N.Nand.failures g.N.Nand.never_fails c.args.caller
-    (Submit c.args.task c.args.release c.args.due c.args.ops.now) c.args.self.now _ c.in-Some.refusal
-    (rw (← c.self.view_is) (sym c.failed.ensures ∙ c.if-failed.false))
-    (refused_answer _ _ _ _ (sym c.submit_refusal.ensures ∙ c.in-Some.is)) (search rules)
-
 pub returns-in-Err : goal.returns-in-Err
 returns-in-Err g c =
-    memory_refused g.N.Nand.ends g.N.Nand.failures g.N.Nand.never_fails c.args.caller
+    log_refused g.N.Nand.ends g.N.Nand.failures g.N.Nand.never_fails c.args.caller
     (Submit c.args.task c.args.release c.args.due c.args.ops.now) c.args.self.now _ c.in-Err.refusal
     (rw (← c.self.view_is) (sym c.failed.ensures ∙ c.if-failed.false))
-    (submit_accepts _ _ _ _ _ _ (sym c.submit_refusal.ensures ∙ c.in-None.is)) (λ slot. absurd cc) c.in-Err.ensures.refused (search rules)
+    (refused_answer _ _ _ _ (sym c.in-Err.ensures.refusal)) (search rules)
 
-pub invariant_of-self-in-Ok : goal.invariant_of-self-in-Ok
-invariant_of-self-in-Ok g c =
+pub returns-in-Err-enter_job : goal.returns-in-Err-enter_job
+returns-in-Err-enter_job g c =
+    memory_refused g.N.Nand.ends g.N.Nand.failures g.N.Nand.never_fails c.args.caller
+    (Submit c.args.task c.args.release c.args.due c.args.ops.now) c.args.self.now _ c.in-Err-enter_job.refusal
+    (rw (← c.self.view_is) (sym c.failed.ensures ∙ c.if-failed.false))
+    (submit_accepts _ _ _ _ _ _ (sym c.in-Ok.ensures.refusal)) (λ slot. absurd cc) c.in-Err-enter_job.ensures.refused (search rules)
+
+pub invariant_of-self-in-Ok-enter_job : goal.invariant_of-self-in-Ok-enter_job
+invariant_of-self-in-Ok-enter_job g c =
     let f = c.self.inside in
     let none : refusal_of (over f.volume.accounts.plan c.self.inside.start) (log_of f.table f.events.notes)
     (Submit c.args.task c.args.release c.args.due c.args.ops.now) ≡ None =
     ap (λ (d : Core g.row.N.Denot). refusal_of d.start d.log (Submit c.args.task c.args.release c.args.due c.args.ops.now)) c.self.view_is
-    ∙ (sym c.submit_refusal.ensures ∙ c.in-None.is) in
+    ∙ (sym c.in-Ok.ensures.refusal) in
     let alive = sym c.failed.ensures ∙ c.if-failed.false in
-    let made = admit_made f.volume c.admit.new.self c.args.task _ c.args.ops.now c.admit.result (c.count_writes-writes.ensures)
+    let table = rw c.in-Ok.ensures.ops at c.in-Ok-enter_job.ensures.table in
+    let made = admit_made f.volume c.admit.new.self c.args.task _ c.args.ops.now c.admit.result (c.writes.ensures ∙ ap writes c.in-Ok.ensures.ops)
     (tokens_suffice (over f.volume.accounts.plan c.self.inside.start) (log_of f.table f.events.notes) c.args.task c.args.release c.args.due c.args.ops.now
     f.volume.accounts (c.self.invariant.0.kept.flash alive).accounts_are none) c.admit.ensures.ok (c.admit.ensures.accepted alive) in
-    let tells = submit_tells f.table c.enter_job.new.table f.events.notes c.enter_job.new.events.notes c.args.caller c.in-Ok.number
-    c.args.task c.args.release c.args.due c.args.ops.now c.in-Ok.ensures.table c.in-Ok.ensures.number c.in-Ok.ensures.logged
+    let tells = submit_tells f.table c.enter_job.new.table f.events.notes c.enter_job.new.events.notes c.args.caller c.in-Ok-enter_job.number
+    c.args.task c.args.release c.args.due c.args.ops.now table c.in-Ok-enter_job.ensures.number c.in-Ok-enter_job.ensures.logged
     c.self.invariant.0.fits in (
       record {
         kept = submit_kept c.self.inside.start g.N.Nand.blocks (log_of f.table f.events.notes) (log_of c.enter_job.new.table c.enter_job.new.events.notes)
-            f.present c.args.caller c.in-Ok.number c.args.task c.args.release c.args.due c.args.ops.now f.table c.enter_job.new.table
+            f.present c.args.caller c.in-Ok-enter_job.number c.args.task c.args.release c.args.due c.args.ops.now f.table c.enter_job.new.table
             f.volume c.admit.new.self
-            c.self.invariant.0.kept alive none c.in-Ok.ensures.number c.in-Ok.ensures.table made tells.0;
+            c.self.invariant.0.kept alive none c.in-Ok-enter_job.ensures.number table made tells.0;
         fits = tells.1;
       },
       record {
-        slots = c.in-Ok.ensures.reserved;
+        slots = c.in-Ok-enter_job.ensures.reserved;
         waivers = omega (
           arith,
           c.self.invariant.1.waivers,
-          c.in-Ok.ensures.waiver_room,
-          ap (λ (t : Table). open_collections t.jobs) c.in-Ok.ensures.table,
+          c.in-Ok-enter_job.ensures.waiver_room,
+          ap (λ (t : Table). open_collections t.jobs) table,
           open_job f.table.jobs c.args.task c.args.release c.args.due c.args.ops.now,
         );
       },
@@ -78,42 +79,34 @@ enter_job-requires-clause-few_ops g c =
     let none : refusal_of (over f.volume.accounts.plan c.self.inside.start) (log_of f.table f.events.notes)
     (Submit c.args.task c.args.release c.args.due c.args.ops.now) ≡ None =
     ap (λ (d : Core g.row.N.Denot). refusal_of d.start d.log (Submit c.args.task c.args.release c.args.due c.args.ops.now)) c.self.view_is
-    ∙ (sym c.submit_refusal.ensures ∙ c.in-None.is) in
-    accepted_few (over f.volume.accounts.plan c.self.inside.start) (log_of f.table f.events.notes) c.args.task c.args.release c.args.due
-    c.args.ops.now none
-
-pub enter_job-requires-clause-words : goal.enter_job-requires-clause-words
-enter_job-requires-clause-words g c =
-    let f = c.self.inside in
-    let none : refusal_of (over f.volume.accounts.plan c.self.inside.start) (log_of f.table f.events.notes)
-    (Submit c.args.task c.args.release c.args.due c.args.ops.now) ≡ None =
-    ap (λ (d : Core g.row.N.Denot). refusal_of d.start d.log (Submit c.args.task c.args.release c.args.due c.args.ops.now)) c.self.view_is
-    ∙ (sym c.submit_refusal.ensures ∙ c.in-None.is) in
-    accepted_words (over f.volume.accounts.plan c.self.inside.start) (log_of f.table f.events.notes) c.args.task c.args.release c.args.due
-    c.args.ops.now c.self.invariant.0.kept.bound.bound none
+    ∙ (sym c.in-Ok.ensures.refusal) in
+    rw c.in-Ok.ensures.ops
+    (accepted_few (over f.volume.accounts.plan c.self.inside.start) (log_of f.table f.events.notes) c.args.task c.args.release c.args.due
+    c.args.ops.now none)
 
 pub enter_job-requires-clause-few_events : goal.enter_job-requires-clause-few_events
 enter_job-requires-clause-few_events g c = few_told (over c.self.inside.volume.accounts.plan c.self.inside.start) c.self.inside.table.jobs c.self.inside.events.notes
     c.self.invariant.0.kept.exact c.self.invariant.0.fits
 
-pub returns-in-Ok : goal.returns-in-Ok
-returns-in-Ok g c =
+pub returns-in-Ok-enter_job : goal.returns-in-Ok-enter_job
+returns-in-Ok-enter_job g c =
     let f = c.self.inside in
     let none : refusal_of (over f.volume.accounts.plan c.self.inside.start) (log_of f.table f.events.notes)
     (Submit c.args.task c.args.release c.args.due c.args.ops.now) ≡ None =
     ap (λ (d : Core g.row.N.Denot). refusal_of d.start d.log (Submit c.args.task c.args.release c.args.due c.args.ops.now)) c.self.view_is
-    ∙ (sym c.submit_refusal.ensures ∙ c.in-None.is) in
+    ∙ (sym c.in-Ok.ensures.refusal) in
     let alive = sym c.failed.ensures ∙ c.if-failed.false in
-    let made = admit_made f.volume c.admit.new.self c.args.task _ c.args.ops.now c.admit.result (c.count_writes-writes.ensures)
+    let table = rw c.in-Ok.ensures.ops at c.in-Ok-enter_job.ensures.table in
+    let made = admit_made f.volume c.admit.new.self c.args.task _ c.args.ops.now c.admit.result (c.writes.ensures ∙ ap writes c.in-Ok.ensures.ops)
     (tokens_suffice (over f.volume.accounts.plan c.self.inside.start) (log_of f.table f.events.notes) c.args.task c.args.release c.args.due c.args.ops.now
     f.volume.accounts (c.self.invariant.0.kept.flash alive).accounts_are none) c.admit.ensures.ok (c.admit.ensures.accepted alive) in
-    let tells = submit_tells f.table c.enter_job.new.table f.events.notes c.enter_job.new.events.notes c.args.caller c.in-Ok.number
-    c.args.task c.args.release c.args.due c.args.ops.now c.in-Ok.ensures.table c.in-Ok.ensures.number c.in-Ok.ensures.logged
+    let tells = submit_tells f.table c.enter_job.new.table f.events.notes c.enter_job.new.events.notes c.args.caller c.in-Ok-enter_job.number
+    c.args.task c.args.release c.args.due c.args.ops.now table c.in-Ok-enter_job.ensures.number c.in-Ok-enter_job.ensures.logged
     c.self.invariant.0.fits in
     entered g.N.Nand.ends g.N.Nand.failures g.N.Nand.never_fails c.args.caller
-    (Submit c.args.task c.args.release c.args.due c.args.ops.now) c.args.self.now _ c.in-Ok.number tt (rw (← c.self.view_is) alive) (record {
+    (Submit c.args.task c.args.release c.args.due c.args.ops.now) c.args.self.now _ c.in-Ok-enter_job.number tt (rw (← c.self.view_is) alive) (record {
       answered = rw (← c.self.view_is)
-          (submit_taken _ _ f.table _ _ _ _ _ none c.self.invariant.0.kept.jobs_are c.in-Ok.ensures.number);
+          (submit_taken _ _ f.table _ _ _ _ _ none c.self.invariant.0.kept.jobs_are c.in-Ok-enter_job.ensures.number);
       logged = rw (tells.0, made, ← c.self.view_is) refl;
     })
 

@@ -1,6 +1,6 @@
 use Rattle.std.proofs.Common.{◌≡◌, ◌+◌, ◌++◌, replicate, vec_len, vec_capacity}
 use Rattle.job_table.specs.Words.{blank}
-use Rattle.job_table.proofs.flat_jobs.push_places.Given as goal
+use Rattle.job_table.proofs.flat_jobs.fill_places.Given as goal
 
 abbrev pub invariant-loop-place : goal.invariant-loop-place
 invariant-loop-place l = record {
