@@ -1,11 +1,10 @@
 -- What the runs of deeds of a log carried is what its notes carried.
 use Rattle.std.proofs.Common.{◌≡◌, ℕ, zero, suc, List, [], ◌∷◌, ◌++◌, Option, Some, None, refl, ap, sym, ◌∙◌, subst, length}
-use Rattle.std.proofs.Common.{reverse, take, get_or, append-nil, append_assoc, add-one, arith}
-use Rattle.std.specs.Prelude.{◌+◌, ◌<◌, ◌≤◌, replicate, Result, Ok, Err, IfOk}
+use Rattle.std.proofs.Common.{reverse, append-nil, arith}
+use Rattle.std.specs.Prelude.{◌<◌, replicate}
 use Rattle.std.specs.List.{filter_map}
-use Rattle.std.proofs.lemmas.List.{reverse-append, reverse-reverse, length-reverse, take_all}
+use Rattle.std.proofs.lemmas.List.{reverse-append, reverse-reverse, length-reverse}
 use Rattle.std.proofs.lemmas.List.Elements.{filter_map-append}
-use Rattle.slot_types.specs.declared.refusals.Refusal.{Refusal}
 use Rattle.late_cert.specs.Schedule.{Slots}
 use Rattle.event_log.specs.declared.deeds.Deed.{Deed}
 use Rattle.event_log.specs.declared.runs.Run.{Run}
@@ -47,50 +46,7 @@ carried_is deeds callers waivers e =
     sym (carried_back (reverse deeds) (reverse callers) waivers (length-reverse callers ∙ e ∙ sym (length-reverse deeds))
     ∙ ap (λ (ds : List Deed). filter_map slot_by ds) (reverse-reverse deeds))
 
--- Run by run
-
-spread-take : (rs : List (Run Deed)) (i : ℕ) (r : Run Deed) → i < length rs → r ≡ get_or rs i r
-    → spread (take (suc i) rs) ≡ spread (take i rs) ++ replicate r.count r.item
-spread-take [] i r h e = absurd (omega arith)
-spread-take (q ∷ qs) zero r h e = rw e (append-nil (replicate q.count q.item))
-spread-take (q ∷ qs) (suc i) r h e =
-    ap (λ xs. replicate q.count q.item ++ xs) (spread-take qs i r (omega arith) e)
-    ∙ sym (append_assoc (replicate q.count q.item) (spread (take i qs)) (replicate r.count r.item))
-
-slots-take : (rs : List (Run Deed)) (i : ℕ) (r : Run Deed) → i < length rs → r ≡ get_or rs i r
-    → filter_map slot_by (spread (take (i + 1) rs)) ≡ filter_map slot_by (spread (take i rs))
-    ++ filter_map slot_by (replicate r.count r.item)
-slots-take rs i r h e =
-    rw (add-one i) (ap (λ (ds : List Deed). filter_map slot_by ds) (spread-take rs i r h e)
-    ∙ filter_map-append slot_by (spread (take i rs)) (replicate r.count r.item))
-
--- a run of slots is added
-pub slots_added : (rs : List (Run Deed)) (i : ℕ) (r : Run Deed) (before after : Slots) (k : Option ℕ) → i < length rs → r ≡ get_or rs i r
-    → before ≡ filter_map slot_by (spread (take i rs)) → slot_by r.item ≡ Some k → after ≡ before ++ replicate r.count k
-    → after ≡ filter_map slot_by (spread (take (i + 1) rs))
-slots_added rs i r before after k h e before_is some after_is =
-    after_is
-    ∙ ap (λ ks. ks ++ replicate r.count k) before_is
-    ∙ ap (λ ks. filter_map slot_by (spread (take i rs)) ++ ks) (sym (slots_repeat r.count r.item k some))
-    ∙ sym (slots-take rs i r h e)
-
--- a run of arrivals is passed over
-pub slots_passed : (rs : List (Run Deed)) (i : ℕ) (r : Run Deed) (before after : Slots) → i < length rs → r ≡ get_or rs i r
-    → before ≡ filter_map slot_by (spread (take i rs)) → slot_by r.item ≡ None → after ≡ before
-    → after ≡ filter_map slot_by (spread (take (i + 1) rs))
-slots_passed rs i r before after h e before_is none after_is =
-    after_is
-    ∙ before_is
-    ∙ sym (append-nil (filter_map slot_by (spread (take i rs))))
-    ∙ ap (λ ks. filter_map slot_by (spread (take i rs)) ++ ks) (sym (arrivals_pass r.count r.item none))
-    ∙ sym (slots-take rs i r h e)
-
--- all runs were walked
-pub slots_whole : (rs : List (Run Deed)) (i : ℕ) (slots : Slots) → length rs ≤ i → slots ≡ filter_map slot_by (spread (take i rs))
-    → slots ≡ filter_map slot_by (spread rs)
-slots_whole rs i slots h is = is ∙ ap (λ (qs : List (Run Deed)). filter_map slot_by (spread qs)) (take_all i rs h)
-
--- Run by run, from the last one back
+-- The last run
 
 slots_before_last : (rs before : List (Run Deed)) (r : Run Deed) → rs ≡ before ++ r ∷ []
     → filter_map slot_by (spread rs) ≡ filter_map slot_by (spread before) ++ filter_map slot_by (replicate r.count r.item)
@@ -120,8 +76,3 @@ some_popped rs before r is some = split before (subst AreSome is some)
     split : (qs : List (Run Deed)) → AreSome (qs ++ r ∷ []) → AreSome qs × (0 < r.count)
     split [] h = (tt, h.0)
     split (q ∷ qs) h = let rest = split qs h.1 in ((h.0, rest.0), rest.1)
-
-pub ok_as : (r : Result Slots Refusal) (xs ys : Slots) → xs ≡ ys → IfOk r (λ carried. carried ≡ xs) → IfOk r
-    (λ carried. carried ≡ ys)
-ok_as (Ok carried) xs ys e is = is ∙ e
-ok_as (Err refusal) xs ys e is = tt

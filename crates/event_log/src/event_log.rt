@@ -1,18 +1,16 @@
 //! The log of a die, in parts.
 
-ghost use Rattle.std.specs.Prelude.{◌≡◌, ◌+◌, ◌<◌, ◌≤◌, ◌↔◌, ◌∷◌, ◌^◌, [], true, length, take, IsOk, OnOk, OnErr, IfOk};
+ghost use Rattle.std.specs.Prelude.{◌≡◌, ◌+◌, ◌<◌, ◌≤◌, ◌↔◌, ◌∷◌, ◌^◌, [], true, length, take, IsOk, OnOk, OnErr};
 ghost use Rattle.slot_types.specs.Refusal.{FailsForMemory};
 ghost use Rattle.event_log.specs.Spread.{last_of};
 ghost use Rattle.event_log.specs.Notes.{Note};
 ghost use Rattle.event_log.specs.Slots.{carried_in};
 ghost use Rattle.event_log.specs.Stretches.{goes_on, new_stretches, stretches, kept_of, is_some_number, newest_stands_alone};
 
-use crate::carried::carried_by;
 use crate::deeds::Deed;
 use crate::runs::{Run, Runs};
 use crate::slots_back::SlotsBack;
 use crate::waivers::{Waiver, note_waivers};
-use late_cert::Carried;
 use slot_types::{Refusal, Waived};
 use std::alloc::Global;
 use std::marker::Model;
@@ -117,14 +115,6 @@ impl EventLog {
         ensures counted { self.now.kept ≡ kept_of self.now.notes }
     {
         self.deeds.kept()
-    }
-
-    /// What the slots carried, by slot. It walks the runs of equal deeds once. The only refusal is `NoMemory`.
-    pub fn carried(&self, alloc: Global) -> Result<Carried, Refusal>
-        ensures ok { IfOk result (λ carried. carried ≡ carried_in self.now.notes) }
-        ensures refused { FailsForMemory result }
-    {
-        carried_by(alloc, self.deeds.as_slice())
     }
 
     /// Marks the log where it ends now, which is after an event that no later one counts as one record with.

@@ -1,7 +1,6 @@
 //! The log of a die as small records: what was done, without the bytes that the jobs keep.
 #![tactic(auto)]
 
-mod carried;
 pub mod deeds;
 pub mod event_log;
 pub mod laws;

@@ -99,18 +99,11 @@ impl<T> Runs<T> {
         self.runs.len()
     }
 
-    /// Marks the list where it ends now. Until it is cleared, no item after the mark is added to the run before it.
+    /// Marks the list where it ends now. No later item may then be added to the run that is the last one now.
     pub fn mark(&mut self)
         ensures { self.new ≡ record self.old { marked = length self.old.items } }
     {
         self.marked = self.runs.len();
-    }
-
-    /// The runs, in order.
-    pub(crate) fn as_slice(&self) -> &[Run<T>]
-        ensures { spread result.now ≡ self.now.items }
-    {
-        self.runs.as_slice()
     }
 
     /// The runs before the mark, in order.

@@ -1,6 +1,7 @@
 use Rattle.std.proofs.Common.{◌≡◌, refl, sym, ◌∙◌, ap, None, arith, rules}
 use Rattle.std.proofs.lemmas.Grind.{common_steps}
 use Rattle.slot_types.specs.declared.events.Event.TheVariants.{Submit}
+use Rattle.slot_types.specs.Operations.{writes}
 use Rattle.die_log.specs.Model.Answers.{refusal_of}
 use Rattle.die_log.proofs.Legality.{refused_answer}
 use Rattle.slot_core.specs.Core.{Core}
@@ -69,7 +70,7 @@ invariant_of-self-in-Ok-enter_job g c =
           open_job f.table.jobs c.args.task c.args.release c.args.due c.args.ops.now,
         );
       },
-      rw (c.in-Ok.ensures.table, c.in-Ok.ensures.marked) (marks_push f.table.jobs
+      rw (table, c.in-Ok-enter_job.ensures.marked) (marks_push f.table.jobs
           (new_job c.args.task c.args.release c.args.due c.args.ops.now) f.events.marked refl c.self.invariant.2),
     )
 
