@@ -1,4 +1,4 @@
-use Rattle.std.proofs.Common.{◌+◌, refl, ap, ◌∙◌, arith}
+use Rattle.std.proofs.Common.{◌+◌, refl, ap, ◌∙◌, rules, arith}
 use Rattle.die_service.proofs.Driving.{still_fit}
 use Rattle.die_service.proofs.Working.{working_starts, working_goes_on, working_gives_up, working_ends, has_worked}
 use Rattle.die_service.proofs.drivers.Driver.drive.Goals as goal
@@ -28,7 +28,7 @@ loop-done-preserved g c =
     working_goes_on g.W.Work.does g.N.Nand.never_fails c.args.number c.slots-slots.result c.from-from.result
     c.loop-done._done c.loop-done.clock c.args.self.now c.loop-done.self c.bring_due.new.self
     c.args.work.now c.loop-done.work c.bring_due.new.work c.loop-done.invariant c.bring_due.ensures
-    c.before-in-loop-done.new.self c.before-in-loop-done.ensures c.loop-done-test.true
+    _ (search rules) c.loop-done-test.true
     c.in-Some.slot (c.in-Some.slot + 1) c.take_slot.new.self c.take_slot.new.work c.after.new.self
     c.in-Some.ensures.taken c.after.ensures refl
 
@@ -41,7 +41,7 @@ returns-in_default g c =
     (working_gives_up g.W.Work.does g.N.Nand.never_fails c.args.number c.slots-slots.result c.from-from.result
     c.loop-done._done c.loop-done.clock c.args.self.now c.loop-done.self c.bring_due.new.self
     c.args.work.now c.loop-done.work c.bring_due.new.work c.loop-done.invariant c.bring_due.ensures
-    c.before-in-loop-done.new.self c.before-in-loop-done.ensures c.loop-done-test.true
+    _ (search rules) c.loop-done-test.true
     c.take_slot.new.self c.take_slot.new.work c.in_default.ensures.stopped)
 
 pub returns : goal.returns
