@@ -30,17 +30,17 @@ use Rattle.die_log.specs.Model.Start.{Start}
 
 -- One event
 
-behind_arrival : (e : Event) (n : ℕ) → IsArrival e → place_behind e n ≡ n + 1
+pub behind_arrival : (e : Event) (n : ℕ) → IsArrival e → place_behind e n ≡ n + 1
 behind_arrival events.Slot n arrives = absurd arrives
 behind_arrival (events.Submit task release due ops) n arrives = omega arith
 behind_arrival (events.Collect task release due) n arrives = omega arith
 
-none_noted : (e : Event) (n : ℕ) (reply : Reply) → with_refused n e (Ok reply) [] ≡ []
+pub none_noted : (e : Event) (n : ℕ) (reply : Reply) → with_refused n e (Ok reply) [] ≡ []
 none_noted events.Slot n reply = refl
 none_noted (events.Submit task release due ops) n reply = refl
 none_noted (events.Collect task release due) n reply = refl
 
-one_noted : (e : Event) (n : ℕ) (refused : RefusedAt) → IsArrival e → with_refused n e (Err refused) [] ≡ record { place = n; refused = refused }
+pub one_noted : (e : Event) (n : ℕ) (refused : RefusedAt) → IsArrival e → with_refused n e (Err refused) [] ≡ record { place = n; refused = refused }
     ∷ []
 one_noted events.Slot n refused arrives = absurd arrives
 one_noted (events.Submit task release due ops) n refused arrives = refl
@@ -50,7 +50,7 @@ abbrev at : DiePass → Course → ℕ → Option RefusedAt → WorkerState
 at p c slots stop = record { pass = p; course = c; slots = slots; stop = stop }
 
 module _ (never : Bool) (clock : ℕ) (p q : DiePass) (c d : Course) (event : Event) (slots : ℕ) (stop : Option RefusedAt) where
-  pub brings_accepted : (reply : Reply) → Comes clock c event d → IsSamePass p q → AddsEntry p.view event reply q.view
+  unfoldable pub brings_accepted : (reply : Reply) → Comes clock c event d → IsSamePass p q → AddsEntry p.view event reply q.view
       → BringsOne never clock (at p c slots stop) (at q d slots stop)
   brings_accepted reply comes same added =
       let arrives : IsArrival comes.arrival.event = subst IsArrival comes.event_is comes.arrives in
@@ -73,7 +73,7 @@ module _ (never : Bool) (clock : ℕ) (p q : DiePass) (c d : Course) (event : Ev
         stop = refl;
       }
 
-  pub brings_refused : (refused : RefusedAt) (e : Course) → Comes clock c event d → IsSamePass p q
+  unfoldable pub brings_refused : (refused : RefusedAt) (e : Course) → Comes clock c event d → IsSamePass p q
       → AddsNone never p.view event refused q.view
       → e.rest ≡ d.rest → e.place ≡ d.place → e.refused ≡ d.refused ++ record { place = d.place - 1; refused = refused } ∷ []
       → BringsOne never clock (at p c slots stop) (at q e slots stop)
@@ -123,7 +123,7 @@ slot_below start past reply is = by (nat_le MAX_SLOT (now past)) refl is
         omega (arith, below, is_now)
 
 module _ (never : Bool) (p q : DiePass) (c : Course) (slots : ℕ) (stop : Option RefusedAt) where
-  pub slot_taken : (reply : SlotReply) → IsSamePass p q → AddsEntry p.view events.Slot (replies.Slot reply) q.view
+  unfoldable pub slot_taken : (reply : SlotReply) → IsSamePass p q → AddsEntry p.view events.Slot (replies.Slot reply) q.view
       → TakesSlot never (at p c slots stop) reply.slot (at q c (slots + 1) stop)
   slot_taken reply same added = record {
     reply = reply;
@@ -140,7 +140,7 @@ module _ (never : Bool) (p q : DiePass) (c : Course) (slots : ℕ) (stop : Optio
     stop = refl;
   }
 
-  pub slot_stopped : (refused : RefusedAt) → IsSamePass p q → AddsNone never p.view events.Slot refused q.view
+  unfoldable pub slot_stopped : (refused : RefusedAt) → IsSamePass p q → AddsNone never p.view events.Slot refused q.view
       → IsStopped never (at p c slots stop) (at q c slots (Some refused))
   slot_stopped refused same left = record {
     refused = refused;
@@ -158,12 +158,12 @@ module _ (never : Bool) (p q : DiePass) (c : Course) (slots : ℕ) (stop : Optio
 
 -- The events that come by a slot
 
-no_slot_of : (e : Event) (r : Result Reply RefusedAt) → IsArrival e → slot_counted e r 0 ≡ 0
+pub no_slot_of : (e : Event) (r : Result Reply RefusedAt) → IsArrival e → slot_counted e r 0 ≡ 0
 no_slot_of events.Slot r arrives = absurd arrives
 no_slot_of (events.Submit task release due ops) r arrives = refl
 no_slot_of (events.Collect task release due) r arrives = refl
 
-no_stop_of : (e : Event) (r : Result Reply RefusedAt) → IsArrival e → stop_or e r None ≡ None
+pub no_stop_of : (e : Event) (r : Result Reply RefusedAt) → IsArrival e → stop_or e r None ≡ None
 no_stop_of events.Slot r arrives = absurd arrives
 no_stop_of (events.Submit task release due ops) r arrives = refl
 no_stop_of (events.Collect task release due) r arrives = refl
@@ -181,7 +181,7 @@ pub record IsBringing (never : Bool) (clock : ℕ) (s t : WorkerState) : Type 0 
   pub stop : t.stop ≡ s.stop
 
 module _ (never : Bool) (clock : ℕ) where
-  pub brings_none : (s : WorkerState) → IsFit s.pass.view → IsBringing never clock s s
+  unfoldable pub brings_none : (s : WorkerState) → IsFit s.pass.view → IsBringing never clock s s
   brings_none s fit = record {
     fed = [];
     asks = asks_none never s.pass s.course fit;
@@ -193,7 +193,7 @@ module _ (never : Bool) (clock : ℕ) where
     stop = refl;
   }
 
-  pub brings_more : (s t u : WorkerState) → IsBringing never clock s t → BringsOne never clock t u → IsBringing never clock s u
+  unfoldable pub brings_more : (s t u : WorkerState) → IsBringing never clock s t → BringsOne never clock t u → IsBringing never clock s u
   brings_more s t u b one =
       let last = asked_event one.arrival.event one.reply in record {
         fed = b.fed ++ last ∷ [];
@@ -210,7 +210,7 @@ module _ (never : Bool) (clock : ℕ) where
         stop = one.stop ∙ b.stop;
       }
 
-  pub brings_all : (s t : WorkerState) → IsBringing never clock s t → NoneDue clock t.course.rest → Brings never clock s t
+  unfoldable pub brings_all : (s t : WorkerState) → IsBringing never clock s t → NoneDue clock t.course.rest → Brings never clock s t
   brings_all s t b none = record {
     fed = b.fed;
     asks = b.asks;

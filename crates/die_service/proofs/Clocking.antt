@@ -32,7 +32,7 @@ pub record IsOver (never : Bool) (slots from : ℕ) (s t : WorkerState) : Type 0
   pub whole : stop_of saids ≡ None → slots_in saids ≡ slots
 
 module _ (never : Bool) (slots from : ℕ) where
-  pub starts : (s t : WorkerState) → Asks never s.pass s.course [] t.pass t.course → t.course ≡ s.course → t.slots ≡ 0 → t.stop ≡ None
+  unfoldable pub starts : (s t : WorkerState) → Asks never s.pass s.course [] t.pass t.course → t.course ≡ s.course → t.slots ≡ 0 → t.stop ≡ None
       → IsOnTime never slots from 0 from s t
   starts s t asks same none running = record {
     saids = [];
@@ -49,7 +49,7 @@ module _ (never : Bool) (slots from : ℕ) where
       minus = omega arith
 
   -- a slot more
-  pub goes_on : (done clock next : ℕ) (slot : ℕ) (s t u w : WorkerState) → done < slots → IsOnTime never slots from done clock s t
+  unfoldable pub goes_on : (done clock next : ℕ) (slot : ℕ) (s t u w : WorkerState) → done < slots → IsOnTime never slots from done clock s t
       → Brings never clock t u → TakesSlot never u slot w → next ≡ slot + 1 → IsOnTime never slots from (done + 1) next s w
   goes_on done clock next slot s t u w below i b k is =
       let last = asked_event events.Slot (Ok (replies.Slot k.reply)) in
@@ -81,7 +81,7 @@ module _ (never : Bool) (slots from : ℕ) where
       }
 
   -- a slot was refused
-  pub gives_up : (done clock : ℕ) (s t u w : WorkerState) → done < slots → IsOnTime never slots from done clock s t → Brings never clock t u
+  unfoldable pub gives_up : (done clock : ℕ) (s t u w : WorkerState) → done < slots → IsOnTime never slots from done clock s t → Brings never clock t u
       → IsStopped never u w → IsOver never slots from s w
   gives_up done clock s t u w below i b k =
       let last = asked_event events.Slot (Err k.refused) in
@@ -106,7 +106,7 @@ module _ (never : Bool) (slots from : ℕ) where
       some_none r e = cc
 
   -- all slots were carried out
-  pub ends : (done clock : ℕ) (s t u : WorkerState) → slots ≡ done → IsOnTime never slots from done clock s t → Brings never clock t u
+  unfoldable pub ends : (done clock : ℕ) (s t u : WorkerState) → slots ≡ done → IsOnTime never slots from done clock s t → Brings never clock t u
       → IsOver never slots from s u
   ends done clock s t u all i b =
       let none_left : slots - done ≡ zero = omega (arith, all) in
@@ -119,7 +119,7 @@ module _ (never : Bool) (slots from : ℕ) where
         whole = λ none. count ∙ sym all;
       }
 
-  pub drives : (s t : WorkerState) → IsLive s.pass.view → IsFirstState s → slots ≡ s.course.slots → from ≡ s.course.from
+  unfoldable pub drives : (s t : WorkerState) → IsLive s.pass.view → IsFirstState s → slots ≡ s.course.slots → from ≡ s.course.from
       → IsOver never slots from s t → Drives never s t
   drives s t live first slots_are from_is o =
       let place : s.course.place ≡ 0 = ap (λ x. x.course.place) first in

@@ -1,12 +1,14 @@
 -- The dies of a store, each with its pass and its batch, before a run and after it.
-use Rattle.std.proofs.Common.{◌≡◌, ℕ, zero, suc, ◌<◌, ◌≤◌, Bool, List, [], ◌∷◌, length, map, get_or, refl, ap, sym, ◌∙◌, subst, arith}
+use Rattle.std.proofs.Common.{◌≡◌, ℕ, zero, suc, ◌+◌, ◌<◌, ◌≤◌, Bool, List, [], ◌∷◌, length, map, get_or, refl, ap, sym, ◌∙◌, subst, arith}
 use Rattle.std.proofs.lemmas.List.{length-map}
 use Rattle.atomic_table.specs.Seated.{TableId}
 use Rattle.die_service.specs.declared.batches.Batch.{Batch}
 use Rattle.die_service.specs.declared.ends.DieEnd.{DieEnd}
-use Rattle.die_service.specs.Runs.{HaveRun}
+use Rattle.turn_lock.specs.Views.{IsSamePass}
+use Rattle.die_service.specs.Runs.{HasRun, HaveRun}
 use Rattle.die_service.specs.Stores.{DiePass}
-use Rattle.die_service.specs.Drives.{Course, WorkerState, first_states, whole_course, IsFirstState, Drives, end_at}
+use Rattle.die_service.specs.Drives.{Course, WorkerState, first_states, whole_course, batch_at, IsFirstState, end_at}
+use Rattle.die_service.specs.Work.{WorkCall, WorksOff, WorkOff}
 
 abbrev starting : List DiePass → List Batch → List WorkerState
 starting ps batches = first_states ps (map whole_course batches)
@@ -17,74 +19,96 @@ starting_length [] (b ∷ batches) same = refl
 starting_length (p ∷ ps) [] same = absurd (omega (arith, same))
 starting_length (p ∷ ps) (b ∷ batches) same = ap suc (starting_length ps batches (omega (arith, same)))
 
-pub starts_at : (ps : List DiePass) (batches : List Batch) (i : ℕ) (d : WorkerState) → i < length (starting ps batches)
-    → IsFirstState (get_or (starting ps batches) i d)
-starts_at [] batches i d below = absurd (omega (arith, below))
-starts_at (p ∷ ps) [] i d below = absurd (omega (arith, below))
-starts_at (p ∷ ps) (b ∷ batches) zero d below = refl
-starts_at (p ∷ ps) (b ∷ batches) (suc i) d below = starts_at ps batches i d (omega (arith, below))
+-- the dies of these workers are at the start of their batches
+abbrev AreStarting : {W : Type 0} → List (WorkerState × W) → List DiePass → List Batch → Type 0
+AreStarting {W} xs ps batches = map (λ (x : WorkerState × W). x.0) xs ≡ starting ps batches
 
-module _ (never : Bool) where
-  pub all_run : (ps : List DiePass) (batches : List Batch) (ys : List WorkerState) → length ps ≡ length batches → length ys ≡ length ps
-      → ((i : ℕ) (d : WorkerState) → i < length ps → Drives never (get_or (starting ps batches) i d) (get_or ys i d))
-      → HaveRun never batches ps (map end_at ys) (map (λ (s : WorkerState). s.pass) ys)
-  all_run [] [] [] same long each = tt
-  all_run [] [] (y ∷ ys) same long each = absurd (omega (arith, long))
-  all_run [] (b ∷ batches) ys same long each = absurd (omega (arith, same))
-  all_run (p ∷ ps) [] ys same long each = absurd (omega (arith, same))
-  all_run (p ∷ ps) (b ∷ batches) [] same long each = absurd (omega (arith, long))
-  all_run (p ∷ ps) (b ∷ batches) (y ∷ ys) same long each =
-      let first = each 0 y (omega arith) in (
-        first.0,
-        first.1,
-        all_run ps batches ys (omega (arith, same)) (omega (arith, long))
-            (λ i d below. each (suc i) d (omega (arith, below))),
-      )
+module _ {A : Type 0} where
+  head_is : (x y : A) (xs ys : List A) → x ∷ xs ≡ y ∷ ys → x ≡ y
+  head_is x y xs ys e = cc
 
-  pub same_locks : (batches : List Batch) (ps : List DiePass) (ends : List DieEnd) (qs : List DiePass)
-      → HaveRun never batches ps ends qs
-      → map (λ (p : DiePass). p.lock) qs ≡ map (λ (p : DiePass). p.lock) ps
-  same_locks [] [] [] [] ran = refl
-  same_locks (b ∷ batches) (p ∷ ps) (end ∷ ends) (q ∷ qs) ran = rw (ran.0.0, same_locks batches ps ends qs ran.2) refl
-  same_locks [] [] [] (q ∷ qs) ran = absurd ran
-  same_locks [] [] (end ∷ ends) qs ran = absurd ran
-  same_locks [] (p ∷ ps) ends qs ran = absurd ran
-  same_locks (b ∷ batches) [] ends qs ran = absurd ran
-  same_locks (b ∷ batches) (p ∷ ps) [] qs ran = absurd ran
-  same_locks (b ∷ batches) (p ∷ ps) (end ∷ ends) [] ran = absurd ran
+  tail_is : (x y : A) (xs ys : List A) → x ∷ xs ≡ y ∷ ys → xs ≡ ys
+  tail_is x y xs ys e = cc
+
+module _ {W : Type 0} where
+  pub starts_at : (xs : List (WorkerState × W)) (ps : List DiePass) (batches : List Batch) → AreStarting xs ps batches
+      → (k : ℕ) (d : WorkerState × W) → k < length xs → IsFirstState (get_or xs k d).0
+  starts_at [] ps batches is k d below = absurd (omega (arith, below))
+  starts_at (x ∷ xs) [] batches is k d below = absurd (omega (arith, ap length is))
+  starts_at (x ∷ xs) (p ∷ ps) [] is k d below = absurd (omega (arith, ap length is))
+  starts_at (x ∷ xs) (p ∷ ps) (b ∷ batches) is zero d below = subst IsFirstState (sym (head_is x.0 _ _ _ is)) refl
+  starts_at (x ∷ xs) (p ∷ ps) (b ∷ batches) is (suc k) d below = starts_at xs ps batches (tail_is x.0 _ _ _ is) k d (omega (arith, below))
+
+module _ {W : Type 0} (never : Bool) (does : W → WorkCall → W → Type 0) where
+  -- what each worker of a list works off, they all work off
+  pub all_work : (die : ℕ) (xs ys : List (WorkerState × W)) → length ys ≡ length xs
+      → ((i : ℕ) (d : WorkerState × W) → i < length xs → WorksOff never does (die + i) (get_or xs i d) (get_or ys i d))
+      → WorkOff never does die xs ys
+  all_work die [] [] same each = tt
+  all_work die [] (y ∷ ys) same each = absurd (omega (arith, same))
+  all_work die (x ∷ xs) [] same each = absurd (omega (arith, same))
+  all_work die (x ∷ xs) (y ∷ ys) same each = (
+    subst (λ (n : ℕ). WorksOff never does n x y) (omega arith) (each 0 x (omega arith)),
+    all_work (suc die) xs ys (omega (arith, same))
+        (λ i d below. subst (λ (n : ℕ). WorksOff never does n (get_or xs i d) (get_or ys i d)) (omega arith)
+        (each (suc i) d (omega (arith, below)))),
+  )
+
+  pub worked_length : (die : ℕ) (xs ys : List (WorkerState × W)) → WorkOff never does die xs ys → length ys ≡ length xs
+  worked_length die [] [] off = refl
+  worked_length die [] (y ∷ ys) off = absurd off
+  worked_length die (x ∷ xs) [] off = absurd off
+  worked_length die (x ∷ xs) (y ∷ ys) off = ap suc (worked_length (suc die) xs ys off.1)
+
+  pub all_run : (die : ℕ) (ps : List DiePass) (batches : List Batch) (xs ys : List (WorkerState × W)) → length ps ≡ length batches
+      → AreStarting xs ps batches → WorkOff never does die xs ys
+      → HaveRun never batches ps (map (λ (y : WorkerState × W). end_at y.0) ys) (map (λ (y : WorkerState × W). y.0.pass) ys)
+  all_run die [] [] [] [] same is off = tt
+  all_run die [] [] [] (y ∷ ys) same is off = absurd off
+  all_run die [] [] (x ∷ xs) ys same is off = absurd (omega (arith, ap length is))
+  all_run die [] (b ∷ batches) xs ys same is off = absurd (omega (arith, same))
+  all_run die (p ∷ ps) [] xs ys same is off = absurd (omega (arith, same))
+  all_run die (p ∷ ps) (b ∷ batches) [] ys same is off = absurd (omega (arith, ap length is))
+  all_run die (p ∷ ps) (b ∷ batches) (x ∷ xs) [] same is off = absurd off
+  all_run die (p ∷ ps) (b ∷ batches) (x ∷ xs) (y ∷ ys) same is off =
+      let first = subst (λ (s : WorkerState). IsSamePass s.pass y.0.pass × HasRun never (batch_at s.course) s.pass.view (end_at y.0) y.0.pass.view)
+      (head_is x.0 _ _ _ is) (off.0.0, off.0.1.0) in
+      (first.0, first.1, all_run (suc die) ps batches xs ys (omega (arith, same)) (tail_is x.0 _ _ _ is) off.1)
+
+pub same_locks : (never : Bool) (batches : List Batch) (ps : List DiePass) (ends : List DieEnd) (qs : List DiePass)
+    → HaveRun never batches ps ends qs
+    → map (λ (p : DiePass). p.lock) qs ≡ map (λ (p : DiePass). p.lock) ps
+same_locks never [] [] [] [] ran = refl
+same_locks never (b ∷ batches) (p ∷ ps) (end ∷ ends) (q ∷ qs) ran = rw (ran.0.0, same_locks never batches ps ends qs ran.2) refl
+same_locks never [] [] [] (q ∷ qs) ran = absurd ran
+same_locks never [] [] (end ∷ ends) qs ran = absurd ran
+same_locks never [] (p ∷ ps) ends qs ran = absurd ran
+same_locks never (b ∷ batches) [] ends qs ran = absurd ran
+same_locks never (b ∷ batches) (p ∷ ps) [] qs ran = absurd ran
+same_locks never (b ∷ batches) (p ∷ ps) (end ∷ ends) [] ran = absurd ran
 
 -- the dies of a store before a run
-module _ (dies : List TableId) (ps qs : List DiePass) (batches : List Batch) (courses : List Course) (xs : List WorkerState)
+module _ {W : Type 0} (dies : List TableId) (ps qs : List DiePass) (batches : List Batch) (courses : List Course) (xs : List (WorkerState × W))
     (own : map (λ (p : DiePass). p.lock) ps ≡ dies) (all : length batches ≡ length dies)
-    (taken : qs ≡ ps) (cut : courses ≡ map whole_course batches) (made : xs ≡ first_states qs courses) where
-  pub starting_is : xs ≡ starting ps batches
+    (taken : qs ≡ ps) (cut : courses ≡ map whole_course batches)
+    (made : map (λ (x : WorkerState × W). x.0) xs ≡ first_states qs courses) where
+  starting_is : AreStarting xs ps batches
   starting_is = rw (made, taken, cut) refl
 
-  pub as_many : length ps ≡ length batches
+  as_many : length ps ≡ length batches
   as_many = omega (arith, all, ap length own, length-map ps (λ (p : DiePass). p.lock))
 
   pub drivers_length : length xs ≡ length ps
-  drivers_length = ap length starting_is ∙ starting_length ps batches as_many
+  drivers_length = sym (length-map xs (λ (x : WorkerState × W). x.0)) ∙ (ap length starting_is ∙ starting_length ps batches as_many)
 
-  pub ready_at : (ys : List WorkerState) (i : ℕ) (d : WorkerState) → length dies ≤ 8 → ys ≡ xs → i < length ys → d ≡ get_or ys i d
-      → (i < 4294967296) × IsFirstState d
-  ready_at ys i d few same below is =
-      let whole : ys ≡ starting ps batches = same ∙ starting_is in
-      let count : length ys ≡ length ps = ap length same ∙ drivers_length in
-      let within : i < length (starting ps batches) = omega (arith, below, ap length whole) in
-      let here : d ≡ get_or (starting ps batches) i d = is ∙ ap (λ (l : List WorkerState). get_or l i d) whole in (
-        omega (arith, below, few, count, ap length own, length-map ps (λ (p : DiePass). p.lock)),
-        subst IsFirstState (sym here)
-            (starts_at ps batches i d within),
-      )
+  pub all_ready : (ys : List (WorkerState × W)) → ys ≡ xs → (k : ℕ) (d : WorkerState × W) → k < length ys → IsFirstState (get_or ys k d).0
+  all_ready ys same = starts_at ys ps batches (ap (map (λ (x : WorkerState × W). x.0)) same ∙ starting_is)
+
+  pub few_ready : (ys : List (WorkerState × W)) → ys ≡ xs → length dies ≤ 8 → length ys ≤ 8
+  few_ready ys same few = omega (arith, few, ap length same, drivers_length, ap length own, length-map ps (λ (p : DiePass). p.lock))
 
   -- and after it
-  pub have_run : (never : Bool) (ys zs : List WorkerState) → ys ≡ xs → length zs ≡ length ys
-      → ((i : ℕ) (d : WorkerState) → i < length ys → Drives never (get_or ys i d) (get_or zs i d))
-      → HaveRun never batches ps (map end_at zs) (map (λ (s : WorkerState). s.pass) zs)
-  have_run never ys zs same long each =
-      let whole : ys ≡ starting ps batches = same ∙ starting_is in
-      let count : length ys ≡ length ps = ap length same ∙ drivers_length in
-      all_run never ps batches zs as_many (long ∙ count)
-      (λ i d below. subst (λ (l : List WorkerState). Drives never (get_or l i d) (get_or zs i d)) whole
-      (each i d (omega (arith, below, count))))
+  pub have_run : (never : Bool) (does : W → WorkCall → W → Type 0) (ys zs : List (WorkerState × W)) → ys ≡ xs → WorkOff never does 0 ys zs
+      → HaveRun never batches ps (map (λ (z : WorkerState × W). end_at z.0) zs) (map (λ (z : WorkerState × W). z.0.pass) zs)
+  have_run never does ys zs same off =
+      all_run never does 0 ps batches ys zs as_many (ap (map (λ (x : WorkerState × W). x.0)) same ∙ starting_is) off

@@ -10,6 +10,7 @@ pub mod Feeding
 pub mod Driving
 pub mod Bringing
 pub mod Clocking
+pub mod Working
 pub mod Gathering
 pub mod Transcripts
 pub mod SlotCalls

@@ -1,5 +1,5 @@
 -- The events of a feed as flat rows, with the operations of all jobs one after another.
-use Rattle.std.specs.Prelude.{◌≡◌, ℕ, zero, suc, ◌-◌, ◌≤◌, nat_le, Bool, true, false, not, ◌&&◌, ⊤, List, [], ◌∷◌, length, take, drop, All}
+use Rattle.std.specs.Prelude.{ℕ, zero, suc, ◌-◌, ◌≤◌, nat_le, Bool, true, false, not, ◌&&◌, ⊤, List, [], ◌∷◌, length, take, drop, All}
 use Rattle.slot_types.specs.declared.events.Event.{Event}
 use Rattle.slot_types.specs.declared.events.Event.TheVariants as events
 use Rattle.slot_types.specs.declared.events.Op.{Op}

@@ -8,4 +8,5 @@ pub mod PackedOps
 pub mod Feeds
 pub mod Runs
 pub mod Drives
+pub mod Work
 pub mod PlannedRuns

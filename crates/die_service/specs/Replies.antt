@@ -2,7 +2,6 @@
 use Rattle.std.specs.Prelude.{◌≡◌, Bool, List, length, Result, Ok, Err}
 use Rattle.slot_types.specs.declared.events.Event.{Event}
 use Rattle.slot_types.specs.declared.replies.Reply.{Reply}
-use Rattle.die_log.specs.Model.Log.{Log}
 use Rattle.die_log.specs.Model.Answers.{answer, IsAccepted, IsExact}
 use Rattle.slot_core.specs.declared.events.ReplyNote.{ReplyNote}
 use Rattle.slot_core.specs.Calls.{MayRefuse}

@@ -1,14 +1,14 @@
 //! A die with its pass and its feed, as one worker has them.
 
 ghost use Rattle.std.specs.Prelude.{◌≡◌, ◌<◌, [], false, IsTrue, IfSome, IfNone};
-ghost use Rattle.die_service.specs.Drives.{first_state, end_at, Asks, IsFit, IsFirstState, NoneDue, BringsOne, Brings, TakesSlot, IsStopped};
-ghost use Rattle.die_service.specs.Drives.{Drives};
+ghost use Rattle.die_service.specs.Drives.{first_state, end_at, Asks, IsFit, IsFirstState, NoneDue};
+ghost use Rattle.die_service.specs.Work.{WorksOne, WorksDue, WorksSlot, WorksStop, WorksOff};
 
 use crate::courses::Course;
 use crate::die::{Die, DiePass};
 use crate::ends::DieEnd;
-use crate::gate::Gate;
 use crate::refused::RefusedAt;
+use crate::work::Work;
 use flash_die::Nand;
 use std::alloc::Global;
 use std::marker::Model;
@@ -85,15 +85,17 @@ impl<'a, N: Nand> Driver<'a, N> {
     }
 
     /// Asks for the next event, if it comes by this slot, and says whether it did.
-    fn bring_one<R: Wait>(&mut self, rt: &R, clock: u32) -> bool
-        ensures brought { IsTrue result → BringsOne N.never_fails clock self.old self.new }
+    fn bring_one<W: Work, R: Wait>(&mut self, rt: &R, work: &mut W, clock: u32) -> bool
+        ensures brought { IsTrue result
+            → WorksOne N.never_fails W.does clock self.old work.old self.new work.new }
         ensures none { result ≡ false → NoneDue clock self.old.course.rest × (self.new ≡ self.old) }
+        ensures idle { result ≡ false → work.new ≡ work.old }
     {
         let Some(head) = self.course.next_due(clock) else {
             return false;
         };
         let die = self.die;
-        match die.note(rt, &mut self.pass, head, self.course.ops()) {
+        match work.event(rt, die, &mut self.pass, head, self.course.ops()) {
             Ok(_) => {}
             Err(refused) => self.course.note(refused),
         }
@@ -101,22 +103,24 @@ impl<'a, N: Nand> Driver<'a, N> {
     }
 
     /// Asks for the events that come by this slot.
-    fn bring_due<R: Wait>(&mut self, rt: &R, clock: u32)
+    fn bring_due<W: Work, R: Wait>(&mut self, rt: &R, work: &mut W, clock: u32)
         requires { IsFit self.old.pass.view }
-        ensures { Brings N.never_fails clock self.old self.new }
+        ensures { WorksDue N.never_fails W.does clock self.old work.old self.new work.new }
     {
-        while self.bring_one(rt, clock) {}
+        while self.bring_one(rt, work, clock) {}
     }
 
     /// Asks for a slot, and answers its number if it was carried out.
-    fn take_slot<R: Wait>(&mut self, rt: &R) -> Option<u32>
+    fn take_slot<W: Work, R: Wait>(&mut self, rt: &R, work: &mut W) -> Option<u32>
         requires { self.old.slots < 4294967295 }
-        ensures taken { IfSome result (λ slot. TakesSlot N.never_fails self.old slot self.new) }
+        ensures taken { IfSome result (λ slot.
+            WorksSlot N.never_fails W.does self.old work.old slot self.new work.new) }
         ensures few { IfSome result (λ slot. slot < 1048576) }
-        ensures stopped { IfNone result (IsStopped N.never_fails self.old self.new) }
+        ensures stopped { IfNone result (
+            WorksStop N.never_fails W.does self.old work.old self.new work.new) }
     {
         let die = self.die;
-        match die.note_slot(rt, &mut self.pass) {
+        match work.slot(rt, die, &mut self.pass) {
             Ok(note) => {
                 self.slots = self.slots + 1;
                 Some(note.slot())
@@ -130,19 +134,21 @@ impl<'a, N: Nand> Driver<'a, N> {
 
     /// Asks for the slots of its batch, and before each for the events that come by it. Then the feed is freed, so that
     /// the dies that run later find its memory.
-    pub(crate) fn run<G: Gate, R: Wait>(&mut self, rt: &R, alloc: Global, gate: &G, number: u32)
+    pub(crate) fn run<W: Work, R: Wait>(&mut self, rt: &R, alloc: Global, work: &mut W, number: u32)
         requires { IsFirstState self.old }
-        ensures ran { Drives N.never_fails self.old self.new }
+        ensures ran { WorksOff N.never_fails W.does number (self.old, work.old)
+            (self.new, work.new) }
         ensures gone { self.new.course.rest ≡ [] }
     {
-        self.drive(rt, gate, number);
+        self.drive(rt, work, number);
         self.course.end(alloc);
     }
 
     /// Asks for the slots of its batch, and before each for the events that come by it.
-    fn drive<G: Gate, R: Wait>(&mut self, rt: &R, gate: &G, number: u32)
+    fn drive<W: Work, R: Wait>(&mut self, rt: &R, work: &mut W, number: u32)
         requires { IsFirstState self.old }
-        ensures { Drives N.never_fails self.old self.new }
+        ensures { WorksOff N.never_fails W.does number (self.old, work.old)
+            (self.new, work.new) }
     {
         // It says that the pass is live.
         let _ = self.pass.number();
@@ -151,14 +157,14 @@ impl<'a, N: Nand> Driver<'a, N> {
         self.look();
         let mut clock = from;
         for _done in 0..slots {
-            self.bring_due(rt, clock);
-            gate.before(number, clock);
-            let Some(slot) = self.take_slot(rt) else {
+            self.bring_due(rt, work, clock);
+            work.before(number, clock);
+            let Some(slot) = self.take_slot(rt, work) else {
                 return;
             };
-            gate.after(number, slot);
+            work.after(number, slot);
             clock = slot + 1;
         }
-        self.bring_due(rt, clock);
+        self.bring_due(rt, work, clock);
     }
 }

@@ -35,6 +35,8 @@ pub mod refused;
 pub mod renewing;
 pub mod runs;
 pub mod store;
+mod work;
+mod workers;
 
 pub use batches::Batch;
 pub use closing::{StillOpen, close};

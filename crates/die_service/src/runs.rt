@@ -3,7 +3,8 @@
 ghost use Rattle.std.specs.Prelude.{◌≡◌, ◌<◌, ◌≤◌, [], map, length, All, IfOk, IfErr, vec_capacity};
 ghost use Rattle.slot_types.specs.Refusal.{FailsForMemory};
 ghost use Rattle.die_service.specs.Runs.{AllArrive, HaveRun, whole_batch};
-ghost use Rattle.die_service.specs.Drives.{whole_course, first_states, end_at, IsFirstState, Drives};
+ghost use Rattle.die_service.specs.Drives.{whole_course, first_states, end_at, IsFirstState};
+ghost use Rattle.die_service.specs.Work.{WorksOff, WorkOff};
 
 use crate::batches::Batch;
 use crate::courses::Course;
@@ -13,6 +14,8 @@ use crate::ends::{DieEnd, DieEnds};
 use crate::feeds::Feed;
 use crate::gate::Gate;
 use crate::store::Store;
+use crate::work::{GatedWork, Work};
+use crate::workers::Worked;
 use flash_die::Nand;
 use slot_types::Refusal;
 use std::alloc::Global;
@@ -46,18 +49,19 @@ fn make_courses(alloc: Global, batches: Vec<Batch>) -> Result<Vec<Course>, Refus
     Ok(courses)
 }
 
-/// Gives each die its pass and its batch, in room that was made.
-fn make_drivers<'a, N: Nand>(
+/// Gives each die its pass and its batch, with the gate as its hook, in room that was made.
+fn make_drivers<'a, N: Nand, G: Gate>(
     dies: &'a [Die<N>],
     passes: Vec<DiePass<N>>,
     courses: Vec<Course>,
-    drivers: Vec<Driver<'a, N>>,
-) -> Vec<Driver<'a, N>>
+    gate: &'a G,
+    drivers: Vec<Worked<'a, N, GatedWork<'a, G>>>,
+) -> Vec<Worked<'a, N, GatedWork<'a, G>>>
     requires own { map (λ pass. pass.lock) passes.items ≡ dies.now }
     requires courses { length courses.items ≡ length passes.items }
     requires none { drivers.items ≡ [] }
     requires room { length passes.items ≤ vec_capacity drivers }
-    ensures { result.items ≡ first_states passes.items courses.items }
+    ensures { map (λ worked. worked.0) result.items ≡ first_states passes.items courses.items }
 {
     let mut drivers = drivers;
     let mut dies = dies;
@@ -69,15 +73,17 @@ fn make_drivers<'a, N: Nand>(
         let Some(course) = courses.next() else {
             unreachable!()
         };
-        drivers.push_reserved(Driver::new(die, pass, course));
+        let driver = Driver::new(die, pass, course);
+        let work = GatedWork { gate };
+        drivers.push_reserved(Worked { driver, work });
         dies = later;
     }
     drivers
 }
 
 /// What came of each die, with its pass put back, in room that was made.
-fn into_ends<'a, N: Nand>(
-    drivers: Vec<Driver<'a, N>>,
+fn into_ends<'a, N: Nand, W: Drop>(
+    drivers: Vec<Worked<'a, N, W>>,
     ends: Vec<DieEnd>,
     passes: &mut Vec<DiePass<N>>,
 ) -> DieEnds
@@ -85,16 +91,36 @@ fn into_ends<'a, N: Nand>(
     requires no_passes { passes.old.items ≡ [] }
     requires room { length drivers.items ≤ vec_capacity ends }
     requires passes_room { length drivers.items ≤ vec_capacity passes.old }
-    ensures ends { result ≡ map end_at drivers.entry.items }
-    ensures passes { passes.new.items ≡ map (λ s. s.pass) drivers.entry.items }
+    ensures ends { result ≡ map (λ worked. end_at worked.0) drivers.entry.items }
+    ensures passes { passes.new.items ≡ map (λ worked. worked.0.pass) drivers.entry.items }
 {
     let mut ends = ends;
-    for driver in drivers {
+    for worked in drivers {
+        let Worked { driver, work: _ } = worked;
         let (end, pass) = driver.into_end();
         ends.push_reserved(end);
         passes.push_reserved(pass);
     }
     DieEnds::from_vec(ends)
+}
+
+/// Runs each of these dies, whose numbers are from 0, by workers that are threads.
+fn run_drivers<N: Nand + Send, W: Work + Send, R: Threads + Wait + Sync>(
+    rt: &R,
+    alloc: Global,
+    drivers: &mut [Worked<'_, N, W>],
+    workers: u32,
+)
+    requires first { All (λ worked. IsFirstState worked.0) drivers.old }
+    requires few { length drivers.old ≤ 8 }
+    requires workers { 1 ≤ workers }
+    ensures { WorkOff N.never_fails W.does 0 drivers.old drivers.new }
+{
+    let drive = |die: usize, worked: &mut Worked<'_, N, W>|
+        requires { (die < 4294967296) × IsFirstState worked.now.0 }
+        ensures { WorksOff N.never_fails W.does die worked.entry.now worked.exit.now }
+    { worked.run(rt, alloc, die as u32) };
+    thread::for_each_mut(rt, drivers, workers as usize, &drive);
 }
 
 /// Runs each die of a store, with its pass and its batch, by workers that are threads. The passes and the batches are
@@ -145,12 +171,8 @@ pub fn run_batches<N: Nand + Send, G: Gate + Sync, R: Threads + Wait + Sync>(
     let ends = Vec::with_capacity(alloc, count)?;
     let back = Vec::with_capacity(alloc, count)?;
     let taken = mem::replace(passes, back);
-    let mut drivers = make_drivers(store.dies.as_slice(), taken, courses, drivers);
-    let drive = |die: usize, driver: &mut Driver<'_, N>|
-        requires { (die < 4294967296) × IsFirstState driver.now }
-        ensures { Drives N.never_fails driver.entry.now driver.exit.now }
-    { driver.run(rt, alloc, gate, die as u32) };
-    thread::for_each_mut(rt, drivers.as_mut_slice(), workers as usize, &drive);
+    let mut drivers = make_drivers(store.dies.as_slice(), taken, courses, gate, drivers);
+    run_drivers(rt, alloc, drivers.as_mut_slice(), workers);
     Ok(into_ends(drivers, ends, passes))
 }
 

@@ -1,4 +1,4 @@
-use Rattle.std.proofs.Common.{◌≡◌, ℕ, suc, ◌-◌, Some, slice_get, sym, ap, ◌∙◌, arith}
+use Rattle.std.proofs.Common.{◌≡◌, ℕ, suc, ◌-◌, sym, ap, ◌∙◌, arith}
 use Rattle.die_service.specs.Feeds.{begins_at}
 use Rattle.die_service.proofs.Feeding.{begins_behind, get_at}
 use Rattle.die_service.proofs.feeds.first_op.Goals as goal

@@ -13,6 +13,6 @@ invariant-loop-pass g l = record {
   drivers : vec_len l.drivers ≡ length l.yielded;
   own : map (λ pass. pass.lock) (into_iter_items l.pass-iterator) ≡ l.dies;
   courses : length (into_iter_items l.courses) ≡ length (into_iter_items l.pass-iterator);
-  made : l.drivers.items ++ first_states (into_iter_items l.pass-iterator) (into_iter_items l.courses)
+  made : map (λ worked. worked.0) l.drivers.items ++ first_states (into_iter_items l.pass-iterator) (into_iter_items l.courses)
       ≡ first_states l.fn.passes.items l.fn.courses.items;
 }

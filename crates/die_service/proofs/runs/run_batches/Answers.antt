@@ -1,22 +1,28 @@
-use Rattle.std.proofs.Common.{◌≡◌, ◌≤◌, vec_len, vec_capacity, List, length, get_or, ap, sym, ◌∙◌, subst, rules, arith}
+use Rattle.std.proofs.Common.{◌≡◌, ◌≤◌, vec_len, vec_capacity, List, length, ap, ◌∙◌, subst, rules, arith}
 use Rattle.atomic_table.specs.Seated.{TableId}
-use Rattle.die_service.specs.Drives.{WorkerState, Drives}
 use Rattle.die_service.proofs.LastPasses.{written}
-use Rattle.die_service.proofs.Gathering.{ready_at, drivers_length, have_run, same_locks}
+use Rattle.die_service.proofs.Gathering.{all_ready, few_ready, drivers_length, worked_length, have_run, same_locks}
 use Rattle.die_service.proofs.runs.run_batches.Goals as goal
 
-pub for_each_mut-requires-clause-accepts : goal.for_each_mut-requires-clause-accepts
-for_each_mut-requires-clause-accepts g c κs within = λ i p below is.
-    let few : length c.args.store.now ≤ 8 = subst (λ (l : List TableId). length l ≤ 8) c.store.view_is c.store.invariant in
-    ready_at c.args.store.now c.args.passes.now.items c.replace-taken.result.items c.args.batches.items c.in_ok-courses.courses.items
+pub run_drivers-requires-clause-first : goal.run_drivers-requires-clause-first
+run_drivers-requires-clause-first g c κs within =
+    all_ready c.args.store.now c.args.passes.now.items c.replace-taken.result.items c.args.batches.items c.in_ok-courses.courses.items
     c.make_drivers-drivers.result.items c.requires.own c.requires.batches
     (ap (λ v. v.items) c.replace-taken.ensures.value) c.in_ok-courses.ensures.whole c.make_drivers-drivers.ensures
-    c.as_mut_slice.result.now i p.now few c.as_mut_slice.ensures.value below is
+    c.as_mut_slice.result.now c.as_mut_slice.ensures.value
+
+pub run_drivers-requires-clause-few : goal.run_drivers-requires-clause-few
+run_drivers-requires-clause-few g c κs within =
+    few_ready c.args.store.now c.args.passes.now.items c.replace-taken.result.items c.args.batches.items c.in_ok-courses.courses.items
+    c.make_drivers-drivers.result.items c.requires.own c.requires.batches
+    (ap (λ v. v.items) c.replace-taken.ensures.value) c.in_ok-courses.ensures.whole c.make_drivers-drivers.ensures
+    c.as_mut_slice.result.now c.as_mut_slice.ensures.value
+    (subst (λ (l : List TableId). length l ≤ 8) c.store.view_is c.store.invariant)
 
 pub into_ends-requires-clause-room : goal.into_ends-requires-clause-room
 into_ends-requires-clause-room g c =
-    let same : length c.for_each_mut.new.s ≡ length c.make_drivers-drivers.result.items = search rules in
-    let whole = written c.make_drivers-drivers.result.len c.make_drivers-drivers.result.items c.for_each_mut.new.s same (search rules) in
+    let same = worked_length g.N.Nand.never_fails _ 0 _ _ c.run_drivers.ensures ∙ ap length c.as_mut_slice.ensures.value in
+    let whole = written c.make_drivers-drivers.result.len c.make_drivers-drivers.result.items c.run_drivers.new.drivers same (search rules) in
     let long = drivers_length c.args.store.now c.args.passes.now.items c.replace-taken.result.items c.args.batches.items
     c.in_ok-courses.courses.items c.make_drivers-drivers.result.items c.requires.own c.requires.batches
     (ap (λ v. v.items) c.replace-taken.ensures.value) c.in_ok-courses.ensures.whole c.make_drivers-drivers.ensures in
@@ -25,8 +31,8 @@ into_ends-requires-clause-room g c =
 
 pub into_ends-requires-clause-passes_room : goal.into_ends-requires-clause-passes_room
 into_ends-requires-clause-passes_room g c =
-    let same : length c.for_each_mut.new.s ≡ length c.make_drivers-drivers.result.items = search rules in
-    let whole = written c.make_drivers-drivers.result.len c.make_drivers-drivers.result.items c.for_each_mut.new.s same (search rules) in
+    let same = worked_length g.N.Nand.never_fails _ 0 _ _ c.run_drivers.ensures ∙ ap length c.as_mut_slice.ensures.value in
+    let whole = written c.make_drivers-drivers.result.len c.make_drivers-drivers.result.items c.run_drivers.new.drivers same (search rules) in
     let long = drivers_length c.args.store.now c.args.passes.now.items c.replace-taken.result.items c.args.batches.items
     c.in_ok-courses.courses.items c.make_drivers-drivers.result.items c.requires.own c.requires.batches
     (ap (λ v. v.items) c.replace-taken.ensures.value) c.in_ok-courses.ensures.whole c.make_drivers-drivers.ensures in
@@ -37,17 +43,12 @@ into_ends-requires-clause-passes_room g c =
 
 pub returns-clause-ran : goal.returns-clause-ran
 returns-clause-ran g c =
-    let same : length c.for_each_mut.new.s ≡ length c.make_drivers-drivers.result.items = search rules in
-    let whole = written c.make_drivers-drivers.result.len c.make_drivers-drivers.result.items c.for_each_mut.new.s same (search rules) in
-    let xs = c.as_mut_slice.result.now in
-    let zs = c.for_each_mut.new.s in
+    let same = worked_length g.N.Nand.never_fails _ 0 _ _ c.run_drivers.ensures ∙ ap length c.as_mut_slice.ensures.value in
+    let whole = written c.make_drivers-drivers.result.len c.make_drivers-drivers.result.items c.run_drivers.new.drivers same (search rules) in
     let ran = have_run c.args.store.now c.args.passes.now.items c.replace-taken.result.items c.args.batches.items
     c.in_ok-courses.courses.items c.make_drivers-drivers.result.items c.requires.own c.requires.batches
     (ap (λ v. v.items) c.replace-taken.ensures.value) c.in_ok-courses.ensures.whole c.make_drivers-drivers.ensures
-    g.N.Nand.never_fails xs zs c.as_mut_slice.ensures.value (same ∙ sym (ap length c.as_mut_slice.ensures.value))
-    (λ i d below. let call = (c.for_each_mut.ensures i d below).1 in
-    subst (λ (s : WorkerState). Drives g.N.Nand.never_fails s (get_or zs i d)) call.argument_is
-    (subst (λ (t : WorkerState). Drives g.N.Nand.never_fails call.argument.now t) call.left call.call)) in
+    g.N.Nand.never_fails _ c.as_mut_slice.result.now c.run_drivers.new.drivers c.as_mut_slice.ensures.value c.run_drivers.ensures in
     rw (c.into_ends.ensures.ends, c.into_ends.ensures.passes, whole) ran
 
 pub returns-clause-own : goal.returns-clause-own

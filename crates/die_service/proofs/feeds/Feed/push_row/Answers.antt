@@ -1,4 +1,4 @@
-use Rattle.std.proofs.Common.{◌≡◌, ◌+◌, ◌-◌, ◌≤◌, subst, ◌∷◌, ◌++◌, [], List, length, length-append, ap, sym, ◌∙◌, arith}
+use Rattle.std.proofs.Common.{◌≡◌, ◌+◌, ◌≤◌, subst, ◌∷◌, ◌++◌, [], List, length, length-append, ap, sym, ◌∙◌, arith}
 use Rattle.slot_core.specs.Events.{with_ops}
 use Rattle.slot_types.specs.declared.events.Op.{Op}
 use Rattle.die_service.specs.declared.feeds.Arrival.{Arrival}

@@ -1,9 +1,8 @@
-use Rattle.std.proofs.Common.{◌≡◌, ℕ, ◌+◌, ◌-◌, ◌<◌, ◌≤◌, List, length, slice_get, sym, ap, ◌∙◌, subst, arith, rules}
-use Rattle.std.proofs.lemmas.Grind.{common_steps}
+use Rattle.std.proofs.Common.{◌≡◌, ◌+◌, ◌-◌, ◌<◌, List, length, slice_get, sym, ap, ◌∙◌, arith}
 use Rattle.slot_core.specs.Events.{with_ops}
 use Rattle.slot_types.specs.declared.events.Op.{Op}
 use Rattle.die_service.specs.declared.feeds.Arrival.{Arrival}
-use Rattle.die_service.specs.Feeds.{is_job, ops_between, ops_in}
+use Rattle.die_service.specs.Feeds.{ops_between, ops_in}
 use Rattle.die_service.proofs.Feeding.{job_of, job_ops, op_between, between_length}
 use Rattle.die_service.proofs.feeds.FeedItem.op.Goals as goal
 
