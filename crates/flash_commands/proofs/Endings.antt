@@ -1,8 +1,13 @@
 -- An outcome with the status of a refusal is one.
 use Rattle.std.proofs.Common.{◌≡◌, ℕ, List, [], Option, Some, Result, Ok, Err, IfErr, arith, inl, inr}
+use Rattle.std.specs.Prelude.{length}
+use Rattle.slot_types.specs.declared.plans.DiePlan.{DiePlan}
 use Rattle.slot_types.specs.declared.refusals.Refusal.{Refusal}
+use Rattle.plan_texts.specs.PlanReading.{IsStoreOf}
+use Rattle.task_script.specs.TextRuns.{RefusesText}
+use Rattle.task_script.specs.declared.run_counts.RunCount.{RunCount}
 use Rattle.text_base.specs.Writing.{IsNotWhole}
-use Rattle.flash_commands.specs.Acts.{IsFaultOf, IsRefusedFor, IsUnwritten, PrintsSome, Refuses}
+use Rattle.flash_commands.specs.Acts.{IsFaultOf, IsRefusedFor, IsUnwritten, PrintsSome, Refuses, RefusesRun}
 use Rattle.flash_commands.specs.Faults.{outcome_status}
 use Rattle.flash_commands.specs.declared.commands.Command.{Command}
 use Rattle.flash_commands.specs.declared.faults.Fault.{Fault}
@@ -37,3 +42,9 @@ refused-for contents c first second old new P (Err (Refused refusal)) turn why u
 refused-for contents c first second old new P (Err (Words error)) turn why unwritten part = why
 refused-for contents c first second old new P (Err NotText) turn why unwritten part = why
 refused-for contents c first second old new P (Err Certificate) turn why unwritten part = tt
+
+-- a run is refused as its script is, for the dies of the plan that was read
+pub refuses-run : (plan script : Option (List ℕ)) (slots : ℕ) (store : List DiePlan) (done : Result RunCount Refusal)
+    → IsStoreOf plan store → IfErr done (RefusesText script (length store) slots) → IfErr done (RefusesRun plan script slots)
+refuses-run plan script slots store (Ok count) read why = tt
+refuses-run plan script slots store (Err refusal) read why = inr (store, read, why)

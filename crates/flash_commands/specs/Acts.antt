@@ -1,11 +1,11 @@
 -- What a command prints, and its status; and what it leaves where it is refused.
-use Rattle.std.specs.Prelude.{◌≡◌, ◌≢◌, ◌↔◌, ◌++◌, ⊤, ℕ, true, List, Option, Some, IfSome, Ok, Err, ◌⊎◌}
+use Rattle.std.specs.Prelude.{◌≡◌, ◌≢◌, ◌↔◌, ◌++◌, ⊤, ℕ, true, length, List, Option, Some, IfSome, Ok, Err, ◌⊎◌}
 use Rattle.std.specs.List.{list_any}
 use Rattle.std.specs.Io.KnownBytes.{Appends}
 use Rattle.slot_types.specs.declared.plans.DiePlan.{DiePlan}
 use Rattle.slot_types.specs.declared.refusals.Refusal.{Refusal}
 use Rattle.slot_types.specs.declared.refusals.Refusal.TheVariants.{WriteFault}
-use Rattle.plan_texts.specs.PlanReading.{IsStoreOf}
+use Rattle.plan_texts.specs.PlanReading.{IsStoreOf, RefusesPlanOf}
 use Rattle.plan_texts.specs.PlanText.{plan_of}
 use Rattle.text_base.specs.Readings.{IsOutside}
 use Rattle.report_texts.specs.ReportOf.{report_of}
@@ -61,9 +61,10 @@ pub record PrintsRun (plan script : Option (List ℕ)) (slots : ℕ) (old new : 
   pub count : RunCount
   pub as_planned : RunsAsPlanned script store slots count old new
 
--- why nothing is run
+-- why nothing is run: the plan is refused, which is read first; or the script is, for the dies of the plan that was read
 abbrev pub RefusesRun : Option (List ℕ) → Option (List ℕ) → ℕ → Refusal → Type 0
-RefusesRun plan script slots refusal = RefusesFigures plan refusal ⊎ ((dies : ℕ) × RefusesText script dies slots refusal)
+RefusesRun plan script slots refusal =
+    RefusesPlanOf plan refusal ⊎ ((store : List DiePlan) × IsStoreOf plan store × RefusesText script (length store) slots refusal)
 
 -- a command printed what it is to print of what it read, and this is its status
 abbrev pub Prints : Command → Option (List ℕ) → Option (List ℕ) → Option (List ℕ) → Option (List ℕ) → ℕ → Type 0

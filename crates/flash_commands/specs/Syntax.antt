@@ -1,20 +1,13 @@
 -- The words that the program takes, as clap reads them.
-use Rattle.std.specs.Prelude.{codes, Bool, true, Some, [], ◌∷◌}
-use Rattle.clap.specs.Words.{App, Rule, Text, new_app, new_rule, with_rule, with_subcommand}
+use Rattle.std.specs.Prelude.{codes, Bool, true}
+use Rattle.clap.specs.Words.{App, Rule, new_app, with_rule, with_subcommand}
 use Rattle.clap.specs.declared.builder.command.Command.{Command}
 use Rattle.clap.specs.declared.builder.command.Command.TheViews.{out-Command}
-
--- an argument that has to be there
-abbrev pub required_rule : Text → Rule
-required_rule id = record (new_rule id) { required = true }
-
--- `--slots N`, which has to be there
-abbrev pub slots_rule : Rule
-slots_rule = record (required_rule (codes "slots")) { long = Some (codes "slots"); value_names = 1 }
+use Rattle.command_arguments.specs.Arguments.{default_rule, required_rule, slots_rule}
 
 -- `--workers W`, which is 1 where it isn't there
 abbrev pub workers_rule : Rule
-workers_rule = record (new_rule (codes "workers")) { long = Some (codes "workers"); value_names = 1; defaults = codes "1" ∷ [] }
+workers_rule = default_rule (codes "workers") (codes "1")
 
 abbrev pub files_app : App
 files_app = with_rule (with_rule (new_app (codes "run")) (required_rule (codes "PLAN"))) (required_rule (codes "SCRIPT"))

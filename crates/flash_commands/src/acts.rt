@@ -27,27 +27,32 @@ fn print_figures<R: Read + Drop, W: Write>(
     first: R,
     out: &mut W,
 ) -> Result<(), Refusal>
-    ensures printed { OnOk result (PrintsFigures (R.remaining first) (W.contents out.old) (W.contents out.new)) }
+    ensures printed { OnOk result
+        (PrintsFigures (R.remaining first) (W.contents out.old) (W.contents out.new)) }
     ensures refused { IfErr result (RefusesFigures (R.remaining first)) }
     ensures unwritten { IfErr result (IsUnwritten out.old out.new) }
-    ensures part { OnErr result (IsNotWhole W.contents (PrintsFigures (R.remaining first)) out.old out.new) }
+    ensures part { OnErr result
+        (IsNotWhole W.contents (PrintsFigures (R.remaining first)) out.old out.new) }
 {
     let store = read_plan_from(alloc, first)?;
     let text = figures_text(alloc, &store)?;
     write_whole(out, &text)
 }
 
-/// Prints the audit of a report, and says whether a certificate is refused.
-fn print_audit<R: Read + Drop, W: Write>(
+/// Prints the audit of a report, and says whether a certificate is refused. A refusal is of the report's text, or
+/// memory, or a reader, or `WriteFault`, and all but the last leave `out` as it was.
+pub fn print_audit<R: Read + Drop, W: Write>(
     alloc: Global,
     first: R,
     out: &mut W,
 ) -> Result<bool, Refusal>
-    ensures printed { IfOk result (λ refused. PrintsAudit (R.remaining first) (W.contents out.old) (W.contents out.new)
+    ensures printed { IfOk result (λ refused.
+        PrintsAudit (R.remaining first) (W.contents out.old) (W.contents out.new)
         (if refused then 3 else 0)) }
     ensures refused { IfErr result (RefusesAudit (R.remaining first)) }
     ensures unwritten { IfErr result (IsUnwritten out.old out.new) }
-    ensures part { OnErr result (IsNotWhole W.contents (AuditsSome (R.remaining first)) out.old out.new) }
+    ensures part { OnErr result
+        (IsNotWhole W.contents (AuditsSome (R.remaining first)) out.old out.new) }
 {
     let work = read_work(alloc, first)?;
     let audit = audit_report(alloc, &work)?;
@@ -67,10 +72,14 @@ fn print_run<R: Threads + Wait + Sync, F: Read + Drop, S: Read + Drop, W: Write>
 ) -> Result<RunCount, Refusal>
     requires slots { slots ≤ MAX_SLOT }
     requires workers { (1 ≤ workers) × (workers ≤ 16) }
-    ensures printed { OnOk result (PrintsRun (F.remaining first) (S.remaining second) slots (W.contents out.old) (W.contents out.new)) }
+    ensures printed { OnOk result
+        (PrintsRun (F.remaining first) (S.remaining second) slots (W.contents out.old)
+        (W.contents out.new)) }
     ensures refused { IfErr result (RefusesRun (F.remaining first) (S.remaining second) slots) }
     ensures unwritten { IfErr result (IsUnwritten out.old out.new) }
-    ensures part { OnErr result (IsNotWhole W.contents (PrintsRun (F.remaining first) (S.remaining second) slots) out.old out.new) }
+    ensures part { OnErr result
+        (IsNotWhole W.contents (PrintsRun (F.remaining first) (S.remaining second) slots) out.old
+        out.new) }
 {
     let store = read_plan_from(alloc, first)?;
     run_text(rt, alloc, &store, second, out, slots, workers)
@@ -97,11 +106,14 @@ fn run<R: Threads + Wait + Sync, F: Read + Drop, S: Read + Drop, W: Write, E: Wr
 ) -> Result<(), Fault>
     requires slots { slots ≤ MAX_SLOT }
     requires workers { (1 ≤ workers) × (workers ≤ 16) }
-    ensures printed { (outcome_status result ≡ 1) ⊎ (PrintsRun (F.remaining first) (S.remaining second) slots (W.contents out.old)
+    ensures printed { (outcome_status result ≡ 1)
+        ⊎ (PrintsRun (F.remaining first) (S.remaining second) slots (W.contents out.old)
         (W.contents out.new) × (outcome_status result ≡ 0)) }
-    ensures refused { IfErr result (IsFaultOf (RefusesRun (F.remaining first) (S.remaining second) slots)) }
+    ensures refused { IfErr result
+        (IsFaultOf (RefusesRun (F.remaining first) (S.remaining second) slots)) }
     ensures unwritten { IfErr result (IsFaultOf (IsUnwritten out.old out.new)) }
-    ensures part { IfErr result (IsFaultOf (λ _. IsNotWhole W.contents (PrintsRun (F.remaining first) (S.remaining second) slots) out.old
+    ensures part { IfErr result (IsFaultOf (λ _.
+        IsNotWhole W.contents (PrintsRun (F.remaining first) (S.remaining second) slots) out.old
         out.new)) }
 {
     let count = print_run(rt, alloc, first, second, slots, workers, out)?;
@@ -111,11 +123,13 @@ fn run<R: Threads + Wait + Sync, F: Read + Drop, S: Read + Drop, W: Write, E: Wr
 
 /// Shows the figures of a plan, or says why not.
 fn figures<R: Read + Drop, W: Write>(alloc: Global, first: R, out: &mut W) -> Result<(), Fault>
-    ensures printed { (outcome_status result ≡ 1) ⊎ (PrintsFigures (R.remaining first) (W.contents out.old) (W.contents out.new)
+    ensures printed { (outcome_status result ≡ 1)
+        ⊎ (PrintsFigures (R.remaining first) (W.contents out.old) (W.contents out.new)
         × (outcome_status result ≡ 0)) }
     ensures refused { IfErr result (IsFaultOf (RefusesFigures (R.remaining first))) }
     ensures unwritten { IfErr result (IsFaultOf (IsUnwritten out.old out.new)) }
-    ensures part { IfErr result (IsFaultOf (λ _. IsNotWhole W.contents (PrintsFigures (R.remaining first)) out.old out.new)) }
+    ensures part { IfErr result (IsFaultOf (λ _.
+        IsNotWhole W.contents (PrintsFigures (R.remaining first)) out.old out.new)) }
 {
     print_figures(alloc, first, out)?;
     Ok(())
@@ -123,11 +137,13 @@ fn figures<R: Read + Drop, W: Write>(alloc: Global, first: R, out: &mut W) -> Re
 
 /// Audits a report, or says why not.
 fn audit<R: Read + Drop, W: Write>(alloc: Global, first: R, out: &mut W) -> Result<(), Fault>
-    ensures printed { (outcome_status result ≡ 1) ⊎ PrintsAudit (R.remaining first) (W.contents out.old) (W.contents out.new)
+    ensures printed { (outcome_status result ≡ 1)
+        ⊎ PrintsAudit (R.remaining first) (W.contents out.old) (W.contents out.new)
         (outcome_status result) }
     ensures refused { IfErr result (IsFaultOf (RefusesAudit (R.remaining first))) }
     ensures unwritten { IfErr result (IsFaultOf (IsUnwritten out.old out.new)) }
-    ensures part { IfErr result (IsFaultOf (λ _. IsNotWhole W.contents (AuditsSome (R.remaining first)) out.old out.new)) }
+    ensures part { IfErr result (IsFaultOf (λ _.
+        IsNotWhole W.contents (AuditsSome (R.remaining first)) out.old out.new)) }
 {
     if print_audit(alloc, first, out)? {
         return Err(Fault::Certificate);
@@ -150,9 +166,12 @@ pub fn carry_out<R: Threads + Wait + Sync, F: Read + Drop, S: Read + Drop, W: Wr
     out: &mut W,
     err: &mut E,
 ) -> Result<(), Fault>
-    ensures printed { (outcome_status result ≡ 1) ⊎ Prints command.entry (F.remaining first) (S.remaining second) (W.contents out.old)
+    ensures printed { (outcome_status result ≡ 1)
+        ⊎ Prints command.entry (F.remaining first) (S.remaining second) (W.contents out.old)
         (W.contents out.new) (outcome_status result) }
-    ensures refused { IfErr result (IsFaultOf (IsRefusedFor W.contents command.entry (F.remaining first) (S.remaining second) out.old
+    ensures refused { IfErr result
+        (IsFaultOf (IsRefusedFor W.contents command.entry (F.remaining first) (S.remaining second)
+        out.old
         out.new)) }
 {
     match command {
@@ -196,10 +215,15 @@ pub fn act<R: Threads + Wait + Sync, F: Read + Drop, S: Read + Drop, W: Write, E
     out: &mut W,
     err: &mut E,
 ) -> u8
-    ensures printed { (result ≡ 1) ⊎ Prints command.entry (F.remaining first) (S.remaining second) (W.contents out.old) (W.contents out.new)
+    ensures printed { (result ≡ 1)
+        ⊎ Prints command.entry (F.remaining first) (S.remaining second) (W.contents out.old)
+        (W.contents out.new)
         result }
-    ensures three { HasThree command.entry (F.remaining first) (W.contents out.old) (W.contents out.new) result }
-    ensures refused { result ≡ 1 → IsRefused W.contents command.entry (F.remaining first) (S.remaining second) out.old out.new }
+    ensures three { HasThree command.entry (F.remaining first) (W.contents out.old)
+        (W.contents out.new) result }
+    ensures refused { result ≡ 1
+        → IsRefused W.contents command.entry (F.remaining first) (S.remaining second) out.old
+        out.new }
 {
     let done = carry_out(rt, alloc, command, first, second, out, err);
     end(err, done)

@@ -55,7 +55,8 @@ fn put_none(text: &mut Vec<u8>, die: u32) -> io::Result<()>
 
 /// Adds the line of a certificate.
 fn put_cert(text: &mut Vec<u8>, die: u32, cert: &Certificate, verdict: Verdict) -> io::Result<()>
-    ensures { OnOk result (text.new.items ≡ text.old.items ++ (worst_text die cert.now ++ verdict_text verdict ++ 10 ∷ [])) }
+    ensures { OnOk result (text.new.items
+        ≡ text.old.items ++ (worst_text die cert.now ++ verdict_text verdict ++ 10 ∷ [])) }
 {
     put_worst(text, die, cert)?;
     put_verdict(text, verdict)?;

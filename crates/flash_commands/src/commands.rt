@@ -77,7 +77,8 @@ fn run<'a>(met: &ArgMatches<'a>) -> Option<Command<'a>>
 
 /// The command that was met, by its name.
 fn command_named<'a>(name: &str, met: &ArgMatches<'a>) -> Option<Command<'a>>
-    ensures named { option_map text_of_command result ≡ command_named name.now (rows_of (found_of met.now)) }
+    ensures named { option_map text_of_command result
+        ≡ command_named name.now (rows_of (found_of met.now)) }
 {
     if name == "run" {
         run(met)
@@ -94,7 +95,8 @@ fn command_named<'a>(name: &str, met: &ArgMatches<'a>) -> Option<Command<'a>>
 
 /// The command that clap met.
 fn command_met<'a>(matches: &ArgMatches<'a>) -> Option<Command<'a>>
-    ensures asked { option_map text_of_command result ≡ command_asked_by (subcommand_rows_of matches.now) }
+    ensures asked { option_map text_of_command result
+        ≡ command_asked_by (subcommand_rows_of matches.now) }
 {
     match matches.subcommand() {
         None => Some(Command::Alone),
@@ -108,7 +110,8 @@ fn parsed<'a>(
     words: &'a [String],
 ) -> Result<Option<Command<'a>>, Error>
     requires { app_of program.old ≡ flashrec_app }
-    ensures ok { IfOk result (λ c. option_map text_of_command c ≡ command_asked (map string_bytes words.entry.now)) }
+    ensures ok { IfOk result (λ c.
+        option_map text_of_command c ≡ command_asked (map string_bytes words.entry.now)) }
     ensures fault { FailsBy (fault_of flashrec_app (map string_bytes words.entry.now)) result }
 {
     let matches = program.try_get_matches_from_mut(words)?;
@@ -137,7 +140,8 @@ fn range_error(mut program: clap::Command<'_>) -> Error
 /// twice, or out of memory; and ValueValidation for a number that is none or out of its range.
 #[tactic(auto, using(crate::proofs::KindLemmas::has_kind_in_first))]
 pub fn read_words<'a>(alloc: Global, words: &'a [String]) -> Result<Command<'a>, Error>
-    ensures ok { IfOk result (λ c. command_asked (map string_bytes words.entry.now) ≡ Some (text_of_command c)) }
+    ensures ok { IfOk result (λ c.
+        command_asked (map string_bytes words.entry.now) ≡ Some (text_of_command c)) }
     ensures fault { FailsBy (words_fault (map string_bytes words.entry.now)) result }
 {
     let mut program = program_words(alloc)?;

@@ -14,7 +14,8 @@ use std::io::Write;
 
 /// Adds the line of a die, from its figures.
 fn put_figures(text: &mut Vec<u8>, die: usize, figures: Figures, logical: u32) -> io::Result<()>
-    ensures { OnOk result (text.new.items ≡ text.old.items ++ figures_line die figures.fmax figures.closed figures.live logical) }
+    ensures { OnOk result (text.new.items
+        ≡ text.old.items ++ figures_line die figures.fmax figures.closed figures.live logical) }
 {
     let (fmax, closed, live) = (figures.fmax, figures.closed, figures.live);
     write!(text, "die {die} fmax {fmax} closed {closed} live {live}")?;
@@ -25,7 +26,8 @@ fn put_figures(text: &mut Vec<u8>, die: usize, figures: Figures, logical: u32) -
 
 /// Adds the line of a demand.
 fn put_load(text: &mut Vec<u8>, die: usize, load: Load) -> io::Result<()>
-    ensures { OnOk result (text.new.items ≡ text.old.items ++ load_line die load.demand load.common) }
+    ensures { OnOk result (text.new.items
+        ≡ text.old.items ++ load_line die load.demand load.common) }
 {
     let (demand, common) = (load.demand, load.common);
     write!(text, "die {die} load {demand} of {common}")?;
@@ -37,7 +39,8 @@ fn put_load(text: &mut Vec<u8>, die: usize, load: Load) -> io::Result<()>
 fn put_load_of(text: &mut Vec<u8>, die: usize, plan: &DiePlan) -> io::Result<()>
     requires bound { MeetsBound plan.now }
     requires passes { PassesItsTimes plan.now }
-    ensures { OnOk result (text.new.items ≡ text.old.items ++ load_text die plan.now plan.now.times) }
+    ensures { OnOk result (text.new.items
+        ≡ text.old.items ++ load_text die plan.now plan.now.times) }
 {
     match plan_test(plan) {
         Ok(load) => put_load(text, die, load),

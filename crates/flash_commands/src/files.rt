@@ -23,11 +23,27 @@ pub trait Folder {
 
     /// Opens a file, to be read from its start. The only refusal is `ReadFault`, for a file that isn't there too.
     fn open(&self, name: &str) -> Result<Self::Reader, Refusal>
-        ensures opened { IfOk result (λ reader. GivesFile (held self.now name.now) (Self.Reader.remaining reader)) }
+        ensures opened { IfOk result (λ reader.
+            GivesFile (held self.now name.now) (Self.Reader.remaining reader)) }
         ensures refused { IfErr result (λ refusal. refusal ≡ Refusal.ReadFault) };
 }
 
-/// The files of the system. Nothing is known of what they hold.
+/// Where the file of a name is: `-` is standard input.
+pub fn path_of(name: &str) -> &str {
+    if name == "-" { "/dev/stdin" } else { name }
+}
+
+/// How many of these names are standard input, which is read once.
+pub fn inputs_in(names: &[Option<&str>]) -> usize {
+    names.iter().filter(|name| **name == Some("-")).count()
+}
+
+/// How many of these names are standard input, which is read once.
+pub fn inputs_among(names: &[&str]) -> usize {
+    names.iter().filter(|name| **name == "-").count()
+}
+
+/// The files of the system; `-` is standard input. Nothing is known of what they hold.
 #[derive(Clone, Copy)]
 pub struct Disk<'a, R: Files> {
     files: &'a R,
@@ -44,7 +60,7 @@ impl<R: Files> Folder for Disk<'_, R> {
     type Reader = R::File;
 
     fn open(&self, name: &str) -> Result<R::File, Refusal> {
-        match fs::open(self.files, name) {
+        match fs::open(self.files, path_of(name)) {
             Ok(file) => Ok(file),
             Err(_) => Err(Refusal::ReadFault),
         }
@@ -63,7 +79,8 @@ impl<R: Read> Read for Source<R> {
 
     fn read(&mut self, buf: &mut [u8]) -> io::Result<usize>
         ensures bound { ReadsAtMost result buf.new }
-        ensures bytes { ReadConsumes (source_remaining R.remaining self.old) (source_remaining R.remaining self.new) result buf.new }
+        ensures bytes { ReadConsumes (source_remaining R.remaining self.old)
+            (source_remaining R.remaining self.new) result buf.new }
     {
         match self {
             Source::File(file) => file.read(buf),
@@ -74,12 +91,13 @@ impl<R: Read> Read for Source<R> {
 
 /// Opens the files of a command, all before any of them is read: that of the plan, or of the report, and then that of
 /// the script. They are what [`act`](crate::act) takes. The only refusal is `ReadFault`, for a file that can't be
-/// opened.
+/// opened, and for standard input (`-`) in the place of both, since it is read once.
 pub fn open<D: Folder>(
     folder: &D,
     command: Command<'_>,
 ) -> Result<(Source<D::Reader>, Source<D::Reader>), Refusal>
-    ensures opened { IfOk result (λ files. AreOpen D.Reader.remaining (D.held folder.now) command.entry files.0 files.1) }
+    ensures opened { IfOk result (λ files.
+        AreOpen D.Reader.remaining (D.held folder.now) command.entry files.0 files.1) }
     ensures refused { IfErr result (λ refusal. refusal ≡ Refusal.ReadFault) }
 {
     match command {
@@ -89,6 +107,9 @@ pub fn open<D: Folder>(
             Ok((Source::File(first), Source::Nothing))
         }
         Command::Run { plan, script, .. } => {
+            if plan == "-" && script == "-" {
+                return Err(Refusal::ReadFault);
+            }
             let first = folder.open(plan)?;
             let second = folder.open(script)?;
             Ok((Source::File(first), Source::File(second)))

@@ -1,45 +1,26 @@
 //! The words that the program takes.
 
-ghost use Rattle.std.specs.Prelude.{◌≡◌, false, codes, IfOk};
+ghost use Rattle.std.specs.Prelude.{◌≡◌, false, IfOk};
 ghost use Rattle.clap.specs.Words.{app_of, rule_of, with_subcommand};
-ghost use Rattle.flash_commands.specs.Syntax.{audit_app, files_app, flashrec_app, has_globals, named_app, required_rule, plan_app, run_app};
-ghost use Rattle.flash_commands.specs.Syntax.{slots_rule, workers_rule};
+ghost use Rattle.flash_commands.specs.Syntax.{audit_app, files_app, flashrec_app, has_globals, named_app, plan_app, run_app, workers_rule};
 
 use clap::{Arg, Command};
+pub use command_arguments::VERSION;
+use command_arguments::{defaulted, plan_file, required, script_file, slots};
 use std::alloc::{AllocError, Global};
-
-/// How many slots each die runs.
-fn slots<'a>(alloc: Global) -> Arg<'a>
-    ensures rule { rule_of result ≡ slots_rule }
-    ensures local { result.global ≡ false }
-{
-    Arg::new(alloc, "slots")
-        .long("slots")
-        .value_name("N")
-        .required(true)
-        .help("How many slots each die runs, from 0 to 1048576 (required)")
-}
 
 /// How many workers run the dies.
 fn workers<'a>(alloc: Global) -> Arg<'a>
     ensures rule { rule_of result ≡ workers_rule }
     ensures local { result.global ≡ false }
 {
-    Arg::new(alloc, "workers")
-        .long("workers")
-        .value_name("W")
-        .default_value("1")
-        .help("How many workers run the dies, from 1 to 16")
-}
-
-/// The file that has the plan.
-fn plan_file<'a>(alloc: Global) -> Arg<'a>
-    ensures rule { rule_of result ≡ required_rule (codes "PLAN") }
-    ensures local { result.global ≡ false }
-{
-    Arg::new(alloc, "PLAN")
-        .required(true)
-        .help("The plan of the store, a TOML file")
+    defaulted(
+        alloc,
+        "workers",
+        "W",
+        "1",
+        "How many workers run the dies, from 1 to 16",
+    )
 }
 
 /// The command `run`, with its files.
@@ -47,14 +28,11 @@ fn run_files<'a>(alloc: Global) -> Result<Command<'a>, AllocError>
     ensures app { IfOk result (λ c. app_of c ≡ files_app) }
     ensures local { IfOk result (λ c. has_globals c ≡ false) }
 {
-    let script = Arg::new(alloc, "SCRIPT")
-        .required(true)
-        .help("The jobs and collections that the dies get, a CSV file");
     Command::new(alloc, "run")
         .about("Run a script on a store, and print its report")
         .after_help("Example: flashrec run plan.toml script.csv --slots 1000 --workers 2")
         .arg(plan_file(alloc))?
-        .arg(script)
+        .arg(script_file(alloc))
 }
 
 /// The command `run`.
@@ -70,9 +48,11 @@ fn audit_words<'a>(alloc: Global) -> Result<Command<'a>, AllocError>
     ensures app { IfOk result (λ c. app_of c ≡ audit_app) }
     ensures local { IfOk result (λ c. has_globals c ≡ false) }
 {
-    let report = Arg::new(alloc, "REPORT")
-        .required(true)
-        .help("A report, as run prints it");
+    let report = required(
+        alloc,
+        "REPORT",
+        "A report, as run prints it; - is standard input",
+    );
     Command::new(alloc, "audit")
         .about("Check the certificate of each die of a report")
         .after_help("Example: flashrec audit report.csv")
@@ -90,9 +70,6 @@ fn plan_words<'a>(alloc: Global) -> Result<Command<'a>, AllocError>
         .arg(plan_file(alloc))
 }
 
-/// The version of the programs.
-pub const VERSION: &str = "0.2.0";
-
 /// The program's name, its version and what it is about.
 fn name<'a>(alloc: Global) -> Command<'a>
     ensures { app_of result ≡ named_app }
@@ -103,7 +80,9 @@ fn name<'a>(alloc: Global) -> Command<'a>
             "A real-time flash store. Without words it runs a plan and a script that are built in",
         )
         .after_help(
-            "Example: flashrec run plan.toml script.csv --slots 1000\n\
+            "Ends with 0 where all went well, 1 where a text, a file or memory is refused, 2 for a fault of the\n\
+             words, 3 where a certificate is refused.\n\n\
+             Example: flashrec run plan.toml script.csv --slots 1000\n\
              docs/TEXTS.md has what plans, scripts and reports say",
         )
 }
@@ -111,7 +90,8 @@ fn name<'a>(alloc: Global) -> Command<'a>
 /// A program with one more command.
 fn with_command<'a>(program: Command<'a>, command: Command<'a>) -> Result<Command<'a>, AllocError>
     requires { has_globals command ≡ false }
-    ensures { IfOk result (λ c. app_of c ≡ with_subcommand (app_of program.entry) (app_of command.entry).top) }
+    ensures { IfOk result (λ c.
+        app_of c ≡ with_subcommand (app_of program.entry) (app_of command.entry).top) }
 {
     program.subcommand(command)
 }

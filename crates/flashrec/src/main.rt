@@ -2,20 +2,56 @@
 #![tactic(auto)]
 
 pub use flash_commands::{Command, act, read_words};
-use flash_commands::{Disk, Fault, end, open, show, words_of};
+use flash_commands::{
+    Fault, Heard, Shown, Texts, WatchedDisk, end, open, own_words, show, tell_more,
+};
+use std::io::IsTerminal;
 use std::process::ExitCode;
+
+/// The files of a command, by what they have.
+fn texts_of(command: Command<'_>) -> Texts<'_> {
+    match command {
+        Command::Alone => Texts::NONE,
+        Command::Run { plan, script, .. } => Texts {
+            plan: Some(plan),
+            script: Some(script),
+            ..Texts::NONE
+        },
+        Command::Audit { report } => Texts {
+            report: Some(report),
+            ..Texts::NONE
+        },
+        Command::Plan { plan } => Texts {
+            plan: Some(plan),
+            ..Texts::NONE
+        },
+    }
+}
 
 fn main(rt: HostRuntime) -> ExitCode {
     let alloc = rt.alloc();
     let (mut out, mut err) = (rt.stdout(), rt.stderr());
-    let status = match words_of(&rt, alloc) {
+    let is_terminal = err.is_terminal();
+    let shown = if is_terminal {
+        Shown::Bytes
+    } else {
+        Shown::Nothing
+    };
+    let status = match own_words(&rt, alloc, "flashrec") {
         Ok(words) => match read_words(alloc, words.as_slice()) {
-            Ok(command) => match open(&Disk::new(&rt), command) {
-                Ok((first, second)) => {
-                    act(&rt, alloc, command, first, second, &mut out, &mut err)
+            Ok(command) => {
+                let mut heard = Heard::new(rt.stderr(), is_terminal);
+                let status = match open(&WatchedDisk::new(&rt, shown), command) {
+                    Ok((first, second)) => {
+                        act(&rt, alloc, command, first, second, &mut out, &mut heard)
+                    }
+                    Err(refusal) => end(&mut heard, Err(Fault::Refused(refusal))),
+                };
+                if is_terminal {
+                    tell_more(&rt, &mut err, heard.lines(), texts_of(command));
                 }
-                Err(refusal) => end(&mut err, Err(Fault::Refused(refusal))),
-            },
+                status
+            }
             Err(error) => show(&rt, &mut err, error),
         },
         Err(fault) => end(&mut err, Err(fault)),

@@ -11,4 +11,6 @@ mod files;
 #[cfg(test)]
 mod printed;
 #[cfg(test)]
+mod terminal;
+#[cfg(test)]
 mod writers;

@@ -12,3 +12,10 @@ returns-in-Alone-clause-refused g c =
     (λ a b prints. (0, (prints, refl)))
     (rw (c.as_bytes-plan.ensures.value, c.as_bytes-script.ensures.value) at c.run.ensures.refused) c.run.ensures.unwritten
     (rw (c.as_bytes-plan.ensures.value, c.as_bytes-script.ensures.value) at c.run.ensures.part))
+
+pub returns-in-Run-clause-refused : goal.returns-in-Run-clause-refused
+returns-in-Run-clause-refused g c =
+    rw c.in-Run.is
+    (refused-for g.W.Write.contents (command.Run c.in-Run.plan c.in-Run.script c.in-Run.slots c.in-Run.workers) _ _ _ _
+    (PrintsRun (g.F.Read.remaining c.args.first) (g.S.Read.remaining c.args.second) c.in-Run.slots.count) c.run-in-Run.result
+    (λ a b prints. (0, (prints, refl))) c.run-in-Run.ensures.refused c.run-in-Run.ensures.unwritten c.run-in-Run.ensures.part)

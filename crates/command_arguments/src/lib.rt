@@ -1,0 +1,9 @@
+//! The arguments of both programs, as clap reads them, and the version of both.
+#![tactic(auto)]
+
+pub mod arguments;
+
+pub use arguments::{defaulted, flag, needed, option, plan_file, required, script_file, slots};
+
+/// The version of the programs.
+pub const VERSION: &str = "0.2.0";
