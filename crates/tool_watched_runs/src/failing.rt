@@ -1,6 +1,6 @@
 //! Devices that fail at a call that is asked for.
 
-ghost use Rattle.std.specs.Prelude.{◌≡◌, ◌↔◌, IfErr};
+ghost use Rattle.std.specs.Prelude.{◌≡◌, IfErr, OnOk};
 ghost use Rattle.tool_watched_runs.specs.Failing.{IsBeyond, calls_of, failure_in};
 
 use flash_die::{FuseNand, MemoryNand, Nand};
@@ -39,8 +39,9 @@ pub fn calls_of(fail: Option<FailAt>, die: u32) -> u64
 
 /// Whether a store of so many dies has the one whose device is to fail. UnknownDie where it hasn't, and nothing else.
 pub fn check_failing(fail: Option<FailAt>, dies: usize) -> Result<(), Refusal>
-    ensures unknown { (result ≡ Err Refusal.UnknownDie) ↔ IsBeyond fail dies }
-    ensures refused { IfErr result (λ refusal. refusal ≡ Refusal.UnknownDie) }
+    ensures there { OnOk result (¬ IsBeyond fail dies) }
+    ensures unknown { IfErr result (λ refusal.
+        (refusal ≡ Refusal.UnknownDie) × IsBeyond fail dies) }
 {
     match fail {
         Some(fail) if fail.die as usize >= dies => Err(Refusal::UnknownDie),
