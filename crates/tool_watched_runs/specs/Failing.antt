@@ -1,5 +1,5 @@
 -- Devices that are to fail.
-use Rattle.std.specs.Prelude.{ℕ, ◌≤◌, ◌-◌, ◌==◌, Option, Some, None, ⊥, if◌then◌else◌}
+use Rattle.std.specs.Prelude.{ℕ, ◌≤◌, ◌-◌, ◌==◌, Option, Some, None, if◌then◌else◌}
 use Rattle.die_log.specs.Model.Log.{now}
 use Rattle.slot_core.specs.Core.{Core}
 use Rattle.tool_watched_runs.specs.declared.failing.FailAt.{FailAt}
