@@ -6,10 +6,10 @@ use Rattle.tool_checkpoint_runs.proofs.StartsMore.{first_left}
 use Rattle.tool_checkpoint_runs.proofs.store_runs.report_of.Goals as goal
 
 pub loop-number-init : goal.loop-number-init
-loop-number-init c = ([], c.in_ok-text.ensures.ok, refl)
+loop-number-init g c = ([], c.in_ok-text.ensures.ok, refl)
 
 pub loop-number-preserved : goal.loop-number-preserved
-loop-number-preserved c =
+loop-number-preserved g c =
     let dies = c.args.dies.now.items in
     let whole : vec_len c.args.dies.now ≡ length c.args.dies.now.items = search rules in
     told_more c.loop-number.number c.index.result.now (drop (c.loop-number.number + 1) dies) c.loop-number.text c.add_die.new.text
@@ -19,7 +19,7 @@ loop-number-preserved c =
     (omega (arith, whole, c.len-number-end.ensures, c.loop-number-test.true)) c.index.ensures) c.loop-number.invariant)
 
 pub returns : goal.returns
-returns c =
+returns g c =
     let dies = c.args.dies.now.items in
     let whole : vec_len c.args.dies.now ≡ length c.args.dies.now.items = search rules in
     record {
