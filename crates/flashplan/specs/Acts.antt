@@ -18,7 +18,7 @@ use Rattle.tool_plan_breaches.specs.declared.breaches.Breach.{Breach}
 use Rattle.tool_plan_keeping.specs.Verdicts.{IsBrokenScript, IsFrontOf}
 use Rattle.flash_die.specs.Fuse.{Fuse}
 use Rattle.flash_die.specs.Memory.{Memory}
-use Rattle.flash_commands.specs.Acts.{IsReportOf}
+use Rattle.flash_commands.specs.Acts.{IsReportOf, RefusesAudit}
 use Rattle.flash_commands.specs.Audit.{audit_status}
 use Rattle.report_texts.specs.declared.reports.DieReport.{DieReport}
 use Rattle.report_texts.specs.ReportText.{report_text}
@@ -100,6 +100,11 @@ PrintsFailing old new = (dies : List (Core (Fuse Memory))) × PrintsReport old n
 -- a report was read and audited, and this says whether a certificate of it is refused
 abbrev pub IsAuditOf : Option (List ℕ) → Bool → Type 0
 IsAuditOf text refused = (report : List DieReport) × IsReportOf text report × ((if refused then 3 else 0) ≡ audit_status report)
+
+-- a report was read and audited, or this says why it isn't
+abbrev pub IsAudited : Option (List ℕ) → Result Bool Refusal → Type 0
+IsAudited text (Ok refused) = IsAuditOf text refused
+IsAudited text (Err refusal) = RefusesAudit text refusal
 
 -- the status of audits, and of one more: 1 where a report isn't read, else 3 where a certificate is refused
 abbrev pub worse_of : ℕ → Result Bool Refusal → ℕ

@@ -1,7 +1,9 @@
 //! Commands on several files of a kind.
 
-ghost use Rattle.std.specs.Prelude.{◌≡◌, ◌≢◌, IfOk};
-ghost use Rattle.flashplan.specs.Acts.{IsAuditOf, worse_of};
+ghost use Rattle.std.specs.Prelude.{◌≡◌, ◌≢◌, IfErr, IfOk};
+ghost use Rattle.flash_commands.specs.Acts.{RefusesAudit};
+ghost use Rattle.flashplan.specs.Acts.{IsAuditOf, IsAudited, worse_of};
+ghost use Rattle.slot_types.specs.Refusal.{FailsForMemory};
 
 use crate::acts::end_refused;
 use flash_commands::Folder;
@@ -14,7 +16,9 @@ use tool_plan_keeping::script_text;
 use tool_trace_import::{ImportFault, Made, Measure, TraceFault, import};
 
 /// A text, each of whose lines has a name in front. The only refusal is NoMemory.
-fn named_lines(alloc: Global, name: &str, text: &[u8]) -> Result<Vec<u8>, Refusal> {
+fn named_lines(alloc: Global, name: &str, text: &[u8]) -> Result<Vec<u8>, Refusal>
+    ensures { FailsForMemory result }
+{
     let mut named = Vec::new(alloc);
     let mut begins = true;
     for byte in text {
@@ -38,6 +42,7 @@ fn audit_named<R: Read + Drop>(
     text: &mut Vec<u8>,
 ) -> Result<bool, Refusal>
     ensures audited { IfOk result (IsAuditOf (R.remaining report)) }
+    ensures refused { IfErr result (RefusesAudit (R.remaining report)) }
 {
     let mut lines = Vec::new(alloc);
     let refused = print_audit(alloc, report, &mut lines)?;
@@ -47,12 +52,15 @@ fn audit_named<R: Read + Drop>(
 }
 
 /// Opens a report and audits it.
+#[tactic(auto, using(crate::proofs::Audits::audited_file))]
 fn audit_file<D: Folder>(
     alloc: Global,
     folder: &D,
     name: &str,
     text: &mut Vec<u8>,
-) -> Result<bool, Refusal> {
+) -> Result<bool, Refusal>
+    ensures { IsAudited (D.held folder.now name.now) result }
+{
     let report = folder.open(name)?;
     audit_named(alloc, name, report, text)
 }
