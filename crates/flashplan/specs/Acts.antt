@@ -1,5 +1,6 @@
 -- What a command says of a plan.
-use Rattle.std.specs.Prelude.{◌≡◌, ◌==◌, ◌↔◌, ◌⊎◌, List, ℕ, Option, Some, None, Result, Ok, Err, IfSome, take, IsTrue, Bool, true, false, ⊤}
+use Rattle.std.specs.Prelude.{◌≡◌, ◌==◌, ◌↔◌, ◌⊎◌, List, [], ◌∷◌, ℕ, Option, Some, None, Result, Ok, Err, IfSome, take, IsTrue, Bool, true, false, ⊤}
+use Rattle.std.specs.Borrow.{Bor}
 use Rattle.std.specs.Prelude.{if◌then◌else◌}
 use Rattle.std.specs.Io.KnownBytes.{Appends}
 use Rattle.slot_types.specs.declared.plans.DiePlan.{DiePlan}
@@ -20,6 +21,7 @@ use Rattle.flash_die.specs.Fuse.{Fuse}
 use Rattle.flash_die.specs.Memory.{Memory}
 use Rattle.flash_commands.specs.Acts.{IsReportOf, RefusesAudit}
 use Rattle.flash_commands.specs.Audit.{audit_status}
+use Rattle.flash_commands.specs.Files.{FileContents}
 use Rattle.report_texts.specs.declared.reports.DieReport.{DieReport}
 use Rattle.report_texts.specs.ReportText.{report_text}
 use Rattle.slot_core.specs.Core.{Core}
@@ -111,6 +113,12 @@ abbrev pub worse_of : ℕ → Result Bool Refusal → ℕ
 worse_of status (Err refusal) = 1
 worse_of status (Ok true) = if status == 1 then 1 else 3
 worse_of status (Ok false) = status
+
+-- the files of these names are audited, each in its turn, and the worst status of all, and of one before them, is this
+pub AuditsFiles : FileContents → List (Bor (List ℕ)) → ℕ → ℕ → Type 0
+AuditsFiles held [] before worst = worst ≡ before
+AuditsFiles held (name ∷ names) before worst =
+    (audited : Result Bool Refusal) × IsAudited (held name.now) audited × AuditsFiles held names (worse_of before audited) worst
 
 -- what is reported of a script: whether it keeps the plans
 abbrev pub TellsKept : Option (List ℕ) → Option (List ℕ) → ℕ → Bool → Type 0

@@ -2,7 +2,7 @@
 
 ghost use Rattle.std.specs.Prelude.{◌≡◌, ◌≢◌, IfErr, IfOk};
 ghost use Rattle.flash_commands.specs.Acts.{RefusesAudit};
-ghost use Rattle.flashplan.specs.Acts.{IsAuditOf, IsAudited, worse_of};
+ghost use Rattle.flashplan.specs.Acts.{AuditsFiles, IsAuditOf, IsAudited, worse_of};
 ghost use Rattle.slot_types.specs.Refusal.{FailsForMemory};
 
 use crate::acts::end_refused;
@@ -85,7 +85,9 @@ pub fn act_audits<D: Folder, W: Write, E: Write>(
     names: &[&str],
     out: &mut W,
     err: &mut E,
-) -> u8 {
+) -> u8
+    ensures worst { result ≢ 1 → AuditsFiles (D.held folder.now) names.now 0 result }
+{
     let mut text = Vec::new(alloc);
     let mut status = 0;
     for name in names {
